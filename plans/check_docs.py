@@ -14,6 +14,7 @@
   paragraph's changes. This is left out, and said so, where that program is not there: `cd crates/wild_explain_main && rt run` makes it.
 - The answers and the makers of plans, plans in readable spelling, one of them in pieces, and the statuses of README.md.
 - Files and functions that a page names are there.
+- Each library on a line of crates.txt is named by a file of its crate, and each crate is in docs/ARCHITECTURE.md; `--changes` checks these too.
 """
 import copy
 import glob
@@ -424,6 +425,29 @@ def names():
                 differs(where, name, "no such item")
 
 
+def crates():
+    """Each library on a line of crates.txt is named by a file of its crate, and each crate is in the tables of docs/ARCHITECTURE.md."""
+    columns = (("by layer", 1, "Crate"), ("by kind", 1, "Crates"), ("of what each does", 0, "Crate"))
+    tables = [(table, " ".join(cells[column] for _, _, _, heads, cells in rows("docs/ARCHITECTURE.md") if heads[column] == head)) for table, column, head in columns]
+    for number, line in enumerate(read("crates.txt").split("\n"), 1):
+        line = line.split("#")[0]
+        if ":" not in line:
+            continue
+        crate, libraries = line.split(":")[0].split()[0], line.split(":")[1].split()
+        files = (path for kind in ("rt", "antt") for path in glob.glob(f"{TOP}/crates/{crate}/*/**/*.{kind}", recursive=True) if "/out/" not in path)
+        named = set(itertools.chain.from_iterable(re.findall(r"\b[a-z]\w+", re.sub("(//|--).*", "", read(path))) for path in files))
+        for library in libraries:
+            if library not in named:
+                differs(f"crates.txt:{number}", library, f"no file of {crate} names it")
+        for table, text in tables:
+            if f"`{crate}`" not in text:
+                differs("docs/ARCHITECTURE.md", crate, f"not in the table {table}")
+    for table, text in tables:
+        for crate in sorted(set(re.findall(r"`(wild_\w+)`", text))):
+            if not os.path.isdir(f"{TOP}/crates/{crate}"):
+                differs("docs/ARCHITECTURE.md", crate, f"no such crate, in the table {table}")
+
+
 def spread(name):
     """The paths that a name with braces stands for."""
     found = re.fullmatch(r"(.*)\{(.*)\}(.*)", name)
@@ -446,8 +470,9 @@ if __name__ == "__main__":
         sys.exit(f"check_docs: there is no {PROGRAM}; ./build makes it")
     if ONLY_CHANGES:
         changes()
+        crates()
         sys.exit(differences != 0)
-    for check in (answers, statuses, changes, programs, commands, explanations, spelled, pieces, known, members, defaults, names, makers):
+    for check in (answers, statuses, changes, programs, commands, explanations, spelled, pieces, known, members, defaults, names, crates, makers):
         before = differences
         check()
         print(f"{check.__doc__.splitlines()[0]} {differences - before} differ")

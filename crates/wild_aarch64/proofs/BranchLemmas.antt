@@ -4,7 +4,7 @@ use Rattle.wild_aarch64.proofs.ListLemmas.{for_each}
 use Rattle.wild_aarch64.specs.declared.code.Code.TheVariants.{BranchIf}
 use Rattle.wild_aarch64.specs.Slice.{Fixed, is, Form, form, signed}
 use Rattle.wild_aarch64.specs.Forms.{branch, call}
-use Rattle.wild_aarch64.specs.Immediate.{kept, Imm14, Imm19, Imm26}
+use Rattle.wild_aarch64.specs.Immediate.{bits_outside, Imm14, Imm19, Imm26}
 use Rattle.wild_aarch64.specs.Row.{branches, branch_bits, distance}
 use Rattle.wild_aarch64.specs.Laws.{FieldIsWritten, BranchKeeps, BranchesKeep}
 use Rattle.wild_aarch64.proofs.NumberLemmas.{branch_goes, condition_goes, test_goes}
@@ -27,26 +27,26 @@ bl_keeps w reader numbers base a x v s t =
 
 -- conditional branches of 19 and of 14 bits
 abbrev far : List Fixed → Form
-far fixed = form fixed Imm19 (λ w i. BranchIf (kept Imm19 w) (signed 21 (i * 4)))
+far fixed = form fixed Imm19 (λ w i. BranchIf (bits_outside Imm19 w) (signed 21 (i * 4)))
 
 abbrev near : List Fixed → Form
-near fixed = form fixed Imm14 (λ w i. BranchIf (kept Imm14 w) (signed 16 (i * 4)))
+near fixed = form fixed Imm14 (λ w i. BranchIf (bits_outside Imm14 w) (signed 16 (i * 4)))
 
 far_keeps : (fixed : List Fixed) → FieldIsWritten (far fixed) → BranchKeeps (far fixed)
 far_keeps fixed h w reader numbers base a x v s t =
     let goes = condition_goes base a x t.near t.start t.goal in
     let to = (base + x) % 2 ^ 64 in
     let reads = numbers to ∙ ap (λ (i : ℕ). Some i) (sym t.placed) in
-    condition_runs reader (base + a) _ (kept Imm19 w) _ to v (h w (branch_bits Imm19 (distance a x)) s) goes reads
-    ∙ sym (demands_condition v (base + a) w (kept Imm19 w) _ (form_is_read (far fixed) h w s))
+    condition_runs reader (base + a) _ (bits_outside Imm19 w) _ to v (h w (branch_bits Imm19 (distance a x)) s) goes reads
+    ∙ sym (demands_condition v (base + a) w (bits_outside Imm19 w) _ (form_is_read (far fixed) h w s))
 
 near_keeps : (fixed : List Fixed) → FieldIsWritten (near fixed) → BranchKeeps (near fixed)
 near_keeps fixed h w reader numbers base a x v s t =
     let goes = test_goes base a x t.near t.start t.goal in
     let to = (base + x) % 2 ^ 64 in
     let reads = numbers to ∙ ap (λ (i : ℕ). Some i) (sym t.placed) in
-    condition_runs reader (base + a) _ (kept Imm14 w) _ to v (h w (branch_bits Imm14 (distance a x)) s) goes reads
-    ∙ sym (demands_condition v (base + a) w (kept Imm14 w) _ (form_is_read (near fixed) h w s))
+    condition_runs reader (base + a) _ (bits_outside Imm14 w) _ to v (h w (branch_bits Imm14 (distance a x)) s) goes reads
+    ∙ sym (demands_condition v (base + a) w (bits_outside Imm14 w) _ (form_is_read (near fixed) h w s))
 
 pub branches_keep : BranchesKeep
 branches_keep f c =

@@ -4,7 +4,7 @@ use Rattle.std.proofs.lemmas.Bool.{and_parts}
 use Rattle.wild_aarch64.specs.Slice.{bits, stands, Fixed, is, Form}
 use Rattle.wild_aarch64.specs.Forms.{d, n, adrp, adr, add, add_shifted, movz, movk, movn, ldr, byte_access, half_access, word_access, ldrsw, str, prfm, vector_8, vector_128, vector_16, vector_32, vector_64, literal, vector_literal, wide_literal, br, blr, nop, bti, branch, call, b_cond, cbz_32, cbz_64, tbz_low, tbz_high, forms}
 use Rattle.wild_aarch64.specs.Code.{read}
-use Rattle.wild_aarch64.specs.Immediate.{Field, insert_bits, inserted, immediate, cut, kept, Imm12, Imm14, Imm16, Imm19, Imm21, Imm26, Nowhere}
+use Rattle.wild_aarch64.specs.Immediate.{Field, insert_bits, word_with_immediate, immediate, bits_of_field, bits_outside, Imm12, Imm14, Imm16, Imm19, Imm21, Imm26, Nowhere}
 use Rattle.wild_aarch64.specs.Laws.{FieldIsWritten, FieldsAreWritten, FormsAreRead}
 use Rattle.wild_aarch64.proofs.ReadLemmas.{reads_adrp, reads_adr, reads_add, reads_add_shifted, reads_movz, reads_movk, reads_movn, reads_ldr, reads_byte, reads_half, reads_word, reads_ldrsw, reads_str, reads_prfm, reads_vector_8, reads_vector_128, reads_vector_16, reads_vector_32, reads_vector_64, reads_literal, reads_vector_literal, reads_wide_literal, reads_br, reads_blr, reads_nop, reads_bti, reads_b, reads_bl, reads_b_cond, reads_cbz_32, reads_cbz_64, reads_tbz_low, reads_tbz_high}
 use Rattle.wild_aarch64.proofs.ListLemmas.{for_each}
@@ -35,7 +35,7 @@ adrp_field w x h =
     let a = t.0 in
     let b = t.1 in
     let c = t.2 in
-    reads_adrp (inserted Imm21 x w) (d w) (x % 2 ^ 21) (omega arith) (omega arith) (omega arith) (omega arith) (omega arith)
+    reads_adrp (word_with_immediate Imm21 x w) (d w) (x % 2 ^ 21) (omega arith) (omega arith) (omega arith) (omega arith) (omega arith)
 
 pub adr_field : FieldIsWritten adr
 unfolding insert_bits
@@ -44,7 +44,7 @@ adr_field w x h =
     let a = t.0 in
     let b = t.1 in
     let c = t.2 in
-    reads_adr (inserted Imm21 x w) (d w) (x % 2 ^ 21) (omega arith) (omega arith) (omega arith) (omega arith) (omega arith)
+    reads_adr (word_with_immediate Imm21 x w) (d w) (x % 2 ^ 21) (omega arith) (omega arith) (omega arith) (omega arith) (omega arith)
 
 pub add_field : FieldIsWritten add
 unfolding insert_bits
@@ -53,7 +53,7 @@ add_field w x h =
     let a = t.0 in
     let b = t.1 in
     let c = t.2 in
-    reads_add (inserted Imm12 x w) (d w) (n w) (x % 2 ^ 12) (omega arith) (omega arith) (omega arith) (omega arith) (omega arith) (omega arith)
+    reads_add (word_with_immediate Imm12 x w) (d w) (n w) (x % 2 ^ 12) (omega arith) (omega arith) (omega arith) (omega arith) (omega arith) (omega arith)
 
 pub add_shifted_field : FieldIsWritten add_shifted
 unfolding insert_bits
@@ -62,7 +62,7 @@ add_shifted_field w x h =
     let a = t.0 in
     let b = t.1 in
     let c = t.2 in
-    reads_add_shifted (inserted Imm12 x w) (d w) (n w) (x % 2 ^ 12) (omega arith) (omega arith) (omega arith) (omega arith) (omega arith) (omega arith)
+    reads_add_shifted (word_with_immediate Imm12 x w) (d w) (n w) (x % 2 ^ 12) (omega arith) (omega arith) (omega arith) (omega arith) (omega arith) (omega arith)
 
 pub movz_field : FieldIsWritten movz
 unfolding insert_bits
@@ -71,7 +71,7 @@ movz_field w x h =
     let a = t.0 in
     let b = t.1 in
     let c = t.2 in
-    reads_movz (inserted Imm16 x w) (d w) (bits 21 2 w) (x % 2 ^ 16) (omega arith) (omega arith) (omega arith) (omega arith) (omega arith) (omega arith)
+    reads_movz (word_with_immediate Imm16 x w) (d w) (bits 21 2 w) (x % 2 ^ 16) (omega arith) (omega arith) (omega arith) (omega arith) (omega arith) (omega arith)
 
 pub movk_field : FieldIsWritten movk
 unfolding insert_bits
@@ -80,7 +80,7 @@ movk_field w x h =
     let a = t.0 in
     let b = t.1 in
     let c = t.2 in
-    reads_movk (inserted Imm16 x w) (d w) (bits 21 2 w) (x % 2 ^ 16) (omega arith) (omega arith) (omega arith) (omega arith) (omega arith) (omega arith)
+    reads_movk (word_with_immediate Imm16 x w) (d w) (bits 21 2 w) (x % 2 ^ 16) (omega arith) (omega arith) (omega arith) (omega arith) (omega arith) (omega arith)
 
 pub movn_field : FieldIsWritten movn
 unfolding insert_bits
@@ -89,7 +89,7 @@ movn_field w x h =
     let a = t.0 in
     let b = t.1 in
     let c = t.2 in
-    reads_movn (inserted Imm16 x w) (d w) (bits 21 2 w) (x % 2 ^ 16) (omega arith) (omega arith) (omega arith) (omega arith) (omega arith) (omega arith)
+    reads_movn (word_with_immediate Imm16 x w) (d w) (bits 21 2 w) (x % 2 ^ 16) (omega arith) (omega arith) (omega arith) (omega arith) (omega arith) (omega arith)
 
 pub ldr_field : FieldIsWritten ldr
 unfolding insert_bits
@@ -99,7 +99,7 @@ ldr_field w x h =
     let b = t.1 in
     let c = t.2 in
     let e = t.3 in
-    reads_ldr (inserted Imm12 x w) (d w) (n w) (x % 2 ^ 12) (omega arith) (omega arith) (omega arith) (omega arith) (omega arith) (omega arith) (omega arith)
+    reads_ldr (word_with_immediate Imm12 x w) (d w) (n w) (x % 2 ^ 12) (omega arith) (omega arith) (omega arith) (omega arith) (omega arith) (omega arith) (omega arith)
 
 pub byte_field : FieldIsWritten byte_access
 unfolding insert_bits
@@ -108,7 +108,7 @@ byte_field w x h =
     let a = t.0 in
     let b = t.1 in
     let c = t.2 in
-    reads_byte (inserted Imm12 x w) (kept Imm12 w) (x % 2 ^ 12) (omega arith) (omega arith) (omega arith) (omega arith) (omega arith)
+    reads_byte (word_with_immediate Imm12 x w) (bits_outside Imm12 w) (x % 2 ^ 12) (omega arith) (omega arith) (omega arith) (omega arith) (omega arith)
 
 pub half_field : FieldIsWritten half_access
 unfolding insert_bits
@@ -117,7 +117,7 @@ half_field w x h =
     let a = t.0 in
     let b = t.1 in
     let c = t.2 in
-    reads_half (inserted Imm12 x w) (kept Imm12 w) (x % 2 ^ 12) (omega arith) (omega arith) (omega arith) (omega arith) (omega arith)
+    reads_half (word_with_immediate Imm12 x w) (bits_outside Imm12 w) (x % 2 ^ 12) (omega arith) (omega arith) (omega arith) (omega arith) (omega arith)
 
 pub word_field : FieldIsWritten word_access
 unfolding insert_bits
@@ -127,7 +127,7 @@ word_field w x h =
     let b = t.1 in
     let c = t.2 in
     let e = t.3 in
-    reads_word (inserted Imm12 x w) (kept Imm12 w) (x % 2 ^ 12) (omega arith) (omega arith) (omega arith) (omega arith) (omega arith) (omega arith)
+    reads_word (word_with_immediate Imm12 x w) (bits_outside Imm12 w) (x % 2 ^ 12) (omega arith) (omega arith) (omega arith) (omega arith) (omega arith) (omega arith)
 
 pub ldrsw_field : FieldIsWritten ldrsw
 unfolding insert_bits
@@ -137,7 +137,7 @@ ldrsw_field w x h =
     let b = t.1 in
     let c = t.2 in
     let e = t.3 in
-    reads_ldrsw (inserted Imm12 x w) (kept Imm12 w) (x % 2 ^ 12) (omega arith) (omega arith) (omega arith) (omega arith) (omega arith) (omega arith) (omega arith)
+    reads_ldrsw (word_with_immediate Imm12 x w) (bits_outside Imm12 w) (x % 2 ^ 12) (omega arith) (omega arith) (omega arith) (omega arith) (omega arith) (omega arith) (omega arith)
 
 pub str_field : FieldIsWritten str
 unfolding insert_bits
@@ -147,7 +147,7 @@ str_field w x h =
     let b = t.1 in
     let c = t.2 in
     let e = t.3 in
-    reads_str (inserted Imm12 x w) (kept Imm12 w) (x % 2 ^ 12) (omega arith) (omega arith) (omega arith) (omega arith) (omega arith) (omega arith)
+    reads_str (word_with_immediate Imm12 x w) (bits_outside Imm12 w) (x % 2 ^ 12) (omega arith) (omega arith) (omega arith) (omega arith) (omega arith) (omega arith)
 
 pub prfm_field : FieldIsWritten prfm
 unfolding insert_bits
@@ -157,7 +157,7 @@ prfm_field w x h =
     let b = t.1 in
     let c = t.2 in
     let e = t.3 in
-    reads_prfm (inserted Imm12 x w) (kept Imm12 w) (x % 2 ^ 12) (omega arith) (omega arith) (omega arith) (omega arith) (omega arith) (omega arith)
+    reads_prfm (word_with_immediate Imm12 x w) (bits_outside Imm12 w) (x % 2 ^ 12) (omega arith) (omega arith) (omega arith) (omega arith) (omega arith) (omega arith)
 
 pub vector_8_field : FieldIsWritten vector_8
 unfolding insert_bits
@@ -167,7 +167,7 @@ vector_8_field w x h =
     let b = t.1 in
     let c = t.2 in
     let e = t.3 in
-    reads_vector_8 (inserted Imm12 x w) (kept Imm12 w) (x % 2 ^ 12) (omega arith) (omega arith) (omega arith) (omega arith) (omega arith) (omega arith)
+    reads_vector_8 (word_with_immediate Imm12 x w) (bits_outside Imm12 w) (x % 2 ^ 12) (omega arith) (omega arith) (omega arith) (omega arith) (omega arith) (omega arith)
 
 pub vector_128_field : FieldIsWritten vector_128
 unfolding insert_bits
@@ -177,7 +177,7 @@ vector_128_field w x h =
     let b = t.1 in
     let c = t.2 in
     let e = t.3 in
-    reads_vector_128 (inserted Imm12 x w) (kept Imm12 w) (x % 2 ^ 12) (omega arith) (omega arith) (omega arith) (omega arith) (omega arith) (omega arith)
+    reads_vector_128 (word_with_immediate Imm12 x w) (bits_outside Imm12 w) (x % 2 ^ 12) (omega arith) (omega arith) (omega arith) (omega arith) (omega arith) (omega arith)
 
 pub vector_16_field : FieldIsWritten vector_16
 unfolding insert_bits
@@ -187,7 +187,7 @@ vector_16_field w x h =
     let b = t.1 in
     let c = t.2 in
     let e = t.3 in
-    reads_vector_16 (inserted Imm12 x w) (kept Imm12 w) (x % 2 ^ 12) (omega arith) (omega arith) (omega arith) (omega arith) (omega arith) (omega arith)
+    reads_vector_16 (word_with_immediate Imm12 x w) (bits_outside Imm12 w) (x % 2 ^ 12) (omega arith) (omega arith) (omega arith) (omega arith) (omega arith) (omega arith)
 
 pub vector_32_field : FieldIsWritten vector_32
 unfolding insert_bits
@@ -197,7 +197,7 @@ vector_32_field w x h =
     let b = t.1 in
     let c = t.2 in
     let e = t.3 in
-    reads_vector_32 (inserted Imm12 x w) (kept Imm12 w) (x % 2 ^ 12) (omega arith) (omega arith) (omega arith) (omega arith) (omega arith) (omega arith)
+    reads_vector_32 (word_with_immediate Imm12 x w) (bits_outside Imm12 w) (x % 2 ^ 12) (omega arith) (omega arith) (omega arith) (omega arith) (omega arith) (omega arith)
 
 pub vector_64_field : FieldIsWritten vector_64
 unfolding insert_bits
@@ -207,7 +207,7 @@ vector_64_field w x h =
     let b = t.1 in
     let c = t.2 in
     let e = t.3 in
-    reads_vector_64 (inserted Imm12 x w) (kept Imm12 w) (x % 2 ^ 12) (omega arith) (omega arith) (omega arith) (omega arith) (omega arith) (omega arith)
+    reads_vector_64 (word_with_immediate Imm12 x w) (bits_outside Imm12 w) (x % 2 ^ 12) (omega arith) (omega arith) (omega arith) (omega arith) (omega arith) (omega arith)
 
 pub literal_field : FieldIsWritten literal
 unfolding insert_bits
@@ -216,7 +216,7 @@ literal_field w x h =
     let a = t.0 in
     let b = t.1 in
     let c = t.2 in
-    reads_literal (inserted Imm19 x w) (kept Imm19 w) (x % 2 ^ 19) (omega arith) (omega arith) (omega arith) (omega arith) (omega arith)
+    reads_literal (word_with_immediate Imm19 x w) (bits_outside Imm19 w) (x % 2 ^ 19) (omega arith) (omega arith) (omega arith) (omega arith) (omega arith)
 
 pub vector_literal_field : FieldIsWritten vector_literal
 unfolding insert_bits
@@ -226,7 +226,7 @@ vector_literal_field w x h =
     let b = t.1 in
     let c = t.2 in
     let e = t.3 in
-    reads_vector_literal (inserted Imm19 x w) (kept Imm19 w) (x % 2 ^ 19) (omega arith) (omega arith) (omega arith) (omega arith) (omega arith) (omega arith)
+    reads_vector_literal (word_with_immediate Imm19 x w) (bits_outside Imm19 w) (x % 2 ^ 19) (omega arith) (omega arith) (omega arith) (omega arith) (omega arith) (omega arith)
 
 pub wide_literal_field : FieldIsWritten wide_literal
 unfolding insert_bits
@@ -235,7 +235,7 @@ wide_literal_field w x h =
     let a = t.0 in
     let b = t.1 in
     let c = t.2 in
-    reads_wide_literal (inserted Imm19 x w) (kept Imm19 w) (x % 2 ^ 19) (omega arith) (omega arith) (omega arith) (omega arith) (omega arith) (omega arith) (omega arith)
+    reads_wide_literal (word_with_immediate Imm19 x w) (bits_outside Imm19 w) (x % 2 ^ 19) (omega arith) (omega arith) (omega arith) (omega arith) (omega arith) (omega arith) (omega arith)
 
 pub br_field : FieldIsWritten br
 br_field w x h =
@@ -265,7 +265,7 @@ b_field w x h =
     let t = two (is 26 3 5) (is 26 6 5) w h in
     let a = t.0 in
     let b = t.1 in
-    reads_b (inserted Imm26 x w) (x % 2 ^ 26) (omega arith) (omega arith) (omega arith)
+    reads_b (word_with_immediate Imm26 x w) (x % 2 ^ 26) (omega arith) (omega arith) (omega arith)
 
 pub bl_field : FieldIsWritten call
 unfolding insert_bits
@@ -273,7 +273,7 @@ bl_field w x h =
     let t = two (is 26 3 5) (is 26 6 37) w h in
     let a = t.0 in
     let b = t.1 in
-    reads_bl (inserted Imm26 x w) (x % 2 ^ 26) (omega arith) (omega arith) (omega arith)
+    reads_bl (word_with_immediate Imm26 x w) (x % 2 ^ 26) (omega arith) (omega arith) (omega arith)
 
 pub b_cond_field : FieldIsWritten b_cond
 unfolding insert_bits
@@ -283,7 +283,7 @@ b_cond_field w x h =
     let b = t.1 in
     let c = t.2 in
     let e = t.3 in
-    reads_b_cond (inserted Imm19 x w) (kept Imm19 w) (x % 2 ^ 19) (omega arith) (omega arith) (omega arith) (omega arith) (omega arith) (omega arith)
+    reads_b_cond (word_with_immediate Imm19 x w) (bits_outside Imm19 w) (x % 2 ^ 19) (omega arith) (omega arith) (omega arith) (omega arith) (omega arith) (omega arith)
 
 pub cbz_32_field : FieldIsWritten cbz_32
 unfolding insert_bits
@@ -292,7 +292,7 @@ cbz_32_field w x h =
     let a = t.0 in
     let b = t.1 in
     let c = t.2 in
-    reads_cbz_32 (inserted Imm19 x w) (kept Imm19 w) (x % 2 ^ 19) (omega arith) (omega arith) (omega arith) (omega arith) (omega arith)
+    reads_cbz_32 (word_with_immediate Imm19 x w) (bits_outside Imm19 w) (x % 2 ^ 19) (omega arith) (omega arith) (omega arith) (omega arith) (omega arith)
 
 pub cbz_64_field : FieldIsWritten cbz_64
 unfolding insert_bits
@@ -301,7 +301,7 @@ cbz_64_field w x h =
     let a = t.0 in
     let b = t.1 in
     let c = t.2 in
-    reads_cbz_64 (inserted Imm19 x w) (kept Imm19 w) (x % 2 ^ 19) (omega arith) (omega arith) (omega arith) (omega arith) (omega arith)
+    reads_cbz_64 (word_with_immediate Imm19 x w) (bits_outside Imm19 w) (x % 2 ^ 19) (omega arith) (omega arith) (omega arith) (omega arith) (omega arith)
 
 pub tbz_low_field : FieldIsWritten tbz_low
 unfolding insert_bits
@@ -310,7 +310,7 @@ tbz_low_field w x h =
     let a = t.0 in
     let b = t.1 in
     let c = t.2 in
-    reads_tbz_low (inserted Imm14 x w) (kept Imm14 w) (x % 2 ^ 14) (omega arith) (omega arith) (omega arith) (omega arith) (omega arith)
+    reads_tbz_low (word_with_immediate Imm14 x w) (bits_outside Imm14 w) (x % 2 ^ 14) (omega arith) (omega arith) (omega arith) (omega arith) (omega arith)
 
 pub tbz_high_field : FieldIsWritten tbz_high
 unfolding insert_bits
@@ -319,10 +319,10 @@ tbz_high_field w x h =
     let a = t.0 in
     let b = t.1 in
     let c = t.2 in
-    reads_tbz_high (inserted Imm14 x w) (kept Imm14 w) (x % 2 ^ 14) (omega arith) (omega arith) (omega arith) (omega arith) (omega arith)
+    reads_tbz_high (word_with_immediate Imm14 x w) (bits_outside Imm14 w) (x % 2 ^ 14) (omega arith) (omega arith) (omega arith) (omega arith) (omega arith)
 
 -- a word with its own immediate is itself
-reinserted : (f : Field) (w : ℕ) → inserted f (immediate f w) w ≡ w
+reinserted : (f : Field) (w : ℕ) → word_with_immediate f (immediate f w) w ≡ w
 unfolding insert_bits
 reinserted Imm12 w = omega arith
 reinserted Imm14 w = omega arith
@@ -332,14 +332,14 @@ reinserted Imm21 w = omega arith
 reinserted Imm26 w = omega arith
 reinserted Nowhere w = refl
 
-cut-immediate : (f : Field) (w : ℕ) → cut f (immediate f w) ≡ immediate f w
-cut-immediate Imm12 w = omega arith
-cut-immediate Imm14 w = omega arith
-cut-immediate Imm16 w = omega arith
-cut-immediate Imm19 w = omega arith
-cut-immediate Imm21 w = omega arith
-cut-immediate Imm26 w = omega arith
-cut-immediate Nowhere w = refl
+bits_of_field-immediate : (f : Field) (w : ℕ) → bits_of_field f (immediate f w) ≡ immediate f w
+bits_of_field-immediate Imm12 w = omega arith
+bits_of_field-immediate Imm14 w = omega arith
+bits_of_field-immediate Imm16 w = omega arith
+bits_of_field-immediate Imm19 w = omega arith
+bits_of_field-immediate Imm21 w = omega arith
+bits_of_field-immediate Imm26 w = omega arith
+bits_of_field-immediate Nowhere w = refl
 
 pub fields_are_written : FieldsAreWritten
 fields_are_written f c = for_each FieldIsWritten forms (adrp_field, (adr_field, (add_field, (add_shifted_field, (movz_field, (movk_field, (movn_field, (ldr_field, (byte_field, (half_field, (word_field, (ldrsw_field, (str_field, (prfm_field, (vector_8_field, (vector_128_field, (vector_16_field, (vector_32_field, (vector_64_field, (literal_field, (vector_literal_field, (wide_literal_field, (br_field, (blr_field, (nop_field, (bti_field, (b_field, (bl_field, (b_cond_field, (cbz_32_field, (cbz_64_field, (tbz_low_field, (tbz_high_field, tt))))))))))))))))))))))))))))))))) f c
@@ -348,8 +348,8 @@ fields_are_written f c = for_each FieldIsWritten forms (adrp_field, (adr_field, 
 pub form_is_read : (f : Form) → FieldIsWritten f → (w : ℕ) → stands f.fixed w ≡ true → read w ≡ Some (f.code w (immediate f.field w))
 form_is_read f h w s =
     let e = h w (immediate f.field w) s in
-    let e2 : read w ≡ Some (f.code w (cut f.field (immediate f.field w))) = subst (λ (u : ℕ). read u ≡ Some (f.code w (cut f.field (immediate f.field w)))) (reinserted f.field w) e in
-    subst (λ (i : ℕ). read w ≡ Some (f.code w i)) (cut-immediate f.field w) e2
+    let e2 : read w ≡ Some (f.code w (bits_of_field f.field (immediate f.field w))) = subst (λ (u : ℕ). read u ≡ Some (f.code w (bits_of_field f.field (immediate f.field w)))) (reinserted f.field w) e in
+    subst (λ (i : ℕ). read w ≡ Some (f.code w i)) (bits_of_field-immediate f.field w) e2
 
 pub forms_are_read : FormsAreRead
 forms_are_read f c = form_is_read f (fields_are_written f c)

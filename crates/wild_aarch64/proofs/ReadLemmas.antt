@@ -4,7 +4,7 @@ use Rattle.wild_aarch64.specs.declared.code.Code.TheVariants.{Adr, Adrp, Movz, M
 use Rattle.wild_aarch64.specs.Slice.{bits, signed}
 use Rattle.wild_aarch64.specs.Forms.{shift_of}
 use Rattle.wild_aarch64.specs.Code.{read, read_address, read_access, read_vector_access, read_literal, read_transfer, read_condition}
-use Rattle.wild_aarch64.specs.Immediate.{immediate, kept, Imm12, Imm14, Imm16, Imm19, Imm21, Imm26}
+use Rattle.wild_aarch64.specs.Immediate.{immediate, bits_outside, Imm12, Imm14, Imm16, Imm19, Imm21, Imm26}
 
 pub reads_adrp : (w r x : ℕ) → bits 26 3 w ≡ 4 → bits 24 5 w ≡ 16 → bits 31 1 w ≡ 1 → bits 0 5 w ≡ r → immediate Imm21 w ≡ x → read w ≡ Some (Adrp r (signed 33 (x * 4096)))
 unfolding read read_address read_access read_vector_access read_literal read_transfer read_condition
@@ -38,59 +38,59 @@ pub reads_ldr : (w r q x : ℕ) → bits 26 3 w ≡ 6 → bits 24 2 w ≡ 1 → 
 unfolding read read_address read_access read_vector_access read_literal read_transfer read_condition
 reads_ldr w r q x a b c e f g h = rw (a, b, c, e, f, g, h) refl
 
-pub reads_byte : (w k x : ℕ) → bits 26 3 w ≡ 6 → bits 24 2 w ≡ 1 → bits 29 3 w ≡ 1 → kept Imm12 w ≡ k → immediate Imm12 w ≡ x → read w ≡ Some (Access k x)
+pub reads_byte : (w k x : ℕ) → bits 26 3 w ≡ 6 → bits 24 2 w ≡ 1 → bits 29 3 w ≡ 1 → bits_outside Imm12 w ≡ k → immediate Imm12 w ≡ x → read w ≡ Some (Access k x)
 unfolding read read_address read_access read_vector_access read_literal read_transfer read_condition
 reads_byte w k x a b c e f = rw (a, b, c, e, f) refl
 
-pub reads_half : (w k x : ℕ) → bits 26 3 w ≡ 6 → bits 24 2 w ≡ 1 → bits 29 3 w ≡ 3 → kept Imm12 w ≡ k → immediate Imm12 w ≡ x → read w ≡ Some (Access k (x * 2))
+pub reads_half : (w k x : ℕ) → bits 26 3 w ≡ 6 → bits 24 2 w ≡ 1 → bits 29 3 w ≡ 3 → bits_outside Imm12 w ≡ k → immediate Imm12 w ≡ x → read w ≡ Some (Access k (x * 2))
 unfolding read read_address read_access read_vector_access read_literal read_transfer read_condition
 reads_half w k x a b c e f = rw (a, b, c, e, f) refl
 
-pub reads_word : (w k x : ℕ) → bits 26 3 w ≡ 6 → bits 24 2 w ≡ 1 → bits 29 3 w ≡ 5 → bits 23 1 w ≡ 0 → kept Imm12 w ≡ k → immediate Imm12 w ≡ x → read w ≡ Some (Access k (x * 4))
+pub reads_word : (w k x : ℕ) → bits 26 3 w ≡ 6 → bits 24 2 w ≡ 1 → bits 29 3 w ≡ 5 → bits 23 1 w ≡ 0 → bits_outside Imm12 w ≡ k → immediate Imm12 w ≡ x → read w ≡ Some (Access k (x * 4))
 unfolding read read_address read_access read_vector_access read_literal read_transfer read_condition
 reads_word w k x a b c e f g = rw (a, b, c, e, f, g) refl
 
-pub reads_ldrsw : (w k x : ℕ) → bits 26 3 w ≡ 6 → bits 24 2 w ≡ 1 → bits 29 3 w ≡ 5 → bits 22 2 w ≡ 2 → bits 23 1 w ≡ 1 → kept Imm12 w ≡ k → immediate Imm12 w ≡ x → read w ≡ Some (Access k (x * 4))
+pub reads_ldrsw : (w k x : ℕ) → bits 26 3 w ≡ 6 → bits 24 2 w ≡ 1 → bits 29 3 w ≡ 5 → bits 22 2 w ≡ 2 → bits 23 1 w ≡ 1 → bits_outside Imm12 w ≡ k → immediate Imm12 w ≡ x → read w ≡ Some (Access k (x * 4))
 unfolding read read_address read_access read_vector_access read_literal read_transfer read_condition
 reads_ldrsw w k x a b c e f g h = rw (a, b, c, e, f, g, h) refl
 
-pub reads_str : (w k x : ℕ) → bits 26 3 w ≡ 6 → bits 24 2 w ≡ 1 → bits 29 3 w ≡ 7 → bits 22 2 w ≡ 0 → kept Imm12 w ≡ k → immediate Imm12 w ≡ x → read w ≡ Some (Access k (x * 8))
+pub reads_str : (w k x : ℕ) → bits 26 3 w ≡ 6 → bits 24 2 w ≡ 1 → bits 29 3 w ≡ 7 → bits 22 2 w ≡ 0 → bits_outside Imm12 w ≡ k → immediate Imm12 w ≡ x → read w ≡ Some (Access k (x * 8))
 unfolding read read_address read_access read_vector_access read_literal read_transfer read_condition
 reads_str w k x a b c e f g = rw (a, b, c, e, f, g) refl
 
-pub reads_prfm : (w k x : ℕ) → bits 26 3 w ≡ 6 → bits 24 2 w ≡ 1 → bits 29 3 w ≡ 7 → bits 22 2 w ≡ 2 → kept Imm12 w ≡ k → immediate Imm12 w ≡ x → read w ≡ Some (Access k (x * 8))
+pub reads_prfm : (w k x : ℕ) → bits 26 3 w ≡ 6 → bits 24 2 w ≡ 1 → bits 29 3 w ≡ 7 → bits 22 2 w ≡ 2 → bits_outside Imm12 w ≡ k → immediate Imm12 w ≡ x → read w ≡ Some (Access k (x * 8))
 unfolding read read_address read_access read_vector_access read_literal read_transfer read_condition
 reads_prfm w k x a b c e f g = rw (a, b, c, e, f, g) refl
 
-pub reads_vector_8 : (w k x : ℕ) → bits 26 3 w ≡ 7 → bits 24 2 w ≡ 1 → bits 29 3 w ≡ 1 → bits 23 1 w ≡ 0 → kept Imm12 w ≡ k → immediate Imm12 w ≡ x → read w ≡ Some (Access k x)
+pub reads_vector_8 : (w k x : ℕ) → bits 26 3 w ≡ 7 → bits 24 2 w ≡ 1 → bits 29 3 w ≡ 1 → bits 23 1 w ≡ 0 → bits_outside Imm12 w ≡ k → immediate Imm12 w ≡ x → read w ≡ Some (Access k x)
 unfolding read read_address read_access read_vector_access read_literal read_transfer read_condition
 reads_vector_8 w k x a b c e f g = rw (a, b, c, e, f, g) refl
 
-pub reads_vector_128 : (w k x : ℕ) → bits 26 3 w ≡ 7 → bits 24 2 w ≡ 1 → bits 29 3 w ≡ 1 → bits 23 1 w ≡ 1 → kept Imm12 w ≡ k → immediate Imm12 w ≡ x → read w ≡ Some (Access k (x * 16))
+pub reads_vector_128 : (w k x : ℕ) → bits 26 3 w ≡ 7 → bits 24 2 w ≡ 1 → bits 29 3 w ≡ 1 → bits 23 1 w ≡ 1 → bits_outside Imm12 w ≡ k → immediate Imm12 w ≡ x → read w ≡ Some (Access k (x * 16))
 unfolding read read_address read_access read_vector_access read_literal read_transfer read_condition
 reads_vector_128 w k x a b c e f g = rw (a, b, c, e, f, g) refl
 
-pub reads_vector_16 : (w k x : ℕ) → bits 26 3 w ≡ 7 → bits 24 2 w ≡ 1 → bits 29 3 w ≡ 3 → bits 23 1 w ≡ 0 → kept Imm12 w ≡ k → immediate Imm12 w ≡ x → read w ≡ Some (Access k (x * 2))
+pub reads_vector_16 : (w k x : ℕ) → bits 26 3 w ≡ 7 → bits 24 2 w ≡ 1 → bits 29 3 w ≡ 3 → bits 23 1 w ≡ 0 → bits_outside Imm12 w ≡ k → immediate Imm12 w ≡ x → read w ≡ Some (Access k (x * 2))
 unfolding read read_address read_access read_vector_access read_literal read_transfer read_condition
 reads_vector_16 w k x a b c e f g = rw (a, b, c, e, f, g) refl
 
-pub reads_vector_32 : (w k x : ℕ) → bits 26 3 w ≡ 7 → bits 24 2 w ≡ 1 → bits 29 3 w ≡ 5 → bits 23 1 w ≡ 0 → kept Imm12 w ≡ k → immediate Imm12 w ≡ x → read w ≡ Some (Access k (x * 4))
+pub reads_vector_32 : (w k x : ℕ) → bits 26 3 w ≡ 7 → bits 24 2 w ≡ 1 → bits 29 3 w ≡ 5 → bits 23 1 w ≡ 0 → bits_outside Imm12 w ≡ k → immediate Imm12 w ≡ x → read w ≡ Some (Access k (x * 4))
 unfolding read read_address read_access read_vector_access read_literal read_transfer read_condition
 reads_vector_32 w k x a b c e f g = rw (a, b, c, e, f, g) refl
 
-pub reads_vector_64 : (w k x : ℕ) → bits 26 3 w ≡ 7 → bits 24 2 w ≡ 1 → bits 29 3 w ≡ 7 → bits 23 1 w ≡ 0 → kept Imm12 w ≡ k → immediate Imm12 w ≡ x → read w ≡ Some (Access k (x * 8))
+pub reads_vector_64 : (w k x : ℕ) → bits 26 3 w ≡ 7 → bits 24 2 w ≡ 1 → bits 29 3 w ≡ 7 → bits 23 1 w ≡ 0 → bits_outside Imm12 w ≡ k → immediate Imm12 w ≡ x → read w ≡ Some (Access k (x * 8))
 unfolding read read_address read_access read_vector_access read_literal read_transfer read_condition
 reads_vector_64 w k x a b c e f g = rw (a, b, c, e, f, g) refl
 
-pub reads_literal : (w k x : ℕ) → bits 26 3 w ≡ 6 → bits 24 2 w ≡ 0 → bits 29 1 w ≡ 0 → kept Imm19 w ≡ k → immediate Imm19 w ≡ x → read w ≡ Some (Literal k (signed 21 (x * 4)))
+pub reads_literal : (w k x : ℕ) → bits 26 3 w ≡ 6 → bits 24 2 w ≡ 0 → bits 29 1 w ≡ 0 → bits_outside Imm19 w ≡ k → immediate Imm19 w ≡ x → read w ≡ Some (Literal k (signed 21 (x * 4)))
 unfolding read read_address read_access read_vector_access read_literal read_transfer read_condition
 reads_literal w k x a b c e f = rw (a, b, c, e, f) refl
 
-pub reads_vector_literal : (w k x : ℕ) → bits 26 3 w ≡ 7 → bits 24 2 w ≡ 0 → bits 29 1 w ≡ 0 → bits 31 1 w ≡ 0 → kept Imm19 w ≡ k → immediate Imm19 w ≡ x → read w ≡ Some (Literal k (signed 21 (x * 4)))
+pub reads_vector_literal : (w k x : ℕ) → bits 26 3 w ≡ 7 → bits 24 2 w ≡ 0 → bits 29 1 w ≡ 0 → bits 31 1 w ≡ 0 → bits_outside Imm19 w ≡ k → immediate Imm19 w ≡ x → read w ≡ Some (Literal k (signed 21 (x * 4)))
 unfolding read read_address read_access read_vector_access read_literal read_transfer read_condition
 reads_vector_literal w k x a b c e f g = rw (a, b, c, e, f, g) refl
 
-pub reads_wide_literal : (w k x : ℕ) → bits 26 3 w ≡ 7 → bits 24 2 w ≡ 0 → bits 29 3 w ≡ 4 → bits 29 1 w ≡ 0 → bits 31 1 w ≡ 1 → kept Imm19 w ≡ k → immediate Imm19 w ≡ x → read w ≡ Some (Literal k (signed 21 (x * 4)))
+pub reads_wide_literal : (w k x : ℕ) → bits 26 3 w ≡ 7 → bits 24 2 w ≡ 0 → bits 29 3 w ≡ 4 → bits 29 1 w ≡ 0 → bits 31 1 w ≡ 1 → bits_outside Imm19 w ≡ k → immediate Imm19 w ≡ x → read w ≡ Some (Literal k (signed 21 (x * 4)))
 unfolding read read_address read_access read_vector_access read_literal read_transfer read_condition
 reads_wide_literal w k x a b c e f g h = rw (a, b, c, e, f, g, h) refl
 
@@ -118,22 +118,22 @@ pub reads_bl : (w x : ℕ) → bits 26 3 w ≡ 5 → bits 26 6 w ≡ 37 → imme
 unfolding read read_address read_access read_vector_access read_literal read_transfer read_condition
 reads_bl w x a b c = rw (a, b, c) refl
 
-pub reads_b_cond : (w k x : ℕ) → bits 26 3 w ≡ 5 → bits 26 6 w ≡ 21 → bits 24 2 w ≡ 0 → bits 4 1 w ≡ 0 → kept Imm19 w ≡ k → immediate Imm19 w ≡ x → read w ≡ Some (BranchIf k (signed 21 (x * 4)))
+pub reads_b_cond : (w k x : ℕ) → bits 26 3 w ≡ 5 → bits 26 6 w ≡ 21 → bits 24 2 w ≡ 0 → bits 4 1 w ≡ 0 → bits_outside Imm19 w ≡ k → immediate Imm19 w ≡ x → read w ≡ Some (BranchIf k (signed 21 (x * 4)))
 unfolding read read_address read_access read_vector_access read_literal read_transfer read_condition
 reads_b_cond w k x a b c e f g = rw (a, b, c, e, f, g) refl
 
-pub reads_cbz_32 : (w k x : ℕ) → bits 26 3 w ≡ 5 → bits 26 6 w ≡ 13 → bits 25 1 w ≡ 0 → kept Imm19 w ≡ k → immediate Imm19 w ≡ x → read w ≡ Some (BranchIf k (signed 21 (x * 4)))
+pub reads_cbz_32 : (w k x : ℕ) → bits 26 3 w ≡ 5 → bits 26 6 w ≡ 13 → bits 25 1 w ≡ 0 → bits_outside Imm19 w ≡ k → immediate Imm19 w ≡ x → read w ≡ Some (BranchIf k (signed 21 (x * 4)))
 unfolding read read_address read_access read_vector_access read_literal read_transfer read_condition
 reads_cbz_32 w k x a b c e f = rw (a, b, c, e, f) refl
 
-pub reads_cbz_64 : (w k x : ℕ) → bits 26 3 w ≡ 5 → bits 26 6 w ≡ 45 → bits 25 1 w ≡ 0 → kept Imm19 w ≡ k → immediate Imm19 w ≡ x → read w ≡ Some (BranchIf k (signed 21 (x * 4)))
+pub reads_cbz_64 : (w k x : ℕ) → bits 26 3 w ≡ 5 → bits 26 6 w ≡ 45 → bits 25 1 w ≡ 0 → bits_outside Imm19 w ≡ k → immediate Imm19 w ≡ x → read w ≡ Some (BranchIf k (signed 21 (x * 4)))
 unfolding read read_address read_access read_vector_access read_literal read_transfer read_condition
 reads_cbz_64 w k x a b c e f = rw (a, b, c, e, f) refl
 
-pub reads_tbz_low : (w k x : ℕ) → bits 26 3 w ≡ 5 → bits 26 6 w ≡ 13 → bits 25 1 w ≡ 1 → kept Imm14 w ≡ k → immediate Imm14 w ≡ x → read w ≡ Some (BranchIf k (signed 16 (x * 4)))
+pub reads_tbz_low : (w k x : ℕ) → bits 26 3 w ≡ 5 → bits 26 6 w ≡ 13 → bits 25 1 w ≡ 1 → bits_outside Imm14 w ≡ k → immediate Imm14 w ≡ x → read w ≡ Some (BranchIf k (signed 16 (x * 4)))
 unfolding read read_address read_access read_vector_access read_literal read_transfer read_condition
 reads_tbz_low w k x a b c e f = rw (a, b, c, e, f) refl
 
-pub reads_tbz_high : (w k x : ℕ) → bits 26 3 w ≡ 5 → bits 26 6 w ≡ 45 → bits 25 1 w ≡ 1 → kept Imm14 w ≡ k → immediate Imm14 w ≡ x → read w ≡ Some (BranchIf k (signed 16 (x * 4)))
+pub reads_tbz_high : (w k x : ℕ) → bits 26 3 w ≡ 5 → bits 26 6 w ≡ 45 → bits 25 1 w ≡ 1 → bits_outside Imm14 w ≡ k → immediate Imm14 w ≡ x → read w ≡ Some (BranchIf k (signed 16 (x * 4)))
 unfolding read read_address read_access read_vector_access read_literal read_transfer read_condition
 reads_tbz_high w k x a b c e f = rw (a, b, c, e, f) refl

@@ -3,7 +3,7 @@ use Rattle.std.proofs.Common.{◌≡◌, ℕ, ◌+◌, ◌*◌, ◌/◌, ◌%◌
 use Rattle.wild_aarch64.proofs.ListLemmas.{for_each}
 use Rattle.wild_aarch64.specs.declared.operand.Operand.TheVariants.{Number}
 use Rattle.wild_aarch64.specs.Slice.{bits, signed}
-use Rattle.wild_aarch64.specs.Immediate.{Imm16, Imm21, insert_bits, inserted}
+use Rattle.wild_aarch64.specs.Immediate.{Imm16, Imm21, insert_bits, word_with_immediate}
 use Rattle.wild_aarch64.specs.Machine.{sum_64, page}
 use Rattle.wild_aarch64.specs.Row.{rows, call_to_offset, call_to_slot, slot_to_offset, address_to_near, distance, IsNear}
 use Rattle.wild_aarch64.specs.Laws.{RowKeeps, RowsKeep, RowIsStep, RowsAreSteps}
@@ -52,11 +52,11 @@ rows_keep row c = for_each RowKeeps rows (call_to_offset_keeps, (call_to_slot_ke
 
 -- ---- each is one step
 
-movk_sets : (r x : ℕ) → r < 32 → bits 0 5 (inserted Imm16 x (0xf2800000 + r)) ≡ r
+movk_sets : (r x : ℕ) → r < 32 → bits 0 5 (word_with_immediate Imm16 x (0xf2800000 + r)) ≡ r
 unfolding insert_bits
 movk_sets r x h = omega arith
 
-adr_sets : (r x : ℕ) → r < 32 → bits 0 5 (inserted Imm21 x (0x10000000 + r)) ≡ r
+adr_sets : (r x : ℕ) → r < 32 → bits 0 5 (word_with_immediate Imm21 x (0x10000000 + r)) ≡ r
 unfolding insert_bits
 adr_sets r x h = omega arith
 

@@ -2,15 +2,15 @@
 use Rattle.std.proofs.Common.{◌≡◌, ℕ, ◌+◌, ◌-◌, ◌*◌, ◌/◌, ◌%◌, ◌^◌, ◌≤◌, List, [], ◌++◌, Some, ap, ◌∙◌, arith}
 use Rattle.wild_aarch64.specs.Slice.{signed}
 use Rattle.wild_aarch64.specs.Machine.{sum_64, page, meaning, jump_to, jump_through}
-use Rattle.wild_aarch64.specs.Template.{step_of, taking}
+use Rattle.wild_aarch64.specs.Template.{step_of, sized_step}
 use Rattle.wild_aarch64.specs.Row.{distance, Within}
-use Rattle.wild_aarch64.specs.Stub.{stub, marked_stub, thunk, HasSlot, StandsAt, StubsJump, MarkedStubsJump, ThunksReach, StubsAreSteps, MarkedStubsAreSteps, ThunksAreSteps}
+use Rattle.wild_aarch64.specs.Stub.{stub, marked_stub, thunk, HasSlot, IsLocatedAt, StubsJump, MarkedStubsJump, ThunksReach, StubsAreSteps, MarkedStubsAreSteps, ThunksAreSteps}
 use Rattle.wild_aarch64.proofs.NumberLemmas.{near_pages, page_goes, low_goes, slot_ahead}
 use Rattle.wild_aarch64.proofs.WrittenLemmas.{adrp_word, ldr_word, add_word}
 use Rattle.wild_aarch64.proofs.RunLemmas.{stub_runs, marked_stub_runs, thunk_runs}
 
-stub_does : (base p g : ℕ) (rest : List ℕ) → HasSlot p g → StandsAt base p g
-    → (meaning (base + p) (stub p g) ≡ Some (jump_through (base + g))) × (step_of (base + p) (stub p g ++ rest) ≡ Some (taking 4 (jump_through (base + g))))
+stub_does : (base p g : ℕ) (rest : List ℕ) → HasSlot p g → IsLocatedAt base p g
+    → (meaning (base + p) (stub p g) ≡ Some (jump_through (base + g))) × (step_of (base + p) (stub p g ++ rest) ≡ Some (sized_step 4 (jump_through (base + g))))
 stub_does base p g rest h s =
     let x = (g - page p) / 4096 in
     let y = (g - page p) % 4096 / 8 in
@@ -18,8 +18,8 @@ stub_does base p g rest h s =
     stub_runs (base + p) _ _ (signed 33 (x % 2 ^ 21 * 4096)) (y % 2 ^ 12 * 8) (base + g) rest (adrp_word 16 x (omega arith)) (ldr_word 17 16 y (omega arith) (omega arith))
     (slot_ahead base p g s.pages h.from h.near h.aligned (omega arith) s.top)
 
-marked_stub_does : (base p g : ℕ) (rest : List ℕ) → HasSlot (p + 4) g → StandsAt base p g
-    → (meaning (base + p) (marked_stub p g) ≡ Some (jump_through (base + g))) × (step_of (base + p) (marked_stub p g ++ rest) ≡ Some (taking 4 (jump_through (base + g))))
+marked_stub_does : (base p g : ℕ) (rest : List ℕ) → HasSlot (p + 4) g → IsLocatedAt base p g
+    → (meaning (base + p) (marked_stub p g) ≡ Some (jump_through (base + g))) × (step_of (base + p) (marked_stub p g ++ rest) ≡ Some (sized_step 4 (jump_through (base + g))))
 marked_stub_does base p g rest h s =
     let x = (g - page (p + 4)) / 4096 in
     let y = (g - page (p + 4)) % 4096 / 8 in
@@ -29,7 +29,7 @@ marked_stub_does base p g rest h s =
     (rw at (slot_ahead base (p + 4) g s.pages h.from h.near h.aligned (omega arith) s.top))
 
 thunk_does : (base p t : ℕ) (rest : List ℕ) → Within (2 ^ 32) (page p) (page t) → base % 4096 ≡ 0 → base + p + 12 ≤ 2 ^ 64
-    → (meaning (base + p) (thunk p t) ≡ Some (jump_to ((base + t) % 2 ^ 64))) × (step_of (base + p) (thunk p t ++ rest) ≡ Some (taking 3 (jump_to ((base + t) % 2 ^ 64))))
+    → (meaning (base + p) (thunk p t) ≡ Some (jump_to ((base + t) % 2 ^ 64))) × (step_of (base + p) (thunk p t ++ rest) ≡ Some (sized_step 3 (jump_to ((base + t) % 2 ^ 64))))
 thunk_does base p t rest w pages code =
     let x = distance (page p) (page t) / 4096 % 2 ^ 21 in
     let y = t % 4096 in

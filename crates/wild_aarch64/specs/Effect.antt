@@ -23,33 +23,33 @@ pub record Effect : Type 0 where
   pub deed : Deed
   pub value : ℕ
 
-abbrev pub comes_to : Deed → ℕ → Effect
-comes_to deed v = record { deed = deed; value = v }
+abbrev pub as_effect : Deed → ℕ → Effect
+as_effect deed v = record { deed = deed; value = v }
 
-abbrev pub performed : Reader → Action → Option Effect
-performed reader act = option_map (comes_to act.deed) (reader act.operand)
+abbrev pub effect_of_action : Reader → Action → Option Effect
+effect_of_action reader act = option_map (as_effect act.deed) (reader act.operand)
 
 -- the effect of the words at an address, with the number that its operand evaluates to
 abbrev pub effect : Reader → ℕ → List ℕ → Option Effect
-effect reader a ws = option_and_then (performed reader) (meaning a ws)
+effect reader a ws = option_and_then (effect_of_action reader) (meaning a ws)
 
 -- the instruction with its immediate set to 0
-abbrev pub cleared : Code → Code
-cleared (Adr r j) = Adr r 0
-cleared (Adrp r j) = Adrp r 0
-cleared (Movz r s i) = Movz r s 0
-cleared (Movk r s i) = Movk r s 0
-cleared (Movn r s i) = Movn r s 0
-cleared (Add r q j) = Add r q 0
-cleared (Ldr r q j) = Ldr r q 0
-cleared (Access key j) = Access key 0
-cleared (Literal key j) = Literal key 0
-cleared (B j) = B 0
-cleared (Bl j) = Bl 0
-cleared (BranchIf key j) = BranchIf key 0
-cleared (Br q) = Br q
-cleared (Blr q) = Blr q
-cleared Hint = Hint
+abbrev pub without_immediate : Code → Code
+without_immediate (Adr r j) = Adr r 0
+without_immediate (Adrp r j) = Adrp r 0
+without_immediate (Movz r s i) = Movz r s 0
+without_immediate (Movk r s i) = Movk r s 0
+without_immediate (Movn r s i) = Movn r s 0
+without_immediate (Add r q j) = Add r q 0
+without_immediate (Ldr r q j) = Ldr r q 0
+without_immediate (Access key j) = Access key 0
+without_immediate (Literal key j) = Literal key 0
+without_immediate (B j) = B 0
+without_immediate (Bl j) = Bl 0
+without_immediate (BranchIf key j) = BranchIf key 0
+without_immediate (Br q) = Br q
+without_immediate (Blr q) = Blr q
+without_immediate Hint = Hint
 
 -- every operand evaluates to v
 abbrev pub as_value : ℕ → Reader
@@ -57,11 +57,11 @@ as_value v operand = Some v
 
 -- the words without their immediates: relocations fill these, so their old contents do not matter
 abbrev pub shapes : List ℕ → List (Option Code)
-shapes ws = map (λ w. option_map cleared (read w)) ws
+shapes ws = map (λ w. option_map without_immediate (read w)) ws
 
 -- the effect that the words of the input at an address demand if their fields are to mean v
 abbrev pub demand : ℕ → ℕ → List ℕ → Option Effect
-demand v a ws = option_and_then (performed (as_value v)) (run (shapes ws) a [])
+demand v a ws = option_and_then (effect_of_action (as_value v)) (run (shapes ws) a [])
 
 -- a number evaluates to itself
 abbrev pub ReadsNumbers : Reader → Type 0

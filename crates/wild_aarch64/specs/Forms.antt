@@ -7,7 +7,7 @@ use Rattle.std.specs.Prelude.{ℕ, ◌*◌, ◌==◌, if◌then◌else◌, List,
 use Rattle.wild_aarch64.specs.declared.code.Code.TheVariants.{Adr, Adrp, Movz, Movk, Movn, Add, Ldr, Access, Literal, B, Bl, BranchIf, Br, Blr, Hint}
 use Rattle.wild_aarch64.specs.declared.code.Shift.{Shift}
 use Rattle.wild_aarch64.specs.declared.code.Shift.TheVariants.{By0, By16, By32, By48}
-use Rattle.wild_aarch64.specs.Immediate.{Imm12, Imm14, Imm16, Imm19, Imm21, Imm26, Nowhere, kept}
+use Rattle.wild_aarch64.specs.Immediate.{Imm12, Imm14, Imm16, Imm19, Imm21, Imm26, Nowhere, bits_outside}
 use Rattle.wild_aarch64.specs.Slice.{bits, signed, is, Form, form}
 
 -- ---- registers and shifts of a word
@@ -59,22 +59,22 @@ abbrev pub ldr : Form
 ldr = form (is 26 3 6 ∷ is 24 2 1 ∷ is 29 3 7 ∷ is 22 2 1 ∷ []) Imm12 (λ w i. Ldr (d w) (n w) (i * 8))
 
 abbrev pub byte_access : Form
-byte_access = form (is 26 3 6 ∷ is 24 2 1 ∷ is 29 3 1 ∷ []) Imm12 (λ w i. Access (kept Imm12 w) i)
+byte_access = form (is 26 3 6 ∷ is 24 2 1 ∷ is 29 3 1 ∷ []) Imm12 (λ w i. Access (bits_outside Imm12 w) i)
 
 abbrev pub half_access : Form
-half_access = form (is 26 3 6 ∷ is 24 2 1 ∷ is 29 3 3 ∷ []) Imm12 (λ w i. Access (kept Imm12 w) (i * 2))
+half_access = form (is 26 3 6 ∷ is 24 2 1 ∷ is 29 3 3 ∷ []) Imm12 (λ w i. Access (bits_outside Imm12 w) (i * 2))
 
 abbrev pub word_access : Form
-word_access = form (is 26 3 6 ∷ is 24 2 1 ∷ is 29 3 5 ∷ is 23 1 0 ∷ []) Imm12 (λ w i. Access (kept Imm12 w) (i * 4))
+word_access = form (is 26 3 6 ∷ is 24 2 1 ∷ is 29 3 5 ∷ is 23 1 0 ∷ []) Imm12 (λ w i. Access (bits_outside Imm12 w) (i * 4))
 
 abbrev pub ldrsw : Form
-ldrsw = form (is 26 3 6 ∷ is 24 2 1 ∷ is 29 3 5 ∷ is 22 2 2 ∷ []) Imm12 (λ w i. Access (kept Imm12 w) (i * 4))
+ldrsw = form (is 26 3 6 ∷ is 24 2 1 ∷ is 29 3 5 ∷ is 22 2 2 ∷ []) Imm12 (λ w i. Access (bits_outside Imm12 w) (i * 4))
 
 abbrev pub str : Form
-str = form (is 26 3 6 ∷ is 24 2 1 ∷ is 29 3 7 ∷ is 22 2 0 ∷ []) Imm12 (λ w i. Access (kept Imm12 w) (i * 8))
+str = form (is 26 3 6 ∷ is 24 2 1 ∷ is 29 3 7 ∷ is 22 2 0 ∷ []) Imm12 (λ w i. Access (bits_outside Imm12 w) (i * 8))
 
 abbrev pub prfm : Form
-prfm = form (is 26 3 6 ∷ is 24 2 1 ∷ is 29 3 7 ∷ is 22 2 2 ∷ []) Imm12 (λ w i. Access (kept Imm12 w) (i * 8))
+prfm = form (is 26 3 6 ∷ is 24 2 1 ∷ is 29 3 7 ∷ is 22 2 2 ∷ []) Imm12 (λ w i. Access (bits_outside Imm12 w) (i * 8))
 
 abbrev pub accesses : List Form
 accesses = ldr ∷ byte_access ∷ half_access ∷ word_access ∷ ldrsw ∷ str ∷ prfm ∷ []
@@ -82,19 +82,19 @@ accesses = ldr ∷ byte_access ∷ half_access ∷ word_access ∷ ldrsw ∷ str
 -- ---- "Load/store register (unsigned immediate)", vector registers: 8, 128, 16, 32 and 64 bits
 
 abbrev pub vector_8 : Form
-vector_8 = form (is 26 3 7 ∷ is 24 2 1 ∷ is 29 3 1 ∷ is 23 1 0 ∷ []) Imm12 (λ w i. Access (kept Imm12 w) i)
+vector_8 = form (is 26 3 7 ∷ is 24 2 1 ∷ is 29 3 1 ∷ is 23 1 0 ∷ []) Imm12 (λ w i. Access (bits_outside Imm12 w) i)
 
 abbrev pub vector_128 : Form
-vector_128 = form (is 26 3 7 ∷ is 24 2 1 ∷ is 29 3 1 ∷ is 23 1 1 ∷ []) Imm12 (λ w i. Access (kept Imm12 w) (i * 16))
+vector_128 = form (is 26 3 7 ∷ is 24 2 1 ∷ is 29 3 1 ∷ is 23 1 1 ∷ []) Imm12 (λ w i. Access (bits_outside Imm12 w) (i * 16))
 
 abbrev pub vector_16 : Form
-vector_16 = form (is 26 3 7 ∷ is 24 2 1 ∷ is 29 3 3 ∷ is 23 1 0 ∷ []) Imm12 (λ w i. Access (kept Imm12 w) (i * 2))
+vector_16 = form (is 26 3 7 ∷ is 24 2 1 ∷ is 29 3 3 ∷ is 23 1 0 ∷ []) Imm12 (λ w i. Access (bits_outside Imm12 w) (i * 2))
 
 abbrev pub vector_32 : Form
-vector_32 = form (is 26 3 7 ∷ is 24 2 1 ∷ is 29 3 5 ∷ is 23 1 0 ∷ []) Imm12 (λ w i. Access (kept Imm12 w) (i * 4))
+vector_32 = form (is 26 3 7 ∷ is 24 2 1 ∷ is 29 3 5 ∷ is 23 1 0 ∷ []) Imm12 (λ w i. Access (bits_outside Imm12 w) (i * 4))
 
 abbrev pub vector_64 : Form
-vector_64 = form (is 26 3 7 ∷ is 24 2 1 ∷ is 29 3 7 ∷ is 23 1 0 ∷ []) Imm12 (λ w i. Access (kept Imm12 w) (i * 8))
+vector_64 = form (is 26 3 7 ∷ is 24 2 1 ∷ is 29 3 7 ∷ is 23 1 0 ∷ []) Imm12 (λ w i. Access (bits_outside Imm12 w) (i * 8))
 
 abbrev pub vector_accesses : List Form
 vector_accesses = vector_8 ∷ vector_128 ∷ vector_16 ∷ vector_32 ∷ vector_64 ∷ []
@@ -102,13 +102,13 @@ vector_accesses = vector_8 ∷ vector_128 ∷ vector_16 ∷ vector_32 ∷ vector
 -- ---- "Load register (literal)": general registers, vector registers of 32 and 64 bits, and of 128 bits
 
 abbrev pub literal : Form
-literal = form (is 26 3 6 ∷ is 24 2 0 ∷ is 29 1 0 ∷ []) Imm19 (λ w i. Literal (kept Imm19 w) (signed 21 (i * 4)))
+literal = form (is 26 3 6 ∷ is 24 2 0 ∷ is 29 1 0 ∷ []) Imm19 (λ w i. Literal (bits_outside Imm19 w) (signed 21 (i * 4)))
 
 abbrev pub vector_literal : Form
-vector_literal = form (is 26 3 7 ∷ is 24 2 0 ∷ is 29 1 0 ∷ is 31 1 0 ∷ []) Imm19 (λ w i. Literal (kept Imm19 w) (signed 21 (i * 4)))
+vector_literal = form (is 26 3 7 ∷ is 24 2 0 ∷ is 29 1 0 ∷ is 31 1 0 ∷ []) Imm19 (λ w i. Literal (bits_outside Imm19 w) (signed 21 (i * 4)))
 
 abbrev pub wide_literal : Form
-wide_literal = form (is 26 3 7 ∷ is 24 2 0 ∷ is 29 3 4 ∷ []) Imm19 (λ w i. Literal (kept Imm19 w) (signed 21 (i * 4)))
+wide_literal = form (is 26 3 7 ∷ is 24 2 0 ∷ is 29 3 4 ∷ []) Imm19 (λ w i. Literal (bits_outside Imm19 w) (signed 21 (i * 4)))
 
 abbrev pub literals : List Form
 literals = literal ∷ vector_literal ∷ wide_literal ∷ []
@@ -139,19 +139,19 @@ transfers = br ∷ blr ∷ nop ∷ bti ∷ branch ∷ call ∷ []
 -- ---- "Branches, Exception Generating and System instructions": `b.cond`, `cbz` and `cbnz` of 32 and 64 bits, `tbz` and `tbnz` of a low and a high bit
 
 abbrev pub b_cond : Form
-b_cond = form (is 26 3 5 ∷ is 26 6 21 ∷ is 24 2 0 ∷ is 4 1 0 ∷ []) Imm19 (λ w i. BranchIf (kept Imm19 w) (signed 21 (i * 4)))
+b_cond = form (is 26 3 5 ∷ is 26 6 21 ∷ is 24 2 0 ∷ is 4 1 0 ∷ []) Imm19 (λ w i. BranchIf (bits_outside Imm19 w) (signed 21 (i * 4)))
 
 abbrev pub cbz_32 : Form
-cbz_32 = form (is 26 3 5 ∷ is 26 6 13 ∷ is 25 1 0 ∷ []) Imm19 (λ w i. BranchIf (kept Imm19 w) (signed 21 (i * 4)))
+cbz_32 = form (is 26 3 5 ∷ is 26 6 13 ∷ is 25 1 0 ∷ []) Imm19 (λ w i. BranchIf (bits_outside Imm19 w) (signed 21 (i * 4)))
 
 abbrev pub cbz_64 : Form
-cbz_64 = form (is 26 3 5 ∷ is 26 6 45 ∷ is 25 1 0 ∷ []) Imm19 (λ w i. BranchIf (kept Imm19 w) (signed 21 (i * 4)))
+cbz_64 = form (is 26 3 5 ∷ is 26 6 45 ∷ is 25 1 0 ∷ []) Imm19 (λ w i. BranchIf (bits_outside Imm19 w) (signed 21 (i * 4)))
 
 abbrev pub tbz_low : Form
-tbz_low = form (is 26 3 5 ∷ is 26 6 13 ∷ is 25 1 1 ∷ []) Imm14 (λ w i. BranchIf (kept Imm14 w) (signed 16 (i * 4)))
+tbz_low = form (is 26 3 5 ∷ is 26 6 13 ∷ is 25 1 1 ∷ []) Imm14 (λ w i. BranchIf (bits_outside Imm14 w) (signed 16 (i * 4)))
 
 abbrev pub tbz_high : Form
-tbz_high = form (is 26 3 5 ∷ is 26 6 45 ∷ is 25 1 1 ∷ []) Imm14 (λ w i. BranchIf (kept Imm14 w) (signed 16 (i * 4)))
+tbz_high = form (is 26 3 5 ∷ is 26 6 45 ∷ is 25 1 1 ∷ []) Imm14 (λ w i. BranchIf (bits_outside Imm14 w) (signed 16 (i * 4)))
 
 abbrev pub conditions : List Form
 conditions = b_cond ∷ cbz_32 ∷ cbz_64 ∷ tbz_low ∷ tbz_high ∷ []

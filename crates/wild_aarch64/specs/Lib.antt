@@ -8,5 +8,5 @@ pub mod Effect
 pub mod Template
 pub mod Row
 pub mod Stub
-pub mod Filled
+pub mod FilledForms
 pub mod Laws

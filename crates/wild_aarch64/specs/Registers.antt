@@ -11,13 +11,13 @@ use Rattle.wild_aarch64.specs.declared.registers.Registers.TheVariants.{Empty, O
 use Rattle.wild_aarch64.specs.declared.machine.NextStep.{NextStep}
 use Rattle.wild_aarch64.specs.declared.machine.NextStep.TheVariants as steps
 use Rattle.wild_aarch64.specs.Code.{read}
-use Rattle.wild_aarch64.specs.Machine.{Known, Next, On, End, Stuck, step}
+use Rattle.wild_aarch64.specs.Machine.{RegisterValues, Next, On, End, Stuck, step}
 
 abbrev pub entry : Entry → ℕ × Operand
 entry e = (e.register, e.operand)
 
 -- the values of the registers that were set, the last one first
-abbrev pub entries_of : Registers → Known
+abbrev pub entries_of : Registers → RegisterValues
 entries_of Empty = []
 entries_of (One a) = entry a ∷ []
 entries_of (Two a b) = entry a ∷ entry b ∷ []
@@ -38,12 +38,12 @@ abbrev pub next_count : NextStep → ℕ
 next_count (steps.On r) = count r
 next_count other = 0
 
-abbrev pub told : Next → (Known → Option Action) → Option Action
-told (On ks) rest = rest ks
-told (End act) rest = Some act
-told Stuck rest = None
+abbrev pub branch_or : Next → (RegisterValues → Option Action) → Option Action
+branch_or (On ks) rest = rest ks
+branch_or (End act) rest = Some act
+branch_or Stuck rest = None
 
 -- the first jump, call or conditional branch of the words at an address
-abbrev pub follow_words : List ℕ → ℕ → Known → Option Action
+abbrev pub follow_words : List ℕ → ℕ → RegisterValues → Option Action
 follow_words [] a ks = None
-follow_words (w ∷ ws) a ks = told (step a ks (read w)) (λ next. follow_words ws (a + 4) next)
+follow_words (w ∷ ws) a ks = branch_or (step a ks (read w)) (λ next. follow_words ws (a + 4) next)

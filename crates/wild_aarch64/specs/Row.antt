@@ -2,7 +2,7 @@
 -- the Arm 64-bit Architecture", "Relocation").
 --   Part, filled          the value that a relocation writes to a word's field
 --   Piece, written        the words at an address, for a register and a value
---   Target, Comes         how the fields are computed, and what they mean in the loaded image
+--   Target, IsValueOf         how the fields are computed, and what they mean in the loaded image
 --   Row, rows             the table
 --   branches, IsReached   branches, of which only the field is written
 use Rattle.std.specs.Prelude.{◌≡◌, ℕ, ◌+◌, ◌-◌, ◌*◌, ◌/◌, ◌%◌, ◌^◌, ◌<◌, ◌≤◌, ◌⊎◌, Bool, true, false, if◌then◌else◌, List, [], ◌∷◌, Some}
@@ -14,7 +14,7 @@ use Rattle.wild_aarch64.specs.Forms.{branch, call, conditions}
 use Rattle.wild_aarch64.specs.Machine.{page}
 use Rattle.wild_aarch64.specs.Effect.{Reader}
 use Rattle.wild_aarch64.specs.Template.{codes_of}
-use Rattle.wild_aarch64.specs.Immediate.{Field, Imm12, Imm14, Imm16, Imm19, Imm21, Imm26, inserted}
+use Rattle.wild_aarch64.specs.Immediate.{Field, Imm12, Imm14, Imm16, Imm19, Imm21, Imm26, word_with_immediate}
 
 -- s - p, modulo 2^64
 abbrev pub distance : ℕ → ℕ → ℕ
@@ -35,11 +35,11 @@ pub data Part : Type 0 where
 -- the word at a with that part of x in its field
 abbrev pub filled : Part → ℕ → ℕ → ℕ → ℕ
 filled Kept a x w = w
-filled HighOffset a x w = inserted Imm16 (x % 2 ^ 32 / 2 ^ 16) w
-filled LowOffset a x w = inserted Imm16 (x % 2 ^ 16) w
-filled SlotPage a x w = inserted Imm21 (distance (page a) (page x) % 2 ^ 33 / 2 ^ 12) w
-filled SlotLow a x w = inserted Imm12 (x % 2 ^ 12 / 2 ^ 3) w
-filled Distance a x w = inserted Imm21 (distance a x % 2 ^ 21) w
+filled HighOffset a x w = word_with_immediate Imm16 (x % 2 ^ 32 / 2 ^ 16) w
+filled LowOffset a x w = word_with_immediate Imm16 (x % 2 ^ 16) w
+filled SlotPage a x w = word_with_immediate Imm21 (distance (page a) (page x) % 2 ^ 33 / 2 ^ 12) w
+filled SlotLow a x w = word_with_immediate Imm12 (x % 2 ^ 12 / 2 ^ 3) w
+filled Distance a x w = word_with_immediate Imm21 (distance a x % 2 ^ 21) w
 
 -- a word to be written: its bits, whether the register's number is added to them, and the value of its field
 pub record Piece : Type 0 where
@@ -87,10 +87,10 @@ pub record IsRead (reader : Reader) (base x v : ℕ) : Type 0 where
   pub slot : reader (Word ((base + x) % 2 ^ 64)) ≡ Some v
 
 -- v is the meaning of the target; the fields of code at a are computed from x
-abbrev pub Comes : Target → Reader → ℕ → ℕ → ℕ → ℕ → Type 0
-Comes ThreadOffset reader base a x v = (x < 2 ^ 32) × (v ≡ x)
-Comes OffsetSlot reader base a x v = IsRead reader base x v × IsNear (2 ^ 32) (page (a + 8)) (page x)
-Comes (Address k) reader base a x v = IsPlaced base x v × IsNear (2 ^ 20) (a + k) x
+abbrev pub IsValueOf : Target → Reader → ℕ → ℕ → ℕ → ℕ → Type 0
+IsValueOf ThreadOffset reader base a x v = (x < 2 ^ 32) × (v ≡ x)
+IsValueOf OffsetSlot reader base a x v = IsRead reader base x v × IsNear (2 ^ 32) (page (a + 8)) (page x)
+IsValueOf (Address k) reader base a x v = IsPlaced base x v × IsNear (2 ^ 20) (a + k) x
 
 -- ---- the table
 

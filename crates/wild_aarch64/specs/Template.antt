@@ -15,7 +15,7 @@ use Rattle.wild_aarch64.specs.declared.template.Step.{Step}
 use Rattle.wild_aarch64.specs.Forms.{d}
 use Rattle.wild_aarch64.specs.Code.{read}
 use Rattle.wild_aarch64.specs.Machine.{meaning}
-use Rattle.wild_aarch64.specs.Effect.{cleared}
+use Rattle.wild_aarch64.specs.Effect.{without_immediate}
 
 -- ---- the table
 
@@ -78,7 +78,7 @@ same c e = false
 
 abbrev pub fits : Code → Option Code → Bool
 fits t None = false
-fits t (Some c) = same t (cleared c)
+fits t (Some c) = same t (without_immediate c)
 
 -- the instructions begin with those of a template; immediates are not compared
 abbrev pub begins : List Code → List (Option Code) → Bool
@@ -94,17 +94,17 @@ register_in (w ∷ u ∷ ws) = d u
 
 -- ---- steps
 
-abbrev pub taking : ℕ → Action → Step
-taking n act = record { words = n; action = act }
+abbrev pub sized_step : ℕ → Action → Step
+sized_step n act = record { words = n; action = act }
 
 -- the effect of the template's words, if the words begin with the template
 abbrev pub template_step : Template → ℕ → List ℕ → Option Step
-template_step t a ws = if begins (codes_of t (register_in ws)) (map read ws) then option_map (taking (size_of t)) (meaning a (take (size_of t) ws)) else None
+template_step t a ws = if begins (codes_of t (register_in ws)) (map read ws) then option_map (sized_step (size_of t)) (meaning a (take (size_of t) ws)) else None
 
 -- the effect of the first word
 abbrev pub single_step : ℕ → List ℕ → Option Step
 single_step a [] = None
-single_step a (w ∷ ws) = option_map (taking 1) (meaning a (w ∷ []))
+single_step a (w ∷ ws) = option_map (sized_step 1) (meaning a (w ∷ []))
 
 abbrev pub step_or : Option Step → Option Step → Option Step
 step_or (Some s) other = Some s

@@ -12,7 +12,7 @@ ghost use Rattle.std.specs.Prelude.{◌≡◌, ◌^◌, ◌*◌, ◌<◌, ◌≤
 ghost use Rattle.wild_aarch64.specs.Slice.{bits, signed};
 ghost use Rattle.wild_aarch64.specs.Forms.{hw};
 ghost use Rattle.wild_aarch64.specs.Code.{read, read_address, read_access, read_vector_access, read_literal, read_transfer, read_condition};
-ghost use Rattle.wild_aarch64.specs.Immediate.{immediate, kept, Imm12, Imm14, Imm16, Imm19, Imm21};
+ghost use Rattle.wild_aarch64.specs.Immediate.{immediate, bits_outside, Imm12, Imm14, Imm16, Imm19, Imm21};
 
 /// The left shift of the immediate of `movz`, `movk` or `movn`, in bits.
 #[derive(Clone, Copy, Debug, PartialEq, Eq, Drop)]
@@ -125,19 +125,19 @@ fn shift_of(word: u32) -> Shift
 
 // The bits of the word outside its 12-bit immediate.
 fn kept_12(word: u32) -> u32
-    ensures { result ≡ kept Imm12 word }
+    ensures { result ≡ bits_outside Imm12 word }
 {
     word % 0x400 + word / 0x40_0000 * 0x400
 }
 
 fn kept_14(word: u32) -> u32
-    ensures { result ≡ kept Imm14 word }
+    ensures { result ≡ bits_outside Imm14 word }
 {
     word % 0x20 + word / 0x8_0000 * 0x20
 }
 
 fn kept_19(word: u32) -> u32
-    ensures { result ≡ kept Imm19 word }
+    ensures { result ≡ bits_outside Imm19 word }
 {
     word % 0x20 + word / 0x100_0000 * 0x20
 }
@@ -177,7 +177,7 @@ fn address_code(word: u32) -> Option<Code>
 // A load or store other than `ldr` of 64 bits; its immediate counts in units of `unit` bytes.
 fn access(word: u32, unit: u64) -> Code
     requires { unit ≤ 16 }
-    ensures { result ≡ Code.Access (kept Imm12 word) (immediate Imm12 word * unit) }
+    ensures { result ≡ Code.Access (bits_outside Imm12 word) (immediate Imm12 word * unit) }
 {
     Code::Access(kept_12(word), u64::from(bits_of(word, 10, 12)) * unit)
 }

@@ -16,4 +16,4 @@ pub use laws::{
 pub use machine::{NextStep, branch_of, meaning_of, step_of};
 pub use operand::{Action, Deed, Operand};
 pub use registers::{Entry, Registers};
-pub use template::{Step, Template, cleared, longest_step};
+pub use template::{Step, Template, longest_step, without_immediate};

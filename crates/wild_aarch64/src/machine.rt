@@ -9,7 +9,7 @@
 //! unknown, because it is either lost or sets the stack pointer. A TLS descriptor's call (aaelf64, "TLS descriptors") is the only
 //! `blr` with a meaning: it sets x0 to the offset that the descriptor gives.
 ghost use Rattle.std.specs.Prelude.{◌≡◌, ◌+◌, ◌*◌, ◌^◌, ◌<◌, ◌≤◌, [], length, map};
-ghost use Rattle.wild_aarch64.specs.Machine.{sum_64, known, plus, loaded, shifted, with_bits, changed, step, sets, leaves, leaves_if, goes, described, all_hints, meaning};
+ghost use Rattle.wild_aarch64.specs.Machine.{sum_64, register_value, plus, word_at_operand, shifted_immediate, with_bits, with_bits_changed, step, sets, leaves, leaves_if, goes, descriptor_result, all_hints, meaning};
 ghost use Rattle.wild_aarch64.specs.Registers.{entries_of, next_of, count, next_count, follow_words};
 ghost use Rattle.wild_aarch64.specs.Code.{read};
 
@@ -43,7 +43,7 @@ fn sum_of(operand: Operand, number: u64) -> Option<Operand>
 
 // The word at the address.
 fn word_at(address: Option<Operand>) -> Option<Operand>
-    ensures { result ≡ loaded address }
+    ensures { result ≡ word_at_operand address }
 {
     match address {
         Some(Operand::Number(x)) => Some(Operand::Word(x)),
@@ -52,8 +52,8 @@ fn word_at(address: Option<Operand>) -> Option<Operand>
     }
 }
 
-fn shifted(shift: Shift, number: u16) -> u64
-    ensures { result ≡ shifted shift number }
+fn shifted_immediate(shift: Shift, number: u16) -> u64
+    ensures { result ≡ shifted_immediate shift number }
 {
     let number = u64::from(number);
     match shift {
@@ -79,8 +79,8 @@ fn with_bits(shift: Shift, number: u16, x: u64) -> u64
     }
 }
 
-fn changed(shift: Shift, number: u16, operand: Operand) -> Option<Operand>
-    ensures { result ≡ changed shift number operand }
+fn with_bits_changed(shift: Shift, number: u16, operand: Operand) -> Option<Operand>
+    ensures { result ≡ with_bits_changed shift number operand }
 {
     match operand {
         Operand::Number(x) => Some(Operand::Number(with_bits(shift, number, x))),
@@ -138,7 +138,7 @@ fn goes_to(registers: Registers, target: Operand) -> NextStep
 }
 
 fn descriptor_call(register: u32, registers: Registers) -> NextStep
-    ensures is { next_of result ≡ described register (entries_of registers) (known register (entries_of registers)) (known 0 (entries_of registers)) }
+    ensures is { next_of result ≡ descriptor_result register (entries_of registers) (register_value register (entries_of registers)) (register_value 0 (entries_of registers)) }
     ensures small { next_count result ≤ 1 }
 {
     let Operand::Word(function) = registers.operand_of(register) else {
@@ -176,8 +176,12 @@ pub fn step_of(place: u64, registers: Registers, code: Option<Code>) -> NextStep
     match code {
         Code::Adr(r, j) => set_to(registers, r, Some(at_distance(place, j))),
         Code::Adrp(r, j) => set_to(registers, r, Some(at_distance(place / PAGE * PAGE, j))),
-        Code::Movz(r, s, i) => set_to(registers, r, Some(Operand::Number(shifted(s, i)))),
-        Code::Movk(r, s, i) => set_to(registers, r, changed(s, i, registers.operand_of(r))),
+        Code::Movz(r, s, i) => set_to(registers, r, Some(Operand::Number(shifted_immediate(s, i)))),
+        Code::Movk(r, s, i) => set_to(
+            registers,
+            r,
+            with_bits_changed(s, i, registers.operand_of(r)),
+        ),
         Code::Add(r, q, j) => set_to(registers, r, sum_of(registers.operand_of(q), j)),
         Code::Ldr(r, q, j) => set_to(registers, r, word_at(sum_of(registers.operand_of(q), j))),
         Code::Movn(_, _, _) | Code::Access(_, _) | Code::Literal(_, _) => NextStep::Stuck,

@@ -1,6 +1,6 @@
 //! The registers that a run has set, as far as addresses need them, with the last one first.
 ghost use Rattle.std.specs.Prelude.{◌≡◌, ◌<◌, if◌then◌else◌, ◌==◌, ◌||◌, ◌∷◌};
-ghost use Rattle.wild_aarch64.specs.Machine.{known, only, outcome, does};
+ghost use Rattle.wild_aarch64.specs.Machine.{register_value, only_set, outcome, does};
 ghost use Rattle.wild_aarch64.specs.Registers.{entries_of, count};
 ghost use Rattle.wild_aarch64.specs.declared.operand.Deed.TheVariants.{Sets};
 
@@ -44,7 +44,7 @@ fn is_one_of(entry: Entry, first: u32, second: u32) -> bool
 impl Registers {
     /// The value of the register.
     pub fn operand_of(self, register: u32) -> Operand
-        ensures { result ≡ known register (entries_of self) }
+        ensures { result ≡ register_value register (entries_of self) }
     {
         let start = Operand::Register(register, 0);
         match self {
@@ -79,7 +79,7 @@ impl Registers {
 
     /// Whether no register other than these two was set.
     pub fn are_only(self, first: u32, second: u32) -> bool
-        ensures { result ≡ only first second (entries_of self) }
+        ensures { result ≡ only_set first second (entries_of self) }
     {
         match self {
             Registers::Empty => true,

@@ -8,7 +8,7 @@
 //! any register R, which is taken from the second word. Rewrites keep the number of words: `nop` replaces those that are not needed.
 ghost use Rattle.std.specs.Prelude.{◌≡◌, ◌+◌, ◌*◌, ◌^◌, ◌<◌, ◌≤◌, IfSome, length, map};
 ghost use Rattle.wild_aarch64.specs.Code.{read};
-ghost use Rattle.wild_aarch64.specs.Effect.{cleared};
+ghost use Rattle.wild_aarch64.specs.Effect.{without_immediate};
 ghost use Rattle.wild_aarch64.specs.Template.{codes_of, size_of, same, fits, begins, register_in, template_step, single_step, first_step, step_of};
 
 use crate::code::{Code, Shift, code_of};
@@ -64,8 +64,8 @@ pub struct Step {
 }
 
 /// The instruction with its immediate set to 0.
-pub fn cleared(code: Code) -> Code
-    ensures { result ≡ cleared code }
+pub fn without_immediate(code: Code) -> Code
+    ensures { result ≡ without_immediate code }
 {
     match code {
         Code::Adr(r, _) => Code::Adr(r, 0),
@@ -90,24 +90,25 @@ fn is_same(a: Code, b: Code) -> bool
     a == b
 }
 
-fn is_fit(wanted: Code, code: Option<Code>) -> bool
+fn is_cell_match(wanted: Code, code: Option<Code>) -> bool
     ensures { result ≡ fits wanted code }
 {
     match code {
         None => false,
-        Some(code) => is_same(wanted, cleared(code)),
+        Some(code) => is_same(wanted, without_immediate(code)),
     }
 }
 
 // Whether the words begin with these instructions; immediates are not compared.
-fn is_begun(wanted: &[Code], words: &[u32]) -> bool
+fn begins_with(wanted: &[Code], words: &[u32]) -> bool
     ensures { result ≡ begins wanted.now (map read words.now) }
 {
     match wanted.split_first() {
         None => true,
         Some((code, wanted)) => match words.split_first() {
             None => false,
-            Some((word, words)) => is_fit(*code, code_of(*word)) && is_begun(wanted, words),
+            Some((word, words)) => is_cell_match(*code, code_of(*word))
+                && begins_with(wanted, words),
         },
     }
 }
@@ -132,27 +133,30 @@ impl Template {
     }
 
     // Whether the words begin with the template's instructions for that register.
-    fn is_standing(self, r: u32, words: &[u32]) -> bool
+    fn matches_words(self, r: u32, words: &[u32]) -> bool
         ensures { result ≡ begins (codes_of self r) (map read words.now) }
     {
         use Code::{Add, Adr, Adrp, Blr, Br, Hint, Ldr, Movk, Movz};
         let high = Shift::By16;
         let low = Shift::By0;
         match self {
-            Template::Stub => is_begun(&[Adrp(16, 0), Ldr(17, 16, 0), Br(17), Hint], words),
-            Template::MarkedStub => is_begun(&[Hint, Adrp(16, 0), Ldr(17, 16, 0), Br(17)], words),
+            Template::Stub => begins_with(&[Adrp(16, 0), Ldr(17, 16, 0), Br(17), Hint], words),
+            Template::MarkedStub => begins_with(
+                &[Hint, Adrp(16, 0), Ldr(17, 16, 0), Br(17)],
+                words,
+            ),
             Template::DescriptorCall => {
-                is_begun(&[Adrp(0, 0), Ldr(r, 0, 0), Add(0, 0, 0), Blr(r)], words)
+                begins_with(&[Adrp(0, 0), Ldr(r, 0, 0), Add(0, 0, 0), Blr(r)], words)
             }
             Template::OffsetForCall => {
-                is_begun(&[Hint, Hint, Movz(0, high, 0), Movk(0, low, 0)], words)
+                begins_with(&[Hint, Hint, Movz(0, high, 0), Movk(0, low, 0)], words)
             }
-            Template::SlotForCall => is_begun(&[Hint, Hint, Adrp(0, 0), Ldr(0, 0, 0)], words),
-            Template::Thunk => is_begun(&[Adrp(16, 0), Add(16, 16, 0), Br(16)], words),
-            Template::SlotPair => is_begun(&[Adrp(r, 0), Ldr(r, r, 0)], words),
-            Template::OffsetPair => is_begun(&[Movz(r, high, 0), Movk(r, low, 0)], words),
-            Template::AddressPair => is_begun(&[Adrp(r, 0), Add(r, r, 0)], words),
-            Template::NearAddress => is_begun(&[Hint, Adr(r, 0)], words),
+            Template::SlotForCall => begins_with(&[Hint, Hint, Adrp(0, 0), Ldr(0, 0, 0)], words),
+            Template::Thunk => begins_with(&[Adrp(16, 0), Add(16, 16, 0), Br(16)], words),
+            Template::SlotPair => begins_with(&[Adrp(r, 0), Ldr(r, r, 0)], words),
+            Template::OffsetPair => begins_with(&[Movz(r, high, 0), Movk(r, low, 0)], words),
+            Template::AddressPair => begins_with(&[Adrp(r, 0), Add(r, r, 0)], words),
+            Template::NearAddress => begins_with(&[Hint, Adr(r, 0)], words),
         }
     }
 
@@ -163,7 +167,7 @@ impl Template {
         ensures small { IfSome result (λ s. s.words ≤ 4) }
     {
         let size = self.size();
-        if !self.is_standing(register_in(words), words) || words.len() < size {
+        if !self.matches_words(register_in(words), words) || words.len() < size {
             return None;
         }
         Some(Step {

@@ -11,8 +11,8 @@ use Rattle.wild_types.specs.declared.file.Group.{Group}
 use Rattle.wild_types.specs.declared.layout.Layout.{Layout}
 use Rattle.wild_types.specs.Lists.{first_failing, through}
 use Rattle.wild_types.specs.Lookups.{files_of, file_of}
-use Rattle.wild_clauses.specs.Indexes.{section_count, symbol_indexes_fit, symbol_misfit, range_follows, or_place, range_out_of_order}
-use Rattle.wild_clauses.specs.Astray.{range_lies, ranges_lie, all_ranges_lie, count_in, or_first, found_or, gap_astray, range_astray, file_walk, go_on, files_walk, groups_walk, walk_end}
+use Rattle.wild_plan_rules.specs.Indexes.{section_count, symbol_indexes_fit, symbol_misfit, range_follows, or_place, range_out_of_order}
+use Rattle.wild_clauses.specs.SymbolIndexes.{range_lies, ranges_lie, all_ranges_lie, count_in, or_first, found_or, gap_astray, range_astray, file_walk, go_on, files_walk, groups_walk, walk_end}
 use Rattle.wild_types.specs.FileSymbols.{range_of}
 
 -- how many input sections the file of a symbol has

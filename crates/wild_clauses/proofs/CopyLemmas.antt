@@ -7,11 +7,11 @@ use Rattle.std.proofs.lemmas.List.{append-nil, drop_more, get_or-set_same, get_o
 use Rattle.std.proofs.lemmas.List.Folds.{list_all-append, list_any-append}
 use Rattle.wild_types.specs.declared.file.Group.{Group}
 use Rattle.wild_types.specs.declared.layout.Layout.{Layout}
-use Rattle.wild_types.specs.FileSymbols.{copied_in, are_new, copied_again}
+use Rattle.wild_types.specs.FileSymbols.{copied_definitions, are_distinct_from, first_double_copy}
 use Rattle.wild_types.specs.Lists.{through}
-use Rattle.wild_clauses.specs.Copies.{windows_of, marked, first_marked, lies_between, new_between, again_between}
-use Rattle.wild_clauses.specs.Indexes.{or_place}
-use Rattle.wild_clauses.specs.Misplaced.{earlier}
+use Rattle.wild_clauses.specs.Copies.{windows_of, with_mark, first_marked, lies_between, new_between, repeated_copy_between}
+use Rattle.wild_plan_rules.specs.Indexes.{or_place}
+use Rattle.wild_plan_rules.specs.MisplacedSections.{earlier}
 use Rattle.wild_clauses.proofs.EarlierLemmas.{AtLeast, at_least_less, earlier-first, earlier-second}
 use Rattle.wild_clauses.proofs.OrderedLemmas.{through_append}
 
@@ -75,7 +75,7 @@ tells_set start n marks e d from to t = record { long = length-set marks (d - st
               (t.told k lt))
         ]
 
-mark_one : (start n : ℕ) (marks : List Bool) (e : List ℕ) (d : ℕ) → Tells start n marks e → Marks start n e (d ∷ []) (marked start marks d)
+mark_one : (start n : ℕ) (marks : List Bool) (e : List ℕ) (d : ℕ) → Tells start n marks e → Marks start n e (d ∷ []) (with_mark start marks d)
 mark_one start n marks e d t =
     elim (cases_Bool (nat_lt d start)) [
       | inl before ↦
@@ -107,27 +107,27 @@ mark_one start n marks e d t =
       ]
     ]
 
-mark_all : (start n : ℕ) (marks : List Bool) (e xs : List ℕ) → Tells start n marks e → Marks start n e xs (through (marked start) marks xs)
+mark_all : (start n : ℕ) (marks : List Bool) (e xs : List ℕ) → Tells start n marks e → Marks start n e xs (through (with_mark start) marks xs)
 mark_all start n marks e [] t = (refl, subst (Tells start n marks) (sym (append-nil e)) t)
-mark_all start n marks e (x ∷ xs) t = step (marked start marks x) (λ next u. mark_all start n next (e ++ x ∷ []) xs u) (mark_one start n marks e x t)
+mark_all start n marks e (x ∷ xs) t = step (with_mark start marks x) (λ next u. mark_all start n next (e ++ x ∷ []) xs u) (mark_one start n marks e x t)
   where
     more : (o : Option (List Bool)) → new_between start (start + n) e (x ∷ []) ≡ true → Marks start n (e ++ x ∷ []) xs o → Marks start n e (x ∷ xs) o
     more None first h = and_right _ _ h
     more (Some next) first h = (and_from _ _ (and_parts _ true first).0 h.0, subst (Tells start n next) (append_assoc e (x ∷ []) xs) h.1)
 
-    step : (o : Option (List Bool)) → ((next : List Bool) → Tells start n next (e ++ x ∷ []) → Marks start n (e ++ x ∷ []) xs (through (marked start) next xs)) → Marks start n e (x ∷ []) o → Marks start n e (x ∷ xs) (option_and_then (λ t. through (marked start) t xs) o)
+    step : (o : Option (List Bool)) → ((next : List Bool) → Tells start n next (e ++ x ∷ []) → Marks start n (e ++ x ∷ []) xs (through (with_mark start) next xs)) → Marks start n e (x ∷ []) o → Marks start n e (x ∷ xs) (option_and_then (λ t. through (with_mark start) t xs) o)
     step None again h =
         elim (and_cases _ true h) [
           | inl again ↦ and_left _ _ again
           | inr wrong ↦ cc
         ]
-    step (Some next) again h = more (through (marked start) next xs) h.0 (again next h.1)
+    step (Some next) again h = more (through (with_mark start) next xs) h.0 (again next h.1)
 
-marks_tell : (l : Layout) (start n : ℕ) (marks : List Bool) (e : List ℕ) (i : ℕ) (gs : List Group) → Tells start n marks e → first_marked l start marks i gs ≡ again_between l start (start + n) e i gs
+marks_tell : (l : Layout) (start n : ℕ) (marks : List Bool) (e : List ℕ) (i : ℕ) (gs : List Group) → Tells start n marks e → first_marked l start marks i gs ≡ repeated_copy_between l start (start + n) e i gs
 marks_tell l start n marks e i [] t = refl
-marks_tell l start n marks e i (g ∷ gs) t = by (through (marked start) marks (copied_in l g)) (λ next u. marks_tell l start n next (e ++ copied_in l g) (i + 1) gs u) (mark_all start n marks e (copied_in l g) t)
+marks_tell l start n marks e i (g ∷ gs) t = by (through (with_mark start) marks (copied_definitions l g)) (λ next u. marks_tell l start n next (e ++ copied_definitions l g) (i + 1) gs u) (mark_all start n marks e (copied_definitions l g) t)
   where
-    by : (o : Option (List Bool)) → ((next : List Bool) → Tells start n next (e ++ copied_in l g) → first_marked l start next (i + 1) gs ≡ again_between l start (start + n) (e ++ copied_in l g) (i + 1) gs) → Marks start n e (copied_in l g) o → or_place i o (λ next. first_marked l start next (i + 1) gs) ≡ again_between l start (start + n) e i (g ∷ gs)
+    by : (o : Option (List Bool)) → ((next : List Bool) → Tells start n next (e ++ copied_definitions l g) → first_marked l start next (i + 1) gs ≡ repeated_copy_between l start (start + n) (e ++ copied_definitions l g) (i + 1) gs) → Marks start n e (copied_definitions l g) o → or_place i o (λ next. first_marked l start next (i + 1) gs) ≡ repeated_copy_between l start (start + n) e i (g ∷ gs)
     by None again h = rw h refl
     by (Some next) again h = rw h.0 (again next h.1)
 
@@ -135,21 +135,21 @@ none_marked : (start n : ℕ) → Tells start n (replicate n false) []
 none_marked start n = record { long = length-replicate n false; told = λ k lt. get_or-replicate n k false false lt }
 
 -- a walk with marks that were not set
-pub window_again : (l : Layout) (start n : ℕ) (gs : List Group) → first_marked l start (replicate n false) 0 gs ≡ again_between l start (start + n) [] 0 gs
+pub window_again : (l : Layout) (start n : ℕ) (gs : List Group) → first_marked l start (replicate n false) 0 gs ≡ repeated_copy_between l start (start + n) [] 0 gs
 window_again l start n gs = marks_tell l start n (replicate n false) [] 0 gs (none_marked start n)
 
 -- ---- the items of a list
 
-pub walk_out : {X : Type 0} (f : X → List ℕ) (start : ℕ) (marks : List Bool) (xs : List X) (i : ℕ) (x : X) → i < length xs → x ≡ get_or xs i x → through (marked start) marks (f x) ≡ None → through (marked start) marks (flat_map f (drop i xs)) ≡ None
-walk_out f start marks xs i x lt is h = rw (drop_more xs i x lt, ← is, through_append (marked start) marks (f x) (flat_map f (drop (i + 1) xs)), h) refl
+pub walk_out : {X : Type 0} (f : X → List ℕ) (start : ℕ) (marks : List Bool) (xs : List X) (i : ℕ) (x : X) → i < length xs → x ≡ get_or xs i x → through (with_mark start) marks (f x) ≡ None → through (with_mark start) marks (flat_map f (drop i xs)) ≡ None
+walk_out f start marks xs i x lt is h = rw (drop_more xs i x lt, ← is, through_append (with_mark start) marks (f x) (flat_map f (drop (i + 1) xs)), h) refl
 
-pub walk_on : {X : Type 0} (f : X → List ℕ) (start : ℕ) (marks next : List Bool) (xs : List X) (i : ℕ) (x : X) → i < length xs → x ≡ get_or xs i x → through (marked start) marks (f x) ≡ Some next → through (marked start) marks (flat_map f (drop i xs)) ≡ through (marked start) next (flat_map f (drop (i + 1) xs))
-walk_on f start marks next xs i x lt is h = rw (drop_more xs i x lt, ← is, through_append (marked start) marks (f x) (flat_map f (drop (i + 1) xs)), h) refl
+pub walk_on : {X : Type 0} (f : X → List ℕ) (start : ℕ) (marks next : List Bool) (xs : List X) (i : ℕ) (x : X) → i < length xs → x ≡ get_or xs i x → through (with_mark start) marks (f x) ≡ Some next → through (with_mark start) marks (flat_map f (drop i xs)) ≡ through (with_mark start) next (flat_map f (drop (i + 1) xs))
+walk_on f start marks next xs i x lt is h = rw (drop_more xs i x lt, ← is, through_append (with_mark start) marks (f x) (flat_map f (drop (i + 1) xs)), h) refl
 
-pub group_out : (l : Layout) (start : ℕ) (marks : List Bool) (gs : List Group) (i : ℕ) (g : Group) → i < length gs → g ≡ get_or gs i g → through (marked start) marks (copied_in l g) ≡ None → first_marked l start marks i (drop i gs) ≡ Some i
+pub group_out : (l : Layout) (start : ℕ) (marks : List Bool) (gs : List Group) (i : ℕ) (g : Group) → i < length gs → g ≡ get_or gs i g → through (with_mark start) marks (copied_definitions l g) ≡ None → first_marked l start marks i (drop i gs) ≡ Some i
 group_out l start marks gs i g lt is h = rw (drop_more gs i g lt, ← is, h) refl
 
-pub group_on : (l : Layout) (start : ℕ) (marks next : List Bool) (gs : List Group) (i : ℕ) (g : Group) → i < length gs → g ≡ get_or gs i g → through (marked start) marks (copied_in l g) ≡ Some next → first_marked l start marks i (drop i gs) ≡ first_marked l start next (i + 1) (drop (i + 1) gs)
+pub group_on : (l : Layout) (start : ℕ) (marks next : List Bool) (gs : List Group) (i : ℕ) (g : Group) → i < length gs → g ≡ get_or gs i g → through (with_mark start) marks (copied_definitions l g) ≡ Some next → first_marked l start marks i (drop i gs) ≡ first_marked l start next (i + 1) (drop (i + 1) gs)
 group_on l start marks next gs i g lt is h = rw (drop_more gs i g lt, ← is, h) refl
 
 -- ---- windows side by side
@@ -180,23 +180,23 @@ new_split a b c e (x ∷ xs) ab bc =
     rw (lies_split a b c x ab bc, new_split a b c (e ++ x ∷ []) xs ab bc)
     (both_new (lies_between a b x) (lies_between b c x) (list_any (λ d. d == x) e) (new_between a b (e ++ x ∷ []) xs) (new_between b c (e ++ x ∷ []) xs))
 
-again-at_least : (l : Layout) (a b : ℕ) (e : List ℕ) (i : ℕ) (gs : List Group) → AtLeast i (again_between l a b e i gs)
+again-at_least : (l : Layout) (a b : ℕ) (e : List ℕ) (i : ℕ) (gs : List Group) → AtLeast i (repeated_copy_between l a b e i gs)
 again-at_least l a b e i [] = tt
 again-at_least l a b e i (g ∷ gs) =
-    elim (cases_Bool (new_between a b e (copied_in l g))) [
-      | inl t ↦ rw t (at_least_less i _ (again-at_least l a b (e ++ copied_in l g) (i + 1) gs))
+    elim (cases_Bool (new_between a b e (copied_definitions l g))) [
+      | inl t ↦ rw t (at_least_less i _ (again-at_least l a b (e ++ copied_definitions l g) (i + 1) gs))
       | inr f ↦ rw f (omega arith)
     ]
 
-again_split : (l : Layout) (a b c : ℕ) (e : List ℕ) (i : ℕ) (gs : List Group) → a ≤ b → b ≤ c → again_between l a c e i gs ≡ earlier (again_between l a b e i gs) (again_between l b c e i gs)
+again_split : (l : Layout) (a b c : ℕ) (e : List ℕ) (i : ℕ) (gs : List Group) → a ≤ b → b ≤ c → repeated_copy_between l a c e i gs ≡ earlier (repeated_copy_between l a b e i gs) (repeated_copy_between l b c e i gs)
 again_split l a b c e i [] ab bc = refl
 again_split l a b c e i (g ∷ gs) ab bc =
-    let both = new_split a b c e (copied_in l g) ab bc in
-    let later = again_split l a b c (e ++ copied_in l g) (i + 1) gs ab bc in
-    elim (cases_Bool (new_between a b e (copied_in l g))) [
-      | inl t ↦ elim (cases_Bool (new_between b c e (copied_in l g))) [
+    let both = new_split a b c e (copied_definitions l g) ab bc in
+    let later = again_split l a b c (e ++ copied_definitions l g) (i + 1) gs ab bc in
+    elim (cases_Bool (new_between a b e (copied_definitions l g))) [
+      | inl t ↦ elim (cases_Bool (new_between b c e (copied_definitions l g))) [
         | inl u ↦ rw (both, t, u) later
-        | inr v ↦ rw (both, t, v) (sym (earlier-second i _ (at_least_less i _ (again-at_least l a b (e ++ copied_in l g) (i + 1) gs))))
+        | inr v ↦ rw (both, t, v) (sym (earlier-second i _ (at_least_less i _ (again-at_least l a b (e ++ copied_definitions l g) (i + 1) gs))))
       ]
       | inr f ↦ rw (both, f) (sym (earlier-first i _ (again-at_least l b c e i (g ∷ gs))))
     ]
@@ -205,33 +205,33 @@ none_lies : (e xs : List ℕ) → new_between 0 0 e xs ≡ true
 none_lies e [] = refl
 none_lies e (x ∷ xs) = rw (lies_behind 0 0 x (omega arith) (omega arith)) (none_lies (e ++ x ∷ []) xs)
 
-none_again : (l : Layout) (e : List ℕ) (i : ℕ) (gs : List Group) → again_between l 0 0 e i gs ≡ None
+none_again : (l : Layout) (e : List ℕ) (i : ℕ) (gs : List Group) → repeated_copy_between l 0 0 e i gs ≡ None
 none_again l e i [] = refl
-none_again l e i (g ∷ gs) = rw (none_lies e (copied_in l g)) (none_again l (e ++ copied_in l g) (i + 1) gs)
+none_again l e i (g ∷ gs) = rw (none_lies e (copied_definitions l g)) (none_again l (e ++ copied_definitions l g) (i + 1) gs)
 
 -- no window was gone through
-pub no_window : (l : Layout) (gs : List Group) → again_between l 0 0 [] 0 gs ≡ None
+pub no_window : (l : Layout) (gs : List Group) → repeated_copy_between l 0 0 [] 0 gs ≡ None
 no_window l gs = none_again l [] 0 gs
 
 -- one window more
-pub next_window : (l : Layout) (gs : List Group) (w : ℕ) → earlier (again_between l 0 (w * 65536) [] 0 gs) (again_between l (w * 65536) (w * 65536 + 65536) [] 0 gs) ≡ again_between l 0 ((w + 1) * 65536) [] 0 gs
+pub next_window : (l : Layout) (gs : List Group) (w : ℕ) → earlier (repeated_copy_between l 0 (w * 65536) [] 0 gs) (repeated_copy_between l (w * 65536) (w * 65536 + 65536) [] 0 gs) ≡ repeated_copy_between l 0 ((w + 1) * 65536) [] 0 gs
 next_window l gs w =
     let e : (w + 1) * 65536 ≡ w * 65536 + 65536 = omega arith in
     rw e (sym (again_split l 0 (w * 65536) (w * 65536 + 65536) [] 0 gs (omega arith) (omega arith)))
 
 -- ---- all windows
 
-new_below : (b : ℕ) (e xs : List ℕ) → list_all (λ d. nat_lt d b) xs ≡ true → are_new e xs ≡ new_between 0 b e xs
+new_below : (b : ℕ) (e xs : List ℕ) → list_all (λ d. nat_lt d b) xs ≡ true → are_distinct_from e xs ≡ new_between 0 b e xs
 new_below b e [] h = refl
 new_below b e (x ∷ xs) h =
     let w = and_parts (nat_lt x b) (list_all (λ d. nat_lt d b) xs) h in
     rw (lies_in 0 b x (omega arith) (ltb-true x b w.0), new_below b (e ++ x ∷ []) xs w.1) refl
 
-again_below : (l : Layout) (b : ℕ) (e : List ℕ) (i : ℕ) (gs : List Group) → list_all (λ d. nat_lt d b) (flat_map (copied_in l) gs) ≡ true → copied_again l e i gs ≡ again_between l 0 b e i gs
+again_below : (l : Layout) (b : ℕ) (e : List ℕ) (i : ℕ) (gs : List Group) → list_all (λ d. nat_lt d b) (flat_map (copied_definitions l) gs) ≡ true → first_double_copy l e i gs ≡ repeated_copy_between l 0 b e i gs
 again_below l b e i [] h = refl
 again_below l b e i (g ∷ gs) h =
-    let w = and_parts _ _ (sym (list_all-append (λ d. nat_lt d b) (copied_in l g) (flat_map (copied_in l) gs)) ∙ h) in
-    rw (new_below b e (copied_in l g) w.0, again_below l b (e ++ copied_in l g) (i + 1) gs w.1) refl
+    let w = and_parts _ _ (sym (list_all-append (λ d. nat_lt d b) (copied_definitions l g) (flat_map (copied_definitions l) gs)) ∙ h) in
+    rw (new_below b e (copied_definitions l g) w.0, again_below l b (e ++ copied_definitions l g) (i + 1) gs w.1) refl
 
 windows_grow : (n : ℕ) (xs : List ℕ) → n ≤ windows_of n xs
 windows_grow n [] = omega arith
@@ -244,5 +244,5 @@ windows_hold n (x ∷ xs) b le =
     rw (lt-ltb x b (omega (arith, h, le))) (windows_hold (max n (x / 65536 + 1)) xs b le)
 
 -- all windows were gone through
-pub all_windows : (l : Layout) (gs : List Group) (w : ℕ) → w ≡ windows_of 0 (flat_map (copied_in l) gs) → again_between l 0 (w * 65536) [] 0 gs ≡ copied_again l [] 0 gs
-all_windows l gs w is = sym (again_below l (w * 65536) [] 0 gs (windows_hold 0 (flat_map (copied_in l) gs) (w * 65536) (omega (arith, is))))
+pub all_windows : (l : Layout) (gs : List Group) (w : ℕ) → w ≡ windows_of 0 (flat_map (copied_definitions l) gs) → repeated_copy_between l 0 (w * 65536) [] 0 gs ≡ first_double_copy l [] 0 gs
+all_windows l gs w is = sym (again_below l (w * 65536) [] 0 gs (windows_hold 0 (flat_map (copied_definitions l) gs) (w * 65536) (omega (arith, is))))

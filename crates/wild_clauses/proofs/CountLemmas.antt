@@ -15,8 +15,8 @@ use Rattle.wild_types.specs.Lookups.{files_of}
 use Rattle.wild_needs.specs.DynamicSymbols.{is_undefined_entry, undefined_entries, dynamic_symbols, listed}
 use Rattle.wild_needs.specs.UndefinedCounts.{counted, count_in, undefined_of, undefined_of_group}
 use Rattle.wild_needs.proofs.UndefinedLemmas.{groups_count}
-use Rattle.wild_clauses.specs.Astray.{all_ranges_lie}
-use Rattle.wild_clauses.specs.Counts.{symbols_in, symbols_of, table_fits}
+use Rattle.wild_clauses.specs.SymbolIndexes.{all_ranges_lie}
+use Rattle.wild_plan_rules.specs.Counts.{symbols_in, symbols_of, table_fits}
 use Rattle.wild_clauses.proofs.AstrayLemmas.{lie_ascend}
 use Rattle.wild_clauses.proofs.DynsymLemmas as dynsyms
 use Rattle.wild_clauses.proofs.PlacelessLemmas.{take_few}

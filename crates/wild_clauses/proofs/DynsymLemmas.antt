@@ -12,22 +12,22 @@ use Rattle.wild_types.specs.declared.file.Group.{Group}
 use Rattle.wild_types.specs.declared.layout.DynamicSymbol.{DynamicSymbol}
 use Rattle.wild_types.specs.declared.layout.Layout.{Layout}
 use Rattle.std.specs.List.{list_all}
-use Rattle.wild_types.specs.FileSymbols.{range_of, copied_again}
+use Rattle.wild_types.specs.FileSymbols.{range_of, first_double_copy}
 use Rattle.wild_types.specs.Lists.{first_failing, unless, through}
-use Rattle.wild_clauses.specs.Indexes.{part_index_fits, primary_is_there, symbol_misfit, symbol_is_there, block_is_there, thunks_are_there, section_indexes_fit, file_indexes_fit, group_indexes_fit, listed_misfit, sorted_is_there, merged_is_there, identity_is_there, entry_is_there, definition_is_own, range_follows, or_place, range_out_of_order}
-use Rattle.wild_clauses.specs.VersionTables.{parent_is_there}
-use Rattle.wild_clauses.specs.ClauseTests.{fails, first_error, check_indexes}
+use Rattle.wild_plan_rules.specs.Indexes.{part_index_fits, primary_is_there, symbol_misfit, symbol_is_there, block_is_there, thunks_are_there, section_indexes_fit, file_indexes_fit, group_indexes_fit, listed_misfit, sorted_is_there, merged_is_there, identity_is_there, entry_is_there, definition_is_own, range_follows, or_place, range_out_of_order}
+use Rattle.wild_plan_rules.specs.VersionTables.{parent_is_there}
+use Rattle.wild_plan_rules.specs.ClauseTests.{fails, first_error, check_indexes}
 use Rattle.wild_types.specs.Lookups.{section_of, section_of_part, files_of, file_of}
 use Rattle.wild_types.specs.declared.part.Part.{Part}
 use Rattle.wild_types.specs.declared.input.InputSection.{InputSection}
 use Rattle.wild_types.specs.declared.symbol.Place.{Place}
 use Rattle.wild_types.specs.declared.symbol.Place.TheVariants as at
 use Rattle.wild_needs.specs.DynamicSymbols.{symbol_sections, input_of, section_of_input, output_section, is_undefined_entry, places_where, undefined_entries, dynamic_symbols, listed, is_named, dynsym_of, position_fits, misplaced}
-use Rattle.wild_clauses.specs.Positions.{lists, is_at, fits_at, run_walk, followed, failed, file_walk, files_walk, groups_walk, whole_walk, found_in, section_in, part_is_below, place_is_below, symbol_is_below, all_below}
+use Rattle.wild_clauses.specs.Positions.{lists, is_at, fits_at, run_walk, then_step, failed, file_walk, files_walk, groups_walk, whole_walk, found_in, section_in, part_is_below, place_is_below, symbol_is_below, all_below}
 use Rattle.wild_needs.specs.UndefinedCounts.{counted, undefined_count}
 use Rattle.wild_clauses.proofs.AstrayLemmas.{Ascend, in_range, before_range, behind_range, empty_range}
 use Rattle.wild_needs.proofs.UndefinedLemmas.{groups_count}
-use Rattle.wild_clauses.proofs.ClauseLemmas.{None-from_fails, first_holds, rest_holds}
+use Rattle.wild_plan_rules.proofs.ClauseLemmas.{None-from_fails, first_holds, rest_holds}
 
 -- ---- what holds of each
 
@@ -260,7 +260,7 @@ runs ds n r i c (s ∷ ss) =
 abbrev ended : Layout → ℕ → ℕ × ℕ → Result ℕ ℕ
 ended l n at = run_walk l.dynsyms n file_role.NotLoaded at.0 at.1 (drop at.0 l.symbols)
 
-files_test : (l : Layout) (n next c : ℕ) (fs : List File) → Ascend (length l.symbols) next fs → over (test l.dynsyms n) (roles fs) next (Ok c) (drop next l.symbols) ≡ followed (files_walk l n (next, c) fs) (ended l n)
+files_test : (l : Layout) (n next c : ℕ) (fs : List File) → Ascend (length l.symbols) next fs → over (test l.dynsyms n) (roles fs) next (Ok c) (drop next l.symbols) ≡ then_step (files_walk l n (next, c) fs) (ended l n)
 files_test l n next c [] h = agree (test l.dynsyms n) (roles []) (all file_role.NotLoaded) next (Ok c) (drop next l.symbols) (λ j le. refl) ∙ runs l.dynsyms n file_role.NotLoaded next c (drop next l.symbols)
 files_test l n next c (f ∷ fs) h =
     elim (cases_Bool (f.symbol_count == 0)) [
@@ -276,27 +276,27 @@ files_test l n next c (f ∷ fs) h =
           file_step (test l.dynsyms n) l.symbols next (Ok c) f fs w ∙ rw (runs l.dynsyms n file_role.NotLoaded next c gap, k, e, wide) (by_gap (run_walk l.dynsyms n file_role.NotLoaded next c gap) (λ d. files_test l n (a + m) d fs w.2)))
     ]
   where
-    by_range : (q : Result ℕ ℕ) → ((d : ℕ) → over (test l.dynsyms n) (roles fs) (f.first_symbol + f.symbol_count) (Ok d) (drop (f.first_symbol + f.symbol_count) l.symbols) ≡ followed (files_walk l n (f.first_symbol + f.symbol_count, d) fs) (ended l n)) → over (test l.dynsyms n) (roles fs) (f.first_symbol + f.symbol_count) q (drop (f.first_symbol + f.symbol_count) l.symbols) ≡ followed (followed (followed q (λ d. Ok (f.first_symbol + f.symbol_count, d))) (λ at. files_walk l n at fs)) (ended l n)
+    by_range : (q : Result ℕ ℕ) → ((d : ℕ) → over (test l.dynsyms n) (roles fs) (f.first_symbol + f.symbol_count) (Ok d) (drop (f.first_symbol + f.symbol_count) l.symbols) ≡ then_step (files_walk l n (f.first_symbol + f.symbol_count, d) fs) (ended l n)) → over (test l.dynsyms n) (roles fs) (f.first_symbol + f.symbol_count) q (drop (f.first_symbol + f.symbol_count) l.symbols) ≡ then_step (then_step (then_step q (λ d. Ok (f.first_symbol + f.symbol_count, d))) (λ at. files_walk l n at fs)) (ended l n)
     by_range (Err j) again = stays l.dynsyms n (roles fs) (f.first_symbol + f.symbol_count) j (drop (f.first_symbol + f.symbol_count) l.symbols)
     by_range (Ok d) again = again d
 
-    by_gap : (q : Result ℕ ℕ) → ((d : ℕ) → over (test l.dynsyms n) (roles fs) (f.first_symbol + f.symbol_count) (Ok d) (drop (f.first_symbol + f.symbol_count) l.symbols) ≡ followed (files_walk l n (f.first_symbol + f.symbol_count, d) fs) (ended l n)) → over (test l.dynsyms n) (roles fs) (f.first_symbol + f.symbol_count) (over (test l.dynsyms n) (all f.role) f.first_symbol q (range_of l.symbols f)) (drop (f.first_symbol + f.symbol_count) l.symbols) ≡ followed (followed (followed q (λ d. followed (run_walk l.dynsyms n f.role f.first_symbol d (range_of l.symbols f)) (λ b. Ok (f.first_symbol + f.symbol_count, b)))) (λ at. files_walk l n at fs)) (ended l n)
+    by_gap : (q : Result ℕ ℕ) → ((d : ℕ) → over (test l.dynsyms n) (roles fs) (f.first_symbol + f.symbol_count) (Ok d) (drop (f.first_symbol + f.symbol_count) l.symbols) ≡ then_step (files_walk l n (f.first_symbol + f.symbol_count, d) fs) (ended l n)) → over (test l.dynsyms n) (roles fs) (f.first_symbol + f.symbol_count) (over (test l.dynsyms n) (all f.role) f.first_symbol q (range_of l.symbols f)) (drop (f.first_symbol + f.symbol_count) l.symbols) ≡ then_step (then_step (then_step q (λ d. then_step (run_walk l.dynsyms n f.role f.first_symbol d (range_of l.symbols f)) (λ b. Ok (f.first_symbol + f.symbol_count, b)))) (λ at. files_walk l n at fs)) (ended l n)
     by_gap (Err j) again = rw (stays l.dynsyms n (all f.role) f.first_symbol j (range_of l.symbols f)) (stays l.dynsyms n (roles fs) (f.first_symbol + f.symbol_count) j (drop (f.first_symbol + f.symbol_count) l.symbols))
     by_gap (Ok d) again = rw (runs l.dynsyms n f.role f.first_symbol d (range_of l.symbols f)) (by_range (run_walk l.dynsyms n f.role f.first_symbol d (range_of l.symbols f)) again)
 
 -- groups are their files, one behind the other
-followed_on : {A B C : Type 0} (r : Result A ℕ) (f : A → Result B ℕ) (g : B → Result C ℕ) → followed (followed r f) g ≡ followed r (λ x. followed (f x) g)
+followed_on : {A B C : Type 0} (r : Result A ℕ) (f : A → Result B ℕ) (g : B → Result C ℕ) → then_step (then_step r f) g ≡ then_step r (λ x. then_step (f x) g)
 followed_on (Ok x) f g = refl
 followed_on (Err i) f g = refl
 
-same_rest : {A B : Type 0} (r : Result A ℕ) (f g : A → Result B ℕ) → ((x : A) → f x ≡ g x) → followed r f ≡ followed r g
+same_rest : {A B : Type 0} (r : Result A ℕ) (f g : A → Result B ℕ) → ((x : A) → f x ≡ g x) → then_step r f ≡ then_step r g
 same_rest (Ok x) f g h = h x
 same_rest (Err i) f g h = refl
 
-files_joined : (l : Layout) (n : ℕ) (at : ℕ × ℕ) (fs gs : List File) → files_walk l n at (fs ++ gs) ≡ followed (files_walk l n at fs) (λ next. files_walk l n next gs)
+files_joined : (l : Layout) (n : ℕ) (at : ℕ × ℕ) (fs gs : List File) → files_walk l n at (fs ++ gs) ≡ then_step (files_walk l n at fs) (λ next. files_walk l n next gs)
 files_joined l n at [] gs = refl
 files_joined l n at (f ∷ fs) gs =
-    same_rest (file_walk l n at f) (λ next. files_walk l n next (fs ++ gs)) (λ next. followed (files_walk l n next fs) (λ b. files_walk l n b gs)) (λ next. files_joined l n next fs gs)
+    same_rest (file_walk l n at f) (λ next. files_walk l n next (fs ++ gs)) (λ next. then_step (files_walk l n next fs) (λ b. files_walk l n b gs)) (λ next. files_joined l n next fs gs)
     ∙ sym (followed_on (file_walk l n at f) (λ next. files_walk l n next fs) (λ b. files_walk l n b gs))
 
 groups_are_files : (l : Layout) (n : ℕ) (at : ℕ × ℕ) (gs : List Group) → groups_walk l n at gs ≡ files_walk l n at (files_of gs)
@@ -423,7 +423,7 @@ ranges_ascend l h =
     let order = fails 9 (range_out_of_order 0 0 l.groups) in
     let own = fails 9 (first_failing (definition_is_own l) 0 l.symbols) in
     let behind = first_error own order in
-    let copied = fails 9 (copied_again l [] 0 l.groups) in
+    let copied = fails 9 (first_double_copy l [] 0 l.groups) in
     let entry = fails 9 (unless (entry_is_there l l.entry)) in
     let parents = fails 9 (first_failing (parent_is_there l) 0 l.verdefs) in
     let listed = fails 9 (listed_misfit l) in

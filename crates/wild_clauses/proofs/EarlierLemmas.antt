@@ -1,7 +1,7 @@
 -- The earlier of two places: of two searches through one list, that which ends first.
 use Rattle.std.proofs.Common.{◌≡◌, ℕ, ◌+◌, ◌≤◌, ap, refl, arith, min}
 use Rattle.std.specs.Prelude.{Option, Some, None}
-use Rattle.wild_clauses.specs.Misplaced.{earlier}
+use Rattle.wild_plan_rules.specs.MisplacedSections.{earlier}
 
 -- the place is not before i
 abbrev pub AtLeast : ℕ → Option ℕ → Type 0

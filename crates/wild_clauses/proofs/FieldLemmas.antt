@@ -14,7 +14,7 @@ use Rattle.wild_types.specs.declared.kind.Machine.TheVariants.{X86_64}
 use Rattle.wild_types.specs.declared.input.InputRelocation.{InputRelocation}
 use Rattle.wild_types.specs.declared.input.InputSection.{InputSection}
 use Rattle.wild_types.specs.Rows.{row_of, row_width, field_bytes}
-use Rattle.wild_clauses.specs.Contents.{field_lies}
+use Rattle.wild_plan_rules.specs.Contents.{field_lies}
 
 byte_count-most : (w : Width) → byte_count w ≤ 8
 byte_count-most Zero = omega arith

@@ -6,20 +6,20 @@ use Rattle.wild_types.specs.declared.symbol.Symbol.{Symbol}
 use Rattle.wild_types.specs.declared.layout.Layout.{Layout}
 use Rattle.wild_types.specs.Flags.{has_flag, dynamic, ifunc, got_slot, ifunc_got_for_address, canonical_plt_got_for_address}
 use Rattle.wild_types.specs.SymbolSlots.{got_of, plt_of, has_thread_slot}
-use Rattle.wild_clauses.specs.SlotFlags.{is_asked, first_asked_failing, dynamic_is_interposable, stub_is_value, stub_has_slot, one_slot_for_address, thread_slot_alone, resolver_is_own, slot_agrees, resolver_moves, second_slot_fits, is_plain, agrees_in_all}
-use Rattle.wild_clauses.specs.ClauseTests.{check_slot_flags}
+use Rattle.wild_plan_rules.specs.SlotFlags.{is_tested, first_tested_failing, dynamic_is_interposable, stub_is_value, stub_has_slot, one_slot_for_address, thread_slot_alone, resolver_is_own, slot_agrees, resolver_moves, second_slot_fits, is_plain, agrees_in_all}
+use Rattle.wild_plan_rules.specs.ClauseTests.{check_slot_flags}
 
 not_failing : (asked a b : Bool) → (a ≡ true → b ≡ true) → (asked && not a) ≡ false → (asked && not b) ≡ false
 not_failing false a b w h = refl
 not_failing true true b w h = rw (w refl) refl
 not_failing true false b w h = cc
 
-asked_weaker : (l : Layout) (a b : Symbol → Bool) (i : ℕ) (ss : List Symbol) → ((s : Symbol) → a s ≡ true → b s ≡ true) → first_asked_failing l a i ss ≡ None → first_asked_failing l b i ss ≡ None
+asked_weaker : (l : Layout) (a b : Symbol → Bool) (i : ℕ) (ss : List Symbol) → ((s : Symbol) → a s ≡ true → b s ≡ true) → first_tested_failing l a i ss ≡ None → first_tested_failing l b i ss ≡ None
 asked_weaker l a b i [] w h = refl
 asked_weaker l a b i (s ∷ ss) w h =
-    elim (cases_Bool (is_asked l i s && not (a s))) [
+    elim (cases_Bool (is_tested l i s && not (a s))) [
       | inl t ↦ cc (rw t at h)
-      | inr f ↦ (let here = not_failing (is_asked l i s) (a s) (b s) (w s) f in rw here (asked_weaker l a b (i + 1) ss w (rw f at h)))
+      | inr f ↦ (let here = not_failing (is_tested l i s) (a s) (b s) (w s) f in rw here (asked_weaker l a b (i + 1) ss w (rw f at h)))
     ]
 
 -- what a symbol that passes all tests passes
@@ -46,7 +46,7 @@ AgreesInEach-from_test l s h =
     let k = and_parts (resolver_moves s) (second_slot_fits l s) g.1 in
     record { interposable = a.0; value = b.0; slot = c.0; address = d.0; thread = e.0; own = f.0; agrees = g.0; moves = k.0; second = k.1 }
 
-pub flags_agree : (l : Layout) → first_asked_failing l (agrees_in_all l) 0 l.symbols ≡ None → check_slot_flags l ≡ Ok tt
+pub flags_agree : (l : Layout) → first_tested_failing l (agrees_in_all l) 0 l.symbols ≡ None → check_slot_flags l ≡ Ok tt
 unfolding check_slot_flags
 flags_agree l h =
     let each = λ (s : Symbol) (t : agrees_in_all l s ≡ true). AgreesInEach-from_test l s t in

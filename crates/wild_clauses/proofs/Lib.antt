@@ -1,8 +1,6 @@
 pub mod AstrayLemmas
-pub mod BlockLemmas
 pub mod CopyLemmas
 pub mod CountLemmas
-pub mod CoverLemmas
 pub mod DynsymLemmas
 pub mod EarlierLemmas
 pub mod FieldLemmas
@@ -15,9 +13,7 @@ pub mod PlacelessLemmas
 pub mod RoleLemmas
 pub mod RoomLemmas
 pub mod SimpleLemmas
-pub mod SlotPlaceLemmas
 pub mod StartLemmas
 pub mod SurveyLemmas
 pub mod UnlistedLemmas
 pub mod VersionLemmas
-pub mod ClauseLemmas

@@ -9,8 +9,8 @@ use Rattle.wild_types.specs.declared.part.Part.{Part}
 use Rattle.wild_types.specs.declared.file.Group.{Group}
 use Rattle.wild_types.specs.declared.layout.Layout.{Layout}
 use Rattle.wild_types.specs.FilePlaces.{given}
-use Rattle.wild_clauses.specs.Contents.{addresses, ends_of, part_placed, parts_placed, section_misplaced}
-use Rattle.wild_clauses.specs.Misplaced.{earlier, part_misplaced, misplaced}
+use Rattle.wild_plan_rules.specs.Contents.{addresses, ends_of, part_placed, parts_placed, section_misplaced}
+use Rattle.wild_plan_rules.specs.MisplacedSections.{earlier, part_misplaced, misplaced}
 use Rattle.wild_clauses.proofs.EarlierLemmas.{AtLeast, at_least_less, earlier-first, earlier-second, earlier_none, earlier-assoc}
 
 pub misplaced-all : (l : Layout) (starts : List ℕ) (i : ℕ) (gs : List Group) → section_misplaced l starts i gs ≡ misplaced l 0 starts i gs

@@ -10,9 +10,9 @@ use Rattle.wild_types.specs.declared.layout.Layout.{Layout}
 use Rattle.wild_types.specs.Kinds.{is_partial_link}
 use Rattle.wild_types.specs.Lists.{first_failing}
 use Rattle.wild_types.specs.Lookups.{is_rela}
-use Rattle.wild_clauses.specs.Contents.{each_in, each_section}
-use Rattle.wild_clauses.specs.Partial.{has_no_slot, has_no_thunks, has_no_index, is_no_debug, is_group, is_of_kind, has_entries, table_fits, file_tables_fit, tables_fit, group_fits_members, table_has_data}
-use Rattle.wild_clauses.specs.ClauseTests.{fails, first_error, check_partial}
+use Rattle.wild_plan_rules.specs.Contents.{each_in, each_section}
+use Rattle.wild_plan_rules.specs.Partial.{has_no_slot, has_no_thunks, has_no_index, is_no_debug, is_group, is_of_kind, has_entries, table_fits, file_tables_fit, tables_fit, group_fits_members, table_has_data}
+use Rattle.wild_plan_rules.specs.ClauseTests.{fails, first_error, check_partial}
 use Rattle.wild_clauses.proofs.PassedLemmas.{list_all_weaker, none_weaker}
 
 -- a test that each item passes fails nowhere

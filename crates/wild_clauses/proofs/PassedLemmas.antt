@@ -10,14 +10,14 @@ use Rattle.wild_types.specs.declared.file.Group.{Group}
 use Rattle.wild_types.specs.declared.layout.Layout.{Layout}
 use Rattle.wild_types.specs.Lists.{first_failing}
 use Rattle.wild_types.specs.Lookups.{is_frame}
-use Rattle.wild_clauses.specs.Places.{ends_low, group_fits}
-use Rattle.wild_clauses.specs.Contents.{each_in, each_section, addresses, has_share_for_each_part, section_misplaced, sorted_named_once, names_sorted, length_fits, frames_part_fits, discarded_is_empty, part_is_raw, merged_is_raw, identity_is_raw, primary_fits, front_is_free, allocation_agrees, bytes_take_room, field_lies, fields_lie, is_read_well, relocations_are_read}
-use Rattle.wild_clauses.specs.Indexes.{index_fits, header_is_there, relocation_index_fits, section_indexes_fit, symbol_is_there, block_is_there, file_indexes_fit, group_indexes_fit}
-use Rattle.wild_clauses.specs.ZeroFree.{input_name_fits, file_names_fit, group_names_fit}
-use Rattle.wild_clauses.specs.Fronts.{reversed_fits}
-use Rattle.wild_clauses.specs.Partial.{is_of_kind}
-use Rattle.wild_clauses.specs.Passed.{passes_all, parts_fit, relocation_passes, headers_are_there, section_passes, symbols_are_there, library_names_fit, file_passes, group_passes, groups_pass}
-use Rattle.wild_clauses.specs.ClauseTests.{fails, check_inputs, check_fields, check_reversed}
+use Rattle.wild_plan_rules.specs.Places.{ends_low, group_fits}
+use Rattle.wild_plan_rules.specs.Contents.{each_in, each_section, addresses, has_share_for_each_part, section_misplaced, sorted_named_once, names_sorted, length_fits, frames_part_fits, discarded_is_empty, part_is_raw, merged_is_raw, identity_is_raw, primary_fits, front_is_free, allocation_agrees, bytes_take_room, field_lies, fields_lie, is_read_well, relocations_are_read}
+use Rattle.wild_plan_rules.specs.Indexes.{index_fits, header_is_there, relocation_index_fits, section_indexes_fit, symbol_is_there, block_is_there, file_indexes_fit, group_indexes_fit}
+use Rattle.wild_plan_rules.specs.ZeroFree.{input_name_fits, file_names_fit, group_names_fit}
+use Rattle.wild_plan_rules.specs.Fronts.{reversed_fits}
+use Rattle.wild_plan_rules.specs.Partial.{is_of_kind}
+use Rattle.wild_clauses.specs.FileTests.{passes_all, parts_fit, relocation_passes, headers_are_there, section_passes, symbols_are_there, library_names_fit, file_passes, group_passes, groups_pass}
+use Rattle.wild_plan_rules.specs.ClauseTests.{fails, check_inputs, check_fields, check_reversed}
 
 pub list_all_weaker : {X : Type 0} (a b : X → Bool) (xs : List X) → ((x : X) → a x ≡ true → b x ≡ true) → list_all a xs ≡ true → list_all b xs ≡ true
 list_all_weaker a b [] w h = refl
@@ -44,7 +44,7 @@ none_fails test i (x ∷ xs) h =
 
 -- ---- what passes
 
-record Passes (l : Layout) (s : InputSection) : Type 0 where
+record SectionPasses (l : Layout) (s : InputSection) : Type 0 where
   ends : ends_low s.address s.size ≡ true
   inputs : passes_all l s ≡ true
   headers : headers_are_there l s ≡ true
@@ -53,9 +53,9 @@ record Passes (l : Layout) (s : InputSection) : Type 0 where
   reversed : reversed_fits l.machine s ≡ true
   kind : is_of_kind l s ≡ true
 
-Passes-from_test : (l : Layout) (s : InputSection) → section_passes l s ≡ true → Passes l s
+SectionPasses-from_test : (l : Layout) (s : InputSection) → section_passes l s ≡ true → SectionPasses l s
 unfolding section_passes
-Passes-from_test l s h =
+SectionPasses-from_test l s h =
     let a = and_parts (ends_low s.address s.size) _ h in
     let b = and_parts (passes_all l s) _ a.1 in
     let c = and_parts (headers_are_there l s) _ b.1 in
@@ -89,13 +89,13 @@ of_groups l test w h = none_fails test 0 l.groups (list_all_weaker (group_passes
 of_files : (l : Layout) (test : File → Bool) (g : Group) → ((f : File) → FilePasses l f → test f ≡ true) → group_passes l g ≡ true → list_all test g.files ≡ true
 of_files l test g w h = list_all_weaker (file_passes l) test g.files (λ (f : File) k. w f (FilePasses-from_test l f k)) (group_parts l g h).1
 
-of_sections : (l : Layout) (test : InputSection → Bool) (f : File) → ((s : InputSection) → Passes l s → test s ≡ true) → FilePasses l f → list_all test f.sections ≡ true
-of_sections l test f w h = list_all_weaker (section_passes l) test f.sections (λ (s : InputSection) k. w s (Passes-from_test l s k)) h.sections
+of_sections : (l : Layout) (test : InputSection → Bool) (f : File) → ((s : InputSection) → SectionPasses l s → test s ≡ true) → FilePasses l f → list_all test f.sections ≡ true
+of_sections l test f w h = list_all_weaker (section_passes l) test f.sections (λ (s : InputSection) k. w s (SectionPasses-from_test l s k)) h.sections
 
-of_each : (l : Layout) (test : InputSection → Bool) → ((s : InputSection) → Passes l s → test s ≡ true) → groups_pass l ≡ true → first_failing (each_section test) 0 l.groups ≡ None
+of_each : (l : Layout) (test : InputSection → Bool) → ((s : InputSection) → SectionPasses l s → test s ≡ true) → groups_pass l ≡ true → first_failing (each_section test) 0 l.groups ≡ None
 of_each l test w h = of_groups l (each_section test) (λ g. of_files l (each_in test) g (λ f. of_sections l test f w)) h
 
-of_relocations : (l : Layout) (s : InputSection) (test : InputRelocation → Bool) → ((r : InputRelocation) → relocation_passes l s r ≡ true → test r ≡ true) → Passes l s → list_all test s.relocations ≡ true
+of_relocations : (l : Layout) (s : InputSection) (test : InputRelocation → Bool) → ((r : InputRelocation) → relocation_passes l s r ≡ true → test r ≡ true) → SectionPasses l s → list_all test s.relocations ≡ true
 of_relocations l s test w h = list_all_weaker (relocation_passes l s) test s.relocations w h.relocations
 
 -- ---- clauses 1, 7 and 19 to 21
@@ -142,7 +142,7 @@ PassesEach-from_test l s h =
 pub inputs_pass : (l : Layout) → fails 8 (section_misplaced l (addresses l.parts) 0 l.groups) ≡ Ok tt → fails 8 (sorted_named_once l 0 l.groups) ≡ Ok tt → fails 8 (first_failing (names_sorted l) 0 l.sorted) ≡ Ok tt → groups_pass l ≡ true → parts_fit l ≡ true → check_inputs l ≡ Ok tt
 unfolding check_inputs
 inputs_pass l first once named h fit =
-    let each = λ (s : InputSection) (p : Passes l s). PassesEach-from_test l s p.inputs in
+    let each = λ (s : InputSection) (p : SectionPasses l s). PassesEach-from_test l s p.inputs in
     let a = of_each l length_fits (λ s p. (each s p).length) h in
     let f = of_each l (frames_part_fits l) (λ s p. (each s p).frames) h in
     let b = of_each l discarded_is_empty (λ s p. (each s p).discarded) h in
@@ -161,7 +161,7 @@ parts_of : (l : Layout) (s : InputSection) (r : InputRelocation) → relocation_
 unfolding relocation_passes
 parts_of l s r h = and_parts (relocation_index_fits l r) (field_lies l.machine s r && is_read_well r) h
 
-section_indexes : (l : Layout) (s : InputSection) → Passes l s → section_indexes_fit l s ≡ true
+section_indexes : (l : Layout) (s : InputSection) → SectionPasses l s → section_indexes_fit l s ≡ true
 section_indexes l s p =
     let a = and_parts (nat_lt s.part (length l.parts)) (index_fits (length l.sections) s.singleton && list_all (header_is_there l) s.members) p.headers in
     let b = and_parts (index_fits (length l.sections) s.singleton) (list_all (header_is_there l) s.members) a.1 in
@@ -184,7 +184,7 @@ indexes_pass l passed e h = of_groups l (group_indexes_fit l) (λ g. of_files l 
 field_of : (l : Layout) (s : InputSection) (r : InputRelocation) → relocation_passes l s r ≡ true → (field_lies l.machine s r ≡ true) × (is_read_well r ≡ true)
 field_of l s r h = and_parts (field_lies l.machine s r) (is_read_well r) (parts_of l s r h).1
 
-are_read : (l : Layout) (s : InputSection) → Passes l s → relocations_are_read s ≡ true
+are_read : (l : Layout) (s : InputSection) → SectionPasses l s → relocations_are_read s ≡ true
 are_read l s p = by_slot (is_frame s.slot) (of_relocations l s is_read_well (λ r k. (field_of l s r k).1) p)
   where
     by_slot : (b : Bool) → list_all is_read_well s.relocations ≡ true → (b || list_all is_read_well s.relocations) ≡ true

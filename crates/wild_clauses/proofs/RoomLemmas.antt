@@ -10,11 +10,11 @@ use Rattle.wild_types.specs.declared.file.Group.{Group}
 use Rattle.wild_types.specs.declared.layout.Layout.{Layout}
 use Rattle.wild_types.specs.Lists.{first_failing, total}
 use Rattle.wild_types.specs.FilePlaces.{given}
-use Rattle.wild_clauses.specs.Places.{ends_low, part_fits}
-use Rattle.wild_clauses.specs.Contents.{addresses, ends_of, share_mismatch}
-use Rattle.wild_clauses.specs.ClauseTests.{check_sizes, check_shares}
-use Rattle.wild_clauses.proofs.BlockLemmas.{length-ends_of, get_or-ends_of}
-use Rattle.wild_clauses.proofs.ClauseLemmas.{None-from_fails, first_holds, rest_holds}
+use Rattle.wild_plan_rules.specs.Places.{ends_low, part_fits}
+use Rattle.wild_plan_rules.specs.Contents.{addresses, ends_of, share_mismatch}
+use Rattle.wild_plan_rules.specs.ClauseTests.{check_sizes, check_shares}
+use Rattle.wild_plan_rules.proofs.BlockLemmas.{length-ends_of, get_or-ends_of}
+use Rattle.wild_plan_rules.proofs.ClauseLemmas.{None-from_fails, first_holds, rest_holds}
 
 fits_next : (j : ℕ) (p : Part) (ps : List Part) → first_failing part_fits j (p ∷ ps) ≡ None → (part_fits p ≡ true) × (first_failing part_fits (j + 1) ps ≡ None)
 fits_next j p ps h = elim (cases_Bool (part_fits p)) [ inl t ↦ (t, rw t at h) | inr f ↦ cc (rw f at h) ]

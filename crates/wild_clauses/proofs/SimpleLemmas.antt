@@ -9,10 +9,10 @@ use Rattle.wild_types.specs.Flags.{has_flag, dynamic, got_slot, ifunc, ifunc_got
 use Rattle.wild_types.specs.Lists.{first_failing}
 use Rattle.wild_types.specs.SymbolSlots.{got_of, plt_of, has_thread_slot}
 use Rattle.wild_clauses.specs.Positions.{is_unlisted}
-use Rattle.wild_clauses.specs.SlotFlags.{is_asked, first_asked_failing, is_plain, agrees_in_all}
-use Rattle.wild_clauses.specs.SlotPlaces.{is_even_slot, has_no_places, slot_is_even, slots_astray}
+use Rattle.wild_plan_rules.specs.SlotFlags.{is_tested, first_tested_failing, is_plain, agrees_in_all}
+use Rattle.wild_plan_rules.specs.SlotPlaces.{is_even_slot, has_no_places, slot_is_even, slots_astray}
 use Rattle.wild_clauses.specs.Survey.{is_simple, are_simple}
-use Rattle.wild_clauses.specs.ClauseTests.{check_indexes, check_slot_flags}
+use Rattle.wild_plan_rules.specs.ClauseTests.{check_indexes, check_slot_flags}
 use Rattle.wild_clauses.proofs.PassedLemmas.{list_all_weaker, none_fails}
 use Rattle.wild_clauses.proofs.PlacelessLemmas.{none_astray}
 use Rattle.wild_clauses.proofs.FlagLemmas.{flags_agree, plain_agrees}
@@ -58,11 +58,11 @@ not_asked true true h = refl
 not_asked false ok h = refl
 not_asked true false h = cc
 
-none_asked : (l : Layout) (test : Symbol → Bool) (i : ℕ) (ss : List Symbol) → list_all test ss ≡ true → first_asked_failing l test i ss ≡ None
+none_asked : (l : Layout) (test : Symbol → Bool) (i : ℕ) (ss : List Symbol) → list_all test ss ≡ true → first_tested_failing l test i ss ≡ None
 none_asked l test i [] h = refl
 none_asked l test i (s ∷ ss) h =
     let p = and_parts (test s) (list_all test ss) h in
-    rw (not_asked (is_asked l i s) (test s) p.0) (none_asked l test (i + 1) ss p.1)
+    rw (not_asked (is_tested l i s) (test s) p.0) (none_asked l test (i + 1) ss p.1)
 
 pub simple_agree : (l : Layout) (simple : Bool) → simple ≡ are_simple l.symbols → simple ≡ true → check_slot_flags l ≡ Ok tt
 unfolding are_simple

@@ -11,14 +11,15 @@ use Rattle.wild_types.specs.declared.layout.Layout.{Layout}
 use Rattle.wild_types.specs.Lists.{total}
 use Rattle.wild_types.specs.Lookups.{canonical, files_of}
 use Rattle.wild_types.specs.FileRoles.{is_library}
-use Rattle.wild_types.specs.FileSymbols.{copied_in, copied_again}
+use Rattle.wild_types.specs.FileSymbols.{copied_definitions, first_double_copy}
 use Rattle.wild_needs.specs.Versions.{has_needs, is_needed, need_count}
 use Rattle.wild_needs.specs.DynamicPlaces.{need_number}
 use Rattle.wild_needs.proofs.StringLemmas.{length_needed}
-use Rattle.wild_clauses.specs.Contents.{has_share_for_each_part, is_sorted, sections_named_once, files_named_once, sorted_named_once}
-use Rattle.wild_clauses.specs.Places.{relocations_in, relocations_of, relocation_count}
-use Rattle.wild_clauses.specs.Passed.{section_passes, symbols_are_there, library_names_fit, file_passes, group_passes, groups_pass}
-use Rattle.wild_clauses.specs.Survey.{Survey, is_unsorted, needs_no_more, is_ordinary, is_ordinary_group, are_ordinary, is_unmerged, are_unmerged, along, section_step, own_passes, file_here, file_step, group_here, group_step, nothing_seen, surveyed}
+use Rattle.wild_plan_rules.specs.Contents.{has_share_for_each_part, is_sorted, sections_named_once, files_named_once, sorted_named_once}
+use Rattle.wild_plan_rules.specs.Places.{relocations_in, relocations_of, relocation_count}
+use Rattle.wild_clauses.specs.FileTests.{section_passes, symbols_are_there, library_names_fit, file_passes, group_passes, groups_pass}
+use Rattle.wild_plan_rules.specs.MergedSections.{is_unmerged, are_unmerged}
+use Rattle.wild_clauses.specs.Survey.{Survey, is_unsorted, has_no_copies_or_versions, is_ordinary, is_ordinary_group, are_ordinary, fold_steps, section_step, file_passes_without_sections, survey_before_sections, file_step, survey_before_files, group_step, empty_survey, survey_of}
 
 and_true : (a : Bool) → (a && true) ≡ a
 and_true true = refl
@@ -30,16 +31,16 @@ and_moved false b c = refl
 
 -- ---- one answer of several, step by step
 
-along_all : {S X : Type 0} (step : S → X → S) (told : S → Bool) (test : X → Bool) → ((v : S) (x : X) → told (step v x) ≡ (told v && test x)) → (v : S) (xs : List X) → told (along step v xs) ≡ (told v && list_all test xs)
-unfolding along
+along_all : {S X : Type 0} (step : S → X → S) (told : S → Bool) (test : X → Bool) → ((v : S) (x : X) → told (step v x) ≡ (told v && test x)) → (v : S) (xs : List X) → told (fold_steps step v xs) ≡ (told v && list_all test xs)
+unfolding fold_steps
 along_all step told test one v [] = sym (and_true (told v))
 along_all step told test one v (x ∷ xs) =
     along_all step told test one (step v x) xs
     ∙ ap (λ (b : Bool). b && list_all test xs) (one v x)
     ∙ and_moved (told v) (test x) (list_all test xs)
 
-along_sum : {S X : Type 0} (step : S → X → S) (count : S → ℕ) (f : X → ℕ) → ((v : S) (x : X) → min (2 ^ 64 - 1) (count (step v x)) ≡ min (2 ^ 64 - 1) (count v + f x)) → (v : S) (xs : List X) → min (2 ^ 64 - 1) (count (along step v xs)) ≡ min (2 ^ 64 - 1) (count v + total f xs)
-unfolding along
+along_sum : {S X : Type 0} (step : S → X → S) (count : S → ℕ) (f : X → ℕ) → ((v : S) (x : X) → min (2 ^ 64 - 1) (count (step v x)) ≡ min (2 ^ 64 - 1) (count v + f x)) → (v : S) (xs : List X) → min (2 ^ 64 - 1) (count (fold_steps step v xs)) ≡ min (2 ^ 64 - 1) (count v + total f xs)
+unfolding fold_steps
 along_sum step count f one v [] = omega arith
 along_sum step count f one v (x ∷ xs) =
     let rest = along_sum step count f one (step v x) xs in
@@ -49,59 +50,59 @@ along_sum step count f one v (x ∷ xs) =
 -- ---- whether all pass
 
 file_passed : (l : Layout) (v : Survey) (f : File) → (file_step l v f).passed ≡ (v.passed && file_passes l f)
-unfolding file_passes own_passes section_step file_here file_step
+unfolding file_passes file_passes_without_sections section_step survey_before_sections file_step
 file_passed l v f =
     let own = symbols_are_there l f && library_names_fit f in
     let sections = list_all (section_passes l) f.sections in
-    along_all (section_step l) (λ (u : Survey). u.passed) (section_passes l) (λ u s. refl) (file_here l v f) f.sections
+    along_all (section_step l) (λ (u : Survey). u.passed) (section_passes l) (λ u s. refl) (survey_before_sections l v f) f.sections
     ∙ and_moved v.passed own sections
     ∙ ap (λ (b : Bool). v.passed && b) (and_moved (symbols_are_there l f) (library_names_fit f) sections)
 
 group_passed : (l : Layout) (v : Survey) (g : Group) → (group_step l v g).passed ≡ (v.passed && group_passes l g)
-unfolding group_passes group_here group_step
+unfolding group_passes survey_before_files group_step
 group_passed l v g =
-    along_all (file_step l) (λ (u : Survey). u.passed) (file_passes l) (file_passed l) (group_here l v g) g.files
+    along_all (file_step l) (λ (u : Survey). u.passed) (file_passes l) (file_passed l) (survey_before_files l v g) g.files
     ∙ and_moved v.passed (has_share_for_each_part (length l.parts) g) (list_all (file_passes l) g.files)
 
-pub passed_told : (l : Layout) (v : Survey) → v ≡ surveyed l → v.passed ≡ groups_pass l
-unfolding surveyed groups_pass
+pub passed_told : (l : Layout) (v : Survey) → v ≡ survey_of l → v.passed ≡ groups_pass l
+unfolding survey_of groups_pass
 passed_told l v is =
     ap (λ (u : Survey). u.passed) is
-    ∙ along_all (group_step l) (λ (u : Survey). u.passed) (group_passes l) (group_passed l) nothing_seen l.groups
+    ∙ along_all (group_step l) (λ (u : Survey). u.passed) (group_passes l) (group_passed l) empty_survey l.groups
 
 -- ---- whether all are ordinary
 
-file_ordinary : (l : Layout) (v : Survey) (f : File) → (file_step l v f).ordinary ≡ (v.ordinary && is_ordinary f)
-unfolding section_step file_here file_step
+file_ordinary : (l : Layout) (v : Survey) (f : File) → (file_step l v f).has_no_copies_versions_or_sorting ≡ (v.has_no_copies_versions_or_sorting && is_ordinary f)
+unfolding section_step survey_before_sections file_step
 file_ordinary l v f =
-    along_all (section_step l) (λ (u : Survey). u.ordinary) is_unsorted (λ u s. refl) (file_here l v f) f.sections
-    ∙ and_moved v.ordinary (needs_no_more f) (list_all is_unsorted f.sections)
+    along_all (section_step l) (λ (u : Survey). u.has_no_copies_versions_or_sorting) is_unsorted (λ u s. refl) (survey_before_sections l v f) f.sections
+    ∙ and_moved v.has_no_copies_versions_or_sorting (has_no_copies_or_versions f) (list_all is_unsorted f.sections)
 
-group_ordinary : (l : Layout) (v : Survey) (g : Group) → (group_step l v g).ordinary ≡ (v.ordinary && is_ordinary_group g)
-unfolding group_here group_step
-group_ordinary l v g = along_all (file_step l) (λ (u : Survey). u.ordinary) is_ordinary (file_ordinary l) (group_here l v g) g.files
+group_ordinary : (l : Layout) (v : Survey) (g : Group) → (group_step l v g).has_no_copies_versions_or_sorting ≡ (v.has_no_copies_versions_or_sorting && is_ordinary_group g)
+unfolding survey_before_files group_step
+group_ordinary l v g = along_all (file_step l) (λ (u : Survey). u.has_no_copies_versions_or_sorting) is_ordinary (file_ordinary l) (survey_before_files l v g) g.files
 
-pub ordinary_told : (l : Layout) (v : Survey) → v ≡ surveyed l → v.ordinary ≡ are_ordinary l.groups
-unfolding surveyed are_ordinary
+pub ordinary_told : (l : Layout) (v : Survey) → v ≡ survey_of l → v.has_no_copies_versions_or_sorting ≡ are_ordinary l.groups
+unfolding survey_of are_ordinary
 ordinary_told l v is =
-    ap (λ (u : Survey). u.ordinary) is
-    ∙ along_all (group_step l) (λ (u : Survey). u.ordinary) is_ordinary_group (group_ordinary l) nothing_seen l.groups
+    ap (λ (u : Survey). u.has_no_copies_versions_or_sorting) is
+    ∙ along_all (group_step l) (λ (u : Survey). u.has_no_copies_versions_or_sorting) is_ordinary_group (group_ordinary l) empty_survey l.groups
 
 -- ---- whether no section is one of merged strings
 
 file_unmerged : (l : Layout) (v : Survey) (f : File) → (file_step l v f).unmerged ≡ (v.unmerged && list_all is_unmerged f.sections)
-unfolding section_step file_here file_step
-file_unmerged l v f = along_all (section_step l) (λ (u : Survey). u.unmerged) is_unmerged (λ u s. refl) (file_here l v f) f.sections
+unfolding section_step survey_before_sections file_step
+file_unmerged l v f = along_all (section_step l) (λ (u : Survey). u.unmerged) is_unmerged (λ u s. refl) (survey_before_sections l v f) f.sections
 
 group_unmerged : (l : Layout) (v : Survey) (g : Group) → (group_step l v g).unmerged ≡ (v.unmerged && list_all (λ (f : File). list_all is_unmerged f.sections) g.files)
-unfolding group_here group_step
-group_unmerged l v g = along_all (file_step l) (λ (u : Survey). u.unmerged) (λ (f : File). list_all is_unmerged f.sections) (file_unmerged l) (group_here l v g) g.files
+unfolding survey_before_files group_step
+group_unmerged l v g = along_all (file_step l) (λ (u : Survey). u.unmerged) (λ (f : File). list_all is_unmerged f.sections) (file_unmerged l) (survey_before_files l v g) g.files
 
-pub unmerged_told : (l : Layout) (v : Survey) → v ≡ surveyed l → v.unmerged ≡ are_unmerged l
-unfolding surveyed
+pub unmerged_told : (l : Layout) (v : Survey) → v ≡ survey_of l → v.unmerged ≡ are_unmerged l
+unfolding survey_of
 unmerged_told l v is =
     ap (λ (u : Survey). u.unmerged) is
-    ∙ along_all (group_step l) (λ (u : Survey). u.unmerged) (λ (g : Group). list_all (λ (f : File). list_all is_unmerged f.sections) g.files) (group_unmerged l) nothing_seen l.groups
+    ∙ along_all (group_step l) (λ (u : Survey). u.unmerged) (λ (g : Group). list_all (λ (f : File). list_all is_unmerged f.sections) g.files) (group_unmerged l) empty_survey l.groups
 
 -- ---- how many relocations there are
 
@@ -110,19 +111,19 @@ unfolding section_step
 section_count l v s = omega arith
 
 file_count : (l : Layout) (v : Survey) (f : File) → min (2 ^ 64 - 1) (file_step l v f).relocations ≡ min (2 ^ 64 - 1) (v.relocations + relocations_in f)
-unfolding file_here file_step
-file_count l v f = along_sum (section_step l) (λ (u : Survey). u.relocations) (λ (s : InputSection). length s.relocations) (section_count l) (file_here l v f) f.sections
+unfolding survey_before_sections file_step
+file_count l v f = along_sum (section_step l) (λ (u : Survey). u.relocations) (λ (s : InputSection). length s.relocations) (section_count l) (survey_before_sections l v f) f.sections
 
 group_count : (l : Layout) (v : Survey) (g : Group) → min (2 ^ 64 - 1) (group_step l v g).relocations ≡ min (2 ^ 64 - 1) (v.relocations + relocations_of g)
-unfolding group_here group_step
-group_count l v g = along_sum (file_step l) (λ (u : Survey). u.relocations) relocations_in (file_count l) (group_here l v g) g.files
+unfolding survey_before_files group_step
+group_count l v g = along_sum (file_step l) (λ (u : Survey). u.relocations) relocations_in (file_count l) (survey_before_files l v g) g.files
 
-pub relocations_told : (l : Layout) (v : Survey) → v ≡ surveyed l → min (2 ^ 64 - 1) v.relocations ≡ min (2 ^ 64 - 1) (relocation_count l)
-unfolding surveyed
+pub relocations_told : (l : Layout) (v : Survey) → v ≡ survey_of l → min (2 ^ 64 - 1) v.relocations ≡ min (2 ^ 64 - 1) (relocation_count l)
+unfolding survey_of
 relocations_told l v is =
     let zero : 0 + total relocations_of l.groups ≡ total relocations_of l.groups = omega arith in
     ap (λ (u : Survey). min (2 ^ 64 - 1) u.relocations) is
-    ∙ along_sum (group_step l) (λ (u : Survey). u.relocations) relocations_of (group_count l) nothing_seen l.groups
+    ∙ along_sum (group_step l) (λ (u : Survey). u.relocations) relocations_of (group_count l) empty_survey l.groups
     ∙ ap (min (2 ^ 64 - 1)) zero
 
 -- ---- ordinary files
@@ -133,7 +134,7 @@ record IsOrdinary (f : File) : Type 0 where
   sections : list_all is_unsorted f.sections ≡ true
 
 IsOrdinary-from_test : (f : File) → is_ordinary f ≡ true → IsOrdinary f
-unfolding needs_no_more
+unfolding has_no_copies_or_versions
 IsOrdinary-from_test f h =
     let a = and_parts (length f.copies == 0 && is_none f.verneed) (list_all is_unsorted f.sections) h in
     let b = and_parts (length f.copies == 0) (is_none f.verneed) a.0 in
@@ -178,14 +179,14 @@ files_copy_none l (f ∷ fs) h =
     let p = and_parts (is_ordinary f) (list_all is_ordinary fs) h in
     rw (list_copies_none l f.copies (IsOrdinary-from_test f p.0).copies) (files_copy_none l fs p.1)
 
-groups_copy_none : (l : Layout) (earlier : List ℕ) (i : ℕ) (gs : List Group) → list_all is_ordinary_group gs ≡ true → copied_again l earlier i gs ≡ None
+groups_copy_none : (l : Layout) (earlier : List ℕ) (i : ℕ) (gs : List Group) → list_all is_ordinary_group gs ≡ true → first_double_copy l earlier i gs ≡ None
 groups_copy_none l earlier i [] h = refl
 groups_copy_none l earlier i (g ∷ gs) h =
     let p = and_parts (is_ordinary_group g) (list_all is_ordinary_group gs) h in
-    let none : copied_in l g ≡ [] = files_copy_none l g.files p.0 in
+    let none : copied_definitions l g ≡ [] = files_copy_none l g.files p.0 in
     rw none (groups_copy_none l (earlier ++ []) (i + 1) gs p.1)
 
-pub none_copied : (l : Layout) (ordinary : Bool) → ordinary ≡ are_ordinary l.groups → ordinary ≡ true → None ≡ copied_again l [] 0 l.groups
+pub none_copied : (l : Layout) (ordinary : Bool) → ordinary ≡ are_ordinary l.groups → ordinary ≡ true → None ≡ first_double_copy l [] 0 l.groups
 unfolding are_ordinary
 none_copied l ordinary is h = sym (groups_copy_none l [] 0 l.groups (sym is ∙ h))
 

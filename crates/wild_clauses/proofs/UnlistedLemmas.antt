@@ -6,9 +6,9 @@ use Rattle.std.proofs.lemmas.Bool.{and_parts}
 use Rattle.wild_types.specs.declared.symbol.Symbol.{Symbol}
 use Rattle.wild_types.specs.declared.layout.DynamicSymbol.{DynamicSymbol}
 use Rattle.wild_types.specs.declared.layout.Layout.{Layout}
-use Rattle.wild_needs.specs.DynamicSymbols.{dynamic_symbols, dynsym_of, position_fits, misplaced, misfit, first_listed}
+use Rattle.wild_needs.specs.DynamicSymbols.{dynamic_symbols, dynsym_of, position_fits, misplaced, first_misplaced_listed, first_listed}
 use Rattle.wild_clauses.specs.Positions.{is_unlisted}
-use Rattle.wild_clauses.specs.ClauseTests.{check_dynsyms}
+use Rattle.wild_plan_rules.specs.ClauseTests.{check_dynsyms}
 
 fits_without : (table : List ℕ) (i : ℕ) (p : Option ℕ) → not (is_some p) ≡ true → position_fits table i p ≡ true
 fits_without table i None h = refl
@@ -20,7 +20,7 @@ none_misplaced table i (s ∷ ss) h =
     let both = and_parts (is_unlisted s) (list_all is_unlisted ss) h in
     rw (fits_without table i (dynsym_of s) both.0) (none_misplaced table (i + 1) ss both.1)
 
-none_listed : (l : Layout) (p i : ℕ) (ds : List DynamicSymbol) → length ds ≡ 0 → misfit l p i ds ≡ None
+none_listed : (l : Layout) (p i : ℕ) (ds : List DynamicSymbol) → length ds ≡ 0 → first_misplaced_listed l p i ds ≡ None
 none_listed l p i [] h = refl
 none_listed l p i (d ∷ ds) h = cc
 

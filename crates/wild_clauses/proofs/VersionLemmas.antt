@@ -7,16 +7,16 @@ use Rattle.wild_types.specs.declared.file.VersionNeeds.{VersionNeeds}
 use Rattle.wild_types.specs.declared.file.File.{File}
 use Rattle.wild_types.specs.declared.file.Group.{Group}
 use Rattle.wild_types.specs.declared.layout.Layout.{Layout}
-use Rattle.wild_clauses.specs.Counts.{counts_fit}
+use Rattle.wild_plan_rules.specs.Counts.{counts_fit}
 use Rattle.wild_types.specs.Lists.{through, total}
 use Rattle.wild_types.specs.Lookups.{files_of}
 use Rattle.wild_needs.specs.DynamicPlaces.{need_number}
 use Rattle.wild_needs.specs.Versions.{needs_of, has_needs, need_count, file_versions, group_versions, versions_needed, versions_fit, most_versions}
-use Rattle.wild_clauses.specs.VersionTables.{mark_fits, mark_by, mark_step, mark_astray}
-use Rattle.wild_clauses.specs.ClauseTests.{check_counts}
+use Rattle.wild_plan_rules.specs.VersionTables.{mark_fits, mark_by, mark_step, mark_astray}
+use Rattle.wild_plan_rules.specs.ClauseTests.{check_counts}
 use Rattle.wild_types.proofs.ListLemmas.{total-append}
 use Rattle.wild_needs.proofs.StringLemmas.{length_needed}
-use Rattle.wild_clauses.proofs.ClauseLemmas.{test_holds}
+use Rattle.wild_plan_rules.proofs.ClauseLemmas.{test_holds}
 
 -- the sum over all files is that over the groups
 groups_sum : (gs : List Group) → total group_versions gs ≡ total file_versions (files_of gs)

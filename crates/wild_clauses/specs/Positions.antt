@@ -40,33 +40,33 @@ run_walk ds n role i c (s ∷ ss) =
     if fits_at ds n (is_undefined_entry role s) c i (dynsym_of s) then run_walk ds n role (i + 1) (counted (is_undefined_entry role s) c) ss else Err i
 
 -- the next step, if the previous one did not fail
-abbrev pub followed : {A B : Type 0} → Result A ℕ → (A → Result B ℕ) → Result B ℕ
-followed (Ok x) rest = rest x
-followed (Err i) rest = Err i
+abbrev pub then_step : {A B : Type 0} → Result A ℕ → (A → Result B ℕ) → Result B ℕ
+then_step (Ok x) rest = rest x
+then_step (Err i) rest = Err i
 
 -- the symbols from next on, up to the file's range
 abbrev pub gap_of : List Symbol → ℕ → File → List Symbol
 gap_of symbols next f = take (f.first_symbol - next) (drop next symbols)
 
 -- the symbols of the file's range, which begins after that gap
-abbrev pub behind_gap : List Symbol → ℕ → File → List Symbol
-behind_gap symbols next f = take f.symbol_count (drop (next + length (gap_of symbols next f)) symbols)
+abbrev pub symbols_of_range : List Symbol → ℕ → File → List Symbol
+symbols_of_range symbols next f = take f.symbol_count (drop (next + length (gap_of symbols next f)) symbols)
 
 abbrev pub file_walk : Layout → ℕ → ℕ × ℕ → File → Result (ℕ × ℕ) ℕ
 file_walk l n at f =
     if f.symbol_count == 0
     then Ok at
-    else followed (run_walk l.dynsyms n file_role.NotLoaded at.0 at.1 (gap_of l.symbols at.0 f))
-    (λ c. followed (run_walk l.dynsyms n f.role (at.0 + length (gap_of l.symbols at.0 f)) c (behind_gap l.symbols at.0 f))
-    (λ d. Ok (at.0 + length (gap_of l.symbols at.0 f) + length (behind_gap l.symbols at.0 f), d)))
+    else then_step (run_walk l.dynsyms n file_role.NotLoaded at.0 at.1 (gap_of l.symbols at.0 f))
+    (λ c. then_step (run_walk l.dynsyms n f.role (at.0 + length (gap_of l.symbols at.0 f)) c (symbols_of_range l.symbols at.0 f))
+    (λ d. Ok (at.0 + length (gap_of l.symbols at.0 f) + length (symbols_of_range l.symbols at.0 f), d)))
 
 abbrev pub files_walk : Layout → ℕ → ℕ × ℕ → List File → Result (ℕ × ℕ) ℕ
 files_walk l n at [] = Ok at
-files_walk l n at (f ∷ fs) = followed (file_walk l n at f) (λ next. files_walk l n next fs)
+files_walk l n at (f ∷ fs) = then_step (file_walk l n at f) (λ next. files_walk l n next fs)
 
 abbrev pub groups_walk : Layout → ℕ → ℕ × ℕ → List Group → Result (ℕ × ℕ) ℕ
 groups_walk l n at [] = Ok at
-groups_walk l n at (g ∷ gs) = followed (files_walk l n at g.files) (λ next. groups_walk l n next gs)
+groups_walk l n at (g ∷ gs) = then_step (files_walk l n at g.files) (λ next. groups_walk l n next gs)
 
 abbrev pub failed : {A : Type 0} → Result A ℕ → Option ℕ
 failed (Ok x) = None
@@ -74,7 +74,7 @@ failed (Err i) = Some i
 
 -- the first symbol whose index is not its position
 abbrev pub whole_walk : Layout → ℕ → Option ℕ
-whole_walk l n = failed (followed (groups_walk l n (0, 0) l.groups) (λ at. run_walk l.dynsyms n file_role.NotLoaded at.0 at.1 (drop at.0 l.symbols)))
+whole_walk l n = failed (then_step (groups_walk l n (0, 0) l.groups) (λ at. run_walk l.dynsyms n file_role.NotLoaded at.0 at.1 (drop at.0 l.symbols)))
 
 -- the symbol has no index of the table
 abbrev pub is_unlisted : Symbol → Bool

@@ -1,11 +1,11 @@
 -- The first group with a misplaced file, if the groups between the first and the last have none.
 use Rattle.std.specs.Prelude.{ℕ, true, false, if◌then◌else◌, Option, Some, None}
 use Rattle.wild_types.specs.declared.file.Group.{Group}
-use Rattle.wild_types.specs.FilePlaces.{files_placed}
+use Rattle.wild_types.specs.FilePlaces.{group_positions_fit}
 
 -- the same for the first and the last group; the last one's place is given
 abbrev pub ends_misplaced : Group → Group → ℕ → Option ℕ
 ends_misplaced first last place =
-    if files_placed true false first.files
-    then (if files_placed false true last.files then None else Some place)
+    if group_positions_fit true false first.files
+    then (if group_positions_fit false true last.files then None else Some place)
     else Some 0

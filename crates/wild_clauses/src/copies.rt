@@ -2,9 +2,9 @@
 //! One pass over the copies counts the windows, and one pass for each window marks its definitions.
 ghost use Rattle.std.specs.Prelude.{◌≡◌, ◌≤◌, ◌+◌, ◌^◌, [], map, Some, None, if◌then◌else◌};
 ghost use Rattle.std.specs.List.{flat_map};
-ghost use Rattle.wild_clauses.specs.Copies.{copied_of, windows_of, marked, first_marked, again_between};
+ghost use Rattle.wild_clauses.specs.Copies.{copied_of, windows_of, with_mark, first_marked, repeated_copy_between};
 ghost use Rattle.wild_clauses.specs.Survey.{are_ordinary};
-ghost use Rattle.wild_types.specs.FileSymbols.{copied_in, copied_again};
+ghost use Rattle.wild_types.specs.FileSymbols.{copied_definitions, first_double_copy};
 ghost use Rattle.wild_types.specs.Lists.{through};
 ghost use Rattle.wild_types.specs.Lookups.{canonical};
 
@@ -42,7 +42,7 @@ fn windows_of_files(layout: &Layout, windows: usize, files: &[File]) -> usize
 
 /// How many windows there are up to the last definition of the copies of groups; 0 without copies.
 fn windows_of_groups(layout: &Layout, groups: &[Group]) -> usize
-    ensures is { result ≡ windows_of 0 (flat_map (copied_in layout.now) groups.now) }
+    ensures is { result ≡ windows_of 0 (flat_map (copied_definitions layout.now) groups.now) }
     ensures few { result ≤ 2 ^ 48 }
 {
     let mut windows = 0;
@@ -54,7 +54,7 @@ fn windows_of_groups(layout: &Layout, groups: &[Group]) -> usize
 
 /// Marks a definition that lies in the window from number `start` on; false if it was marked.
 fn mark(start: usize, symbol: SymbolIndex, marks: &mut [bool]) -> bool
-    ensures { marked start marks.old symbol ≡ (if result then Some marks.new else None) }
+    ensures { with_mark start marks.old symbol ≡ (if result then Some marks.new else None) }
 {
     if symbol.0 < start || symbol.0 - start >= marks.len() {
         return true;
@@ -66,7 +66,7 @@ fn mark(start: usize, symbol: SymbolIndex, marks: &mut [bool]) -> bool
 
 /// The same for the definitions of consecutive copies.
 fn mark_copies(layout: &Layout, start: usize, copies: &[SymbolIndex], marks: &mut [bool]) -> bool
-    ensures { through (marked start) marks.old (map (canonical layout.now) copies.now) ≡ (if result then Some marks.new else None) }
+    ensures { through (with_mark start) marks.old (map (canonical layout.now) copies.now) ≡ (if result then Some marks.new else None) }
 {
     for copy in copies {
         if !mark(start, layout.canonical(*copy), marks) {
@@ -78,7 +78,7 @@ fn mark_copies(layout: &Layout, start: usize, copies: &[SymbolIndex], marks: &mu
 
 /// The same for the copies of files.
 fn mark_files(layout: &Layout, start: usize, files: &[File], marks: &mut [bool]) -> bool
-    ensures { through (marked start) marks.old (flat_map (copied_of layout.now) files.now) ≡ (if result then Some marks.new else None) }
+    ensures { through (with_mark start) marks.old (flat_map (copied_of layout.now) files.now) ≡ (if result then Some marks.new else None) }
 {
     for file in files {
         if !mark_copies(layout, start, file.copies.as_slice(), marks) {
@@ -106,8 +106,8 @@ fn first_marked(
 }
 
 /// The place of the first group that copies a symbol of the window again.
-fn again_in_window(layout: &Layout, groups: &[Group], start: usize) -> Option<usize>
-    ensures { result ≡ again_between layout.now start (start + 2 ^ 16) [] 0 groups.now }
+fn repeated_copy_in_window(layout: &Layout, groups: &[Group], start: usize) -> Option<usize>
+    ensures { result ≡ repeated_copy_between layout.now start (start + 2 ^ 16) [] 0 groups.now }
 {
     let mut marks = [false; WINDOW];
     first_marked(layout, groups, start, &mut marks)
@@ -115,12 +115,15 @@ fn again_in_window(layout: &Layout, groups: &[Group], start: usize) -> Option<us
 
 /// The place of the first group with a copy whose definition an earlier copy has.
 #[tactic(auto, using(crate::proofs::CopyLemmas::no_window, crate::proofs::CopyLemmas::next_window, crate::proofs::CopyLemmas::all_windows))]
-fn copied_again(layout: &Layout, groups: &[Group]) -> Option<usize>
-    ensures { result ≡ copied_again layout.now [] 0 groups.now }
+fn first_double_copy(layout: &Layout, groups: &[Group]) -> Option<usize>
+    ensures { result ≡ first_double_copy layout.now [] 0 groups.now }
 {
     let mut first = None;
     for window in 0..windows_of_groups(layout, groups) {
-        first = earlier(first, again_in_window(layout, groups, window * WINDOW));
+        first = earlier(
+            first,
+            repeated_copy_in_window(layout, groups, window * WINDOW),
+        );
     }
     first
 }
@@ -129,11 +132,11 @@ fn copied_again(layout: &Layout, groups: &[Group]) -> Option<usize>
 #[tactic(auto, using(crate::proofs::SurveyLemmas::none_copied))]
 pub(crate) fn first_copied_again(layout: &Layout, ordinary: bool) -> Option<usize>
     requires { ordinary ≡ are_ordinary layout.now.groups }
-    ensures { result ≡ copied_again layout.now [] 0 layout.now.groups }
+    ensures { result ≡ first_double_copy layout.now [] 0 layout.now.groups }
 {
     if ordinary {
         None
     } else {
-        copied_again(layout, layout.groups.as_slice())
+        first_double_copy(layout, layout.groups.as_slice())
     }
 }

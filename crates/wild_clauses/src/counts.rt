@@ -2,11 +2,11 @@
 ghost use Rattle.std.specs.Prelude.{◌≡◌, ◌+◌, ◌-◌, ◌^◌, min, length, is_some};
 ghost use Rattle.wild_needs.specs.Needs.{total_share};
 ghost use Rattle.wild_needs.specs.DynamicPlaces.{need_number};
-ghost use Rattle.wild_clauses.specs.Astray.{all_ranges_lie};
-ghost use Rattle.wild_clauses.specs.Counts.{symbols_of, table_fits, lists_fit, counts_fit};
-ghost use Rattle.wild_clauses.specs.Places.{relocation_count};
+ghost use Rattle.wild_clauses.specs.SymbolIndexes.{all_ranges_lie};
+ghost use Rattle.wild_plan_rules.specs.Counts.{symbols_of, table_fits, lists_fit, counts_fit};
+ghost use Rattle.wild_plan_rules.specs.Places.{relocation_count};
 ghost use Rattle.wild_types.specs.Lists.{total};
-ghost use Rattle.wild_clauses.specs.ClauseTests.{check_counts};
+ghost use Rattle.wild_plan_rules.specs.ClauseTests.{check_counts};
 
 use crate::verdict::{fails, unless};
 use crate::versions::versions_fit;
@@ -90,7 +90,7 @@ fn counts_fit(layout: &Layout, lie: bool, needs: u64, relocations: u64) -> bool
 
 /// The caller knows whether the files' symbol ranges are in order (`lie`), and how many libraries with versions and relocations
 /// there are.
-#[tactic(auto, unfolding(crate::specs::ClauseTests::check_counts))]
+#[tactic(auto, unfolding(wild_plan_rules::specs::ClauseTests::check_counts))]
 pub(crate) fn check_counts(
     layout: &Layout,
     lie: bool,

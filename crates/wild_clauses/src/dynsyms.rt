@@ -8,13 +8,13 @@ ghost use Rattle.wild_types.specs.Lookups.{files_of};
 ghost use Rattle.wild_clauses.specs.Positions.{lists, is_at, fits_at, run_walk, file_walk, files_walk, groups_walk, whole_walk, is_unlisted};
 ghost use Rattle.wild_needs.specs.UndefinedCounts.{undefined_count};
 ghost use Rattle.wild_clauses.specs.Survey.{are_simple};
-ghost use Rattle.wild_clauses.specs.ClauseTests.{check_indexes, check_dynsyms};
+ghost use Rattle.wild_plan_rules.specs.ClauseTests.{check_indexes, check_dynsyms};
 
-use crate::listed::misfit;
+use crate::listed_symbols::first_misplaced_listed;
 use crate::verdict::fails;
 use wild_needs::{dynsym_of, is_undefined_entry, undefined_count};
 use wild_types::{
-    Clause, File, FileRole, Group, Layout, Symbol, Test, ValueFlags, all_pass, some_from,
+    Clause, File, FileRole, Group, Layout, Symbol, Test, ValueFlags, all_pass, symbols_in_range,
 };
 
 /// Whether the entry at that place lists the symbol of that number.
@@ -106,10 +106,10 @@ fn walk_file(
     }
     let symbols = layout.symbols.as_slice();
     let (next, count) = at;
-    let gap = some_from(symbols, next, file.first_symbol.0.saturating_sub(next));
+    let gap = symbols_in_range(symbols, next, file.first_symbol.0.saturating_sub(next));
     let count = walk_run(layout, undefined, FileRole::NotLoaded, next, count, gap)?;
     let first = next + gap.len();
-    let range = some_from(symbols, first, file.symbol_count);
+    let range = symbols_in_range(symbols, first, file.symbol_count);
     let count = walk_run(layout, undefined, file.role, first, count, range)?;
     Ok((first + range.len(), count))
 }
@@ -150,7 +150,7 @@ fn walk(layout: &Layout, undefined: usize) -> Option<usize>
     match walk_groups(layout, undefined) {
         Ok((next, count)) => {
             let symbols = layout.symbols.as_slice();
-            let rest = some_from(symbols, next, symbols.len());
+            let rest = symbols_in_range(symbols, next, symbols.len());
             walk_run(layout, undefined, FileRole::NotLoaded, next, count, rest).err()
         }
         Err(symbol) => Some(symbol),
@@ -202,7 +202,7 @@ fn are_unlisted(layout: &Layout, simple: bool) -> bool
 }
 
 /// Requires that the indexes fit. Entries are counted only if a symbol is listed or has an index.
-#[tactic(auto, using(crate::proofs::UnlistedLemmas::unlisted_fit), unfolding(crate::specs::ClauseTests::check_dynsyms))]
+#[tactic(auto, using(crate::proofs::UnlistedLemmas::unlisted_fit), unfolding(wild_plan_rules::specs::ClauseTests::check_dynsyms))]
 pub(crate) fn check_dynsyms(layout: &Layout, simple: bool) -> Result<(), Clause>
     requires indexes { check_indexes layout.now ≡ Ok tt }
     requires simple { simple ≡ are_simple layout.now.symbols }
@@ -213,5 +213,5 @@ pub(crate) fn check_dynsyms(layout: &Layout, simple: bool) -> Result<(), Clause>
     }
     let undefined = exact_count(layout);
     fails(13, misplaced(layout, undefined))?;
-    fails(13, misfit(layout, undefined))
+    fails(13, first_misplaced_listed(layout, undefined))
 }

@@ -1,6 +1,6 @@
 //! The first group with an input section that fails a test.
 ghost use Rattle.std.specs.Prelude.{◌≡◌};
-ghost use Rattle.wild_clauses.specs.Contents.{each_in, each_section};
+ghost use Rattle.wild_plan_rules.specs.Contents.{each_in, each_section};
 ghost use Rattle.wild_types.specs.Lists.{first_failing};
 
 use wild_types::{File, Group, InputSection, Test, all_pass, first_failing};

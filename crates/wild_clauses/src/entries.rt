@@ -2,10 +2,10 @@
 ghost use Rattle.std.specs.Prelude.{◌≡◌};
 ghost use Rattle.std.specs.List.{list_any};
 ghost use Rattle.wild_types.specs.Lists.{first_failing, total};
-ghost use Rattle.wild_clauses.specs.Segments.{size_in_file, is_segment_of, dynamic_astray};
+ghost use Rattle.wild_plan_rules.specs.Segments.{size_in_file, is_segment_of, dynamic_astray};
 ghost use Rattle.wild_types.specs.Parts.{part_with, entry_parts, bytes_in, is_hash_role, has_hashes};
-ghost use Rattle.wild_clauses.specs.LoadedTables.{holds_entries, entries_astray, stands_in_entries, is_asked_whole, holds_part, carries_part, carries_table, rest_of_table, table_is_loaded};
-ghost use Rattle.wild_clauses.specs.ClauseTests.{check_entries};
+ghost use Rattle.wild_plan_rules.specs.LoadedTables.{holds_entries, entries_astray, is_in_entries_section, is_read_from_one_segment, holds_part, carries_part, carries_table, rest_of_table, table_is_loaded};
+ghost use Rattle.wild_plan_rules.specs.ClauseTests.{check_entries};
 
 use crate::roles::is_fixed_static;
 use crate::sections::within;
@@ -13,7 +13,7 @@ use crate::verdict::fails;
 use wild_records::abi::section::SHT_RELA;
 use wild_records::abi::segment::{PT_DYNAMIC, PT_LOAD};
 use wild_types::{
-    Clause, Layout, Part, Role, Section, SectionIndex, Segment, Test, behind_first, first_failing,
+    Clause, Layout, Part, Role, Section, SectionIndex, Segment, Test, all_but_first, first_failing,
     has_role, is_allocated, part_with, wide_sum,
 };
 
@@ -21,7 +21,7 @@ use wild_types::{
 fn size_in_file(layout: &Layout, part: &Part) -> u64
     ensures { result ≡ size_in_file layout.now part.now }
 {
-    if layout.is_hollow_at(part.section) {
+    if layout.is_header_only_at(part.section) {
         0
     } else {
         part.size
@@ -110,12 +110,12 @@ fn entries_astray(parts: &[Option<Part>; 3], later: &[Section]) -> Option<usize>
 
 /// A part with entries is in an allocated section of entries.
 #[derive(Clone, Copy)]
-struct StandsInEntries<'a> {
+struct IsInEntriesSection<'a> {
     layout: &'a Layout,
 }
 
-impl Test<Part> for StandsInEntries<'_> {
-    ghost test = { λ t. stands_in_entries t.layout.now };
+impl Test<Part> for IsInEntriesSection<'_> {
+    ghost test = { λ t. is_in_entries_section t.layout.now };
 
     fn passes(&self, part: &Part) -> bool {
         let layout = self.layout;
@@ -126,7 +126,7 @@ impl Test<Part> for StandsInEntries<'_> {
     }
 }
 
-#[tactic(auto, unfolding(crate::specs::ClauseTests::check_entries))]
+#[tactic(auto, unfolding(wild_plan_rules::specs::ClauseTests::check_entries))]
 pub(crate) fn check_entries(layout: &Layout) -> Result<(), Clause>
     ensures { result ≡ check_entries layout.now }
 {
@@ -134,9 +134,9 @@ pub(crate) fn check_entries(layout: &Layout) -> Result<(), Clause>
         return Ok(());
     }
     let parts = layout.parts.as_slice();
-    let later = behind_first(layout.sections.as_slice());
+    let later = all_but_first(layout.sections.as_slice());
     fails(6, entries_astray(&entry_parts(parts), later))?;
-    fails(6, first_failing(&StandsInEntries { layout }, parts))
+    fails(6, first_failing(&IsInEntriesSection { layout }, parts))
 }
 
 fn is_hash_role(role: Role) -> bool
@@ -159,9 +159,9 @@ fn has_hashes(layout: &Layout) -> bool
 
 /// Whether the table is read from one segment: relocation entries, or, if names are looked up, a hash table, the dynamic symbols or
 /// their strings.
-fn is_asked_whole(layout: &Layout, hashes: bool, role: Role) -> bool
+fn is_read_from_one_segment(layout: &Layout, hashes: bool, role: Role) -> bool
     requires hashes { hashes ≡ has_hashes layout.now }
-    ensures { result ≡ is_asked_whole layout.now role }
+    ensures { result ≡ is_read_from_one_segment layout.now role }
 {
     let has_entries = matches!(
         role,
@@ -176,7 +176,7 @@ fn is_asked_whole(layout: &Layout, hashes: bool, role: Role) -> bool
 fn holds_part(layout: &Layout, part: &Part, segment: &Segment) -> bool
     ensures { result ≡ holds_part layout.now part.now segment.now }
 {
-    if layout.is_hollow_at(part.section) {
+    if layout.is_header_only_at(part.section) {
         return within(segment.address, segment.mem_size, part.address, part.size);
     }
     within(segment.offset, segment.file_size, part.offset, part.size)
@@ -230,7 +230,7 @@ fn table_is_loaded(layout: &Layout, hashes: bool, part: &Part) -> bool
     ensures { result ≡ table_is_loaded layout.now part.now }
 {
     !layout.kind.needs_dynamic()
-        || !is_asked_whole(layout, hashes, part.role)
+        || !is_read_from_one_segment(layout, hashes, part.role)
         || part.size == 0
         || is_carried(layout, part, &rest_of_table(layout.parts.as_slice(), part))
 }

@@ -1,9 +1,9 @@
 //! Clause 10: fields.
 ghost use Rattle.std.specs.Prelude.{◌≡◌, ◌&&◌};
-ghost use Rattle.wild_clauses.specs.Contents.{field_lies, fields_lie, is_read_well, relocations_are_read};
+ghost use Rattle.wild_plan_rules.specs.Contents.{field_lies, fields_lie, is_read_well, relocations_are_read};
 ghost use Rattle.wild_types.specs.Rows.{field_bytes};
-ghost use Rattle.wild_clauses.specs.Passed.{groups_pass};
-ghost use Rattle.wild_clauses.specs.ClauseTests.{check_fields};
+ghost use Rattle.wild_clauses.specs.FileTests.{groups_pass};
+ghost use Rattle.wild_plan_rules.specs.ClauseTests.{check_fields};
 
 use crate::each_section::failing_group;
 use crate::verdict::fails;
@@ -102,7 +102,7 @@ impl Test<InputRelocation> for FieldPasses<'_> {
 }
 
 /// The tests run one by one only if a group fails one of them.
-#[tactic(auto, using(crate::proofs::PassedLemmas::fields_pass), unfolding(crate::specs::ClauseTests::check_fields))]
+#[tactic(auto, using(crate::proofs::PassedLemmas::fields_pass), unfolding(wild_plan_rules::specs::ClauseTests::check_fields))]
 pub(crate) fn check_fields(layout: &Layout, passed: bool) -> Result<(), Clause>
     requires passed { passed ≡ groups_pass layout.now }
     ensures { result ≡ check_fields layout.now }

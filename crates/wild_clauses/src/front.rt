@@ -2,16 +2,16 @@
 ghost use Rattle.std.specs.Prelude.{◌≡◌, ◌==◌, slice_get};
 ghost use Rattle.std.specs.List.{list_any, list_all};
 ghost use Rattle.wild_types.specs.declared.layout.Merged.{Merged};
-ghost use Rattle.wild_laid.specs.Laid.{sorted_input};
-ghost use Rattle.wild_clauses.specs.Contents.{has_front, takes_bytes, leaves_front, file_leaves_front, group_leaves_front, front_is_free};
-ghost use Rattle.wild_clauses.specs.Ordered.{as_ordered, sections_of, ordered};
+ghost use Rattle.wild_placement.specs.PlacedSections.{sorted_input};
+ghost use Rattle.wild_plan_rules.specs.Contents.{has_front, takes_bytes, leaves_front, file_leaves_front, group_leaves_front, front_is_free};
+ghost use Rattle.wild_clauses.specs.SortedOrder.{sorted_as_loaded, sections_of, sections_by_order};
 
-use crate::sorted::has_ordered_bytes;
-use wild_laid::sorted_input;
+use crate::sorted_sections::has_ordered_bytes;
+use wild_placement::sorted_input;
 use wild_types::{File, InputSection, Layout, Merged, SortedSection, Test, all_pass};
 
 /// Whether the part begins with some of the merged strings.
-fn stand_in(part: usize, merged: &[Merged]) -> bool
+fn any_is_in_part(part: usize, merged: &[Merged]) -> bool
     ensures { result ≡ list_any (λ (m : Merged). m.part == part) merged.now }
 {
     for strings in merged {
@@ -27,7 +27,8 @@ fn has_front(layout: &Layout, part: usize) -> bool
     ensures { result ≡ has_front layout.now part }
 {
     let identity = &layout.identity;
-    stand_in(part, layout.merged.as_slice()) || identity.bytes.len() != 0 && identity.part == part
+    any_is_in_part(part, layout.merged.as_slice())
+        || identity.bytes.len() != 0 && identity.part == part
 }
 
 /// The part of a section with bytes does not begin with those strings.
@@ -47,7 +48,7 @@ impl Test<InputSection> for LeavesFront<'_> {
 
 /// The same for a sorted section.
 fn ordered_leaves_front(layout: &Layout, section: &InputSection) -> bool
-    ensures { result ≡ leaves_front layout.now (as_ordered layout.now section.now) }
+    ensures { result ≡ leaves_front layout.now (sorted_as_loaded layout.now section.now) }
 {
     let takes_bytes = section.bytes.len() != 0 || has_ordered_bytes(layout, section);
     !takes_bytes || !has_front(layout, section.part)

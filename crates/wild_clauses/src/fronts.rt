@@ -1,9 +1,9 @@
 //! Clauses 20 and 22: reversed sections, the front of a part in the first group, properties, debug-only images.
 ghost use Rattle.std.specs.Prelude.{◌≡◌, ◌==◌, not, ◌&&◌, [], drop, slice_get};
 ghost use Rattle.std.specs.List.{list_any};
-ghost use Rattle.wild_clauses.specs.Fronts.{is_whole_word, reversed_fits, given_by, fills_front, merged_size, merged_fits, identity_fills, stands_in_front, front_shared, identity_is_alone, has_type, properties_differ, keeps_tables, dynamic_is_dropped, is_header_role, headers_are_kept};
-ghost use Rattle.wild_clauses.specs.ClauseTests.{check_reversed, check_fronts};
-ghost use Rattle.wild_clauses.specs.Passed.{groups_pass};
+ghost use Rattle.wild_plan_rules.specs.Fronts.{is_whole_word, reversed_fits, given_by, fills_front, merged_size, merged_fits, identity_fills, has_bytes_in_part, front_shared, identity_is_alone, has_type, properties_differ, keeps_tables, dynamic_is_dropped, is_header_role, headers_are_kept};
+ghost use Rattle.wild_plan_rules.specs.ClauseTests.{check_reversed, check_fronts};
+ghost use Rattle.wild_clauses.specs.FileTests.{groups_pass};
 
 use crate::each_section::failing_group;
 use crate::verdict::{fails, unless};
@@ -39,7 +39,7 @@ impl Test<InputSection> for ReversedFits {
     }
 }
 
-#[tactic(auto, using(crate::proofs::PassedLemmas::reversed_pass), unfolding(crate::specs::ClauseTests::check_reversed))]
+#[tactic(auto, using(crate::proofs::PassedLemmas::reversed_pass), unfolding(wild_plan_rules::specs::ClauseTests::check_reversed))]
 pub(crate) fn check_reversed(layout: &Layout, passed: bool) -> Result<(), Clause>
     requires passed { passed ≡ groups_pass layout.now }
     ensures { result ≡ check_reversed layout.now }
@@ -100,17 +100,17 @@ fn identity_fills(layout: &Layout) -> bool
 }
 
 /// Whether the part contains the merged strings, and these have bytes.
-fn stands_in_front(part: usize, merged: &Merged) -> bool
-    ensures { result ≡ stands_in_front part merged.now }
+fn has_bytes_in_part(part: usize, merged: &Merged) -> bool
+    ensures { result ≡ has_bytes_in_part part merged.now }
 {
     merged.part == part && !has_size(merged, 0)
 }
 
-fn any_stands(part: usize, merged: &[Merged]) -> bool
-    ensures { result ≡ list_any (stands_in_front part) merged.now }
+fn any_has_bytes_in_part(part: usize, merged: &[Merged]) -> bool
+    ensures { result ≡ list_any (has_bytes_in_part part) merged.now }
 {
     for other in merged {
-        if stands_in_front(part, other) {
+        if has_bytes_in_part(part, other) {
             return true;
         }
     }
@@ -122,7 +122,9 @@ fn front_shared(merged: &[Merged]) -> Option<usize>
     ensures { result ≡ front_shared 0 merged.now }
 {
     for (i, strings) in merged.iter().enumerate() {
-        if stands_in_front(strings.part, strings) && any_stands(strings.part, &merged[i + 1..]) {
+        if has_bytes_in_part(strings.part, strings)
+            && any_has_bytes_in_part(strings.part, &merged[i + 1..])
+        {
             return Some(i);
         }
     }
@@ -134,7 +136,7 @@ fn identity_is_alone(layout: &Layout) -> bool
     ensures { result ≡ identity_is_alone layout.now }
 {
     let identity = &layout.identity;
-    identity.bytes.len() == 0 || !any_stands(identity.part, layout.merged.as_slice())
+    identity.bytes.len() == 0 || !any_has_bytes_in_part(identity.part, layout.merged.as_slice())
 }
 
 fn any_has_type(ptype: u32, properties: &[Property]) -> bool
@@ -149,7 +151,7 @@ fn any_has_type(ptype: u32, properties: &[Property]) -> bool
 }
 
 /// The first property with the type of an earlier one.
-fn property_again(properties: &[Property]) -> Option<usize>
+fn repeated_property(properties: &[Property]) -> Option<usize>
     ensures { result ≡ properties_differ [] 0 properties.now }
 {
     for (i, property) in properties.iter().enumerate() {
@@ -204,11 +206,11 @@ impl Test<Part> for HeadersAreKept<'_> {
     ghost test = { λ t. headers_are_kept t.layout.now };
 
     fn passes(&self, part: &Part) -> bool {
-        !(is_header_role(part.role) && self.layout.is_hollow_at(part.section))
+        !(is_header_role(part.role) && self.layout.is_header_only_at(part.section))
     }
 }
 
-#[tactic(auto, unfolding(crate::specs::ClauseTests::check_fronts))]
+#[tactic(auto, unfolding(wild_plan_rules::specs::ClauseTests::check_fronts))]
 pub(crate) fn check_fronts(layout: &Layout) -> Result<(), Clause>
     ensures { result ≡ check_fronts layout.now }
 {
@@ -216,7 +218,7 @@ pub(crate) fn check_fronts(layout: &Layout) -> Result<(), Clause>
     let parts = layout.parts.as_slice();
     fails(22, first_failing(&MergedFits { layout }, merged))?;
     fails(22, unless(identity_fills(layout)))?;
-    fails(22, property_again(layout.properties.as_slice()))?;
+    fails(22, repeated_property(layout.properties.as_slice()))?;
     fails(22, unless(keeps_tables(layout)))?;
     fails(22, first_failing(&DynamicIsDropped { layout }, parts))?;
     fails(22, front_shared(merged))?;

@@ -1,7 +1,7 @@
 //! Clause 17: the shapes of the hash tables, and the order of the symbols in the GNU hash table.
 ghost use Rattle.std.specs.Prelude.{◌≡◌, ◌≤◌, true, Ok};
 ghost use Rattle.wild_needs.specs.HashShapes.{sysv_fits, gnu_shape_fits, gnu_fits, bucket_of, bucket_below, bucket_astray};
-ghost use Rattle.wild_clauses.specs.ClauseTests.{check_indexes, check_hashes};
+ghost use Rattle.wild_plan_rules.specs.ClauseTests.{check_indexes, check_hashes};
 
 use crate::dynsyms::exact_count;
 use crate::verdict::{fails, unless};
@@ -77,7 +77,7 @@ fn bucket_astray(layout: &Layout) -> Option<usize>
 }
 
 /// Requires that the indexes fit.
-#[tactic(auto, unfolding(crate::specs::ClauseTests::check_hashes))]
+#[tactic(auto, unfolding(wild_plan_rules::specs::ClauseTests::check_hashes))]
 pub(crate) fn check_hashes(layout: &Layout) -> Result<(), Clause>
     requires indexes { check_indexes layout.now ≡ Ok tt }
     ensures { result ≡ check_hashes layout.now }

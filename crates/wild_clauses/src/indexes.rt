@@ -1,15 +1,15 @@
 //! Clause 9: indexes.
 ghost use Rattle.std.specs.Prelude.{◌≡◌, is_some, length, slice_get};
-ghost use Rattle.wild_clauses.specs.Indexes.{index_fits, part_index_fits, relocation_index_fits, symbol_is_there, header_is_there, section_indexes_fit, file_indexes_fit, group_indexes_fit, thunk_is_there, thunks_are_there, listed_is_there, section_is_there, file_is_there, sorted_is_there, merged_is_there, entry_is_there, definition_is_own, range_follows, range_out_of_order};
+ghost use Rattle.wild_plan_rules.specs.Indexes.{index_fits, part_index_fits, relocation_index_fits, symbol_is_there, header_is_there, section_indexes_fit, file_indexes_fit, group_indexes_fit, thunk_is_there, thunks_are_there, listed_is_there, section_is_there, file_is_there, sorted_is_there, merged_is_there, entry_is_there, definition_is_own, range_follows, range_out_of_order};
 ghost use Rattle.wild_types.specs.Lists.{through};
-ghost use Rattle.wild_clauses.specs.Astray.{all_ranges_lie};
-ghost use Rattle.wild_clauses.specs.ClauseTests.{check_indexes};
+ghost use Rattle.wild_clauses.specs.SymbolIndexes.{all_ranges_lie};
+ghost use Rattle.wild_plan_rules.specs.ClauseTests.{check_indexes};
 ghost use Rattle.wild_clauses.specs.Survey.{are_ordinary};
-ghost use Rattle.wild_clauses.specs.Passed.{headers_are_there, symbols_are_there, groups_pass};
+ghost use Rattle.wild_clauses.specs.FileTests.{headers_are_there, symbols_are_there, groups_pass};
 
-use crate::astray::{index_fits, symbol_misfit};
 use crate::copies::first_copied_again;
-use crate::passed::failing;
+use crate::survey::failing;
+use crate::symbol_indexes::{index_fits, symbol_misfit};
 use crate::verdict::{fails, unless};
 use crate::versions::ParentIsThere;
 use wild_types::{
@@ -231,7 +231,7 @@ fn first_out_of_order(layout: &Layout, lie: bool) -> Option<usize>
     }
 }
 
-#[tactic(auto, using(crate::proofs::PassedLemmas::indexes_pass), unfolding(crate::specs::ClauseTests::check_indexes))]
+#[tactic(auto, using(crate::proofs::PassedLemmas::indexes_pass), unfolding(wild_plan_rules::specs::ClauseTests::check_indexes))]
 pub(crate) fn check_indexes(
     layout: &Layout,
     passed: bool,

@@ -1,16 +1,16 @@
 //! Clause 8: input sections in their parts.
 ghost use Rattle.std.specs.Prelude.{◌≡◌, Ok, slice_get};
-ghost use Rattle.wild_clauses.specs.Contents.{length_fits, may_lack_bytes, is_frames_part, frames_part_fits, discarded_is_empty, is_raw, part_is_raw, holds_bytes, merged_is_raw, identity_is_raw, holds_thunks, primary_fits, has_room, allocation_agrees, has_some, bytes_take_room};
-ghost use Rattle.wild_clauses.specs.Passed.{passes_all, parts_fit, groups_pass};
+ghost use Rattle.wild_plan_rules.specs.Contents.{length_fits, may_lack_bytes, is_frames_part, frames_part_fits, discarded_is_empty, is_raw, part_is_raw, holds_bytes, merged_is_raw, identity_is_raw, holds_thunks, primary_fits, has_room, allocation_agrees, has_or_gets_bytes, bytes_take_room};
+ghost use Rattle.wild_clauses.specs.FileTests.{passes_all, parts_fit, groups_pass};
 ghost use Rattle.wild_types.specs.Lookups.{section_of};
 ghost use Rattle.wild_clauses.specs.Survey.{are_ordinary};
-ghost use Rattle.wild_clauses.specs.ClauseTests.{once_fits, check_sizes, check_shares, check_inputs};
+ghost use Rattle.wild_plan_rules.specs.ClauseTests.{merged_and_identity_fit, check_sizes, check_shares, check_inputs};
 
 use crate::each_section::failing_group;
 use crate::front::front_is_free;
 use crate::fronts::has_size;
 use crate::places::section_misplaced;
-use crate::sorted::{NamesSorted, sorted_named_once};
+use crate::sorted_sections::{NamesSorted, sorted_named_once};
 use crate::thunks::has_thunks;
 use crate::verdict::{fails, unless};
 use wild_types::{
@@ -128,8 +128,8 @@ fn identity_is_raw(layout: &Layout) -> bool
     layout.identity.bytes.len() == 0 || holds_bytes(layout, false, layout.identity.part)
 }
 
-fn once_fits(layout: &Layout) -> Result<(), Clause>
-    ensures { result ≡ once_fits layout.now }
+fn merged_and_identity_fit(layout: &Layout) -> Result<(), Clause>
+    ensures { result ≡ merged_and_identity_fit layout.now }
 {
     let merged = layout.merged.as_slice();
     fails(8, first_failing(&PartIsRaw { layout }, merged))?;
@@ -191,8 +191,8 @@ impl Test<InputSection> for AllocationAgrees<'_> {
 }
 
 /// Whether the section has bytes, or bytes are generated for it.
-fn has_some(section: &InputSection) -> bool
-    ensures { result ≡ has_some section.now }
+fn has_or_gets_bytes(section: &InputSection) -> bool
+    ensures { result ≡ has_or_gets_bytes section.now }
 {
     section.bytes.len() != 0 || matches!(section.slot, Slot::Rela) && section.size != 0
 }
@@ -202,7 +202,7 @@ fn bytes_take_room(layout: &Layout, home: SectionIndex, section: &InputSection) 
     requires { home ≡ section_of layout.now section.now.part }
     ensures { result ≡ bytes_take_room layout.now section.now }
 {
-    !has_some(section) || layout.has_data(home)
+    !has_or_gets_bytes(section) || layout.has_data(home)
 }
 
 /// No bytes are placed in a section without data.
@@ -252,7 +252,7 @@ fn parts_fit(layout: &Layout) -> bool
 }
 
 /// Requires that sizes and shares fit. The tests run one by one only if a group or a part fails one of them.
-#[tactic(auto, using(crate::proofs::PassedLemmas::inputs_pass), unfolding(crate::specs::ClauseTests::check_inputs))]
+#[tactic(auto, using(crate::proofs::PassedLemmas::inputs_pass), unfolding(wild_plan_rules::specs::ClauseTests::check_inputs))]
 pub(crate) fn check_inputs(layout: &Layout, passed: bool, ordinary: bool) -> Result<(), Clause>
     requires sizes { check_sizes layout.now ≡ Ok tt }
     requires shares { check_shares layout.now ≡ Ok tt }
@@ -274,7 +274,7 @@ pub(crate) fn check_inputs(layout: &Layout, passed: bool, ordinary: bool) -> Res
     fails(8, failing_group(&FramesPartFits { layout }, groups))?;
     fails(8, failing_group(&DiscardedIsEmpty, groups))?;
     fails(8, failing_group(&PartIsRaw { layout }, groups))?;
-    once_fits(layout)?;
+    merged_and_identity_fit(layout)?;
     fails(8, unless(primary_fits(layout)))?;
     fails(8, unless(front_is_free(layout)))?;
     fails(8, failing_group(&AllocationAgrees { layout }, groups))?;

@@ -1,7 +1,6 @@
 //! Whether a layout is well formed: its clauses, in their order.
 #![tactic(auto)]
 
-mod astray;
 mod copies;
 mod counts;
 mod dynsyms;
@@ -13,29 +12,29 @@ mod fronts;
 mod hashes;
 mod indexes;
 mod inputs;
-mod listed;
-mod loaded;
+mod layout_survey;
+mod listed_symbols;
+mod loaded_bytes;
 mod names;
 mod order;
 mod partial;
-mod passed;
 mod places;
 mod roles;
 mod sections;
-mod seen;
 mod segments;
 mod shares;
 mod sizes;
 mod slot_flags;
 mod slot_parts;
 mod slots;
-mod sorted;
+mod sorted_sections;
 mod starts;
+mod survey;
+mod symbol_indexes;
 mod threads;
 mod thunks;
 mod verdict;
 mod versions;
 
-pub use loaded::Side;
-pub use seen::Seen;
-pub use verdict::{well_formed, well_formed_seen};
+pub use layout_survey::LayoutSurvey;
+pub use verdict::{well_formed, well_formed_with};

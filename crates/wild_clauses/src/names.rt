@@ -1,10 +1,10 @@
 //! Clause 19: names.
 ghost use Rattle.std.specs.Prelude.{◌≡◌};
-ghost use Rattle.wild_clauses.specs.ZeroFree.{name_fits, given_name_fits, section_name_fits, symbol_name_fits, input_name_fits, version_name_fits, file_names_fit, group_names_fit, listed_name_fits, definition_name_fits, ends_with_zero, interp_fits};
-ghost use Rattle.wild_clauses.specs.ClauseTests.{check_names};
-ghost use Rattle.wild_clauses.specs.Passed.{library_names_fit, groups_pass};
+ghost use Rattle.wild_plan_rules.specs.ZeroFree.{name_fits, optional_name_fits, section_name_fits, symbol_name_fits, input_name_fits, version_name_fits, file_names_fit, group_names_fit, listed_name_fits, definition_name_fits, ends_with_zero, interp_fits};
+ghost use Rattle.wild_plan_rules.specs.ClauseTests.{check_names};
+ghost use Rattle.wild_clauses.specs.FileTests.{library_names_fit, groups_pass};
 
-use crate::passed::failing;
+use crate::survey::failing;
 use crate::verdict::{fails, unless};
 use wild_types::{
     Clause, DynamicSymbol, File, Group, InputSection, Layout, NeededVersion, Section, Symbol, Test,
@@ -24,8 +24,8 @@ fn name_fits(name: &[u8]) -> bool
 }
 
 /// The same for an optional name.
-fn given_name_fits(name: &Option<Bytes>) -> bool
-    ensures { result ≡ given_name_fits name.now }
+fn optional_name_fits(name: &Option<Bytes>) -> bool
+    ensures { result ≡ optional_name_fits name.now }
 {
     match name {
         Some(name) => name_fits(name.as_slice()),
@@ -140,13 +140,13 @@ fn interp_fits(path: &[u8]) -> bool
     path.is_empty() || ends_with_zero(path)
 }
 
-#[tactic(auto, using(crate::proofs::PassedLemmas::names_pass), unfolding(crate::specs::ClauseTests::check_names))]
+#[tactic(auto, using(crate::proofs::PassedLemmas::names_pass), unfolding(wild_plan_rules::specs::ClauseTests::check_names))]
 pub(crate) fn check_names(layout: &Layout, passed: bool) -> Result<(), Clause>
     requires passed { passed ≡ groups_pass layout.now }
     ensures { result ≡ check_names layout.now }
 {
     let options = &layout.options;
-    let given_fit = given_name_fits(&options.rpath) && given_name_fits(&options.soname);
+    let given_fit = optional_name_fits(&options.rpath) && optional_name_fits(&options.soname);
     fails(19, unless(given_fit))?;
     fails(19, first_failing(&NamesFit, options.auxiliary.as_slice()))?;
     fails(19, first_failing(&NamesFit, layout.sections.as_slice()))?;

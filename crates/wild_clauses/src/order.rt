@@ -1,7 +1,7 @@
 //! Clause 3: the order of the parts.
 ghost use Rattle.std.specs.Prelude.{◌≡◌};
-ghost use Rattle.wild_clauses.specs.Places.{multiple_of, part_out_of_order};
-ghost use Rattle.wild_clauses.specs.ClauseTests.{check_order};
+ghost use Rattle.wild_plan_rules.specs.Places.{multiple_of, part_out_of_order};
+ghost use Rattle.wild_plan_rules.specs.ClauseTests.{check_order};
 
 use crate::verdict::fails;
 use wild_types::{Clause, Layout, Part, wide_sum};
@@ -27,7 +27,7 @@ fn part_out_of_order(layout: &Layout, parts: &[Part]) -> Option<usize>
     None
 }
 
-#[tactic(auto, unfolding(crate::specs::ClauseTests::check_order))]
+#[tactic(auto, unfolding(wild_plan_rules::specs::ClauseTests::check_order))]
 pub(crate) fn check_order(layout: &Layout) -> Result<(), Clause>
     ensures { result ≡ check_order layout.now }
 {

@@ -1,9 +1,9 @@
 //! Clause 21: what only relocatable objects may have, and what they may not have.
 ghost use Rattle.std.specs.Prelude.{◌≡◌, slice_get};
-ghost use Rattle.wild_clauses.specs.Partial.{has_no_segments, is_slotless, has_no_slot, has_no_pair, has_no_thunks, lists_no_symbols, is_indexless, has_no_index, is_no_debug, is_group, is_of_kind, has_entries, table_fits, file_tables_fit, tables_fit, group_fits_members, table_has_data};
+ghost use Rattle.wild_plan_rules.specs.Partial.{has_no_segments, is_slotless, has_no_slot, has_no_pair, has_no_thunks, lists_no_symbols, is_indexless, has_no_index, is_no_debug, is_group, is_of_kind, has_entries, table_fits, file_tables_fit, tables_fit, group_fits_members, table_has_data};
 ghost use Rattle.wild_types.specs.Lookups.{is_rela};
-ghost use Rattle.wild_clauses.specs.ClauseTests.{check_partial};
-ghost use Rattle.wild_clauses.specs.Passed.{groups_pass};
+ghost use Rattle.wild_plan_rules.specs.ClauseTests.{check_partial};
+ghost use Rattle.wild_clauses.specs.FileTests.{groups_pass};
 
 use crate::each_section::failing_group;
 use crate::verdict::{fails, unless};
@@ -204,7 +204,7 @@ impl Test<InputSection> for TableHasData {
 }
 
 /// For other outputs the last tests follow from having nothing that only a relocatable object may have.
-#[tactic(auto, using(crate::proofs::PartialLemmas::no_partial, crate::proofs::PassedLemmas::kinds_pass), unfolding(crate::specs::ClauseTests::check_partial))]
+#[tactic(auto, using(crate::proofs::PartialLemmas::no_partial, crate::proofs::PassedLemmas::kinds_pass), unfolding(wild_plan_rules::specs::ClauseTests::check_partial))]
 pub(crate) fn check_partial(layout: &Layout, passed: bool) -> Result<(), Clause>
     requires passed { passed ≡ groups_pass layout.now }
     ensures { result ≡ check_partial layout.now }

@@ -1,15 +1,15 @@
 //! Whether the input sections of each part are in its range of their group, in order and without overlap.
 ghost use Rattle.std.specs.Prelude.{◌≡◌, ◌+◌, ◌^◌, ◌≤◌, ◌<◌, length, Ok, if◌then◌else◌, is_some, Some, None, ℕ, slice_index};
-ghost use Rattle.wild_laid.specs.Laid.{sorted_input};
-ghost use Rattle.wild_clauses.specs.Contents.{addresses, ends_of, section_misplaced};
+ghost use Rattle.wild_placement.specs.PlacedSections.{sorted_input};
+ghost use Rattle.wild_plan_rules.specs.Contents.{addresses, ends_of, section_misplaced};
 ghost use Rattle.wild_types.specs.FilePlaces.{given};
 ghost use Rattle.wild_types.specs.Lists.{through, total};
-ghost use Rattle.wild_clauses.specs.ClauseTests.{check_sizes, check_shares};
-ghost use Rattle.wild_clauses.specs.Misplaced.{earlier, misplaced, all_placed, bytes_placed, file_all_placed};
-ghost use Rattle.wild_clauses.specs.Ordered.{as_ordered, sections_of, ordered};
+ghost use Rattle.wild_plan_rules.specs.ClauseTests.{check_sizes, check_shares};
+ghost use Rattle.wild_plan_rules.specs.MisplacedSections.{earlier, misplaced, all_placed, bytes_placed, file_all_placed};
+ghost use Rattle.wild_clauses.specs.SortedOrder.{sorted_as_loaded, sections_of, sections_by_order};
 
-use crate::sorted::has_ordered_bytes;
-use wild_laid::sorted_input;
+use crate::sorted_sections::has_ordered_bytes;
+use wild_placement::sorted_input;
 use wild_types::{File, Group, InputSection, Layout, Part, SortedSection, wide_sum};
 
 /// The smaller of two places, if both exist; else the one that does.
@@ -25,7 +25,7 @@ pub(crate) fn earlier(left: Option<usize>, right: Option<usize>) -> Option<usize
 
 /// Moves the cursor of a part after a section with bytes, if the section is in one of the parts from number `part` on; false if the
 /// section is misplaced.
-#[tactic(auto, using(crate::proofs::BlockLemmas::before_all, crate::proofs::BlockLemmas::behind_all))]
+#[tactic(auto, using(wild_plan_rules::proofs::BlockLemmas::before_all, wild_plan_rules::proofs::BlockLemmas::behind_all))]
 fn pass_bytes(part: usize, ends: &[u64], cursors: &mut [u64], section: &InputSection) -> bool
     requires { length ends.now ≡ length cursors.old }
     ensures { bytes_placed part ends.now cursors.old section.now ≡ (if result then Some cursors.new else None) }
@@ -46,7 +46,7 @@ fn pass_bytes(part: usize, ends: &[u64], cursors: &mut [u64], section: &InputSec
 }
 
 /// The same for a section of a file, which has a place only if it has bytes.
-#[tactic(auto, using(crate::proofs::BlockLemmas::filled, crate::proofs::BlockLemmas::unfilled))]
+#[tactic(auto, using(wild_plan_rules::proofs::BlockLemmas::filled, wild_plan_rules::proofs::BlockLemmas::unfilled))]
 fn pass_section(
     layout: &Layout,
     part: usize,
@@ -57,11 +57,11 @@ fn pass_section(
     requires { length ends.now ≡ length cursors.old }
     ensures { all_placed layout.now part ends.now cursors.old section.now ≡ (if result then Some cursors.new else None) }
 {
-    !section.is_given(layout) || pass_bytes(part, ends, cursors, section)
+    !section.has_range_bytes(layout) || pass_bytes(part, ends, cursors, section)
 }
 
 /// The same for a sorted section.
-#[tactic(auto, using(crate::proofs::OrderedLemmas::ordered_placed, crate::proofs::BlockLemmas::unfilled))]
+#[tactic(auto, using(crate::proofs::OrderedLemmas::ordered_placed, wild_plan_rules::proofs::BlockLemmas::unfilled))]
 fn pass_ordered(
     layout: &Layout,
     part: usize,
@@ -70,7 +70,7 @@ fn pass_ordered(
     section: &InputSection,
 ) -> bool
     requires { length ends.now ≡ length cursors.old }
-    ensures { all_placed layout.now part ends.now cursors.old (as_ordered layout.now section.now) ≡ (if result then Some cursors.new else None) }
+    ensures { all_placed layout.now part ends.now cursors.old (sorted_as_loaded layout.now section.now) ≡ (if result then Some cursors.new else None) }
 {
     !has_ordered_bytes(layout, section) || pass_bytes(part, ends, cursors, section)
 }
@@ -118,7 +118,7 @@ fn pass_order(
     order: &[SortedSection],
 ) -> bool
     requires { length ends.now ≡ length cursors.old }
-    ensures { through (all_placed layout.now part ends.now) cursors.old (ordered layout.now order.now) ≡ (if result then Some cursors.new else None) }
+    ensures { through (all_placed layout.now part ends.now) cursors.old (sections_by_order layout.now order.now) ≡ (if result then Some cursors.new else None) }
 {
     for entry in order {
         if !pass_entry(layout, part, ends, cursors, *entry) {
@@ -183,7 +183,7 @@ fn first_starts(starts: &mut [u64], parts: &[Part])
 
 /// The place of the first group with a misplaced input section, in the parts from number `part` on, which
 /// begin at `starts`.
-#[tactic(auto, using(crate::proofs::BlockLemmas::group_placed))]
+#[tactic(auto, using(wild_plan_rules::proofs::BlockLemmas::group_placed))]
 fn misplaced_from(
     layout: &Layout,
     part: usize,

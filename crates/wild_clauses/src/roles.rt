@@ -1,12 +1,12 @@
 //! Clause 4: the roles.
 ghost use Rattle.std.specs.Prelude.{◌≡◌, true, []};
-ghost use Rattle.wild_needs.specs.Needs.{is_bare_inside};
-ghost use Rattle.wild_clauses.specs.Counts.{role_given};
+ghost use Rattle.wild_needs.specs.Needs.{inner_groups_need_no_tables};
+ghost use Rattle.wild_plan_rules.specs.Counts.{role_has_needed_part};
 ghost use Rattle.wild_types.specs.Parts.{has_role};
-ghost use Rattle.wild_clauses.specs.Places.{role_again, role_missing, role_not_at, program_headers_astray, dynamic_unasked};
+ghost use Rattle.wild_plan_rules.specs.Places.{repeated_role, role_missing, role_not_at, program_headers_astray, unexpected_dynamic};
 ghost use Rattle.wild_types.specs.Kinds.{is_fixed_static};
-ghost use Rattle.wild_clauses.specs.LoadedTables.{begins_behind, entries_follow};
-ghost use Rattle.wild_clauses.specs.ClauseTests.{check_roles};
+ghost use Rattle.wild_plan_rules.specs.LoadedTables.{begins_at_end_of, entries_follow};
+ghost use Rattle.wild_plan_rules.specs.ClauseTests.{check_roles};
 
 use crate::verdict::fails;
 use wild_needs::total_share_of;
@@ -50,8 +50,8 @@ const ROLES: [Role; 30] = [
     Role::Property,
 ];
 
-fn role_again(parts: &[Part]) -> Option<usize>
-    ensures { result ≡ role_again [] 0 parts.now }
+fn repeated_role(parts: &[Part]) -> Option<usize>
+    ensures { result ≡ repeated_role [] 0 parts.now }
 {
     for (i, part) in parts.iter().enumerate() {
         if !has_role(Role::Raw, part) && is_there(part.role, &parts[..i]) {
@@ -95,14 +95,14 @@ fn program_headers_astray(layout: &Layout) -> Option<usize>
 
 /// A part of a role exists, or no bytes have to be written in one. If `inside` is set, the inner groups contribute to no table.
 #[derive(Drop)]
-struct RoleGiven<'a> {
+struct RoleHasNeededPart<'a> {
     layout: &'a Layout,
     inside: bool,
-    ghost inside_is: { inside ≡ true → is_bare_inside layout.now ≡ true },
+    ghost inside_is: { inside ≡ true → inner_groups_need_no_tables layout.now ≡ true },
 }
 
-impl Test<Role> for RoleGiven<'_> {
-    ghost test = { λ t. role_given t.layout.now };
+impl Test<Role> for RoleHasNeededPart<'_> {
+    ghost test = { λ t. role_has_needed_part t.layout.now };
 
     fn passes(&self, role: &Role) -> bool {
         is_there(*role, self.layout.parts.as_slice())
@@ -118,8 +118,8 @@ pub(crate) fn is_fixed_static(kind: OutputKind) -> bool
 }
 
 /// The place of the dynamic section's role, if there is such a part and must be none.
-fn dynamic_unasked(layout: &Layout) -> Option<usize>
-    ensures { result ≡ dynamic_unasked layout.now }
+fn unexpected_dynamic(layout: &Layout) -> Option<usize>
+    ensures { result ≡ unexpected_dynamic layout.now }
 {
     if is_fixed_static(layout.kind) && is_there(Role::Dynamic, layout.parts.as_slice()) {
         Some(place_of(Role::Dynamic))
@@ -129,8 +129,8 @@ fn dynamic_unasked(layout: &Layout) -> Option<usize>
 }
 
 /// Whether a part begins where another ends, in the file and in memory.
-fn begins_behind(before: Option<Part>, part: &Part) -> bool
-    ensures { result ≡ begins_behind before part.now }
+fn begins_at_end_of(before: Option<Part>, part: &Part) -> bool
+    ensures { result ≡ begins_at_end_of before part.now }
 {
     match before {
         Some(before) => {
@@ -153,23 +153,26 @@ impl Test<Part> for EntriesFollow<'_> {
 
     fn passes(&self, part: &Part) -> bool {
         !has_role(Role::RelaDynGeneral, part)
-            || begins_behind(part_with(Role::RelaDynRelative, self.parts), part)
+            || begins_at_end_of(part_with(Role::RelaDynRelative, self.parts), part)
     }
 }
 
 /// If `inside` is set, the inner groups contribute to no table.
-#[tactic(auto, unfolding(crate::specs::ClauseTests::check_roles))]
+#[tactic(auto, unfolding(wild_plan_rules::specs::ClauseTests::check_roles))]
 pub(crate) fn check_roles(layout: &Layout, inside: bool) -> Result<(), Clause>
-    requires { inside ≡ is_bare_inside layout.now }
+    requires { inside ≡ inner_groups_need_no_tables layout.now }
     ensures { result ≡ check_roles layout.now }
 {
     let parts = layout.parts.as_slice();
-    fails(4, role_again(parts))?;
+    fails(4, repeated_role(parts))?;
     fails(4, role_not_at(Role::FileHeader, 0, parts))?;
     fails(4, role_missing(Role::SectionHeaders, parts))?;
     fails(4, role_missing(Role::Shstrtab, parts))?;
     fails(4, program_headers_astray(layout))?;
     fails(4, first_failing(&EntriesFollow { parts }, parts))?;
-    fails(4, first_failing(&RoleGiven { layout, inside }, &ROLES))?;
-    fails(4, dynamic_unasked(layout))
+    fails(
+        4,
+        first_failing(&RoleHasNeededPart { layout, inside }, &ROLES),
+    )?;
+    fails(4, unexpected_dynamic(layout))
 }

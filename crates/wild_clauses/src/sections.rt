@@ -1,7 +1,7 @@
 //! Clause 5: parts in sections.
 ghost use Rattle.std.specs.Prelude.{◌≡◌};
-ghost use Rattle.wild_clauses.specs.Places.{first_section_is_null, within, lies_in, part_lies, stands_loaded, takes_room};
-ghost use Rattle.wild_clauses.specs.ClauseTests.{check_sections};
+ghost use Rattle.wild_plan_rules.specs.Places.{first_section_is_null, within, lies_in, part_lies, is_in_loaded_section, takes_room};
+ghost use Rattle.wild_plan_rules.specs.ClauseTests.{check_sections};
 
 use crate::verdict::{fails, unless};
 use wild_records::abi::section::SHT_NULL;
@@ -59,12 +59,12 @@ impl Test<Part> for PartLies<'_> {
 
 /// A part that a loader or the program reads is in an allocated section with data.
 #[derive(Clone, Copy)]
-struct StandsLoaded<'a> {
+struct IsInLoadedSection<'a> {
     layout: &'a Layout,
 }
 
-impl Test<Part> for StandsLoaded<'_> {
-    ghost test = { λ t. stands_loaded t.layout.now };
+impl Test<Part> for IsInLoadedSection<'_> {
+    ghost test = { λ t. is_in_loaded_section t.layout.now };
 
     fn passes(&self, part: &Part) -> bool {
         let layout = self.layout;
@@ -90,13 +90,13 @@ impl Test<Part> for TakesRoom<'_> {
     }
 }
 
-#[tactic(auto, unfolding(crate::specs::ClauseTests::check_sections))]
+#[tactic(auto, unfolding(wild_plan_rules::specs::ClauseTests::check_sections))]
 pub(crate) fn check_sections(layout: &Layout) -> Result<(), Clause>
     ensures { result ≡ check_sections layout.now }
 {
     let parts = layout.parts.as_slice();
     fails(5, unless(first_section_is_null(layout.sections.as_slice())))?;
     fails(5, first_failing(&PartLies { layout }, parts))?;
-    fails(5, first_failing(&StandsLoaded { layout }, parts))?;
+    fails(5, first_failing(&IsInLoadedSection { layout }, parts))?;
     fails(5, first_failing(&TakesRoom { layout }, parts))
 }

@@ -1,19 +1,20 @@
 //! Clause 6: segments.
 ghost use Rattle.std.specs.Prelude.{◌≡◌};
-ghost use Rattle.wild_clauses.specs.Places.{loaded_sections};
-ghost use Rattle.wild_clauses.specs.Segments.{stands_behind, segment_out_of_order, leaves_zero_free, segment_in_image};
-ghost use Rattle.wild_clauses.specs.ClauseTests.{check_segments};
+ghost use Rattle.wild_plan_rules.specs.Places.{loaded_sections};
+ghost use Rattle.wild_plan_rules.specs.Segments.{segment_follows, segment_out_of_order, leaves_zero_free, segment_in_image};
+ghost use Rattle.wild_plan_rules.specs.ClauseTests.{check_segments};
 
 use crate::entries::{check_entries, dynamic_astray, table_not_loaded};
-use crate::loaded::{Side, not_loaded};
+use crate::loaded_bytes::not_loaded;
 use crate::verdict::fails;
+use wild_plan_rules::ImageOrMemory;
 use wild_records::abi::segment::PT_LOAD;
 use wild_types::{
-    Clause, Layout, OutputKind, Section, Segment, Test, behind_first, first_failing, wide_sum,
+    Clause, Layout, OutputKind, Section, Segment, Test, all_but_first, first_failing, wide_sum,
 };
 
-fn stands_behind(page: u64, end: u128, segment: &Segment) -> bool
-    ensures { result ≡ stands_behind page end segment.now }
+fn segment_follows(page: u64, end: u128, segment: &Segment) -> bool
+    ensures { result ≡ segment_follows page end segment.now }
 {
     end <= u128::from(segment.address)
         && segment.file_size <= segment.mem_size
@@ -27,7 +28,7 @@ fn segment_out_of_order(page: u64, segments: &[Segment]) -> Option<usize>
     let mut end: u128 = 0;
     for (i, segment) in segments.iter().enumerate() {
         if segment.kind == PT_LOAD {
-            if !stands_behind(page, end, segment) {
+            if !segment_follows(page, end, segment) {
                 return Some(i);
             }
             end = wide_sum(segment.address, segment.mem_size);
@@ -74,11 +75,11 @@ fn loaded_sections(layout: &Layout) -> &[Section]
     if layout.kind.is_partial_link() {
         &[]
     } else {
-        behind_first(layout.sections.as_slice())
+        all_but_first(layout.sections.as_slice())
     }
 }
 
-#[tactic(auto, unfolding(crate::specs::ClauseTests::check_segments))]
+#[tactic(auto, unfolding(wild_plan_rules::specs::ClauseTests::check_segments))]
 pub(crate) fn check_segments(layout: &Layout) -> Result<(), Clause>
     ensures { result ≡ check_segments layout.now }
 {
@@ -88,9 +89,15 @@ pub(crate) fn check_segments(layout: &Layout) -> Result<(), Clause>
     let kind = layout.kind;
     let size = layout.image_end();
     fails(6, segment_out_of_order(page, segments))?;
-    fails(6, not_loaded(Side::Memory, layout, segments, later, page))?;
+    fails(
+        6,
+        not_loaded(ImageOrMemory::Memory, layout, segments, later, page),
+    )?;
     fails(6, first_failing(&LeavesZeroFree { kind }, segments))?;
-    fails(6, not_loaded(Side::File, layout, segments, later, page))?;
+    fails(
+        6,
+        not_loaded(ImageOrMemory::File, layout, segments, later, page),
+    )?;
     fails(6, first_failing(&SegmentInImage { size }, segments))?;
     fails(6, dynamic_astray(layout, segments))?;
     check_entries(layout)?;

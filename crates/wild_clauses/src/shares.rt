@@ -1,14 +1,14 @@
 //! Clause 7: shares, prelude and epilogue.
 ghost use Rattle.std.specs.Prelude.{◌≡◌, true};
 ghost use Rattle.wild_types.specs.Lists.{total};
-ghost use Rattle.wild_types.specs.FilePlaces.{given, file_placed, later_placed, files_placed, file_misplaced};
-ghost use Rattle.wild_needs.specs.Needs.{is_bare_inside};
+ghost use Rattle.wild_types.specs.FilePlaces.{given, file_position_fits, later_positions_fit, group_positions_fit, first_misplaced_file};
+ghost use Rattle.wild_needs.specs.Needs.{inner_groups_need_no_tables};
 ghost use Rattle.wild_clauses.specs.Roles.{ends_misplaced};
-ghost use Rattle.wild_clauses.specs.Contents.{share_mismatch, has_share_for_each_part};
-ghost use Rattle.wild_clauses.specs.ClauseTests.{check_shares};
-ghost use Rattle.wild_clauses.specs.Passed.{groups_pass};
+ghost use Rattle.wild_plan_rules.specs.Contents.{share_mismatch, has_share_for_each_part};
+ghost use Rattle.wild_plan_rules.specs.ClauseTests.{check_shares};
+ghost use Rattle.wild_clauses.specs.FileTests.{groups_pass};
 
-use crate::passed::failing;
+use crate::survey::failing;
 use crate::verdict::fails;
 use wild_types::{Clause, File, Group, Layout, Part, Test};
 
@@ -47,39 +47,40 @@ impl Test<Group> for HasShareForEachPart {
     }
 }
 
-fn file_placed(first: bool, last: bool, file: &File) -> bool
-    ensures { result ≡ file_placed first last file.now }
+fn file_position_fits(first: bool, last: bool, file: &File) -> bool
+    ensures { result ≡ file_position_fits first last file.now }
 {
     file.role.is_prelude() == first && file.role.is_epilogue() == last
 }
 
-fn later_placed(last: bool, files: &[File]) -> bool
-    ensures { result ≡ later_placed last files.now }
+fn later_positions_fit(last: bool, files: &[File]) -> bool
+    ensures { result ≡ later_positions_fit last files.now }
 {
     for (i, file) in files.iter().enumerate() {
-        if !file_placed(false, last && i + 1 == files.len(), file) {
+        if !file_position_fits(false, last && i + 1 == files.len(), file) {
             return false;
         }
     }
     true
 }
 
-fn files_placed(first: bool, last: bool, files: &[File]) -> bool
-    ensures { result ≡ files_placed first last files.now }
+fn group_positions_fit(first: bool, last: bool, files: &[File]) -> bool
+    ensures { result ≡ group_positions_fit first last files.now }
 {
     match files {
         [] => !first && !last,
         [file, later @ ..] => {
-            file_placed(first, last && later.is_empty(), file) && later_placed(last, later)
+            file_position_fits(first, last && later.is_empty(), file)
+                && later_positions_fit(last, later)
         }
     }
 }
 
-fn file_misplaced(groups: &[Group]) -> Option<usize>
-    ensures { result ≡ file_misplaced true 0 groups.now }
+fn first_misplaced_file(groups: &[Group]) -> Option<usize>
+    ensures { result ≡ first_misplaced_file true 0 groups.now }
 {
     for (i, group) in groups.iter().enumerate() {
-        if !files_placed(i == 0, i + 1 == groups.len(), group.files.as_slice()) {
+        if !group_positions_fit(i == 0, i + 1 == groups.len(), group.files.as_slice()) {
             return Some(i);
         }
     }
@@ -90,9 +91,9 @@ fn file_misplaced(groups: &[Group]) -> Option<usize>
 fn ends_misplaced(first: &Group, last: &Group, place: usize) -> Option<usize>
     ensures { result ≡ ends_misplaced first.now last.now place }
 {
-    if !files_placed(true, false, first.files.as_slice()) {
+    if !group_positions_fit(true, false, first.files.as_slice()) {
         Some(0)
-    } else if !files_placed(false, true, last.files.as_slice()) {
+    } else if !group_positions_fit(false, true, last.files.as_slice()) {
         Some(place)
     } else {
         None
@@ -101,20 +102,20 @@ fn ends_misplaced(first: &Group, last: &Group, place: usize) -> Option<usize>
 
 /// The first group with a misplaced file. If `inside` is set, no file of the inner groups must be the first or the last of all.
 fn first_misplaced(layout: &Layout, inside: bool) -> Option<usize>
-    requires { inside ≡ is_bare_inside layout.now }
-    ensures { result ≡ file_misplaced true 0 layout.now.groups }
+    requires { inside ≡ inner_groups_need_no_tables layout.now }
+    ensures { result ≡ first_misplaced_file true 0 layout.now.groups }
 {
     let groups = layout.groups.as_slice();
     match groups {
         [first, .., last] if inside => ends_misplaced(first, last, groups.len() - 1),
-        _ => file_misplaced(groups),
+        _ => first_misplaced_file(groups),
     }
 }
 
-#[tactic(auto, using(crate::proofs::PassedLemmas::shares_pass), unfolding(crate::specs::ClauseTests::check_shares))]
+#[tactic(auto, using(crate::proofs::PassedLemmas::shares_pass), unfolding(wild_plan_rules::specs::ClauseTests::check_shares))]
 pub(crate) fn check_shares(layout: &Layout, passed: bool, inside: bool) -> Result<(), Clause>
     requires passed { passed ≡ groups_pass layout.now }
-    requires inside { inside ≡ is_bare_inside layout.now }
+    requires inside { inside ≡ inner_groups_need_no_tables layout.now }
     ensures { result ≡ check_shares layout.now }
 {
     let groups = layout.groups.as_slice();

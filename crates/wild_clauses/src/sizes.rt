@@ -2,17 +2,17 @@
 ghost use Rattle.std.specs.Prelude.{◌≡◌};
 ghost use Rattle.std.specs.List.{list_all};
 ghost use Rattle.wild_types.specs.Lists.{first_failing};
-ghost use Rattle.wild_clauses.specs.Places.{ends_low, zero_or_power, part_fits, section_fits, first_section_fits, section_misfit, segment_fits, group_fits};
+ghost use Rattle.wild_plan_rules.specs.Places.{ends_low, zero_or_power, part_fits, section_fits, first_section_fits, section_misfit, segment_fits, group_fits};
 ghost use Rattle.wild_types.specs.declared.file.File.{File};
 ghost use Rattle.wild_types.specs.declared.input.InputSection.{InputSection};
-ghost use Rattle.wild_clauses.specs.ClauseTests.{check_sizes};
-ghost use Rattle.wild_clauses.specs.Passed.{groups_pass};
+ghost use Rattle.wild_plan_rules.specs.ClauseTests.{check_sizes};
+ghost use Rattle.wild_clauses.specs.FileTests.{groups_pass};
 
-use crate::passed::failing;
+use crate::survey::failing;
 use crate::verdict::{fails, unless};
 use wild_types::{
-    Clause, File, Group, InputSection, Layout, Part, Section, Segment, Test, all_pass,
-    behind_first, first_failing, wide_sum,
+    Clause, File, Group, InputSection, Layout, Part, Section, Segment, Test, all_but_first,
+    all_pass, first_failing, wide_sum,
 };
 
 fn ends_low(start: u64, size: u64) -> bool
@@ -106,11 +106,11 @@ fn section_misfit(sections: &[Section]) -> Option<usize>
 {
     match sections {
         [first, ..] if !first_section_fits(first) => Some(0),
-        _ => later_section_misfit(behind_first(sections)),
+        _ => later_section_misfit(all_but_first(sections)),
     }
 }
 
-#[tactic(auto, using(crate::proofs::PassedLemmas::sizes_pass), unfolding(crate::specs::ClauseTests::check_sizes))]
+#[tactic(auto, using(crate::proofs::PassedLemmas::sizes_pass), unfolding(wild_plan_rules::specs::ClauseTests::check_sizes))]
 pub(crate) fn check_sizes(layout: &Layout, passed: bool) -> Result<(), Clause>
     requires passed { passed ≡ groups_pass layout.now }
     ensures { result ≡ check_sizes layout.now }

@@ -1,9 +1,9 @@
 //! Clause 14: a symbol's flags agree with its slots and its stub.
 ghost use Rattle.std.specs.Prelude.{◌≡◌};
 ghost use Rattle.wild_types.specs.SymbolSlots.{got_of, plt_of, has_dynamic_symbol, has_thread_slot};
-ghost use Rattle.wild_clauses.specs.SlotFlags.{is_asked, first_asked_failing, dynamic_is_interposable, is_value, stub_is_value, stub_has_slot, one_slot_for_address, thread_slot_alone, resolver_is_own, slot_agrees, resolver_moves, takes_block_word, second_slot_fits, is_plain, agrees_in_all};
+ghost use Rattle.wild_plan_rules.specs.SlotFlags.{is_tested, first_tested_failing, dynamic_is_interposable, is_value, stub_is_value, stub_has_slot, one_slot_for_address, thread_slot_alone, resolver_is_own, slot_agrees, resolver_moves, takes_block_word, second_slot_fits, is_plain, agrees_in_all};
 ghost use Rattle.wild_clauses.specs.Survey.{is_simple, are_simple};
-ghost use Rattle.wild_clauses.specs.ClauseTests.{check_slot_flags};
+ghost use Rattle.wild_plan_rules.specs.ClauseTests.{check_slot_flags};
 
 use crate::verdict::fails;
 use wild_needs::dynsym_of;
@@ -192,18 +192,18 @@ impl Test<Symbol> for AgreesInAll<'_> {
 }
 
 /// Whether the symbol of that number is tested: no other symbol defines it, or it has a resolution of its own.
-fn is_asked(layout: &Layout, number: usize, symbol: &Symbol) -> bool
-    ensures { result ≡ is_asked layout.now number symbol.now }
+fn is_tested(layout: &Layout, number: usize, symbol: &Symbol) -> bool
+    ensures { result ≡ is_tested layout.now number symbol.now }
 {
     layout.canonical(SymbolIndex(number)).0 == number || symbol.resolution.is_some()
 }
 
 /// The place of the first tested symbol that fails the test.
-fn first_asked_failing<C: Test<Symbol>>(layout: &Layout, test: &C) -> Option<usize>
-    ensures { result ≡ first_asked_failing layout.now (C.test test.now) 0 layout.now.symbols }
+fn first_tested_failing<C: Test<Symbol>>(layout: &Layout, test: &C) -> Option<usize>
+    ensures { result ≡ first_tested_failing layout.now (C.test test.now) 0 layout.now.symbols }
 {
     for (i, symbol) in layout.symbols.as_slice().iter().enumerate() {
-        if !test.passes(symbol) && is_asked(layout, i, symbol) {
+        if !test.passes(symbol) && is_tested(layout, i, symbol) {
             return Some(i);
         }
     }
@@ -230,7 +230,7 @@ pub(crate) fn are_simple(layout: &Layout) -> bool
 }
 
 /// The tests run one by one only if a symbol fails one of them, and none runs if all symbols are simple.
-#[tactic(auto, using(crate::proofs::FlagLemmas::flags_agree, crate::proofs::SimpleLemmas::simple_agree), unfolding(crate::specs::ClauseTests::check_slot_flags))]
+#[tactic(auto, using(crate::proofs::FlagLemmas::flags_agree, crate::proofs::SimpleLemmas::simple_agree), unfolding(wild_plan_rules::specs::ClauseTests::check_slot_flags))]
 pub(crate) fn check_slot_flags(layout: &Layout, simple: bool) -> Result<(), Clause>
     requires { simple ≡ are_simple layout.now.symbols }
     ensures { result ≡ check_slot_flags layout.now }
@@ -238,16 +238,16 @@ pub(crate) fn check_slot_flags(layout: &Layout, simple: bool) -> Result<(), Clau
     if simple {
         return Ok(());
     }
-    if first_asked_failing(layout, &AgreesInAll { layout }).is_none() {
+    if first_tested_failing(layout, &AgreesInAll { layout }).is_none() {
         return Ok(());
     }
-    fails(14, first_asked_failing(layout, &DynamicIsInterposable))?;
-    fails(14, first_asked_failing(layout, &StubIsValue))?;
-    fails(14, first_asked_failing(layout, &StubHasSlot))?;
-    fails(14, first_asked_failing(layout, &OneSlotForAddress))?;
-    fails(14, first_asked_failing(layout, &ThreadSlotAlone))?;
-    fails(14, first_asked_failing(layout, &ResolverIsOwn))?;
-    fails(14, first_asked_failing(layout, &SlotAgrees))?;
-    fails(14, first_asked_failing(layout, &ResolverMoves))?;
-    fails(14, first_asked_failing(layout, &SecondSlotFits { layout }))
+    fails(14, first_tested_failing(layout, &DynamicIsInterposable))?;
+    fails(14, first_tested_failing(layout, &StubIsValue))?;
+    fails(14, first_tested_failing(layout, &StubHasSlot))?;
+    fails(14, first_tested_failing(layout, &OneSlotForAddress))?;
+    fails(14, first_tested_failing(layout, &ThreadSlotAlone))?;
+    fails(14, first_tested_failing(layout, &ResolverIsOwn))?;
+    fails(14, first_tested_failing(layout, &SlotAgrees))?;
+    fails(14, first_tested_failing(layout, &ResolverMoves))?;
+    fails(14, first_tested_failing(layout, &SecondSlotFits { layout }))
 }

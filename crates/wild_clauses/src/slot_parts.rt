@@ -1,5 +1,5 @@
 //! Clause 11: slots have addresses that are multiples of 8; there is a block of slots only if addresses are packed (RELR).
-ghost use Rattle.wild_clauses.specs.SlotPlaces.{slot_is_even, block_is_asked, block_has_base};
+ghost use Rattle.wild_plan_rules.specs.SlotPlaces.{slot_is_even, block_needs_relr, block_has_base};
 
 use wild_slot::WORD_SIZE;
 use wild_types::{Layout, Part, Role, Symbol, Test, got_of, has_role};
@@ -20,12 +20,12 @@ impl Test<Symbol> for SlotIsEven {
 
 /// The part of the block exists only if addresses are packed.
 #[derive(Clone, Copy)]
-pub(crate) struct BlockIsAsked<'a> {
+pub(crate) struct BlockNeedsRelr<'a> {
     pub(crate) layout: &'a Layout,
 }
 
-impl Test<Part> for BlockIsAsked<'_> {
-    ghost test = { λ t. block_is_asked t.layout.now };
+impl Test<Part> for BlockNeedsRelr<'_> {
+    ghost test = { λ t. block_needs_relr t.layout.now };
 
     fn passes(&self, part: &Part) -> bool {
         !has_role(Role::GotRelr, part) || self.layout.options.relr

@@ -1,20 +1,11 @@
 //! Clause 16: where a group's strings, frames and symbols begin.
 ghost use Rattle.std.specs.Prelude.{ℕ, true, ◌≡◌, ◌+◌, ◌-◌, ◌*◌, ◌^◌, ◌≤◌};
-ghost use Rattle.wild_clauses.specs.GroupStarts.{AreBelow, given_at, place_with, start_places, no_starts, nowhere, starts_behind, begins_at, start_astray};
-ghost use Rattle.wild_clauses.specs.ClauseTests.{check_starts};
+ghost use Rattle.wild_plan_rules.specs.GroupStarts.{AreBelow, group_share_at, place_with, start_places, no_starts, no_start_places, starts_after_group, begins_at, start_astray};
+ghost use Rattle.wild_plan_rules.specs.ClauseTests.{check_starts};
 
 use crate::verdict::fails;
+use wild_plan_rules::Starts;
 use wild_types::{Clause, Group, Layout, Part, Role, Test, first_failing, has_role};
-
-/// One value for each part whose shares have a start.
-#[derive(Clone, Copy)]
-pub struct Starts<T> {
-    pub dynstr: T,
-    pub strtab: T,
-    pub frames: T,
-    pub locals: T,
-    pub globals: T,
-}
 
 /// The place of the part of a role.
 fn place_with(role: Role, parts: &[Part]) -> Option<usize>
@@ -42,8 +33,8 @@ fn start_places(parts: &[Part]) -> Starts<Option<usize>>
 }
 
 /// The group's bytes in the part at that place; 0 without a place.
-fn given_at(part: Option<usize>, group: &Group) -> u64
-    ensures { result ≡ given_at part group.now }
+fn group_share_at(part: Option<usize>, group: &Group) -> u64
+    ensures { result ≡ group_share_at part group.now }
 {
     match part {
         Some(part) => group.given(part),
@@ -52,26 +43,30 @@ fn given_at(part: Option<usize>, group: &Group) -> u64
 }
 
 /// Where the group's share of a part ends.
-fn end_behind(from: u128, part: Option<usize>, group: &Group) -> u128
+fn end_of_share(from: u128, part: Option<usize>, group: &Group) -> u128
     requires { from ≤ (2 ^ 64 - 1) * 2 ^ 64 }
-    ensures is { result ≡ from + given_at part group.now }
+    ensures is { result ≡ from + group_share_at part group.now }
     ensures small { result ≤ from + 2 ^ 64 }
 {
-    from + u128::from(given_at(part, group))
+    from + u128::from(group_share_at(part, group))
 }
 
 /// Where the group's shares end.
-fn starts_behind(places: Starts<Option<usize>>, from: Starts<u128>, group: &Group) -> Starts<u128>
+fn starts_after_group(
+    places: Starts<Option<usize>>,
+    from: Starts<u128>,
+    group: &Group,
+) -> Starts<u128>
     requires { AreBelow ((2 ^ 64 - 1) * 2 ^ 64) from }
-    ensures is { result ≡ starts_behind places from group.now }
+    ensures is { result ≡ starts_after_group places from group.now }
     ensures small { (n : ℕ) → AreBelow (n * 2 ^ 64) from → AreBelow ((n + 1) * 2 ^ 64) result }
 {
     Starts {
-        dynstr: end_behind(from.dynstr, places.dynstr, group),
-        strtab: end_behind(from.strtab, places.strtab, group),
-        frames: end_behind(from.frames, places.frames, group),
-        locals: end_behind(from.locals, places.locals, group),
-        globals: end_behind(from.globals, places.globals, group),
+        dynstr: end_of_share(from.dynstr, places.dynstr, group),
+        strtab: end_of_share(from.strtab, places.strtab, group),
+        frames: end_of_share(from.frames, places.frames, group),
+        locals: end_of_share(from.locals, places.locals, group),
+        globals: end_of_share(from.globals, places.globals, group),
     }
 }
 
@@ -107,14 +102,14 @@ fn start_astray(places: Starts<Option<usize>>, groups: &[Group]) -> Option<usize
         if !begins_at(from, group) {
             return Some(i);
         }
-        from = starts_behind(places, from, group);
+        from = starts_after_group(places, from, group);
     }
     None
 }
 
 /// Whether none of these parts exists.
-fn is_nowhere(places: Starts<Option<usize>>) -> bool
-    ensures { result ≡ true → places ≡ nowhere }
+fn has_no_start_place(places: Starts<Option<usize>>) -> bool
+    ensures { result ≡ true → places ≡ no_start_places }
 {
     match places {
         Starts {
@@ -145,14 +140,14 @@ impl Test<Group> for BeginsAtFront {
 fn first_astray(places: Starts<Option<usize>>, groups: &[Group]) -> Option<usize>
     ensures { result ≡ start_astray places no_starts 0 groups.now }
 {
-    if is_nowhere(places) {
+    if has_no_start_place(places) {
         first_failing(&BeginsAtFront, groups)
     } else {
         start_astray(places, groups)
     }
 }
 
-#[tactic(auto, unfolding(crate::specs::ClauseTests::check_starts))]
+#[tactic(auto, unfolding(wild_plan_rules::specs::ClauseTests::check_starts))]
 pub(crate) fn check_starts(layout: &Layout) -> Result<(), Clause>
     ensures { result ≡ check_starts layout.now }
 {

@@ -1,12 +1,12 @@
 //! Clause 15: thread-local data.
 ghost use Rattle.std.specs.Prelude.{◌≡◌};
-ghost use Rattle.wild_clauses.specs.ClauseTests.{check_tls};
+ghost use Rattle.wild_plan_rules.specs.ClauseTests.{check_tls};
 
 use crate::order::multiple_of;
 use crate::verdict::{fails, unless};
 use wild_types::{Clause, Layout, Machine};
 
-#[tactic(auto, unfolding(crate::specs::ClauseTests::check_tls))]
+#[tactic(auto, unfolding(wild_plan_rules::specs::ClauseTests::check_tls))]
 pub(crate) fn check_tls(layout: &Layout) -> Result<(), Clause>
     ensures { result ≡ check_tls layout.now }
 {

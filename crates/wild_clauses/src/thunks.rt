@@ -1,15 +1,15 @@
 //! Clause 12: addresses of thunks.
 ghost use Rattle.std.specs.Prelude.{◌≡◌, ◌+◌, ◌*◌, ◌^◌, ◌<◌, ◌≤◌, length, IfOk, Some};
 ghost use Rattle.std.specs.List.{list_any};
-ghost use Rattle.wild_laid.specs.Laid.{sorted_input};
-ghost use Rattle.wild_clauses.specs.Ordered.{as_ordered, sections_of, ordered};
-ghost use Rattle.wild_clauses.specs.SlotPlaces.{walk};
-ghost use Rattle.wild_clauses.specs.Thunks.{has_thunks, ascends_from, ascends, next_code, stand_from, behind_thunks, block_step, section_step, bytes_step, standing, file_step, misplaced_from, misplaced_in, thunks_misplaced, owns, is_owned, block_lost, machine_takes};
-ghost use Rattle.wild_clauses.specs.ClauseTests.{check_thunks};
+ghost use Rattle.wild_placement.specs.PlacedSections.{sorted_input};
+ghost use Rattle.wild_clauses.specs.SortedOrder.{sorted_as_loaded, sections_of, sections_by_order};
+ghost use Rattle.wild_plan_rules.specs.SlotPlaces.{walk};
+ghost use Rattle.wild_plan_rules.specs.Thunks.{has_thunks, ascends_from, ascends, next_code, are_consecutive_from, end_of_thunks, block_step, section_step, bytes_step, sections_in_ranges, file_step, misplaced_from, misplaced_in, thunks_misplaced, owns, is_owned, block_lost, machine_takes};
+ghost use Rattle.wild_plan_rules.specs.ClauseTests.{check_thunks};
 
-use crate::sorted::has_ordered_bytes;
+use crate::sorted_sections::has_ordered_bytes;
 use crate::verdict::fails;
-use wild_laid::sorted_input;
+use wild_placement::sorted_input;
 use wild_types::{
     Clause, File, Group, InputSection, Layout, Machine, Part, SortedSection, Test, Thunk,
     first_failing, wide_sum,
@@ -57,9 +57,9 @@ impl Test<Items<Thunk>> for Ascends {
 }
 
 /// Whether consecutive thunks begin at a place.
-fn stand_from(at: u128, thunks: &[Thunk]) -> bool
+fn are_consecutive_from(at: u128, thunks: &[Thunk]) -> bool
     requires { at < 2 ^ 127 }
-    ensures { result ≡ stand_from at thunks.now }
+    ensures { result ≡ are_consecutive_from at thunks.now }
 {
     let mut at = at;
     for thunk in thunks {
@@ -72,13 +72,13 @@ fn stand_from(at: u128, thunks: &[Thunk]) -> bool
 }
 
 /// The place after consecutive thunks that begin at a place and end at `end` or before; else the number of their block.
-fn behind_thunks(block: usize, end: u128, at: u128, thunks: &[Thunk]) -> Result<u128, usize>
+fn end_of_thunks(block: usize, end: u128, at: u128, thunks: &[Thunk]) -> Result<u128, usize>
     requires { at < 2 ^ 127 }
-    ensures is { result ≡ behind_thunks block end at thunks.now }
+    ensures is { result ≡ end_of_thunks block end at thunks.now }
     ensures small { IfOk result (λ n. n ≤ end) }
 {
     let behind = at + THUNK_SIZE * thunks.len() as u128;
-    if stand_from(at, thunks) && behind <= end {
+    if are_consecutive_from(at, thunks) && behind <= end {
         Ok(behind)
     } else {
         Err(block)
@@ -95,7 +95,7 @@ fn block_step(block: usize, end: u128, at: u128, thunks: &[Thunk]) -> Result<u12
     if thunks.is_empty() {
         return Ok(at);
     }
-    behind_thunks(block, end, (at + 3) / 4 * 4, thunks)
+    end_of_thunks(block, end, (at + 3) / 4 * 4, thunks)
 }
 
 /// The place after a section with bytes, if the section is in the primary part; the number of its group if the section begins
@@ -126,7 +126,7 @@ fn section_step(
     ensures is { result ≡ section_step layout.now group at section.now }
     ensures small { IfOk result (λ n. n ≤ 2 ^ 65) }
 {
-    if !section.is_given(layout) {
+    if !section.has_range_bytes(layout) {
         return Ok(at);
     }
     step_bytes(layout.primary_part, group, at, section)
@@ -141,7 +141,7 @@ fn ordered_step(
     section: &InputSection,
 ) -> Result<u128, usize>
     requires { at ≤ 2 ^ 65 }
-    ensures is { result ≡ section_step layout.now group at (as_ordered layout.now section.now) }
+    ensures is { result ≡ section_step layout.now group at (sorted_as_loaded layout.now section.now) }
     ensures small { IfOk result (λ n. n ≤ 2 ^ 65) }
 {
     if !has_ordered_bytes(layout, section) {
@@ -151,7 +151,7 @@ fn ordered_step(
 }
 
 /// The same for the section that an entry of the order names.
-#[tactic(auto, using(crate::proofs::OrderedLemmas::then_ok), unfolding(crate::specs::SlotPlaces::walk))]
+#[tactic(auto, using(crate::proofs::OrderedLemmas::then_ok), unfolding(wild_plan_rules::specs::SlotPlaces::walk))]
 fn step_entry(layout: &Layout, group: usize, at: u128, entry: SortedSection) -> Result<u128, usize>
     requires { at ≤ 2 ^ 65 }
     ensures is { result ≡ walk (section_step layout.now group) at (sections_of (sorted_input layout.now entry)) }
@@ -164,7 +164,7 @@ fn step_entry(layout: &Layout, group: usize, at: u128, entry: SortedSection) -> 
 }
 
 /// The same for some entries of the order.
-#[tactic(auto, unfolding(crate::specs::SlotPlaces::walk))]
+#[tactic(auto, unfolding(wild_plan_rules::specs::SlotPlaces::walk))]
 fn walk_order(
     layout: &Layout,
     group: usize,
@@ -172,7 +172,7 @@ fn walk_order(
     order: &[SortedSection],
 ) -> Result<u128, usize>
     requires { at ≤ 2 ^ 65 }
-    ensures is { result ≡ walk (section_step layout.now group) at (ordered layout.now order.now) }
+    ensures is { result ≡ walk (section_step layout.now group) at (sections_by_order layout.now order.now) }
     ensures small { IfOk result (λ n. n ≤ 2 ^ 65) }
 {
     let mut at = at;
@@ -183,7 +183,7 @@ fn walk_order(
 }
 
 /// The same for some sections.
-#[tactic(auto, unfolding(crate::specs::SlotPlaces::walk))]
+#[tactic(auto, unfolding(wild_plan_rules::specs::SlotPlaces::walk))]
 fn walk_sections(
     layout: &Layout,
     group: usize,
@@ -202,10 +202,15 @@ fn walk_sections(
 }
 
 /// The place after the sections of a file, and for the last file after the sorted ones.
-#[tactic(auto, using(crate::proofs::OrderedLemmas::walk_standing), unfolding(crate::specs::SlotPlaces::walk))]
-fn walk_standing(layout: &Layout, group: usize, at: u128, file: &File) -> Result<u128, usize>
+#[tactic(auto, using(crate::proofs::OrderedLemmas::walk_sections_in_ranges), unfolding(wild_plan_rules::specs::SlotPlaces::walk))]
+fn walk_sections_in_ranges(
+    layout: &Layout,
+    group: usize,
+    at: u128,
+    file: &File,
+) -> Result<u128, usize>
     requires { at ≤ 2 ^ 65 }
-    ensures is { result ≡ walk (section_step layout.now group) at (standing layout.now file.now) }
+    ensures is { result ≡ walk (section_step layout.now group) at (sections_in_ranges layout.now file.now) }
     ensures small { IfOk result (λ n. n ≤ 2 ^ 65) }
 {
     let at = walk_sections(layout, group, at, file.sections.as_slice())?;
@@ -222,12 +227,12 @@ fn file_step(layout: &Layout, group: usize, end: u128, at: u128, file: &File) ->
     ensures is { result ≡ file_step layout.now group end at file.now }
     ensures small { IfOk result (λ n. n ≤ 2 ^ 65) }
 {
-    let at = walk_standing(layout, group, at, file)?;
+    let at = walk_sections_in_ranges(layout, group, at, file)?;
     block_step(file.thunk_block, end, at, layout.thunks_of(file))
 }
 
 /// The same for some files.
-#[tactic(auto, unfolding(crate::specs::SlotPlaces::walk))]
+#[tactic(auto, unfolding(wild_plan_rules::specs::SlotPlaces::walk))]
 fn walk_files(
     layout: &Layout,
     group: usize,
@@ -333,7 +338,7 @@ impl Test<Items<Thunk>> for MachineTakes {
     }
 }
 
-#[tactic(auto, unfolding(crate::specs::ClauseTests::check_thunks))]
+#[tactic(auto, unfolding(wild_plan_rules::specs::ClauseTests::check_thunks))]
 pub(crate) fn check_thunks(layout: &Layout) -> Result<(), Clause>
     ensures { result ≡ check_thunks layout.now }
 {

@@ -1,11 +1,10 @@
 //! Whether a layout is well formed: its clauses, in their order.
 ghost use Rattle.std.specs.Prelude.{◌≡◌};
 ghost use Rattle.wild_types.specs.Lists.{unless};
-ghost use Rattle.wild_clauses.specs.ClauseTests.{fails};
-ghost use Rattle.wild_clauses.specs.WellFormed.{first_clause};
-ghost use Rattle.wild_clauses.specs.Seen.{IsSeen};
+ghost use Rattle.wild_plan_rules.specs.ClauseTests.{fails};
+ghost use Rattle.wild_plan_rules.specs.WellFormed.{first_clause};
+ghost use Rattle.wild_clauses.specs.LayoutSurvey.{IsLayoutSurvey};
 
-use crate::astray::all_ranges_lie;
 use crate::counts::check_counts;
 use crate::dynsyms::check_dynsyms;
 use crate::fields::check_fields;
@@ -13,19 +12,19 @@ use crate::fronts::{check_fronts, check_reversed};
 use crate::hashes::check_hashes;
 use crate::indexes::check_indexes;
 use crate::inputs::check_inputs;
-use crate::loaded::Side;
+use crate::layout_survey::LayoutSurvey;
 use crate::names::check_names;
 use crate::order::check_order;
 use crate::partial::check_partial;
 use crate::roles::check_roles;
 use crate::sections::check_sections;
-use crate::seen::Seen;
 use crate::segments::check_segments;
 use crate::shares::check_shares;
 use crate::sizes::check_sizes;
 use crate::slot_flags::{are_simple, check_slot_flags};
 use crate::slots::check_slots;
 use crate::starts::check_starts;
+use crate::symbol_indexes::all_ranges_lie;
 use crate::threads::check_tls;
 use crate::thunks::check_thunks;
 use crate::versions::{check_versions, needed_libraries};
@@ -53,19 +52,19 @@ pub(crate) fn unless(ok: bool) -> Option<usize>
 pub fn well_formed(layout: &Layout) -> Result<(), Clause>
     ensures { result ≡ first_clause layout.now }
 {
-    well_formed_seen(layout, Seen::of(layout))
+    well_formed_with(layout, LayoutSurvey::of(layout))
 }
 
 /// The same, with the properties of the layout that the caller has already computed.
-#[tactic(auto, unfolding(crate::specs::WellFormed::first_clause))]
-pub fn well_formed_seen(layout: &Layout, seen: Seen) -> Result<(), Clause>
-    requires { IsSeen layout.now seen }
+#[tactic(auto, unfolding(wild_plan_rules::specs::WellFormed::first_clause))]
+pub fn well_formed_with(layout: &Layout, seen: LayoutSurvey) -> Result<(), Clause>
+    requires { IsLayoutSurvey layout.now seen }
     ensures { result ≡ first_clause layout.now }
 {
-    let Seen {
-        inside,
+    let LayoutSurvey {
+        inner_groups_need_no_tables: inside,
         passed,
-        ordinary,
+        has_no_copies_versions_or_sorting: ordinary,
         relocations,
         ..
     } = seen;

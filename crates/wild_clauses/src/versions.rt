@@ -5,8 +5,8 @@ ghost use Rattle.wild_types.specs.Lists.{through, total};
 ghost use Rattle.wild_needs.specs.DynamicPlaces.{need_number};
 ghost use Rattle.wild_needs.specs.Versions.{has_needs, need_count, file_versions, group_versions, versions_needed, most_versions, versions_fit};
 ghost use Rattle.wild_clauses.specs.Survey.{are_ordinary};
-ghost use Rattle.wild_clauses.specs.VersionTables.{parent_is_there, parent_fits, parent_astray, some_definition, definition_astray, mark_step, mark_astray};
-ghost use Rattle.wild_clauses.specs.ClauseTests.{check_counts, check_versions};
+ghost use Rattle.wild_plan_rules.specs.VersionTables.{parent_is_there, parent_fits, parent_astray, some_definition, definition_astray, mark_step, mark_astray};
+ghost use Rattle.wild_plan_rules.specs.ClauseTests.{check_counts, check_versions};
 
 use crate::verdict::{fails, unless};
 use wild_needs::{need_count, needs_of};
@@ -204,7 +204,7 @@ fn wrong_mark(layout: &Layout, count: u64) -> Option<usize>
 }
 
 /// Requires that the counts fit; `count` libraries have needed versions.
-#[tactic(auto, unfolding(crate::specs::ClauseTests::check_versions))]
+#[tactic(auto, unfolding(wild_plan_rules::specs::ClauseTests::check_versions))]
 pub(crate) fn check_versions(layout: &Layout, count: u64) -> Result<(), Clause>
     requires needs { count ≡ need_number layout.now }
     requires counts { check_counts layout.now ≡ Ok tt }

@@ -11,7 +11,7 @@ use Rattle.wild_needs.specs.DynamicStrings.{needed_entries, needed_count}
 use Rattle.wild_types.specs.FileRoles.{is_epilogue}
 use Rattle.wild_types.specs.Kinds.{needs_dynamic}
 use Rattle.wild_types.specs.Lists.{total}
-use Rattle.wild_tables.specs.Dynamic.{entries_bytes, dynamic_bytes}
+use Rattle.wild_table_formats.specs.DynamicSection.{entries_bytes, dynamic_bytes}
 use Rattle.wild_layout.specs.Content.{dynamic_room, dynamic_of}
 
 -- ---- the last file

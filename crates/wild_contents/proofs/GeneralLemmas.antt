@@ -10,15 +10,15 @@ use Rattle.wild_words.proofs.ListLemmas.{flat_map-flat_map}
 use Rattle.wild_types.specs.declared.input.InputSection.{InputSection}
 use Rattle.wild_types.specs.declared.file.File.{File}
 use Rattle.wild_types.specs.declared.layout.Layout.{Layout}
-use Rattle.wild_needs.specs.Entries.{is_left_to_entry, left_relocations}
+use Rattle.wild_needs.specs.Entries.{has_dynamic_entry, dynamic_relocations}
 use Rattle.wild_types.specs.FileSymbols.{copies_of}
 use Rattle.wild_types.specs.Lookups.{is_read}
 use Rattle.wild_slot.specs.Treatment.{treatment}
-use Rattle.wild_laid.specs.Laid.{processed}
-use Rattle.wild_tables.specs.Entries.{rela_bytes}
-use Rattle.wild_layout.specs.Left.{left_entry, section_generals, copy_entry, file_generals}
-use Rattle.wild_contents.specs.General.{left_in, left_bytes, section_general_bytes, copy_bytes}
-use Rattle.wild_contents.proofs.OwnLemmas.{none_added}
+use Rattle.wild_placement.specs.PlacedSections.{processed_sections}
+use Rattle.wild_table_formats.specs.RelativeEntries.{rela_bytes}
+use Rattle.wild_layout.specs.DynamicRelocations.{dynamic_relocation, section_generals, copy_entry, file_generals}
+use Rattle.wild_contents.specs.General.{dynamic_relocation_in, dynamic_relocation_bytes, section_general_bytes, copy_bytes}
+use Rattle.wild_contents.proofs.FileTableLemmas.{none_added}
 
 rela-append : (es fs : List Rela) → rela_bytes (es ++ fs) ≡ rela_bytes es ++ rela_bytes fs
 rela-append es fs = flat_map-append (λ (r : Rela). spell (rela_fields r)) es fs
@@ -33,12 +33,12 @@ kept : {X : Type 0} (p : X → Bool) (e : X → Rela) (xs : List X) → rela_byt
 kept p e [] = refl
 kept p e (x ∷ xs) = kept_bytes p e x (filter p xs) (p x) ∙ ap (λ (bs : List ℕ). rela_bytes (option_to_list (if p x then Some (e x) else None)) ++ bs) (kept p e xs)
 
-pub section_left : (l : Layout) (s : InputSection) → is_read s ≡ true → section_general_bytes l s ≡ flat_map (left_bytes l s) s.relocations
-unfolding section_general_bytes section_generals left_relocations left_bytes left_in
-section_left l s h = rw h (kept (λ r. is_left_to_entry (treatment l s.flags r)) (left_entry l s.address s.flags) s.relocations)
+pub section_left : (l : Layout) (s : InputSection) → is_read s ≡ true → section_general_bytes l s ≡ flat_map (dynamic_relocation_bytes l s) s.relocations
+unfolding section_general_bytes section_generals dynamic_relocations dynamic_relocation_bytes dynamic_relocation_in
+section_left l s h = rw h (kept (λ r. has_dynamic_entry (treatment l s.flags r)) (dynamic_relocation l s.address s.flags) s.relocations)
 
 section_unread : (l : Layout) (s : InputSection) → is_read s ≡ false → section_general_bytes l s ≡ []
-unfolding section_general_bytes section_generals left_relocations
+unfolding section_general_bytes section_generals dynamic_relocations
 section_unread l s h = rw h refl
 
 pub none_left : (l : Layout) (s : InputSection) (bytes : List ℕ) → is_read s ≡ false → bytes ≡ bytes ++ section_general_bytes l s
@@ -58,9 +58,9 @@ unfolding section_general_bytes
 of_sections l ss = sym (sym (flat_map-flat_map _ (section_generals l) ss))
 
 -- the bytes of a file's entries
-pub generals_are : (l : Layout) (f : File) → rela_bytes (file_generals l f) ≡ flat_map (copy_bytes l) (copies_of f) ++ flat_map (section_general_bytes l) (processed l f)
+pub generals_are : (l : Layout) (f : File) → rela_bytes (file_generals l f) ≡ flat_map (copy_bytes l) (copies_of f) ++ flat_map (section_general_bytes l) (processed_sections l f)
 unfolding file_generals
 generals_are l f =
-    rela-append (map (copy_entry l) (copies_of f)) (flat_map (section_generals l) (processed l f))
-    ∙ ap (λ (bs : List ℕ). bs ++ rela_bytes (flat_map (section_generals l) (processed l f))) (copied l (copies_of f))
-    ∙ ap (λ (bs : List ℕ). flat_map (copy_bytes l) (copies_of f) ++ bs) (of_sections l (processed l f))
+    rela-append (map (copy_entry l) (copies_of f)) (flat_map (section_generals l) (processed_sections l f))
+    ∙ ap (λ (bs : List ℕ). bs ++ rela_bytes (flat_map (section_generals l) (processed_sections l f))) (copied l (copies_of f))
+    ∙ ap (λ (bs : List ℕ). flat_map (copy_bytes l) (copies_of f) ++ bs) (of_sections l (processed_sections l f))

@@ -1,4 +1,4 @@
-pub mod OwnLemmas
+pub mod FileTableLemmas
 pub mod PartLemmas
 pub mod SlotLemmas
 pub mod GeneralLemmas
@@ -9,7 +9,7 @@ pub mod WalkLemmas
 pub mod SymtabFaultLemmas
 pub mod HashLemmas
 pub mod VersionLemmas
-pub mod LaidLemmas
+pub mod PlacedLemmas
 pub mod FileLemmas
 pub mod NoteLemmas
 pub mod SearchTableLemmas

@@ -9,7 +9,7 @@ use Rattle.wild_types.specs.declared.fault.Fault.TheVariants as faults
 use Rattle.wild_types.specs.declared.part.Role.TheVariants as role
 use Rattle.wild_types.specs.declared.input.InputSection.{InputSection}
 use Rattle.wild_types.specs.Lookups.{is_frame}
-use Rattle.wild_types.specs.Hollow.{is_hollow_role}
+use Rattle.wild_types.specs.HeaderOnly.{is_header_only_role}
 use Rattle.wild_types.specs.declared.file.File.{File}
 use Rattle.wild_types.specs.declared.layout.Layout.{Layout}
 use Rattle.wild_frames.specs.declared.entry.Found.{Found}
@@ -18,11 +18,11 @@ use Rattle.wild_frames.specs.declared.table.Fde.{Fde}
 use Rattle.wild_frames.specs.declared.entry.BadFrame.{BadFrame}
 use Rattle.wild_frames.specs.declared.table.TableError.{TableError}
 use Rattle.wild_frames.specs.declared.table.TableError.TheVariants as error
-use Rattle.wild_frames.specs.Frames.{Frames, State, goes_on, rest_of, fde_of, start, list_error}
+use Rattle.wild_frames.specs.Frames.{Frames, State, walk_continues, rest_of, fde_of, start, list_error}
 use Rattle.wild_frames.specs.Table.{IsFirst, table_of, table_errors}
 use Rattle.wild_frames.specs.Walks.{IsNext}
-use Rattle.wild_laid.specs.FrameInputs.{frames_of, kept_size}
-use Rattle.wild_laid.specs.Laid.{behind, file_frames}
+use Rattle.wild_placement.specs.FrameInputs.{frames_of, kept_size}
+use Rattle.wild_placement.specs.PlacedSections.{behind, file_frames}
 use Rattle.wild_layout.specs.SearchTable.{fde_at, section_fdes, sections_fdes, files_fdes, layout_fdes, address_of_role, fault_of, search_table, search_table_faults}
 use Rattle.wild_contents.specs.declared.search_table.SearchTable.{SearchTable}
 use Rattle.wild_contents.specs.SearchTable.{found_fdes, FaultIsFirst, IsSearchTable}
@@ -30,13 +30,13 @@ use Rattle.wild_contents.specs.SearchTable.{found_fdes, FaultIsFirst, IsSearchTa
 -- ---- the walk over a section's frames
 
 -- one more thing that was found
-pub found_more : (g : Found → List Fde) (s : Frames) (from to : State) (f : Found) (now next whole : List Fde) → IsNext s from to f → now ++ flat_map g (rest_of s from) ≡ whole → next ≡ now ++ g f → goes_on f ≡ true → next ++ flat_map g (rest_of s to) ≡ whole
+pub found_more : (g : Found → List Fde) (s : Frames) (from to : State) (f : Found) (now next whole : List Fde) → IsNext s from to f → now ++ flat_map g (rest_of s from) ≡ whole → next ≡ now ++ g f → walk_continues f ≡ true → next ++ flat_map g (rest_of s to) ≡ whole
 found_more g s from to f now next whole is before more on =
     let rest : rest_of s from ≡ f ∷ rest_of s to = rw on at is in
     ap (λ (ys : List Fde). ys ++ flat_map g (rest_of s to)) more ∙ append_assoc now (g f) (flat_map g (rest_of s to)) ∙ sym (ap (λ (xs : List Found). now ++ flat_map g xs) rest) ∙ before
 
 -- the last
-pub found_last : (g : Found → List Fde) (s : Frames) (from to : State) (f : Found) (now next whole : List Fde) → IsNext s from to f → now ++ flat_map g (rest_of s from) ≡ whole → next ≡ now ++ g f → goes_on f ≡ false → next ≡ whole
+pub found_last : (g : Found → List Fde) (s : Frames) (from to : State) (f : Found) (now next whole : List Fde) → IsNext s from to f → now ++ flat_map g (rest_of s from) ≡ whole → next ≡ now ++ g f → walk_continues f ≡ false → next ≡ whole
 found_last g s from to f now next whole is before more on =
     let rest : rest_of s from ≡ f ∷ [] = rw on at is in
     more ∙ ap (λ (ys : List Fde). now ++ ys) (sym (append-nil (g f))) ∙ sym (ap (λ (xs : List Found). now ++ flat_map g xs) rest) ∙ before
@@ -95,21 +95,21 @@ frames_none l f at s now other = rw other (sym (append-nil now))
 none_first : (f : Option Fault) (fs : List Fault) → f ≡ None → fs ≡ [] → FaultIsFirst f fs
 none_first f fs e h = rw e h
 
-not_asked : (asked hollow : Bool) → (asked && not hollow) ≡ false → hollow ≡ false → asked ≡ false
+not_asked : (asked header_only : Bool) → (asked && not header_only) ≡ false → header_only ≡ false → asked ≡ false
 not_asked true true h e = cc
 not_asked true false h e = cc
-not_asked false hollow h e = refl
+not_asked false header_only h e = refl
 
 nothing_asked : (l : Layout) → l.options.eh_frame_hdr ≡ false → search_table l ≡ []
 unfolding search_table
 nothing_asked l asked = rw asked refl
 
 -- it was not asked for, or nothing of it is written
-pub table_none : (l : Layout) (t : SearchTable) → (l.options.eh_frame_hdr && not (is_hollow_role l role.EhFrameHdr)) ≡ false → t.fault ≡ None → t.bytes ≡ [] → IsSearchTable l t
+pub table_none : (l : Layout) (t : SearchTable) → (l.options.eh_frame_hdr && not (is_header_only_role l role.EhFrameHdr)) ≡ false → t.fault ≡ None → t.bytes ≡ [] → IsSearchTable l t
 unfolding search_table_faults
 table_none l t asked fault bytes = record {
   fault = none_first t.fault (search_table_faults l) fault (ap (λ (b : Bool). if b then map fault_of (table_errors (address_of_role l role.EhFrameHdr) (address_of_role l role.EhFrame) (layout_fdes l)) else []) asked);
-  bytes = λ written h. bytes ∙ sym (nothing_asked l (not_asked l.options.eh_frame_hdr (is_hollow_role l role.EhFrameHdr) asked written));
+  bytes = λ written h. bytes ∙ sym (nothing_asked l (not_asked l.options.eh_frame_hdr (is_header_only_role l role.EhFrameHdr) asked written));
 }
 
 -- what a choice takes
@@ -118,12 +118,12 @@ chosen b x y h = rw h refl
 
 -- it is asked for, and written
 abbrev IsAsked : Layout → Type 0
-IsAsked l = (l.options.eh_frame_hdr && not (is_hollow_role l role.EhFrameHdr)) ≡ true
+IsAsked l = (l.options.eh_frame_hdr && not (is_header_only_role l role.EhFrameHdr)) ≡ true
 
 faults_asked : (l : Layout) → IsAsked l → search_table_faults l ≡ map fault_of (table_errors (address_of_role l role.EhFrameHdr) (address_of_role l role.EhFrame) (layout_fdes l))
 unfolding search_table_faults
 faults_asked l asked =
-    chosen (l.options.eh_frame_hdr && not (is_hollow_role l role.EhFrameHdr)) (map fault_of (table_errors (address_of_role l role.EhFrameHdr) (address_of_role l role.EhFrame) (layout_fdes l))) [] asked
+    chosen (l.options.eh_frame_hdr && not (is_header_only_role l role.EhFrameHdr)) (map fault_of (table_errors (address_of_role l role.EhFrameHdr) (address_of_role l role.EhFrame) (layout_fdes l))) [] asked
 
 table_asked : (l : Layout) → IsAsked l → search_table l ≡ table_of (address_of_role l role.EhFrameHdr) (address_of_role l role.EhFrame) (layout_fdes l)
 unfolding search_table

@@ -6,8 +6,8 @@ use Rattle.std.proofs.lemmas.Bool.{cases_Bool, ne_eqb}
 use Rattle.std.proofs.lemmas.List.{append-nil, append_assoc}
 use Rattle.wild_words.specs.Words.{word}
 use Rattle.wild_words.proofs.ListLemmas.{flat_map-flat_map}
-use Rattle.wild_relr.specs.Packed.{bitmaps, bitmap_count, block}
-use Rattle.wild_relr.specs.Written.{word_bytes}
+use Rattle.wild_relr.specs.RunWords.{bitmaps, bitmap_count, block}
+use Rattle.wild_relr.specs.WriterState.{word_bytes}
 use Rattle.wild_types.specs.declared.file.File.{File}
 use Rattle.wild_types.specs.declared.layout.Layout.{Layout}
 use Rattle.wild_types.specs.declared.part.Role.{Role}
@@ -18,12 +18,12 @@ use Rattle.wild_slot.specs.declared.slot_parts.EntryPart.{EntryPart}
 use Rattle.wild_slot.specs.declared.slot_parts.EntryPart.TheVariants as entries
 use Rattle.wild_types.specs.FileSymbols.{own_symbols}
 use Rattle.wild_needs.specs.SlotShares.{words_in}
-use Rattle.wild_tables.specs.Entries.{rela_bytes}
-use Rattle.wild_layout.specs.SlotBytes.{symbol_entries, flat_in, slot_words_of, slot_entries_of, stubs_of, flat_places_of, slot_bytes}
-use Rattle.wild_contents.specs.Own.{slot_part, symbol_slot_bytes}
+use Rattle.wild_table_formats.specs.RelativeEntries.{rela_bytes}
+use Rattle.wild_layout.specs.SlotBytes.{symbol_entries, relr_slots_in, slot_words_of, slot_entries_of, stubs_of, flat_places_of, slot_bytes}
+use Rattle.wild_contents.specs.FileTables.{slot_part, symbol_slot_bytes}
 use Rattle.wild_contents.specs.declared.slots.SlotPart.{SlotPart}
 use Rattle.wild_contents.specs.declared.slots.SlotPart.TheVariants as parts
-use Rattle.wild_contents.proofs.OwnLemmas.{none_added}
+use Rattle.wild_contents.proofs.FileTableLemmas.{none_added}
 
 -- ---- the symbols of a file
 
@@ -37,7 +37,7 @@ entries_joined part l f = sym (sym (flat_map-flat_map _ (symbol_entries part l) 
 
 places_joined : (l : Layout) (f : File) → word_bytes (flat_places_of l f) ≡ flat_map (symbol_slot_bytes parts.Places l) (own_symbols l f)
 unfolding flat_places_of symbol_slot_bytes
-places_joined l f = sym (sym (flat_map-flat_map _ (flat_in l) (own_symbols l f)))
+places_joined l f = sym (sym (flat_map-flat_map _ (relr_slots_in l) (own_symbols l f)))
 
 stubs_joined : (l : Layout) (f : File) → stubs_of l f ≡ flat_map (symbol_slot_bytes parts.Stubs l) (own_symbols l f)
 unfolding stubs_of symbol_slot_bytes
@@ -49,7 +49,7 @@ found l f p q bs e is = let same : p ≡ q = cc in subst (λ (x : SlotPart). bs 
 -- what a file gives to the part of a role, symbol by symbol
 slots_found : (l : Layout) (r : Role) (f : File) (p : SlotPart) → slot_part r ≡ Some p → slot_bytes l r f ≡ flat_map (symbol_slot_bytes p l) (own_symbols l f)
 slots_found l role.Got f p e = found l f (parts.Words words.Got) p _ e (words_joined words.Got l f)
-slots_found l role.GotRelr f p e = found l f (parts.Words words.Block) p _ e (words_joined words.Block l f)
+slots_found l role.GotRelr f p e = found l f (parts.Words words.RelrGot) p _ e (words_joined words.RelrGot l f)
 slots_found l role.PltGot f p e = found l f parts.Stubs p _ e (stubs_joined l f)
 slots_found l role.RelaPlt f p e = found l f (parts.Entries entries.Plt) p _ e (entries_joined entries.Plt l f)
 slots_found l role.RelaDynRelative f p e = found l f (parts.Entries entries.Relative) p _ e (entries_joined entries.Relative l f)

@@ -9,10 +9,10 @@ use Rattle.wild_types.specs.declared.options.Options.{Options}
 use Rattle.wild_types.specs.declared.symbol.Symbol.{Symbol}
 use Rattle.wild_types.specs.declared.file.File.{File}
 use Rattle.wild_types.specs.declared.layout.Layout.{Layout}
-use Rattle.wild_needs.specs.DynamicStrings.{NamedString, named, named_strings, texts_of, path_number, auxiliary_string, option_strings, epilogue_strings, lead_strings, entry_names, file_strings, symbol_names}
+use Rattle.wild_needs.specs.DynamicStrings.{NamedString, named, named_strings, texts_of, path_number, auxiliary_string, option_strings, epilogue_strings, dynstr_prefix_strings, entry_names, file_strings, symbol_names}
 use Rattle.wild_types.specs.Kinds.{needs_dynamic, needs_dynsym}
 use Rattle.wild_needs.specs.Versions.{version_names}
-use Rattle.wild_symbols.specs.Strings.{string, string_bytes}
+use Rattle.wild_table_formats.specs.Strings.{string, string_bytes}
 
 -- ---- strings
 
@@ -62,15 +62,15 @@ strings_added l base a b now texts h path name last same =
 strings-append : (xs ys : List (List ℕ)) → string_bytes (xs ++ ys) ≡ string_bytes xs ++ string_bytes ys
 strings-append xs ys = flat_map-append string xs ys
 
-pub file_strings_joined : (l : Layout) (f : File) (old now next last : List ℕ) → needs_dynsym l.kind ≡ true → now ≡ old ++ string_bytes (lead_strings l f) → next ≡ now ++ string_bytes (entry_names l f) → last ≡ next ++ string_bytes (version_names l f) → last ≡ old ++ string_bytes (file_strings l f)
+pub file_strings_joined : (l : Layout) (f : File) (old now next last : List ℕ) → needs_dynsym l.kind ≡ true → now ≡ old ++ string_bytes (dynstr_prefix_strings l f) → next ≡ now ++ string_bytes (entry_names l f) → last ≡ next ++ string_bytes (version_names l f) → last ≡ old ++ string_bytes (file_strings l f)
 unfolding file_strings
 file_strings_joined l f old now next last h a b c =
-    let x = string_bytes (lead_strings l f) in
+    let x = string_bytes (dynstr_prefix_strings l f) in
     let y = string_bytes (entry_names l f) in
     let z = string_bytes (version_names l f) in
-    let is : last ≡ old ++ string_bytes (lead_strings l f ++ (entry_names l f ++ version_names l f)) =
+    let is : last ≡ old ++ string_bytes (dynstr_prefix_strings l f ++ (entry_names l f ++ version_names l f)) =
     c ∙ ap (λ (bs : List ℕ). bs ++ z) (b ∙ ap (λ (bs : List ℕ). bs ++ y) a) ∙ append_assoc (old ++ x) y z ∙ append_assoc old x (y ++ z)
-    ∙ ap (λ (bs : List ℕ). old ++ bs) (ap (λ (bs : List ℕ). x ++ bs) (sym (strings-append (entry_names l f) (version_names l f))) ∙ sym (strings-append (lead_strings l f) (entry_names l f ++ version_names l f))) in
+    ∙ ap (λ (bs : List ℕ). old ++ bs) (ap (λ (bs : List ℕ). x ++ bs) (sym (strings-append (entry_names l f) (version_names l f))) ∙ sym (strings-append (dynstr_prefix_strings l f) (entry_names l f ++ version_names l f))) in
     rw h is
 
 pub no_file_strings : (l : Layout) (f : File) (old : List ℕ) → needs_dynsym l.kind ≡ false → old ≡ old ++ string_bytes (file_strings l f)

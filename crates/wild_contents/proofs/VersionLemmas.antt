@@ -10,7 +10,7 @@ use Rattle.wild_types.specs.Lookups.{files_of}
 use Rattle.wild_needs.specs.Versions.{needs_of, need_count, length_of, versions_needed, most_versions}
 use Rattle.wild_types.proofs.ListLemmas.{total-append, total-prefix}
 use Rattle.wild_layout.specs.Geometry.{IsLaidOut}
-use Rattle.wild_contents.specs.Given.{NeedsFit}
+use Rattle.wild_contents.specs.VersionCounts.{NeedsFit}
 
 -- of a file, and of a group
 abbrev versions_of : File → ℕ

@@ -1,8 +1,8 @@
 pub mod General
-pub mod Given
+pub mod VersionCounts
 pub mod Hashes
-pub mod Laid
+pub mod PlacedSections
 pub mod Notes
-pub mod Own
+pub mod FileTables
 pub mod SearchTable
 pub mod Walks

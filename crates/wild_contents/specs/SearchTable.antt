@@ -8,7 +8,7 @@ use Rattle.wild_types.specs.declared.file.File.{File}
 use Rattle.wild_types.specs.declared.layout.Layout.{Layout}
 use Rattle.wild_types.specs.declared.part.Role.TheVariants as role
 use Rattle.wild_types.specs.FileRoles.{is_prelude}
-use Rattle.wild_types.specs.Hollow.{is_hollow_role}
+use Rattle.wild_types.specs.HeaderOnly.{is_header_only_role}
 use Rattle.wild_frames.specs.declared.entry.Found.{Found}
 use Rattle.wild_frames.specs.declared.table.Fde.{Fde}
 use Rattle.wild_frames.specs.Frames.{Frames, fde_of}
@@ -24,7 +24,7 @@ FaultIsFirst (Some f) (g ∷ gs) = f ≡ g
 -- the layout's search table, if that is written, or its first fault
 pub record IsSearchTable (l : Layout) (t : SearchTable) : Type 0 where
   pub fault : FaultIsFirst t.fault (search_table_faults l)
-  pub bytes : is_hollow_role l role.EhFrameHdr ≡ false → t.fault ≡ None → t.bytes ≡ search_table l
+  pub bytes : is_header_only_role l role.EhFrameHdr ≡ false → t.fault ≡ None → t.bytes ≡ search_table l
 
 -- the same, if the file is the first one
 abbrev pub IsTableFor : Layout → SearchTable → File → Type 0

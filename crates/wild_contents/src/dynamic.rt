@@ -4,12 +4,12 @@ ghost use Rattle.std.specs.Prelude.{◌≡◌, ◌++◌, Some, OnOk};
 ghost use Rattle.wild_needs.specs.DynamicStrings.{needed_of, needed_entries, needed_count};
 ghost use Rattle.wild_types.specs.declared.file.File.{File};
 ghost use Rattle.wild_types.specs.Lists.{total};
-ghost use Rattle.wild_tables.specs.Dynamic.{entries_bytes, dynamic_bytes};
-ghost use Rattle.wild_layout.specs.Content.{room_behind, dynamic_room, dynamic_of};
+ghost use Rattle.wild_table_formats.specs.DynamicSection.{entries_bytes, dynamic_bytes};
+ghost use Rattle.wild_layout.specs.Content.{last_file_room, dynamic_room, dynamic_of};
 
 use crate::part_bytes::PartBytes;
 use std::alloc::{AllocError, Global};
-use wild_needs::{behind_file, dynamic_count, has_last, needed_count};
+use wild_needs::{dynamic_count, has_last, needed_count, next_dynstr};
 use wild_records::DynamicEntry;
 use wild_records::abi::dynamic::DT_NEEDED;
 use wild_tables::write_dynamic;
@@ -42,7 +42,7 @@ fn add_libraries(layout: &Layout, group: &Group, bytes: &mut PartBytes) -> Resul
     let mut at = group.dynstr_start;
     for file in group.files.as_slice() {
         add_library(file, at, bytes)?;
-        at = behind_file(layout, at, file);
+        at = next_dynstr(layout, at, file);
     }
     Ok(())
 }
@@ -60,8 +60,8 @@ fn needed_of_files(layout: &Layout, files: &[File]) -> usize
 
 /// The size of the last file's room in the dynamic section, if that file is in this group.
 #[tactic(auto, using(wild_needs::proofs::DynamicLemmas::length_needed_entries))]
-fn room_behind(layout: &Layout, group: &Group) -> u64
-    ensures { result ≡ room_behind layout.now (Some group.now) }
+fn last_file_room(layout: &Layout, group: &Group) -> u64
+    ensures { result ≡ last_file_room layout.now (Some group.now) }
 {
     let needed = needed_of_files(layout, group.files.as_slice()) as u64;
     let last = layout.groups.len().saturating_sub(1);
@@ -76,7 +76,7 @@ fn dynamic_room(layout: &Layout) -> u64
 {
     let groups = layout.groups.as_slice();
     match groups.get(groups.len().saturating_sub(1)) {
-        Some(group) => room_behind(layout, group),
+        Some(group) => last_file_room(layout, group),
         None => 0,
     }
 }

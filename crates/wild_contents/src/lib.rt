@@ -4,14 +4,15 @@
 
 mod copies;
 mod dynamic;
-mod entries;
+mod dynamic_relocations;
+mod exported;
+mod file_tables;
 mod hashes;
-mod laid;
-mod left;
-mod listed;
 mod notes;
-mod own;
 mod part_bytes;
+mod placed_sections;
+mod relative_entries;
+mod relr_words;
 mod search_table;
 mod slot_faults;
 mod slot_tables;
@@ -24,13 +25,12 @@ mod symtab_faults;
 mod tables;
 mod thunks;
 mod versions;
-mod words;
 
 pub use copies::check_entries;
-pub use laid::behind_frames;
-pub use listed::check_symbol_tables;
+pub use exported::check_symbol_tables;
 pub use notes::{write_gnu_build_id_note, write_gnu_property_notes};
 pub use part_bytes::PartBytes;
+pub use placed_sections::address_after_frames;
 pub use search_table::{SearchTable, make_search_table};
-pub use tables::{Beside, add_content};
+pub use tables::{FrameTables, add_content};
 pub use thunks::add_thunks;

@@ -3,7 +3,7 @@ ghost use Rattle.std.specs.Prelude.{◌≡◌, ◌+◌, ◌-◌, ◌^◌, ◌≤
 ghost use Rattle.std.specs.List.{flat_map};
 ghost use Rattle.wild_types.specs.Lists.{total};
 ghost use Rattle.wild_needs.specs.Needs.{gnu_note_size, build_id_room, property_room, properties_room};
-ghost use Rattle.wild_laid.specs.Laid.{of_last_file};
+ghost use Rattle.wild_placement.specs.PlacedSections.{of_last_file};
 ghost use Rattle.wild_layout.specs.Notes.{gnu_note, build_id_note, property_bytes, property_note};
 ghost use Rattle.wild_contents.specs.Notes.{gnu_front, word_property, signed_property};
 

@@ -2,12 +2,12 @@
 ghost use Rattle.std.specs.Prelude.{◌≡◌, not, ◌&&◌, ◌<◌, ◌+◌, ◌^◌, ◌++◌, true, false, None, [], length, IfOk, OnOk};
 ghost use Rattle.std.specs.List.{flat_map};
 ghost use Rattle.wild_types.specs.declared.part.Role.TheVariants as role;
-ghost use Rattle.wild_types.specs.Hollow.{is_hollow_role};
+ghost use Rattle.wild_types.specs.HeaderOnly.{is_header_only_role};
 ghost use Rattle.wild_types.specs.Parts.{part_with};
 ghost use Rattle.wild_frames.specs.Frames.{start, rest_of};
 ghost use Rattle.wild_frames.specs.Walks.{IsAtStart, AreOwn};
-ghost use Rattle.wild_laid.specs.FrameInputs.{frames_of, kept_size};
-ghost use Rattle.wild_laid.specs.Laid.{file_frames, behind, part_address};
+ghost use Rattle.wild_placement.specs.FrameInputs.{frames_of, kept_size};
+ghost use Rattle.wild_placement.specs.PlacedSections.{file_frames, behind, part_address};
 ghost use Rattle.wild_layout.specs.SearchTable.{code_at, section_fdes, sections_fdes, group_fdes, layout_fdes, address_of_role};
 ghost use Rattle.wild_contents.specs.SearchTable.{found_fdes, IsSearchTable};
 
@@ -15,11 +15,11 @@ use crate::part_bytes::PartBytes;
 use std::alloc::{AllocError, Global};
 use std::marker::Sync;
 use std::thread::Threads;
-use wild_frames::{Fde, Found, FrameSource, TableError, Walk, goes_on, write_search_table};
-use wild_laid::{FileFrames, frames_at, kept_size};
+use wild_frames::{Fde, Found, FrameSource, TableError, Walk, walk_continues, write_search_table};
+use wild_placement::{FileFrames, frames_at, kept_size};
 use wild_records::{EhFrameHdr, EhFrameHdrEntry};
 use wild_relax::Arch;
-use wild_sections::{Resolved, or_zero, raw_address};
+use wild_sections::{Resolved, raw_address, value_or_0};
 use wild_types::{
     Fault, File, Group, InputRelocation, InputSection, Layout, Part, Role, part_with,
 };
@@ -50,7 +50,7 @@ fn code_at<A: Arch>(resolved: &Resolved<A>, own: &[InputRelocation]) -> u64
 {
     match own.first() {
         Some(first) => {
-            or_zero(raw_address(resolved, first.symbol)).wrapping_add_signed(first.addend)
+            value_or_0(raw_address(resolved, first.symbol)).wrapping_add_signed(first.addend)
         }
         None => 0,
     }
@@ -98,7 +98,7 @@ fn add_from<A: Arch>(
         let found = walk.step(frames)?;
         let own = &frames.relocations()[from..walk.relocation];
         add_found(resolved, frames, at, &found, own, fdes)?;
-        if !goes_on(&found) {
+        if !walk_continues(&found) {
             return Ok(());
         }
     }
@@ -131,7 +131,7 @@ fn add_frames<A: Arch>(
 }
 
 /// Appends the FDEs of a file whose frames begin at an address; returns the address after them.
-#[tactic(auto, using(crate::proofs::SearchTableLemmas::section_more, crate::proofs::SearchTableLemmas::section_done, crate::proofs::LaidLemmas::reach_more, crate::proofs::LaidLemmas::reach_done))]
+#[tactic(auto, using(crate::proofs::SearchTableLemmas::section_more, crate::proofs::SearchTableLemmas::section_done, crate::proofs::PlacedLemmas::reach_more, crate::proofs::PlacedLemmas::reach_done))]
 fn add_file<A: Arch>(
     alloc: Global,
     resolved: &Resolved<A>,
@@ -196,7 +196,7 @@ fn table_of<A: Arch>(
     resolved: &Resolved<A>,
     fdes: &[Fde],
 ) -> Result<SearchTable, AllocError>
-    requires asked { (resolved.now.layout.now.options.eh_frame_hdr && not (is_hollow_role resolved.now.layout.now role.EhFrameHdr)) ≡ true }
+    requires asked { (resolved.now.layout.now.options.eh_frame_hdr && not (is_header_only_role resolved.now.layout.now role.EhFrameHdr)) ≡ true }
     requires fdes { fdes.now ≡ layout_fdes resolved.now.layout.now }
     requires few { length fdes.now < 2 ^ 32 }
     requires place { address_of_role resolved.now.layout.now role.EhFrameHdr + 4 < 2 ^ 64 }
@@ -222,9 +222,9 @@ fn table_of<A: Arch>(
 
 /// Whether the option requires the search table, and it is written.
 fn is_asked(layout: &Layout) -> bool
-    ensures { result ≡ (layout.now.options.eh_frame_hdr && not (is_hollow_role layout.now role.EhFrameHdr)) }
+    ensures { result ≡ (layout.now.options.eh_frame_hdr && not (is_header_only_role layout.now role.EhFrameHdr)) }
 {
-    layout.options.eh_frame_hdr && !layout.is_hollow_role(Role::EhFrameHdr)
+    layout.options.eh_frame_hdr && !layout.is_header_only_role(Role::EhFrameHdr)
 }
 
 /// The search table of all frames, if the option requires one and it is written; or the fault of a frame too far from it. One pass over

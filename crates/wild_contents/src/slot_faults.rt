@@ -1,11 +1,11 @@
-//! Why GOT and PLT entries of a file's symbols cannot be written.
+//! FrameFault GOT and PLT entries of a file's symbols cannot be written.
 ghost use Rattle.std.specs.Prelude.{◌≡◌, Some};
 ghost use Rattle.wild_types.specs.Faults.{Answers};
 ghost use Rattle.wild_slot.specs.SymbolWords.{slots_of};
 ghost use Rattle.wild_layout.specs.Faults.{at_file, slot_fault, slot_refusal, slot_role, symbol_errors, slot_errors};
 
 use wild_sections::InputPlace;
-use wild_slot::{SlotFault, SymbolSlots, begins_block};
+use wild_slot::{SlotFault, SymbolSlots, begins_relr_got};
 use wild_types::{Error, Fault, File, Layout, Missing, Resolution, Role, Symbol};
 
 /// The fault of the GOT and PLT entries of the symbol with that index.
@@ -27,7 +27,7 @@ fn fault_of(index: usize, fault: SlotFault) -> Fault
     }
 }
 
-/// Why a symbol's GOT and PLT entries cannot be written; None for a symbol without a GOT entry.
+/// FrameFault a symbol's GOT and PLT entries cannot be written; None for a symbol without a GOT entry.
 #[tactic(auto, unfolding(wild_slot::specs::SymbolWords::slots_of, wild_slot::specs::Slots::slot))]
 fn fault_in(layout: &Layout, symbol: &Symbol) -> Option<SlotFault>
     ensures { result ≡ (slots_of layout.now symbol.now).fault }
@@ -48,7 +48,7 @@ fn slot_role(layout: &Layout, symbol: &Symbol) -> Role
     ensures { result ≡ slot_role layout.now symbol.now }
 {
     let slots = SymbolSlots::of(layout, symbol);
-    if begins_block(slots.words()) {
+    if begins_relr_got(slots.words()) {
         Role::GotRelr
     } else {
         Role::Got
@@ -65,7 +65,7 @@ fn check_symbol(
     ensures { Answers result (symbol_errors layout.now place.group place.file index symbol.now) }
 {
     match fault_in(layout, symbol) {
-        Some(fault) if !layout.is_hollow_role(slot_role(layout, symbol)) => Err(Error {
+        Some(fault) if !layout.is_header_only_role(slot_role(layout, symbol)) => Err(Error {
             fault: fault_of(index, fault),
             at: place.file(),
         }),

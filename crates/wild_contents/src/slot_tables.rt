@@ -1,17 +1,17 @@
 //! The start of the GOT, which is written once, and the `.relr.dyn` words for a group's GOT words.
 ghost use Rattle.std.specs.Prelude.{◌≡◌, ◌-◌, ◌*◌, ◌^◌, ◌++◌, min, replicate, unwrap_or, OnOk};
-ghost use Rattle.wild_relr.specs.Packed.{bitmaps, bitmap_count};
-ghost use Rattle.wild_relr.specs.Written.{word_bytes};
+ghost use Rattle.wild_relr.specs.RunWords.{bitmaps, bitmap_count};
+ghost use Rattle.wild_relr.specs.WriterState.{word_bytes};
 ghost use Rattle.wild_slot.specs.SlotParts.{slot_words};
-ghost use Rattle.wild_needs.specs.SlotShares.{storage_words, words_of_block};
+ghost use Rattle.wild_needs.specs.SlotShares.{storage_words, words_of_relr_got};
 ghost use Rattle.wild_slot.specs.declared.slot_parts.WordPart.TheVariants as words;
-ghost use Rattle.wild_tables.specs.Entries.{rela_bytes};
+ghost use Rattle.wild_table_formats.specs.RelativeEntries.{rela_bytes};
 ghost use Rattle.wild_layout.specs.SlotBytes.{storage_entries, header_bytes, block_bytes};
 
 use crate::part_bytes::PartBytes;
 use crate::slot_words::{add_slot_entries, add_slot_words, add_word};
 use std::alloc::AllocError;
-use wild_needs::{Block, group_block};
+use wild_needs::{RelrGot, group_relr_got};
 use wild_slot::{EntryPart, Setting, WordPart, storage_pair};
 use wild_types::{Group, Layout, Role};
 
@@ -99,8 +99,8 @@ fn add_bitmaps(slots: u64, bytes: &mut PartBytes) -> Result<(), AllocError>
 
 /// Appends the RELR words of a run of GOT words: the address of the first, and the bitmap words of the others (gABI, "Relative
 /// Relocation Table").
-fn add_words_of_block(block: Block, bytes: &mut PartBytes) -> Result<(), AllocError>
-    ensures { OnOk result (bytes.new ≡ bytes.old ++ word_bytes (words_of_block block)) }
+fn add_words_of_block(block: RelrGot, bytes: &mut PartBytes) -> Result<(), AllocError>
+    ensures { OnOk result (bytes.new ≡ bytes.old ++ word_bytes (words_of_relr_got block)) }
 {
     if block.base == 0 || block.count == 0 {
         return Ok(());
@@ -119,7 +119,7 @@ pub(crate) fn add_block(
     ensures { OnOk result (bytes.new ≡ bytes.old ++ block_bytes layout.now role group.now) }
 {
     if matches!(role, Role::RelrDyn) {
-        add_words_of_block(group_block(layout, group), bytes)?;
+        add_words_of_block(group_relr_got(layout, group), bytes)?;
     }
     Ok(())
 }

@@ -1,13 +1,13 @@
 //! GOT words: their bytes, their dynamic relocations, and their RELR words.
 ghost use Rattle.std.specs.Prelude.{◌≡◌, ◌∷◌, [], ◌++◌, OnOk};
-ghost use Rattle.wild_slot.specs.SlotParts.{slot_words, slot_entries, flat_places};
-ghost use Rattle.wild_relr.specs.Written.{word_bytes};
-ghost use Rattle.wild_tables.specs.Entries.{rela_bytes};
+ghost use Rattle.wild_slot.specs.SlotParts.{slot_words, slot_entries, relr_slot_places};
+ghost use Rattle.wild_relr.specs.WriterState.{word_bytes};
+ghost use Rattle.wild_table_formats.specs.RelativeEntries.{rela_bytes};
 
-use crate::entries::add_entry;
 use crate::part_bytes::PartBytes;
+use crate::relative_entries::add_entry;
 use std::alloc::AllocError;
-use wild_slot::{EntryPart, SlotWord, WordPart, entry_of, flat_place, next_word, word_of};
+use wild_slot::{EntryPart, SlotWord, WordPart, entry_of, next_word, relr_slot_place, word_of};
 use wild_types::Machine;
 
 /// Appends a word.
@@ -66,11 +66,11 @@ pub(crate) fn add_flat_places(
     words: &[SlotWord],
     bytes: &mut PartBytes,
 ) -> Result<(), AllocError>
-    ensures { OnOk result (bytes.new ≡ bytes.old ++ word_bytes (flat_places relr place words.now)) }
+    ensures { OnOk result (bytes.new ≡ bytes.old ++ word_bytes (relr_slot_places relr place words.now)) }
 {
     let mut place = place;
     for word in words {
-        if let Some(packed) = flat_place(relr, place, *word) {
+        if let Some(packed) = relr_slot_place(relr, place, *word) {
             add_word(packed, bytes)?;
         }
         place = next_word(place);

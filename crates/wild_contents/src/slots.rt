@@ -5,7 +5,7 @@ ghost use Rattle.std.specs.List.{flat_map};
 ghost use Rattle.wild_types.specs.FileSymbols.{own_symbols};
 ghost use Rattle.wild_types.specs.SymbolSlots.{plt_of};
 ghost use Rattle.wild_layout.specs.SlotBytes.{stub_bytes, slot_bytes};
-ghost use Rattle.wild_contents.specs.Own.{slot_part, symbol_slot_bytes};
+ghost use Rattle.wild_contents.specs.FileTables.{slot_part, symbol_slot_bytes};
 
 use crate::part_bytes::PartBytes;
 use crate::slot_words::{add_flat_places, add_slot_entries, add_slot_words};
@@ -32,7 +32,7 @@ fn slot_part(role: Role) -> Option<SlotPart>
 {
     match role {
         Role::Got => Some(SlotPart::Words(WordPart::Got)),
-        Role::GotRelr => Some(SlotPart::Words(WordPart::Block)),
+        Role::GotRelr => Some(SlotPart::Words(WordPart::RelrGot)),
         Role::PltGot => Some(SlotPart::Stubs),
         Role::RelaPlt => Some(SlotPart::Entries(EntryPart::Plt)),
         Role::RelaDynRelative => Some(SlotPart::Entries(EntryPart::Relative)),
@@ -63,7 +63,7 @@ fn add_stub(layout: &Layout, symbol: &Symbol, bytes: &mut PartBytes) -> Result<(
             layout.machine,
             bti,
             &mut stub,
-            symbol.slots_at(),
+            symbol.slots_address(),
             stub_at(symbol),
         );
         bytes.extend(&stub)?;
@@ -72,7 +72,7 @@ fn add_stub(layout: &Layout, symbol: &Symbol, bytes: &mut PartBytes) -> Result<(
 }
 
 /// Appends what a part has for a symbol's GOT and PLT entries.
-#[tactic(auto, unfolding(crate::specs::Own::symbol_slot_bytes))]
+#[tactic(auto, unfolding(crate::specs::FileTables::symbol_slot_bytes))]
 fn add_symbol(
     part: SlotPart,
     layout: &Layout,
@@ -83,7 +83,7 @@ fn add_symbol(
 {
     let slots = SymbolSlots::of(layout, symbol);
     let relr = layout.options.relr;
-    let place = symbol.slots_at();
+    let place = symbol.slots_address();
     match part {
         SlotPart::Words(part) => add_slot_words(part, relr, place, slots.words(), bytes),
         SlotPart::Entries(part) => {

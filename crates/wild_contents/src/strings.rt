@@ -2,10 +2,10 @@
 //! name, the names of its dynamic symbols, and the names of its versions.
 ghost use Rattle.std.specs.Prelude.{◌≡◌, ◌++◌, option_to_list, OnOk};
 ghost use Rattle.std.specs.List.{flat_map, filter};
-ghost use Rattle.wild_needs.specs.DynamicStrings.{epilogue_strings, lead_strings, listed_names, symbol_names, entry_names, file_strings};
+ghost use Rattle.wild_needs.specs.DynamicStrings.{epilogue_strings, dynstr_prefix_strings, listed_names, symbol_names, entry_names, file_strings};
 ghost use Rattle.wild_needs.specs.DynamicSymbols.{is_undefined_entry};
 ghost use Rattle.wild_needs.specs.Versions.{needs_of, needed_names, need_names, definition_names, own_names, version_names};
-ghost use Rattle.wild_symbols.specs.Strings.{string, string_bytes};
+ghost use Rattle.wild_table_formats.specs.Strings.{string, string_bytes};
 
 use crate::part_bytes::PartBytes;
 use std::alloc::AllocError;
@@ -56,7 +56,7 @@ fn add_dynamic_strings(layout: &Layout, bytes: &mut PartBytes) -> Result<(), All
 
 /// Appends the strings of a file that are no symbol's name.
 fn add_leads(layout: &Layout, file: &File, bytes: &mut PartBytes) -> Result<(), AllocError>
-    ensures { OnOk result (bytes.new ≡ bytes.old ++ string_bytes (lead_strings layout.now file.now)) }
+    ensures { OnOk result (bytes.new ≡ bytes.old ++ string_bytes (dynstr_prefix_strings layout.now file.now)) }
 {
     match file.role {
         FileRole::Prelude => add_string(&[], bytes),
@@ -67,7 +67,7 @@ fn add_leads(layout: &Layout, file: &File, bytes: &mut PartBytes) -> Result<(), 
 }
 
 /// Appends the names of exported symbols.
-fn add_listed_names(listed: &[DynamicSymbol], bytes: &mut PartBytes) -> Result<(), AllocError>
+fn add_exported_names(listed: &[DynamicSymbol], bytes: &mut PartBytes) -> Result<(), AllocError>
     ensures { OnOk result (bytes.new ≡ bytes.old ++ string_bytes (listed_names listed.now)) }
 {
     for symbol in listed {
@@ -97,7 +97,7 @@ fn add_entry_names(layout: &Layout, file: &File, bytes: &mut PartBytes) -> Resul
     ensures { OnOk result (bytes.new ≡ bytes.old ++ string_bytes (entry_names layout.now file.now)) }
 {
     if file.role.is_epilogue() {
-        add_listed_names(layout.dynsyms.as_slice(), bytes)
+        add_exported_names(layout.dynsyms.as_slice(), bytes)
     } else {
         add_undefined_names(file.role, layout.symbols_of(file), bytes)
     }

@@ -3,16 +3,16 @@
 //! strings.
 ghost use Rattle.std.specs.Prelude.{◌≡◌, ◌++◌, [], ◌∷◌, List, map, true, OnOk, IfOk};
 ghost use Rattle.std.specs.List.{filter};
-ghost use Rattle.wild_needs.specs.DynamicStrings.{behind_text, undefined_symbols};
+ghost use Rattle.wild_needs.specs.DynamicStrings.{offset_after_string, undefined_symbols};
 ghost use Rattle.wild_needs.specs.DynamicSymbols.{is_undefined_entry};
 ghost use Rattle.wild_types.specs.Kinds.{needs_dynsym};
-ghost use Rattle.wild_symbols.specs.Symbols.{symbol_bytes};
-ghost use Rattle.wild_symbols.specs.DynamicEntries.{NamedFields, undefined, listed, file_symbols, entry_at, entries_at, null_entries, behind_lead, file_entries, group_symbols};
+ghost use Rattle.wild_table_formats.specs.Symbols.{symbol_bytes};
+ghost use Rattle.wild_table_formats.specs.DynamicEntries.{NamedFields, undefined, listed, file_symbols, entry_at, entries_at, null_entries, offset_after_lead, file_entries, group_symbols};
 
-use crate::listed::listed_or_none;
+use crate::exported::exported_fields;
 use crate::part_bytes::PartBytes;
 use std::alloc::AllocError;
-use wild_needs::{behind_file, is_undefined_entry, lead_room};
+use wild_needs::{dynstr_prefix, is_undefined_entry, next_dynstr};
 use wild_records::SymtabEntry;
 use wild_relax::Arch;
 use wild_sections::Resolved;
@@ -29,8 +29,8 @@ pub(crate) fn add_entry(entry: SymtabEntry, bytes: &mut PartBytes) -> Result<(),
 }
 
 /// The offset after a string and its zero, at most 2^64 - 1.
-pub(crate) fn behind_text(at: u64, text: &[u8]) -> u64
-    ensures { result ≡ behind_text at text.now }
+pub(crate) fn offset_after_string(at: u64, text: &[u8]) -> u64
+    ensures { result ≡ offset_after_string at text.now }
 {
     at.saturating_add((text.len() as u64).saturating_add(1))
 }
@@ -43,10 +43,10 @@ fn add_symbol(
     bytes: &mut PartBytes,
 ) -> Result<u64, AllocError>
     ensures entry { OnOk result (bytes.new ≡ bytes.old ++ symbol_bytes (entry_at at fields ∷ [])) }
-    ensures next { IfOk result (λ next. next ≡ behind_text at name.now) }
+    ensures next { IfOk result (λ next. next ≡ offset_after_string at name.now) }
 {
     add_entry(entry_at(at, fields), bytes)?;
-    Ok(behind_text(at, name))
+    Ok(offset_after_string(at, name))
 }
 
 /// Appends the entries of the undefined symbols among some symbols of a file of that role.
@@ -80,7 +80,7 @@ fn add_listed<A: Arch>(
 {
     let mut at = at;
     for symbol in symbols {
-        let fields = listed_or_none(resolved, symbol);
+        let fields = exported_fields(resolved, symbol);
         at = add_symbol(at, symbol.name.as_slice(), fields, bytes)?;
     }
     Ok(())
@@ -115,10 +115,10 @@ fn add_null(file: &File, bytes: &mut PartBytes) -> Result<(), AllocError>
 }
 
 /// The offset after the strings of a file that are no symbol's name; the file's strings begin at `at`.
-fn behind_lead(layout: &Layout, at: u64, file: &File) -> u64
-    ensures { result ≡ behind_lead layout.now at file.now }
+fn offset_after_lead(layout: &Layout, at: u64, file: &File) -> u64
+    ensures { result ≡ offset_after_lead layout.now at file.now }
 {
-    at.saturating_add(lead_room(layout, file))
+    at.saturating_add(dynstr_prefix(layout, file))
 }
 
 /// Appends the entries of a file whose strings begin at an offset.
@@ -136,13 +136,13 @@ fn add_file<A: Arch>(
     add_symbols(
         resolved,
         file,
-        behind_lead(resolved.layout, at, file),
+        offset_after_lead(resolved.layout, at, file),
         bytes,
     )
 }
 
 /// Appends the entries of a group.
-#[tactic(auto, unfolding(wild_symbols::specs::DynamicEntries::group_symbols))]
+#[tactic(auto, unfolding(wild_table_formats::specs::DynamicEntries::group_symbols))]
 pub(crate) fn add_group_symbols<A: Arch>(
     resolved: &Resolved<A>,
     group: &Group,
@@ -156,7 +156,7 @@ pub(crate) fn add_group_symbols<A: Arch>(
     let mut at = group.dynstr_start;
     for file in group.files.as_slice() {
         add_file(resolved, file, at, bytes)?;
-        at = behind_file(resolved.layout, at, file);
+        at = next_dynstr(resolved.layout, at, file);
     }
     Ok(())
 }

@@ -5,20 +5,22 @@ ghost use Rattle.wild_types.specs.declared.file.File.{File};
 ghost use Rattle.wild_types.specs.declared.layout.Layout.{Layout};
 ghost use Rattle.wild_needs.specs.declared.table.TablePart.TheVariants.{Side, Long};
 ghost use Rattle.wild_words.specs.Words.{word};
-ghost use Rattle.wild_needs.specs.DynamicStrings.{behind_text};
+ghost use Rattle.wild_needs.specs.DynamicStrings.{offset_after_string};
 ghost use Rattle.wild_needs.specs.TableSymbols.{full_name, table_strings};
-ghost use Rattle.wild_symbols.specs.Strings.{string, string_bytes};
-ghost use Rattle.wild_symbols.specs.Symbols.{symbol_bytes};
-ghost use Rattle.wild_symbols.specs.TableEntries.{is_side, null_entry, section_entry, null_entries, file_table, fields_of, table_entries};
+ghost use Rattle.wild_table_formats.specs.Strings.{string, string_bytes};
+ghost use Rattle.wild_table_formats.specs.Symbols.{symbol_bytes};
+ghost use Rattle.wild_table_formats.specs.TableEntries.{is_side, null_entry, section_entry, null_entries, file_table, fields_of, table_entries};
 ghost use Rattle.wild_layout.specs.Content.{indexes_of};
 ghost use Rattle.wild_contents.specs.Walks.{entry_of, taken_bytes, with_entry, Walks};
 
 use crate::part_bytes::PartBytes;
-use crate::symbols::{add_entry, behind_text};
+use crate::symbols::{add_entry, offset_after_string};
 use std::alloc::{AllocError, Global};
 use std::marker::Model;
 use std::mem::replace;
-use wild_needs::{Named, TablePart, TableSink, give_table, has_long, is_on, prefix, suffix};
+use wild_needs::{
+    SymtabName, TablePart, TableSink, give_table, has_long, is_on_side, prefix, suffix,
+};
 use wild_relax::Arch;
 use wild_sections::{Resolved, section_in_file};
 use wild_symbols::{
@@ -26,13 +28,13 @@ use wild_symbols::{
     section_fields, table_fields,
 };
 use wild_types::{Fault, File, Group, Role, Symbol, SymbolIndex};
-use wild_walk::Sink;
+use wild_words::Sink;
 
 /// The fields of the entry of a symbol of a file, or of the symbol that names its GOT entry, its stub or a thunk to it; or a fault.
 pub(crate) fn fields_of<A: Arch>(
     resolved: &Resolved<A>,
     file: &File,
-    named: Named,
+    named: SymtabName,
     index: usize,
     symbol: &Symbol,
 ) -> Result<TableFields, Fault>
@@ -55,11 +57,11 @@ pub(crate) fn fields_of<A: Arch>(
 }
 
 /// The same fields, of a symbol without a fault.
-#[tactic(auto, unfolding(wild_symbols::specs::TableEntries::table_fields))]
+#[tactic(auto, unfolding(wild_table_formats::specs::TableEntries::table_fields))]
 fn fields_or_none<A: Arch>(
     resolved: &Resolved<A>,
     file: &File,
-    named: Named,
+    named: SymtabName,
     index: usize,
     symbol: &Symbol,
 ) -> TableFields
@@ -72,10 +74,10 @@ fn fields_or_none<A: Arch>(
 }
 
 /// Whether such an entry is among the local ones, or with `local` false among the others.
-fn is_side(local: bool, named: Named, symbol: &Symbol) -> bool
+fn is_side(local: bool, named: SymtabName, symbol: &Symbol) -> bool
     ensures { (l : Layout) (f : File) (i : ℕ) → result ≡ is_side local (entry_of l f named i symbol.now) }
 {
-    is_on(local, named, symbol)
+    is_on_side(local, named, symbol)
 }
 
 /// Appends an extended section index, 32 bits.
@@ -87,7 +89,7 @@ fn add_index(index: u32, bytes: &mut PartBytes) -> Result<(), AllocError>
 }
 
 /// Appends the name of a symbol, of its GOT entry, its stub or a thunk to it, and a zero.
-fn add_name(named: Named, symbol: &Symbol, bytes: &mut PartBytes) -> Result<(), AllocError>
+fn add_name(named: SymtabName, symbol: &Symbol, bytes: &mut PartBytes) -> Result<(), AllocError>
     ensures { OnOk result (bytes.new ≡ bytes.old ++ string (full_name named symbol.now.name)) }
 {
     bytes.extend(prefix(named))?;
@@ -97,8 +99,8 @@ fn add_name(named: Named, symbol: &Symbol, bytes: &mut PartBytes) -> Result<(), 
 }
 
 /// The offset after that name and its zero, at most 2^64 - 1.
-fn behind_name(at: u64, named: Named, symbol: &Symbol) -> u64
-    ensures { result ≡ behind_text at (full_name named symbol.now.name) }
+fn offset_after_name(at: u64, named: SymtabName, symbol: &Symbol) -> u64
+    ensures { result ≡ offset_after_string at (full_name named symbol.now.name) }
 {
     let affixes = prefix(named).len() + suffix(named).len();
     let room = (symbol.name.len() as u64).saturating_add(affixes as u64);
@@ -116,9 +118,9 @@ struct TableBytes<'r, 'l, 'f, A: Arch> {
 }
 
 impl<'r, 'l, 'f, A: Arch> Model for TableBytes<'r, 'l, 'f, A> {
-    ghost use Rattle.wild_contents.specs.Walks.{Written};
+    ghost use Rattle.wild_contents.specs.Walks.{SymtabState};
 
-    ghost Value = { Written };
+    ghost Value = { SymtabState };
 
     ghost view = { λ w. record { layout = w.resolved.now.layout.now; file = w.file.now; part = w.part; at = w.at; bytes = w.bytes } };
 }
@@ -134,9 +136,9 @@ impl<'r, 'l, 'f, A: Arch> TableSink for TableBytes<'r, 'l, 'f, A> {
 
     #[inline(always)]
     #[tactic(auto, using(crate::proofs::WalkLemmas::writes))]
-    fn take(&mut self, named: Named, index: usize, symbol: &Symbol) -> Result<(), AllocError> {
+    fn take(&mut self, named: SymtabName, index: usize, symbol: &Symbol) -> Result<(), AllocError> {
         self.add(named, index, symbol)?;
-        self.at = behind_name(self.at, named, symbol);
+        self.at = offset_after_name(self.at, named, symbol);
         Ok(())
     }
 }
@@ -168,7 +170,7 @@ impl<'r, 'l, 'f, A: Arch> TableBytes<'r, 'l, 'f, A> {
     fn add_side(
         &mut self,
         local: bool,
-        named: Named,
+        named: SymtabName,
         index: usize,
         symbol: &Symbol,
     ) -> Result<(), AllocError>
@@ -185,7 +187,7 @@ impl<'r, 'l, 'f, A: Arch> TableBytes<'r, 'l, 'f, A> {
     fn add_long(
         &mut self,
         local: bool,
-        named: Named,
+        named: SymtabName,
         index: usize,
         symbol: &Symbol,
     ) -> Result<(), AllocError>
@@ -199,7 +201,7 @@ impl<'r, 'l, 'f, A: Arch> TableBytes<'r, 'l, 'f, A> {
     }
 
     /// Appends what the part has for it.
-    fn add(&mut self, named: Named, index: usize, symbol: &Symbol) -> Result<(), AllocError>
+    fn add(&mut self, named: SymtabName, index: usize, symbol: &Symbol) -> Result<(), AllocError>
         ensures { OnOk result (self.new ≡ record self.old { bytes = self.old.bytes ++ taken_bytes self.old.part self.old.at (entry_of self.old.layout self.old.file named index symbol.now) }) }
     {
         match self.part {
@@ -219,7 +221,7 @@ impl<'r, 'l, 'f, A: Arch> TableBytes<'r, 'l, 'f, A> {
             TablePart::Strings => self.bytes.extend(&[0])?,
             _ => {}
         }
-        self.at = behind_text(self.at, &[]);
+        self.at = offset_after_string(self.at, &[]);
         Ok(())
     }
 
@@ -241,7 +243,7 @@ impl<'r, 'l, 'f, A: Arch> TableBytes<'r, 'l, 'f, A> {
         ensures walks { OnOk result (Walks self.old.part self.old.bytes self.old.at self.new.bytes self.new.at (null_entries self.old.layout self.old.file)) }
         ensures kept { OnOk result ((self.new.layout ≡ self.old.layout) × (self.new.file ≡ self.old.file) × (self.new.part ≡ self.old.part)) }
     {
-        if self.resolved.layout.has_table() && self.file.role.is_prelude() {
+        if self.resolved.layout.has_symtab() && self.file.role.is_prelude() {
             self.add_zeros()?;
             give_section_symbols(self.resolved.layout, self)?;
         }

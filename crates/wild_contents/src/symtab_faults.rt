@@ -5,29 +5,29 @@ ghost use Rattle.wild_layout.specs.Faults.{flat_map_from, table_errors};
 
 use crate::symtab::fields_of;
 use std::marker::Model;
-use wild_needs::{Named, TableSink, give_table};
+use wild_needs::{SymtabName, TableSink, give_table};
 use wild_relax::Arch;
 use wild_sections::{InputPlace, Resolved};
 use wild_types::{Error, File, Symbol};
 
 /// The sink that checks the entries of a file's symbols.
 #[derive(Drop)]
-struct Look<'r, 'l, 'f, A: Arch> {
+struct SymtabCheck<'r, 'l, 'f, A: Arch> {
     resolved: &'r Resolved<'l, A>,
     file: &'f File,
     place: InputPlace,
 }
 
-impl<'r, 'l, 'f, A: Arch> Model for Look<'r, 'l, 'f, A> {
+impl<'r, 'l, 'f, A: Arch> Model for SymtabCheck<'r, 'l, 'f, A> {
     ghost use Rattle.wild_layout.specs.Faults.{at_file};
-    ghost use Rattle.wild_contents.specs.Walks.{Looked};
+    ghost use Rattle.wild_contents.specs.Walks.{SymtabCheckState};
 
-    ghost Value = { Looked };
+    ghost Value = { SymtabCheckState };
 
     ghost view = { λ w. record { layout = w.resolved.now.layout.now; file = w.file.now; at = at_file w.place.group w.place.file } };
 }
 
-impl<'r, 'l, 'f, A: Arch> TableSink for Look<'r, 'l, 'f, A> {
+impl<'r, 'l, 'f, A: Arch> TableSink for SymtabCheck<'r, 'l, 'f, A> {
     ghost use Rattle.wild_contents.specs.Walks.{Passes, Lacks};
 
     type Error = Error;
@@ -37,8 +37,8 @@ impl<'r, 'l, 'f, A: Arch> TableSink for Look<'r, 'l, 'f, A> {
     ghost refuses = { Lacks };
 
     #[inline(always)]
-    #[tactic(auto, using(crate::proofs::SymtabFaultLemmas::looks), unfolding(wild_symbols::specs::TableEntries::table_fields))]
-    fn take(&mut self, named: Named, index: usize, symbol: &Symbol) -> Result<(), Error> {
+    #[tactic(auto, using(crate::proofs::SymtabFaultLemmas::looks), unfolding(wild_table_formats::specs::TableEntries::table_fields))]
+    fn take(&mut self, named: SymtabName, index: usize, symbol: &Symbol) -> Result<(), Error> {
         match fields_of(self.resolved, self.file, named, index, symbol) {
             Ok(_) => Ok(()),
             Err(fault) => Err(Error {
@@ -54,7 +54,7 @@ impl<'r, 'l, 'f, A: Arch> TableSink for Look<'r, 'l, 'f, A> {
 fn check_file<A: Arch>(resolved: &Resolved<A>, place: InputPlace, file: &File) -> Result<(), Error>
     ensures { Answers result (table_errors resolved.now.layout.now place.group place.file file.now) }
 {
-    let mut look = Look {
+    let mut look = SymtabCheck {
         resolved,
         file,
         place,
@@ -87,7 +87,7 @@ pub(crate) fn check_table<A: Arch>(
 ) -> Result<(), Error>
     ensures { Answers result (flat_map_from (table_errors resolved.now.layout.now group) 0 files.now) }
 {
-    if resolved.layout.has_table() {
+    if resolved.layout.has_symtab() {
         check_files(resolved, group, files)
     } else {
         Ok(())

@@ -2,19 +2,19 @@
 //! contributes to the dynamic tables, and its GOT and PLT entries do.
 ghost use Rattle.std.specs.Prelude.{◌≡◌, [], ◌++◌, if◌then◌else◌, false, length, IfOk, OnOk};
 ghost use Rattle.std.specs.List.{flat_map};
-ghost use Rattle.wild_needs.specs.Needs.{whole_of};
+ghost use Rattle.wild_needs.specs.Needs.{bytes_per_image};
 ghost use Rattle.wild_types.specs.FileRoles.{is_prelude};
-ghost use Rattle.wild_laid.specs.Laid.{laid_files};
-ghost use Rattle.wild_layout.specs.Content.{whole_bytes, file_content, group_bytes, content};
+ghost use Rattle.wild_placement.specs.PlacedSections.{placed_files};
+ghost use Rattle.wild_layout.specs.Content.{unique_table, file_content, group_bytes, content};
 ghost use Rattle.wild_layout.specs.SlotBytes.{header_bytes};
 ghost use Rattle.wild_types.specs.declared.part.Role.TheVariants.{RelrDyn, EhFrame, EhFrameHdr};
-ghost use Rattle.wild_contents.specs.Given.{NeedsFit};
-ghost use Rattle.wild_contents.specs.Laid.{is_applied, is_apart, first_given, group_frames, HaveSearchTable};
+ghost use Rattle.wild_contents.specs.VersionCounts.{NeedsFit};
+ghost use Rattle.wild_contents.specs.PlacedSections.{is_applied, is_apart, first_given, group_frames, HaveSearchTable};
 
 use crate::dynamic::add_group_dynamic;
-use crate::laid::{add_laid, add_sorted};
-use crate::own::add_own;
+use crate::file_tables::add_file_table;
 use crate::part_bytes::PartBytes;
+use crate::placed_sections::{add_placed_files, add_sorted};
 use crate::slot_tables::{add_block, add_header};
 use crate::slots::add_slots;
 use crate::symbols::add_group_symbols;
@@ -24,14 +24,14 @@ use std::alloc::{AllocError, Global};
 use wild_headers::{
     populate_file_header, write_program_headers, write_section_headers, write_section_names,
 };
-use wild_needs::{has_last, whole_of};
+use wild_needs::{bytes_per_image, has_last};
 use wild_relax::Arch;
 use wild_sections::Resolved;
 use wild_types::{File, Group, Role};
 
 /// Frame tables of a group, computed before its other tables.
 #[derive(Clone, Copy)]
-pub struct Beside<'a> {
+pub struct FrameTables<'a> {
     /// The `.eh_frame` bytes of the group, relocated.
     pub frames: &'a [u8],
     /// The search table of the frames of all groups, if the group has the first file.
@@ -39,10 +39,10 @@ pub struct Beside<'a> {
 }
 
 /// Writes a table that the image has once, into its room; not the search table.
-fn fill_whole<A: Arch>(resolved: &Resolved<A>, role: Role, room: &mut [u8])
+fn fill_unique_table<A: Arch>(resolved: &Resolved<A>, role: Role, room: &mut [u8])
     requires here { is_apart role ≡ false }
-    requires room { length room.old ≡ whole_of resolved.now.layout.now role }
-    ensures { room.new ≡ whole_bytes resolved.now.layout.now role }
+    requires room { length room.old ≡ bytes_per_image resolved.now.layout.now role }
+    ensures { room.new ≡ unique_table resolved.now.layout.now role }
 {
     match role {
         Role::FileHeader => populate_file_header(resolved.layout, room),
@@ -55,21 +55,21 @@ fn fill_whole<A: Arch>(resolved: &Resolved<A>, role: Role, room: &mut [u8])
 }
 
 /// A table that the image has once, by role.
-pub(crate) fn whole_bytes<A: Arch>(
+pub(crate) fn unique_table<A: Arch>(
     alloc: Global,
     resolved: &Resolved<A>,
     role: Role,
 ) -> Result<Vec<u8>, AllocError>
     requires { is_apart role ≡ false }
-    ensures { IfOk result (λ v. v.items ≡ whole_bytes resolved.now.layout.now role) }
+    ensures { IfOk result (λ v. v.items ≡ unique_table resolved.now.layout.now role) }
 {
-    let mut room = vec![in alloc; 0u8; whole_of(resolved.layout, role) as usize]?;
-    fill_whole(resolved, role, &mut room);
+    let mut room = vec![in alloc; 0u8; bytes_per_image(resolved.layout, role) as usize]?;
+    fill_unique_table(resolved, role, &mut room);
     Ok(room)
 }
 
 /// Appends a table that the image has once, if the file is the first one.
-pub(crate) fn add_whole<A: Arch>(
+pub(crate) fn add_unique_table<A: Arch>(
     alloc: Global,
     resolved: &Resolved<A>,
     role: Role,
@@ -77,10 +77,10 @@ pub(crate) fn add_whole<A: Arch>(
     bytes: &mut PartBytes,
 ) -> Result<(), AllocError>
     requires { is_apart role ≡ false }
-    ensures { OnOk result (bytes.new ≡ bytes.old ++ (if is_prelude file.now.role then whole_bytes resolved.now.layout.now role ++ header_bytes resolved.now.layout.now role else [])) }
+    ensures { OnOk result (bytes.new ≡ bytes.old ++ (if is_prelude file.now.role then unique_table resolved.now.layout.now role ++ header_bytes resolved.now.layout.now role else [])) }
 {
     if file.role.is_prelude() {
-        let whole = whole_bytes(alloc, resolved, role)?;
+        let whole = unique_table(alloc, resolved, role)?;
         bytes.extend(&whole)?;
         add_header(resolved.layout, role, bytes)?;
     }
@@ -99,8 +99,8 @@ fn add_file_content<A: Arch>(
     requires here { is_apart role ≡ false }
     ensures { OnOk result (bytes.new ≡ bytes.old ++ file_content resolved.now.layout.now role file.now) }
 {
-    add_whole(alloc, resolved, role, file, bytes)?;
-    add_own(alloc, resolved, role, file, bytes)?;
+    add_unique_table(alloc, resolved, role, file, bytes)?;
+    add_file_table(alloc, resolved, role, file, bytes)?;
     add_slots(resolved.layout, role, file, bytes)
 }
 
@@ -141,25 +141,25 @@ fn add_files<A: Arch>(
     resolved: &Resolved<A>,
     role: Role,
     group: &Group,
-    beside: &Beside<'_>,
+    beside: &FrameTables<'_>,
     bytes: &mut PartBytes,
 ) -> Result<(), AllocError>
     requires frames { role ≡ EhFrame → beside.now.frames.now ≡ group_frames resolved.now.layout.now group.now }
     requires table { role ≡ EhFrameHdr → HaveSearchTable resolved.now.layout.now beside.now.table.now group.now.files }
-    ensures { OnOk result (bytes.new ≡ bytes.old ++ flat_map (file_content resolved.now.layout.now role) (laid_files resolved.now.layout.now group.now)) }
+    ensures { OnOk result (bytes.new ≡ bytes.old ++ flat_map (file_content resolved.now.layout.now role) (placed_files resolved.now.layout.now group.now)) }
 {
     match role {
         Role::EhFrame => bytes.extend(beside.frames),
         Role::EhFrameHdr => add_search_table(group.files.as_slice(), beside.table, bytes),
         Role::RelaDynRelative | Role::RelaDynGeneral | Role::RelrDyn => {
-            add_laid(alloc, resolved, role, group, bytes)
+            add_placed_files(alloc, resolved, role, group, bytes)
         }
         _ => add_plain(alloc, resolved, role, group.files.as_slice(), bytes),
     }
 }
 
 /// Appends the RELR words of a group's run of GOT words, and then those of the sorted input sections, if the group has the last file.
-#[tactic(auto, using(crate::proofs::LaidLemmas::words_added, crate::proofs::LaidLemmas::words_not_last))]
+#[tactic(auto, using(crate::proofs::PlacedLemmas::words_added, crate::proofs::PlacedLemmas::words_not_last))]
 fn add_group_words<A: Arch>(
     alloc: Global,
     resolved: &Resolved<A>,
@@ -203,7 +203,7 @@ pub fn add_content<A: Arch>(
     resolved: &Resolved<A>,
     role: Role,
     group: &Group,
-    beside: &Beside<'_>,
+    beside: &FrameTables<'_>,
     bytes: &mut PartBytes,
 ) -> Result<(), AllocError>
     requires few { NeedsFit group.now }

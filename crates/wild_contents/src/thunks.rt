@@ -88,7 +88,7 @@ pub fn add_thunks<A: Arch>(
     ensures bytes { OnOk result (bytes.new ≡ bytes.old ++ unless_hollow resolved.now.layout.now resolved.now.layout.now.primary_part (file_thunks resolved.now.layout.now file.now)) }
 {
     let layout = resolved.layout;
-    if layout.is_hollow_part(layout.primary_part) {
+    if layout.is_header_only_part(layout.primary_part) {
         return Ok(());
     }
     add_all_thunks(resolved, place, file, bytes)

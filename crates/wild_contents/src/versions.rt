@@ -1,9 +1,9 @@
 //! The versions of dynamic symbols, those that the output defines, and those that it needs of libraries (LSB, "Symbol
 //! Versioning").
 ghost use Rattle.std.specs.Prelude.{◌≡◌, ◌++◌, OnOk};
-ghost use Rattle.wild_versions.specs.Symbols.{version_bytes};
-ghost use Rattle.wild_versions.specs.Names.{symbol_versions, file_definitions, group_needs};
-ghost use Rattle.wild_contents.specs.Given.{NeedsFit};
+ghost use Rattle.wild_table_formats.specs.SymbolVersions.{version_bytes};
+ghost use Rattle.wild_table_formats.specs.VersionNames.{symbol_versions, file_definitions, group_needs};
+ghost use Rattle.wild_contents.specs.VersionCounts.{NeedsFit};
 
 use crate::part_bytes::PartBytes;
 use std::alloc::{AllocError, Global};

@@ -14,10 +14,10 @@ use Rattle.wild_types.specs.declared.input.InputSection.{InputSection}
 use Rattle.wild_types.specs.declared.layout.Layout.{Layout}
 use Rattle.wild_types.specs.Faults.{Refuses, Answers}
 use Rattle.wild_sections.proofs.FaultLemmas.{Refuses-head, refuses_number}
-use Rattle.wild_shards.specs.InOrder.{in_order, step_on, then_on}
+use Rattle.wild_shards.specs.InOrder.{in_order, apply_step, then_apply}
 use Rattle.wild_layout.specs.declared.decision.Decision.{Decision}
 use Rattle.wild_layout.specs.declared.decision.Decision.TheVariants.{Nothing}
-use Rattle.wild_layout.specs.Debug.{debug_decided, debug_rule, debug_written, debug_bytes, nowhere_at}
+use Rattle.wild_layout.specs.Debug.{debug_decided, debug_rule, debug_written, debug_bytes, at_offset_only}
 use Rattle.wild_layout.specs.Faults.{at_offset, refusal_of, refusal_at, debug_error, debug_errors}
 
 -- something is decided
@@ -59,22 +59,22 @@ none_at_all l g f k s os h = h
 -- ---- the pass
 
 -- the bytes of a pass without faults
-written_decided : (to : ℕ → At) (r : InputRelocation) (a : ℕ) (old xs ys : List ℕ) (d : Result Decision Fault) → then_on (debug_written to r d old) (λ zs. Ok (place a zs xs)) ≡ Ok ys → (e : Decision) × (d ≡ Ok e)
+written_decided : (to : ℕ → At) (r : InputRelocation) (a : ℕ) (old xs ys : List ℕ) (d : Result Decision Fault) → then_apply (debug_written to r d old) (λ zs. Ok (place a zs xs)) ≡ Ok ys → (e : Decision) × (d ≡ Ok e)
 written_decided to r a old xs ys (Ok e) h = (e, refl)
 written_decided to r a old xs ys (Err f) h = cc
 
-on_ok : {X Y : Type 0} (o : Result X Error) (f : X → Result Y Error) (y : Y) → then_on o f ≡ Ok y → (x : X) × (o ≡ Ok x) × (f x ≡ Ok y)
+on_ok : {X Y : Type 0} (o : Result X Error) (f : X → Result Y Error) (y : Y) → then_apply o f ≡ Ok y → (x : X) × (o ≡ Ok x) × (f x ≡ Ok y)
 on_ok (Ok x) f y h = (x, refl, h)
 on_ok (Err e) f y h = cc
 
-passed_each : (l : Layout) (s : InputSection) (rs : List InputRelocation) (xs ys : List ℕ) → in_order (debug_rule l nowhere_at s) 0 rs xs ≡ Ok ys → (i : ℕ) (r : InputRelocation) → slice_get rs i ≡ Some r → IsDecided l s r
+passed_each : (l : Layout) (s : InputSection) (rs : List InputRelocation) (xs ys : List ℕ) → in_order (debug_rule l at_offset_only s) 0 rs xs ≡ Ok ys → (i : ℕ) (r : InputRelocation) → slice_get rs i ≡ Some r → IsDecided l s r
 passed_each l s [] xs ys h i r listed = cc
 passed_each l s (q ∷ rs) xs ys h zero r listed =
-    let first = on_ok (step_on (debug_rule l nowhere_at s) 0 q xs) (in_order (debug_rule l nowhere_at s) 0 rs) ys h in
+    let first = on_ok (apply_step (debug_rule l at_offset_only s) 0 q xs) (in_order (debug_rule l at_offset_only s) 0 rs) ys h in
     let is : q ≡ r = cc in
-    subst (λ (x : InputRelocation). IsDecided l s x) is (written_decided nowhere_at q (q.offset - 0) _ xs first.0 (debug_decided l s q) first.1)
+    subst (λ (x : InputRelocation). IsDecided l s x) is (written_decided at_offset_only q (q.offset - 0) _ xs first.0 (debug_decided l s q) first.1)
 passed_each l s (q ∷ rs) xs ys h (suc i) r listed =
-    let first = on_ok (step_on (debug_rule l nowhere_at s) 0 q xs) (in_order (debug_rule l nowhere_at s) 0 rs) ys h in
+    let first = on_ok (apply_step (debug_rule l at_offset_only s) 0 q xs) (in_order (debug_rule l at_offset_only s) 0 rs) ys h in
     passed_each l s rs first.0 ys first.2 i r listed
 
 -- where all was decided there is no fault
@@ -82,7 +82,7 @@ none_at : (l : Layout) (g f k : ℕ) (s : InputSection) (os : List InputRelocati
 none_at l g f k s os i None is each = rw is (ok_none g f k Nothing (slice_get os i))
 none_at l g f k s os i (Some r) is each = let d = each r is in decided_none l g f k s os i r d.0 is d.1
 
-pub passed_none : (l : Layout) (g f k : ℕ) (s : InputSection) (os : List InputRelocation) (xs ys : List ℕ) → in_order (debug_rule l nowhere_at s) 0 s.relocations xs ≡ Ok ys → debug_errors l g f k s os ≡ []
+pub passed_none : (l : Layout) (g f k : ℕ) (s : InputSection) (os : List InputRelocation) (xs ys : List ℕ) → in_order (debug_rule l at_offset_only s) 0 s.relocations xs ≡ Ok ys → debug_errors l g f k s os ≡ []
 unfolding debug_errors
 passed_none l g f k s os xs ys h =
     flat_map-none (debug_error l g f k s os) (range_with_len 0 (length s.relocations))
@@ -107,31 +107,31 @@ each_decided l g f k s os count h i r listed =
     let none : debug_error l g f k s os i ≡ [] = number_none (debug_error l g f k s os) 0 (length s.relocations) i i below (omega arith) h in
     accepted (at_offset g f k o.0.offset) (debug_decided l s r) (rw (listed, o.1) at none)
 
-step_given : (to : ℕ → At) (r : InputRelocation) (a : ℕ) (old xs : List ℕ) (d : Result Decision Fault) (e : Decision) → d ≡ Ok e → (zs : List ℕ) × (then_on (debug_written to r d old) (λ ys. Ok (place a ys xs)) ≡ Ok zs)
+step_given : (to : ℕ → At) (r : InputRelocation) (a : ℕ) (old xs : List ℕ) (d : Result Decision Fault) (e : Decision) → d ≡ Ok e → (zs : List ℕ) × (then_apply (debug_written to r d old) (λ ys. Ok (place a ys xs)) ≡ Ok zs)
 step_given to r a old xs (Ok d) e is = (_, refl)
 step_given to r a old xs (Err f) e is = cc
 
-on_given : (o : Result (List ℕ) Error) (xs : List ℕ) (f : List ℕ → Result (List ℕ) Error) (e : Error) → o ≡ Ok xs → then_on o f ≡ Err e → f xs ≡ Err e
+on_given : (o : Result (List ℕ) Error) (xs : List ℕ) (f : List ℕ → Result (List ℕ) Error) (e : Error) → o ≡ Ok xs → then_apply o f ≡ Err e → f xs ≡ Err e
 on_given (Ok ys) xs f e is h = let s : ys ≡ xs = cc in subst (λ (zs : List ℕ). f zs ≡ Err e) s h
 on_given (Err g) xs f e is h = cc
 
-never_fails : (l : Layout) (s : InputSection) (rs : List InputRelocation) (xs : List ℕ) (e : Error) → ((i : ℕ) (r : InputRelocation) → slice_get rs i ≡ Some r → IsDecided l s r) → in_order (debug_rule l nowhere_at s) 0 rs xs ≡ Err e → ⊥
+never_fails : (l : Layout) (s : InputSection) (rs : List InputRelocation) (xs : List ℕ) (e : Error) → ((i : ℕ) (r : InputRelocation) → slice_get rs i ≡ Some r → IsDecided l s r) → in_order (debug_rule l at_offset_only s) 0 rs xs ≡ Err e → ⊥
 never_fails l s [] xs e each h = cc
 never_fails l s (r ∷ rs) xs e each h =
     let d = each 0 r refl in
-    let one = step_given nowhere_at r (r.offset - 0) _ xs (debug_decided l s r) d.0 d.1 in
-    never_fails l s rs one.0 e (λ i q listed. each (suc i) q listed) (on_given (step_on (debug_rule l nowhere_at s) 0 r xs) one.0 (in_order (debug_rule l nowhere_at s) 0 rs) e one.1 h)
+    let one = step_given at_offset_only r (r.offset - 0) _ xs (debug_decided l s r) d.0 d.1 in
+    never_fails l s rs one.0 e (λ i q listed. each (suc i) q listed) (on_given (apply_step (debug_rule l at_offset_only s) 0 r xs) one.0 (in_order (debug_rule l at_offset_only s) 0 rs) e one.1 h)
 
-pub failed_some : (l : Layout) (g f k : ℕ) (s : InputSection) (os : List InputRelocation) (xs : List ℕ) (e : Error) → length os ≡ length s.relocations → in_order (debug_rule l nowhere_at s) 0 s.relocations xs ≡ Err e → debug_errors l g f k s os ≡ [] → ⊥
+pub failed_some : (l : Layout) (g f k : ℕ) (s : InputSection) (os : List InputRelocation) (xs : List ℕ) (e : Error) → length os ≡ length s.relocations → in_order (debug_rule l at_offset_only s) 0 s.relocations xs ≡ Err e → debug_errors l g f k s os ≡ [] → ⊥
 failed_some l g f k s os xs e count h none = never_fails l s s.relocations xs e (each_decided l g f k s os count none) h
 
 -- the bytes of the section are those of the pass
-pub passed_bytes : (l : Layout) (s : InputSection) (ys : List ℕ) → in_order (debug_rule l nowhere_at s) 0 s.relocations s.bytes ≡ Ok ys → ys ≡ debug_bytes l s
+pub passed_bytes : (l : Layout) (s : InputSection) (ys : List ℕ) → in_order (debug_rule l at_offset_only s) 0 s.relocations s.bytes ≡ Ok ys → ys ≡ debug_bytes l s
 unfolding debug_bytes
 passed_bytes l s ys h = rw h refl
 
 -- after a pass that had a fault, no value is answered
 pub failed_bytes : (l : Layout) (g f k : ℕ) (s : InputSection) (os : List InputRelocation) (xs : List ℕ) (e : Error) (result : Result (Unit {0}) Error) (P : Type 0)
-    → length os ≡ length s.relocations → in_order (debug_rule l nowhere_at s) 0 s.relocations xs ≡ Err e → Answers result (debug_errors l g f k s os) → OnOk result P
+    → length os ≡ length s.relocations → in_order (debug_rule l at_offset_only s) 0 s.relocations xs ≡ Err e → Answers result (debug_errors l g f k s os) → OnOk result P
 failed_bytes l g f k s os xs e (Ok u) P count h none = absurd (failed_some l g f k s os xs e count h none)
 failed_bytes l g f k s os xs e (Err q) P count h none = tt

@@ -15,11 +15,11 @@ use Rattle.wild_types.specs.declared.layout.Layout.{Layout}
 use Rattle.wild_reloc.specs.Field.{size_width, size_written}
 use Rattle.wild_reloc.specs.declared.info.RelocationSize.{RelocationSize}
 use Rattle.wild_reloc.proofs.PlaceLemmas.{length-size_written}
-use Rattle.wild_shards.specs.InOrder.{Rule, width, step_on, then_on, FieldWithin}
+use Rattle.wild_shards.specs.InOrder.{Rule, width, apply_step, then_apply, FieldWithin}
 use Rattle.wild_layout.specs.declared.decision.Decision.{Decision}
 use Rattle.wild_layout.specs.declared.decision.Decision.TheVariants.{Field}
 use Rattle.wild_layout.specs.SectionPlaces.{FieldLies}
-use Rattle.wild_layout.specs.Debug.{debug_decided, debug_field, debug_written, debug_rule, nowhere_at}
+use Rattle.wild_layout.specs.Debug.{debug_decided, debug_field, debug_written, debug_rule, at_offset_only}
 use Rattle.wild_layout.proofs.DebugLemmas.{decided_leaves, debug_width}
 use Rattle.wild_debug.specs.Fields.{LiesAt, FieldLiesFrom}
 
@@ -85,38 +85,38 @@ ok_given P (Ok y) x h e = let s : y ≡ x = cc in subst P s h
 ok_given P (Err f) x h e = cc
 
 -- what is decided leaves as many bytes
-pub decided_keeps : (l : Layout) (s : InputSection) (r : InputRelocation) (d : Decision) (old : List ℕ) → length old ≡ width (debug_rule l nowhere_at s) r → debug_decided l s r ≡ Ok d → length (debug_field d old) ≡ length old
+pub decided_keeps : (l : Layout) (s : InputSection) (r : InputRelocation) (d : Decision) (old : List ℕ) → length old ≡ width (debug_rule l at_offset_only s) r → debug_decided l s r ≡ Ok d → length (debug_field d old) ≡ length old
 decided_keeps l s r d old long is = ok_given (λ (x : Decision). length (debug_field x old) ≡ length old) (debug_decided l s r) d (decided_leaves l s r old long) is
 
-pub decided_width : (l : Layout) (s : InputSection) (r : InputRelocation) (z : RelocationSize) (v : ℕ) → debug_decided l s r ≡ Ok (Field z v) → size_width z ≡ width (debug_rule l nowhere_at s) r
+pub decided_width : (l : Layout) (s : InputSection) (r : InputRelocation) (z : RelocationSize) (v : ℕ) → debug_decided l s r ≡ Ok (Field z v) → size_width z ≡ width (debug_rule l at_offset_only s) r
 decided_width l s r z v is =
-    let w : ℕ = width (debug_rule l nowhere_at s) r in
+    let w : ℕ = width (debug_rule l at_offset_only s) r in
     let old : List ℕ = replicate w 0 in
     let long : length old ≡ w = length-replicate w 0 in
     size_is z v w old (debug_decided l s r) is long (λ e has. decided_keeps l s r e old long has)
 
 -- where a field lies in bytes that begin at b, as the rule has its width
-lies_in : (l : Layout) (s : InputSection) (r : InputRelocation) (b n w : ℕ) → w ≡ width (debug_rule l nowhere_at s) r → b ≤ r.offset → (field_bytes l.machine r.number ≡ 0) ⊎ (r.offset + field_bytes l.machine r.number ≤ b + n)
+lies_in : (l : Layout) (s : InputSection) (r : InputRelocation) (b n w : ℕ) → w ≡ width (debug_rule l at_offset_only s) r → b ≤ r.offset → (field_bytes l.machine r.number ≡ 0) ⊎ (r.offset + field_bytes l.machine r.number ≤ b + n)
     → LiesAt (r.offset - b) w n
-lies_in l s r b n w e low (inl h) = inl (e ∙ (debug_width l nowhere_at s r ∙ h))
-lies_in l s r b n w e low (inr h) = let k = debug_width l nowhere_at s r in inr (omega (arith, e, k, low, h))
+lies_in l s r b n w e low (inl h) = inl (e ∙ (debug_width l at_offset_only s r ∙ h))
+lies_in l s r b n w e low (inr h) = let k = debug_width l at_offset_only s r in inr (omega (arith, e, k, low, h))
 
-lies_by : (l : Layout) (s : InputSection) (r : InputRelocation) (b n w : ℕ) → w ≡ width (debug_rule l nowhere_at s) r → FieldLiesFrom l.machine b n r → LiesAt (r.offset - b) w n
+lies_by : (l : Layout) (s : InputSection) (r : InputRelocation) (b n w : ℕ) → w ≡ width (debug_rule l at_offset_only s) r → FieldLiesFrom l.machine b n r → LiesAt (r.offset - b) w n
 lies_by l s r b n w e h = lies_in l s r b n w e h.0 h.1
 
 pub field_lies_at : (l : Layout) (s : InputSection) (r : InputRelocation) (z : RelocationSize) (v b n : ℕ) → debug_decided l s r ≡ Ok (Field z v) → FieldLiesFrom l.machine b n r → LiesAt (r.offset - b) (size_width z) n
 field_lies_at l s r z v b n is h = lies_by l s r b n (size_width z) (decided_width l s r z v is) h
 
-step_by : (to : ℕ → At) (r : InputRelocation) (d : Result Decision Fault) (e : Decision) (a : ℕ) (old xs : List ℕ) → d ≡ Ok e → then_on (debug_written to r d old) (λ ys. Ok (place a ys xs)) ≡ Ok (place a (debug_field e old) xs)
+step_by : (to : ℕ → At) (r : InputRelocation) (d : Result Decision Fault) (e : Decision) (a : ℕ) (old xs : List ℕ) → d ≡ Ok e → then_apply (debug_written to r d old) (λ ys. Ok (place a ys xs)) ≡ Ok (place a (debug_field e old) xs)
 step_by to r d e a old xs is = rw is refl
 
 -- a relocation that writes a field
 pub step_field : (l : Layout) (s : InputSection) (r : InputRelocation) (z : RelocationSize) (v b : ℕ) (xs ys : List ℕ) → debug_decided l s r ≡ Ok (Field z v)
-    → ys ≡ place (r.offset - b) (size_written z v (slice_range xs (r.offset - b) (r.offset - b + size_width z))) xs → step_on (debug_rule l nowhere_at s) b r xs ≡ Ok ys
+    → ys ≡ place (r.offset - b) (size_written z v (slice_range xs (r.offset - b) (r.offset - b + size_width z))) xs → apply_step (debug_rule l at_offset_only s) b r xs ≡ Ok ys
 step_field l s r z v b xs ys is e =
-    let rule : Rule = debug_rule l nowhere_at s in
+    let rule : Rule = debug_rule l at_offset_only s in
     let a : ℕ = r.offset - b in
-    step_by nowhere_at r (debug_decided l s r) (Field z v) a (slice_range xs a (a + width rule r)) xs is
+    step_by at_offset_only r (debug_decided l s r) (Field z v) a (slice_range xs a (a + width rule r)) xs is
     ∙ (ap (λ (w : ℕ). Ok (place a (size_written z v (slice_range xs a (a + w))) xs)) (sym (decided_width l s r z v is)) ∙ ap (λ (zs : List ℕ). Ok zs) (sym e))
 
 -- what is no field leaves the bytes as they are
@@ -126,12 +126,12 @@ not_field other unlike old = refl
 
 -- one that writes nothing
 pub step_nothing : (l : Layout) (s : InputSection) (r : InputRelocation) (d : Decision) (b : ℕ) (xs ys : List ℕ) → debug_decided l s r ≡ Ok d → ((old : List ℕ) → debug_field d old ≡ old) → FieldLiesFrom l.machine b (length xs) r → ys ≡ xs
-    → step_on (debug_rule l nowhere_at s) b r xs ≡ Ok ys
+    → apply_step (debug_rule l at_offset_only s) b r xs ≡ Ok ys
 step_nothing l s r d b xs ys is plain h e =
-    let rule : Rule = debug_rule l nowhere_at s in
+    let rule : Rule = debug_rule l at_offset_only s in
     let a : ℕ = r.offset - b in
     let w : ℕ = width rule r in
-    step_by nowhere_at r (debug_decided l s r) d a (slice_range xs a (a + w)) xs is
+    step_by at_offset_only r (debug_decided l s r) d a (slice_range xs a (a + w)) xs is
     ∙ (ap (λ (zs : List ℕ). Ok (place a zs xs)) (plain (slice_range xs a (a + w)))
     ∙ (ap (λ (zs : List ℕ). Ok zs) (place_same a w xs (lies_by l s r b (length xs) w refl h)) ∙ ap (λ (zs : List ℕ). Ok zs) (sym e)))
 
@@ -145,14 +145,14 @@ from_start m n r (inr h) = (omega arith, inr (omega (arith, h)))
 pub lie_from_start : (m : Machine) (n : ℕ) (rs : List InputRelocation) → All (FieldLies m n) rs → All (FieldLiesFrom m 0 n) rs
 lie_from_start m n rs h = λ k d i. from_start m n (get_or rs k d) (h k d i)
 
-in_part : (l : Layout) (s : InputSection) (b n : ℕ) (r : InputRelocation) → FieldWithin (debug_rule l nowhere_at s) b (b + n) r → FieldLiesFrom l.machine b n r
+in_part : (l : Layout) (s : InputSection) (b n : ℕ) (r : InputRelocation) → FieldWithin (debug_rule l at_offset_only s) b (b + n) r → FieldLiesFrom l.machine b n r
 in_part l s b n r h =
-    let k = debug_width l nowhere_at s r in
+    let k = debug_width l at_offset_only s r in
     let end = h.1 in
     (h.0, inr (omega (arith, k, end)))
 
 -- a shard's where it tells
-pub lie_in_part : (l : Layout) (s : InputSection) (b n : ℕ) (rs : List InputRelocation) → All (FieldWithin (debug_rule l nowhere_at s) b (b + n)) rs → All (FieldLiesFrom l.machine b n) rs
+pub lie_in_part : (l : Layout) (s : InputSection) (b n : ℕ) (rs : List InputRelocation) → All (FieldWithin (debug_rule l at_offset_only s) b (b + n)) rs → All (FieldLiesFrom l.machine b n) rs
 lie_in_part l s b n rs h = λ k d i. in_part l s b n (get_or rs k d) (h k d i)
 
 -- ---- lengths

@@ -2,8 +2,8 @@
 ghost use Rattle.std.specs.Prelude.{◌≡◌, length, All, OnOk};
 ghost use Rattle.std.specs.Thread.{IsSync};
 ghost use Rattle.wild_types.specs.Faults.{Answers};
-ghost use Rattle.wild_shards.specs.InOrder.{in_order, Came};
-ghost use Rattle.wild_layout.specs.Debug.{debug_rule, debug_bytes, nowhere_at};
+ghost use Rattle.wild_shards.specs.InOrder.{in_order, ResultIs};
+ghost use Rattle.wild_layout.specs.Debug.{debug_rule, debug_bytes, at_offset_only};
 ghost use Rattle.wild_layout.specs.Faults.{debug_errors};
 ghost use Rattle.wild_layout.specs.SectionPlaces.{FieldLies};
 
@@ -26,7 +26,7 @@ fn answer<A: Arch>(
     passed: Result<(), Error>,
     _out: &[u8],
 ) -> Result<(), Error>
-    requires came { Came passed _out.now (in_order (debug_rule step.now.resolved.now.layout.now nowhere_at step.now.section.now) 0 step.now.section.now.relocations step.now.section.now.bytes) }
+    requires came { ResultIs passed _out.now (in_order (debug_rule step.now.resolved.now.layout.now at_offset_only step.now.section.now) 0 step.now.section.now.relocations step.now.section.now.bytes) }
     requires origins { length origins.now ≡ length step.now.section.now.relocations }
     ensures faults { Answers result (debug_errors step.now.resolved.now.layout.now place.group place.file place.section step.now.section.now origins.now) }
     ensures bytes { OnOk result (_out.now ≡ debug_bytes step.now.resolved.now.layout.now step.now.section.now) }

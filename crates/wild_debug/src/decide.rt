@@ -4,13 +4,13 @@ ghost use Rattle.wild_types.specs.Addresses.{raw_value};
 ghost use Rattle.wild_types.specs.Rows.{row_of};
 ghost use Rattle.wild_layout.specs.SymbolValues.{raw_address};
 ghost use Rattle.wild_layout.specs.Merged.{address_for};
-ghost use Rattle.wild_layout.specs.Values.{behind, pointer_offset};
-ghost use Rattle.wild_layout.specs.Debug.{is_list_section, tombstone, tombstone_field, added_to, valued, unvalued, by_address, unnamed, named_by, debug_by, debug_with, debug_decided, width_by};
+ghost use Rattle.wild_layout.specs.Values.{offset_from, pointer_offset};
+ghost use Rattle.wild_layout.specs.Debug.{is_list_section, tombstone, tombstone_field, field_of_sum, field_of_address, field_without_address, by_address, field_without_symbol, field_by_symbol, debug_by, debug_with, debug_decided, width_by};
 
 use wild_layout::Decision;
 use wild_relax::Arch;
 use wild_reloc::{RelocationKind, RelocationKindInfo};
-use wild_sections::{Resolved, address_for, behind, field, pointer_offset, raw_address, sum};
+use wild_sections::{Resolved, address_for, field, offset_from, pointer_offset, raw_address, sum};
 use wild_types::{Fault, InputRelocation, InputSection, Layout, SymbolIndex};
 
 /// Whether a section of that name has lists that end at 0.
@@ -80,25 +80,25 @@ impl<'r, 'l, A: Arch> DebugStep<'r, 'l, A> {
 
     /// The field of a relocation whose symbol has an address.
     #[inline]
-    fn valued(
+    fn field_of_address(
         &self,
         relocation: &InputRelocation,
         symbol: SymbolIndex,
         row: &RelocationKindInfo,
     ) -> Result<Decision, Fault>
-        ensures { result ≡ valued self.now.resolved.now.layout.now relocation.now symbol row.now row.now.kind }
+        ensures { result ≡ field_of_address self.now.resolved.now.layout.now relocation.now symbol row.now row.now.kind }
     {
         let tls = self.resolved.layout.tls;
         match row.kind {
             RelocationKind::Absolute => {
-                added_to(relocation, row, address_for(self.resolved, relocation))
+                field_of_sum(relocation, row, address_for(self.resolved, relocation))
             }
             RelocationKind::DtpOff => {
                 let address = raw_address(self.resolved, Some(symbol));
-                added_to(relocation, row, behind(tls.start, address))
+                field_of_sum(relocation, row, offset_from(tls.start, address))
             }
             RelocationKind::TpOff => {
-                added_to(relocation, row, pointer_offset(self.resolved, Some(symbol)))
+                field_of_sum(relocation, row, pointer_offset(self.resolved, Some(symbol)))
             }
             _ => Err(Fault::UnsupportedRelocation {
                 number: relocation.number,
@@ -107,16 +107,16 @@ impl<'r, 'l, A: Arch> DebugStep<'r, 'l, A> {
     }
 
     /// The field of a relocation whose symbol has no address: the address of the merged string, or the tombstone.
-    fn unvalued(
+    fn field_without_address(
         &self,
         relocation: &InputRelocation,
         symbol: SymbolIndex,
         row: &RelocationKindInfo,
     ) -> Result<Decision, Fault>
-        ensures { result ≡ unvalued self.now.resolved.now.layout.now self.now.section.now relocation.now symbol row.now }
+        ensures { result ≡ field_without_address self.now.resolved.now.layout.now self.now.section.now relocation.now symbol row.now }
     {
         if self.resolved.names_merged(symbol) {
-            added_to(relocation, row, address_for(self.resolved, relocation))
+            field_of_sum(relocation, row, address_for(self.resolved, relocation))
         } else {
             self.tombstone_field(row)
         }
@@ -124,19 +124,19 @@ impl<'r, 'l, A: Arch> DebugStep<'r, 'l, A> {
 
     /// The field of a relocation, by its row.
     #[inline]
-    fn named_by(
+    fn field_by_symbol(
         &self,
         relocation: &InputRelocation,
         row: &RelocationKindInfo,
     ) -> Result<Decision, Fault>
-        ensures { result ≡ named_by self.now.resolved.now.layout.now self.now.section.now relocation.now row.now relocation.now.symbol }
+        ensures { result ≡ field_by_symbol self.now.resolved.now.layout.now self.now.section.now relocation.now row.now relocation.now.symbol }
     {
         let Some(symbol) = relocation.symbol else {
-            return unnamed(relocation, row);
+            return field_without_symbol(relocation, row);
         };
         match self.resolved.address(symbol) {
-            Some(_) => self.valued(relocation, symbol, row),
-            None => self.unvalued(relocation, symbol, row),
+            Some(_) => self.field_of_address(relocation, symbol, row),
+            None => self.field_without_address(relocation, symbol, row),
         }
     }
 
@@ -152,26 +152,29 @@ impl<'r, 'l, A: Arch> DebugStep<'r, 'l, A> {
                 number: relocation.number,
             }),
             Some(row) if matches!(row.kind, RelocationKind::None) => Ok(Decision::Nothing),
-            Some(row) => self.named_by(relocation, row),
+            Some(row) => self.field_by_symbol(relocation, row),
         }
     }
 }
 
 /// The value plus A in the row's field, or the fault of the value.
 #[inline]
-fn added_to(
+fn field_of_sum(
     relocation: &InputRelocation,
     row: &RelocationKindInfo,
     value: Result<u64, Fault>,
 ) -> Result<Decision, Fault>
-    ensures { result ≡ added_to relocation.now row.now value }
+    ensures { result ≡ field_of_sum relocation.now row.now value }
 {
     field(row, sum(value?, relocation.addend))
 }
 
 /// The field of a relocation without a symbol: A, if the row is an absolute address. Others are refused.
-fn unnamed(relocation: &InputRelocation, row: &RelocationKindInfo) -> Result<Decision, Fault>
-    ensures { result ≡ unnamed relocation.now row.now row.now.kind }
+fn field_without_symbol(
+    relocation: &InputRelocation,
+    row: &RelocationKindInfo,
+) -> Result<Decision, Fault>
+    ensures { result ≡ field_without_symbol relocation.now row.now row.now.kind }
 {
     match row.kind {
         RelocationKind::Absolute => field(row, relocation.addend.cast_unsigned()),

@@ -2,12 +2,12 @@
 ghost use Rattle.std.specs.Prelude.{◌≡◌, ◌+◌, length, All, Ok, slice_range};
 ghost use Rattle.wild_words.specs.Words.{place};
 ghost use Rattle.wild_reloc.specs.Field.{size_width, size_written};
-ghost use Rattle.wild_shards.specs.InOrder.{in_order, step_on, Came};
-ghost use Rattle.wild_layout.specs.Debug.{debug_decided, debug_rule, nowhere_at};
+ghost use Rattle.wild_shards.specs.InOrder.{in_order, apply_step, ResultIs};
+ghost use Rattle.wild_layout.specs.Debug.{debug_decided, debug_rule, at_offset_only};
 ghost use Rattle.wild_debug.specs.Fields.{LiesAt, FieldLiesFrom};
 
 use crate::decide::DebugStep;
-use crate::step::nowhere_at;
+use crate::step::at_offset_only;
 use wild_layout::Decision;
 use wild_relax::Arch;
 use wild_reloc::RelocationSize;
@@ -35,7 +35,7 @@ fn write_decided<A: Arch>(
 )
     requires decided { debug_decided _step.now.resolved.now.layout.now _step.now.section.now relocation.now ≡ Ok decision }
     requires lies { FieldLiesFrom _step.now.resolved.now.layout.now.machine base (length out.old) relocation.now }
-    ensures written { step_on (debug_rule _step.now.resolved.now.layout.now nowhere_at _step.now.section.now) base relocation.now out.old ≡ Ok out.new }
+    ensures written { apply_step (debug_rule _step.now.resolved.now.layout.now at_offset_only _step.now.section.now) base relocation.now out.old ≡ Ok out.new }
     ensures long { length out.new ≡ length out.old }
 {
     match decision {
@@ -55,7 +55,7 @@ fn apply<A: Arch>(
     out: &mut [u8],
 ) -> Result<(), Error>
     requires lies { FieldLiesFrom step.now.resolved.now.layout.now.machine base (length out.old) relocation.now }
-    ensures came { Came result out.new (step_on (debug_rule step.now.resolved.now.layout.now nowhere_at step.now.section.now) base relocation.now out.old) }
+    ensures came { ResultIs result out.new (apply_step (debug_rule step.now.resolved.now.layout.now at_offset_only step.now.section.now) base relocation.now out.old) }
     ensures long { length out.new ≡ length out.old }
 {
     match step.decided(relocation) {
@@ -65,7 +65,7 @@ fn apply<A: Arch>(
         }
         Err(fault) => Err(Error {
             fault,
-            at: nowhere_at(relocation.offset),
+            at: at_offset_only(relocation.offset),
         }),
     }
 }
@@ -78,7 +78,7 @@ pub(crate) fn apply_in_order<A: Arch>(
     out: &mut [u8],
 ) -> Result<(), Error>
     requires lies { All (FieldLiesFrom step.now.resolved.now.layout.now.machine base (length out.old)) relocations.now }
-    ensures { Came result out.new (in_order (debug_rule step.now.resolved.now.layout.now nowhere_at step.now.section.now) base relocations.now out.old) }
+    ensures { ResultIs result out.new (in_order (debug_rule step.now.resolved.now.layout.now at_offset_only step.now.section.now) base relocations.now out.old) }
 {
     for relocation in relocations {
         apply(step, relocation, base, out)?;

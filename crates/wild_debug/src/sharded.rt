@@ -1,8 +1,8 @@
 //! Applies the relocations of a debug section in parallel shards.
 ghost use Rattle.std.specs.Prelude.{◌≡◌, ◌+◌, ◌≤◌, length, All};
 ghost use Rattle.std.specs.Thread.{IsSync};
-ghost use Rattle.wild_shards.specs.InOrder.{in_order, first_of, Came, FieldWithin, Tiles};
-ghost use Rattle.wild_layout.specs.Debug.{debug_rule, nowhere_at};
+ghost use Rattle.wild_shards.specs.InOrder.{in_order, first_of, ResultIs, FieldWithin, Tiles};
+ghost use Rattle.wild_layout.specs.Debug.{debug_rule, at_offset_only};
 
 use crate::decide::DebugStep;
 use crate::pass::apply_in_order;
@@ -29,8 +29,8 @@ fn apply_part<A: Arch>(
     base: u64,
     out: &mut [u8],
 ) -> Result<(), Error>
-    requires { All (FieldWithin (debug_rule step.now.resolved.now.layout.now nowhere_at step.now.section.now) base (base + length out.old)) relocations.now }
-    ensures { Came result out.new (in_order (debug_rule step.now.resolved.now.layout.now nowhere_at step.now.section.now) base relocations.now out.old) }
+    requires { All (FieldWithin (debug_rule step.now.resolved.now.layout.now at_offset_only step.now.section.now) base (base + length out.old)) relocations.now }
+    ensures { ResultIs result out.new (in_order (debug_rule step.now.resolved.now.layout.now at_offset_only step.now.section.now) base relocations.now out.old) }
 {
     apply_in_order(step, relocations, base, out)
 }
@@ -47,8 +47,8 @@ pub(crate) fn run_shards<A: Arch + Sync, R: Threads + Sync>(
 ) -> Result<(), Error>
 where
     A::Relaxation: Sync,
-    requires tiles { Tiles (debug_rule step.now.resolved.now.layout.now nowhere_at step.now.section.now) ranges.now relocations.now base (base + length out.old) }
-    ensures { Came result out.new (in_order (debug_rule step.now.resolved.now.layout.now nowhere_at step.now.section.now) base relocations.now out.old) }
+    requires tiles { Tiles (debug_rule step.now.resolved.now.layout.now at_offset_only step.now.section.now) ranges.now relocations.now base (base + length out.old) }
+    ensures { ResultIs result out.new (in_order (debug_rule step.now.resolved.now.layout.now at_offset_only step.now.section.now) base relocations.now out.old) }
 {
     let Some((first, rest)) = ranges.split_first() else {
         return Ok(());
@@ -59,12 +59,12 @@ where
     let (one, two) = join_mut(
         rt,
         &mut || -> Result<(), Error>
-            requires { All (FieldWithin (debug_rule step.now.resolved.now.layout.now nowhere_at step.now.section.now) base (base + length front.now)) mine.now }
-            ensures { Came result front.exit.now (in_order (debug_rule step.entry.now.resolved.now.layout.now nowhere_at step.entry.now.section.now) base mine.entry.now front.entry.now) }
+            requires { All (FieldWithin (debug_rule step.now.resolved.now.layout.now at_offset_only step.now.section.now) base (base + length front.now)) mine.now }
+            ensures { ResultIs result front.exit.now (in_order (debug_rule step.entry.now.resolved.now.layout.now at_offset_only step.entry.now.section.now) base mine.entry.now front.entry.now) }
         { apply_part(step, mine, base, front) },
         &mut || -> Result<(), Error>
-            requires { Tiles (debug_rule step.now.resolved.now.layout.now nowhere_at step.now.section.now) rest.now others.now middle (middle + length back.now) }
-            ensures { Came result back.exit.now (in_order (debug_rule step.entry.now.resolved.now.layout.now nowhere_at step.entry.now.section.now) middle others.entry.now back.entry.now) }
+            requires { Tiles (debug_rule step.now.resolved.now.layout.now at_offset_only step.now.section.now) rest.now others.now middle (middle + length back.now) }
+            ensures { ResultIs result back.exit.now (in_order (debug_rule step.entry.now.resolved.now.layout.now at_offset_only step.entry.now.section.now) middle others.entry.now back.entry.now) }
         { run_shards(rt, step, rest, others, middle, back) },
     );
     first_of(one, two)

@@ -1,6 +1,6 @@
 //! A relocation of a debug section, as a step that shards apply.
 ghost use Rattle.std.specs.Prelude.{◌≡◌, length};
-ghost use Rattle.wild_layout.specs.Debug.{debug_field, nowhere_at};
+ghost use Rattle.wild_layout.specs.Debug.{debug_field, at_offset_only};
 
 use crate::decide::DebugStep;
 use wild_layout::Decision;
@@ -9,8 +9,8 @@ use wild_shards::Step;
 use wild_types::{At, Error, InputRelocation};
 
 /// A place that has an offset only.
-pub(crate) fn nowhere_at(offset: u64) -> At
-    ensures { result ≡ nowhere_at offset }
+pub(crate) fn at_offset_only(offset: u64) -> At
+    ensures { result ≡ at_offset_only offset }
 {
     At {
         group: None,
@@ -33,10 +33,10 @@ fn write_field(decision: Decision, room: &mut [u8])
 }
 
 impl<A: Arch> Step for DebugStep<'_, '_, A> {
-    ghost use Rattle.wild_layout.specs.Debug.{debug_rule, nowhere_at};
+    ghost use Rattle.wild_layout.specs.Debug.{debug_rule, at_offset_only};
     ghost use Rattle.wild_debug.specs.Rules.{rule_small, rule_keeps};
 
-    ghost rule = { λ t. debug_rule t.resolved.now.layout.now nowhere_at t.section.now };
+    ghost rule = { λ t. debug_rule t.resolved.now.layout.now at_offset_only t.section.now };
 
     ghost small = { λ t r. rule_small t.resolved.now.layout.now t.section.now r };
 
@@ -57,7 +57,7 @@ impl<A: Arch> Step for DebugStep<'_, '_, A> {
             }
             Err(fault) => Err(Error {
                 fault,
-                at: nowhere_at(relocation.offset),
+                at: at_offset_only(relocation.offset),
             }),
         }
     }

@@ -14,7 +14,7 @@ use Rattle.wild_text.specs.Answer.{image_line, refusal_text, warning_line, count
 use Rattle.wild_text.specs.Means.{no_json, no_plan, plan}
 use Rattle.wild_program.specs.Exit as exit
 use Rattle.wild_program.specs.Program.{errors_status, errors_text}
-use Rattle.wild_explain.specs.Explain.{Begins, errors_line, link_line, LinkBegins, IsRefusedAs}
+use Rattle.wild_explain.specs.Explain.{Begins, errors_line, link_line, LinkLineIsFirst, IsRefusedAs}
 
 -- a text begins with itself
 whole : (line : List ℕ) → Begins line line
@@ -46,7 +46,7 @@ pub linked_as : (l : Layout) (es : List Error) (image said : List ℕ) → es �
 linked_as l [] image said none same h = (refl, (h.0, h.1 ∙ ap (λ (x : List ℕ). image_line (length x) ++ h.0) same))
 linked_as l (e ∷ es) image said none same h = absurd cc
 
-pub begun : LinkBegins
+pub begun : LinkLineIsFirst
 begun no_json = whole (link_line no_json)
 begun (no_plan path) = whole (no_plan_text path)
 begun (plan l) = of_errors l (errors l)

@@ -2,7 +2,7 @@
 ghost use Rattle.std.specs.Prelude.{◌≡◌, IfOk, string_bytes, length};
 ghost use Rattle.wild_text.specs.Means.{plan};
 ghost use Rattle.wild_text.specs.Answer.{image_line, no_plan_text};
-ghost use Rattle.wild_explain.specs.Explain.{Begins, IsTold, IsExplained, IsRefusedAs, IsAnswerOf};
+ghost use Rattle.wild_explain.specs.Explain.{Begins, IsRightText, IsExplained, IsRefusedAs, IsAnswerOf};
 
 use crate::command::{Command, View};
 use serde_json::Value;
@@ -55,7 +55,7 @@ fn image_words(
 }
 
 /// A line and the text after it.
-fn joined(alloc: Global, line: &str, reason: &str) -> Result<String, AllocError>
+fn join_lines(alloc: Global, line: &str, reason: &str) -> Result<String, AllocError>
     ensures { IfOk result (λ s. Begins line.now (string_bytes s)) }
 {
     let text = format!(in alloc; "{line}{reason}")?;
@@ -74,12 +74,12 @@ fn image_answer(
     let size = image.len();
     let line = format!(in alloc; "image {size}\n")?;
     let rest = image_words(alloc, layout, image, view)?;
-    let text = joined(alloc, line.as_str(), rest.as_str())?;
+    let text = join_lines(alloc, line.as_str(), rest.as_str())?;
     Ok(text)
 }
 
 /// The status and the text of `explain` for a layout.
-fn explained(
+fn explain_layout(
     rt: &(impl Threads + Sync),
     alloc: Global,
     layout: &Layout,
@@ -103,10 +103,10 @@ fn layout_answer(
     layout: &Layout,
     command: Command,
 ) -> Result<(u8, String), AllocError>
-    ensures { IfOk result (λ a. IsTold command (plan layout.now) a.0 (string_bytes a.1)) }
+    ensures { IfOk result (λ a. IsRightText command (plan layout.now) a.0 (string_bytes a.1)) }
 {
     match command {
-        Command::Explain(view) => explained(rt, alloc, layout, view),
+        Command::Explain(view) => explain_layout(rt, alloc, layout, view),
         Command::Needs => {
             let mut text = String::new(alloc);
             push_needs(&mut text, layout)?;
@@ -122,7 +122,7 @@ fn no_plan_reason(alloc: Global, path: &str) -> Result<String, AllocError>
     let line = no_plan_answer(alloc, path)?;
     let mut reason = String::new(alloc);
     push_no_plan(&mut reason, path)?;
-    let text = joined(alloc, line.as_str(), reason.as_str())?;
+    let text = join_lines(alloc, line.as_str(), reason.as_str())?;
     Ok(text)
 }
 
@@ -141,7 +141,7 @@ pub(crate) fn plan_answer(
             if e.is_memory() {
                 return Err(AllocError);
             }
-            let text = joined(alloc, "not a plan: json\n", "what: the text is no JSON\n")?;
+            let text = join_lines(alloc, "not a plan: json\n", "what: the text is no JSON\n")?;
             return Ok((NO_PLAN, text));
         }
     };

@@ -23,7 +23,7 @@ pub enum Command {
 }
 
 /// No options.
-const PLAIN: View = View {
+const NO_OPTIONS: View = View {
     first_only: false,
     relocations: false,
     byte: None,
@@ -31,7 +31,7 @@ const PLAIN: View = View {
 
 /// Parses the options of `explain`, if these words are options; the word after `--byte` is an offset.
 fn view_of(options: &[String]) -> Option<View> {
-    let mut view = PLAIN;
+    let mut view = NO_OPTIONS;
     let mut is_offset = false;
     for option in options {
         let word = option.as_str();
@@ -56,7 +56,7 @@ fn plain_command(word: &str) -> Option<Command>
     ensures { MatchOption result ((word.now ≡ codes "explain" → ⊥) × (word.now ≡ codes "needs" → ⊥)) (IsOneWord word.now) }
 {
     if word == "explain" {
-        Some(Command::Explain(PLAIN))
+        Some(Command::Explain(NO_OPTIONS))
     } else if word == "needs" {
         Some(Command::Needs)
     } else {

@@ -8,5 +8,5 @@ mod laws;
 mod program;
 
 pub use command::{Command, View, command_of};
-pub use laws::link_is_begun;
+pub use laws::link_line_is_first;
 pub use program::explain;

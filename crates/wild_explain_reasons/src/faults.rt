@@ -6,41 +6,41 @@ use crate::thunks::refused_thunk;
 use std::alloc::AllocError;
 use std::fmt::Write;
 use wild_slot::{SlotFault, SymbolSlots};
-use wild_types::{At, Fault, InputSection, Layout, Missing, Why};
+use wild_types::{At, Fault, FrameFault, InputSection, Layout, Missing};
 
 /// What is wrong with a relocation, a slot, a symbol or a section of frames, and the remedy. `words_number` has the row of a fault.
 const FAULT_WORDS: [(&str, &str); 27] = [
-    // 0: Why::Malformed
+    // 0: FrameFault::Malformed
     (
         "the reader of the input failed at a relocation of frames",
         "give the relocation as the input has it",
     ),
-    // 1: Why::Unsorted
+    // 1: FrameFault::Unsorted
     (
         "a relocation of frames stands before the one in front of it",
         "sort the relocations of the section by `offset`",
     ),
-    // 2: Why::Cut
+    // 2: FrameFault::Cut
     (
         "an entry of frames ends behind its section",
         "give the section all its bytes, or correct the entry's length",
     ),
-    // 3: Why::Short
+    // 3: FrameFault::Short
     (
         "an entry of frames has no room for its id, or one that is kept none for where its code begins",
         "correct the entry's length; only the last one may be 0",
     ),
-    // 4: Why::PcBegin
+    // 4: FrameFault::PcBegin
     (
         "where the code of a frame begins is told by no symbol, or by one that stands in no input section",
         "give the relocation at byte 8 of the entry the symbol of its code",
     ),
-    // 5: Why::Cie
+    // 5: FrameFault::Cie
     (
         "an entry's id leads to no CIE of its section",
         "correct the id: the distance from itself back to the CIE",
     ),
-    // 6: Why::Field
+    // 6: FrameFault::Field
     (
         "the field of a relocation ends behind its entry of frames",
         "correct its `offset` or its `number`",
@@ -148,14 +148,26 @@ const FAULT_WORDS: [(&str, &str); 27] = [
 fn words_number(fault: Fault) -> usize {
     match fault {
         Fault::BadFrameData {
-            why: Why::Malformed,
+            why: FrameFault::Malformed,
         } => 0,
-        Fault::BadFrameData { why: Why::Unsorted } => 1,
-        Fault::BadFrameData { why: Why::Cut } => 2,
-        Fault::BadFrameData { why: Why::Short } => 3,
-        Fault::BadFrameData { why: Why::PcBegin } => 4,
-        Fault::BadFrameData { why: Why::Cie } => 5,
-        Fault::BadFrameData { why: Why::Field } => 6,
+        Fault::BadFrameData {
+            why: FrameFault::Unsorted,
+        } => 1,
+        Fault::BadFrameData {
+            why: FrameFault::Cut,
+        } => 2,
+        Fault::BadFrameData {
+            why: FrameFault::Short,
+        } => 3,
+        Fault::BadFrameData {
+            why: FrameFault::PcBegin,
+        } => 4,
+        Fault::BadFrameData {
+            why: FrameFault::Cie,
+        } => 5,
+        Fault::BadFrameData {
+            why: FrameFault::Field,
+        } => 6,
         Fault::UnsupportedRelocation { .. } => 7,
         Fault::RecompileWithPic { .. } => 8,
         Fault::MissingResolution {

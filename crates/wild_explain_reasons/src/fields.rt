@@ -140,7 +140,7 @@ pub fn push_fields(out: &mut String, layout: &Layout, image: &[u8]) -> Result<()
     for (group, found) in layout.groups.as_slice().iter().enumerate() {
         for (file, held) in found.files.as_slice().iter().enumerate() {
             for (section, input) in held.sections.as_slice().iter().enumerate() {
-                let is_here = input.is_written() && !input.is_dropped(layout);
+                let is_here = input.has_written_relocations() && !input.is_omitted(layout);
                 if is_here && !layout.kind.is_partial_link() {
                     let at = SectionPlace {
                         group,

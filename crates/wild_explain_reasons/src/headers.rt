@@ -29,7 +29,7 @@ pub(crate) fn first_of(layout: &Layout, role: Role) -> Option<(usize, Part)> {
 }
 
 /// The sum of the shares of a part of so many groups, at most 2^64 - 1.
-pub(crate) fn given_before(layout: &Layout, part: usize, group: usize) -> u64 {
+pub(crate) fn shares_before(layout: &Layout, part: usize, group: usize) -> u64 {
     let mut sum: u64 = 0;
     for (i, found) in layout.groups.as_slice().iter().enumerate() {
         if i < group {
@@ -65,7 +65,7 @@ fn lies_in(layout: &Layout, section: &Section, part: &Part) -> bool {
 /// Whether a loaded segment has the file bytes of a part, or its addresses if its section is not written.
 fn is_carried(layout: &Layout, part: &Part) -> bool {
     for segment in layout.segments.as_slice() {
-        let holds = if layout.is_hollow_at(part.section) {
+        let holds = if layout.is_header_only_at(part.section) {
             lies_within(segment.address, segment.mem_size, part.address, part.size)
         } else {
             lies_within(segment.offset, segment.file_size, part.offset, part.size)
@@ -123,7 +123,7 @@ pub(crate) fn test_part(layout: &Layout, index: usize, part: &Part, test: &PartT
         }
         PartTest::Split => plain(is_carried(layout, part)),
         PartTest::Shares => {
-            let sum = given_before(layout, index, layout.groups.len());
+            let sum = shares_before(layout, index, layout.groups.len());
             due(sum != part.size, sum)
         }
         PartTest::Section => plain(part.section.0 >= layout.sections.len()),
@@ -137,7 +137,7 @@ pub(crate) fn test_part(layout: &Layout, index: usize, part: &Part, test: &PartT
                 part.role,
                 Role::FileHeader | Role::ProgramHeaders | Role::SectionHeaders | Role::Shstrtab
             );
-            plain(is_header && layout.is_hollow_at(part.section))
+            plain(is_header && layout.is_header_only_at(part.section))
         }
         PartTest::Last => plain(true),
     }
@@ -234,7 +234,7 @@ pub(crate) fn segments_before(layout: &Layout, index: usize) -> (u64, usize) {
 fn is_dynamic(layout: &Layout, segment: &Segment) -> bool {
     match first_of(layout, Role::Dynamic) {
         Some((_, part)) => {
-            let in_file = if layout.is_hollow_at(part.section) {
+            let in_file = if layout.is_header_only_at(part.section) {
                 0
             } else {
                 part.size

@@ -1,7 +1,7 @@
 //! Tests of groups, files, input sections, and the lists of names.
 
 use crate::fronts::has_front;
-use crate::headers::{ends_high, first_of, given_before};
+use crate::headers::{ends_high, first_of, shares_before};
 use crate::items::{Item, SectionPlace, section_at};
 use crate::partial::{is_of_other, names_no_section};
 use crate::tests::{EntryTest, FileTest, GroupTest, InputTest};
@@ -26,7 +26,7 @@ pub(crate) fn test_group(
         GroupTest::NoFile => plain(true),
         GroupTest::Start(role) => {
             let before = match first_of(layout, *role) {
-                Some((part, _)) => given_before(layout, part, index),
+                Some((part, _)) => shares_before(layout, part, index),
                 None => 0,
             };
             let found = match *role {
@@ -178,11 +178,11 @@ pub(crate) fn first_astray(
 ) -> Option<Finding> {
     let found = layout.groups.as_slice().get(group)?;
     let start = layout.parts.as_slice().get(part)?.address;
-    let mut from = start.saturating_add(given_before(layout, part, group));
-    let to = start.saturating_add(given_before(layout, part, group.saturating_add(1)));
+    let mut from = start.saturating_add(shares_before(layout, part, group));
+    let to = start.saturating_add(shares_before(layout, part, group.saturating_add(1)));
     for (file, held) in found.files.as_slice().iter().enumerate() {
         for (section, input) in held.sections.as_slice().iter().enumerate() {
-            if input.part == part && input.is_given(layout) {
+            if input.part == part && input.has_range_bytes(layout) {
                 let at = SectionPlace {
                     group,
                     file,

@@ -1,7 +1,7 @@
 //! Which part, group, input section and relocation a byte of the image belongs to.
 
 use crate::faults::push_relocation;
-use crate::headers::given_before;
+use crate::headers::shares_before;
 use crate::items::{Item, SectionPlace, push_item, section_at};
 use crate::names::{push_section, role_word};
 use crate::thunks::thunk_with;
@@ -72,8 +72,8 @@ fn push_in_part(
         "part: byte {byte} of /parts/{index} ({word}), address {address}"
     )?;
     for group in 0..layout.groups.len() {
-        let before = given_before(layout, index, group);
-        let through = given_before(layout, index, group.saturating_add(1));
+        let before = shares_before(layout, index, group);
+        let through = shares_before(layout, index, group.saturating_add(1));
         if before <= byte && byte < through {
             let own = byte - before;
             writeln!(out, "group: byte {own} of the share of /groups/{group}")?;

@@ -1,4 +1,4 @@
-//! Why a layout was refused.
+//! FrameFault a layout was refused.
 
 use crate::clauses::push_clause;
 use crate::faults::push_fault;

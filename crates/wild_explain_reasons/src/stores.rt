@@ -5,7 +5,7 @@ use crate::items::{Item, SectionPlace, push_item};
 use std::alloc::{AllocError, Global};
 use std::fmt::Write;
 use wild_records::abi::segment::{PF_W, PT_LOAD};
-use wild_slot::{SlotWord, SymbolSlots, Treatment, begins_block, treatment_of};
+use wild_slot::{SlotWord, SymbolSlots, Treatment, begins_relr_got, treatment_of};
 use wild_types::{File, InputSection, Layout, Role, SectionIndex, Segment, Slot, is_writable};
 
 /// The loaded segments in their order, and what keeps a loader from storing in the parts `got` and `got_relr`.
@@ -110,7 +110,7 @@ pub(crate) fn push_slots(
     }
     for (i, symbol) in layout.own_symbols(file).iter().enumerate() {
         let slots = SymbolSlots::of(layout, symbol);
-        let barrier = if begins_block(slots.words()) {
+        let barrier = if begins_relr_got(slots.words()) {
             barriers.block
         } else {
             barriers.got

@@ -4,7 +4,7 @@ use crate::headers::first_of;
 use crate::tests::SymbolTest;
 use crate::verdict::{Verdict, due, plain};
 use wild_needs::{dynsym_of, is_undefined_entry};
-use wild_slot::{STUB_SIZE, SymbolSlots, WORD_SIZE, WordPart, begins_block, count_words};
+use wild_slot::{STUB_SIZE, SymbolSlots, WORD_SIZE, WordPart, begins_relr_got, count_words};
 use wild_types::{Layout, Place, Role, Symbol, SymbolIndex, got_of, has_thread_slot, plt_of};
 
 /// The address of the part of a role; 0 if there is none.
@@ -37,9 +37,9 @@ fn free_at(layout: &Layout, index: usize) -> Option<(u64, u64, u64)> {
                 }
                 if got_of(symbol).is_some() {
                     let slots = SymbolSlots::of(layout, symbol);
-                    let place = symbol.slots_at();
+                    let place = symbol.slots_address();
                     let words = count_words(WordPart::Got, relr, place, slots.words());
-                    let packed = count_words(WordPart::Block, relr, place, slots.words());
+                    let packed = count_words(WordPart::RelrGot, relr, place, slots.words());
                     let size = if slots.has_stub() { STUB_SIZE } else { 0 };
                     got = got.saturating_add((WORD_SIZE * words) as u64);
                     block = block.saturating_add((WORD_SIZE * packed) as u64);
@@ -67,7 +67,7 @@ fn test_slots(layout: &Layout, index: usize, symbol: &Symbol, test: &SymbolTest)
         return plain(unwritten && got.is_some());
     };
     match test {
-        SymbolTest::Slot if begins_block(SymbolSlots::of(layout, symbol).words()) => {
+        SymbolTest::Slot if begins_relr_got(SymbolSlots::of(layout, symbol).words()) => {
             astray(got, free_block)
         }
         SymbolTest::Slot => astray(got, free_got),

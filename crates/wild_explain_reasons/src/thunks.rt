@@ -59,7 +59,7 @@ fn misplaced_in(
     let mut next = start;
     for (file, held) in held.files.as_slice().iter().enumerate() {
         for (section, input) in held.sections.as_slice().iter().enumerate() {
-            if input.part == layout.primary_part && input.is_given(layout) {
+            if input.part == layout.primary_part && input.has_range_bytes(layout) {
                 if input.address < next {
                     let item = Item::Input(SectionPlace {
                         group,

@@ -5,17 +5,17 @@ use Rattle.std.proofs.lemmas.Bool.{cases_Bool}
 use Rattle.std.proofs.lemmas.Bool.Decides.{nat_tests}
 use Rattle.std.proofs.lemmas.List.{length-take-le, get_or-take, get_or-drop}
 use Rattle.std.proofs.lemmas.List.Elements.{All-head, All-tail}
-use Rattle.wild_words.specs.Words.{word, number, number_at, Stands}
+use Rattle.wild_words.specs.Words.{word, number, number_at, HasBytesAt}
 use Rattle.wild_words.proofs.Basics.{length-range, range_byte}
 use Rattle.wild_words.proofs.WordLemmas.{length-word}
-use Rattle.wild_words.proofs.OverlayLemmas.{place-below, place-inside, place-above, Stands-inner}
-use Rattle.wild_words.proofs.RecordLemmas.{Stands-slice, number-stands}
+use Rattle.wild_words.proofs.OverlayLemmas.{place-below, place-inside, place-above, HasBytesAt-inner}
+use Rattle.wild_words.proofs.RecordLemmas.{HasBytesAt-slice, number-stands}
 use Rattle.wild_reloc.proofs.BitLemmas.{number_32}
 use Rattle.wild_types.specs.Lists.{total}
 use Rattle.wild_frames.specs.declared.entry.KeptEntry.{KeptEntry}
 use Rattle.wild_frames.specs.Frames.{Frames, start, entry_bytes, kept_in, found_in, frame_bytes}
 use Rattle.wild_frames.specs.Walks.{KeptLies}
-use Rattle.wild_frames.specs.Reading.{IsRead, AreRead, LieFrom, shown, Leads, EntriesAreRead, OthersAreInput}
+use Rattle.wild_frames.specs.Reading.{IsRead, AreRead, AreConsecutiveFrom, entry_in_image, LeadsToItsCie, EntriesAreRead, OthersAreInput}
 use Rattle.wild_frames.proofs.WriteLemmas.{length-entry}
 use Rattle.wild_frames.proofs.EntryLemmas.{KeptIs, each_kept, found_walked, no_gaps, leads_all}
 
@@ -46,13 +46,13 @@ entry_byte s k i h l o =
 pub others : OthersAreInput
 others s k i c l o =
     let is : KeptIs s k = subst (KeptIs s) c.2 (each_kept s start (found_in s) (found_walked s) c.0 k c.1) in
-    let st : Stands (frame_bytes s) k.to (entry_bytes s k) = subst (λ (j : KeptEntry). Stands (frame_bytes s) j.to (entry_bytes s j)) c.2 ((no_gaps s).stand c.0 k c.1) in
+    let st : HasBytesAt (frame_bytes s) k.to (entry_bytes s k) = subst (λ (j : KeptEntry). HasBytesAt (frame_bytes s) j.to (entry_bytes s j)) c.2 ((no_gaps s).stand c.0 k c.1) in
     let n = length-entry s k is.lies.least is.lies.within in
     st.same i (omega (arith, n, l)) ∙ entry_byte s k i is.lies l o
 
 -- ---- length and id
 
-head_stands : (s : Frames) (k : KeptEntry) → KeptLies s k → Stands (take 8 (entry_bytes s k)) 0 (slice_range s.bytes k.from (k.from + 4))
+head_stands : (s : Frames) (k : KeptEntry) → KeptLies s k → HasBytesAt (take 8 (entry_bytes s k)) 0 (slice_range s.bytes k.from (k.from + 4))
 head_stands s k h =
     let least = h.least in
     let within = h.within in
@@ -65,7 +65,7 @@ head_stands s k h =
           rw z (get_or-take 8 (entry_bytes s k) i 0 (omega (arith, n)) ∙ entry_byte s k i h (omega (arith, n, least)) (inr (inl (omega (arith, n)))) ∙ sym (range_byte s.bytes k.from 4 i (omega (arith, n)))));
     }
 
-cie_id_stands : (s : Frames) (k : KeptEntry) → KeptLies s k → k.id ≡ 0 → Stands (take 8 (entry_bytes s k)) 4 (slice_range s.bytes (k.from + 4) (k.from + 4 + 4))
+cie_id_stands : (s : Frames) (k : KeptEntry) → KeptLies s k → k.id ≡ 0 → HasBytesAt (take 8 (entry_bytes s k)) 4 (slice_range s.bytes (k.from + 4) (k.from + 4 + 4))
 cie_id_stands s k h z =
     let least = h.least in
     let within = h.within in
@@ -79,7 +79,7 @@ cie_id_stands s k h z =
           ∙ ap (λ (j : ℕ). get_or s.bytes j 0) y ∙ sym (range_byte s.bytes (k.from + 4) 4 i (omega (arith, n))));
     }
 
-fde_id_stands : (s : Frames) (k : KeptEntry) → KeptLies s k → (k.id ≡ 0 → ⊥) → Stands (take 8 (entry_bytes s k)) 4 (word 4 k.id)
+fde_id_stands : (s : Frames) (k : KeptEntry) → KeptLies s k → (k.id ≡ 0 → ⊥) → HasBytesAt (take 8 (entry_bytes s k)) 4 (word 4 k.id)
 unfolding entry_bytes
 fde_id_stands s k h z =
     let least = h.least in
@@ -109,19 +109,19 @@ word_bound bs at l a =
 
 -- ---- an entry is read
 
-read_as : (image part : List ℕ) (at n : ℕ) → length part ≡ n → Stands image at part → slice_range image at (at + n) ≡ part
-read_as image part at n e st = subst (λ (m : ℕ). slice_range image at (at + m) ≡ part) e (Stands-slice image part at st)
+read_as : (image part : List ℕ) (at n : ℕ) → length part ≡ n → HasBytesAt image at part → slice_range image at (at + n) ≡ part
+read_as image part at n e st = subst (λ (m : ℕ). slice_range image at (at + m) ≡ part) e (HasBytesAt-slice image part at st)
 
-head_read : (s : Frames) (k : KeptEntry) (image : List ℕ) (at : ℕ) → KeptLies s k → Stands image at (take 8 (entry_bytes s k)) → number_at image at 4 ≡ number_at s.bytes k.from 4
+head_read : (s : Frames) (k : KeptEntry) (image : List ℕ) (at : ℕ) → KeptLies s k → HasBytesAt image at (take 8 (entry_bytes s k)) → number_at image at 4 ≡ number_at s.bytes k.from 4
 head_read s k image at h st =
     let least = h.least in
     let within = h.within in
     let part = slice_range s.bytes k.from (k.from + 4) in
     let n = length-range s.bytes k.from 4 (omega arith) in
     let z : at + 0 ≡ at = omega arith in
-    ap number (read_as image part at 4 n (subst (λ (x : ℕ). Stands image x part) z (Stands-inner image (take 8 (entry_bytes s k)) part at 0 st (head_stands s k h))))
+    ap number (read_as image part at 4 n (subst (λ (x : ℕ). HasBytesAt image x part) z (HasBytesAt-inner image (take 8 (entry_bytes s k)) part at 0 st (head_stands s k h))))
 
-id_read : (s : Frames) (kept : List KeptEntry) (k : KeptEntry) (image : List ℕ) (at : ℕ) → All (λ b. b < 256) s.bytes → KeptLies s k → Leads s kept k → Stands image at (take 8 (entry_bytes s k)) → number_at image (at + 4) 4 ≡ k.id
+id_read : (s : Frames) (kept : List KeptEntry) (k : KeptEntry) (image : List ℕ) (at : ℕ) → All (λ b. b < 256) s.bytes → KeptLies s k → LeadsToItsCie s kept k → HasBytesAt image at (take 8 (entry_bytes s k)) → number_at image (at + 4) 4 ≡ k.id
 id_read s kept k image at bytes h l st =
     let least = h.least in
     let within = h.within in
@@ -129,26 +129,26 @@ id_read s kept k image at bytes h l st =
       | inl z ↦ (
           let part = slice_range s.bytes (k.from + 4) (k.from + 4 + 4) in
           let n = length-range s.bytes (k.from + 4) 4 (omega arith) in
-          ap number (read_as image part (at + 4) 4 n (Stands-inner image (take 8 (entry_bytes s k)) part at 4 st (cie_id_stands s k h z.1))) ∙ z.0 ∙ sym z.1)
+          ap number (read_as image part (at + 4) 4 n (HasBytesAt-inner image (take 8 (entry_bytes s k)) part at 4 st (cie_id_stands s k h z.1))) ∙ z.0 ∙ sym z.1)
       | inr f ↦ (
           let ahead = f.ahead in
           let after = f.after in
           let shorter = f.shorter in
           let bound = word_bound s.bytes (k.from + 4) (omega arith) bytes in
-          number-stands image (at + 4) 4 k.id (Stands-inner image (take 8 (entry_bytes s k)) (word 4 k.id) at 4 st (fde_id_stands s k h (λ z. omega (arith, ahead, after, z)))) (omega (arith, shorter, bound)))
+          number-stands image (at + 4) 4 k.id (HasBytesAt-inner image (take 8 (entry_bytes s k)) (word 4 k.id) at 4 st (fde_id_stands s k h (λ z. omega (arith, ahead, after, z)))) (omega (arith, shorter, bound)))
     ]
 
 -- entries that are found where they are looked for
-follow : (image : List ℕ) (base to at : ℕ) (ks : List KeptEntry) → at ≡ base + to → LieFrom to ks → All (λ k. IsRead image (shown base k)) ks → AreRead image at (map (shown base) ks) (at + total (λ k. k.size) ks)
+follow : (image : List ℕ) (base to at : ℕ) (ks : List KeptEntry) → at ≡ base + to → AreConsecutiveFrom to ks → All (λ k. IsRead image (entry_in_image base k)) ks → AreRead image at (map (entry_in_image base) ks) (at + total (λ k. k.size) ks)
 follow image base to at [] e l a = omega arith
 follow image base to at (k ∷ ks) e l a =
     let t = l.0 in
     record {
       place = omega (arith, t, e);
-      read = All-head (λ j. IsRead image (shown base j)) k ks a;
+      read = All-head (λ j. IsRead image (entry_in_image base j)) k ks a;
       others =
           let n : at + k.size + total (λ j. j.size) ks ≡ at + (k.size + total (λ j. j.size) ks) = omega arith in
-          subst (λ (x : ℕ). AreRead image (at + k.size) (map (shown base) ks) x) n (follow image base (to + k.size) (at + k.size) ks (omega (arith, e)) l.1 (All-tail (λ j. IsRead image (shown base j)) k ks a));
+          subst (λ (x : ℕ). AreRead image (at + k.size) (map (entry_in_image base) ks) x) n (follow image base (to + k.size) (at + k.size) ks (omega (arith, e)) l.1 (All-tail (λ j. IsRead image (entry_in_image base j)) k ks a));
     }
 
 -- each entry is read

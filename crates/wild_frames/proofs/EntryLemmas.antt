@@ -4,17 +4,17 @@ use Rattle.std.specs.Prelude.{Contains, nat_le, ◌==◌, drop}
 use Rattle.std.proofs.lemmas.Bool.{cases_Bool, leb-true, eqb-true}
 use Rattle.std.proofs.lemmas.List.{append_assoc, length-append, get_or_append_left, get_or-append-add}
 use Rattle.std.proofs.lemmas.List.Elements.{All-nil, All-cons, All-head, All-tail, All-append}
-use Rattle.wild_words.specs.Words.{number_at, Stands}
-use Rattle.wild_words.proofs.RecordLemmas.{Stands-left, Stands-right}
+use Rattle.wild_words.specs.Words.{number_at, HasBytesAt}
+use Rattle.wild_words.proofs.RecordLemmas.{HasBytesAt-left, HasBytesAt-right}
 use Rattle.wild_types.specs.Lists.{total}
 use Rattle.wild_frames.specs.declared.entry.Cie.{Cie}
 use Rattle.wild_frames.specs.declared.entry.KeptEntry.{KeptEntry}
 use Rattle.wild_frames.specs.declared.entry.BadFrame.{BadFrame}
 use Rattle.wild_frames.specs.declared.entry.Found.{Found}
 use Rattle.wild_frames.specs.declared.entry.Found.TheVariants as finds
-use Rattle.wild_frames.specs.Frames.{Frames, State, start, cie_at, cie_back, behind, after, goes_on, found, walk, rest_of, entry_bytes, tail_of, found_bytes, kept_of, kept_in, list_error, unless, found_in}
+use Rattle.wild_frames.specs.Frames.{Frames, State, start, cie_at, cie_back, behind, after, walk_continues, found, walk, rest_of, entry_bytes, tail_of, found_bytes, kept_of, kept_in, list_error, unless, found_in}
 use Rattle.wild_frames.specs.Walks.{KeptLies}
-use Rattle.wild_frames.specs.Reading.{Leads, LieFrom, tail_found, EntriesHaveNoGaps}
+use Rattle.wild_frames.specs.Reading.{LeadsToItsCie, AreConsecutiveFrom, tail_found, EntriesHaveNoGaps}
 use Rattle.wild_frames.proofs.WalkLemmas.{Facts, KeptFacts, found_facts, kept_lies}
 use Rattle.wild_frames.proofs.WriteLemmas.{length-entry}
 
@@ -27,7 +27,7 @@ Contains-right xs ys x c = (length xs + c.0, (let l = c.1 in let n = length-appe
 -- the facts of each, one behind the other
 pub record Step (s : Frames) (st : State) (f : Found) (fs : List Found) (rest : Type 0) : Type 0 where
   pub facts : Facts s st f
-  pub ends : goes_on f ≡ false → fs ≡ []
+  pub ends : walk_continues f ≡ false → fs ≡ []
   pub others : rest
 
 abbrev pub IsWalked : Frames → State → List Found → Type 0
@@ -38,7 +38,7 @@ walked : (s : Frames) (n : ℕ) (st : State) → IsWalked s st (walk s n st)
 unfolding walk
 walked s zero st = tt
 walked s (suc n) st =
-    elim (cases_Bool (goes_on (found s st))) [
+    elim (cases_Bool (walk_continues (found s st))) [
       | inl t ↦ rw t (record { facts = found_facts s st; ends = λ n. cc; others = walked s n (after st (found s st)) })
       | inr f ↦ rw f (record { facts = found_facts s st; ends = λ n. refl; others = tt })
     ]
@@ -69,7 +69,7 @@ each_kept s st (finds.Bad y at ∷ fs) w = each_kept s _ fs w.others
 
 -- ---- where they stand
 
-lie_in : (s : Frames) (st : State) (fs : List Found) → IsWalked s st fs → LieFrom st.to (flat_map kept_of fs)
+lie_in : (s : Frames) (st : State) (fs : List Found) → IsWalked s st fs → AreConsecutiveFrom st.to (flat_map kept_of fs)
 lie_in s st [] w = tt
 lie_in s st (finds.Kept k ∷ fs) w = (w.facts.to, lie_in s (behind st k) fs w.others)
 lie_in s st (finds.Dropped size ∷ fs) w = lie_in s (after st (finds.Dropped size)) fs w.others
@@ -96,24 +96,24 @@ length_in s st (finds.Tail at ∷ fs) w =
 
 -- each stands in the bytes
 stand_in : (s : Frames) (st : State) (fs : List Found) (front : List ℕ) → length front ≡ st.to → IsWalked s st fs
-    → All (λ k. Stands (front ++ flat_map (found_bytes s) fs) k.to (entry_bytes s k)) (flat_map kept_of fs)
-stand_in s st [] front e w = All-nil (λ k. Stands (front ++ []) k.to (entry_bytes s k))
+    → All (λ k. HasBytesAt (front ++ flat_map (found_bytes s) fs) k.to (entry_bytes s k)) (flat_map kept_of fs)
+stand_in s st [] front e w = All-nil (λ k. HasBytesAt (front ++ []) k.to (entry_bytes s k))
 stand_in s st (finds.Kept k ∷ fs) front e w =
     let h = w.facts in
     let lies = kept_lies s st k h in
     let bytes = flat_map (found_bytes s) fs in
-    let here = Stands-right front (entry_bytes s k ++ bytes) (entry_bytes s k) 0 (Stands-left (entry_bytes s k) bytes) in
+    let here = HasBytesAt-right front (entry_bytes s k ++ bytes) (entry_bytes s k) 0 (HasBytesAt-left (entry_bytes s k) bytes) in
     let at : length front + 0 ≡ k.to = let t = h.to in omega arith in
     let n = length-entry s k lies.least lies.within in
     let more : length (front ++ entry_bytes s k) ≡ st.to + k.size = simp length-append (omega (arith, n, e)) in
     let rest = stand_in s (behind st k) fs (front ++ entry_bytes s k) more w.others in
-    All-cons (λ j. Stands (front ++ (entry_bytes s k ++ bytes)) j.to (entry_bytes s j)) k (flat_map kept_of fs)
-    (subst (λ (a : ℕ). Stands (front ++ (entry_bytes s k ++ bytes)) a (entry_bytes s k)) at here)
-    (λ i d l. subst (λ (bs : List ℕ). Stands bs (get_or (flat_map kept_of fs) i d).to (entry_bytes s (get_or (flat_map kept_of fs) i d))) (append_assoc front (entry_bytes s k) bytes) (rest i d l))
+    All-cons (λ j. HasBytesAt (front ++ (entry_bytes s k ++ bytes)) j.to (entry_bytes s j)) k (flat_map kept_of fs)
+    (subst (λ (a : ℕ). HasBytesAt (front ++ (entry_bytes s k ++ bytes)) a (entry_bytes s k)) at here)
+    (λ i d l. subst (λ (bs : List ℕ). HasBytesAt bs (get_or (flat_map kept_of fs) i d).to (entry_bytes s (get_or (flat_map kept_of fs) i d))) (append_assoc front (entry_bytes s k) bytes) (rest i d l))
 stand_in s st (finds.Dropped size ∷ fs) front e w = stand_in s (after st (finds.Dropped size)) fs front e w.others
 stand_in s st (finds.End ∷ fs) front e w = stand_in s st fs front e w.others
 stand_in s st (finds.Bad y at ∷ fs) front e w = stand_in s st fs front e w.others
-stand_in s st (finds.Tail at ∷ fs) front e w = rw (w.ends refl) (All-nil (λ k. Stands (front ++ (found_bytes s (finds.Tail at) ++ [])) k.to (entry_bytes s k)))
+stand_in s st (finds.Tail at ∷ fs) front e w = rw (w.ends refl) (All-nil (λ k. HasBytesAt (front ++ (found_bytes s (finds.Tail at) ++ [])) k.to (entry_bytes s k)))
 
 -- kept entries have no gaps
 pub no_gaps : EntriesHaveNoGaps
@@ -154,7 +154,7 @@ cie_behind P at id c cs a h =
       | inr f ↦ (let g = rw f at h in cc)
     ]
 
-leads_here : (s : Frames) (st : State) (k : KeptEntry) (done whole : List KeptEntry) → KeptFacts s st k → All (Known done st.at st.to) st.cies → ((j : KeptEntry) → Contains done j → Contains whole j) → Leads s whole k
+leads_here : (s : Frames) (st : State) (k : KeptEntry) (done whole : List KeptEntry) → KeptFacts s st k → All (Known done st.at st.to) st.cies → ((j : KeptEntry) → Contains done j → Contains whole j) → LeadsToItsCie s whole k
 leads_here s st k done whole h a more =
     elim h.links [
       | inl z ↦ inl (rw h.from z.zero, z.is)
@@ -214,18 +214,18 @@ known_behind s st k done h w a =
       | inr n ↦ rw n old
     ]
 
-leads_in : (s : Frames) (st : State) (fs : List Found) (done : List KeptEntry) → st.to ≤ st.at → All (Known done st.at st.to) st.cies → IsWalked s st fs → All (Leads s (done ++ flat_map kept_of fs)) (flat_map kept_of fs)
-leads_in s st [] done m a w = All-nil (Leads s (done ++ []))
+leads_in : (s : Frames) (st : State) (fs : List Found) (done : List KeptEntry) → st.to ≤ st.at → All (Known done st.at st.to) st.cies → IsWalked s st fs → All (LeadsToItsCie s (done ++ flat_map kept_of fs)) (flat_map kept_of fs)
+leads_in s st [] done m a w = All-nil (LeadsToItsCie s (done ++ []))
 leads_in s st (finds.Kept k ∷ fs) done m a w =
     let ks = flat_map kept_of fs in
-    All-cons (Leads s (done ++ k ∷ ks)) k ks
+    All-cons (LeadsToItsCie s (done ++ k ∷ ks)) k ks
     (leads_here s st k done (done ++ k ∷ ks) w.facts a (λ j c. Contains-left done (k ∷ ks) j c))
-    (λ i d l. subst (λ (xs : List KeptEntry). Leads s xs (get_or ks i d)) (append_assoc done (k ∷ []) ks) (leads_in s (behind st k) fs (done ++ k ∷ []) (omega arith) (known_behind s st k done w.facts m a) w.others i d l))
+    (λ i d l. subst (λ (xs : List KeptEntry). LeadsToItsCie s xs (get_or ks i d)) (append_assoc done (k ∷ []) ks) (leads_in s (behind st k) fs (done ++ k ∷ []) (omega arith) (known_behind s st k done w.facts m a) w.others i d l))
 leads_in s st (finds.Dropped size ∷ fs) done m a w =
     leads_in s (after st (finds.Dropped size)) fs done (omega arith) (λ i d l. known_further done done st.at st.to (st.at + size) st.to (get_or st.cies i d) (omega arith) (omega arith) (λ j c. c) (a i d l)) w.others
 leads_in s st (finds.End ∷ fs) done m a w = leads_in s st fs done m a w.others
 leads_in s st (finds.Bad y at ∷ fs) done m a w = leads_in s st fs done m a w.others
 leads_in s st (finds.Tail at ∷ fs) done m a w = leads_in s st fs done m a w.others
 
-pub leads_all : (s : Frames) → All (Leads s (kept_in s)) (kept_in s)
+pub leads_all : (s : Frames) → All (LeadsToItsCie s (kept_in s)) (kept_in s)
 leads_all s = leads_in s start (found_in s) [] (omega arith) (All-nil (Known [] 0 0)) (found_walked s)

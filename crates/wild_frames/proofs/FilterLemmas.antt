@@ -13,8 +13,8 @@ use Rattle.wild_frames.specs.declared.entry.KeptEntry.{KeptEntry}
 use Rattle.wild_frames.specs.declared.entry.BadFrame.{BadFrame}
 use Rattle.wild_frames.specs.declared.entry.Found.{Found}
 use Rattle.wild_frames.specs.declared.entry.Found.TheVariants as finds
-use Rattle.wild_frames.specs.Frames.{Frames, State, start, target_first, found, behind, goes_on, after, walk, rest_of, kept_of, list_error, unless, unsorted_in}
-use Rattle.wild_frames.specs.Faults.{found_errors, instead}
+use Rattle.wild_frames.specs.Frames.{Frames, State, start, target_first, found, behind, walk_continues, after, walk, rest_of, kept_of, list_error, unless, unsorted_in}
+use Rattle.wild_frames.specs.Faults.{found_errors, unless_list_error}
 use Rattle.wild_frames.specs.Reading.{Entry, IsRead, AreRead, Ends, entry_at, is_loaded, is_kept, AreFiltered, SparesId, FieldsSpareIds}
 use Rattle.wild_frames.proofs.RelocationLemmas.{at_reach, sorted_tail}
 use Rattle.wild_frames.proofs.WalkLemmas.{Facts, KeptFacts, found_facts, goes, own_at, id_at, sorted_list}
@@ -48,7 +48,7 @@ record Filtered (s : Frames) (st : State) (fs : List Found) : Type 0 where
 read_entry : (s : Frames) (at size : ℕ) → 8 ≤ size → at + size ≤ length s.bytes → size ≡ 4 + number_at s.bytes at 4 → IsRead s.bytes (entry_at s at size)
 read_entry s at size l w e = record { least = l; within = w; size = sym e; id = refl }
 
-more_filtered : (s : Frames) (st : State) (f : Found) (fs : List Found) → Facts s st f → goes_on f ≡ true → Filtered s (after st f) fs → Filtered s st (f ∷ fs)
+more_filtered : (s : Frames) (st : State) (f : Found) (fs : List Found) → Facts s st f → walk_continues f ≡ true → Filtered s (after st f) fs → Filtered s st (f ∷ fs)
 more_filtered s st (finds.Kept k) fs h g r = record {
   entries = entry_at s st.at k.size ∷ r.entries;
   end = r.end;
@@ -67,7 +67,7 @@ more_filtered s st finds.End fs h g r = cc
 more_filtered s st (finds.Tail at) fs h g r = cc
 more_filtered s st (finds.Bad y at) fs h g r = cc
 
-last_filtered : (s : Frames) (st : State) (f : Found) → Facts s st f → goes_on f ≡ false → Filtered s st (f ∷ [])
+last_filtered : (s : Frames) (st : State) (f : Found) → Facts s st f → walk_continues f ≡ false → Filtered s st (f ∷ [])
 last_filtered s st (finds.Kept k) h g = cc
 last_filtered s st (finds.Dropped size) h g = cc
 last_filtered s st finds.End h g = record { entries = []; end = st.at; read = refl; filtered = refl; ends = λ e. inr h }
@@ -78,7 +78,7 @@ walk_filtered : (s : Frames) (n : ℕ) (st : State) → length s.bytes - st.at <
 unfolding walk
 walk_filtered s zero st l = absurd (omega arith)
 walk_filtered s (suc n) st l =
-    elim (cases_Bool (goes_on (found s st))) [
+    elim (cases_Bool (walk_continues (found s st))) [
       | inl t ↦
           (let g = goes s st (found s st) (found_facts s st) t in
           let m = g.more in
@@ -88,7 +88,7 @@ walk_filtered s (suc n) st l =
     ]
 
 filtered_if : (s : Frames) (e : Option BadFrame) (fs : List Found) → Filtered s start fs
-    → (entries : List Entry) × (end : ℕ) × AreRead s.bytes 0 entries end × (map (λ k. entry_at s k.from k.size) (flat_map kept_of (unless e fs)) ≡ filter (is_kept s) entries) × (instead e (flat_map found_errors fs) ≡ [] → Ends s.bytes end)
+    → (entries : List Entry) × (end : ℕ) × AreRead s.bytes 0 entries end × (map (λ k. entry_at s k.from k.size) (flat_map kept_of (unless e fs)) ≡ filter (is_kept s) entries) × (unless_list_error e (flat_map found_errors fs) ≡ [] → Ends s.bytes end)
 filtered_if s None fs w = (w.entries, w.end, w.read, w.filtered, w.ends)
 filtered_if s (Some e) fs w = ([], 0, refl, refl, λ h. cc)
 

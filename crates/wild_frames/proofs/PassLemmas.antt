@@ -15,16 +15,16 @@ use Rattle.wild_frames.specs.declared.entry.KeptEntry.{KeptEntry}
 use Rattle.wild_frames.specs.declared.entry.Found.{Found}
 use Rattle.wild_frames.specs.declared.entry.Found.TheVariants as finds
 use Rattle.wild_frames.specs.declared.pass.Pass.{Pass}
-use Rattle.wild_frames.specs.Frames.{Frames, State, cie_at, cie_back, kept_if, described, identified, sized, found, target_first, behind, after, goes_on, start, list_error}
-use Rattle.wild_frames.specs.Walks.{Fits, IsOwn, IsNext, Lies, AreOwn}
-use Rattle.wild_frames.specs.Passes.{comes_to, has_cie, cie_before, brief_state, bare_state, brief_entry, brief, known_after, IsBoundary, IsOn, IsWithin, IsReady, GoesOn, IsPassed}
+use Rattle.wild_frames.specs.Frames.{Frames, State, cie_at, cie_back, kept_if, fde_entry, entry_with_id, entry_of_size, found, target_first, behind, after, walk_continues, start, list_error}
+use Rattle.wild_frames.specs.Walks.{Fits, IsOwn, IsNext, IsWithinSection, AreOwn}
+use Rattle.wild_frames.specs.Passes.{reaches_offset, has_cie, cie_before, state_with_cie, state_without_cies, entry_without_id, without_id, last_cie_after, IsBoundary, FollowsWalk, IsWithin, IsReady, PassContinues, IsPassStep}
 use Rattle.wild_frames.proofs.WalkLemmas.{own_at, id_at, FdeFacts, CieFacts, KeptFacts, DroppedFacts, Facts, found_facts, goes, next_at, next_found, lies, moves_back, are_own, fits_after, fits_start}
 
 -- ---- reading by lengths
 
 -- enough steps are enough
-pub comes_enough : (bs : List ℕ) (n m at x : ℕ) → x - at ≤ n → x - at ≤ m → comes_to bs n at x ≡ comes_to bs m at x
-unfolding comes_to
+pub comes_enough : (bs : List ℕ) (n m at x : ℕ) → x - at ≤ n → x - at ≤ m → reaches_offset bs n at x ≡ reaches_offset bs m at x
+unfolding reaches_offset
 comes_enough bs zero zero at x h k = refl
 comes_enough bs zero (suc m) at x h k = let f : nat_lt at x ≡ false = grind (arith, nat_tests) in rw f refl
 comes_enough bs (suc n) zero at x h k = let f : nat_lt at x ≡ false = grind (arith, nat_tests) in rw f refl
@@ -34,14 +34,14 @@ comes_enough bs (suc n) (suc m) at x h k = elim (cases_Bool (nat_lt at x)) [
 ]
 
 -- where a place is ahead, reading goes on behind the entry
-pub comes_on : (bs : List ℕ) (n at x : ℕ) → x ≤ n → at < x → comes_to bs n at x ≡ comes_to bs n (at + (4 + number_at bs at 4)) x
-unfolding comes_to
+pub comes_on : (bs : List ℕ) (n at x : ℕ) → x ≤ n → at < x → reaches_offset bs n at x ≡ reaches_offset bs n (at + (4 + number_at bs at 4)) x
+unfolding reaches_offset
 comes_on bs zero at x h l = absurd (omega (arith, h, l))
 comes_on bs (suc n) at x h l = let t : nat_lt at x ≡ true = lt-ltb at x l in rw t (comes_enough bs n (suc n) (at + (4 + number_at bs at 4)) x (omega (arith, h)) (omega (arith, h)))
 
 -- where it is reached
-pub comes_here : (bs : List ℕ) (n at x : ℕ) → x ≤ at → comes_to bs n at x ≡ (at == x)
-unfolding comes_to
+pub comes_here : (bs : List ℕ) (n at x : ℕ) → x ≤ at → reaches_offset bs n at x ≡ (at == x)
+unfolding reaches_offset
 comes_here bs zero at x h = refl
 comes_here bs (suc n) at x h = let f : nat_lt at x ≡ false = grind (arith, nat_tests) in rw f refl
 
@@ -84,16 +84,16 @@ Agree to (Some c) (Some d) = (c ≤ to) × (d ≡ to)
 Agree to None (Some d) = ⊥
 Agree to (Some c) None = ⊥
 
-brief_cie : (w : InputRelocation → ℕ) (own : List InputRelocation) (at to size : ℕ) → kept_if w own at to size 0 ≡ brief (kept_if w own at to size 0)
+brief_cie : (w : InputRelocation → ℕ) (own : List InputRelocation) (at to size : ℕ) → kept_if w own at to size 0 ≡ without_id (kept_if w own at to size 0)
 brief_cie w own at to size = elim (cases_Bool (list_all (λ r. nat_le (r.offset + w r) (at + size)) own)) [ inl t ↦ rw t refl | inr f ↦ rw f refl ]
 
-brief_fde : (w : InputRelocation → ℕ) (own : List InputRelocation) (at to size c d : ℕ) → c ≤ to → d ≡ to → kept_if w own at to size (to + 4 - d) ≡ brief (kept_if w own at to size (to + 4 - c))
+brief_fde : (w : InputRelocation → ℕ) (own : List InputRelocation) (at to size c d : ℕ) → c ≤ to → d ≡ to → kept_if w own at to size (to + 4 - d) ≡ without_id (kept_if w own at to size (to + 4 - c))
 brief_fde w own at to size c d h e =
     let n : to + 4 - d ≡ 4 = omega (arith, e) in
     let f : (to + 4 - c == 0) ≡ false = grind (arith, nat_tests) in
     elim (cases_Bool (list_all (λ r. nat_le (r.offset + w r) (at + size)) own)) [ inl t ↦ rw (t, n, f) refl | inr g ↦ rw g refl ]
 
-brief_described : (w : InputRelocation → ℕ) (t : Target) (a b : Option ℕ) (own : List InputRelocation) (at to size : ℕ) → Agree to a b → described w t b own at to size ≡ brief (described w t a own at to size)
+brief_described : (w : InputRelocation → ℕ) (t : Target) (a b : Option ℕ) (own : List InputRelocation) (at to size : ℕ) → Agree to a b → fde_entry w t b own at to size ≡ without_id (fde_entry w t a own at to size)
 brief_described w target.NoSection a b own at to size h = refl
 brief_described w target.Discarded None None own at to size h = refl
 brief_described w target.Discarded (Some c) (Some d) own at to size h = refl
@@ -132,23 +132,23 @@ agree_back s st id before ahead met =
     ]
 
 brief_identified : (s : Frames) (own : List InputRelocation) (st : State) (size id : ℕ) → Agree st.to (cie_back (st.at + 4) id st.cies) (cie_back (st.at + 4) id (seen s st).cies)
-    → identified s own (seen s st) size id ≡ brief (identified s own st size id)
-unfolding identified
+    → entry_with_id s own (seen s st) size id ≡ without_id (entry_with_id s own st size id)
+unfolding entry_with_id
 brief_identified s own st size id h =
     elim (cases_Bool (id == 0)) [
       | inl t ↦ rw t (brief_cie s.width own st.at st.to size)
       | inr f ↦ rw f (brief_described s.width (target_first s.target (st.at + 8) own) (cie_back (st.at + 4) id st.cies) (cie_back (st.at + 4) id (seen s st).cies) own st.at st.to size h)
     ]
 
-brief_sized : (s : Frames) (st : State) (size : ℕ) → Agree st.to (cie_back (st.at + 4) (id_at s st) st.cies) (cie_back (st.at + 4) (id_at s st) (seen s st).cies) → sized s (seen s st) size ≡ brief (sized s st size)
-unfolding sized
+brief_sized : (s : Frames) (st : State) (size : ℕ) → Agree st.to (cie_back (st.at + 4) (id_at s st) st.cies) (cie_back (st.at + 4) (id_at s st) (seen s st).cies) → entry_of_size s (seen s st) size ≡ without_id (entry_of_size s st size)
+unfolding entry_of_size
 brief_sized s st size h =
     elim (cases_Bool (nat_lt (length s.bytes) (st.at + size))) [
       | inl t ↦ rw t refl
       | inr f ↦ rw f (elim (cases_Bool (nat_lt size 8)) [ inl t ↦ rw t refl | inr g ↦ rw g (brief_identified s (own_at s st size) st size (id_at s st) h) ])
     ]
 
-brief_found : (s : Frames) (st : State) → Agree st.to (cie_back (st.at + 4) (id_at s st) st.cies) (cie_back (st.at + 4) (id_at s st) (seen s st).cies) → found s (seen s st) ≡ brief (found s st)
+brief_found : (s : Frames) (st : State) → Agree st.to (cie_back (st.at + 4) (id_at s st) st.cies) (cie_back (st.at + 4) (id_at s st) (seen s st).cies) → found s (seen s st) ≡ without_id (found s st)
 unfolding found
 brief_found s st h =
     elim (cases_Bool (nat_lt (length s.bytes) (st.at + 8))) [
@@ -157,14 +157,14 @@ brief_found s st h =
     ]
 
 -- what the walk finds
-pub found_brief : (s : Frames) (p : Pass) (st : State) → IsOn s p st → found s (brief_state s.bytes p) ≡ brief (found s st)
+pub found_brief : (s : Frames) (p : Pass) (st : State) → FollowsWalk s p st → found s (state_with_cie s.bytes p) ≡ without_id (found s st)
 found_brief s p st h =
     let m = h.fits.met in
     let g = brief_found s st (agree_back s st (id_at s st) m.before h.ahead h.met) in
-    subst (λ (to : ℕ). found s (record { at = p.at; to = to; cies = cie_before s.bytes p.at to (number_at s.bytes (p.at + 4) 4) }) ≡ brief (found s st)) h.to
-    (subst (λ (at : ℕ). found s (record { at = at; to = st.to; cies = cie_before s.bytes at st.to (number_at s.bytes (at + 4) 4) }) ≡ brief (found s st)) h.at g)
+    subst (λ (to : ℕ). found s (record { at = p.at; to = to; cies = cie_before s.bytes p.at to (number_at s.bytes (p.at + 4) 4) }) ≡ without_id (found s st)) h.to
+    (subst (λ (at : ℕ). found s (record { at = at; to = st.to; cies = cie_before s.bytes at st.to (number_at s.bytes (at + 4) 4) }) ≡ without_id (found s st)) h.at g)
 
-pub goes_brief : (f : Found) → goes_on (brief f) ≡ goes_on f
+pub goes_brief : (f : Found) → walk_continues (without_id f) ≡ walk_continues f
 goes_brief (finds.Kept k) = refl
 goes_brief (finds.Dropped size) = refl
 goes_brief (finds.Tail from) = refl
@@ -190,14 +190,14 @@ ready s h = record {
 
 -- ---- behind what was found
 
-after_at : (p : Pass) (st : State) (f : Found) → st.at ≡ p.at → (after (bare_state p) (brief f)).at ≡ (after st f).at
+after_at : (p : Pass) (st : State) (f : Found) → st.at ≡ p.at → (after (state_without_cies p) (without_id f)).at ≡ (after st f).at
 after_at p st (finds.Kept k) h = rw h refl
 after_at p st (finds.Dropped size) h = rw h refl
 after_at p st (finds.Tail from) h = sym h
 after_at p st (finds.Bad w at) h = sym h
 after_at p st finds.End h = sym h
 
-after_to : (p : Pass) (st : State) (f : Found) → st.to ≡ p.to → (after (bare_state p) (brief f)).to ≡ (after st f).to
+after_to : (p : Pass) (st : State) (f : Found) → st.to ≡ p.to → (after (state_without_cies p) (without_id f)).to ≡ (after st f).to
 after_to p st (finds.Kept k) h = rw h refl
 after_to p st (finds.Dropped size) h = sym h
 after_to p st (finds.Tail from) h = sym h
@@ -222,13 +222,13 @@ same_zero s st k a h = elim h.links [
 
 -- reading by lengths comes to what is behind an entry
 boundary_on : (bs : List ℕ) (at next : ℕ) → IsBoundary bs at → next ≡ at + (4 + number_at bs at 4) → IsBoundary bs next
-boundary_on bs at next h e x l = h x (omega (arith, e, l)) ∙ comes_on bs x at x (omega arith) (omega (arith, e, l)) ∙ ap (λ (n : ℕ). comes_to bs x n x) (sym e)
+boundary_on bs at next h e x l = h x (omega (arith, e, l)) ∙ comes_on bs x at x (omega arith) (omega (arith, e, l)) ∙ ap (λ (n : ℕ). reaches_offset bs x n x) (sym e)
 
 -- between an entry and what is behind it no CIE stands but the entry
 cie_here : (bs : List ℕ) (at next x : ℕ) → IsBoundary bs at → next ≡ at + (4 + number_at bs at 4) → at ≤ x → x < next → has_cie bs x ≡ ((at == x) && (number_at bs (at + 4) 4 == 0))
 cie_here bs at next x h e l m = elim (cases_lt at x) [
   | inl u ↦ (
-      let c = h x l ∙ comes_on bs x at x (omega arith) u ∙ ap (λ (n : ℕ). comes_to bs x n x) (sym e) ∙ comes_here bs x next x (omega (arith, m)) in
+      let c = h x l ∙ comes_on bs x at x (omega arith) u ∙ ap (λ (n : ℕ). reaches_offset bs x n x) (sym e) ∙ comes_here bs x next x (omega (arith, m)) in
       let f : (next == x) ≡ false = grind (arith, nat_tests) in
       let g : (at == x) ≡ false = grind (arith, nat_tests) in
       rw (c, f, g) refl)
@@ -290,7 +290,7 @@ met_dropped s st size before here met h x l = elim (cases_lt x st.at) [
     both_false true = refl
     both_false false = refl
 
-met_behind : (s : Frames) (p : Pass) (st : State) (f : Found) → IsOn s p st → IsBoundary s.bytes st.at → Facts s st f → goes_on f ≡ true → MetBehind s st f
+met_behind : (s : Frames) (p : Pass) (st : State) (f : Found) → FollowsWalk s p st → IsBoundary s.bytes st.at → Facts s st f → walk_continues f ≡ true → MetBehind s st f
 met_behind s p st (finds.Kept k) h b x t = met_kept s st k h.fits.met.before h.ahead b h.met x
 met_behind s p st (finds.Dropped size) h b x t = met_dropped s st size h.fits.met.before b h.met x
 met_behind s p st (finds.Tail from) h b x t = cc
@@ -314,7 +314,7 @@ record IsKnown (s : Frames) (at known : ℕ) : Type 0 where
   pub below : known ≤ at
   pub known_place : IsBoundary s.bytes known
 
-known_behind : (s : Frames) (st : State) (f : Found) (known : ℕ) → known ≤ st.at → IsBoundary s.bytes known → IsBoundary s.bytes st.at → Facts s st f → IsKnown s (after st f).at (known_after known (brief f))
+known_behind : (s : Frames) (st : State) (f : Found) (known : ℕ) → known ≤ st.at → IsBoundary s.bytes known → IsBoundary s.bytes st.at → Facts s st f → IsKnown s (after st f).at (last_cie_after known (without_id f))
 known_behind s st (finds.Kept k) known l b here h =
     let e = h.from in
     elim (cases_Bool (k.id == 0)) [
@@ -328,19 +328,19 @@ known_behind s st finds.End known l b here h = record { below = l; known_place =
 
 -- a step that found what the other walk finds
 pub record IsMoved (s : Frames) (p q : Pass) (f : Found) (n : ℕ) : Type 0 where
-  pub own : goes_on f ≡ true → IsOwn s p.at (after (bare_state p) f).at p.relocation n
+  pub own : walk_continues f ≡ true → IsOwn s p.at (after (state_without_cies p) f).at p.relocation n
   pub few : p.relocation + n ≤ length s.relocations
-  pub new_at : q.at ≡ (after (bare_state p) f).at
-  pub new_to : q.to ≡ (after (bare_state p) f).to
-  pub passed : goes_on f ≡ true → q.relocation ≡ p.relocation + n
-  pub stays : goes_on f ≡ false → q.relocation ≡ p.relocation
-  pub new_known : q.known ≡ known_after p.known f
+  pub new_at : q.at ≡ (after (state_without_cies p) f).at
+  pub new_to : q.to ≡ (after (state_without_cies p) f).to
+  pub passed : walk_continues f ≡ true → q.relocation ≡ p.relocation + n
+  pub stays : walk_continues f ≡ false → q.relocation ≡ p.relocation
+  pub new_known : q.known ≡ last_cie_after p.known f
 
-goes_further : (s : Frames) (p q : Pass) (st : State) (n : ℕ) → IsOn s p st → IsMoved s p q (brief (found s st)) n → goes_on (found s st) ≡ true → GoesOn s st p q
+goes_further : (s : Frames) (p q : Pass) (st : State) (n : ℕ) → FollowsWalk s p st → IsMoved s p q (without_id (found s st)) n → walk_continues (found s st) ≡ true → PassContinues s st p q
 goes_further s p q st n h m t =
     let f = found s st in
     let x = found_facts s st in
-    let u : goes_on (brief f) ≡ true = goes_brief f ∙ t in
+    let u : walk_continues (without_id f) ≡ true = goes_brief f ∙ t in
     let at = m.new_at ∙ after_at p st f h.at in
     let to = m.new_to ∙ after_to p st f h.to in
     let o : IsOwn s st.at (after st f).at p.relocation n = subst (λ (a : ℕ). IsOwn s a (after st f).at p.relocation n) (sym h.at) (subst (λ (b : ℕ). IsOwn s p.at b p.relocation n) (after_at p st f h.at) (m.own u)) in
@@ -369,17 +369,17 @@ goes_further s p q st n h m t =
     }
 
 counted : (s : Frames) (p q : Pass) (f : Found) (n : ℕ) → IsMoved s p q f n → (p.relocation ≤ q.relocation) × (q.relocation ≤ length s.relocations)
-counted s p q f n m = elim (cases_Bool (goes_on f)) [
+counted s p q f n m = elim (cases_Bool (walk_continues f)) [
   | inl t ↦ (let e = m.passed t in let l = m.few in (omega (arith, e), omega (arith, e, l)))
   | inr u ↦ (let e = m.stays u in let l = m.few in (omega (arith, e), omega (arith, e, l)))
 ]
 
-step_passes : (s : Frames) (p q : Pass) (st : State) (n : ℕ) → IsOn s p st → IsMoved s p q (brief (found s st)) n → IsPassed s st p q (brief (found s st))
+step_passes : (s : Frames) (p q : Pass) (st : State) (n : ℕ) → FollowsWalk s p st → IsMoved s p q (without_id (found s st)) n → IsPassStep s st p q (without_id (found s st))
 step_passes s p q st n h m =
     let f = found s st in
     let x = found_facts s st in
-    let c = counted s p q (brief f) n m in
-    let own_by : goes_on f ≡ true → IsOwn s st.at (after st f).at p.relocation n = (λ t. subst (λ (a : ℕ). IsOwn s a (after st f).at p.relocation n) (sym h.at)
+    let c = counted s p q (without_id f) n m in
+    let own_by : walk_continues f ≡ true → IsOwn s st.at (after st f).at p.relocation n = (λ t. subst (λ (a : ℕ). IsOwn s a (after st f).at p.relocation n) (sym h.at)
     (subst (λ (b : ℕ). IsOwn s p.at b p.relocation n) (after_at p st f h.at) (m.own (goes_brief f ∙ t)))) in
     record {
       is = refl;
@@ -393,13 +393,13 @@ step_passes s p q st n h m =
     }
 
 -- a step of the walk
-pub passes : (s : Frames) (p q : Pass) (st : State) (f : Found) (n : ℕ) → IsOn s p st → f ≡ found s (brief_state s.bytes p) → IsMoved s p q f n → IsPassed s st p q f
+pub passes : (s : Frames) (p q : Pass) (st : State) (f : Found) (n : ℕ) → FollowsWalk s p st → f ≡ found s (state_with_cie s.bytes p) → IsMoved s p q f n → IsPassStep s st p q f
 passes s p q st f n h e m =
     let is = e ∙ found_brief s p st h in
-    subst (λ (g : Found). IsPassed s st p q g) (sym is) (step_passes s p q st n h (subst (λ (g : Found). IsMoved s p q g n) is m))
+    subst (λ (g : Found). IsPassStep s st p q g) (sym is) (step_passes s p q st n h (subst (λ (g : Found). IsMoved s p q g n) is m))
 
 -- what the walk asks of a place, of one that has the places of all CIEs
-pub bare_fits : (s : Frames) (p : Pass) (st : State) → IsOn s p st → Fits s (bare_state p) p.relocation
+pub bare_fits : (s : Frames) (p : Pass) (st : State) → FollowsWalk s p st → Fits s (state_without_cies p) p.relocation
 bare_fits s p st h =
     let f = h.fits in
     let at = h.at in
@@ -416,10 +416,10 @@ bare_fits s p st h =
     }
 
 -- what was found ends in the section
-pub room_behind : (s : Frames) (p : Pass) (st : State) (f : Found) → IsOn s p st → f ≡ found s (brief_state s.bytes p) → goes_on f ≡ true → (after (bare_state p) f).at ≤ length s.bytes
+pub room_behind : (s : Frames) (p : Pass) (st : State) (f : Found) → FollowsWalk s p st → f ≡ found s (state_with_cie s.bytes p) → walk_continues f ≡ true → (after (state_without_cies p) f).at ≤ length s.bytes
 room_behind s p st f h e t =
     let is = e ∙ found_brief s p st h in
-    let u : goes_on (found s st) ≡ true = sym (goes_brief (found s st)) ∙ ap goes_on (sym is) ∙ t in
+    let u : walk_continues (found s st) ≡ true = sym (goes_brief (found s st)) ∙ ap walk_continues (sym is) ∙ t in
     let w = (goes s st (found s st) (found_facts s st) u).within in
-    let at = ap (λ (g : Found). (after (bare_state p) g).at) is ∙ after_at p st (found s st) h.at in
+    let at = ap (λ (g : Found). (after (state_without_cies p) g).at) is ∙ after_at p st (found s st) h.at in
     omega (arith, at, w)

@@ -12,10 +12,10 @@ use Rattle.std.proofs.lemmas.List.Concat.{flat_map-append}
 use Rattle.std.proofs.lemmas.List.Elements.{All-nil, All-cons, All-head, All-tail}
 use Rattle.std.proofs.lemmas.List.Sorted.{Contains-permutation, All-permutation}
 use borrow.Rule.Slice.PartMut.{put_mid}
-use Rattle.wild_words.specs.Words.{Stands}
+use Rattle.wild_words.specs.Words.{HasBytesAt}
 use Rattle.wild_words.proofs.Basics.{Contains-map, All-from_nothing, length-flat_map_each}
 use Rattle.wild_words.proofs.ListLemmas.{flat_map-more, at_places, nil_parts}
-use Rattle.wild_words.proofs.RecordLemmas.{Stands-left, Stands-right, length-spell}
+use Rattle.wild_words.proofs.RecordLemmas.{HasBytesAt-left, HasBytesAt-right, length-spell}
 use Rattle.wild_records.specs.declared.frames.EhFrameHdr.{EhFrameHdr}
 use Rattle.wild_records.specs.declared.frames.EhFrameHdrEntry.{EhFrameHdrEntry}
 use Rattle.wild_records.specs.Frames.{eh_frame_hdr_fields, eh_frame_hdr_entry_fields, EhFrameHdrEntryFits, EhFrameHdrEntryIsRead}
@@ -134,13 +134,13 @@ All-map : {X Y : Type 0} (P : Y → Type 0) (f : X → Y) (xs : List X) → All 
 All-map P f [] a = All-nil P
 All-map P f (x ∷ xs) a = All-cons P (f x) (map f xs) (All-head (λ y. P (f y)) x xs a) (All-map P f xs (All-tail (λ y. P (f y)) x xs a))
 
-entry_stands : (es : List EhFrameHdrEntry) (k : ℕ) (d : EhFrameHdrEntry) → k < length es → Stands (flat_map entry_bytes es) (8 * k) (entry_bytes (get_or es k d))
+entry_stands : (es : List EhFrameHdrEntry) (k : ℕ) (d : EhFrameHdrEntry) → k < length es → HasBytesAt (flat_map entry_bytes es) (8 * k) (entry_bytes (get_or es k d))
 entry_stands [] k d l = absurd (omega arith)
-entry_stands (e ∷ es) zero d l = Stands-left (entry_bytes e) (flat_map entry_bytes es)
+entry_stands (e ∷ es) zero d l = HasBytesAt-left (entry_bytes e) (flat_map entry_bytes es)
 entry_stands (e ∷ es) (suc k) d l =
     let n = length-entry e in
     let s : length (entry_bytes e) + 8 * k ≡ 8 * suc k = omega (arith, n) in
-    subst (λ (a : ℕ). Stands (entry_bytes e ++ flat_map entry_bytes es) a (entry_bytes (get_or es k d))) s (Stands-right (entry_bytes e) (flat_map entry_bytes es) (entry_bytes (get_or es k d)) (8 * k) (entry_stands es k d (omega arith)))
+    subst (λ (a : ℕ). HasBytesAt (entry_bytes e ++ flat_map entry_bytes es) a (entry_bytes (get_or es k d))) s (HasBytesAt-right (entry_bytes e) (flat_map entry_bytes es) (entry_bytes (get_or es k d)) (8 * k) (entry_stands es k d (omega arith)))
 
 -- what a reader finds in a table
 record HasEntries (header eh_frame : ℕ) (fdes : List Fde) (bytes : List ℕ) (entries : List EhFrameHdrEntry) : Type 0 where
@@ -159,9 +159,9 @@ has_entries read header eh_frame fdes bytes t none =
     record {
       count = omega (arith, whole);
       each = λ k d l.
-          let s = Stands-right front rest (entry_bytes (get_or t.entries k d)) (8 * k) (entry_stands t.entries k d l) in
+          let s = HasBytesAt-right front rest (entry_bytes (get_or t.entries k d)) (8 * k) (entry_stands t.entries k d l) in
           let at : length front + 8 * k ≡ 12 + 8 * k = omega (arith, n) in
-          read bytes (12 + 8 * k) (get_or t.entries k d) (fit k d l) (subst (λ (bs : List ℕ). Stands bs (12 + 8 * k) (entry_bytes (get_or t.entries k d))) (sym t.is) (subst (λ (a : ℕ). Stands (front ++ rest) a (entry_bytes (get_or t.entries k d))) at s));
+          read bytes (12 + 8 * k) (get_or t.entries k d) (fit k d l) (subst (λ (bs : List ℕ). HasBytesAt bs (12 + 8 * k) (entry_bytes (get_or t.entries k d))) (sym t.is) (subst (λ (a : ℕ). HasBytesAt (front ++ rest) a (entry_bytes (get_or t.entries k d))) at s));
     }
 
 -- the entries of a table are in order

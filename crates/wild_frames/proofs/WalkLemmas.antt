@@ -19,8 +19,8 @@ use Rattle.wild_frames.specs.declared.entry.BadFrame.{BadFrame}
 use Rattle.wild_frames.specs.declared.entry.Found.{Found}
 use Rattle.wild_frames.specs.declared.entry.Found.TheVariants as finds
 use Rattle.wild_frames.specs.declared.walk.Walk.{Walk}
-use Rattle.wild_frames.specs.Frames.{Frames, State, relocations_in, target_first, cie_back, kept_if, described, identified, sized, found, behind, goes_on, after, walk, rest_of, start, unsorted_in, malformed_in, list_error, or_else}
-use Rattle.wild_frames.specs.Walks.{IsSorted, AreMet, Fits, IsOwn, FieldLies, KeptLies, Lies, MovesBack, AreOwn, IsAtStart, IsNext, state_of}
+use Rattle.wild_frames.specs.Frames.{Frames, State, relocations_in, target_first, cie_back, kept_if, fde_entry, entry_with_id, entry_of_size, found, behind, walk_continues, after, walk, rest_of, start, unsorted_in, malformed_in, list_error, or_else}
+use Rattle.wild_frames.specs.Walks.{IsSorted, CiesArePassed, Fits, IsOwn, FieldLies, KeptLies, IsWithinSection, MovesBack, AreOwn, IsAtStart, IsNext, state_of}
 
 -- ---- one thing
 
@@ -84,7 +84,7 @@ kept_facts s st size id e l w k =
 
 described_facts : (s : Frames) (st : State) (size : ℕ) (a : Target) (c : Option ℕ) → size ≡ 4 + number_at s.bytes st.at 4 → 8 ≤ size → st.at + size ≤ length s.bytes
     → id_at s st == 0 ≡ false → target_first s.target (st.at + 8) (own_at s st size) ≡ a → cie_back (st.at + 4) (id_at s st) st.cies ≡ c
-    → Facts s st (described s.width a c (own_at s st size) st.at st.to size)
+    → Facts s st (fde_entry s.width a c (own_at s st size) st.at st.to size)
 described_facts s st size target.NoSection c e l w n a h = tt
 described_facts s st size target.Discarded None e l w n a h = tt
 described_facts s st size target.Discarded (Some c) e l w n a h = record { size_is = e; least = l; within = w; other = n; discarded = a }
@@ -95,8 +95,8 @@ described_facts s st size target.Loaded (Some c) e l w n a h =
       | inr f ↦ rw f (kept_facts s st size (st.to + 4 - c) e l w (inr (record { cie = c; met = h; is = refl; other = n; loaded = a })))
     ]
 
-pub sized_facts : (s : Frames) (st : State) (size : ℕ) → size ≡ 4 + number_at s.bytes st.at 4 → Facts s st (sized s st size)
-unfolding sized identified
+pub sized_facts : (s : Frames) (st : State) (size : ℕ) → size ≡ 4 + number_at s.bytes st.at 4 → Facts s st (entry_of_size s st size)
+unfolding entry_of_size entry_with_id
 sized_facts s st size e =
     elim (cases_Bool (nat_lt (length s.bytes) (st.at + size))) [
       | inl t ↦ rw t tt
@@ -128,14 +128,14 @@ pub record Goes (s : Frames) (st next : State) : Type 0 where
   pub more : st.at + 8 ≤ next.at
   pub within : next.at ≤ length s.bytes
 
-pub goes : (s : Frames) (st : State) (f : Found) → Facts s st f → goes_on f ≡ true → Goes s st (after st f)
+pub goes : (s : Frames) (st : State) (f : Found) → Facts s st f → walk_continues f ≡ true → Goes s st (after st f)
 goes s st (finds.Kept k) h g = record { more = let l = h.least in omega arith; within = h.within }
 goes s st (finds.Dropped size) h g = record { more = let l = h.least in omega arith; within = h.within }
 goes s st finds.End h g = cc
 goes s st (finds.Tail at) h g = cc
 goes s st (finds.Bad w at) h g = cc
 
-pub next_at : (s : Frames) (st : State) (f : Found) → Facts s st f → goes_on f ≡ true → (after st f).at ≡ st.at + (4 + number_at s.bytes st.at 4)
+pub next_at : (s : Frames) (st : State) (f : Found) → Facts s st f → walk_continues f ≡ true → (after st f).at ≡ st.at + (4 + number_at s.bytes st.at 4)
 next_at s st (finds.Kept k) h g = ap (λ (n : ℕ). st.at + n) h.size
 next_at s st (finds.Dropped size) h g = ap (λ (n : ℕ). st.at + n) h.size_is
 next_at s st finds.End h g = cc
@@ -149,7 +149,7 @@ unfolding walk
 walk_enough s zero m st h k = absurd (omega arith)
 walk_enough s (suc n) zero st h k = absurd (omega arith)
 walk_enough s (suc n) (suc m) st h k =
-    elim (cases_Bool (goes_on (found s st))) [
+    elim (cases_Bool (walk_continues (found s st))) [
       | inl t ↦
           (let g = goes s st (found s st) (found_facts s st) t in
           rw t (ap (λ fs. found s st ∷ fs) (walk_enough s n m (after st (found s st)) (let a = g.more in let b = g.within in omega arith) (let a = g.more in let b = g.within in omega arith))))
@@ -160,7 +160,7 @@ walk_enough s (suc n) (suc m) st h k =
 pub next_found : (s : Frames) (st : State) → IsNext s st (after st (found s st)) (found s st)
 unfolding rest_of walk
 next_found s st =
-    elim (cases_Bool (goes_on (found s st))) [
+    elim (cases_Bool (walk_continues (found s st))) [
       | inl t ↦
           (let g = goes s st (found s st) (found_facts s st) t in
           rw t (ap (λ fs. found s st ∷ fs) (walk_enough s (length s.bytes - st.at) (suc (length s.bytes - (after st (found s st)).at)) (after st (found s st)) (let a = g.more in let b = g.within in omega arith) (omega arith))))
@@ -224,7 +224,7 @@ kept_lies s st k h = record {
   fields = rw h.from (fields_lie s st.at k.size s.relocations h.fields);
 }
 
-pub lies : (s : Frames) (st : State) (j : ℕ) (f : Found) → Fits s st j → Facts s st f → Lies s f
+pub lies : (s : Frames) (st : State) (j : ℕ) (f : Found) → Fits s st j → Facts s st f → IsWithinSection s f
 lies s st j (finds.Kept k) w h = kept_lies s st k h
 lies s st j (finds.Dropped size) w h = tt
 lies s st j finds.End w h = tt
@@ -238,7 +238,7 @@ moves_back s st j finds.End w h = tt
 moves_back s st j (finds.Tail at) w h = tt
 moves_back s st j (finds.Bad y at) w h = tt
 
-pub are_own : (s : Frames) (st : State) (f : Found) (j n m : ℕ) → Facts s st f → (goes_on f ≡ true → IsOwn s st.at (after st f).at j n) → (goes_on f ≡ true → m ≡ j + n) → AreOwn s (slice_range s.relocations j m) f
+pub are_own : (s : Frames) (st : State) (f : Found) (j n m : ℕ) → Facts s st f → (walk_continues f ≡ true → IsOwn s st.at (after st f).at j n) → (walk_continues f ≡ true → m ≡ j + n) → AreOwn s (slice_range s.relocations j m) f
 are_own s st (finds.Kept k) j n m h o e =
     let eq = e refl in
     let d : j + n - j ≡ n = omega arith in
@@ -255,10 +255,10 @@ ascend_more x cs p a =
     AllPairs-append (λ c d. c.from < d.from) cs (x ∷ []) p (AllPairs-cons (λ c d. c.from < d.from) x [] (All-nil (λ d. x.from < d.from)) (AllPairs-nil (λ c d. c.from < d.from)))
     (λ k d l. All-cons (λ e. (get_or cs k d).from < e.from) x [] (a k d l) (All-nil (λ e. (get_or cs k d).from < e.from)))
 
-met_further : (at end : ℕ) (cs : List Cie) → at ≤ end → AreMet at cs → AreMet end cs
+met_further : (at end : ℕ) (cs : List Cie) → at ≤ end → CiesArePassed at cs → CiesArePassed end cs
 met_further at end cs h m = record { ascend = m.ascend; before = λ i d l. (let a = m.before i d l in omega arith) }
 
-met_more : (at to size : ℕ) (cs : List Cie) → 8 ≤ size → AreMet at cs → AreMet (at + size) (cs ++ (record { from = at; to = to }) ∷ [])
+met_more : (at to size : ℕ) (cs : List Cie) → 8 ≤ size → CiesArePassed at cs → CiesArePassed (at + size) (cs ++ (record { from = at; to = to }) ∷ [])
 met_more at to size cs l m =
     let x : Cie = record { from = at; to = to } in
     let g = met_further at (at + size) cs (omega arith) m in
@@ -267,7 +267,7 @@ met_more at to size cs l m =
       before = All-append (λ c. c.from < at + size) cs (x ∷ []) g.before (All-cons (λ c. c.from < at + size) x [] (omega arith) (All-nil (λ c. c.from < at + size)));
     }
 
-met_behind : (s : Frames) (st : State) (k : KeptEntry) → KeptFacts s st k → AreMet st.at st.cies → AreMet (st.at + k.size) (behind st k).cies
+met_behind : (s : Frames) (st : State) (k : KeptEntry) → KeptFacts s st k → CiesArePassed st.at st.cies → CiesArePassed (st.at + k.size) (behind st k).cies
 met_behind s st k h m =
     let l = h.least in
     elim (cases_Bool (k.id == 0)) [
@@ -275,7 +275,7 @@ met_behind s st k h m =
       | inr f ↦ rw f (met_further st.at (st.at + k.size) st.cies (omega arith) m)
     ]
 
-fits_on : (s : Frames) (st next : State) (j n : ℕ) → Fits s st j → Goes s st next → next.to ≤ next.at → AreMet next.at next.cies → IsOwn s st.at next.at j n → Fits s next (j + n)
+fits_on : (s : Frames) (st next : State) (j n : ℕ) → Fits s st j → Goes s st next → next.to ≤ next.at → CiesArePassed next.at next.cies → IsOwn s st.at next.at j n → Fits s next (j + n)
 fits_on s st next j n f g t m o = record {
   within = g.within;
   shrinks = t;
@@ -285,7 +285,7 @@ fits_on s st next j n f g t m o = record {
   met = m;
 }
 
-pub fits_after : (s : Frames) (st : State) (f : Found) (j n : ℕ) → Fits s st j → Facts s st f → goes_on f ≡ true → IsOwn s st.at (after st f).at j n → Fits s (after st f) (j + n)
+pub fits_after : (s : Frames) (st : State) (f : Found) (j n : ℕ) → Fits s st j → Facts s st f → walk_continues f ≡ true → IsOwn s st.at (after st f).at j n → Fits s (after st f) (j + n)
 fits_after s st (finds.Kept k) j n h x t o =
     fits_on s st (behind st k) j n h (goes s st (finds.Kept k) x t) (let a = h.shrinks in omega arith) (met_behind s st k x h.met) o
 fits_after s st (finds.Dropped size) j n h x t o =

@@ -15,17 +15,17 @@ use Rattle.wild_frames.specs.declared.entry.BadFrame.{BadFrame}
 use Rattle.wild_frames.specs.declared.entry.FrameError.{FrameError}
 use Rattle.wild_frames.specs.declared.entry.FrameError.TheVariants as error
 use Rattle.wild_frames.specs.declared.walk.Walk.{Walk}
-use Rattle.wild_frames.specs.Frames.{Frames, State, found, goes_on, after, rest_of, start, entry_bytes, found_bytes, fde_of, tail_of}
+use Rattle.wild_frames.specs.Frames.{Frames, State, found, walk_continues, after, rest_of, start, entry_bytes, found_bytes, fde_of, tail_of}
 use Rattle.wild_frames.specs.Faults.{found_errors, Refuses}
-use Rattle.wild_frames.specs.Walks.{Lies, Fits, IsAtStart, IsNext, IsWritten, state_of}
+use Rattle.wild_frames.specs.Walks.{IsWithinSection, Fits, IsAtStart, IsNext, IsWritten, state_of}
 use Rattle.wild_frames.proofs.WalkLemmas.{Facts, found_facts}
 
 -- a list made of the rest of a walk, by one step that goes on
-pub on : {X : Type 0} (g : Found → List X) (s : Frames) (a b : State) (f : Found) → IsNext s a b f → goes_on f ≡ true → flat_map g (rest_of s a) ≡ g f ++ flat_map g (rest_of s b)
+pub on : {X : Type 0} (g : Found → List X) (s : Frames) (a b : State) (f : Found) → IsNext s a b f → walk_continues f ≡ true → flat_map g (rest_of s a) ≡ g f ++ flat_map g (rest_of s b)
 on g s a b f n t = ap (flat_map g) (rw t at n)
 
 -- and by the last step
-pub last : {X : Type 0} (g : Found → List X) (s : Frames) (a b : State) (f : Found) → IsNext s a b f → goes_on f ≡ false → flat_map g (rest_of s a) ≡ g f
+pub last : {X : Type 0} (g : Found → List X) (s : Frames) (a b : State) (f : Found) → IsNext s a b f → walk_continues f ≡ false → flat_map g (rest_of s a) ≡ g f
 last g s a b f n t = ap (flat_map g) (rw t at n) ∙ append-nil (g f)
 
 -- ---- lengths
@@ -39,9 +39,9 @@ length-entry s k l w =
       | inr f ↦ rw f (length-place 4 (slice_range s.bytes k.from (k.from + k.size)) (word 4 k.id) (let n = length-word 4 k.id in omega (arith, e, n)) ∙ e)
     ]
 
-pub length-kept : (s : Frames) (f : Found) (k : KeptEntry) → f ≡ finds.Kept k → Lies s f → length (found_bytes s f) ≡ k.size
+pub length-kept : (s : Frames) (f : Found) (k : KeptEntry) → f ≡ finds.Kept k → IsWithinSection s f → length (found_bytes s f) ≡ k.size
 length-kept s f k e =
-    let P : Found → Type 0 = λ h. Lies s h → length (found_bytes s h) ≡ k.size in
+    let P : Found → Type 0 = λ h. IsWithinSection s h → length (found_bytes s h) ≡ k.size in
     subst P (sym e) (λ h. length-entry s k h.least h.within)
 
 -- ---- one step of a writer
@@ -52,7 +52,7 @@ pub record Ahead (xs ys : List ℕ) : Type 0 where
 
 ahead : (s : Frames) (a b : State) (f : Found) → IsNext s a b f → Ahead (flat_map (found_bytes s) (rest_of s a)) (found_bytes s f)
 ahead s a b f n =
-    elim (cases_Bool (goes_on f)) [
+    elim (cases_Bool (walk_continues f)) [
       | inl t ↦ record { more = flat_map (found_bytes s) (rest_of s b); is = on (found_bytes s) s a b f n t }
       | inr e ↦ record { more = []; is = last (found_bytes s) s a b f n e ∙ sym (append-nil (found_bytes s f)) }
     ]
@@ -68,21 +68,21 @@ room_ahead s w v out f h n =
     omega (arith, b, c, l, r, t)
 
 -- where the kept bytes end behind what was found
-pub to_on : (s : Frames) (st : State) (f : Found) → Lies s f → goes_on f ≡ true → (after st f).to ≡ st.to + length (found_bytes s f)
+pub to_on : (s : Frames) (st : State) (f : Found) → IsWithinSection s f → walk_continues f ≡ true → (after st f).to ≡ st.to + length (found_bytes s f)
 to_on s st (finds.Kept k) h t = ap (λ (n : ℕ). st.to + n) (sym (length-entry s k h.least h.within))
 to_on s st (finds.Dropped size) h t = omega arith
 to_on s st finds.End h t = cc
 to_on s st (finds.Tail at) h t = cc
 to_on s st (finds.Bad y at) h t = cc
 
-calm_on : (f : Found) → goes_on f ≡ true → found_errors f ≡ []
+calm_on : (f : Found) → walk_continues f ≡ true → found_errors f ≡ []
 calm_on (finds.Kept k) t = refl
 calm_on (finds.Dropped size) t = refl
 calm_on finds.End t = cc
 calm_on (finds.Tail at) t = cc
 calm_on (finds.Bad y at) t = cc
 
-pub written_on : (s : Frames) (w v : Walk) (out to : List ℕ) (f : Found) → IsWritten s w out → IsNext s (state_of w) (state_of v) f → Lies s f → goes_on f ≡ true
+pub written_on : (s : Frames) (w v : Walk) (out to : List ℕ) (f : Found) → IsWritten s w out → IsNext s (state_of w) (state_of v) f → IsWithinSection s f → walk_continues f ≡ true
     → state_of v ≡ after (state_of w) f → Fits s (state_of v) v.relocation → length to ≡ length out
     → take (w.to + length (found_bytes s f)) to ≡ take w.to out ++ found_bytes s f
     → IsWritten s v to
@@ -101,7 +101,7 @@ written_on s w v out to f h n l t is fits same front =
       whole = same ∙ h.whole;
     }
 
-pub written_last : (s : Frames) (w v : Walk) (out to : List ℕ) (f : Found) → IsWritten s w out → IsNext s (state_of w) (state_of v) f → goes_on f ≡ false → length to ≡ length out
+pub written_last : (s : Frames) (w v : Walk) (out to : List ℕ) (f : Found) → IsWritten s w out → IsNext s (state_of w) (state_of v) f → walk_continues f ≡ false → length to ≡ length out
     → take (w.to + length (found_bytes s f)) to ≡ take w.to out ++ found_bytes s f
     → to ≡ flat_map (found_bytes s) (rest_of s start)
 written_last s w v out to f h n t same front =
@@ -113,7 +113,7 @@ written_last s w v out to f h n t same front =
     let enough : length to ≤ w.to + length (found_bytes s f) = omega (arith, m, l, r, same) in
     sym (take_all (w.to + length (found_bytes s f)) to enough) ∙ front ∙ whole
 
-pub errors_last : (s : Frames) (w v : Walk) (out : List ℕ) (f : Found) → IsWritten s w out → IsNext s (state_of w) (state_of v) f → goes_on f ≡ false
+pub errors_last : (s : Frames) (w v : Walk) (out : List ℕ) (f : Found) → IsWritten s w out → IsNext s (state_of w) (state_of v) f → walk_continues f ≡ false
     → found_errors f ≡ [] → flat_map found_errors (rest_of s start) ≡ []
 errors_last s w v out f h n t e = sym h.errors ∙ last found_errors s (state_of w) (state_of v) f n t ∙ e
 
@@ -125,7 +125,7 @@ refuses_more (error.Bad e) (x ∷ xs) ys h = h
 pub refuses_at : (s : Frames) (w v : Walk) (out : List ℕ) (f : Found) (r : FrameError) → IsWritten s w out → IsNext s (state_of w) (state_of v) f
     → Refuses r (found_errors f) → Refuses r (flat_map found_errors (rest_of s start))
 refuses_at s w v out f r h n x =
-    elim (cases_Bool (goes_on f)) [
+    elim (cases_Bool (walk_continues f)) [
       | inl t ↦ subst (Refuses r) (sym (on found_errors s (state_of w) (state_of v) f n t) ∙ h.errors) (refuses_more r (found_errors f) (flat_map found_errors (rest_of s (state_of v))) x)
       | inr e ↦ subst (Refuses r) (sym (last found_errors s (state_of w) (state_of v) f n e) ∙ h.errors) x
     ]

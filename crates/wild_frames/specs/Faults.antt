@@ -14,12 +14,12 @@ abbrev pub found_errors : Found → List BadFrame
 found_errors (finds.Bad w at) = (record { why = w; offset = at }) ∷ []
 found_errors _ = []
 
-abbrev pub instead : Option BadFrame → List BadFrame → List BadFrame
-instead (Some e) es = e ∷ []
-instead None es = es
+abbrev pub unless_list_error : Option BadFrame → List BadFrame → List BadFrame
+unless_list_error (Some e) es = e ∷ []
+unless_list_error None es = es
 
 abbrev pub frame_errors : Frames → List BadFrame
-frame_errors s = instead (list_error s.relocations) (flat_map found_errors (rest_of s start))
+frame_errors s = unless_list_error (list_error s.relocations) (flat_map found_errors (rest_of s start))
 
 -- out of memory
 abbrev pub out_of_memory : FrameError

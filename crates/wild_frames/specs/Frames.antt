@@ -16,7 +16,7 @@ use Rattle.wild_frames.specs.declared.frames.Target.{Target}
 use Rattle.wild_frames.specs.declared.frames.Target.TheVariants as target
 use Rattle.wild_frames.specs.declared.entry.Cie.{Cie}
 use Rattle.wild_frames.specs.declared.entry.KeptEntry.{KeptEntry}
-use Rattle.wild_types.specs.declared.fault.Why.TheVariants as why
+use Rattle.wild_types.specs.declared.fault.FrameFault.TheVariants as why
 use Rattle.wild_frames.specs.declared.entry.Found.{Found}
 use Rattle.wild_frames.specs.declared.entry.Found.TheVariants as finds
 use Rattle.wild_frames.specs.declared.entry.BadFrame.{BadFrame}
@@ -67,30 +67,30 @@ kept_if width own at to size id =
     if list_all (λ r. nat_le (r.offset + width r) (at + size)) own then finds.Kept (record { from = at; size = size; to = to; id = id }) else finds.Bad why.Field at
 
 -- an FDE, by the target of its PC Begin and by the new offset of its CIE
-abbrev pub described : (InputRelocation → ℕ) → Target → Option ℕ → List InputRelocation → ℕ → ℕ → ℕ → Found
-described width target.NoSection cie own at to size = finds.Bad why.PcBegin at
-described width target.Discarded None own at to size = finds.Bad why.Cie at
-described width target.Discarded (Some c) own at to size = finds.Dropped size
-described width target.Loaded None own at to size = if nat_lt size 12 then finds.Bad why.Short at else finds.Bad why.Cie at
-described width target.Loaded (Some c) own at to size = if nat_lt size 12 then finds.Bad why.Short at else kept_if width own at to size (to + 4 - c)
+abbrev pub fde_entry : (InputRelocation → ℕ) → Target → Option ℕ → List InputRelocation → ℕ → ℕ → ℕ → Found
+fde_entry width target.NoSection cie own at to size = finds.Bad why.PcBegin at
+fde_entry width target.Discarded None own at to size = finds.Bad why.Cie at
+fde_entry width target.Discarded (Some c) own at to size = finds.Dropped size
+fde_entry width target.Loaded None own at to size = if nat_lt size 12 then finds.Bad why.Short at else finds.Bad why.Cie at
+fde_entry width target.Loaded (Some c) own at to size = if nat_lt size 12 then finds.Bad why.Short at else kept_if width own at to size (to + 4 - c)
 
 -- an entry of that id and size, with its relocations
-unfoldable pub identified : Frames → List InputRelocation → State → ℕ → ℕ → Found
-identified s own st size id =
+unfoldable pub entry_with_id : Frames → List InputRelocation → State → ℕ → ℕ → Found
+entry_with_id s own st size id =
     if id == 0 then kept_if s.width own st.at st.to size 0
-    else described s.width (target_first s.target (st.at + 8) own) (cie_back (st.at + 4) id st.cies) own st.at st.to size
+    else fde_entry s.width (target_first s.target (st.at + 8) own) (cie_back (st.at + 4) id st.cies) own st.at st.to size
 
 -- an entry of that size
-unfoldable pub sized : Frames → State → ℕ → Found
-sized s st size =
+unfoldable pub entry_of_size : Frames → State → ℕ → Found
+entry_of_size s st size =
     if nat_lt (length s.bytes) (st.at + size) then finds.Bad why.Cut st.at
     else (if nat_lt size 8 then finds.Bad why.Short st.at
-    else identified s (relocations_in st.at (st.at + size) s.relocations) st size (number_at s.bytes (st.at + 4) 4))
+    else entry_with_id s (relocations_in st.at (st.at + size) s.relocations) st size (number_at s.bytes (st.at + 4) 4))
 
 unfoldable pub found : Frames → State → Found
 found s st =
     if nat_lt (length s.bytes) (st.at + 8) then finds.Tail st.at
-    else (if number_at s.bytes st.at 4 == 0 then finds.End else sized s st (4 + number_at s.bytes st.at 4))
+    else (if number_at s.bytes st.at 4 == 0 then finds.End else entry_of_size s st (4 + number_at s.bytes st.at 4))
 
 -- ---- all entries
 
@@ -99,10 +99,10 @@ abbrev pub behind : State → KeptEntry → State
 behind st k = record { at = st.at + k.size; to = st.to + k.size; cies = if k.id == 0 then st.cies ++ (record { from = k.from; to = k.to }) ∷ [] else st.cies }
 
 -- the walk continues after what was found
-abbrev pub goes_on : Found → Bool
-goes_on (finds.Kept k) = true
-goes_on (finds.Dropped size) = true
-goes_on _ = false
+abbrev pub walk_continues : Found → Bool
+walk_continues (finds.Kept k) = true
+walk_continues (finds.Dropped size) = true
+walk_continues _ = false
 
 abbrev pub after : State → Found → State
 after st (finds.Kept k) = behind st k
@@ -112,7 +112,7 @@ after st _ = st
 -- what the first n steps find
 unfoldable pub walk : Frames → ℕ → State → List Found
 walk s zero st = []
-walk s (suc n) st = found s st ∷ (if goes_on (found s st) then walk s n (after st (found s st)) else [])
+walk s (suc n) st = found s st ∷ (if walk_continues (found s st) then walk s n (after st (found s st)) else [])
 
 -- what all steps find: each takes at least one byte
 unfoldable pub rest_of : Frames → State → List Found

@@ -3,7 +3,7 @@
 --   AreRead bytes at es end    the entries follow each other from there to an end
 use Rattle.std.specs.Prelude.{◌≡◌, ℕ, ◌+◌, ◌<◌, ◌≤◌, ◌⊎◌, ◌==◌, ◌||◌, Bool, true, false, List, [], ◌∷◌, length, map, take, drop, All, Contains, slice_index}
 use Rattle.std.specs.List.{filter, flat_map}
-use Rattle.wild_words.specs.Words.{number_at, Stands}
+use Rattle.wild_words.specs.Words.{number_at, HasBytesAt}
 use Rattle.wild_types.specs.Lists.{total}
 use Rattle.wild_frames.specs.declared.frames.Target.{Target}
 use Rattle.wild_frames.specs.declared.frames.Target.TheVariants as target
@@ -66,9 +66,9 @@ KeptAreFiltered = (s : Frames) → AreFiltered s
 -- ---- their offsets
 
 -- consecutive entries, from an offset on
-abbrev pub LieFrom : ℕ → List KeptEntry → Type 0
-LieFrom to [] = Unit {0}
-LieFrom to (k ∷ ks) = (k.to ≡ to) × LieFrom (to + k.size) ks
+abbrev pub AreConsecutiveFrom : ℕ → List KeptEntry → Type 0
+AreConsecutiveFrom to [] = Unit {0}
+AreConsecutiveFrom to (k ∷ ks) = (k.to ≡ to) × AreConsecutiveFrom (to + k.size) ks
 
 abbrev pub tail_found : Frames → Found → List ℕ
 tail_found s (finds.Tail from) = tail_of (drop from s.bytes)
@@ -76,24 +76,24 @@ tail_found s _ = []
 
 -- kept entries have no gap between them, and only the last bytes follow them
 pub record HaveNoGaps (s : Frames) : Type 0 where
-  pub lie : LieFrom 0 (kept_in s)
+  pub lie : AreConsecutiveFrom 0 (kept_in s)
   pub sum : length (frame_bytes s) ≡ total (λ k. k.size) (kept_in s) + length (flat_map (tail_found s) (found_in s))
-  pub stand : All (λ k. Stands (frame_bytes s) k.to (entry_bytes s k)) (kept_in s)
+  pub stand : All (λ k. HasBytesAt (frame_bytes s) k.to (entry_bytes s k)) (kept_in s)
 
 abbrev pub EntriesHaveNoGaps : Type 0
 EntriesHaveNoGaps = (s : Frames) → HaveNoGaps s
 
 -- a kept entry as a reader finds it, if the kept bytes begin at offset base
-abbrev pub shown : ℕ → KeptEntry → Entry
-shown base k = record { at = base + k.to; size = k.size; id = k.id }
+abbrev pub entry_in_image : ℕ → KeptEntry → Entry
+entry_in_image base k = record { at = base + k.to; size = k.size; id = k.id }
 
 -- the length word and the id of each kept entry are in an image
-abbrev pub HeadsStand : Frames → List ℕ → ℕ → Type 0
-HeadsStand s image base = All (λ k. Stands image (base + k.to) (take 8 (entry_bytes s k))) (kept_in s)
+abbrev pub HeadsAreInImage : Frames → List ℕ → ℕ → Type 0
+HeadsAreInImage s image base = All (λ k. HasBytesAt image (base + k.to) (take 8 (entry_bytes s k))) (kept_in s)
 
 abbrev pub EntriesAreRead : Type 0
-EntriesAreRead = (s : Frames) (image : List ℕ) (base : ℕ) → All (λ b. b < 256) s.bytes → base + length (frame_bytes s) ≤ length image → HeadsStand s image base
-    → AreRead image base (map (shown base) (kept_in s)) (base + total (λ k. k.size) (kept_in s))
+EntriesAreRead = (s : Frames) (image : List ℕ) (base : ℕ) → All (λ b. b < 256) s.bytes → base + length (frame_bytes s) ≤ length image → HeadsAreInImage s image base
+    → AreRead image base (map (entry_in_image base) (kept_in s)) (base + total (λ k. k.size) (kept_in s))
 
 -- ---- their contents
 
@@ -107,11 +107,11 @@ pub record LeadsToCie (s : Frames) (kept : List KeptEntry) (k : KeptEntry) : Typ
   pub after : cie.to + k.id ≡ k.to + 4
   pub shorter : k.id ≤ number_at s.bytes (k.from + 4) 4
 
-abbrev pub Leads : Frames → List KeptEntry → KeptEntry → Type 0
-Leads s kept k = (number_at s.bytes (k.from + 4) 4 ≡ 0) × (k.id ≡ 0) ⊎ LeadsToCie s kept k
+abbrev pub LeadsToItsCie : Frames → List KeptEntry → KeptEntry → Type 0
+LeadsToItsCie s kept k = (number_at s.bytes (k.from + 4) 4 ≡ 0) × (k.id ≡ 0) ⊎ LeadsToCie s kept k
 
 abbrev pub IdsLead : Type 0
-IdsLead = (s : Frames) → All (Leads s (kept_in s)) (kept_in s)
+IdsLead = (s : Frames) → All (LeadsToItsCie s (kept_in s)) (kept_in s)
 
 -- the fields of an FDE are after its id
 abbrev pub SparesId : Frames → KeptEntry → Type 0

@@ -9,7 +9,7 @@ use Rattle.wild_frames.specs.declared.entry.Found.TheVariants as finds
 use Rattle.wild_frames.specs.declared.entry.BadFrame.{BadFrame}
 use Rattle.wild_frames.specs.declared.walk.Walk.{Walk}
 use Rattle.wild_frames.specs.declared.walk.Spot.{Spot}
-use Rattle.wild_frames.specs.Frames.{Frames, State, unsorted_in, list_error, goes_on, relocations_in, start, rest_of, found_bytes}
+use Rattle.wild_frames.specs.Frames.{Frames, State, unsorted_in, list_error, walk_continues, relocations_in, start, rest_of, found_bytes}
 use Rattle.wild_frames.specs.Faults.{found_errors}
 
 abbrev pub state_of : Walk → State
@@ -24,7 +24,7 @@ pub record IsSorted (rs : List InputRelocation) : Type 0 where
   pub none : unsorted_in reach rs ≡ None
 
 -- CIEs in ascending order, each before an offset of the input
-pub record AreMet (at : ℕ) (cies : List Cie) : Type 0 where
+pub record CiesArePassed (at : ℕ) (cies : List Cie) : Type 0 where
   pub ascend : AllPairs (λ c d. c.from < d.from) cies
   pub before : All (λ c. c.from < at) cies
 
@@ -35,7 +35,7 @@ pub record Fits (s : Frames) (st : State) (j : ℕ) : Type 0 where
   pub counted : j ≤ length s.relocations
   pub behind : drop j s.relocations ≡ filter (λ r. nat_le st.at r.offset) s.relocations
   pub sorted : IsSorted (drop j s.relocations)
-  pub met : AreMet st.at st.cies
+  pub met : CiesArePassed st.at st.cies
 
 -- the n relocations from the j-th on are those of an entry, and the relocations after its end follow
 pub record IsOwn (s : Frames) (at end j n : ℕ) : Type 0 where
@@ -54,10 +54,10 @@ pub record KeptLies (s : Frames) (k : KeptEntry) : Type 0 where
   pub fields : All (FieldLies s k.from k.size) (relocations_in k.from (k.from + k.size) s.relocations)
 
 -- what is found is within the section, and so are a kept entry's fields within the entry
-abbrev pub Lies : Frames → Found → Type 0
-Lies s (finds.Kept k) = KeptLies s k
-Lies s (finds.Tail from) = from ≤ length s.bytes
-Lies s _ = Unit {0}
+abbrev pub IsWithinSection : Frames → Found → Type 0
+IsWithinSection s (finds.Kept k) = KeptLies s k
+IsWithinSection s (finds.Tail from) = from ≤ length s.bytes
+IsWithinSection s _ = Unit {0}
 
 -- no kept entry moves to a higher offset
 abbrev pub MovesBack : Found → Type 0
@@ -81,7 +81,7 @@ Starts s (Err e) = list_error s.relocations ≡ Some e
 
 -- what a step found is the first item from there on, and the rest is what is found from its end on
 abbrev pub IsNext : Frames → State → State → Found → Type 0
-IsNext s from to f = rest_of s from ≡ f ∷ (if goes_on f then rest_of s to else [])
+IsNext s from to f = rest_of s from ≡ f ∷ (if walk_continues f then rest_of s to else [])
 
 -- the output for all that the walk has passed is written, and no fault was found there
 pub record IsWritten (s : Frames) (w : Walk) (out : List ℕ) : Type 0 where

@@ -7,7 +7,7 @@ ghost use Rattle.wild_frames.specs.Passes.{IsReady};
 use crate::entry::Found;
 use crate::frames::{FrameSource, byte_count};
 use crate::pass::Pass;
-use crate::write::{count_bytes, goes_on};
+use crate::write::{count_bytes, walk_continues};
 
 /// The sizes of the kept frames of a section.
 #[derive(Clone, Copy)]
@@ -40,7 +40,7 @@ fn count_rest<F: FrameSource>(frames: &F, first: Pass) -> FrameCounts
         let to = walk.to;
         let _length = byte_count(frames);
         let found = walk.step(frames);
-        if !goes_on(&found) {
+        if !walk_continues(&found) {
             let bytes = to + count_bytes(frames, &found) as u64;
             return FrameCounts { bytes, fdes };
         }

@@ -1,6 +1,6 @@
 //! Entries of frames: CIEs (common information entries) and FDEs (frame description entries).
 use std::alloc::AllocError;
-use wild_types::Why;
+use wild_types::FrameFault;
 
 /// A CIE that the walk has passed.
 #[derive(Clone, Copy)]
@@ -27,7 +27,7 @@ pub struct KeptEntry {
 /// What is wrong, and at which offset of the section: that of the entry, or of the relocation.
 #[derive(Clone, Copy, Debug, PartialEq, Eq)]
 pub struct BadFrame {
-    pub why: Why,
+    pub why: FrameFault,
     pub offset: u64,
 }
 
@@ -39,13 +39,13 @@ pub enum Found {
     /// Fewer than 8 bytes remain, from that offset on.
     Tail { from: u64 },
     /// An entry with a fault.
-    Bad { why: Why, offset: u64 },
+    Bad { why: FrameFault, offset: u64 },
     /// An FDE of that size in bytes, which is dropped.
     Dropped { size: u64 },
     Kept { entry: KeptEntry },
 }
 
-/// Why frames were not written.
+/// FrameFault frames were not written.
 #[derive(Clone, Copy, Debug, PartialEq, Eq)]
 pub enum FrameError {
     Bad(BadFrame),

@@ -22,4 +22,6 @@ pub use table::{
     Fde, TableError, sort_eh_frame_hdr_entries, write_eh_frame_hdr, write_search_table,
 };
 pub use walk::Walk;
-pub use write::{add_found, goes_on, write_eh_frame_data, write_eh_frame_terminator, write_entry};
+pub use write::{
+    add_found, walk_continues, write_eh_frame_data, write_eh_frame_terminator, write_entry,
+};

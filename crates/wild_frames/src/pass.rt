@@ -1,9 +1,9 @@
 //! A walk over the entries of a section that takes no memory.
 ghost use Rattle.std.specs.Prelude.{◌≡◌, ◌<◌, ◌-◌, ◌≤◌, ◌+◌, ◌^◌, ◌∷◌, [], ◌==◌, if◌then◌else◌, length, true, false};
 ghost use Rattle.wild_words.specs.Words.{number_at};
-ghost use Rattle.wild_frames.specs.Frames.{State, found, after, goes_on};
+ghost use Rattle.wild_frames.specs.Frames.{State, found, after, walk_continues};
 ghost use Rattle.wild_frames.specs.Walks.{Fits, IsOwn};
-ghost use Rattle.wild_frames.specs.Passes.{comes_to, has_cie, cie_before, known_after, brief_state, bare_state, IsBoundary, IsOn, IsWithin, Begins, IsPassed};
+ghost use Rattle.wild_frames.specs.Passes.{reaches_offset, has_cie, cie_before, last_cie_after, state_with_cie, state_without_cies, IsBoundary, FollowsWalk, IsWithin, Begins, IsPassStep};
 
 use crate::entry::{BadFrame, Cie, Found};
 use crate::frames::{FrameSource, byte_count};
@@ -26,10 +26,10 @@ pub struct Pass {
 }
 
 /// Whether a reader that follows the lengths from one offset reaches another.
-#[tactic(auto, unfolding(crate::specs::Passes::comes_to))]
-fn comes_to(bytes: &[u8], from: u64, to: u64) -> bool
+#[tactic(auto, unfolding(crate::specs::Passes::reaches_offset))]
+fn reaches_offset(bytes: &[u8], from: u64, to: u64) -> bool
     requires { to + 8 ≤ length bytes.now }
-    ensures { result ≡ comes_to bytes.now to from to }
+    ensures { result ≡ reaches_offset bytes.now to from to }
 {
     let mut at = from;
     while at < to {
@@ -63,7 +63,7 @@ impl Pass {
         ensures { result ≡ has_cie bytes.now from }
     {
         let first = if self.known <= from { self.known } else { 0 };
-        comes_to(bytes, first, from) && read_u32(bytes, from as usize + 4) == 0
+        reaches_offset(bytes, first, from) && read_u32(bytes, from as usize + 4) == 0
     }
 
     /// Whether a CIE is `id` bytes before the id word of the entry at the walk's offset.
@@ -77,10 +77,10 @@ impl Pass {
 
     /// What the walk finds at its offset, with the number of its relocations.
     fn look<F: FrameSource>(&self, frames: &F) -> (Found, usize)
-        requires fits { Fits (F.frames frames.now) (bare_state self.now) self.now.relocation }
+        requires fits { Fits (F.frames frames.now) (state_without_cies self.now) self.now.relocation }
         requires known { IsBoundary (F.frames frames.now).bytes self.now.known }
-        ensures found { result.0 ≡ found (F.frames frames.now) (brief_state (F.frames frames.now).bytes self.now) }
-        ensures own { goes_on result.0 ≡ true → IsOwn (F.frames frames.now) self.now.at (after (bare_state self.now) result.0).at self.now.relocation result.1 }
+        ensures found { result.0 ≡ found (F.frames frames.now) (state_with_cie (F.frames frames.now).bytes self.now) }
+        ensures own { walk_continues result.0 ≡ true → IsOwn (F.frames frames.now) self.now.at (after (state_without_cies self.now) result.0).at self.now.relocation result.1 }
         ensures few { self.now.relocation + result.1 ≤ length (F.frames frames.now).relocations }
     {
         let bytes = frames.bytes();
@@ -109,14 +109,14 @@ impl Pass {
 
     /// Moves the walk past what was found.
     fn pass(&mut self, found: &Found, count: usize)
-        requires room { goes_on found.now ≡ true → (after (bare_state self.old) found.now).at < 2 ^ 64 }
+        requires room { walk_continues found.now ≡ true → (after (state_without_cies self.old) found.now).at < 2 ^ 64 }
         requires shrinks { self.old.to ≤ self.old.at }
         requires count { self.old.relocation + count < 2 ^ 64 }
-        ensures at { self.new.at ≡ (after (bare_state self.old) found.now).at }
-        ensures to { self.new.to ≡ (after (bare_state self.old) found.now).to }
-        ensures relocation { goes_on found.now ≡ true → self.new.relocation ≡ self.old.relocation + count }
-        ensures stays { goes_on found.now ≡ false → self.new.relocation ≡ self.old.relocation }
-        ensures known { self.new.known ≡ known_after self.old.known found.now }
+        ensures at { self.new.at ≡ (after (state_without_cies self.old) found.now).at }
+        ensures to { self.new.to ≡ (after (state_without_cies self.old) found.now).to }
+        ensures relocation { walk_continues found.now ≡ true → self.new.relocation ≡ self.old.relocation + count }
+        ensures stays { walk_continues found.now ≡ false → self.new.relocation ≡ self.old.relocation }
+        ensures known { self.new.known ≡ last_cie_after self.old.known found.now }
     {
         match found {
             Found::Kept { entry } => {
@@ -140,7 +140,7 @@ impl Pass {
     /// entries and relocations.
     pub fn step<F: FrameSource>(&mut self, frames: &F) -> Found
         requires { IsWithin (F.frames frames.now) self.old }
-        ensures { (st : State) → IsOn (F.frames frames.now) self.old st → IsPassed (F.frames frames.now) st self.old self.new result }
+        ensures { (st : State) → FollowsWalk (F.frames frames.now) self.old st → IsPassStep (F.frames frames.now) st self.old self.new result }
     {
         let _length = byte_count(frames);
         let _count = frames.relocations().len();

@@ -6,7 +6,7 @@ ghost use Rattle.wild_frames.specs.Walks.{IsSorted};
 
 use crate::entry::BadFrame;
 use crate::frames::{FrameSource, Target};
-use wild_types::{InputRelocation, Why};
+use wild_types::{FrameFault, InputRelocation};
 
 /// The first relocation that could not be read.
 #[tactic(auto, unfolding(crate::specs::Frames::malformed_in))]
@@ -16,7 +16,7 @@ fn malformed_in(relocations: &[InputRelocation]) -> Option<BadFrame>
     for relocation in relocations {
         if relocation.malformed {
             return Some(BadFrame {
-                why: Why::Malformed,
+                why: FrameFault::Malformed,
                 offset: relocation.offset,
             });
         }
@@ -34,7 +34,7 @@ fn unsorted_in(relocations: &[InputRelocation]) -> Option<BadFrame>
         let offset = relocation.offset;
         if offset < reach {
             return Some(BadFrame {
-                why: Why::Unsorted,
+                why: FrameFault::Unsorted,
                 offset,
             });
         }

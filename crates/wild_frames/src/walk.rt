@@ -1,13 +1,13 @@
 //! A walk over the entries of a section.
 ghost use Rattle.std.specs.Prelude.{◌≡◌, ◌<◌, ◌≤◌, ◌+◌, ◌^◌, length, AllPairs, slice_range, true, false, IfOk, OnOk};
-ghost use Rattle.wild_frames.specs.Frames.{cie_at, cie_back, kept_if, described, identified, sized, found, after, goes_on, relocations_in};
-ghost use Rattle.wild_frames.specs.Walks.{state_of, spot_state, Fits, IsOwn, Lies, MovesBack, AreOwn, Starts, IsNext};
+ghost use Rattle.wild_frames.specs.Frames.{cie_at, cie_back, kept_if, fde_entry, entry_with_id, entry_of_size, found, after, walk_continues, relocations_in};
+ghost use Rattle.wild_frames.specs.Walks.{state_of, spot_state, Fits, IsOwn, IsWithinSection, MovesBack, AreOwn, Starts, IsNext};
 
 use crate::entry::{BadFrame, Cie, Found, KeptEntry};
 use crate::frames::{FrameSource, Target, byte_count};
 use crate::relocations::{count_before, fields_lie, list_error, target_first};
 use std::alloc::{AllocError, Global};
-use wild_types::{InputRelocation, Why};
+use wild_types::{FrameFault, InputRelocation};
 use wild_words::read_u32;
 
 /// The state of a walk.
@@ -74,7 +74,7 @@ fn kept_if<F: FrameSource>(
     let at = spot.at;
     if !fields_lie(frames, own, at as u128 + size as u128) {
         return Found::Bad {
-            why: Why::Field,
+            why: FrameFault::Field,
             offset: at,
         };
     }
@@ -89,7 +89,7 @@ fn kept_if<F: FrameSource>(
 }
 
 /// An FDE, by the target of its PC Begin and by the new offset of its CIE.
-fn described<F: FrameSource>(
+fn fde_entry<F: FrameSource>(
     frames: &F,
     own: &[InputRelocation],
     spot: &Spot<'_>,
@@ -98,20 +98,20 @@ fn described<F: FrameSource>(
     cie: Option<u64>,
 ) -> Found
     requires { spot.now.to + 4 < 2 ^ 64 }
-    ensures { result ≡ described (F.frames frames.now).width target cie own.now spot.now.at spot.now.to size }
+    ensures { result ≡ fde_entry (F.frames frames.now).width target cie own.now spot.now.at spot.now.to size }
 {
     let offset = spot.at;
     match (target, cie) {
         (Target::NoSection, _) => Found::Bad {
-            why: Why::PcBegin,
+            why: FrameFault::PcBegin,
             offset,
         },
         (Target::Loaded, _) if size < 12 => Found::Bad {
-            why: Why::Short,
+            why: FrameFault::Short,
             offset,
         },
         (_, None) => Found::Bad {
-            why: Why::Cie,
+            why: FrameFault::Cie,
             offset,
         },
         (Target::Discarded, Some(_)) => Found::Dropped { size },
@@ -122,8 +122,8 @@ fn described<F: FrameSource>(
 }
 
 /// An entry with that id and size, and its relocations.
-#[tactic(auto, unfolding(crate::specs::Frames::identified))]
-fn identified<F: FrameSource>(
+#[tactic(auto, unfolding(crate::specs::Frames::entry_with_id))]
+fn entry_with_id<F: FrameSource>(
     frames: &F,
     own: &[InputRelocation],
     spot: &Spot<'_>,
@@ -133,14 +133,14 @@ fn identified<F: FrameSource>(
     requires met { AllPairs (λ c d. c.from < d.from) spot.now.cies.now }
     requires far { spot.now.at + 8 < 2 ^ 64 }
     requires shrinks { spot.now.to ≤ spot.now.at }
-    ensures { result ≡ identified (F.frames frames.now) own.now (spot_state spot.now) size id }
+    ensures { result ≡ entry_with_id (F.frames frames.now) own.now (spot_state spot.now) size id }
 {
     if id == 0 {
         return kept_if(frames, own, spot, size, 0);
     }
     let target = target_first(frames, spot.at + 8, own);
     let cie = cie_back(spot.at + 4, id as u64, spot.cies);
-    described(frames, own, spot, size, target, cie)
+    fde_entry(frames, own, spot, size, target, cie)
 }
 
 /// The number of relocations of the entry that ends at `end`.
@@ -153,12 +153,12 @@ fn count_own<F: FrameSource>(frames: &F, spot: &Spot<'_>, end: u64) -> usize
 }
 
 /// An entry of that size, with the number of its relocations.
-#[tactic(auto, unfolding(crate::specs::Frames::sized))]
-fn sized<F: FrameSource>(frames: &F, spot: &Spot<'_>, size: u64) -> (Found, usize)
+#[tactic(auto, unfolding(crate::specs::Frames::entry_of_size))]
+fn entry_of_size<F: FrameSource>(frames: &F, spot: &Spot<'_>, size: u64) -> (Found, usize)
     requires fits { Fits (F.frames frames.now) (spot_state spot.now) spot.now.relocation }
     requires room { spot.now.at + 8 ≤ length (F.frames frames.now).bytes }
-    ensures found { result.0 ≡ sized (F.frames frames.now) (spot_state spot.now) size }
-    ensures own { goes_on result.0 ≡ true → IsOwn (F.frames frames.now) spot.now.at (spot.now.at + size) spot.now.relocation result.1 }
+    ensures found { result.0 ≡ entry_of_size (F.frames frames.now) (spot_state spot.now) size }
+    ensures own { walk_continues result.0 ≡ true → IsOwn (F.frames frames.now) spot.now.at (spot.now.at + size) spot.now.relocation result.1 }
     ensures few { spot.now.relocation + result.1 ≤ length (F.frames frames.now).relocations }
 {
     let offset = spot.at;
@@ -166,7 +166,7 @@ fn sized<F: FrameSource>(frames: &F, spot: &Spot<'_>, size: u64) -> (Found, usiz
     if bytes.len() as u64 - offset < size {
         return (
             Found::Bad {
-                why: Why::Cut,
+                why: FrameFault::Cut,
                 offset,
             },
             0,
@@ -175,7 +175,7 @@ fn sized<F: FrameSource>(frames: &F, spot: &Spot<'_>, size: u64) -> (Found, usiz
     if size < 8 {
         return (
             Found::Bad {
-                why: Why::Short,
+                why: FrameFault::Short,
                 offset,
             },
             0,
@@ -184,7 +184,7 @@ fn sized<F: FrameSource>(frames: &F, spot: &Spot<'_>, size: u64) -> (Found, usiz
     let count = count_own(frames, spot, offset + size);
     let own = &frames.relocations()[spot.relocation..spot.relocation + count];
     let id = read_u32(bytes, offset as usize + 4);
-    (identified(frames, own, spot, size, id), count)
+    (entry_with_id(frames, own, spot, size, id), count)
 }
 
 /// What is found at that position, with the number of its relocations.
@@ -192,7 +192,7 @@ fn sized<F: FrameSource>(frames: &F, spot: &Spot<'_>, size: u64) -> (Found, usiz
 pub(crate) fn found<F: FrameSource>(frames: &F, spot: &Spot<'_>) -> (Found, usize)
     requires fits { Fits (F.frames frames.now) (spot_state spot.now) spot.now.relocation }
     ensures found { result.0 ≡ found (F.frames frames.now) (spot_state spot.now) }
-    ensures own { goes_on result.0 ≡ true → IsOwn (F.frames frames.now) spot.now.at (after (spot_state spot.now) result.0).at spot.now.relocation result.1 }
+    ensures own { walk_continues result.0 ≡ true → IsOwn (F.frames frames.now) spot.now.at (after (spot_state spot.now) result.0).at spot.now.relocation result.1 }
     ensures few { spot.now.relocation + result.1 ≤ length (F.frames frames.now).relocations }
 {
     let at = spot.at;
@@ -204,7 +204,7 @@ pub(crate) fn found<F: FrameSource>(frames: &F, spot: &Spot<'_>) -> (Found, usiz
     if length == 0 {
         return (Found::End, 0);
     }
-    sized(frames, spot, 4 + length as u64)
+    entry_of_size(frames, spot, 4 + length as u64)
 }
 
 impl Walk {
@@ -227,7 +227,7 @@ impl Walk {
     fn look<F: FrameSource>(&self, frames: &F) -> (Found, usize)
         requires fits { Fits (F.frames frames.now) (state_of self.now) self.now.relocation }
         ensures found { result.0 ≡ found (F.frames frames.now) (state_of self.now) }
-        ensures own { goes_on result.0 ≡ true → IsOwn (F.frames frames.now) self.now.at (after (state_of self.now) result.0).at self.now.relocation result.1 }
+        ensures own { walk_continues result.0 ≡ true → IsOwn (F.frames frames.now) self.now.at (after (state_of self.now) result.0).at self.now.relocation result.1 }
         ensures few { self.now.relocation + result.1 ≤ length (F.frames frames.now).relocations }
     {
         let spot = Spot {
@@ -241,12 +241,12 @@ impl Walk {
 
     /// Moves the walk past what was found.
     fn pass(&mut self, found: Found, count: usize) -> Result<(), AllocError>
-        requires room { goes_on found ≡ true → (after (state_of self.old) found).at < 2 ^ 64 }
+        requires room { walk_continues found ≡ true → (after (state_of self.old) found).at < 2 ^ 64 }
         requires shrinks { self.old.to ≤ self.old.at }
         requires count { self.old.relocation + count < 2 ^ 64 }
         ensures state { OnOk result (state_of self.new ≡ after (state_of self.old) found) }
-        ensures relocation { OnOk result (goes_on found ≡ true → self.new.relocation ≡ self.old.relocation + count) }
-        ensures stays { OnOk result (goes_on found ≡ false → self.new.relocation ≡ self.old.relocation) }
+        ensures relocation { OnOk result (walk_continues found ≡ true → self.new.relocation ≡ self.old.relocation + count) }
+        ensures stays { OnOk result (walk_continues found ≡ false → self.new.relocation ≡ self.old.relocation) }
     {
         match found {
             Found::Kept { entry } => {
@@ -276,12 +276,12 @@ impl Walk {
         ensures found { IfOk result (λ f. f ≡ found (F.frames frames.now) (state_of self.old)) }
         ensures state { IfOk result (λ f. state_of self.new ≡ after (state_of self.old) f) }
         ensures next { IfOk result (λ f. IsNext (F.frames frames.now) (state_of self.old) (state_of self.new) f) }
-        ensures lies { IfOk result (λ f. Lies (F.frames frames.now) f) }
+        ensures lies { IfOk result (λ f. IsWithinSection (F.frames frames.now) f) }
         ensures back { IfOk result MovesBack }
         ensures counted { IfOk result (λ f. (self.old.relocation ≤ self.new.relocation) × (self.new.relocation ≤ length (F.frames frames.now).relocations)) }
         ensures own { IfOk result (λ f. AreOwn (F.frames frames.now) (slice_range (F.frames frames.now).relocations self.old.relocation self.new.relocation) f) }
-        ensures further { IfOk result (λ f. goes_on f ≡ true → (self.old.at < self.new.at) × (self.new.at ≤ length (F.frames frames.now).bytes)) }
-        ensures fits { IfOk result (λ f. goes_on f ≡ true → Fits (F.frames frames.now) (state_of self.new) self.new.relocation) }
+        ensures further { IfOk result (λ f. walk_continues f ≡ true → (self.old.at < self.new.at) × (self.new.at ≤ length (F.frames frames.now).bytes)) }
+        ensures fits { IfOk result (λ f. walk_continues f ≡ true → Fits (F.frames frames.now) (state_of self.new) self.new.relocation) }
     {
         let _length = byte_count(frames);
         let _count = frames.relocations().len();

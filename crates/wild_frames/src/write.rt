@@ -2,9 +2,9 @@
 ghost use Rattle.std.specs.Prelude.{◌≡◌, [], ◌++◌, ◌<◌, ◌≤◌, ◌+◌, length, drop, OnOk, IfOk, IfErr, true, false};
 ghost use Rattle.std.specs.List.{flat_map};
 ghost use Rattle.wild_words.specs.Words.{word, place};
-ghost use Rattle.wild_frames.specs.Frames.{start, entry_bytes, tail_of, found_bytes, rest_of, frame_bytes, terminator, goes_on};
+ghost use Rattle.wild_frames.specs.Frames.{start, entry_bytes, tail_of, found_bytes, rest_of, frame_bytes, terminator, walk_continues};
 ghost use Rattle.wild_frames.specs.Faults.{found_errors, frame_errors, Answers, Refuses};
-ghost use Rattle.wild_frames.specs.Walks.{Lies, IsAtStart, IsWritten};
+ghost use Rattle.wild_frames.specs.Walks.{IsWithinSection, IsAtStart, IsWritten};
 
 use crate::entry::{BadFrame, Found, FrameError, KeptEntry};
 use crate::frames::FrameSource;
@@ -65,7 +65,7 @@ fn write_tail<F: FrameSource>(frames: &F, from: u64, room: &mut [u8])
 
 /// The size of the output for what was found, in bytes.
 pub(crate) fn count_bytes<F: FrameSource>(frames: &F, found: &Found) -> usize
-    requires { Lies (F.frames frames.now) found.now }
+    requires { IsWithinSection (F.frames frames.now) found.now }
     ensures { result ≡ length (found_bytes (F.frames frames.now) found.now) }
 {
     match found {
@@ -77,7 +77,7 @@ pub(crate) fn count_bytes<F: FrameSource>(frames: &F, found: &Found) -> usize
 
 /// Writes the output for what was found, or returns its fault.
 fn write_found<F: FrameSource>(frames: &F, found: &Found, room: &mut [u8]) -> Result<(), FrameError>
-    requires lies { Lies (F.frames frames.now) found.now }
+    requires lies { IsWithinSection (F.frames frames.now) found.now }
     requires room { length room.old ≡ length (found_bytes (F.frames frames.now) found.now) }
     ensures faults { Answers result (found_errors found.now) }
     ensures bytes { OnOk result (room.new ≡ found_bytes (F.frames frames.now) found.now) }
@@ -103,7 +103,7 @@ pub fn add_found<F: FrameSource>(
     found: &Found,
     out: &mut Vec<u8>,
 ) -> Result<(), AllocError>
-    requires { Lies (F.frames frames.now) found.now }
+    requires { IsWithinSection (F.frames frames.now) found.now }
     ensures { OnOk result (out.new.items ≡ out.old.items ++ found_bytes (F.frames frames.now) found.now) }
 {
     let bytes = frames.bytes();
@@ -133,8 +133,8 @@ pub fn write_eh_frame_terminator(out: &mut Vec<u8>) -> Result<(), AllocError>
 }
 
 /// Whether the walk continues after what was found.
-pub fn goes_on(found: &Found) -> bool
-    ensures { result ≡ goes_on found.now }
+pub fn walk_continues(found: &Found) -> bool
+    ensures { result ≡ walk_continues found.now }
 {
     match found {
         Found::Kept { .. } | Found::Dropped { .. } => true,
@@ -160,7 +160,7 @@ fn write_next<F: FrameSource>(
     let found = walk.step(frames)?;
     let count = count_bytes(frames, &found);
     match write_found(frames, &found, &mut out[to..to + count]) {
-        Ok(()) => Ok(goes_on(&found)),
+        Ok(()) => Ok(walk_continues(&found)),
         Err(error) => Err(error),
     }
 }

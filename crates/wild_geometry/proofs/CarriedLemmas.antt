@@ -8,22 +8,22 @@ use Rattle.wild_records.specs.Abi.Segment.{pt_load}
 use Rattle.wild_types.specs.declared.part.Part.{Part}
 use Rattle.wild_types.specs.declared.section.Section.{Section}
 use Rattle.wild_types.specs.declared.section.Segment.{Segment}
-use Rattle.wild_clauses.specs.declared.loaded.Side.TheVariants as side
+use Rattle.wild_plan_rules.specs.declared.side.ImageOrMemory.TheVariants as side
 use Rattle.wild_types.specs.declared.input.Slot.{Slot}
 use Rattle.wild_types.specs.declared.input.Slot.TheVariants as slot
 use Rattle.wild_types.specs.declared.input.InputSection.{InputSection}
 use Rattle.wild_types.specs.declared.layout.Layout.{Layout}
 use Rattle.wild_types.specs.Kinds.{is_partial_link}
-use Rattle.wild_types.specs.Lookups.{allocated, without_data, flags_of, section_of_part, is_allocated_section, is_allocated_part, is_without_data, is_hollow, hollow, is_hollow_at, fills_file, has_data, takes_file_bytes, is_loaded, is_filled}
-use Rattle.wild_clauses.specs.Places.{within, is_level, lies_in, lies_by, part_lies}
+use Rattle.wild_types.specs.Lookups.{allocated, without_data, flags_of, section_of_part, is_allocated_section, is_allocated_part, is_without_data, is_header_only, header_only, is_header_only_at, fills_file, has_data, takes_file_bytes, is_loaded, is_filled}
+use Rattle.wild_plan_rules.specs.Places.{within, is_level, lies_in, lies_by, part_lies}
 use Rattle.wild_types.specs.Parts.{is_loaded_role}
-use Rattle.wild_clauses.specs.Segments.{at_equal_distance, has_byte, has_file_bytes, all_below, bytes_are_loaded}
-use Rattle.wild_clauses.proofs.CoverLemmas.{all_below_each}
+use Rattle.wild_plan_rules.specs.Segments.{at_equal_distance, has_byte, has_file_bytes, all_below, bytes_are_loaded}
+use Rattle.wild_plan_rules.proofs.CoverLemmas.{all_below_each}
 use Rattle.wild_types.specs.FilePlaces.{bool_eq}
-use Rattle.wild_clauses.specs.Contents.{has_room}
-use Rattle.wild_clauses.specs.Indexes.{part_index_fits}
+use Rattle.wild_plan_rules.specs.Contents.{has_room}
+use Rattle.wild_plan_rules.specs.Indexes.{part_index_fits}
 use Rattle.wild_layout.specs.Loadable.{CarriesByte, IsMapped, IsPartMapped}
-use Rattle.wild_geometry.proofs.LaidLemmas.{Laid}
+use Rattle.wild_geometry.proofs.PlacedSectionLemmas.{Laid}
 use Rattle.wild_geometry.proofs.SectionLemmas.{Holds, Stood}
 use Rattle.wild_geometry.proofs.PieceLemmas.{place_is}
 
@@ -41,13 +41,13 @@ pub Filled-from_tests : (l : Layout) (k : ℕ) → k < length l.sections → is_
 Filled-from_tests l k named place takes =
     let both = and_parts (not (k == 0)) (allocated (flags_of (slice_get l.sections k))) place in
     let item = ItemAt-within l.sections k named in
-    let written = and_parts (has_data l k) (not (is_hollow_at l k)) takes in
-    let here : not (not (k == 0) && hollow l (Some item.item)) ≡ true = subst (λ (o : Option Section). not (not (k == 0) && hollow l o) ≡ true) item.is written.1 in
+    let written = and_parts (has_data l k) (not (is_header_only_at l k)) takes in
+    let here : not (not (k == 0) && header_only l (Some item.item)) ≡ true = subst (λ (o : Option Section). not (not (k == 0) && header_only l o) ≡ true) item.is written.1 in
     record {
       section = item.item;
       is = item.is;
       later = eqb-false _ _ (not-true _ both.0);
-      bits = and_from (not (is_without_data item.item)) (not (is_hollow l item.item)) (subst (λ (o : Option Section). not (without_data o) ≡ true) item.is written.0) (rw both.0 at here);
+      bits = and_from (not (is_without_data item.item)) (not (is_header_only l item.item)) (subst (λ (o : Option Section). not (without_data o) ≡ true) item.is written.0) (rw both.0 at here);
       allocated = subst (λ (o : Option Section). allocated (flags_of o) ≡ true) item.is both.1;
     }
 
@@ -137,7 +137,7 @@ IsPartMapped-from_laid l h i d low kind loaded written k lt =
     let p = get_or l.parts i d in
     let asked : (is_partial_link l.kind || not (is_loaded_role p.role)) ≡ false = rw (kind, loaded) refl in
     let both = and_parts (is_allocated_section l p.section) (has_data l p.section) (or_other (is_partial_link l.kind || not (is_loaded_role p.role)) (is_allocated_section l p.section && has_data l p.section) (h.parts.loaded i d low) asked) in
-    let o = Filled-from_tests l p.section (ltb-true _ _ (h.indexes.parts i d low)) both.0 (and_from (has_data l p.section) (not (is_hollow_at l p.section)) both.1 (rw written refl)) in
+    let o = Filled-from_tests l p.section (ltb-true _ _ (h.indexes.parts i d low)) both.0 (and_from (has_data l p.section) (not (is_header_only_at l p.section)) both.1 (rw written refl)) in
     let c = byte_of_part l h kind p (h.parts.lie i d low) o k lt in
     (c.0, record { listed = c.1.listed; loaded = c.1.loaded; from = c.1.from; to = c.1.to; distance = c.1.distance })
 

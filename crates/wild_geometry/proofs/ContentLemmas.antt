@@ -7,16 +7,16 @@ use Rattle.wild_words.proofs.Basics.{length-if, nil_if, flat_map-none}
 use Rattle.wild_records.specs.Dynamic.{dynamic_entry_size}
 use Rattle.wild_records.specs.SymtabEntry.{symtab_entry_size}
 use Rattle.wild_relr.proofs.SpellLemmas.{length-word_bytes}
-use Rattle.wild_tables.proofs.EntryLemmas.{length-rela_bytes}
-use Rattle.wild_tables.specs.Dynamic.{entries_bytes, dynamic_bytes}
-use Rattle.wild_tables.proofs.DynamicLemmas.{length_entries}
-use Rattle.wild_symbols.specs.DynamicEntries.{group_symbols}
-use Rattle.wild_headers.proofs.LengthLemmas.{lengths_of_headers}
-use Rattle.wild_symbols.proofs.StringLemmas.{length-string_bytes}
-use Rattle.wild_symbols.proofs.SymbolLemmas.{length-symbol_bytes}
-use Rattle.wild_symbols.proofs.TableLemmas.{length-long_indexes, length-index_bytes, length-file_side, length-table_entries}
-use Rattle.wild_symbols.specs.TableLaws.{side_count}
-use Rattle.wild_versions.proofs.RoomLemmas.{length-symbol_versions, length-file_definitions, length-group_needs}
+use Rattle.wild_table_formats.proofs.EntryLemmas.{length-rela_bytes}
+use Rattle.wild_table_formats.specs.DynamicSection.{entries_bytes, dynamic_bytes}
+use Rattle.wild_table_formats.proofs.DynamicLemmas.{length_entries}
+use Rattle.wild_table_formats.specs.DynamicEntries.{group_symbols}
+use Rattle.wild_table_formats.proofs.HeaderLengths.{lengths_of_headers}
+use Rattle.wild_table_formats.proofs.StringLemmas.{length-string_bytes}
+use Rattle.wild_table_formats.proofs.SymbolLemmas.{length-symbol_bytes}
+use Rattle.wild_table_formats.proofs.SymtabLemmas.{length-long_indexes, length-index_bytes, length-file_side, length-table_entries}
+use Rattle.wild_table_formats.specs.TableLaws.{side_count}
+use Rattle.wild_table_formats.proofs.VersionRooms.{length-symbol_versions, length-file_definitions, length-group_needs}
 use Rattle.wild_types.specs.declared.input.InputRelocation.{InputRelocation}
 use Rattle.wild_types.specs.declared.input.InputSection.{InputSection}
 use Rattle.wild_types.specs.declared.part.Role.{Role}
@@ -26,27 +26,27 @@ use Rattle.wild_types.specs.declared.file.Group.{Group}
 use Rattle.wild_types.specs.declared.layout.Layout.{Layout}
 use Rattle.wild_needs.specs.Dynamic.{dynamic_count}
 use Rattle.wild_needs.specs.DynamicStrings.{file_strings, needed_entries, needed_count}
-use Rattle.wild_types.specs.Lookups.{has_moved}
-use Rattle.wild_needs.specs.Entries.{listed_place, listed_places, words_of, entry_count, sorted_words, left_relocations, general_count}
-use Rattle.wild_laid.specs.Laid.{laid_file, laid_files, of_last_file, processed}
-use Rattle.wild_laid.proofs.LaidFiles.{ReadsNoSection, laid_total, All-laid}
+use Rattle.wild_types.specs.Lookups.{may_have_relative}
+use Rattle.wild_needs.specs.Entries.{rela_place, rela_places, words_of, entry_count, sorted_words, dynamic_relocations, general_count}
+use Rattle.wild_placement.specs.PlacedSections.{placed_file, placed_files, of_last_file, processed_sections}
+use Rattle.wild_placement.proofs.PlacedFiles.{ReadsNoSection, laid_total, All-laid}
 use Rattle.wild_types.specs.FileSymbols.{copies_of}
 use Rattle.wild_types.specs.Lists.{total}
-use Rattle.wild_needs.specs.Needs.{whole_of, dynsym_count, last_of, build_id_room, properties_room, own_of, first_share, share, has_last, last_share, group_share}
+use Rattle.wild_needs.specs.Needs.{bytes_per_image, dynsym_count, bytes_if_last, build_id_room, properties_room, file_table_bytes, first_share, share, has_last, last_share, group_share}
 use Rattle.wild_types.specs.FileRoles.{is_prelude, is_epilogue}
 use Rattle.wild_types.specs.Parts.{role_place}
 use Rattle.wild_needs.specs.TableSymbols.{TableSymbol, file_items, side, null_count, has_long, local_count, global_count, table_strings}
 use Rattle.wild_needs.specs.Versions.{needs_room}
-use Rattle.wild_symbols.specs.TableEntries.{file_table, table_entries, long_indexes, index_bytes}
-use Rattle.wild_needs.specs.SlotShares.{block_share}
+use Rattle.wild_table_formats.specs.TableEntries.{file_table, table_entries, long_indexes, index_bytes}
+use Rattle.wild_needs.specs.SlotShares.{relr_got_share}
 use Rattle.wild_needs.proofs.DynamicLemmas.{length_needed_entries}
-use Rattle.wild_layout.specs.Content.{whole_bytes, own_bytes, dynamic_room, file_content, dynamic_of, last_words, group_bytes, content}
+use Rattle.wild_layout.specs.Content.{unique_table, file_part_bytes, dynamic_room, file_content, dynamic_of, last_words, group_bytes, content}
 use Rattle.wild_layout.specs.Notes.{build_id_note, property_note}
-use Rattle.wild_layout.specs.Left.{left_entry, section_generals, copy_entry, file_generals}
-use Rattle.wild_tables.specs.Tables.{relative_entry}
-use Rattle.wild_layout.specs.Moved.{moved_value, listed_entry, section_entries, file_entries, file_words}
+use Rattle.wild_layout.specs.DynamicRelocations.{dynamic_relocation, section_generals, copy_entry, file_generals}
+use Rattle.wild_table_formats.specs.GroupTables.{relative_entry}
+use Rattle.wild_layout.specs.RelativeRelocations.{relative_value, listed_entry, section_entries, file_entries, file_words}
 use Rattle.wild_layout.specs.SlotBytes.{slot_bytes, header_bytes, block_bytes}
-use Rattle.wild_relr.specs.Written.{word_bytes}
+use Rattle.wild_relr.specs.WriterState.{word_bytes}
 use Rattle.wild_geometry.proofs.LastGroupLemmas.{some_if}
 use Rattle.wild_geometry.proofs.FrameSections.{HasFrameRooms, laid_rooms, joined_all, frames_length}
 use Rattle.wild_geometry.proofs.NoteLengths.{length-build_id, length-properties, length-search_table}
@@ -87,38 +87,38 @@ total_times m f (x ∷ xs) =
 
 -- ---- entries
 
-listed_length : (l : Layout) (s : InputSection) (rs : List InputRelocation) → length (flat_map (λ r. option_to_list (listed_entry l s r)) rs) ≡ length (flat_map (λ r. option_to_list (listed_place l s r)) rs)
+listed_length : (l : Layout) (s : InputSection) (rs : List InputRelocation) → length (flat_map (λ r. option_to_list (listed_entry l s r)) rs) ≡ length (flat_map (λ r. option_to_list (rela_place l s r)) rs)
 listed_length l s [] = refl
 listed_length l s (r ∷ rs) =
     let a = length-append (option_to_list (listed_entry l s r)) (flat_map (λ q. option_to_list (listed_entry l s q)) rs) in
-    let b = length-append (option_to_list (listed_place l s r)) (flat_map (λ q. option_to_list (listed_place l s q)) rs) in
-    let c = mapped (listed_place l s r) in
+    let b = length-append (option_to_list (rela_place l s r)) (flat_map (λ q. option_to_list (rela_place l s q)) rs) in
+    let c = mapped (rela_place l s r) in
     let d = listed_length l s rs in
     omega arith
   where
-    mapped : (o : Option ℕ) → length (option_to_list (option_map (λ place. relative_entry l place (moved_value l r)) o)) ≡ length (option_to_list o)
+    mapped : (o : Option ℕ) → length (option_to_list (option_map (λ place. relative_entry l place (relative_value l r)) o)) ≡ length (option_to_list o)
     mapped None = refl
     mapped (Some x) = refl
 
-section_length : (l : Layout) (s : InputSection) → length (section_entries l s) ≡ length (listed_places l s)
-unfolding section_entries listed_places
+section_length : (l : Layout) (s : InputSection) → length (section_entries l s) ≡ length (rela_places l s)
+unfolding section_entries rela_places
 section_length l s =
-    elim (cases_Bool (has_moved l s)) [
+    elim (cases_Bool (may_have_relative l s)) [
       | inl t ↦ rw t (listed_length l s s.relocations)
       | inr f ↦ rw f refl
     ]
 
-left_length : (l : Layout) (s : InputSection) → length (section_generals l s) ≡ length (left_relocations l s)
+left_length : (l : Layout) (s : InputSection) → length (section_generals l s) ≡ length (dynamic_relocations l s)
 unfolding section_generals
-left_length l s = length-map (left_relocations l s) (left_entry l s.address s.flags)
+left_length l s = length-map (dynamic_relocations l s) (dynamic_relocation l s.address s.flags)
 
 general_length : (l : Layout) (f : File) → length (file_generals l f) ≡ general_count l f
 unfolding file_generals general_count
 general_length l f =
     let copies = map (copy_entry l) (copies_of f) in
-    let a = length-append copies (flat_map (section_generals l) (processed l f)) in
+    let a = length-append copies (flat_map (section_generals l) (processed_sections l f)) in
     let b = length-map (copies_of f) (copy_entry l) in
-    let c = joined_lengths (section_generals l) (λ s. length (left_relocations l s)) (processed l f) (left_length l) in
+    let c = joined_lengths (section_generals l) (λ s. length (dynamic_relocations l s)) (processed_sections l f) (left_length l) in
     omega arith
 
 -- ---- what one file gives
@@ -142,13 +142,13 @@ indexes_length true l local f =
 indexes_length false l local f = refl
 
 -- what the last file has
-last_length : (f : File) (bytes : List ℕ) (n : ℕ) → length bytes ≡ n → length (of_last_file f bytes) ≡ last_of f.role n
+last_length : (f : File) (bytes : List ℕ) (n : ℕ) → length bytes ≡ n → length (of_last_file f bytes) ≡ bytes_if_last f.role n
 last_length f bytes n h = length-if (is_epilogue f.role) bytes n h
 
-own_length : (l : Layout) (r : Role) (f : File) → is_by_group r ≡ false → HasFrameRooms l f → length (own_bytes l r f) ≡ own_of l r f
+own_length : (l : Layout) (r : Role) (f : File) → is_by_group r ≡ false → HasFrameRooms l f → length (file_part_bytes l r f) ≡ file_table_bytes l r f
 own_length l role.RelaDynRelative f n h =
     let a = length-rela_bytes (file_entries l f) in
-    let b : length (file_entries l f) ≡ entry_count l f = joined_lengths (section_entries l) (λ s. length (listed_places l s)) (processed l f) (section_length l) in
+    let b : length (file_entries l f) ≡ entry_count l f = joined_lengths (section_entries l) (λ s. length (rela_places l s)) (processed_sections l f) (section_length l) in
     omega arith
 own_length l role.RelaDynGeneral f n h =
     let a = length-rela_bytes (file_generals l f) in
@@ -176,28 +176,28 @@ own_length l role.BuildId f n h = last_length f (build_id_note l.build_id) (buil
 own_length l role.Property f n h = last_length f (property_note l.properties) (properties_room l.properties) (length-properties l.properties)
 own_length l other f n h = refl
 
-pub length-whole_bytes : (l : Layout) (r : Role) → length (whole_bytes l r) ≡ whole_of l r
-length-whole_bytes l role.FileHeader = (lengths_of_headers l).file_header
-length-whole_bytes l role.ProgramHeaders = (lengths_of_headers l).program_headers
-length-whole_bytes l role.SectionHeaders = (lengths_of_headers l).section_headers
-length-whole_bytes l role.Shstrtab = (lengths_of_headers l).names
-length-whole_bytes l role.EhFrameHdr = length-search_table l
-length-whole_bytes l role.Interp = refl
-length-whole_bytes l other = refl
+pub length-unique_table : (l : Layout) (r : Role) → length (unique_table l r) ≡ bytes_per_image l r
+length-unique_table l role.FileHeader = (lengths_of_headers l).file_header
+length-unique_table l role.ProgramHeaders = (lengths_of_headers l).program_headers
+length-unique_table l role.SectionHeaders = (lengths_of_headers l).section_headers
+length-unique_table l role.Shstrtab = (lengths_of_headers l).names
+length-unique_table l role.EhFrameHdr = length-search_table l
+length-unique_table l role.Interp = refl
+length-unique_table l other = refl
 
-first_length : (l : Layout) (r : Role) → length (whole_bytes l r ++ header_bytes l r) ≡ first_share l r
+first_length : (l : Layout) (r : Role) → length (unique_table l r ++ header_bytes l r) ≡ first_share l r
 first_length l r =
-    let a = length-append (whole_bytes l r) (header_bytes l r) in
-    let b = length-whole_bytes l r in
+    let a = length-append (unique_table l r) (header_bytes l r) in
+    let b = length-unique_table l r in
     let c = header_length l r in
     omega arith
 
 file_length : (l : Layout) (r : Role) (f : File) → is_by_group r ≡ false → HasFrameRooms l f → length (file_content l r f) ≡ share l r f
 file_length l r f n h =
-    let first = if is_prelude f.role then whole_bytes l r ++ header_bytes l r else [] in
-    let a = length-append first (own_bytes l r f) in
-    let b = length-if (is_prelude f.role) (whole_bytes l r ++ header_bytes l r) (first_share l r) (first_length l r) in
-    let c = length-append (first ++ own_bytes l r f) (slot_bytes l r f) in
+    let first = if is_prelude f.role then unique_table l r ++ header_bytes l r else [] in
+    let a = length-append first (file_part_bytes l r f) in
+    let b = length-if (is_prelude f.role) (unique_table l r ++ header_bytes l r) (first_share l r) (first_length l r) in
+    let c = length-append (first ++ file_part_bytes l r f) (slot_bytes l r f) in
     let d = own_length l r f n h in
     let e = slot_length l r f in
     omega arith
@@ -208,7 +208,7 @@ file_length l r f n h =
 words_length : (l : Layout) (g : Group) → length (last_words l g) ≡ last_share l role.RelrDyn g
 words_length l g = length-if (has_last g) (word_bytes (sorted_words l)) (8 * length (sorted_words l)) (length-word_bytes (sorted_words l))
 
-group_length : (l : Layout) (r : Role) (g : Group) → is_by_group r ≡ false → length (group_bytes l r g) ≡ block_share l r g + last_share l r g
+group_length : (l : Layout) (r : Role) (g : Group) → is_by_group r ≡ false → length (group_bytes l r g) ≡ relr_got_share l r g + last_share l r g
 group_length l role.Dynsym g n = cc
 group_length l role.GnuVersionR g n = cc
 group_length l role.Dynamic g n = cc
@@ -223,8 +223,8 @@ group_length l other g n = refl
 
 by_file_length : (l : Layout) (r : Role) (g : Group) → is_by_group r ≡ false → length (content l r g) ≡ group_share l r g
 by_file_length l r g n =
-    let a = length-append (flat_map (file_content l r) (laid_files l g)) (group_bytes l r g) in
-    let b = joined_all (file_content l r) (share l r) (laid_files l g) (All-laid l (λ f. length (file_content l r f) ≡ share l r f) g (λ i f m at. file_length l r (laid_file l at (get_or g.files i f)) n (laid_rooms l (get_or g.files i f) at))) in
+    let a = length-append (flat_map (file_content l r) (placed_files l g)) (group_bytes l r g) in
+    let b = joined_all (file_content l r) (share l r) (placed_files l g) (All-laid l (λ f. length (file_content l r f) ≡ share l r f) g (λ i f m at. file_length l r (placed_file l at (get_or g.files i f)) n (laid_rooms l (get_or g.files i f) at))) in
     let c = group_length l r g n in
     omega arith
 
@@ -242,10 +242,10 @@ no_content l role.SymtabGlobal f n = rw (nil_if (is_prelude f.role)) refl
 no_content l other f n = cc
 
 by_group_content : (l : Layout) (r : Role) (g : Group) → is_by_group r ≡ true → content l r g ≡ group_bytes l r g
-by_group_content l r g n = rw (flat_map-none (file_content l r) (laid_files l g) (λ f. no_content l r f n)) refl
+by_group_content l r g n = rw (flat_map-none (file_content l r) (placed_files l g) (λ f. no_content l r f n)) refl
 
 -- and a file's share of it is its own
-own_share : (l : Layout) (r : Role) (f : File) → first_share l r ≡ 0 → length (slot_bytes l r f) ≡ 0 → share l r f ≡ own_of l r f
+own_share : (l : Layout) (r : Role) (f : File) → first_share l r ≡ 0 → length (slot_bytes l r f) ≡ 0 → share l r f ≡ file_table_bytes l r f
 own_share l r f first none =
     let a = slot_length l r f in
     let b = zero_if (is_prelude f.role) in
@@ -255,9 +255,9 @@ pub dynamic_content : (l : Layout) (g : Group) → content l role.Dynamic g ≡ 
 dynamic_content l g = by_group_content l role.Dynamic g refl
 
 -- a group's records of a table, each of so many bytes
-records_length : (l : Layout) (r : Role) (g : Group) (n : File → ℕ) → is_by_group r ≡ true → block_share l r g + last_share l r g ≡ 0 → ((f : File) → share l r f ≡ n f) → ReadsNoSection l n → length (group_bytes l r g) ≡ total n g.files → length (content l r g) ≡ group_share l r g
+records_length : (l : Layout) (r : Role) (g : Group) (n : File → ℕ) → is_by_group r ≡ true → relr_got_share l r g + last_share l r g ≡ 0 → ((f : File) → share l r f ≡ n f) → ReadsNoSection l n → length (group_bytes l r g) ≡ total n g.files → length (content l r g) ≡ group_share l r g
 records_length l r g n told none each stays long =
-    let a = total_by (share l r) n (laid_files l g) each in
+    let a = total_by (share l r) n (placed_files l g) each in
     let b = laid_total l n g stays in
     rw (by_group_content l r g told) (omega arith)
 
@@ -269,7 +269,7 @@ symbols_length l g =
     records_length l role.Dynsym g (λ (f : File). symtab_entry_size * dynsym_count l f) refl refl (λ f. own_share l role.Dynsym f refl refl) (λ at f. refl) (omega arith)
 
 -- a file's symbols in the table are the same wherever its sections stand
-items_stay : (l : Layout) (at : ℕ) (f : File) → file_items l (laid_file l at f) ≡ file_items l f
+items_stay : (l : Layout) (at : ℕ) (f : File) → file_items l (placed_file l at f) ≡ file_items l f
 unfolding file_items
 items_stay l at f = refl
 
@@ -316,20 +316,20 @@ length-dynamic_content l g =
     let d = length-if (has_last g) (dynamic_bytes l (dynamic_room l)) (length (dynamic_bytes l (dynamic_room l))) refl in
     rw (dynamic_content l g) (omega arith)
 
-pub dynamic_share : (l : Layout) (g : Group) → group_share l role.Dynamic g ≡ dynamic_entry_size * total (needed_count l) g.files + total (λ (f : File). last_of f.role (dynamic_entry_size * dynamic_count l)) g.files
+pub dynamic_share : (l : Layout) (g : Group) → group_share l role.Dynamic g ≡ dynamic_entry_size * total (needed_count l) g.files + total (λ (f : File). bytes_if_last f.role (dynamic_entry_size * dynamic_count l)) g.files
 dynamic_share l g =
-    let e = each (laid_files l g) in
+    let e = each (placed_files l g) in
     let a = laid_total l (needed_count l) g (λ at f. refl) in
-    let b = laid_total l (λ (f : File). last_of f.role (dynamic_entry_size * dynamic_count l)) g (λ at f. refl) in
+    let b = laid_total l (λ (f : File). bytes_if_last f.role (dynamic_entry_size * dynamic_count l)) g (λ at f. refl) in
     omega arith
   where
-    one : (f : File) → share l role.Dynamic f ≡ dynamic_entry_size * needed_count l f + last_of f.role (dynamic_entry_size * dynamic_count l)
+    one : (f : File) → share l role.Dynamic f ≡ dynamic_entry_size * needed_count l f + bytes_if_last f.role (dynamic_entry_size * dynamic_count l)
     one f =
         let a = zero_if (is_prelude f.role) in
         let b = slot_length l role.Dynamic f in
         elim (cases_Bool (is_epilogue f.role)) [ inl t ↦ rw t (omega arith) | inr n ↦ rw n (omega arith) ]
 
-    each : (fs : List File) → total (share l role.Dynamic) fs ≡ dynamic_entry_size * total (needed_count l) fs + total (λ (f : File). last_of f.role (dynamic_entry_size * dynamic_count l)) fs
+    each : (fs : List File) → total (share l role.Dynamic) fs ≡ dynamic_entry_size * total (needed_count l) fs + total (λ (f : File). bytes_if_last f.role (dynamic_entry_size * dynamic_count l)) fs
     each [] = refl
     each (f ∷ fs) =
         let a = one f in

@@ -9,17 +9,17 @@ use Rattle.wild_types.specs.declared.part.Role.{Role}
 use Rattle.wild_types.specs.declared.section.Section.{Section}
 use Rattle.wild_types.specs.declared.layout.Layout.{Layout}
 use Rattle.wild_types.specs.Lists.{total}
-use Rattle.wild_types.specs.Lookups.{allocated, flags_of, kind_of, kind_at, without_data, has_data, is_hollow, hollow, is_hollow_at, is_allocated_section}
+use Rattle.wild_types.specs.Lookups.{allocated, flags_of, kind_of, kind_at, without_data, has_data, is_header_only, header_only, is_header_only_at, is_allocated_section}
 use Rattle.wild_types.specs.Parts.{has_role, part_with, is_entry_role, entry_parts, bytes_in}
 use Rattle.wild_types.specs.Kinds.{is_fixed_static}
-use Rattle.wild_clauses.specs.Places.{part_lies}
-use Rattle.wild_clauses.specs.LoadedTables.{holds_entries, entries_astray, stands_in_entries}
-use Rattle.wild_clauses.specs.ClauseTests.{check_entries}
+use Rattle.wild_plan_rules.specs.Places.{part_lies}
+use Rattle.wild_plan_rules.specs.LoadedTables.{holds_entries, entries_astray, is_in_entries_section}
+use Rattle.wild_plan_rules.specs.ClauseTests.{check_entries}
 use Rattle.wild_types.proofs.ListLemmas.{All-from_none_fails}
-use Rattle.wild_clauses.proofs.ClauseLemmas.{None-from_fails}
+use Rattle.wild_plan_rules.proofs.ClauseLemmas.{None-from_fails}
 use Rattle.wild_layout.specs.Loadable.{EntriesLie, HasEntriesAlone}
 use Rattle.wild_geometry.proofs.ClauseLemmas.{Both-from_first_error}
-use Rattle.wild_geometry.proofs.LaidLemmas.{Laid}
+use Rattle.wild_geometry.proofs.PlacedSectionLemmas.{Laid}
 use Rattle.wild_geometry.proofs.RoleLemmas.{FoundAt-from_find}
 use Rattle.wild_geometry.proofs.TableLemmas.{same_role}
 use Rattle.wild_geometry.proofs.CarriedLemmas.{Filled, Filled-from_tests, part_level}
@@ -71,8 +71,8 @@ unfolding check_entries
 entries_stand l h fixed r p entries there =
     let f = FoundAt-from_find (has_role r) l.parts p there in
     let asked = rw fixed at h.segments.entries in
-    let stand = All-from_none_fails (stands_in_entries l) 0 l.parts (None-from_fails 6 _ (Both-from_first_error _ _ asked).rest) f.place p f.within in
-    let P : Part → Type 0 = λ x. stands_in_entries l x ≡ true in
+    let stand = All-from_none_fails (is_in_entries_section l) 0 l.parts (None-from_fails 6 _ (Both-from_first_error _ _ asked).rest) f.place p f.within in
+    let P : Part → Type 0 = λ x. is_in_entries_section l x ≡ true in
     let is = same_role p.role r (eqb-true _ _ f.passes) in
     let both = implied (is_entry_role p.role) (is_allocated_section l p.section && kind_at l p.section == sht_rela) (subst P (f.is p) stand) (ap is_entry_role is ∙ entries) in
     let tests = and_parts (is_allocated_section l p.section) (kind_at l p.section == sht_rela) both in
@@ -92,10 +92,10 @@ record PartOfEntries (l : Layout) (p : Part) : Type 0 where
   lies : part_lies l p ≡ true
   kind : filled.section.kind ≡ sht_rela
 
-part_of_entries : (l : Layout) → Laid l → is_fixed_static l.kind ≡ true → (r : Role) (p : Part) → is_entry_role r ≡ true → part_with r l.parts ≡ Some p → is_hollow_at l p.section ≡ false → PartOfEntries l p
+part_of_entries : (l : Layout) → Laid l → is_fixed_static l.kind ≡ true → (r : Role) (p : Part) → is_entry_role r ≡ true → part_with r l.parts ≡ Some p → is_header_only_at l p.section ≡ false → PartOfEntries l p
 part_of_entries l h fixed r p entries there written =
     let st = entries_stand l h fixed r p entries there in
-    let takes = and_from (has_data l p.section) (not (is_hollow_at l p.section)) (with_bits (slice_get l.sections p.section) st.kind) (rw written refl) in
+    let takes = and_from (has_data l p.section) (not (is_header_only_at l p.section)) (with_bits (slice_get l.sections p.section) st.kind) (rw written refl) in
     let o = Filled-from_tests l p.section st.named st.allocated takes in
     record { filled = o; lies = st.lies; kind = sym (ap kind_of o.is) ∙ st.kind }
   where
@@ -113,17 +113,17 @@ stands_later l h fixed r p entries there =
 -- ---- the sections
 
 -- the section of its part is written
-written_at : (l : Layout) (k n : ℕ) (s : Section) → slice_get l.sections k ≡ Some s → is_hollow l s ≡ false → n ≡ k → is_hollow_at l n ≡ false
+written_at : (l : Layout) (k n : ℕ) (s : Section) → slice_get l.sections k ≡ Some s → is_header_only l s ≡ false → n ≡ k → is_header_only_at l n ≡ false
 written_at l k n s is written at =
-    let here : hollow l (slice_get l.sections n) ≡ false = ap (λ (i : ℕ). hollow l (slice_get l.sections i)) at ∙ ap (hollow l) is ∙ written in
-    by (not (n == 0)) (hollow l (slice_get l.sections n)) here
+    let here : header_only l (slice_get l.sections n) ≡ false = ap (λ (i : ℕ). header_only l (slice_get l.sections i)) at ∙ ap (header_only l) is ∙ written in
+    by (not (n == 0)) (header_only l (slice_get l.sections n)) here
   where
     by : (a b : Bool) → b ≡ false → (a && b) ≡ false
     by true b e = e
     by false b e = refl
 
 -- the part lies in its section
-entries_lie : (l : Layout) → Laid l → is_fixed_static l.kind ≡ true → (k : ℕ) (s : Section) → slice_get l.sections k ≡ Some s → is_hollow l s ≡ false → (r : Role) (p : Part) → is_entry_role r ≡ true → part_with r l.parts ≡ Some p → p.section ≡ k → EntriesLie p s
+entries_lie : (l : Layout) → Laid l → is_fixed_static l.kind ≡ true → (k : ℕ) (s : Section) → slice_get l.sections k ≡ Some s → is_header_only l s ≡ false → (r : Role) (p : Part) → is_entry_role r ≡ true → part_with r l.parts ≡ Some p → p.section ≡ k → EntriesLie p s
 entries_lie l h fixed k s is written r p entries there at =
     let part = part_of_entries l h fixed r p entries there (written_at l k p.section s is written at) in
     let o = part.filled in

@@ -7,46 +7,46 @@ use Rattle.wild_types.specs.declared.file.File.{File}
 use Rattle.wild_types.specs.declared.file.Group.{Group}
 use Rattle.wild_types.specs.declared.layout.Layout.{Layout}
 use Rattle.wild_types.specs.FileRoles.{is_prelude, is_epilogue}
-use Rattle.wild_types.specs.FilePlaces.{bool_eq, file_placed, later_placed, files_placed, file_misplaced}
+use Rattle.wild_types.specs.FilePlaces.{bool_eq, file_position_fits, later_positions_fit, group_positions_fit, first_misplaced_file}
 use Rattle.wild_types.proofs.FileLemmas.{same_bool}
-use Rattle.wild_laid.specs.Laid.{laid_files}
-use Rattle.wild_laid.proofs.LaidFiles.{ReadsNoSection, laid_same}
-use Rattle.wild_layout.specs.Content.{whole_bytes, own_bytes, file_content, group_bytes, content}
+use Rattle.wild_placement.specs.PlacedSections.{placed_files}
+use Rattle.wild_placement.proofs.PlacedFiles.{ReadsNoSection, laid_same}
+use Rattle.wild_layout.specs.Content.{unique_table, file_part_bytes, file_content, group_bytes, content}
 use Rattle.wild_layout.specs.SlotBytes.{slot_bytes, header_bytes}
 use Rattle.wild_geometry.proofs.ClauseLemmas.{SharesHold}
 
 -- no file and no group gives anything to the part of the role
 pub record StandsOnce (l : Layout) (r : Role) : Type 0 where
-  pub own : (f : File) → own_bytes l r f ≡ []
+  pub own : (f : File) → file_part_bytes l r f ≡ []
   pub slots : (f : File) → slot_bytes l r f ≡ []
   pub header : header_bytes l r ≡ []
   pub block : (g : Group) → group_bytes l r g ≡ []
   pub stays : ReadsNoSection l (file_content l r)
 
 -- files behind the first one give nothing
-later_content : (l : Layout) (r : Role) → StandsOnce l r → (last : Bool) (fs : List File) → later_placed last fs ≡ true → flat_map (file_content l r) fs ≡ []
+later_content : (l : Layout) (r : Role) → StandsOnce l r → (last : Bool) (fs : List File) → later_positions_fit last fs ≡ true → flat_map (file_content l r) fs ≡ []
 later_content l r once last [] h = refl
 later_content l r once last (f ∷ fs) h =
-    let a = and_parts (file_placed false (last && length fs == 0) f) (later_placed last fs) h in
+    let a = and_parts (file_position_fits false (last && length fs == 0) f) (later_positions_fit last fs) h in
     let b = same_bool (is_prelude f.role) false (and_parts (bool_eq (is_prelude f.role) false) (bool_eq (is_epilogue f.role) (last && length fs == 0)) a.0).0 in
     rw (b, once.own f, once.slots f) (later_content l r once last fs a.1)
 
-first_content : (l : Layout) (r : Role) → StandsOnce l r → (last : Bool) (fs : List File) → files_placed true last fs ≡ true → flat_map (file_content l r) fs ≡ whole_bytes l r
+first_content : (l : Layout) (r : Role) → StandsOnce l r → (last : Bool) (fs : List File) → group_positions_fit true last fs ≡ true → flat_map (file_content l r) fs ≡ unique_table l r
 first_content l r once last [] h = cc
 first_content l r once last (f ∷ fs) h =
-    let a = and_parts (file_placed true (last && length fs == 0) f) (later_placed last fs) h in
+    let a = and_parts (file_position_fits true (last && length fs == 0) f) (later_positions_fit last fs) h in
     let b = same_bool (is_prelude f.role) true (and_parts (bool_eq (is_prelude f.role) true) (bool_eq (is_epilogue f.role) (last && length fs == 0)) a.0).0 in
     let later = later_content l r once last fs a.1 in
-    rw (b, once.own f, once.slots f, once.header, later) (append-nil (whole_bytes l r ++ [] ++ [] ++ []) ∙ append-nil (whole_bytes l r ++ [] ++ []) ∙ append-nil (whole_bytes l r ++ []) ∙ append-nil (whole_bytes l r))
+    rw (b, once.own f, once.slots f, once.header, later) (append-nil (unique_table l r ++ [] ++ [] ++ []) ∙ append-nil (unique_table l r ++ [] ++ []) ∙ append-nil (unique_table l r ++ []) ∙ append-nil (unique_table l r))
 
 -- the first group gives the whole
-pub content_of_first : (l : Layout) (r : Role) (g : Group) → StandsOnce l r → 1 ≤ length l.groups → SharesHold l → content l r (get_or l.groups 0 g) ≡ whole_bytes l r
+pub content_of_first : (l : Layout) (r : Role) (g : Group) → StandsOnce l r → 1 ≤ length l.groups → SharesHold l → content l r (get_or l.groups 0 g) ≡ unique_table l r
 content_of_first l r g once some s = by l.groups g some s.files
   where
-    by : (gs : List Group) (g : Group) → 1 ≤ length gs → file_misplaced true 0 gs ≡ None → content l r (get_or gs 0 g) ≡ whole_bytes l r
+    by : (gs : List Group) (g : Group) → 1 ≤ length gs → first_misplaced_file true 0 gs ≡ None → content l r (get_or gs 0 g) ≡ unique_table l r
     by [] g some h = absurd (omega arith)
     by (x ∷ gs) g some h =
-        elim (cases_Bool (files_placed true (length gs == 0) x.files)) [
-          | inl t ↦ rw (once.block x) (append-nil (flat_map (file_content l r) (laid_files l x)) ∙ laid_same l (file_content l r) x once.stays ∙ first_content l r once (length gs == 0) x.files t)
+        elim (cases_Bool (group_positions_fit true (length gs == 0) x.files)) [
+          | inl t ↦ rw (once.block x) (append-nil (flat_map (file_content l r) (placed_files l x)) ∙ laid_same l (file_content l r) x once.stays ∙ first_content l r once (length gs == 0) x.files t)
           | inr f ↦ cc (rw f at h)
         ]

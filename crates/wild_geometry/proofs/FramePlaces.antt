@@ -11,12 +11,12 @@ use Rattle.wild_types.specs.declared.layout.Layout.{Layout}
 use Rattle.wild_types.specs.Lists.{total}
 use Rattle.wild_types.specs.Parts.{role_place, part_with}
 use Rattle.wild_types.proofs.ListLemmas.{total-prefix}
-use Rattle.wild_laid.specs.FrameInputs.{kept_size}
-use Rattle.wild_laid.specs.Laid.{behind, part_address, laid_sections, laid_file, file_frames, laid_from, frames_at, laid_files}
+use Rattle.wild_placement.specs.FrameInputs.{kept_size}
+use Rattle.wild_placement.specs.PlacedSections.{behind, part_address, placed_sections, placed_file, file_frames, placed_from, frames_at, placed_files}
 use Rattle.wild_needs.specs.Needs.{frame_room, share}
 use Rattle.wild_layout.specs.Content.{content}
 use Rattle.wild_layout.specs.TablePlaces.{table_bytes, bytes_before, TableLies}
-use Rattle.wild_geometry.proofs.LaidLemmas.{Laid}
+use Rattle.wild_geometry.proofs.PlacedSectionLemmas.{Laid}
 use Rattle.wild_geometry.proofs.FrameSections.{frame_room_is}
 use Rattle.wild_geometry.proofs.ContentLemmas.{length_joined, length-content}
 use Rattle.wild_geometry.proofs.TablePieces.{PartLies-from_laid}
@@ -26,25 +26,25 @@ use Rattle.wild_geometry.proofs.StayLemmas.{FramesEnd}
 
 -- ---- what is kept has room
 
-kept_of_sections : (l : Layout) (f : File) (at : ℕ) (ss : List InputSection) → total frame_room (laid_sections l f at ss) ≡ total (kept_size l f) ss
+kept_of_sections : (l : Layout) (f : File) (at : ℕ) (ss : List InputSection) → total frame_room (placed_sections l f at ss) ≡ total (kept_size l f) ss
 kept_of_sections l f at [] = refl
 kept_of_sections l f at (s ∷ ss) =
     let a = frame_room_is l f at s in
     let b = kept_of_sections l f (behind at (kept_size l f s)) ss in
     omega arith
 
-kept_of_file : (l : Layout) (f : File) (at : ℕ) → file_frames l f ≤ share l role.EhFrame (laid_file l at f)
+kept_of_file : (l : Layout) (f : File) (at : ℕ) → file_frames l f ≤ share l role.EhFrame (placed_file l at f)
 kept_of_file l f at = let a = kept_of_sections l f at f.sections in omega arith
 
-kept_of_files : (l : Layout) (at : ℕ) (fs : List File) → total (file_frames l) fs ≤ total (share l role.EhFrame) (laid_from l at fs)
+kept_of_files : (l : Layout) (at : ℕ) (fs : List File) → total (file_frames l) fs ≤ total (share l role.EhFrame) (placed_from l at fs)
 kept_of_files l at [] = omega arith
 kept_of_files l at (f ∷ fs) =
     let a = kept_of_file l f at in
     let b = kept_of_files l (behind at (file_frames l f)) fs in
     omega arith
 
-kept_shared : (l : Layout) (g : Group) → total (file_frames l) g.files ≤ total (share l role.EhFrame) (laid_files l g)
-unfolding laid_files
+kept_shared : (l : Layout) (g : Group) → total (file_frames l) g.files ≤ total (share l role.EhFrame) (placed_files l g)
+unfolding placed_files
 kept_shared l g = kept_of_files l (frames_at l g) g.files
 
 kept_within : (l : Layout) (g : Group) → total (file_frames l) g.files ≤ length (content l role.EhFrame g)

@@ -18,11 +18,11 @@ use Rattle.wild_frames.specs.declared.entry.KeptEntry.{KeptEntry}
 use Rattle.wild_frames.specs.Frames.{start, kept_in, found_in, frame_bytes}
 use Rattle.wild_frames.proofs.EntryLemmas.{found_walked, KeptIs, each_kept, no_gaps}
 use Rattle.wild_frames.proofs.WriteLemmas.{length-entry}
-use Rattle.wild_laid.specs.Turned.{as_turned}
-use Rattle.wild_laid.specs.FrameInputs.{frames_of, kept_size}
-use Rattle.wild_laid.specs.Laid.{entry_relocations, moved_by, laid_relocations, framed, without_relocations, unread, tabled, laid_by, laid_section, laid_file}
-use Rattle.wild_laid.proofs.LaidFiles.{All-sections}
-use Rattle.wild_needs.specs.Needs.{frame_room, frames_room, last_of}
+use Rattle.wild_placement.specs.ReversedWords.{with_word_order}
+use Rattle.wild_placement.specs.FrameInputs.{frames_of, kept_size}
+use Rattle.wild_placement.specs.PlacedSections.{entry_relocations, moved_relocation, moved_relocations, placed_frames, without_relocations, unread, rela_with_target, placed_by, placed_section, placed_file}
+use Rattle.wild_placement.proofs.PlacedFiles.{All-sections}
+use Rattle.wild_needs.specs.Needs.{frame_room, frames_room, bytes_if_last}
 use Rattle.wild_layout.specs.Content.{frame_bytes_of, frames_bytes, end_of_frames}
 use Rattle.wild_layout.specs.SectionPlaces.{FieldLies}
 use Rattle.wild_layout.specs.Sites.{item_bytes}
@@ -32,24 +32,24 @@ use Rattle.wild_geometry.proofs.SiteLemmas.{length-item_bytes}
 
 -- the fields of a kept entry lie in the kept bytes
 entry_fields : (l : Layout) (f : File) (s : InputSection) (k : KeptEntry) → KeptIs (frames_of l f s) k → k.to + k.size ≤ length (frame_bytes (frames_of l f s))
-    → All (FieldLies l.machine (length (frame_bytes (frames_of l f s)))) (map (moved_by k) (entry_relocations (frames_of l f s) k))
+    → All (FieldLies l.machine (length (frame_bytes (frames_of l f s)))) (map (moved_relocation k) (entry_relocations (frames_of l f s) k))
 entry_fields l f s k is ends =
     let fs = frames_of l f s in
     let P : InputRelocation → Type 0 = FieldLies l.machine (length (frame_bytes fs)) in
-    All-map P (moved_by k) (entry_relocations fs k) (λ i r m.
+    All-map P (moved_relocation k) (entry_relocations fs k) (λ i r m.
     let field = is.lies.fields i r m in
     let behind = field.behind in
     let within = field.within in
     inr (omega arith))
 
 -- those of all
-pub framed_fields : (l : Layout) (f : File) (s : InputSection) → All (FieldLies l.machine (length (frame_bytes (frames_of l f s)))) (laid_relocations (frames_of l f s))
-unfolding laid_relocations
+pub framed_fields : (l : Layout) (f : File) (s : InputSection) → All (FieldLies l.machine (length (frame_bytes (frames_of l f s)))) (moved_relocations (frames_of l f s))
+unfolding moved_relocations
 framed_fields l f s =
     let fs = frames_of l f s in
     let kept = each_kept fs start (found_in fs) (found_walked fs) in
     let stand = (no_gaps fs).stand in
-    All-flat_map (FieldLies l.machine (length (frame_bytes fs))) (λ k. map (moved_by k) (entry_relocations fs k)) (kept_in fs) (λ i k m.
+    All-flat_map (FieldLies l.machine (length (frame_bytes fs))) (λ k. map (moved_relocation k) (entry_relocations fs k)) (kept_in fs) (λ i k m.
     let one = kept i k m in
     let x = get_or (kept_in fs) i k in
     let long = length-entry fs x one.lies.least one.lies.within in
@@ -57,8 +57,8 @@ framed_fields l f s =
     entry_fields l f s x one (omega arith))
 
 -- the bytes of such a section keep their length
-pub length-framed : (l : Layout) (f g : File) (at : ℕ) (s : InputSection) → length (item_bytes l (item_of l g (framed l f at s))) ≡ length (frame_bytes (frames_of l f s))
-length-framed l f g at s = length-item_bytes l (item_of l g (framed l f at s)) (length (frame_bytes (frames_of l f s))) refl (framed_fields l f s)
+pub length-placed_frames : (l : Layout) (f g : File) (at : ℕ) (s : InputSection) → length (item_bytes l (item_of l g (placed_frames l f at s))) ≡ length (frame_bytes (frames_of l f s))
+length-placed_frames l f g at s = length-item_bytes l (item_of l g (placed_frames l f at s)) (length (frame_bytes (frames_of l f s))) refl (framed_fields l f s)
 
 -- ---- the sections of a file
 
@@ -66,11 +66,11 @@ length-framed l f g at s = length-item_bytes l (item_of l g (framed l f at s)) (
 abbrev pub HasFrameRoom : Layout → File → InputSection → Type 0
 HasFrameRoom l f s = length (frame_bytes_of l f s) ≡ frame_room s
 
-pub slot_of_turned : (s : InputSection) → (as_turned s).slot ≡ s.slot
-unfolding as_turned
+pub slot_of_turned : (s : InputSection) → (with_word_order s).slot ≡ s.slot
+unfolding with_word_order
 slot_of_turned s = by s.reversed refl
   where
-    by : (b : Bool) → s.reversed ≡ b → (as_turned s).slot ≡ s.slot
+    by : (b : Bool) → s.reversed ≡ b → (with_word_order s).slot ≡ s.slot
     by true e = rw e refl
     by false e = rw e refl
 
@@ -85,27 +85,27 @@ no_frame : (l : Layout) (f : File) (s : InputSection) → is_frame s.slot ≡ fa
 unfolding frame_bytes_of
 no_frame l f s e = rw e refl
 
-framed_room : (l : Layout) (f g : File) (at : ℕ) (s : InputSection) → HasFrameRoom l g (framed l f at s)
+framed_room : (l : Layout) (f g : File) (at : ℕ) (s : InputSection) → HasFrameRoom l g (placed_frames l f at s)
 unfolding frame_bytes_of
-framed_room l f g at s = length-framed l f g at s
+framed_room l f g at s = length-placed_frames l f g at s
 
-pub frame_room_of : (l : Layout) (f g : File) (at : ℕ) (s : InputSection) → HasFrameRoom l g (laid_section l f at s)
-unfolding laid_section
+pub frame_room_of : (l : Layout) (f g : File) (at : ℕ) (s : InputSection) → HasFrameRoom l g (placed_section l f at s)
+unfolding placed_section
 frame_room_of l f g at s = by s.slot refl
   where
-    by : (k : Slot) → s.slot ≡ k → HasFrameRoom l g (laid_by k l f at s)
-    by slot.Loaded e = no_frame l g (as_turned (unread l s)) (ap is_frame (slot_of_turned (unread l s) ∙ slot_of_unread l s ∙ e))
-    by slot.Debug e = no_frame l g (as_turned s) (ap is_frame (slot_of_turned s ∙ e))
+    by : (k : Slot) → s.slot ≡ k → HasFrameRoom l g (placed_by k l f at s)
+    by slot.Loaded e = no_frame l g (with_word_order (unread l s)) (ap is_frame (slot_of_turned (unread l s) ∙ slot_of_unread l s ∙ e))
+    by slot.Debug e = no_frame l g (with_word_order s) (ap is_frame (slot_of_turned s ∙ e))
     by slot.Frame e = framed_room l f g at s
-    by slot.Rela e = no_frame l g (tabled f s) refl
+    by slot.Rela e = no_frame l g (rela_with_target f s) refl
     by other e = no_frame l g s (ap is_frame e)
 
 -- so much is kept of a section as has room there
-pub frame_room_is : (l : Layout) (f : File) (at : ℕ) (s : InputSection) → frame_room (laid_section l f at s) ≡ kept_size l f s
-unfolding laid_section kept_size
+pub frame_room_is : (l : Layout) (f : File) (at : ℕ) (s : InputSection) → frame_room (placed_section l f at s) ≡ kept_size l f s
+unfolding placed_section kept_size
 frame_room_is l f at s = by s.slot refl
   where
-    by : (k : Slot) → s.slot ≡ k → frame_room (laid_by k l f at s) ≡ (if is_frame s.slot then length (frame_bytes (frames_of l f s)) else 0)
+    by : (k : Slot) → s.slot ≡ k → frame_room (placed_by k l f at s) ≡ (if is_frame s.slot then length (frame_bytes (frames_of l f s)) else 0)
     by slot.Loaded e = rw (slot_of_turned (unread l s), slot_of_unread l s, e) refl
     by slot.Debug e = rw (slot_of_turned s, e) refl
     by slot.Frame e = rw e refl
@@ -118,8 +118,8 @@ frame_room_is l f at s = by s.slot refl
 abbrev pub HasFrameRooms : Layout → File → Type 0
 HasFrameRooms l f = All (HasFrameRoom l f) f.sections
 
-pub laid_rooms : (l : Layout) (f : File) (at : ℕ) → HasFrameRooms l (laid_file l at f)
-laid_rooms l f at = All-sections l f (HasFrameRoom l (laid_file l at f)) at f.sections (λ i s m a. frame_room_of l f (laid_file l at f) a (get_or f.sections i s))
+pub laid_rooms : (l : Layout) (f : File) (at : ℕ) → HasFrameRooms l (placed_file l at f)
+laid_rooms l f at = All-sections l f (HasFrameRoom l (placed_file l at f)) at f.sections (λ i s m a. frame_room_of l f (placed_file l at f) a (get_or f.sections i s))
 
 -- lists joined end to end, each of whose items gives so many
 pub joined_all : {X Y : Type 0} (f : X → List Y) (n : X → ℕ) (xs : List X) → All (λ (x : X). length (f x) ≡ n x) xs → length (flat_map f xs) ≡ total n xs
@@ -131,7 +131,7 @@ joined_all {X} {Y} f n (x ∷ xs) h =
     let c = joined_all f n xs (All-tail P x xs h) in
     omega arith
 
-end_length : (l : Layout) (f : File) → length (if is_epilogue f.role then end_of_frames l else []) ≡ (if l.options.terminator then last_of f.role 4 else 0)
+end_length : (l : Layout) (f : File) → length (if is_epilogue f.role then end_of_frames l else []) ≡ (if l.options.terminator then bytes_if_last f.role 4 else 0)
 end_length l f = by (is_epilogue f.role) l.options.terminator
   where
     by : (last ends : Bool) → length {A = ℕ} (if last then (if ends then 0 ∷ 0 ∷ 0 ∷ 0 ∷ [] else []) else []) ≡ (if ends then (if last then 4 else 0) else 0)

@@ -16,11 +16,11 @@ use Rattle.wild_types.specs.declared.input.InputSection.{InputSection}
 use Rattle.wild_types.specs.declared.file.File.{File}
 use Rattle.wild_types.specs.declared.layout.Layout.{Layout}
 use Rattle.wild_types.specs.Item.{item_of}
-use Rattle.wild_types.specs.Lookups.{is_frame, has_relocations, is_read, is_written, has_fields}
+use Rattle.wild_types.specs.Lookups.{is_frame, has_relocations, is_read, has_written_relocations, has_fields}
 use Rattle.wild_frames.specs.Frames.{frame_bytes}
-use Rattle.wild_laid.specs.Turned.{turned, as_turned}
-use Rattle.wild_laid.specs.FrameInputs.{frames_of, kept_size}
-use Rattle.wild_laid.specs.Laid.{Input, laid_by, laid_section, sorted_inputs, sorted_by, sorted_in_file, sorted_in_group, files_at, sorted_input, as_loaded, unread, laid_sections, behind, laid_files}
+use Rattle.wild_placement.specs.ReversedWords.{reversed_section, with_word_order}
+use Rattle.wild_placement.specs.FrameInputs.{frames_of, kept_size}
+use Rattle.wild_placement.specs.PlacedSections.{Input, placed_by, placed_section, sorted_inputs, sorted_by, sorted_in_file, sorted_in_group, files_at, sorted_input, as_loaded, unread, placed_sections, behind, placed_files}
 use Rattle.wild_layout.specs.Content.{frame_bytes_of, content, file_content, frames_bytes}
 use Rattle.wild_layout.specs.Sites.{item_bytes, section_bytes, sites}
 use Rattle.wild_layout.specs.SectionPlaces.{SectionLies}
@@ -48,19 +48,19 @@ pub data StandsSo (t : InputSection) (at n : ℕ) : Type 0 where
   NoFrame : is_frame t.slot ≡ false → n ≡ 0 → StandsSo t at n
   Frames : is_frame t.slot ≡ true → t.nobits ≡ false → t.address ≡ at → t.size ≡ n → StandsSo t at n
 
-pub turned_slot : (s : InputSection) → (as_turned s).slot ≡ s.slot
-unfolding as_turned
+pub turned_slot : (s : InputSection) → (with_word_order s).slot ≡ s.slot
+unfolding with_word_order
 turned_slot s = by s.reversed
   where
-    by : (b : Bool) → (if b then turned s else s).slot ≡ s.slot
+    by : (b : Bool) → (if b then reversed_section s else s).slot ≡ s.slot
     by true = refl
     by false = refl
 
-pub stands_so : (l : Layout) (f : File) (at : ℕ) (s : InputSection) → StandsSo (laid_section l f at s) at (kept_size l f s)
-unfolding laid_section kept_size
+pub stands_so : (l : Layout) (f : File) (at : ℕ) (s : InputSection) → StandsSo (placed_section l f at s) at (kept_size l f s)
+unfolding placed_section kept_size
 stands_so l f at s = by s.slot refl
   where
-    by : (k : Slot) → s.slot ≡ k → StandsSo (laid_by k l f at s) at (if is_frame k then length (frame_bytes (frames_of l f s)) else 0)
+    by : (k : Slot) → s.slot ≡ k → StandsSo (placed_by k l f at s) at (if is_frame k then length (frame_bytes (frames_of l f s)) else 0)
     by slot.Loaded e = NoFrame (ap is_frame (turned_slot (unread l s) ∙ slot_of_unread l s ∙ e)) refl
     by slot.Debug e = NoFrame (ap is_frame (turned_slot s ∙ e)) refl
     by slot.Frame e = Frames refl refl refl refl
@@ -82,7 +82,7 @@ frame_reads other e = cc
 pub frame_read : (t : InputSection) → is_frame t.slot ≡ true → t.nobits ≡ false → is_read t ≡ true
 frame_read t e n = (let k = frame_reads t.slot e in rw (k, n) refl)
 
-frame_written : (t : InputSection) → is_frame t.slot ≡ true → t.nobits ≡ false → is_written t ≡ true
+frame_written : (t : InputSection) → is_frame t.slot ≡ true → t.nobits ≡ false → has_written_relocations t ≡ true
 frame_written t e n = (let k = frame_reads t.slot e in rw (k, n) refl)
 
 pub length-frame_item : (l : Layout) (f : File) (t : InputSection) → SectionLies l t → is_frame t.slot ≡ true → t.nobits ≡ false → length (frame_bytes_of l f t) ≡ t.size
@@ -116,19 +116,19 @@ sorted_loaded l = All-flat_map IsLoadedInput (sorted_input l) l.sorted (λ k d m
 
 -- ---- how many bytes they take
 
-pub sections_size : (l : Layout) (f g : File) (at : ℕ) (ss : List InputSection) → All (SectionLies l) (laid_sections l g at ss) → length (flat_map (frame_bytes_of l f) (laid_sections l g at ss)) ≡ total (kept_size l g) ss
+pub sections_size : (l : Layout) (f g : File) (at : ℕ) (ss : List InputSection) → All (SectionLies l) (placed_sections l g at ss) → length (flat_map (frame_bytes_of l f) (placed_sections l g at ss)) ≡ total (kept_size l g) ss
 sections_size l f g at [] lies = refl
 sections_size l f g at (s ∷ ss) lies =
-    let t = laid_section l g at s in
-    let ts = laid_sections l g (behind at (kept_size l g s)) ss in
+    let t = placed_section l g at s in
+    let ts = placed_sections l g (behind at (kept_size l g s)) ss in
     let rest = sections_size l f g (behind at (kept_size l g s)) ss (All-tail (SectionLies l) t ts lies) in
     let mine = one (stands_so l g at s) (All-head (SectionLies l) t ts lies) in
     let both = length-append (frame_bytes_of l f t) (flat_map (frame_bytes_of l f) ts) in
     omega (arith, rest, mine, both)
   where
-    one : StandsSo (laid_section l g at s) at (kept_size l g s) → SectionLies l (laid_section l g at s) → length (frame_bytes_of l f (laid_section l g at s)) ≡ kept_size l g s
-    one (NoFrame plain none) lies = ap (λ (bs : List ℕ). length bs) (no_item l f (laid_section l g at s) plain) ∙ sym none
-    one (Frames frame with_data here wide) lies = length-frame_item l f (laid_section l g at s) lies frame with_data ∙ wide
+    one : StandsSo (placed_section l g at s) at (kept_size l g s) → SectionLies l (placed_section l g at s) → length (frame_bytes_of l f (placed_section l g at s)) ≡ kept_size l g s
+    one (NoFrame plain none) lies = ap (λ (bs : List ℕ). length bs) (no_item l f (placed_section l g at s) plain) ∙ sym none
+    one (Frames frame with_data here wide) lies = length-frame_item l f (placed_section l g at s) lies frame with_data ∙ wide
 
 -- ---- what files and groups give
 
@@ -141,5 +141,5 @@ frames_given l f = by_role (is_prelude f.role)
     by_role false = append-nil (frames_bytes l f)
 
 -- and a group
-pub group_given : (l : Layout) (g : Group) → content l role.EhFrame g ≡ flat_map (frames_bytes l) (laid_files l g)
-group_given l g = append-nil (flat_map (file_content l role.EhFrame) (laid_files l g)) ∙ flat_map-same (file_content l role.EhFrame) (frames_bytes l) (laid_files l g) (frames_given l)
+pub group_given : (l : Layout) (g : Group) → content l role.EhFrame g ≡ flat_map (frames_bytes l) (placed_files l g)
+group_given l g = append-nil (flat_map (file_content l role.EhFrame) (placed_files l g)) ∙ flat_map-same (file_content l role.EhFrame) (frames_bytes l) (placed_files l g) (frames_given l)

@@ -7,7 +7,7 @@ use Rattle.std.proofs.lemmas.List.{append-nil}
 use Rattle.std.proofs.lemmas.List.Concat.{flat_map-append}
 use Rattle.std.proofs.lemmas.List.Elements.{All-nil, All-cons, All-append, All-map}
 use Rattle.std.proofs.lemmas.List.Kept.{AllPairs-cons}
-use Rattle.wild_words.specs.Overlay.{Piece, Apart}
+use Rattle.wild_words.specs.Overlay.{Piece, Disjoint}
 use Rattle.wild_words.proofs.Basics.{or_other}
 use Rattle.wild_words.proofs.ListLemmas.{AllPairs-nil, AllPairs-append, AllPairs-flat_map, All-flat_map, All-from_list_all}
 use Rattle.wild_types.specs.declared.part.Part.{Part}
@@ -20,13 +20,13 @@ use Rattle.wild_types.specs.declared.layout.Layout.{Layout}
 use Rattle.wild_types.specs.FilePlaces.{given}
 use Rattle.wild_types.specs.FileThunks.{thunks_of}
 use Rattle.wild_types.specs.Lists.{total}
-use Rattle.wild_types.specs.Lookups.{section_of_part, has_range, has_counted, has_bytes, is_given, is_filled, brings_bytes, has_data, is_hollow_at, is_hollow_part}
-use Rattle.wild_clauses.specs.Contents.{is_raw, holds_bytes, has_front, takes_bytes, leaves_front, file_leaves_front, group_leaves_front, section_misplaced}
-use Rattle.wild_clauses.specs.Fronts.{given_by, fills_front, merged_size, stands_in_front, front_shared}
-use Rattle.wild_clauses.specs.Thunks.{standing}
-use Rattle.wild_layout.specs.Image.{some_piece, offset_in, offset_of_part, merged_bytes, front_piece, once_pieces}
+use Rattle.wild_types.specs.Lookups.{section_of_part, has_range, has_counted, has_bytes, has_range_bytes, is_filled, brings_bytes, has_data, is_header_only_at, is_header_only_part}
+use Rattle.wild_plan_rules.specs.Contents.{is_raw, holds_bytes, has_front, takes_bytes, leaves_front, file_leaves_front, group_leaves_front, section_misplaced}
+use Rattle.wild_plan_rules.specs.Fronts.{given_by, fills_front, merged_size, has_bytes_in_part, front_shared}
+use Rattle.wild_plan_rules.specs.Thunks.{sections_in_ranges}
+use Rattle.wild_layout.specs.Image.{some_piece, offset_in, offset_of_part, merged_bytes, front_piece, merged_and_identity_pieces}
 use Rattle.wild_layout.specs.SectionPlaces.{HasRoom, FrontLies}
-use Rattle.wild_geometry.proofs.LaidLemmas.{Laid}
+use Rattle.wild_geometry.proofs.PlacedSectionLemmas.{Laid}
 use Rattle.wild_geometry.proofs.OrderLemmas.{Follows, EndsBy-image}
 use Rattle.wild_geometry.proofs.ShareLemmas.{size_from_shares}
 use Rattle.wild_geometry.proofs.RunLemmas.{sections_in, Run-behind}
@@ -57,7 +57,7 @@ joined_map : {X Y Z : Type 0} (f : Y → List Z) (h : X → Y) (xs : List X) →
 joined_map f h [] = refl
 joined_map f h (x ∷ xs) = ap (λ zs. f (h x) ++ zs) (joined_map f h xs)
 
-once_is : (l : Layout) → once_pieces l ≡ flat_map (front_of l) (fronts l)
+once_is : (l : Layout) → merged_and_identity_pieces l ≡ flat_map (front_of l) (fronts l)
 once_is l =
     sym (flat_map-append (front_of l) (map merged_front l.merged) (identity_front l ∷ [])
     ∙ ap (λ (ps : List Piece). ps ++ flat_map (front_of l) (identity_front l ∷ [])) (joined_map (front_of l) merged_front l.merged)
@@ -71,7 +71,7 @@ HasSome x = 1 ≤ length x.bytes
 -- and they are written
 pub record IsWritten (l : Layout) (x : Front) : Type 0 where
   pub some : HasSome x
-  pub written : is_hollow_part l x.part ≡ false
+  pub written : is_header_only_part l x.part ≡ false
 
 -- in a raw part with data, all that the first group is given of it
 pub record FrontGiven (l : Layout) (x : Front) : Type 0 where
@@ -90,13 +90,13 @@ pub record FrontStands (l : Layout) (x : Front) : Type 0 where
   pub fills : (g : Group) (gs : List Group) → l.groups ≡ g ∷ gs → given x.part g ≡ length x.bytes
   pub has : has_front l x.part ≡ true
 
-front_stands : (l : Layout) (x : Front) → FrontGiven l x → is_hollow_part l x.part ≡ false → FrontStands l x
+front_stands : (l : Layout) (x : Front) → FrontGiven l x → is_header_only_part l x.part ≡ false → FrontStands l x
 front_stands l x h written =
-    let here : is_hollow_at l h.part.section ≡ false = sym (ap (λ (o : Option Part). is_hollow_at l (section_of_part o)) h.listed) ∙ written in
+    let here : is_header_only_at l h.part.section ≡ false = sym (ap (λ (o : Option Part). is_header_only_at l (section_of_part o)) h.listed) ∙ written in
     let within = h.within in
     record {
       part = h.part;
-      room = record { listed = h.listed; raw = h.raw; takes = and_from (has_data l h.part.section) (not (is_hollow_at l h.part.section)) h.holds (rw here refl); from = omega arith; to = omega arith };
+      room = record { listed = h.listed; raw = h.raw; takes = and_from (has_data l h.part.section) (not (is_header_only_at l h.part.section)) h.holds (rw here refl); from = omega arith; to = omega arith };
       fills = h.fills;
       has = h.has;
     }
@@ -169,12 +169,12 @@ identity_given l h some =
 
 -- ---- no two of one part
 
-not_among : (part : ℕ) (ms : List Merged) → list_any (stands_in_front part) ms ≡ false → All (λ (m : Merged). HasSome (merged_front m) → part ≡ m.part → ⊥) ms
+not_among : (part : ℕ) (ms : List Merged) → list_any (has_bytes_in_part part) ms ≡ false → All (λ (m : Merged). HasSome (merged_front m) → part ≡ m.part → ⊥) ms
 not_among part ms h i m low some same =
     let x = get_or ms i m in
     let there = and_from (x.part == part) (not (0 == merged_size x)) (eq-eqb x.part part (sym same)) (ap not (ne_eqb 0 (merged_size x) (λ e. omega arith))) in
-    let any = any_at (stands_in_front part) ms i m low there in
-    absurd_bool (list_any (stands_in_front part) ms) any h
+    let any = any_at (has_bytes_in_part part) ms i m low there in
+    absurd_bool (list_any (has_bytes_in_part part) ms) any h
   where
     absurd_bool : (b : Bool) → b ≡ true → b ≡ false → ⊥
     absurd_bool true t f = cc
@@ -183,11 +183,11 @@ not_among part ms h i m low some same =
 merged_differ : (i : ℕ) (ms : List Merged) → front_shared i ms ≡ None → AllPairs Differ (map merged_front ms)
 merged_differ i [] h = AllPairs-nil Differ
 merged_differ i (m ∷ ms) h =
-    elim (cases_Bool (stands_in_front m.part m && list_any (stands_in_front m.part) ms)) [
+    elim (cases_Bool (has_bytes_in_part m.part m && list_any (has_bytes_in_part m.part) ms)) [
       | inl t ↦ cc (rw t at h)
       | inr f ↦
           AllPairs-cons Differ (merged_front m) (map merged_front ms)
-          (All-map (Differ (merged_front m)) merged_front ms (λ k x low some others. not_among m.part ms (none_left (stands_in_front m.part m) (list_any (stands_in_front m.part) ms) f (and_from (m.part == m.part) (not (0 == merged_size m)) (eq-eqb m.part m.part refl) (ap not (ne_eqb 0 (merged_size m) (λ e. omega arith))))) k x low others))
+          (All-map (Differ (merged_front m)) merged_front ms (λ k x low some others. not_among m.part ms (none_left (has_bytes_in_part m.part m) (list_any (has_bytes_in_part m.part) ms) f (and_from (m.part == m.part) (not (0 == merged_size m)) (eq-eqb m.part m.part refl) (ap not (ne_eqb 0 (merged_size m) (λ e. omega arith))))) k x low others))
           (merged_differ (i + 1) ms (rw f at h))
     ]
   where
@@ -199,8 +199,8 @@ identity_differs : (l : Layout) → Laid l → All (λ (x : Front). All (Differ 
 identity_differs l h = All-map (λ (x : Front). All (Differ x) (identity_front l ∷ [])) merged_front l.merged (λ i m low.
     All-cons (Differ (merged_front (get_or l.merged i m))) (identity_front l) [] (λ some other same.
     let none = ne_eqb (length l.identity.bytes) 0 (λ e. omega arith) in
-    let alone = or_other (length l.identity.bytes == 0) (not (list_any (stands_in_front l.identity.part) l.merged)) h.fronts.alone none in
-    not_among l.identity.part l.merged (is_false (list_any (stands_in_front l.identity.part) l.merged) alone) i m low some (sym same)) (All-nil (Differ (merged_front (get_or l.merged i m)))))
+    let alone = or_other (length l.identity.bytes == 0) (not (list_any (has_bytes_in_part l.identity.part) l.merged)) h.fronts.alone none in
+    not_among l.identity.part l.merged (is_false (list_any (has_bytes_in_part l.identity.part) l.merged) alone) i m low some (sym same)) (All-nil (Differ (merged_front (get_or l.merged i m)))))
   where
     is_false : (b : Bool) → not b ≡ true → b ≡ false
     is_false true e = cc
@@ -247,37 +247,37 @@ AllPairs-some R at bs =
 -- the piece of one
 of_front : (l : Layout) (P : Piece → Type 0) (x : Front) → (IsWritten l x → P (front_at l x)) → All P (front_of l x)
 of_front l P x h =
-    All-written P (is_hollow_part l x.part) (some_piece (offset_of_part (slice_get l.parts x.part)) x.bytes) (λ written.
+    All-written P (is_header_only_part l x.part) (some_piece (offset_of_part (slice_get l.parts x.part)) x.bytes) (λ written.
     All-some P (offset_of_part (slice_get l.parts x.part)) x.bytes (λ some. h (record { some = some; written = written })))
 
 -- what holds of each that is written holds of their pieces
-pub each_front : (l : Layout) (P : Piece → Type 0) → All (λ (x : Front). IsWritten l x → P (front_at l x)) (fronts l) → All P (once_pieces l)
+pub each_front : (l : Layout) (P : Piece → Type 0) → All (λ (x : Front). IsWritten l x → P (front_at l x)) (fronts l) → All P (merged_and_identity_pieces l)
 each_front l P h = subst (All P) (sym (once_is l)) (All-flat_map P (front_of l) (fronts l) (λ i x m. of_front l P (get_or (fronts l) i x) (h i x m)))
 
-two_fronts : (l : Layout) → AllPairs (Follows l) l.parts → FrontsStand l → (i j : ℕ) (d : Front) → i < j → j < length (fronts l) → IsWritten l (get_or (fronts l) i d) → IsWritten l (get_or (fronts l) j d) → Apart (front_at l (get_or (fronts l) i d)) (front_at l (get_or (fronts l) j d))
+two_fronts : (l : Layout) → AllPairs (Follows l) l.parts → FrontsStand l → (i j : ℕ) (d : Front) → i < j → j < length (fronts l) → IsWritten l (get_or (fronts l) i d) → IsWritten l (get_or (fronts l) j d) → Disjoint (front_at l (get_or (fronts l) i d)) (front_at l (get_or (fronts l) j d))
 two_fronts l f h i j d lt m some other =
     let x = get_or (fronts l) i d in
     let y = get_or (fronts l) j d in
     let a = h.stood i d (omega arith) some in
     let b = h.stood j d m other in
     let apart = owners_apart l f x.part y.part a.part.address b.part.address x.bytes y.bytes a.part b.part a.room b.room (λ e. absurd (h.differ i j d lt m some.some other.some e)) in
-    subst (λ (p : Piece). Apart p (front_at l y)) (front_is l x a) (subst (Apart (owner_at l x.part a.part.address x.bytes)) (front_is l y b) apart)
+    subst (λ (p : Piece). Disjoint p (front_at l y)) (front_is l x a) (subst (Disjoint (owner_at l x.part a.part.address x.bytes)) (front_is l y b) apart)
 
-pub fronts_apart : (l : Layout) → AllPairs (Follows l) l.parts → FrontsStand l → AllPairs Apart (once_pieces l)
+pub fronts_apart : (l : Layout) → AllPairs (Follows l) l.parts → FrontsStand l → AllPairs Disjoint (merged_and_identity_pieces l)
 fronts_apart l f h =
-    subst (AllPairs Apart) (sym (once_is l))
-    (AllPairs-flat_map Apart (front_of l) (fronts l)
-    (λ i x m. (let y = get_or (fronts l) i x in let at = offset_of_part (slice_get l.parts y.part) in AllPairs-written Apart (is_hollow_part l y.part) (some_piece at y.bytes) (λ written. AllPairs-some Apart at y.bytes)))
+    subst (AllPairs Disjoint) (sym (once_is l))
+    (AllPairs-flat_map Disjoint (front_of l) (fronts l)
+    (λ i x m. (let y = get_or (fronts l) i x in let at = offset_of_part (slice_get l.parts y.part) in AllPairs-written Disjoint (is_header_only_part l y.part) (some_piece at y.bytes) (λ written. AllPairs-some Disjoint at y.bytes)))
     (λ i j d lt m.
     let x = get_or (fronts l) i d in
     let y = get_or (fronts l) j d in
-    of_front l (λ a. All (Apart a) (front_of l y)) x (λ some.
-    of_front l (Apart (front_at l x)) y (λ other. two_fronts l f h i j d lt m some other))))
+    of_front l (λ a. All (Disjoint a) (front_of l y)) x (λ some.
+    of_front l (Disjoint (front_at l x)) y (λ other. two_fronts l f h i j d lt m some other))))
 
 front_ends : (l : Layout) (x : Front) (st : FrontStands l x) → HasSome x → InImage l (front_at l x)
 front_ends l x st some = subst (InImage l) (front_is l x st) (owner_ends l (EndsBy-image l) x.part st.part.address (length x.bytes) st.part st.room some)
 
-pub fronts_within : (l : Layout) → FrontsStand l → All (InImage l) (once_pieces l)
+pub fronts_within : (l : Layout) → FrontsStand l → All (InImage l) (merged_and_identity_pieces l)
 fronts_within l h = each_front l (InImage l) (λ i x m w. front_ends l (get_or (fronts l) i x) (h.stood i x m w) w.some)
 
 -- ---- nothing else of the first group stands there, and the others' stand behind
@@ -309,11 +309,11 @@ sections_behind l h x st = by l.groups refl
     P = StandsBehind l x st.part.address
 
     of_first : (g : Group) (gs : List Group) → l.groups ≡ g ∷ gs → All P (sections_in l g)
-    of_first g gs split = All-flat_map P (standing l) g.files (λ i f m j s n filled same.
+    of_first g gs split = All-flat_map P (sections_in_ranges l) g.files (λ i f m j s n filled same.
         let file = get_or g.files i f in
-        let tests = and_parts (list_all (leaves_front l) (standing l file)) (length (thunks_of l file) == 0 || not (has_front l l.primary_part)) (leaves_front_of l h g gs split i f m) in
-        let y = get_or (standing l file) j s in
-        let leaves = All-from_list_all (leaves_front l) (standing l file) tests.0 j s n in
+        let tests = and_parts (list_all (leaves_front l) (sections_in_ranges l file)) (length (thunks_of l file) == 0 || not (has_front l l.primary_part)) (leaves_front_of l h g gs split i f m) in
+        let y = get_or (sections_in_ranges l file) j s in
+        let leaves = All-from_list_all (leaves_front l) (sections_in_ranges l file) tests.0 j s n in
         absurd (absurd_or (takes_bytes l y) (has_front l y.part) leaves (filled_takes l y filled) (ap (has_front l) same ∙ st.has)))
 
     of_later : (g : Group) (gs : List Group) → l.groups ≡ g ∷ gs → All P (flat_map (sections_in l) gs)
@@ -323,7 +323,7 @@ sections_behind l h x st = by l.groups refl
         let address = ap (λ (q : Part). q.address) same in
         let run = Run-behind l g gs (subst (λ (hs : List Group). section_misplaced l (map (λ (q : Part). q.address) l.parts) 0 hs ≡ None) split h.inputs.order) x.part st.part low in
         let fills = st.fills g gs split in
-        λ i s m filled at. (let from = run i s m (and_from (is_given l (get_or (flat_map (sections_in l) gs) i s)) ((get_or (flat_map (sections_in l) gs) i s).part == x.part) (filled_given l (get_or (flat_map (sections_in l) gs) i s) filled) (eq-eqb _ _ at)) in omega arith)
+        λ i s m filled at. (let from = run i s m (and_from (has_range_bytes l (get_or (flat_map (sections_in l) gs) i s)) ((get_or (flat_map (sections_in l) gs) i s).part == x.part) (filled_given l (get_or (flat_map (sections_in l) gs) i s) filled) (eq-eqb _ _ at)) in omega arith)
 
     by : (gs : List Group) → l.groups ≡ gs → All P (all_sections l)
     by [] split = subst (λ (hs : List Group). All P (flat_map (sections_in l) hs)) (sym split) (All-nil P)
@@ -333,7 +333,7 @@ sections_behind l h x st = by l.groups refl
 pub no_thunks_there : (l : Layout) → Laid l → (x : Front) (st : FrontStands l x) → x.part ≡ l.primary_part → (g : Group) (gs : List Group) → l.groups ≡ g ∷ gs → All (λ (f : File). length (thunks_of l f) ≡ 0) g.files
 no_thunks_there l h x st same g gs split i f m =
     let file = get_or g.files i f in
-    let tests = and_parts (list_all (leaves_front l) (standing l file)) (length (thunks_of l file) == 0 || not (has_front l l.primary_part)) (leaves_front_of l h g gs split i f m) in
+    let tests = and_parts (list_all (leaves_front l) (sections_in_ranges l file)) (length (thunks_of l file) == 0 || not (has_front l l.primary_part)) (leaves_front_of l h g gs split i f m) in
     eqb-true _ _ (none (length (thunks_of l file) == 0) (has_front l l.primary_part) tests.1 (sym (ap (has_front l) same) ∙ st.has))
   where
     none : (a b : Bool) → (a || not b) ≡ true → b ≡ true → a ≡ true
@@ -351,7 +351,7 @@ FrontLies-from_given l k bs p is raw given = record {
   holds = λ some. (let g = given some in subst (λ (q : Part). has_data l q.section ≡ true) (same_part g) g.holds);
   within = within (cases_none (length bs));
   ends = λ some written. (
-      let here : is_hollow_part l k ≡ false = ap (λ (o : Option Part). is_hollow_at l (section_of_part o)) is ∙ written in
+      let here : is_header_only_part l k ≡ false = ap (λ (o : Option Part). is_header_only_at l (section_of_part o)) is ∙ written in
       let st = front_stands l (record { part = k; bytes = bs }) (given some) here in
       let e = front_ends l (record { part = k; bytes = bs }) st some in
       let place = ap offset_of_part is in

@@ -9,8 +9,8 @@ use Rattle.wild_types.specs.declared.layout.Layout.{Layout}
 use Rattle.wild_needs.specs.DynamicSymbols.{first_listed}
 use Rattle.wild_needs.specs.HashShapes.{sysv_fits, gnu_fits, gnu_shape_fits, bucket_of, bucket_below, bucket_astray}
 use Rattle.wild_types.specs.Lists.{unless}
-use Rattle.wild_clauses.specs.ClauseTests.{fails, first_error, check_hashes}
-use Rattle.wild_clauses.proofs.ClauseLemmas.{None-from_fails}
+use Rattle.wild_plan_rules.specs.ClauseTests.{fails, first_error, check_hashes}
+use Rattle.wild_plan_rules.proofs.ClauseLemmas.{None-from_fails}
 use Rattle.wild_hashes.specs.Laws.{ascends, ascends_from}
 use Rattle.wild_hashes.specs.Tables.{gnu_hash_of}
 use Rattle.wild_layout.specs.HashShapes.{HasGnuShape, HasHashShapes}

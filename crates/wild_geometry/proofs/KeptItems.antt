@@ -4,7 +4,7 @@ use Rattle.wild_layout.proofs.SiteLemmas.{Contains-flat_map}
 use Rattle.wild_records.specs.Abi.Section.{shf_write, shf_execinstr}
 use Rattle.wild_layout.specs.TablePlaces.{table_bytes}
 use Rattle.wild_layout.specs.Content.{content, frame_bytes_of, frames_bytes, end_of_frames}
-use Rattle.wild_types.specs.FilePlaces.{bool_eq, file_placed, later_placed, files_placed, file_misplaced}
+use Rattle.wild_types.specs.FilePlaces.{bool_eq, file_position_fits, later_positions_fit, group_positions_fit, first_misplaced_file}
 use Rattle.std.proofs.Common.{◌≡◌, ℕ, zero, suc, ◌+◌, ◌-◌, ◌%◌, ◌^◌, ◌≤◌, inl, inr, Bool, true, false, if◌then◌else◌, List, [], ◌∷◌, ◌++◌, length, take, refl, sym, ap, ◌∙◌, arith, subst}
 use Rattle.std.specs.Prelude.{All, Contains, Option, Some, None, slice_get, not, ◌&&◌, ◌==◌}
 use Rattle.std.specs.List.{flat_map}
@@ -28,26 +28,26 @@ use Rattle.wild_types.specs.declared.layout.Layout.{Layout}
 use Rattle.wild_types.specs.Item.{Item, item_of}
 use Rattle.wild_types.specs.Kinds.{is_partial_link}
 use Rattle.wild_types.specs.Lists.{total}
-use Rattle.wild_types.specs.Hollow.{is_dropped}
-use Rattle.wild_types.specs.Lookups.{is_read, is_frame, is_hollow_part, is_counted, allocated, files_of, file_of, bit}
+use Rattle.wild_types.specs.HeaderOnly.{is_omitted}
+use Rattle.wild_types.specs.Lookups.{is_read, is_frame, is_header_only_part, is_counted, allocated, files_of, file_of, bit}
 use Rattle.wild_types.specs.FileRoles.{is_epilogue, is_prelude}
 use Rattle.wild_types.specs.Parts.{part_with}
 use Rattle.wild_types.specs.Rows.{field_bytes}
 use Rattle.wild_frames.specs.declared.frames.Target.{Target}
 use Rattle.wild_frames.specs.Frames.{Frames, frame_bytes}
-use Rattle.wild_laid.specs.Turned.{turned, as_turned}
-use Rattle.wild_laid.specs.FrameInputs.{has_symbol, home_of, target_in, target_at, symbol_target, target_by, target_of, frames_of, kept_size, section_target}
-use Rattle.wild_laid.specs.Laid.{Input, framed, laid_by, laid_section, laid_sections, laid_file, laid_from, laid_files, file_frames, frames_at, behind, part_address, sorted_inputs, as_loaded, processed, of_last_file, sorted_sections, frame_flags, laid_relocations}
-use Rattle.wild_laid.proofs.PlainLemmas.{unread_linked}
+use Rattle.wild_placement.specs.ReversedWords.{reversed_section, with_word_order}
+use Rattle.wild_placement.specs.FrameInputs.{has_symbol, home_of, target_in, target_at, symbol_target, target_by, target_of, frames_of, kept_size, section_target}
+use Rattle.wild_placement.specs.PlacedSections.{Input, placed_frames, placed_by, placed_section, placed_sections, placed_file, placed_from, placed_files, file_frames, frames_at, behind, part_address, sorted_inputs, as_loaded, processed_sections, of_last_file, sorted_sections, frame_flags, moved_relocations}
+use Rattle.wild_placement.proofs.PlainLemmas.{unread_linked}
 use Rattle.wild_layout.specs.SectionPlaces.{HasWords, SectionLies}
 use Rattle.wild_layout.specs.Geometry.{IsLaidOut}
 use Rattle.wild_meaning.specs.Frames.{code_in, code_at, code_by, code_of, frames_in, kept_bytes, kept_of_file, IsFrameInput, frames_item, frames_item_of, frames_address, code_section, kept_by, without, address_of_part}
-use Rattle.wild_meaning.specs.Item.{IsInput, IsLoadedSlot, IsKeptSection, stood_item, IsKept, OfSection, OfFrames}
+use Rattle.wild_meaning.specs.Item.{IsInput, IsLoadedSlot, IsKeptSection, placed_item, IsKept, OfSection, OfFrames}
 use Rattle.wild_meaning.proofs.BitLemmas.{alloc_bit}
-use Rattle.wild_geometry.specs.Laid.{Own, Ordered, IsLaid, IsLaidItem, KeptIsLaid}
-use Rattle.wild_geometry.proofs.HollowLemmas.{part_is_written, role_is_written}
-use Rattle.wild_geometry.proofs.StoodSections.{laid_of, laid_section_of, each_at}
-use Rattle.wild_geometry.proofs.TurnedItems.{turned_item}
+use Rattle.wild_geometry.specs.PlacedSections.{Own, Ordered, IsPlacedSection, IsPlacedItem, KeptItemsArePlaced}
+use Rattle.wild_geometry.proofs.HeaderOnlyLemmas.{part_is_written, role_is_written}
+use Rattle.wild_geometry.proofs.PlacedInputs.{laid_of, laid_section_of, each_at}
+use Rattle.wild_geometry.proofs.ReversedItems.{turned_item}
 use Rattle.wild_geometry.proofs.FrameSizes.{sections_size, group_given}
 
 -- ---- sections
@@ -57,59 +57,59 @@ has_words : (l : Layout) (s : InputSection) → IsLaidOut l → (k : IsInput l s
 has_words l s laid k counted reversed =
     All-contains (λ (t : InputSection). is_counted t ≡ true → t.reversed ≡ true → HasWords l.machine t) k.file.sections s
     (All-contains (λ (f : File). All (λ (t : InputSection). is_counted t ≡ true → t.reversed ≡ true → HasWords l.machine t) f.sections) k.group.files k.file
-    (All-contains (λ (g : Group). All (λ (f : File). All (λ (t : InputSection). is_counted t ≡ true → t.reversed ≡ true → HasWords l.machine t) f.sections) g.files) l.groups k.group laid.turned k.grouped) k.filed) k.listed counted reversed
+    (All-contains (λ (g : Group). All (λ (f : File). All (λ (t : InputSection). is_counted t ≡ true → t.reversed ≡ true → HasWords l.machine t) f.sections) g.files) l.groups k.group laid.reversed_section k.grouped) k.filed) k.listed counted reversed
 
-turned_reads : (s : InputSection) → s.slot ≡ slot.Loaded → s.nobits ≡ false → is_read (as_turned s) ≡ true
-unfolding as_turned
+turned_reads : (s : InputSection) → s.slot ≡ slot.Loaded → s.nobits ≡ false → is_read (with_word_order s) ≡ true
+unfolding with_word_order
 turned_reads s e n = by s.reversed
   where
-    by : (b : Bool) → is_read (if b then turned s else s) ≡ true
+    by : (b : Bool) → is_read (if b then reversed_section s else s) ≡ true
     by true = rw (e, n) refl
     by false = rw (e, n) refl
 
-turned_flags : (s : InputSection) → (as_turned s).flags ≡ s.flags
-unfolding as_turned
+turned_flags : (s : InputSection) → (with_word_order s).flags ≡ s.flags
+unfolding with_word_order
 turned_flags s = by s.reversed
   where
-    by : (b : Bool) → (if b then turned s else s).flags ≡ s.flags
+    by : (b : Bool) → (if b then reversed_section s else s).flags ≡ s.flags
     by true = refl
     by false = refl
 
 -- it is written, where its part is
-turned_written : (l : Layout) (s : InputSection) → is_frame s.slot ≡ false → is_hollow_part l s.part ≡ false → is_dropped l (as_turned s) ≡ false
-unfolding as_turned
+turned_written : (l : Layout) (s : InputSection) → is_frame s.slot ≡ false → is_header_only_part l s.part ≡ false → is_omitted l (with_word_order s) ≡ false
+unfolding with_word_order
 turned_written l s plain written = by s.reversed
   where
-    by : (b : Bool) → is_dropped l (if b then turned s else s) ≡ false
+    by : (b : Bool) → is_omitted l (if b then reversed_section s else s) ≡ false
     by true = rw (plain, written) refl
     by false = rw (plain, written) refl
 
-laid_loaded : (l : Layout) (f : File) (at : ℕ) (s : InputSection) → is_partial_link l.kind ≡ false → s.slot ≡ slot.Loaded → laid_section l f at s ≡ as_turned s
-unfolding laid_section
-laid_loaded l f at s kind e = ap (λ (k : Slot). laid_by k l f at s) e ∙ ap as_turned (unread_linked l s kind)
+laid_loaded : (l : Layout) (f : File) (at : ℕ) (s : InputSection) → is_partial_link l.kind ≡ false → s.slot ≡ slot.Loaded → placed_section l f at s ≡ with_word_order s
+unfolding placed_section
+laid_loaded l f at s kind e = ap (λ (k : Slot). placed_by k l f at s) e ∙ ap with_word_order (unread_linked l s kind)
 
 -- a sorted one is among those that stand in their order
 is_sorted : (l : Layout) (s : InputSection) → is_partial_link l.kind ≡ false → IsLaidOut l → (k : IsInput l s) → s.slot ≡ slot.Sorted → Contains (sorted_inputs l) (record { file = k.file; section = as_loaded s })
 is_sorted l s kind laid k e = subst (λ (t : InputSection). Contains (sorted_inputs l) (record { file = k.file; section = as_loaded t })) (unread_linked l s kind) (laid.sorted k.group k.file s k.grouped k.filed k.listed e)
 
 -- a loaded section
-loaded_item : (l : Layout) (item : Item) (s : InputSection) → is_partial_link l.kind ≡ false → IsLaidOut l → (k : IsKeptSection l s) → s.slot ≡ slot.Loaded → item ≡ stood_item l k.input.file s → IsLaidItem l item
+loaded_item : (l : Layout) (item : Item) (s : InputSection) → is_partial_link l.kind ≡ false → IsLaidOut l → (k : IsKeptSection l s) → s.slot ≡ slot.Loaded → item ≡ placed_item l k.input.file s → IsPlacedItem l item
 loaded_item l item s kind laid k e is =
     let g = k.input.group in
     let f = k.input.file in
     let a = laid_of l g f k.input.filed in
     let c = laid_section_of l f a.0 f.sections s k.input.listed in
-    let t = laid_section l f c.0 s in
-    let same : t ≡ as_turned s = laid_loaded l f c.0 s kind e in
+    let t = placed_section l f c.0 s in
+    let same : t ≡ with_word_order s = laid_loaded l f c.0 s kind e in
     let n = k.has_data in
     let here = turned_item l f s (λ r. has_words l s laid k.input (rw (e, n) refl) r) in
     record {
       section = t;
       kept = record {
-        input = record { group = g; grouped = k.input.grouped; file = laid_file l a.0 f; filed = a.1; owner = laid_file l a.0 f; listed = Own refl c.1 };
+        input = record { group = g; grouped = k.input.grouped; file = placed_file l a.0 f; filed = a.1; owner = placed_file l a.0 f; listed = Own refl c.1 };
         reads = subst (λ (x : InputSection). is_read x ≡ true) (sym same) (turned_reads s e n);
         room = λ plain. subst (λ (x : InputSection). allocated x.flags ≡ true) (sym same) (subst (λ (y : ℕ). allocated y ≡ true) (sym (turned_flags s)) (alloc_bit s.flags k.room));
-        written = subst (λ (x : InputSection). is_dropped l x ≡ false) (sym same) (turned_written l s (ap is_frame e) (part_is_written l s.part k.written));
+        written = subst (λ (x : InputSection). is_omitted l x ≡ false) (sym same) (turned_written l s (ap is_frame e) (part_is_written l s.part k.written));
       };
       is = is ∙ sym here ∙ ap (λ (x : InputSection). item_of l f x) (sym same);
     }
@@ -126,37 +126,37 @@ is_last : (b : Bool) → bool_eq b true ≡ true → b ≡ true
 is_last true h = refl
 is_last false h = cc
 
-later_last : (fs : List File) → 1 ≤ length fs → later_placed true fs ≡ true → (f : File) × Contains fs f × (is_epilogue f.role ≡ true)
+later_last : (fs : List File) → 1 ≤ length fs → later_positions_fit true fs ≡ true → (f : File) × Contains fs f × (is_epilogue f.role ≡ true)
 later_last [] some h = absurd (omega (arith, some))
 later_last (f ∷ []) some h =
-    let parts = and_parts (file_placed false true f) true h in
+    let parts = and_parts (file_position_fits false true f) true h in
     (f, Contains-here f [], is_last (is_epilogue f.role) (and_parts (bool_eq (is_prelude f.role) false) (bool_eq (is_epilogue f.role) true) parts.0).1)
 later_last (f ∷ (g ∷ gs)) some h =
-    let rest = later_last (g ∷ gs) (omega arith) (and_parts (file_placed false (true && length (g ∷ gs) == 0) f) (later_placed true (g ∷ gs)) h).1 in
+    let rest = later_last (g ∷ gs) (omega arith) (and_parts (file_position_fits false (true && length (g ∷ gs) == 0) f) (later_positions_fit true (g ∷ gs)) h).1 in
     (rest.0, Contains-there rest.0 f (g ∷ gs) rest.1, rest.2)
 
-group_last_file : (first : Bool) (fs : List File) → files_placed first true fs ≡ true → (f : File) × Contains fs f × (is_epilogue f.role ≡ true)
+group_last_file : (first : Bool) (fs : List File) → group_positions_fit first true fs ≡ true → (f : File) × Contains fs f × (is_epilogue f.role ≡ true)
 group_last_file first [] h = absurd (none first h)
   where
     none : (b : Bool) → (not b && false) ≡ true → ⊥
     none true h = cc
     none false h = cc
 group_last_file first (f ∷ []) h =
-    let parts = and_parts (file_placed first true f) true h in
+    let parts = and_parts (file_position_fits first true f) true h in
     (f, Contains-here f [], is_last (is_epilogue f.role) (and_parts (bool_eq (is_prelude f.role) first) (bool_eq (is_epilogue f.role) true) parts.0).1)
 group_last_file first (f ∷ (g ∷ gs)) h =
-    let rest = later_last (g ∷ gs) (omega arith) (and_parts (file_placed first (true && length (g ∷ gs) == 0) f) (later_placed true (g ∷ gs)) h).1 in
+    let rest = later_last (g ∷ gs) (omega arith) (and_parts (file_position_fits first (true && length (g ∷ gs) == 0) f) (later_positions_fit true (g ∷ gs)) h).1 in
     (rest.0, Contains-there rest.0 f (g ∷ gs) rest.1, rest.2)
 
-groups_last : (first : Bool) (i : ℕ) (gs : List Group) → 1 ≤ length gs → file_misplaced first i gs ≡ None → LastFile gs
+groups_last : (first : Bool) (i : ℕ) (gs : List Group) → 1 ≤ length gs → first_misplaced_file first i gs ≡ None → LastFile gs
 groups_last first i [] some h = absurd (omega (arith, some))
 groups_last first i (g ∷ []) some h =
-    elim (cases_Bool (files_placed first true g.files)) [
+    elim (cases_Bool (group_positions_fit first true g.files)) [
       | inl t ↦ (let f = group_last_file first g.files t in record { group = g; grouped = Contains-here g []; file = f.0; filed = f.1; last = f.2 })
       | inr n ↦ absurd (let no : Some i ≡ None = rw n at h in cc)
     ]
 groups_last first i (g ∷ (x ∷ xs)) some h =
-    elim (cases_Bool (files_placed first (length (x ∷ xs) == 0) g.files)) [
+    elim (cases_Bool (group_positions_fit first (length (x ∷ xs) == 0) g.files)) [
       | inl t ↦ (let rest = groups_last false (i + 1) (x ∷ xs) (omega arith) (rw t at h) in record { group = rest.group; grouped = Contains-there rest.group g (x ∷ xs) rest.grouped; file = rest.file; filed = rest.filed; last = rest.last })
       | inr n ↦ absurd (let no : Some i ≡ None = rw n at h in cc)
     ]
@@ -165,7 +165,7 @@ last_file : (l : Layout) → IsLaidOut l → LastFile l.groups
 last_file l laid = groups_last true 0 l.groups laid.some_group laid.files
 
 -- a sorted section, which stands with the last file
-sorted_item : (l : Layout) (item : Item) (s : InputSection) → is_partial_link l.kind ≡ false → IsLaidOut l → (k : IsKeptSection l s) → s.slot ≡ slot.Sorted → item ≡ stood_item l k.input.file s → IsLaidItem l item
+sorted_item : (l : Layout) (item : Item) (s : InputSection) → is_partial_link l.kind ≡ false → IsLaidOut l → (k : IsKeptSection l s) → s.slot ≡ slot.Sorted → item ≡ placed_item l k.input.file s → IsPlacedItem l item
 sorted_item l item s kind laid k e is =
     let f = k.input.file in
     let last = last_file l laid in
@@ -174,9 +174,9 @@ sorted_item l item s kind laid k e is =
     let words = λ (r : s.reversed ≡ true). has_words l s laid k.input (rw (e, n) refl) r in
     let here = turned_item l f (as_loaded s) (λ r. (let w = words r in record { whole = w.whole; bytes = w.bytes; fields = w.fields })) in
     record {
-      section = as_turned (as_loaded s);
+      section = with_word_order (as_loaded s);
       kept = record {
-        input = record { group = last.group; grouped = last.grouped; file = laid_file l a.0 last.file; filed = a.1; owner = f; listed = Ordered last.last (record { file = f; section = as_loaded s }) (is_sorted l s kind laid k.input e) refl refl };
+        input = record { group = last.group; grouped = last.grouped; file = placed_file l a.0 last.file; filed = a.1; owner = f; listed = Ordered last.last (record { file = f; section = as_loaded s }) (is_sorted l s kind laid k.input e) refl refl };
         reads = turned_reads (as_loaded s) refl n;
         room = λ plain. subst (λ (y : ℕ). allocated y ≡ true) (sym (turned_flags (as_loaded s))) (alloc_bit s.flags k.room);
         written = turned_written l (as_loaded s) refl (part_is_written l s.part k.written);
@@ -193,11 +193,11 @@ pub record KeepsFields (s t : InputSection) : Type 0 where
   pub size : t.size ≡ s.size
   pub flags : t.flags ≡ s.flags
 
-pub turned_fields : (s : InputSection) → KeepsFields s (as_turned s)
-unfolding as_turned
+pub turned_fields : (s : InputSection) → KeepsFields s (with_word_order s)
+unfolding with_word_order
 turned_fields s = by s.reversed
   where
-    by : (b : Bool) → KeepsFields s (if b then turned s else s)
+    by : (b : Bool) → KeepsFields s (if b then reversed_section s else s)
     by true = record { slot = refl; nobits = refl; part = refl; address = refl; size = refl; flags = refl }
     by false = record { slot = refl; nobits = refl; part = refl; address = refl; size = refl; flags = refl }
 
@@ -207,8 +207,8 @@ loaded_same s e = ap (λ (k : Slot). record { slot = k; name = s.name; part = s.
 -- a loaded or sorted section as it stands
 pub record InputStands (l : Layout) (s : InputSection) : Type 0 where
   pub section : InputSection
-  pub input : IsLaid l section
-  pub is : section ≡ as_turned (as_loaded s)
+  pub input : IsPlacedSection l section
+  pub is : section ≡ with_word_order (as_loaded s)
 
 pub input_stands : (l : Layout) (s : InputSection) → is_partial_link l.kind ≡ false → IsLaidOut l → IsInput l s → IsLoadedSlot s.slot → InputStands l s
 input_stands l s kind laid k loaded = by_slot s.slot refl loaded
@@ -218,24 +218,24 @@ input_stands l s kind laid k loaded = by_slot s.slot refl loaded
         let a = laid_of l k.group k.file k.filed in
         let c = laid_section_of l k.file a.0 k.file.sections s k.listed in
         record {
-          section = laid_section l k.file c.0 s;
-          input = record { group = k.group; grouped = k.grouped; file = laid_file l a.0 k.file; filed = a.1; owner = laid_file l a.0 k.file; listed = Own refl c.1 };
-          is = laid_loaded l k.file c.0 s kind e ∙ ap as_turned (loaded_same s e);
+          section = placed_section l k.file c.0 s;
+          input = record { group = k.group; grouped = k.grouped; file = placed_file l a.0 k.file; filed = a.1; owner = placed_file l a.0 k.file; listed = Own refl c.1 };
+          is = laid_loaded l k.file c.0 s kind e ∙ ap with_word_order (loaded_same s e);
         }
     by_slot slot.Sorted e h =
         let last = last_file l laid in
         let a = laid_of l last.group last.file last.filed in
         record {
-          section = as_turned (as_loaded s);
-          input = record { group = last.group; grouped = last.grouped; file = laid_file l a.0 last.file; filed = a.1; owner = k.file; listed = Ordered last.last (record { file = k.file; section = as_loaded s }) (is_sorted l s kind laid k e) refl refl };
+          section = with_word_order (as_loaded s);
+          input = record { group = last.group; grouped = last.grouped; file = placed_file l a.0 last.file; filed = a.1; owner = k.file; listed = Ordered last.last (record { file = k.file; section = as_loaded s }) (is_sorted l s kind laid k e) refl refl };
           is = refl;
         }
     by_slot other e h = absurd h
 
-section_item : (l : Layout) (item : Item) (s : InputSection) → is_partial_link l.kind ≡ false → IsLaidOut l → (k : IsKeptSection l s) → item ≡ stood_item l k.input.file s → IsLaidItem l item
+section_item : (l : Layout) (item : Item) (s : InputSection) → is_partial_link l.kind ≡ false → IsLaidOut l → (k : IsKeptSection l s) → item ≡ placed_item l k.input.file s → IsPlacedItem l item
 section_item l item s kind laid k is = by_slot s.slot refl k.loaded
   where
-    by_slot : (t : Slot) → s.slot ≡ t → IsLoadedSlot t → IsLaidItem l item
+    by_slot : (t : Slot) → s.slot ≡ t → IsLoadedSlot t → IsPlacedItem l item
     by_slot slot.Loaded e h = loaded_item l item s kind laid k e is
     by_slot slot.Sorted e h = sorted_item l item s kind laid k e is
     by_slot other e h = absurd h
@@ -297,44 +297,44 @@ total_same f g [] h = refl
 total_same f g (x ∷ xs) h = (let a = h x (Contains-here x xs) in let b = total_same f g xs (λ y c. h y (Contains-there y x xs c)) in omega (arith, a, b))
 
 -- the place in a list of laid files of the one behind others
-file_after : (l : Layout) (at : ℕ) (fs : List File) (f : File) (rest : List File) → (a : ℕ) × Contains (laid_from l at (fs ++ (f ∷ rest))) (laid_file l a f) × (a % 2 ^ 64 ≡ (at + total (file_frames l) fs) % 2 ^ 64)
-file_after l at [] f rest = (at, Contains-here (laid_file l at f) (laid_from l (behind at (file_frames l f)) rest), (let e : at ≡ at + 0 = omega arith in ap (λ (n : ℕ). n % 2 ^ 64) e))
+file_after : (l : Layout) (at : ℕ) (fs : List File) (f : File) (rest : List File) → (a : ℕ) × Contains (placed_from l at (fs ++ (f ∷ rest))) (placed_file l a f) × (a % 2 ^ 64 ≡ (at + total (file_frames l) fs) % 2 ^ 64)
+file_after l at [] f rest = (at, Contains-here (placed_file l at f) (placed_from l (behind at (file_frames l f)) rest), (let e : at ≡ at + 0 = omega arith in ap (λ (n : ℕ). n % 2 ^ 64) e))
 file_after l at (g ∷ gs) f rest =
     let r = file_after l (behind at (file_frames l g)) gs f rest in
     let e = r.2 in
-    (r.0, Contains-there (laid_file l r.0 f) (laid_file l at g) (laid_from l (behind at (file_frames l g)) (gs ++ (f ∷ rest))) r.1, omega (arith, e))
+    (r.0, Contains-there (placed_file l r.0 f) (placed_file l at g) (placed_from l (behind at (file_frames l g)) (gs ++ (f ∷ rest))) r.1, omega (arith, e))
 
-section_after : (l : Layout) (f : File) (at : ℕ) (ss : List InputSection) (s : InputSection) (rest : List InputSection) → (a : ℕ) × Contains (laid_sections l f at (ss ++ (s ∷ rest))) (laid_section l f a s) × (a % 2 ^ 64 ≡ (at + total (kept_size l f) ss) % 2 ^ 64)
-section_after l f at [] s rest = (at, Contains-here (laid_section l f at s) (laid_sections l f (behind at (kept_size l f s)) rest), (let e : at ≡ at + 0 = omega arith in ap (λ (n : ℕ). n % 2 ^ 64) e))
+section_after : (l : Layout) (f : File) (at : ℕ) (ss : List InputSection) (s : InputSection) (rest : List InputSection) → (a : ℕ) × Contains (placed_sections l f at (ss ++ (s ∷ rest))) (placed_section l f a s) × (a % 2 ^ 64 ≡ (at + total (kept_size l f) ss) % 2 ^ 64)
+section_after l f at [] s rest = (at, Contains-here (placed_section l f at s) (placed_sections l f (behind at (kept_size l f s)) rest), (let e : at ≡ at + 0 = omega arith in ap (λ (n : ℕ). n % 2 ^ 64) e))
 section_after l f at (t ∷ ts) s rest =
     let r = section_after l f (behind at (kept_size l f t)) ts s rest in
     let e = r.2 in
-    (r.0, Contains-there (laid_section l f r.0 s) (laid_section l f at t) (laid_sections l f (behind at (kept_size l f t)) (ts ++ (s ∷ rest))) r.1, omega (arith, e))
+    (r.0, Contains-there (placed_section l f r.0 s) (placed_section l f at t) (placed_sections l f (behind at (kept_size l f t)) (ts ++ (s ∷ rest))) r.1, omega (arith, e))
 
 -- a group gives as many bytes as its files keep, or more
-file_most : (l : Layout) (f : File) (at : ℕ) → All (SectionLies l) (processed l (laid_file l at f)) → file_frames l f ≤ length (frames_bytes l (laid_file l at f))
+file_most : (l : Layout) (f : File) (at : ℕ) → All (SectionLies l) (processed_sections l (placed_file l at f)) → file_frames l f ≤ length (frames_bytes l (placed_file l at f))
 unfolding frames_bytes
 file_most l f at lies =
-    let g = laid_file l at f in
+    let g = placed_file l at f in
     let size = sections_size l g f at f.sections (All-append-left (SectionLies l) g.sections (of_last_file g (sorted_sections l)) lies) in
     let both = length-append (flat_map (frame_bytes_of l g) g.sections) (of_last_file g (end_of_frames l)) in
     omega (arith, size, both)
 
 abbrev LiesWell : Layout → File → Type 0
-LiesWell l f = All (SectionLies l) (processed l f)
+LiesWell l f = All (SectionLies l) (processed_sections l f)
 
-files_most : (l : Layout) (at : ℕ) (fs : List File) → All (LiesWell l) (laid_from l at fs) → total (file_frames l) fs ≤ length (flat_map (frames_bytes l) (laid_from l at fs))
+files_most : (l : Layout) (at : ℕ) (fs : List File) → All (LiesWell l) (placed_from l at fs) → total (file_frames l) fs ≤ length (flat_map (frames_bytes l) (placed_from l at fs))
 files_most l at [] lies = omega arith
 files_most l at (f ∷ fs) lies =
-    let g = laid_file l at f in
-    let gs = laid_from l (behind at (file_frames l f)) fs in
+    let g = placed_file l at f in
+    let gs = placed_from l (behind at (file_frames l f)) fs in
     let one = file_most l f at (All-head (LiesWell l) g gs lies) in
     let rest = files_most l (behind at (file_frames l f)) fs (All-tail (LiesWell l) g gs lies) in
     let both = length-append (frames_bytes l g) (flat_map (frames_bytes l) gs) in
     omega (arith, one, rest, both)
 
-group_most : (l : Layout) (g : Group) → All (LiesWell l) (laid_files l g) → total (file_frames l) g.files ≤ length (content l role.EhFrame g)
-unfolding laid_files
+group_most : (l : Layout) (g : Group) → All (LiesWell l) (placed_files l g) → total (file_frames l) g.files ≤ length (content l role.EhFrame g)
+unfolding placed_files
 group_most l g lies =
     let most = files_most l (frames_at l g) g.files lies in
     let e = ap (λ (bs : List ℕ). length bs) (group_given l g) in
@@ -370,12 +370,12 @@ frame_flags_same : (flags : ℕ) → frame_flags flags ≡ without (without flag
 unfolding bit
 frame_flags_same flags = refl
 
-laid_framed : (l : Layout) (f : File) (at : ℕ) (s : InputSection) → s.slot ≡ slot.Frame → laid_section l f at s ≡ framed l f at s
-unfolding laid_section
-laid_framed l f at s e = ap (λ (k : Slot). laid_by k l f at s) e
+laid_framed : (l : Layout) (f : File) (at : ℕ) (s : InputSection) → s.slot ≡ slot.Frame → placed_section l f at s ≡ placed_frames l f at s
+unfolding placed_section
+laid_framed l f at s e = ap (λ (k : Slot). placed_by k l f at s) e
 
-framed_item : (l : Layout) (f : File) (a b at : ℕ) (s : InputSection) → IsLaidOut l → Contains (files_of l.groups) f → b ≡ at → item_of l (laid_file l a f) (framed l f b s) ≡ frames_item l f s at
-unfolding laid_relocations bit
+framed_item : (l : Layout) (f : File) (a b at : ℕ) (s : InputSection) → IsLaidOut l → Contains (files_of l.groups) f → b ≡ at → item_of l (placed_file l a f) (placed_frames l f b s) ≡ frames_item l f s at
+unfolding moved_relocations bit
 framed_item l f a b at s laid c e =
     ap (λ (fs : Frames). frames_item_of fs s.flags b (frames_item l f s at).thunk_block) (sym (frames_same l f s laid c)) ∙ ap (λ (n : ℕ). frames_item l f s n) e
 
@@ -408,13 +408,13 @@ sums_of l s laid k =
 -- where the frames of an input section stand
 record FrameFound (l : Layout) (s : InputSection) (k : IsFrameInput l s) : Type 0 where
   base : ℕ
-  filed : Contains (laid_files l k.group) (laid_file l base k.file)
+  filed : Contains (placed_files l k.group) (placed_file l base k.file)
   at : ℕ
-  listed : Contains (laid_file l base k.file).sections (laid_section l k.file at s)
+  listed : Contains (placed_file l base k.file).sections (placed_section l k.file at s)
   is : at % 2 ^ 64 ≡ frames_address l s k % 2 ^ 64
 
 frame_found : (l : Layout) (s : InputSection) → IsLaidOut l → (k : IsFrameInput l s) → FrameFound l s k
-unfolding laid_files
+unfolding placed_files
 frame_found l s laid k =
     let a = file_after l (frames_at l k.group) k.files k.file k.files_behind in
     let b = section_after l k.file a.0 k.sections s k.sections_behind in
@@ -426,9 +426,9 @@ frame_found l s laid k =
     let base : part_address (part_with role.EhFrame l.parts) ≡ address_of_part (part_with role.EhFrame l.parts) = base_is (part_with role.EhFrame l.parts) in
     record {
       base = a.0;
-      filed = subst (λ (fs : List File). Contains (laid_from l (frames_at l k.group) fs) (laid_file l a.0 k.file)) (sym k.filed) a.1;
+      filed = subst (λ (fs : List File). Contains (placed_from l (frames_at l k.group) fs) (placed_file l a.0 k.file)) (sym k.filed) a.1;
       at = b.0;
-      listed = subst (λ (ss : List InputSection). Contains (laid_sections l k.file a.0 ss) (laid_section l k.file b.0 s)) (sym k.listed) b.1;
+      listed = subst (λ (ss : List InputSection). Contains (placed_sections l k.file a.0 ss) (placed_section l k.file b.0 s)) (sym k.listed) b.1;
       is = omega (arith, x, y, p, q, base);
     }
   where
@@ -446,7 +446,7 @@ frame_low l s laid k =
     let p = sums.files in
     let q = sums.sections in
     let most = sums.most in
-    let given = group_most l g (All-contains (λ (x : Group). All (LiesWell l) (laid_files l x)) l.groups g laid.inputs k.grouped) in
+    let given = group_most l g (All-contains (λ (x : Group). All (LiesWell l) (placed_files l x)) l.groups g laid.inputs k.grouped) in
     let fits = prefix_fits (λ (x : Group). length (content l role.EhFrame x)) l.groups j g at in
     let whole = joined_length (content l role.EhFrame) l.groups in
     let top = part_ends l laid in
@@ -457,15 +457,15 @@ frame_low l s laid k =
     base_is None = refl
     base_is (Some p) = refl
 
-framed_reads : (t : InputSection) (l : Layout) (f : File) (at : ℕ) (s : InputSection) → t ≡ framed l f at s → is_read t ≡ true
+framed_reads : (t : InputSection) (l : Layout) (f : File) (at : ℕ) (s : InputSection) → t ≡ placed_frames l f at s → is_read t ≡ true
 framed_reads t l f at s e = ap is_read e
 
-frames_kept : (l : Layout) (item : Item) (s : InputSection) → IsLaidOut l → (k : IsFrameInput l s) → item ≡ frames_item l k.file s (frames_address l s k) → IsLaidItem l item
+frames_kept : (l : Layout) (item : Item) (s : InputSection) → IsLaidOut l → (k : IsFrameInput l s) → item ≡ frames_item l k.file s (frames_address l s k) → IsPlacedItem l item
 frames_kept l item s laid k is =
     let found = frame_found l s laid k in
-    let t = laid_section l k.file found.at s in
-    let same : t ≡ framed l k.file found.at s = laid_framed l k.file found.at s k.frame in
-    let input : IsLaid l t = record { group = k.group; grouped = k.grouped; file = laid_file l found.base k.file; filed = found.filed; owner = laid_file l found.base k.file; listed = Own refl found.listed } in
+    let t = placed_section l k.file found.at s in
+    let same : t ≡ placed_frames l k.file found.at s = laid_framed l k.file found.at s k.frame in
+    let input : IsPlacedSection l t = record { group = k.group; grouped = k.grouped; file = placed_file l found.base k.file; filed = found.filed; owner = placed_file l found.base k.file; listed = Own refl found.listed } in
     let small = (each_at (SectionLies l) l t laid.inputs input).small in
     let here : t.address ≡ found.at = ap (λ (x : InputSection). x.address) same in
     let low = frame_low l s laid k in
@@ -477,16 +477,16 @@ frames_kept l item s laid k is =
         input = input;
         reads = framed_reads t l k.file found.at s same;
         room = λ plain. absurd (let frame : is_frame t.slot ≡ true = ap (λ (x : InputSection). is_frame x.slot) same in let both : true ≡ false = sym frame ∙ plain in cc);
-        written = ap (is_dropped l) same ∙ role_is_written l role.EhFrame k.written;
+        written = ap (is_omitted l) same ∙ role_is_written l role.EhFrame k.written;
       };
-      is = is ∙ sym (framed_item l k.file found.base found.at (frames_address l s k) s laid (file_listed l s k k.file (file_here l s k)) at) ∙ ap (λ (x : InputSection). item_of l (laid_file l found.base k.file) x) (sym same);
+      is = is ∙ sym (framed_item l k.file found.base found.at (frames_address l s k) s laid (file_listed l s k k.file (file_here l s k)) at) ∙ ap (λ (x : InputSection). item_of l (placed_file l found.base k.file) x) (sym same);
     }
 
 -- ---- items
 
-pub kept_laid : KeptIsLaid
+pub kept_laid : KeptItemsArePlaced
 kept_laid = λ l item kind laid kept. by_kept l item kind laid kept
   where
-    by_kept : (l : Layout) (item : Item) → is_partial_link l.kind ≡ false → IsLaidOut l → IsKept l item → IsLaidItem l item
+    by_kept : (l : Layout) (item : Item) → is_partial_link l.kind ≡ false → IsLaidOut l → IsKept l item → IsPlacedItem l item
     by_kept l item kind laid (OfSection s k is) = section_item l item s kind laid k is
     by_kept l item kind laid (OfFrames s k is) = frames_kept l item s laid k is

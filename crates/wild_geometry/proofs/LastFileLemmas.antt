@@ -6,10 +6,10 @@ use Rattle.std.proofs.lemmas.List.{append-nil, append_assoc}
 use Rattle.wild_types.specs.declared.part.Role.TheVariants as role
 use Rattle.wild_types.specs.declared.file.Group.{Group}
 use Rattle.wild_types.specs.declared.layout.Layout.{Layout}
-use Rattle.wild_types.specs.FilePlaces.{file_misplaced}
+use Rattle.wild_types.specs.FilePlaces.{first_misplaced_file}
 use Rattle.wild_needs.specs.DynamicStrings.{needed_entries}
-use Rattle.wild_tables.specs.Dynamic.{entries_bytes, dynamic_bytes}
-use Rattle.wild_tables.proofs.DynamicLemmas.{entries_joined}
+use Rattle.wild_table_formats.specs.DynamicSection.{entries_bytes, dynamic_bytes}
+use Rattle.wild_table_formats.proofs.DynamicLemmas.{entries_joined}
 use Rattle.wild_layout.specs.Content.{dynamic_room, content}
 use Rattle.wild_layout.specs.TablePlaces.{table_bytes, all_needed}
 use Rattle.wild_geometry.proofs.ContentLemmas.{dynamic_content}
@@ -39,7 +39,7 @@ groups_last l g (x ∷ xs) h =
           | inr f ↦ ne_eqb (suc k + 1) (suc n) (λ e. eqb-false (k + 1) n f (omega arith)) ∙ sym f
         ]
 
-pub dynamic_table : (l : Layout) → 1 ≤ length l.groups → file_misplaced true 0 l.groups ≡ None → table_bytes l role.Dynamic ≡ entries_bytes (all_needed l) ++ dynamic_bytes l (dynamic_room l)
+pub dynamic_table : (l : Layout) → 1 ≤ length l.groups → first_misplaced_file true 0 l.groups ≡ None → table_bytes l role.Dynamic ≡ entries_bytes (all_needed l) ++ dynamic_bytes l (dynamic_room l)
 dynamic_table l some h = by_groups l.groups some (λ k d m. has_last-group l.groups h k d m)
   where
     by_groups : (gs : List Group) → 1 ≤ length gs → ((k : ℕ) (d : Group) → k < length gs → has_last (get_or gs k d) ≡ (k + 1 == length gs)) → flat_map (content l role.Dynamic) gs ≡ entries_bytes (flat_map (needed_entries l) gs) ++ dynamic_bytes l (dynamic_room l)

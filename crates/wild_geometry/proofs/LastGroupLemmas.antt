@@ -5,11 +5,11 @@ use Rattle.std.specs.List.{list_any}
 use Rattle.std.proofs.lemmas.Bool.{cases_Bool, and_parts, eq-eqb, ne_eqb, eqb-true, eqb-false}
 use Rattle.wild_types.specs.declared.file.File.{File}
 use Rattle.wild_types.specs.declared.file.Group.{Group}
-use Rattle.wild_types.specs.FilePlaces.{bool_eq, file_placed, later_placed, files_placed, file_misplaced}
+use Rattle.wild_types.specs.FilePlaces.{bool_eq, file_position_fits, later_positions_fit, group_positions_fit, first_misplaced_file}
 use Rattle.wild_types.specs.FileRoles.{is_prelude, is_epilogue}
 use Rattle.wild_types.specs.Lists.{total}
 use Rattle.wild_types.proofs.FileLemmas.{same_bool}
-use Rattle.wild_needs.specs.Needs.{last_of}
+use Rattle.wild_needs.specs.Needs.{bytes_if_last}
 pub use Rattle.wild_needs.specs.Needs.{has_last}
 
 -- a number, or none
@@ -17,7 +17,7 @@ abbrev pub some_if : ℕ → Bool → ℕ
 some_if a b = if b then a else 0
 
 -- one more file in front
-last_step : (a : ℕ) (last own : Bool) (fs : List File) → own ≡ (last && length fs == 0) → total (λ (x : File). last_of x.role a) fs ≡ (if last then (if length fs == 0 then 0 else a) else 0) → (if own then a else 0) + total (λ (x : File). last_of x.role a) fs ≡ (if last then a else 0)
+last_step : (a : ℕ) (last own : Bool) (fs : List File) → own ≡ (last && length fs == 0) → total (λ (x : File). bytes_if_last x.role a) fs ≡ (if last then (if length fs == 0 then 0 else a) else 0) → (if own then a else 0) + total (λ (x : File). bytes_if_last x.role a) fs ≡ (if last then a else 0)
 last_step a true own [] e h = rw e (omega arith)
 last_step a true own (g ∷ gs) e h =
     let n = ne_eqb (length (g ∷ gs)) 0 (λ z. omega arith) in
@@ -26,22 +26,22 @@ last_step a true own (g ∷ gs) e h =
     rw none (omega arith)
 last_step a false own fs e h = rw e (omega arith)
 
-later_last : (a : ℕ) (last : Bool) (fs : List File) → later_placed last fs ≡ true → total (λ (f : File). last_of f.role a) fs ≡ (if last then (if length fs == 0 then 0 else a) else 0)
+later_last : (a : ℕ) (last : Bool) (fs : List File) → later_positions_fit last fs ≡ true → total (λ (f : File). bytes_if_last f.role a) fs ≡ (if last then (if length fs == 0 then 0 else a) else 0)
 later_last a true [] h = refl
 later_last a false [] h = refl
 later_last a last (f ∷ fs) h =
     let n = ne_eqb (length (f ∷ fs)) 0 (λ z. omega arith) in
-    let p = and_parts (file_placed false (last && length fs == 0) f) (later_placed last fs) h in
+    let p = and_parts (file_position_fits false (last && length fs == 0) f) (later_positions_fit last fs) h in
     let e = same_bool (is_epilogue f.role) (last && length fs == 0) (and_parts (bool_eq (is_prelude f.role) false) (bool_eq (is_epilogue f.role) (last && length fs == 0)) p.0).1 in
     rw n (last_step a last (is_epilogue f.role) fs e (later_last a last fs p.1))
 
 -- a group has one last file where it is the last group, and none elsewhere
-files_last : (a : ℕ) (first last : Bool) (fs : List File) → files_placed first last fs ≡ true → total (λ (f : File). last_of f.role a) fs ≡ (if last then a else 0)
+files_last : (a : ℕ) (first last : Bool) (fs : List File) → group_positions_fit first last fs ≡ true → total (λ (f : File). bytes_if_last f.role a) fs ≡ (if last then a else 0)
 files_last a true last [] h = cc
 files_last a false true [] h = cc
 files_last a false false [] h = refl
 files_last a first last (f ∷ fs) h =
-    let p = and_parts (file_placed first (last && length fs == 0) f) (later_placed last fs) h in
+    let p = and_parts (file_position_fits first (last && length fs == 0) f) (later_positions_fit last fs) h in
     let e = same_bool (is_epilogue f.role) (last && length fs == 0) (and_parts (bool_eq (is_prelude f.role) first) (bool_eq (is_epilogue f.role) (last && length fs == 0)) p.0).1 in
     last_step a last (is_epilogue f.role) fs e (later_last a last fs p.1)
 
@@ -53,15 +53,15 @@ same_test a b c d f g =
     ]
 
 -- the same of group number k
-pub group_last : (a : ℕ) (first : Bool) (i : ℕ) (gs : List Group) → file_misplaced first i gs ≡ None → (k : ℕ) (d : Group) → k < length gs → total (λ (f : File). last_of f.role a) (get_or gs k d).files ≡ (if k + 1 == length gs then a else 0)
+pub group_last : (a : ℕ) (first : Bool) (i : ℕ) (gs : List Group) → first_misplaced_file first i gs ≡ None → (k : ℕ) (d : Group) → k < length gs → total (λ (f : File). bytes_if_last f.role a) (get_or gs k d).files ≡ (if k + 1 == length gs then a else 0)
 group_last a first i [] h k d l = absurd (omega arith)
 group_last a first i (g ∷ gs) h zero d l =
-    elim (cases_Bool (files_placed first (length gs == 0) g.files)) [
+    elim (cases_Bool (group_positions_fit first (length gs == 0) g.files)) [
       | inl t ↦ files_last a first (length gs == 0) g.files t ∙ ap (some_if a) (same_test (length gs) 0 (0 + 1) (length (g ∷ gs)) (λ e. omega arith) (λ e. omega arith))
       | inr f ↦ cc (rw f at h)
     ]
 group_last a first i (g ∷ gs) h (suc k) d l =
-    elim (cases_Bool (files_placed first (length gs == 0) g.files)) [
+    elim (cases_Bool (group_positions_fit first (length gs == 0) g.files)) [
       | inl t ↦ group_last a false (i + 1) gs (rw t at h) k d (omega arith) ∙ ap (some_if a) (same_test (k + 1) (length gs) (suc k + 1) (length (g ∷ gs)) (λ e. omega arith) (λ e. omega arith))
       | inr f ↦ cc (rw f at h)
     ]
@@ -69,7 +69,7 @@ group_last a first i (g ∷ gs) h (suc k) d l =
 -- ---- whether a group has it
 
 -- where no file is the last one, none is found
-none_last : (fs : List File) → total (λ (f : File). last_of f.role 1) fs ≡ 0 → list_any (λ (f : File). is_epilogue f.role) fs ≡ false
+none_last : (fs : List File) → total (λ (f : File). bytes_if_last f.role 1) fs ≡ 0 → list_any (λ (f : File). is_epilogue f.role) fs ≡ false
 none_last [] h = refl
 none_last (f ∷ fs) h =
     elim (cases_Bool (is_epilogue f.role)) [
@@ -78,7 +78,7 @@ none_last (f ∷ fs) h =
     ]
 
 -- and where one is, it is
-some_last : (fs : List File) → total (λ (f : File). last_of f.role 1) fs ≡ 1 → list_any (λ (f : File). is_epilogue f.role) fs ≡ true
+some_last : (fs : List File) → total (λ (f : File). bytes_if_last f.role 1) fs ≡ 1 → list_any (λ (f : File). is_epilogue f.role) fs ≡ true
 some_last [] h = cc
 some_last (f ∷ fs) h =
     elim (cases_Bool (is_epilogue f.role)) [
@@ -87,7 +87,7 @@ some_last (f ∷ fs) h =
     ]
 
 -- the last group has the last file
-pub has_last-group : (gs : List Group) → file_misplaced true 0 gs ≡ None → (k : ℕ) (d : Group) → k < length gs → has_last (get_or gs k d) ≡ (k + 1 == length gs)
+pub has_last-group : (gs : List Group) → first_misplaced_file true 0 gs ≡ None → (k : ℕ) (d : Group) → k < length gs → has_last (get_or gs k d) ≡ (k + 1 == length gs)
 has_last-group gs h k d l =
     let one = group_last 1 true 0 gs h k d l in
     elim (cases_Bool (k + 1 == length gs)) [

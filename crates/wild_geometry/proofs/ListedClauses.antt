@@ -7,14 +7,14 @@ use Rattle.wild_types.specs.declared.symbol.Resolution.{Resolution}
 use Rattle.wild_types.specs.declared.symbol.Symbol.{Symbol}
 use Rattle.wild_types.specs.declared.layout.DynamicSymbol.{DynamicSymbol}
 use Rattle.wild_types.specs.declared.layout.Layout.{Layout}
-use Rattle.wild_needs.specs.DynamicSymbols.{dynamic_symbols, is_named, has_position, dynsym_of, position_fits, misplaced, symbol_listed_fits, listed_fits, misfit, first_listed}
+use Rattle.wild_needs.specs.DynamicSymbols.{dynamic_symbols, is_named, has_position, dynsym_of, position_fits, misplaced, symbol_listed_fits, listed_fits, first_misplaced_listed, first_listed}
 use Rattle.wild_types.specs.Lists.{first_failing, unless}
-use Rattle.wild_clauses.specs.ZeroFree.{name_fits, option_names_fit, section_name_fits, symbol_name_fits, group_names_fit, listed_name_fits}
-use Rattle.wild_clauses.specs.ClauseTests.{fails, check_dynsyms, check_names}
+use Rattle.wild_plan_rules.specs.ZeroFree.{name_fits, option_names_fit, section_name_fits, symbol_name_fits, group_names_fit, listed_name_fits}
+use Rattle.wild_plan_rules.specs.ClauseTests.{fails, check_dynsyms, check_names}
 use Rattle.wild_types.proofs.ListLemmas.{All-from_none_fails}
-use Rattle.wild_clauses.proofs.ClauseLemmas.{None-from_fails}
+use Rattle.wild_plan_rules.proofs.ClauseLemmas.{None-from_fails}
 use Rattle.wild_hashes.specs.Reading.{HasNoZero}
-use Rattle.wild_layout.specs.ListedSymbols.{IsEntry, IsThere, AreListed}
+use Rattle.wild_layout.specs.ExportedSymbols.{IsEntry, IsThere, AreExported}
 use Rattle.wild_geometry.proofs.ClauseLemmas.{Both-from_first_error}
 
 -- ---- an index is the position of one symbol
@@ -60,10 +60,10 @@ step : (b : Bool) (rest : Option ℕ) (i : ℕ) → (if b then rest else Some i)
 step true rest i h = (refl, h)
 step false rest i h = cc
 
-are_there : (l : Layout) (p i : ℕ) (ds : List DynamicSymbol) → misfit l p i ds ≡ None → All (IsThere l) ds
+are_there : (l : Layout) (p i : ℕ) (ds : List DynamicSymbol) → first_misplaced_listed l p i ds ≡ None → All (IsThere l) ds
 are_there l p i [] h = All-nil (IsThere l)
 are_there l p i (d ∷ ds) h =
-    let a = step (listed_fits l p d) (misfit l (p + 1) (i + 1) ds) i h in
+    let a = step (listed_fits l p d) (first_misplaced_listed l (p + 1) (i + 1) ds) i h in
     All-cons (IsThere l) d ds (there_of l p d.symbol (slice_get l.symbols d.symbol) a.0) (are_there l (p + 1) (i + 1) ds a.1)
 
 -- ---- and has a name
@@ -90,10 +90,10 @@ names_fit l h =
 
 -- ---- both clauses
 
-pub AreListed-from_checks : (l : Layout) → check_dynsyms l ≡ Ok tt → check_names l ≡ Ok tt → AreListed l
+pub AreExported-from_checks : (l : Layout) → check_dynsyms l ≡ Ok tt → check_names l ≡ Ok tt → AreExported l
 unfolding check_dynsyms
-AreListed-from_checks l h names =
-    let a = Both-from_first_error (fails 13 (misplaced (dynamic_symbols l) 0 l.symbols)) (fails 13 (misfit l (first_listed l) 0 l.dynsyms)) h in
+AreExported-from_checks l h names =
+    let a = Both-from_first_error (fails 13 (misplaced (dynamic_symbols l) 0 l.symbols)) (fails 13 (first_misplaced_listed l (first_listed l) 0 l.dynsyms)) h in
     record {
       indexed = has_entry l (None-from_fails 13 _ a.first);
       there = are_there l (first_listed l) 0 l.dynsyms (None-from_fails 13 _ a.rest);

@@ -13,18 +13,18 @@ use Rattle.wild_types.specs.declared.part.Role.TheVariants as role
 use Rattle.wild_types.specs.declared.section.Segment.{Segment}
 use Rattle.wild_types.specs.declared.layout.Layout.{Layout}
 use Rattle.wild_types.specs.Kinds.{needs_dynamic, is_fixed_static}
-use Rattle.wild_types.specs.Lookups.{is_hollow_at}
+use Rattle.wild_types.specs.Lookups.{is_header_only_at}
 use Rattle.wild_types.specs.Parts.{role_place, has_role, part_with, is_table_role, is_look_up_role, has_hashes}
-use Rattle.wild_clauses.specs.Places.{within}
-use Rattle.wild_clauses.specs.Segments.{size_in_file, is_segment_of, dynamic_astray}
-use Rattle.wild_clauses.specs.LoadedTables.{begins_behind, entries_follow, rest_of_table, is_asked_whole, holds_part, carries_part, carries_rest, carries_table, table_is_loaded}
-use Rattle.wild_layout.specs.Loadable.{IsStatic, HasSegment, IsCarriedWhole, BeginsBehind, AreCarriedTogether}
-use Rattle.wild_geometry.proofs.LaidLemmas.{Laid}
+use Rattle.wild_plan_rules.specs.Places.{within}
+use Rattle.wild_plan_rules.specs.Segments.{size_in_file, is_segment_of, dynamic_astray}
+use Rattle.wild_plan_rules.specs.LoadedTables.{begins_at_end_of, entries_follow, rest_of_table, is_read_from_one_segment, holds_part, carries_part, carries_rest, carries_table, table_is_loaded}
+use Rattle.wild_layout.specs.Loadable.{IsStatic, HasSegment, IsCarriedWhole, BeginsAtEnd, AreCarriedTogether}
+use Rattle.wild_geometry.proofs.PlacedSectionLemmas.{Laid}
 use Rattle.wild_geometry.proofs.RoleLemmas.{FoundAt-from_find, no_count, nothing_shared}
 use Rattle.wild_records.specs.declared.dynamic.DynamicEntry.{DynamicEntry}
 use Rattle.wild_needs.specs.Dynamic.{dynamic_entries, dynamic_count}
-use Rattle.wild_loader.specs.Laws.{before_null}
-use Rattle.wild_tables.proofs.FoundLemmas.{behind_null}
+use Rattle.wild_loader.specs.Laws.{entries_before_null}
+use Rattle.wild_table_formats.proofs.FoundLemmas.{behind_null}
 use Rattle.wild_geometry.proofs.TableLemmas.{same_role}
 
 -- ---- the segment of the dynamic section
@@ -96,7 +96,7 @@ no_dynamic_part l h fixed = none_found (has_role role.Dynamic) l.parts (unasked 
 some_count : (l : Layout) → needs_dynamic l.kind ≡ true → dynamic_count l ≡ 0 → ⊥
 some_count l needs h =
     let d : DynamicEntry = record { tag = 1; value = 0 } in
-    let P : List DynamicEntry → Type 0 = λ es. before_null (es ++ d ∷ []) ≡ before_null es in
+    let P : List DynamicEntry → Type 0 = λ es. entries_before_null (es ++ d ∷ []) ≡ entries_before_null es in
     cc (subst P (nil_from_length (dynamic_entries l) h) (behind_null l (d ∷ []) needs))
 
 pub dynamic_part : (l : Layout) → Laid l → needs_dynamic l.kind ≡ true → (p : Part) × (part_with role.Dynamic l.parts ≡ Some p)
@@ -115,17 +115,17 @@ record CarriesTable (l : Layout) (p : Part) (rest : Option Part) : Type 0 where
   part : carries_part l p segment ≡ true
   behind : carries_rest l rest segment ≡ true
 
-table_carried : (l : Layout) → Laid l → needs_dynamic l.kind ≡ true → (r : Role) (p : Part) → is_asked_whole l r ≡ true → part_with r l.parts ≡ Some p → 1 ≤ p.size → CarriesTable l p (rest_of_table l.parts p)
+table_carried : (l : Layout) → Laid l → needs_dynamic l.kind ≡ true → (r : Role) (p : Part) → is_read_from_one_segment l r ≡ true → part_with r l.parts ≡ Some p → 1 ≤ p.size → CarriesTable l p (rest_of_table l.parts p)
 table_carried l h needs r p asked there some =
     let f = FoundAt-from_find (has_role r) l.parts p there in
     let P : Part → Type 0 = λ x. table_is_loaded l x ≡ true in
     let loaded = subst P (f.is p) (h.segments.tables f.place p f.within) in
     let is = same_role p.role r (eqb-true _ _ f.passes) in
-    let whole = ap (is_asked_whole l) is ∙ asked in
+    let whole = ap (is_read_from_one_segment l) is ∙ asked in
     let size = ne_eqb p.size 0 (λ e. omega arith) in
-    let none : (not (needs_dynamic l.kind) || not (is_asked_whole l p.role) || p.size == 0) ≡ false = rw (needs, whole, size) refl in
+    let none : (not (needs_dynamic l.kind) || not (is_read_from_one_segment l p.role) || p.size == 0) ≡ false = rw (needs, whole, size) refl in
     let test = carries_table l p (rest_of_table l.parts p) in
-    let found = Found-from_list_any test l.segments (or_other (not (needs_dynamic l.kind) || not (is_asked_whole l p.role) || p.size == 0) (list_any test l.segments) loaded none) in
+    let found = Found-from_list_any test l.segments (or_other (not (needs_dynamic l.kind) || not (is_read_from_one_segment l p.role) || p.size == 0) (list_any test l.segments) loaded none) in
     let both = and_parts (carries_part l p found.item) (carries_rest l (rest_of_table l.parts p) found.item) found.passes in
     record { segment = found.item; listed = found.listed; part = both.0; behind = both.1 }
 
@@ -136,14 +136,14 @@ record HasPart (p : Part) (g : Segment) : Type 0 where
   high : p.offset + p.size ≤ g.offset + g.file_size
   level : p.offset + g.address ≡ p.address + g.offset
 
-HasPart-from_test : (l : Layout) (p : Part) (g : Segment) → is_hollow_at l p.section ≡ false → carries_part l p g ≡ true → HasPart p g
+HasPart-from_test : (l : Layout) (p : Part) (g : Segment) → is_header_only_at l p.section ≡ false → carries_part l p g ≡ true → HasPart p g
 HasPart-from_test l p g written h =
     let a = and_parts (g.kind == pt_load) (holds_part l p g) h in
     let b = and_parts (within g.offset g.file_size p.offset p.size) (p.offset + g.address == p.address + g.offset) (rw written at a.1) in
     let c = and_parts (nat_le g.offset p.offset) (nat_le (p.offset + p.size) (g.offset + g.file_size)) b.0 in
     record { loaded = eqb-true _ _ a.0; low = leb-true _ _ c.0; high = leb-true _ _ c.1; level = eqb-true _ _ b.1 }
 
-whole_carried : (l : Layout) → Laid l → needs_dynamic l.kind ≡ true → (r : Role) (p : Part) → is_asked_whole l r ≡ true → part_with r l.parts ≡ Some p → is_hollow_at l p.section ≡ false → 1 ≤ p.size → IsCarriedWhole l p
+whole_carried : (l : Layout) → Laid l → needs_dynamic l.kind ≡ true → (r : Role) (p : Part) → is_read_from_one_segment l r ≡ true → part_with r l.parts ≡ Some p → is_header_only_at l p.section ≡ false → 1 ≤ p.size → IsCarriedWhole l p
 whole_carried l h needs r p asked there written some =
     let c = table_carried l h needs r p asked there some in
     let has = HasPart-from_test l p c.segment written c.part in
@@ -152,11 +152,11 @@ whole_carried l h needs r p asked there written some =
     let level = has.level in
     record { segment = c.segment; listed = c.listed; loaded = has.loaded; from = omega arith; to = omega arith; distance = omega arith }
 
-pub table_carried_whole : (l : Layout) → Laid l → needs_dynamic l.kind ≡ true → (r : Role) (p : Part) → is_table_role r ≡ true → part_with r l.parts ≡ Some p → is_hollow_at l p.section ≡ false → 1 ≤ p.size → IsCarriedWhole l p
+pub table_carried_whole : (l : Layout) → Laid l → needs_dynamic l.kind ≡ true → (r : Role) (p : Part) → is_table_role r ≡ true → part_with r l.parts ≡ Some p → is_header_only_at l p.section ≡ false → 1 ≤ p.size → IsCarriedWhole l p
 table_carried_whole l h needs r p table = whole_carried l h needs r p (rw table refl)
 
 -- the tables in which names are looked up
-pub look_up_carried_whole : (l : Layout) → Laid l → needs_dynamic l.kind ≡ true → has_hashes l ≡ true → (r : Role) (p : Part) → is_look_up_role r ≡ true → part_with r l.parts ≡ Some p → is_hollow_at l p.section ≡ false → 1 ≤ p.size → IsCarriedWhole l p
+pub look_up_carried_whole : (l : Layout) → Laid l → needs_dynamic l.kind ≡ true → has_hashes l ≡ true → (r : Role) (p : Part) → is_look_up_role r ≡ true → part_with r l.parts ≡ Some p → is_header_only_at l p.section ≡ false → 1 ≤ p.size → IsCarriedWhole l p
 look_up_carried_whole l h needs hashes r p look = whole_carried l h needs r p (either (is_table_role r) (is_look_up_role r) (has_hashes l) look hashes)
   where
     either : (a b c : Bool) → b ≡ true → c ≡ true → (a || (b && c)) ≡ true
@@ -165,17 +165,17 @@ look_up_carried_whole l h needs hashes r p look = whole_carried l h needs r p (e
 
 -- ---- entries with addends are one table
 
-pub BeginsBehind-from_laid : (l : Layout) → Laid l → (p q : Part) → part_with role.RelaDynRelative l.parts ≡ Some p → part_with role.RelaDynGeneral l.parts ≡ Some q → BeginsBehind p q
-BeginsBehind-from_laid l h p q first second =
+pub BeginsAtEnd-from_laid : (l : Layout) → Laid l → (p q : Part) → part_with role.RelaDynRelative l.parts ≡ Some p → part_with role.RelaDynGeneral l.parts ≡ Some q → BeginsAtEnd p q
+BeginsAtEnd-from_laid l h p q first second =
     let f = FoundAt-from_find (has_role role.RelaDynGeneral) l.parts q second in
     let P : Part → Type 0 = λ x. entries_follow l.parts x ≡ true in
     let follow = subst P (f.is q) (h.roles.follow f.place q f.within) in
-    let behind = implied (has_role role.RelaDynGeneral q) (begins_behind (part_with role.RelaDynRelative l.parts) q) follow f.passes in
-    let Q : Option Part → Type 0 = λ o. begins_behind o q ≡ true in
+    let behind = implied (has_role role.RelaDynGeneral q) (begins_at_end_of (part_with role.RelaDynRelative l.parts) q) follow f.passes in
+    let Q : Option Part → Type 0 = λ o. begins_at_end_of o q ≡ true in
     let both = and_parts (q.offset == p.offset + p.size) (q.address == p.address + p.size) (subst Q first behind) in
     record { offset = eqb-true _ _ both.0; address = eqb-true _ _ both.1 }
 
-pub AreCarriedTogether-from_laid : (l : Layout) → Laid l → needs_dynamic l.kind ≡ true → (p q : Part) → part_with role.RelaDynRelative l.parts ≡ Some p → part_with role.RelaDynGeneral l.parts ≡ Some q → is_hollow_at l p.section ≡ false → is_hollow_at l q.section ≡ false → 1 ≤ p.size → 1 ≤ q.size → AreCarriedTogether l p q
+pub AreCarriedTogether-from_laid : (l : Layout) → Laid l → needs_dynamic l.kind ≡ true → (p q : Part) → part_with role.RelaDynRelative l.parts ≡ Some p → part_with role.RelaDynGeneral l.parts ≡ Some q → is_header_only_at l p.section ≡ false → is_header_only_at l q.section ≡ false → 1 ≤ p.size → 1 ≤ q.size → AreCarriedTogether l p q
 AreCarriedTogether-from_laid l h needs p q first second written other some more =
     let c = table_carried l h needs role.RelaDynRelative p refl first some in
     let g = c.segment in

@@ -12,15 +12,15 @@ use Rattle.wild_types.specs.declared.input.InputSection.{InputSection}
 use Rattle.wild_types.specs.declared.file.File.{File}
 use Rattle.wild_types.specs.declared.layout.Layout.{Layout}
 use Rattle.wild_types.specs.Lookups.{is_rela}
-use Rattle.wild_laid.specs.Turned.{turned_offset, turned, as_turned}
-use Rattle.wild_laid.specs.Laid.{base_of, counted_from, relocations_at, target_relocations, tabled}
-use Rattle.wild_clauses.specs.Partial.{is_group, has_entries, table_fits, file_tables_fit, table_has_data}
+use Rattle.wild_placement.specs.ReversedWords.{reversed_offset, reversed_section, with_word_order}
+use Rattle.wild_placement.specs.PlacedSections.{base_of, counted_from, relocations_at, target_relocations, rela_with_target}
+use Rattle.wild_plan_rules.specs.Partial.{is_group, has_entries, table_fits, file_tables_fit, table_has_data}
 use Rattle.wild_layout.specs.Sites.{section_bytes}
 use Rattle.wild_layout.specs.SectionPlaces.{FieldLies}
 use Rattle.wild_layout.specs.Geometry.{NamesSymbol}
 use Rattle.wild_layout.proofs.DebugLemmas.{length-debug_bytes}
 use Rattle.wild_layout.proofs.PartialLemmas.{is_own, length-rela_bytes_of, length-group_words, section_bytes_zeros, section_bytes_debug, section_bytes_rela, section_bytes_group}
-use Rattle.wild_geometry.proofs.LaidLemmas.{Laid}
+use Rattle.wild_geometry.proofs.PlacedSectionLemmas.{Laid}
 use Rattle.wild_geometry.proofs.SiteLemmas.{length-section_bytes}
 use Rattle.wild_geometry.proofs.StandingLemmas.{EachIn}
 use Rattle.wild_geometry.proofs.SectionLemmas.{Holds, Known, each_known, is_whole, length_of_data}
@@ -77,25 +77,25 @@ pub record IsTabled (l : Layout) (f : File) (s : InputSection) : Type 0 where
 abbrev pub IsTabledTable : Layout → File → InputSection → Type 0
 IsTabledTable l f s = is_rela s.slot ≡ true → IsTabled l f s
 
-pub long_tabled : (l : Layout) (f : File) (s : InputSection) → Known l s → is_rela s.slot ≡ true → IsTabled l f s → IsLong l (tabled f s)
+pub long_tabled : (l : Layout) (f : File) (s : InputSection) → Known l s → is_rela s.slot ≡ true → IsTabled l f s → IsLong l (rela_with_target f s)
 long_tabled l f s h e t g =
     let n = with_data s h.filled (rw e refl) in
-    ap length (section_bytes_rela l g (tabled f s) refl n) ∙ length-rela_bytes_of l (tabled f s) ∙ sym t.entries
+    ap length (section_bytes_rela l g (rela_with_target f s) refl n) ∙ length-rela_bytes_of l (rela_with_target f s) ∙ sym t.entries
 
-turned_named : (l : Layout) (s : InputSection) → All (NamesSymbol l) s.relocations → All (NamesSymbol l) (as_turned s).relocations
-unfolding as_turned
+turned_named : (l : Layout) (s : InputSection) → All (NamesSymbol l) s.relocations → All (NamesSymbol l) (with_word_order s).relocations
+unfolding with_word_order
 turned_named l s h = by s.reversed
   where
-    by : (b : Bool) → All (NamesSymbol l) (if b then turned s else s).relocations
-    by true = All-map (NamesSymbol l) (turned_offset s.size) s.relocations h
+    by : (b : Bool) → All (NamesSymbol l) (if b then reversed_section s else s).relocations
+    by true = All-map (NamesSymbol l) (reversed_offset s.size) s.relocations h
     by false = h
 
-turned_count : (s : InputSection) → length (as_turned s).relocations ≡ length s.relocations
-unfolding as_turned
+turned_count : (s : InputSection) → length (with_word_order s).relocations ≡ length s.relocations
+unfolding with_word_order
 turned_count s = by s.reversed
   where
-    by : (b : Bool) → length (if b then turned s else s).relocations ≡ length s.relocations
-    by true = length-map s.relocations (turned_offset s.size)
+    by : (b : Bool) → length (if b then reversed_section s else s).relocations ≡ length s.relocations
+    by true = length-map s.relocations (reversed_offset s.size)
     by false = refl
 
 -- of the target, if it is there
@@ -108,9 +108,9 @@ target_entries l ss k size h None is t = cc
 target_entries l ss k size h (Some s) is t =
     let known = holds_at (Known l) ss k s is h in
     let many = eqb-true _ _ t in
-    let turned = turned_count s in
-    let long = length-map (as_turned s).relocations (counted_from (base_of s)) in
-    record { many = omega arith; named = All-map (NamesSymbol l) (counted_from (base_of s)) (as_turned s).relocations (turned_named l s known.holds.symbols) }
+    let reversed_section = turned_count s in
+    let long = length-map (with_word_order s).relocations (counted_from (base_of s)) in
+    record { many = omega arith; named = All-map (NamesSymbol l) (counted_from (base_of s)) (with_word_order s).relocations (turned_named l s known.holds.symbols) }
 
 pub each_tabled : (l : Layout) → Laid l → EachIn l (IsTabledTable l)
 each_tabled l h = λ i g m j f n k s o rela.

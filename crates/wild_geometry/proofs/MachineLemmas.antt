@@ -27,7 +27,7 @@ use Rattle.wild_loader.specs.declared.memory.Machine.TheVariants as processors
 use Rattle.wild_loader.specs.declared.kind.DynamicKind.{DynamicKind}
 use Rattle.wild_loader.specs.declared.kind.DynamicKind.TheVariants as kinds
 use Rattle.wild_loader.specs.Changes.{kind_of}
-use Rattle.wild_meaning.specs.Linked.{processor_of}
+use Rattle.wild_meaning.specs.LinkedImage.{processor_of}
 use Rattle.wild_meaning.specs.Thread.{rounded_up, thread_pointer_of}
 use Rattle.wild_geometry.specs.EntryKinds.{loaded_kind}
 use Rattle.wild_geometry.specs.MachineFacts.{StoresSize, MachineFacts, RowsAreRead}

@@ -25,8 +25,8 @@ use Rattle.wild_frames.specs.declared.table.Fde.{Fde}
 use Rattle.wild_frames.specs.Frames.{fdes_in}
 use Rattle.wild_frames.specs.Table.{entry_of, rank_of, header_of, put_in_order, in_order, hdr_bytes, entry_bytes, table_of}
 use Rattle.wild_frames.proofs.TableLemmas.{length-hdr, length-entry}
-use Rattle.wild_laid.specs.FrameInputs.{frames_of, kept_size, fde_count}
-use Rattle.wild_laid.specs.Laid.{behind, file_frames, frames_at, all_fdes}
+use Rattle.wild_placement.specs.FrameInputs.{frames_of, kept_size, fde_count}
+use Rattle.wild_placement.specs.PlacedSections.{behind, file_frames, frames_at, all_fdes}
 use Rattle.wild_needs.specs.Needs.{search_table_room, build_id_room, property_room, properties_room}
 use Rattle.wild_layout.specs.Notes.{gnu_note, build_id_note, value_bytes, property_bytes, property_note}
 use Rattle.wild_layout.specs.SearchTable.{fde_at, section_fdes, sections_fdes, files_fdes, group_fdes, layout_fdes, address_of_role, search_table}

@@ -7,8 +7,8 @@ use Rattle.wild_types.specs.declared.file.Group.{Group}
 use Rattle.wild_types.specs.declared.layout.Layout.{Layout}
 use Rattle.wild_types.specs.Lists.{through}
 use Rattle.wild_types.specs.Lookups.{files_of, file_of}
-use Rattle.wild_laid.specs.FrameInputs.{has_symbol}
-use Rattle.wild_clauses.specs.Indexes.{range_follows, or_place, range_out_of_order}
+use Rattle.wild_placement.specs.FrameInputs.{has_symbol}
+use Rattle.wild_plan_rules.specs.Indexes.{range_follows, or_place, range_out_of_order}
 
 -- no symbol before number end is in a file's range
 abbrev StartsAt : ℕ → File → Type 0

@@ -5,7 +5,7 @@ use Rattle.std.proofs.lemmas.Bool.{and_parts}
 use Rattle.wild_types.specs.declared.input.Slot.{Slot}
 use Rattle.wild_types.specs.declared.input.Slot.TheVariants as slot
 use Rattle.wild_types.specs.declared.input.InputSection.{InputSection}
-use Rattle.wild_types.specs.Lookups.{is_read, is_written, is_loaded, is_frame, is_debug, has_relocations, has_fields}
+use Rattle.wild_types.specs.Lookups.{is_read, has_written_relocations, is_loaded, is_frame, is_debug, has_relocations, has_fields}
 
 -- where a loader may apply relocations, they are written
 fields_of : (k : Slot) → has_relocations k ≡ true → has_fields k ≡ true
@@ -16,7 +16,7 @@ fields_of other h = cc
 pub read_fields : (s : InputSection) → is_read s ≡ true → has_fields s.slot ≡ true
 read_fields s read = fields_of s.slot (and_parts (has_relocations s.slot) (not s.nobits) read).0
 
-pub read_written : (s : InputSection) → is_read s ≡ true → is_written s ≡ true
+pub read_written : (s : InputSection) → is_read s ≡ true → has_written_relocations s ≡ true
 read_written s read = rw (read_fields s read) (and_parts (has_relocations s.slot) (not s.nobits) read).1
 
 -- debuggers do not read it

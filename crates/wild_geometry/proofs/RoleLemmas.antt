@@ -13,23 +13,23 @@ use Rattle.wild_types.specs.declared.part.Role.TheVariants as role
 use Rattle.wild_types.specs.declared.file.Group.{Group}
 use Rattle.wild_types.specs.declared.layout.Layout.{Layout}
 use Rattle.wild_types.specs.FilePlaces.{given}
-use Rattle.wild_clauses.specs.Contents.{has_share_for_each_part}
+use Rattle.wild_plan_rules.specs.Contents.{has_share_for_each_part}
 use Rattle.wild_needs.specs.Needs.{has_last, total_share, group_share}
-use Rattle.wild_clauses.specs.Counts.{role_given}
+use Rattle.wild_plan_rules.specs.Counts.{role_has_needed_part}
 use Rattle.wild_types.specs.Lists.{total}
-use Rattle.wild_types.specs.Lookups.{is_hollow_at}
+use Rattle.wild_types.specs.Lookups.{is_header_only_at}
 use Rattle.wild_needs.specs.Dynamic.{dynamic_count}
 use Rattle.wild_types.specs.Shares.{part_of_role, part_of, given_by, share_of}
 use Rattle.wild_records.specs.Dynamic.{dynamic_entry_size}
-use Rattle.wild_tables.specs.Dynamic.{dynamic_bytes}
-use Rattle.wild_tables.proofs.DynamicLemmas.{lengths}
+use Rattle.wild_table_formats.specs.DynamicSection.{dynamic_bytes}
+use Rattle.wild_table_formats.proofs.DynamicLemmas.{lengths}
 use Rattle.wild_types.specs.Parts.{role_place, has_role, part_with}
 use Rattle.wild_types.proofs.ListLemmas.{total-prefix}
 use Rattle.wild_types.proofs.PartLemmas.{not_raw}
-use Rattle.wild_layout.specs.Content.{room_behind, dynamic_room, content}
+use Rattle.wild_layout.specs.Content.{last_file_room, dynamic_room, content}
 use Rattle.wild_layout.specs.TablePlaces.{table_bytes, bytes_before, TableLies, HasTable}
-use Rattle.wild_layout.specs.Image.{given_before, table_piece, table_pieces, owned_pieces, group_pieces, pieces}
-use Rattle.wild_geometry.proofs.LaidLemmas.{Laid}
+use Rattle.wild_layout.specs.Image.{shares_before, table_piece, table_pieces, owned_pieces, group_pieces, pieces}
+use Rattle.wild_geometry.proofs.PlacedSectionLemmas.{Laid}
 use Rattle.wild_geometry.proofs.InterleaveLemmas.{Contains-flat_map_from}
 use Rattle.wild_geometry.proofs.OrderLemmas.{Takes, EndsBy-image}
 use Rattle.wild_geometry.proofs.ShareLemmas.{total_same, content_is_given, size_from_shares}
@@ -81,7 +81,7 @@ plain_nothing l r n (g ∷ gs) h =
 
 -- ---- the part of a role
 
-pub given_there : (l : Layout) (r : Role) → role_given l r ≡ true → list_any (has_role r) l.parts ≡ false → total_share l r ≡ 0
+pub given_there : (l : Layout) (r : Role) → role_has_needed_part l r ≡ true → list_any (has_role r) l.parts ≡ false → total_share l r ≡ 0
 given_there l r h none = eqb-true _ _ (behind (list_any (has_role r) l.parts) (total_share l r == 0) h none)
   where
     behind : (b c : Bool) → (b || c) ≡ true → b ≡ false → c ≡ true
@@ -110,7 +110,7 @@ no_room l h none =
     let each = holds_at (λ g. has_share_for_each_part (length l.parts) g ≡ true) l.groups (length l.groups - 1) item.item item.is h.shares.lengths in
     let long = eqb-true _ _ each in
     let share : share_of l (length l.groups - 1) role.Dynamic ≡ 0 = ap (given_by (part_of l role.Dynamic)) item.is ∙ past_end item.item.part_sizes (part_of l role.Dynamic) (omega arith) in
-    ap (room_behind l) item.is ∙ (omega arith)
+    ap (last_file_room l) item.is ∙ (omega arith)
 
 -- where the last group has nothing to write, there are no entries
 pub no_count : (l : Layout) → Laid l → total_share l role.Dynamic ≡ 0 → dynamic_count l ≡ 0
@@ -148,7 +148,7 @@ dynamic_nothing l h none shared =
 -- where the part of a role is not there, nothing has to be written in one
 pub nothing_shared : (l : Layout) → Laid l → (r : Role) → part_with r l.parts ≡ None → total_share l r ≡ 0
 nothing_shared l h r none =
-    let P : Role → Type 0 = λ s. role_given l s ≡ true in
+    let P : Role → Type 0 = λ s. role_has_needed_part l s ≡ true in
     let asked = subst P (role_at r) (h.roles.given (role_place r) role.Raw (role_listed r)) in
     given_there l r asked (none_passes (has_role r) l.parts none)
 
@@ -175,12 +175,12 @@ table_lies l h r some p i low is has =
     let offset_is = ap (λ (x : Part). x.offset) read in
     let raw = not_raw r (get_or l.parts i p) some role_is in
     let lengths : (j : ℕ) (g : Group) → j < length l.groups → length (content l r (get_or l.groups j g)) ≡ given i (get_or l.groups j g) = λ j g n. sym (ap (λ (q : Role). length (content l q (get_or l.groups j g))) role_is) ∙ content_is_given l h.sizes.parts h.shares h.roles.again h.needed i p low raw j g n in
-    let sums : (j : ℕ) → bytes_before l r j ≡ given_before l i j = λ j. total_same (λ (g : Group). length (content l r g)) (given i) l.groups j (λ k d m. lengths k d m) in
+    let sums : (j : ℕ) → bytes_before l r j ≡ shares_before l i j = λ j. total_same (λ (g : Group). length (content l r g)) (given i) l.groups j (λ k d m. lengths k d m) in
     let whole : total (λ (g : Group). length (content l r g)) l.groups ≡ total (given i) l.groups = subst (λ (gs : List Group). total (λ (g : Group). length (content l r g)) gs ≡ total (given i) gs) (take_all l.groups) (sums (length l.groups)) in
     let joined = length_joined (content l r) l.groups in
     let total_is = size_from_shares l.groups 0 l.parts h.shares.sums i i p (omega arith) low in
-    let section_is = ap (λ (x : Part). is_hollow_at l x.section) read in
-    let takes : is_hollow_at l p.section ≡ false → Takes l (get_or l.parts i p) = λ written. not_raw_takes l (get_or l.parts i p) (h.parts.room i p low) raw (section_is ∙ written) in
+    let section_is = ap (λ (x : Part). is_header_only_at l x.section) read in
+    let takes : is_header_only_at l p.section ≡ false → Takes l (get_or l.parts i p) = λ written. not_raw_takes l (get_or l.parts i p) (h.parts.room i p low) raw (section_is ∙ written) in
     record {
       listed = (i, low, read);
       has = has;
@@ -189,10 +189,10 @@ table_lies l h r some p i low is has =
       pieces = λ written j g m n. (
           let content_is = ap (λ (q : Role). content l q (get_or l.groups j g)) role_is in
           let long = ap length content_is in
-          let at = (get_or l.parts i p).offset + given_before l i j in
+          let at = (get_or l.parts i p).offset + shares_before l i j in
           let bs = content l (get_or l.parts i p).role (get_or l.groups j g) in
           let piece : Piece = record { at = at; bytes = bs } in
-          let here : Contains (table_piece l j (get_or l.groups j g) i (get_or l.parts i p)) piece = Contains-written (is_hollow_at l (get_or l.parts i p).section) at bs (section_is ∙ written) (omega arith) in
+          let here : Contains (table_piece l j (get_or l.groups j g) i (get_or l.parts i p)) piece = Contains-written (is_header_only_at l (get_or l.parts i p).section) at bs (section_is ∙ written) (omega arith) in
           let in_tables = Contains-flat_map_from (table_piece l j (get_or l.groups j g)) 0 l.parts i i p piece (omega arith) low here in
           let in_group = Contains-append_left (table_pieces l j (get_or l.groups j g)) (owned_pieces l (get_or l.groups j g)) piece in_tables in
           let all = Contains-flat_map_from (group_pieces l) 0 l.groups j j g piece (omega arith) m in_group in

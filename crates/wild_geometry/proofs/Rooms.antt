@@ -3,7 +3,7 @@ use Rattle.std.proofs.Common.{◌≡◌, ℕ, ◌+◌, ◌<◌, ◌≤◌, ◌�
 use Rattle.std.proofs.lemmas.List.{length-replicate, length-map, get_or-map, map-append, append_assoc}
 use Rattle.std.proofs.lemmas.List.Concat.{flat_map-append}
 use Rattle.std.proofs.lemmas.List.Elements.{All-head, All-tail}
-use Rattle.wild_words.specs.Overlay.{Piece, Apart}
+use Rattle.wild_words.specs.Overlay.{Piece, Disjoint}
 use Rattle.wild_words.specs.declared.extents.Extent.{Extent}
 use Rattle.wild_words.proofs.Basics.{map-flat_map}
 use Rattle.wild_words.proofs.ListLemmas.{flat_map-flat_map}
@@ -15,11 +15,11 @@ use Rattle.wild_types.specs.declared.file.Group.{Group}
 use Rattle.wild_types.specs.declared.layout.Layout.{Layout}
 use Rattle.wild_types.specs.FileRoles.{is_epilogue}
 use Rattle.wild_types.specs.Lookups.{is_filled, is_loaded, is_rela, has_range, files_of}
-use Rattle.wild_laid.specs.Turned.{as_turned}
-use Rattle.wild_laid.specs.Laid.{Input, unread, tabled, laid_by, laid_section, laid_sections, laid_file, laid_files, sorted_inputs, of_last_file}
-use Rattle.wild_laid.proofs.LaidFiles.{joined_sections, joined_laid}
-use Rattle.wild_clauses.specs.Thunks.{standing}
-use Rattle.wild_layout.specs.Image.{offset_in, section_piece, section_pieces, of_first_file, sorted_piece, once_pieces, thunk_pieces, file_pieces, owned_pieces}
+use Rattle.wild_placement.specs.ReversedWords.{with_word_order}
+use Rattle.wild_placement.specs.PlacedSections.{Input, unread, rela_with_target, placed_by, placed_section, placed_sections, placed_file, placed_files, sorted_inputs, of_last_file}
+use Rattle.wild_placement.proofs.PlacedFiles.{joined_sections, joined_laid}
+use Rattle.wild_plan_rules.specs.Thunks.{sections_in_ranges}
+use Rattle.wild_layout.specs.Image.{offset_in, section_piece, section_pieces, of_first_file, sorted_piece, merged_and_identity_pieces, thunk_pieces, file_pieces, owned_pieces}
 use Rattle.wild_layout.specs.Sites.{section_bytes, extent_of}
 use Rattle.wild_geometry.proofs.StandingLemmas.{EachIn}
 use Rattle.wild_geometry.proofs.SectionLemmas.{Known, is_whole}
@@ -28,8 +28,8 @@ use Rattle.wild_geometry.proofs.LongSections.{IsLong, IsTabledTable, long_turned
 
 -- ---- pieces at the same places
 
-abbrev pub AreBeside : Extent → Extent → Type 0
-AreBeside x y = (x.end ≤ y.start) ⊎ (y.end ≤ x.start)
+abbrev pub DoNotOverlap : Extent → Extent → Type 0
+DoNotOverlap x y = (x.end ≤ y.start) ⊎ (y.end ≤ x.start)
 
 same_length : (ps qs : List Piece) → map extent_of ps ≡ map extent_of qs → length ps ≡ length qs
 same_length ps qs same = sym (length-map ps extent_of) ∙ ap (λ (es : List Extent). length es) same ∙ length-map qs extent_of
@@ -44,14 +44,14 @@ all_at P ps qs same a = λ k d lt.
     let low : k < length ps = omega (arith, long, lt) in
     subst P (same_extent ps qs k d same low lt) (a k d low)
 
-pub apart_at : (ps qs : List Piece) → map extent_of ps ≡ map extent_of qs → AllPairs Apart ps → AllPairs Apart qs
+pub apart_at : (ps qs : List Piece) → map extent_of ps ≡ map extent_of qs → AllPairs Disjoint ps → AllPairs Disjoint qs
 apart_at ps qs same apart = λ i j d lt m.
     let long = same_length ps qs same in
     let low : j < length ps = omega (arith, long, m) in
     let first = same_extent ps qs i d same (omega (arith, lt, low)) (omega (arith, lt, m)) in
     let second = same_extent ps qs j d same low m in
-    let beside : AreBeside (extent_of (get_or ps i d)) (extent_of (get_or ps j d)) = apart i j d lt low in
-    subst (λ (x : Extent). AreBeside x (extent_of (get_or qs j d))) first (subst (λ (y : Extent). AreBeside (extent_of (get_or ps i d)) y) second beside)
+    let beside : DoNotOverlap (extent_of (get_or ps i d)) (extent_of (get_or ps j d)) = apart i j d lt low in
+    subst (λ (x : Extent). DoNotOverlap x (extent_of (get_or qs j d))) first (subst (λ (y : Extent). DoNotOverlap (extent_of (get_or ps i d)) y) second beside)
 
 pub same_items : {X Y : Type 0} (f g : X → List Y) (xs : List X) → All (λ x. f x ≡ g x) xs → flat_map f xs ≡ flat_map g xs
 same_items f g [] a = refl
@@ -105,7 +105,7 @@ turned_place : (l : Layout) (f : File) (s t : InputSection) → Turns l s t → 
 turned_place l f s t h own = long_place l f s t h.at (long_turned l t h.holds (ap is_turned h.slot ∙ own))
 
 -- a table is at its place
-pub tabled_at : (l : Layout) (f : File) (s : InputSection) → s.slot ≡ slot.Rela → IsAt l s (tabled f s)
+pub tabled_at : (l : Layout) (f : File) (s : InputSection) → s.slot ≡ slot.Rela → IsAt l s (rela_with_target f s)
 tabled_at l f s e = record { filled = rw e refl; part = refl; address = refl; size = refl }
 
 pub as_it_is : (l : Layout) (s : InputSection) → IsAt l s s
@@ -113,17 +113,17 @@ as_it_is l s = record { filled = refl; part = refl; address = refl; size = refl 
 
 -- a section of file f stands where its room is
 abbrev pub HasPlace : Layout → File → InputSection → Type 0
-HasPlace l f s = (g : File) (at : ℕ) → map extent_of (section_room l s) ≡ map extent_of (section_piece l g (laid_section l f at s))
+HasPlace l f s = (g : File) (at : ℕ) → map extent_of (section_room l s) ≡ map extent_of (section_piece l g (placed_section l f at s))
 
 pub place_of_known : (l : Layout) (f : File) (s : InputSection) → Known l s → IsTabledTable l f s → HasPlace l f s
-unfolding laid_section
+unfolding placed_section
 place_of_known l f s h tables g at = by s.slot refl
   where
-    by : (k : Slot) → s.slot ≡ k → map extent_of (section_room l s) ≡ map extent_of (section_piece l g (laid_by k l f at s))
-    by slot.Loaded e = turned_place l g s (as_turned (unread l s)) (turns_unread l s h (ap is_whole e)) (ap is_turned e)
-    by slot.Debug e = turned_place l g s (as_turned s) (turns l s h (ap is_whole e)) (ap is_turned e)
+    by : (k : Slot) → s.slot ≡ k → map extent_of (section_room l s) ≡ map extent_of (section_piece l g (placed_by k l f at s))
+    by slot.Loaded e = turned_place l g s (with_word_order (unread l s)) (turns_unread l s h (ap is_whole e)) (ap is_turned e)
+    by slot.Debug e = turned_place l g s (with_word_order s) (turns l s h (ap is_whole e)) (ap is_turned e)
     by slot.Frame e = ap (map extent_of) (no_room l s (ap has_range e))
-    by slot.Rela e = (let rela = ap is_rela e in long_place l g s (tabled f s) (tabled_at l f s e) (long_tabled l f s h rela (tables rela)))
+    by slot.Rela e = (let rela = ap is_rela e in long_place l g s (rela_with_target f s) (tabled_at l f s e) (long_tabled l f s h rela (tables rela)))
     by slot.Group e = long_place l g s s (as_it_is l s) (long_group l s h e)
     by other e = ap (map extent_of) (no_room l s (ap has_range e) ∙ sym (no_piece l g s (ap has_range e)))
 
@@ -138,17 +138,17 @@ loaded_slot other h = cc
 pub place_of_sorted : (l : Layout) (x : Input) → Known l x.section → is_loaded x.section.slot ≡ true → HasSortedPlace l x
 place_of_sorted l x h loaded =
     let both = loaded_slot x.section.slot loaded in
-    turned_place l x.file x.section (as_turned x.section) (turns l x.section h both.0) both.1
+    turned_place l x.file x.section (with_word_order x.section) (turns l x.section h both.0) both.1
 
 -- ---- file by file
 
 -- the rooms of the input sections that stand in a file's ranges
 abbrev pub rooms_in : Layout → File → List Piece
-rooms_in l f = flat_map (section_room l) (standing l f)
+rooms_in l f = flat_map (section_room l) (sections_in_ranges l f)
 
 -- what is the first file's, and a file's thunks
 abbrev pub others_in : Layout → File → List Piece
-others_in l f = of_first_file f (once_pieces l) ++ thunk_pieces l f
+others_in l f = of_first_file f (merged_and_identity_pieces l) ++ thunk_pieces l f
 
 -- what it owns, as rooms
 abbrev pub file_rooms : Layout → File → List Piece
@@ -171,11 +171,11 @@ sorted_places : (l : Layout) → All (HasSortedPlace l) (sorted_inputs l) → (l
 sorted_places l h false = refl
 sorted_places l h true = of_map (section_room l) (sorted_piece l) (λ (x : Input). x.section) (sorted_inputs l) h
 
-own_places : (l : Layout) (f g : File) (at : ℕ) (ss : List InputSection) → All (HasPlace l f) ss → map extent_of (flat_map (section_room l) ss) ≡ map extent_of (flat_map (section_piece l g) (laid_sections l f at ss))
+own_places : (l : Layout) (f g : File) (at : ℕ) (ss : List InputSection) → All (HasPlace l f) ss → map extent_of (flat_map (section_room l) ss) ≡ map extent_of (flat_map (section_piece l g) (placed_sections l f at ss))
 own_places l f g at ss h =
     map-flat_map extent_of (section_room l) ss
     ∙ joined_sections l f (λ (s : InputSection). map extent_of (section_room l s)) (λ (s : InputSection). map extent_of (section_piece l g s)) at ss (λ i s m a. h i s m g a)
-    ∙ sym (map-flat_map extent_of (section_piece l g) (laid_sections l f at ss))
+    ∙ sym (map-flat_map extent_of (section_piece l g) (placed_sections l f at ss))
 
 -- two lists in front of a third
 three : (xs ys zs us vs : List Piece) → map extent_of xs ≡ map extent_of us → map extent_of ys ≡ map extent_of vs → map extent_of ((xs ++ ys) ++ zs) ≡ map extent_of (us ++ (vs ++ zs))
@@ -188,17 +188,17 @@ three xs ys zs us vs a b =
     ∙ ap (λ (es : List Extent). map extent_of us ++ es) (sym (map-append extent_of vs zs))
     ∙ sym (map-append extent_of us (vs ++ zs))
 
-in_file : (l : Layout) → All (HasSortedPlace l) (sorted_inputs l) → (f : File) (at : ℕ) → All (HasPlace l f) f.sections → map extent_of (file_rooms l f) ≡ map extent_of (file_pieces l (laid_file l at f))
+in_file : (l : Layout) → All (HasSortedPlace l) (sorted_inputs l) → (f : File) (at : ℕ) → All (HasPlace l f) f.sections → map extent_of (file_rooms l f) ≡ map extent_of (file_pieces l (placed_file l at f))
 in_file l sorted f at own =
     let later = of_last_file f (map (λ (x : Input). x.section) (sorted_inputs l)) in
     ap (λ (ps : List Piece). map extent_of (ps ++ others_in l f)) (flat_map-append (section_room l) f.sections later)
-    ∙ three (flat_map (section_room l) f.sections) (flat_map (section_room l) later) (others_in l f) (section_pieces l (laid_file l at f)) (of_last_file f (flat_map (sorted_piece l) (sorted_inputs l)))
-    (own_places l f (laid_file l at f) at f.sections own) (sorted_places l sorted (is_epilogue f.role))
+    ∙ three (flat_map (section_room l) f.sections) (flat_map (section_room l) later) (others_in l f) (section_pieces l (placed_file l at f)) (of_last_file f (flat_map (sorted_piece l) (sorted_inputs l)))
+    (own_places l f (placed_file l at f) at f.sections own) (sorted_places l sorted (is_epilogue f.role))
 
 in_group : (l : Layout) → All (HasSortedPlace l) (sorted_inputs l) → (g : Group) → All (λ (f : File). All (HasPlace l f) f.sections) g.files → flat_map (λ (f : File). map extent_of (file_rooms l f)) g.files ≡ map extent_of (owned_pieces l g)
 in_group l sorted g own =
     joined_laid l (λ (f : File). map extent_of (file_rooms l f)) (λ (f : File). map extent_of (file_pieces l f)) g (λ i f m at. in_file l sorted (get_or g.files i f) at (own i f m))
-    ∙ sym (map-flat_map extent_of (file_pieces l) (laid_files l g))
+    ∙ sym (map-flat_map extent_of (file_pieces l) (placed_files l g))
 
 -- the rooms are where all that files own stands
 pub rooms_stand : (l : Layout) → EachIn l (HasPlace l) → All (HasSortedPlace l) (sorted_inputs l) → map extent_of (flat_map (file_rooms l) (files_of l.groups)) ≡ map extent_of (flat_map (owned_pieces l) l.groups)

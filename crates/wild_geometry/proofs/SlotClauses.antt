@@ -8,14 +8,14 @@ use Rattle.wild_types.specs.declared.layout.Layout.{Layout}
 use Rattle.wild_types.specs.declared.symbol.Symbol.{Symbol}
 use Rattle.wild_types.specs.Lookups.{canonical, files_of}
 use Rattle.wild_types.specs.Lists.{first_failing, unless}
-use Rattle.wild_clauses.specs.SlotPlaces.{slots_astray, slot_is_even, block_is_asked, block_has_base, pair_follows, pair_follows_by}
-use Rattle.wild_clauses.specs.SlotFlags.{is_asked, first_asked_failing, dynamic_is_interposable, stub_is_value, stub_has_slot, one_slot_for_address, thread_slot_alone, resolver_is_own, slot_agrees, resolver_moves, second_slot_fits}
-use Rattle.wild_clauses.specs.ClauseTests.{fails, check_indexes, check_slots, check_slot_flags}
-use Rattle.wild_clauses.specs.Indexes.{part_index_fits, primary_is_there, thunks_are_there, symbol_misfit, group_indexes_fit, listed_misfit, sorted_is_there, merged_is_there, identity_is_there, entry_is_there, definition_is_own, defines_itself}
-use Rattle.wild_types.specs.FileSymbols.{copied_again}
-use Rattle.wild_clauses.specs.VersionTables.{parent_is_there}
+use Rattle.wild_plan_rules.specs.SlotPlaces.{slots_astray, slot_is_even, block_needs_relr, block_has_base, pair_follows, pair_follows_by}
+use Rattle.wild_plan_rules.specs.SlotFlags.{is_tested, first_tested_failing, dynamic_is_interposable, stub_is_value, stub_has_slot, one_slot_for_address, thread_slot_alone, resolver_is_own, slot_agrees, resolver_moves, second_slot_fits}
+use Rattle.wild_plan_rules.specs.ClauseTests.{fails, check_indexes, check_slots, check_slot_flags}
+use Rattle.wild_plan_rules.specs.Indexes.{part_index_fits, primary_is_there, thunks_are_there, symbol_misfit, group_indexes_fit, listed_misfit, sorted_is_there, merged_is_there, identity_is_there, entry_is_there, definition_is_own, defines_itself}
+use Rattle.wild_types.specs.FileSymbols.{first_double_copy}
+use Rattle.wild_plan_rules.specs.VersionTables.{parent_is_there}
 use Rattle.wild_types.proofs.ListLemmas.{All-from_none_fails}
-use Rattle.wild_clauses.proofs.ClauseLemmas.{None-from_fails}
+use Rattle.wild_plan_rules.proofs.ClauseLemmas.{None-from_fails}
 use Rattle.wild_layout.specs.Geometry.{DefinitionsAreFinal}
 use Rattle.wild_layout.specs.SlotOrder.{SlotsFollow, FlagsAgree, EachAgrees, SlotsAreInOrder}
 use Rattle.wild_geometry.proofs.ClauseLemmas.{Both-from_first_error, holds_from_unless, NoneFails-from_first_clause, SharesHold-from_check}
@@ -27,7 +27,7 @@ unfolding check_slots
 SlotsFollow-from_check l h =
     let a = Both-from_first_error (fails 11 (slots_astray l)) _ h in
     let b = Both-from_first_error (fails 11 (first_failing slot_is_even 0 l.symbols)) _ a.rest in
-    let c = Both-from_first_error (fails 11 (first_failing (block_is_asked l) 0 l.parts)) _ b.rest in
+    let c = Both-from_first_error (fails 11 (first_failing (block_needs_relr l) 0 l.parts)) _ b.rest in
     let d = Both-from_first_error (fails 11 (unless (pair_follows l))) _ c.rest in
     let pair = holds_from_unless (pair_follows l) (None-from_fails 11 _ d.first) in
     record {
@@ -40,39 +40,39 @@ SlotsFollow-from_check l h =
 -- ---- clause 14
 
 -- a symbol that is asked passes
-asked_at : (l : Layout) (t : Symbol → Bool) (i k j : ℕ) (ss : List Symbol) (d : Symbol) → j ≡ i + k → k < length ss → first_asked_failing l t i ss ≡ None → is_asked l j (get_or ss k d) ≡ true → t (get_or ss k d) ≡ true
+asked_at : (l : Layout) (t : Symbol → Bool) (i k j : ℕ) (ss : List Symbol) (d : Symbol) → j ≡ i + k → k < length ss → first_tested_failing l t i ss ≡ None → is_tested l j (get_or ss k d) ≡ true → t (get_or ss k d) ≡ true
 asked_at l t i k j [] d e low none a = absurd (omega (arith, low))
 asked_at l t i zero j (s ∷ ss) d e low none a =
     let same : j ≡ i = omega (arith, e) in
-    let here : is_asked l i s ≡ true = subst (λ (n : ℕ). is_asked l n s ≡ true) same a in
+    let here : is_tested l i s ≡ true = subst (λ (n : ℕ). is_tested l n s ≡ true) same a in
     elim (cases_Bool (t s)) [
       | inl y ↦ y
       | inr n ↦ cc (rw (here, n) at none)
     ]
 asked_at l t i (suc k) j (s ∷ ss) d e low none a =
-    asked_at l t (i + 1) k j ss d (omega (arith, e)) (omega (arith, low)) (behind (is_asked l i s && not (t s)) none) a
+    asked_at l t (i + 1) k j ss d (omega (arith, e)) (omega (arith, low)) (behind (is_tested l i s && not (t s)) none) a
   where
-    behind : (b : Bool) → (if b then Some i else first_asked_failing l t (i + 1) ss) ≡ None → first_asked_failing l t (i + 1) ss ≡ None
+    behind : (b : Bool) → (if b then Some i else first_tested_failing l t (i + 1) ss) ≡ None → first_tested_failing l t (i + 1) ss ≡ None
     behind true h = cc
     behind false h = h
 
-asked : (l : Layout) (t : Symbol → Bool) (i : ℕ) (s : Symbol) → first_asked_failing l t 0 l.symbols ≡ None → slice_get l.symbols i ≡ Some s → is_asked l i s ≡ true → t s ≡ true
+asked : (l : Layout) (t : Symbol → Bool) (i : ℕ) (s : Symbol) → first_tested_failing l t 0 l.symbols ≡ None → slice_get l.symbols i ≡ Some s → is_tested l i s ≡ true → t s ≡ true
 asked l t i s none e a =
     let is : get_or l.symbols i s ≡ s = get_or_from_slice_get l.symbols i s s e in
-    subst (λ (x : Symbol). t x ≡ true) is (asked_at l t 0 i i l.symbols s (omega arith) (slice_get_within l.symbols i s e) none (subst (λ (x : Symbol). is_asked l i x ≡ true) (sym is) a))
+    subst (λ (x : Symbol). t x ≡ true) is (asked_at l t 0 i i l.symbols s (omega arith) (slice_get_within l.symbols i s e) none (subst (λ (x : Symbol). is_tested l i x ≡ true) (sym is) a))
 
 -- what clause 14 says of a symbol that is asked
-agrees : (l : Layout) → check_slot_flags l ≡ Ok tt → (i : ℕ) (s : Symbol) → slice_get l.symbols i ≡ Some s → is_asked l i s ≡ true → FlagsAgree l s
+agrees : (l : Layout) → check_slot_flags l ≡ Ok tt → (i : ℕ) (s : Symbol) → slice_get l.symbols i ≡ Some s → is_tested l i s ≡ true → FlagsAgree l s
 unfolding check_slot_flags
 agrees l h i s at is =
-    let a = Both-from_first_error (fails 14 (first_asked_failing l dynamic_is_interposable 0 l.symbols)) _ h in
-    let b = Both-from_first_error (fails 14 (first_asked_failing l stub_is_value 0 l.symbols)) _ a.rest in
-    let c = Both-from_first_error (fails 14 (first_asked_failing l stub_has_slot 0 l.symbols)) _ b.rest in
-    let d = Both-from_first_error (fails 14 (first_asked_failing l one_slot_for_address 0 l.symbols)) _ c.rest in
-    let e = Both-from_first_error (fails 14 (first_asked_failing l thread_slot_alone 0 l.symbols)) _ d.rest in
-    let f = Both-from_first_error (fails 14 (first_asked_failing l resolver_is_own 0 l.symbols)) _ e.rest in
-    let g = Both-from_first_error (fails 14 (first_asked_failing l slot_agrees 0 l.symbols)) _ f.rest in
-    let m = Both-from_first_error (fails 14 (first_asked_failing l resolver_moves 0 l.symbols)) _ g.rest in
+    let a = Both-from_first_error (fails 14 (first_tested_failing l dynamic_is_interposable 0 l.symbols)) _ h in
+    let b = Both-from_first_error (fails 14 (first_tested_failing l stub_is_value 0 l.symbols)) _ a.rest in
+    let c = Both-from_first_error (fails 14 (first_tested_failing l stub_has_slot 0 l.symbols)) _ b.rest in
+    let d = Both-from_first_error (fails 14 (first_tested_failing l one_slot_for_address 0 l.symbols)) _ c.rest in
+    let e = Both-from_first_error (fails 14 (first_tested_failing l thread_slot_alone 0 l.symbols)) _ d.rest in
+    let f = Both-from_first_error (fails 14 (first_tested_failing l resolver_is_own 0 l.symbols)) _ e.rest in
+    let g = Both-from_first_error (fails 14 (first_tested_failing l slot_agrees 0 l.symbols)) _ f.rest in
+    let m = Both-from_first_error (fails 14 (first_tested_failing l resolver_moves 0 l.symbols)) _ g.rest in
     record {
       interposable = asked l dynamic_is_interposable i s (None-from_fails 14 _ a.first) at is;
       stub = asked l stub_has_slot i s (None-from_fails 14 _ c.first) at is;
@@ -98,7 +98,7 @@ definitions_are_own l h =
     let w = Both-from_first_error (fails 9 (first_failing (merged_is_there l) 0 l.merged)) _ v.rest in
     let x = Both-from_first_error (fails 9 (unless (identity_is_there l))) _ w.rest in
     let f = Both-from_first_error (fails 9 (unless (entry_is_there l l.entry))) _ x.rest in
-    let g = Both-from_first_error (fails 9 (copied_again l [] 0 l.groups)) _ f.rest in
+    let g = Both-from_first_error (fails 9 (first_double_copy l [] 0 l.groups)) _ f.rest in
     let m = Both-from_first_error (fails 9 (first_failing (definition_is_own l) 0 l.symbols)) _ g.rest in
     All-from_none_fails (definition_is_own l) 0 l.symbols (None-from_fails 9 _ m.first)
 

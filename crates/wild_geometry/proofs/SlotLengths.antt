@@ -3,7 +3,7 @@ use Rattle.std.proofs.Common.{◌≡◌, ℕ, ◌+◌, ◌*◌, inl, inr, List, 
 use Rattle.std.proofs.lemmas.Bool.{cases_Bool}
 use Rattle.std.proofs.lemmas.List.{length-append}
 use Rattle.wild_records.specs.Relocations.{rela_size}
-use Rattle.wild_relr.specs.Written.{word_bytes}
+use Rattle.wild_relr.specs.WriterState.{word_bytes}
 use Rattle.wild_relr.proofs.SpellLemmas.{length-word_bytes}
 use Rattle.wild_types.specs.declared.part.Role.{Role}
 use Rattle.wild_types.specs.declared.part.Role.TheVariants as role
@@ -16,13 +16,13 @@ use Rattle.wild_slot.specs.declared.slot_parts.WordPart.TheVariants as words
 use Rattle.wild_slot.specs.declared.slot_parts.EntryPart.{EntryPart}
 use Rattle.wild_slot.specs.declared.slot_parts.EntryPart.TheVariants as entries
 use Rattle.wild_types.specs.Lists.{total}
-use Rattle.wild_needs.specs.SlotShares.{word_size, stub_size, words_in, entries_in, header_words, block_words, slot_share, header_share, block_share}
+use Rattle.wild_needs.specs.SlotShares.{word_size, stub_size, words_in, entries_in, header_words, block_words, slot_share, header_share, relr_got_share}
 use Rattle.wild_types.specs.FileSymbols.{own_symbols}
 use Rattle.wild_types.proofs.ListLemmas.{total-none}
 use Rattle.wild_slot.specs.SymbolWords.{slots_of}
-use Rattle.wild_tables.specs.Entries.{rela_bytes}
-use Rattle.wild_tables.proofs.EntryLemmas.{length-rela_bytes}
-use Rattle.wild_layout.specs.SlotBytes.{symbol_entries, stub_bytes, flat_in, slot_words_of, slot_entries_of, stubs_of, flat_places_of, slot_bytes, storage_entries, header_bytes, block_bytes}
+use Rattle.wild_table_formats.specs.RelativeEntries.{rela_bytes}
+use Rattle.wild_table_formats.proofs.EntryLemmas.{length-rela_bytes}
+use Rattle.wild_layout.specs.SlotBytes.{symbol_entries, stub_bytes, relr_slots_in, slot_words_of, slot_entries_of, stubs_of, flat_places_of, slot_bytes, storage_entries, header_bytes, block_bytes}
 use Rattle.wild_slot.proofs.StubLemmas.{length-stub_of}
 
 -- a multiple of the length of lists joined end to end
@@ -44,9 +44,9 @@ entries_length : (part : EntryPart) (l : Layout) (f : File) → length (rela_byt
 unfolding slot_entries_of
 entries_length part l f = length-rela_bytes (flat_map (symbol_entries part l) (own_symbols l f)) ∙ multiple_joined (λ n. 24 * n) refl (λ a b. omega arith) (symbol_entries part l) (own_symbols l f)
 
-flat_length : (l : Layout) (f : File) → length (word_bytes (flat_places_of l f)) ≡ total (λ (s : Symbol). word_size * length (flat_in l s)) (own_symbols l f)
+flat_length : (l : Layout) (f : File) → length (word_bytes (flat_places_of l f)) ≡ total (λ (s : Symbol). word_size * length (relr_slots_in l s)) (own_symbols l f)
 unfolding flat_places_of
-flat_length l f = length-word_bytes (flat_map (flat_in l) (own_symbols l f)) ∙ multiple_joined (λ n. 8 * n) refl (λ a b. omega arith) (flat_in l) (own_symbols l f)
+flat_length l f = length-word_bytes (flat_map (relr_slots_in l) (own_symbols l f)) ∙ multiple_joined (λ n. 8 * n) refl (λ a b. omega arith) (relr_slots_in l) (own_symbols l f)
 
 stub_length : (l : Layout) (s : Symbol) → length (stub_bytes l s) ≡ (if (slots_of l s).has_stub then stub_size else 0)
 stub_length l s =
@@ -71,7 +71,7 @@ stubs_length l f = each (own_symbols l f)
 pub slot_length : (l : Layout) (r : Role) (f : File) → length (slot_bytes l r f) ≡ slot_share l r f
 unfolding slot_share
 slot_length l role.Got f = words_length words.Got l f
-slot_length l role.GotRelr f = words_length words.Block l f
+slot_length l role.GotRelr f = words_length words.RelrGot l f
 slot_length l role.PltGot f = stubs_length l f
 slot_length l role.RelaPlt f = entries_length entries.Plt l f
 slot_length l role.RelaDynRelative f = entries_length entries.Relative l f
@@ -89,6 +89,6 @@ header_length l role.Got = length-word_bytes (header_words l)
 header_length l role.RelaDynGeneral = length-rela_bytes (storage_entries l)
 header_length l other = refl
 
-pub block_length : (l : Layout) (r : Role) (g : Group) → length (block_bytes l r g) ≡ block_share l r g
+pub block_length : (l : Layout) (r : Role) (g : Group) → length (block_bytes l r g) ≡ relr_got_share l r g
 block_length l role.RelrDyn g = length-word_bytes (block_words l g)
 block_length l other g = refl

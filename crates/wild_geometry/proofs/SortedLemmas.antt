@@ -10,8 +10,8 @@ use Rattle.wild_types.specs.declared.file.File.{File}
 use Rattle.wild_types.specs.declared.file.Group.{Group}
 use Rattle.wild_types.specs.declared.layout.SortedSection.{SortedSection}
 use Rattle.wild_types.specs.declared.layout.Layout.{Layout}
-use Rattle.wild_laid.specs.Laid.{Input, as_loaded, unread, sorted_by, sorted_in_file, sorted_in_group, files_at, sorted_input, sorted_inputs}
-use Rattle.wild_clauses.specs.Contents.{names_section, times_named, is_named_once, sections_named_once, files_named_once, sorted_named_once}
+use Rattle.wild_placement.specs.PlacedSections.{Input, as_loaded, unread, sorted_by, sorted_in_file, sorted_in_group, files_at, sorted_input, sorted_inputs}
+use Rattle.wild_plan_rules.specs.Contents.{names_section, times_named, is_named_once, sections_named_once, files_named_once, sorted_named_once}
 
 -- ---- what the clause says of a section
 

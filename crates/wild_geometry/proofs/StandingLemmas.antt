@@ -11,8 +11,8 @@ use Rattle.wild_types.specs.declared.layout.SortedSection.{SortedSection}
 use Rattle.wild_types.specs.declared.layout.Layout.{Layout}
 use Rattle.wild_types.specs.FileRoles.{is_epilogue}
 use Rattle.wild_types.specs.Lookups.{is_loaded}
-use Rattle.wild_laid.specs.Laid.{Input, as_loaded, unread, sorted_by, sorted_in_file, sorted_in_group, files_at, sorted_input, sorted_inputs, of_last_file}
-use Rattle.wild_clauses.specs.Thunks.{standing}
+use Rattle.wild_placement.specs.PlacedSections.{Input, as_loaded, unread, sorted_by, sorted_in_file, sorted_in_group, files_at, sorted_input, sorted_inputs, of_last_file}
+use Rattle.wild_plan_rules.specs.Thunks.{sections_in_ranges}
 use Rattle.wild_geometry.proofs.RunLemmas.{sections_in}
 
 -- the input sections, in the order of processing
@@ -29,7 +29,7 @@ EachIn l P = All (λ (g : Group). All (λ (f : File). All (P f) f.sections) g.fi
 
 -- each that stands in the range of a file
 abbrev pub EachStanding : Layout → (File → InputSection → Type 0) → Type 0
-EachStanding l P = All (λ (g : Group). All (λ (f : File). All (P f) (standing l f)) g.files) l.groups
+EachStanding l P = All (λ (g : Group). All (λ (f : File). All (P f) (sections_in_ranges l f)) g.files) l.groups
 
 -- what holds of a sorted section holds of it as a loaded one
 abbrev pub AsLoaded : Layout → (P Q : InputSection → Type 0) → Type 0
@@ -72,7 +72,7 @@ if_last : (P : InputSection → Type 0) (last : Bool) (ss : List InputSection) �
 if_last P true ss h = h
 if_last P false ss h = All-nil P
 
-standing_holds : (l : Layout) (P : InputSection → Type 0) → EachInput l P → AsLoaded l P P → (f : File) → All P f.sections → All P (standing l f)
+standing_holds : (l : Layout) (P : InputSection → Type 0) → EachInput l P → AsLoaded l P P → (f : File) → All P f.sections → All P (sections_in_ranges l f)
 standing_holds l P each loads f own =
     let sorted = All-map P (λ (x : Input). x.section) (sorted_inputs l) (sorted_holds l P P each loads) in
     All-append P f.sections (of_last_file f (map (λ (x : Input). x.section) (sorted_inputs l))) own (if_last P (is_epilogue f.role) (map (λ (x : Input). x.section) (sorted_inputs l)) sorted)
@@ -80,10 +80,10 @@ standing_holds l P each loads f own =
 pub all_standing : (l : Layout) (P : InputSection → Type 0) → EachInput l P → AsLoaded l P P → All P (all_sections l)
 all_standing l P h loads =
     All-flat_map P (sections_in l) l.groups (λ i g m.
-    All-flat_map P (standing l) (get_or l.groups i g).files (λ j f n. standing_holds l P h loads (get_or (get_or l.groups i g).files j f) (h i g m j f n)))
+    All-flat_map P (sections_in_ranges l) (get_or l.groups i g).files (λ j f n. standing_holds l P h loads (get_or (get_or l.groups i g).files j f) (h i g m j f n)))
 
 pub EachStanding-from_all : (l : Layout) (P : InputSection → Type 0) → All P (all_sections l) → EachStanding l (λ f. P)
-EachStanding-from_all l P a = λ i g m. All-from_flat_map P (standing l) (get_or l.groups i g).files (All-from_flat_map P (sections_in l) l.groups a i g m)
+EachStanding-from_all l P a = λ i g m. All-from_flat_map P (sections_in_ranges l) (get_or l.groups i g).files (All-from_flat_map P (sections_in l) l.groups a i g m)
 
 -- what holds of the files' own sections, and of each loaded one, holds of all that stand
 pub EachStanding-from_own : (l : Layout) (P : File → InputSection → Type 0) → EachIn l P → ((f : File) (s : InputSection) → is_loaded s.slot ≡ true → P f s) → EachStanding l P

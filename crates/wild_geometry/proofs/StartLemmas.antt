@@ -9,9 +9,9 @@ use Rattle.wild_types.specs.declared.part.Role.{Role}
 use Rattle.wild_types.specs.declared.part.Role.TheVariants as role
 use Rattle.wild_types.specs.declared.file.Group.{Group}
 use Rattle.wild_types.specs.declared.layout.Layout.{Layout}
-use Rattle.wild_clauses.specs.declared.starts.Starts.{Starts}
+use Rattle.wild_plan_rules.specs.declared.group_starts.Starts.{Starts}
 use Rattle.wild_types.specs.FilePlaces.{given}
-use Rattle.wild_clauses.specs.GroupStarts.{given_at, place_with, start_places, no_starts, starts_behind, begins_at, start_astray}
+use Rattle.wild_plan_rules.specs.GroupStarts.{group_share_at, place_with, start_places, no_starts, starts_after_group, begins_at, start_astray}
 use Rattle.wild_types.specs.Lists.{total}
 use Rattle.wild_needs.specs.Needs.{group_share}
 use Rattle.wild_types.specs.Parts.{role_place, has_role, part_with}
@@ -19,7 +19,7 @@ use Rattle.wild_types.proofs.ListLemmas.{total-prefix}
 use Rattle.wild_layout.specs.Content.{content}
 use Rattle.wild_layout.specs.TablePlaces.{bytes_before}
 use Rattle.wild_geometry.proofs.ContentLemmas.{length-content}
-use Rattle.wild_geometry.proofs.LaidLemmas.{Laid}
+use Rattle.wild_geometry.proofs.PlacedSectionLemmas.{Laid}
 use Rattle.wild_geometry.proofs.RoleLemmas.{nothing_shared}
 use Rattle.wild_geometry.proofs.ShareLemmas.{total_same, content_is_given}
 use Rattle.wild_geometry.proofs.TableLemmas.{same_role}
@@ -28,9 +28,9 @@ use Rattle.wild_geometry.proofs.TableLemmas.{same_role}
 
 -- where the strings of a group begin: behind those of these groups
 record Follows (places : Starts (Option ℕ)) (from : Starts ℕ) (gs : List Group) (g : Group) : Type 0 where
-  dynstr : g.dynstr_start ≡ from.dynstr + total (given_at places.dynstr) gs
-  strtab : g.strtab_start ≡ from.strtab + total (given_at places.strtab) gs
-  frames : g.eh_frame_start ≡ from.frames + total (given_at places.frames) gs
+  dynstr : g.dynstr_start ≡ from.dynstr + total (group_share_at places.dynstr) gs
+  strtab : g.strtab_start ≡ from.strtab + total (group_share_at places.strtab) gs
+  frames : g.eh_frame_start ≡ from.frames + total (group_share_at places.frames) gs
 
 begins : (places : Starts (Option ℕ)) (from : Starts ℕ) (g : Group) → begins_at from g ≡ true → Follows places from [] g
 begins places from g h =
@@ -42,7 +42,7 @@ begins places from g h =
     let f = eqb-true _ _ c.0 in
     record { dynstr = omega arith; strtab = omega arith; frames = omega arith }
 
-behind_one : (places : Starts (Option ℕ)) (from : Starts ℕ) (g : Group) (gs : List Group) (x : Group) → Follows places (starts_behind places from g) gs x → Follows places from (g ∷ gs) x
+behind_one : (places : Starts (Option ℕ)) (from : Starts ℕ) (g : Group) (gs : List Group) (x : Group) → Follows places (starts_after_group places from g) gs x → Follows places from (g ∷ gs) x
 behind_one places from g gs x f =
     let a = f.dynstr in
     let b = f.strtab in
@@ -58,7 +58,7 @@ starts_follow places from i (g ∷ gs) h zero d l =
     ]
 starts_follow places from i (g ∷ gs) h (suc j) d l =
     elim (cases_Bool (begins_at from g)) [
-      | inl t ↦ behind_one places from g (take j gs) (get_or gs j d) (starts_follow places (starts_behind places from g) (i + 1) gs (rw t at h) j d (omega arith))
+      | inl t ↦ behind_one places from g (take j gs) (get_or gs j d) (starts_follow places (starts_after_group places from g) (i + 1) gs (rw t at h) j d (omega arith))
       | inr f ↦ cc (rw f at h)
     ]
 
@@ -100,7 +100,7 @@ record IsTable (r : Role) : Type 0 where
   dynamic : role_place r ≡ role_place role.Dynamic → ⊥
 
 -- each group is given of the part what it gives to it
-given_is_content : (l : Layout) → Laid l → (r : Role) → IsTable r → (place : Option ℕ) → place_with r l.parts ≡ place → (j : ℕ) (g : Group) → j < length l.groups → given_at place (get_or l.groups j g) ≡ length (content l r (get_or l.groups j g))
+given_is_content : (l : Layout) → Laid l → (r : Role) → IsTable r → (place : Option ℕ) → place_with r l.parts ≡ place → (j : ℕ) (g : Group) → j < length l.groups → group_share_at place (get_or l.groups j g) ≡ length (content l r (get_or l.groups j g))
 given_is_content l h r table None is j g n =
     let shared = nothing_shared l h r (none_with r 0 l.parts is) in
     let one = total-prefix (group_share l r) l.groups j g n in
@@ -117,8 +117,8 @@ given_is_content l h r table (Some i) is j g n =
     sym (subst (λ (s : Role). length (content l s (get_or l.groups j g)) ≡ given i (get_or l.groups j g)) has (content_is_given l h.sizes.parts h.shares h.roles.again h.needed i p low raw j g n))
 
 -- the groups before group j are given what they give
-given_before : (l : Layout) → Laid l → (r : Role) → IsTable r → (j : ℕ) → total (given_at (place_with r l.parts)) (take j l.groups) ≡ bytes_before l r j
-given_before l h r table j = total_same (given_at (place_with r l.parts)) (λ (x : Group). length (content l r x)) l.groups j (λ k d m. given_is_content l h r table (place_with r l.parts) refl k d m)
+shares_before : (l : Layout) → Laid l → (r : Role) → IsTable r → (j : ℕ) → total (group_share_at (place_with r l.parts)) (take j l.groups) ≡ bytes_before l r j
+shares_before l h r table j = total_same (group_share_at (place_with r l.parts)) (λ (x : Group). length (content l r x)) l.groups j (λ k d m. given_is_content l h r table (place_with r l.parts) refl k d m)
 
 -- ---- the whole
 
@@ -128,18 +128,18 @@ group_follows l h j g is = subst (Follows (start_places l.parts) no_starts (take
 pub starts_from_laid : (l : Layout) → Laid l → (j : ℕ) (g : Group) → slice_get l.groups j ≡ Some g → g.dynstr_start ≡ bytes_before l role.Dynstr j
 starts_from_laid l h j g is =
     let start = (group_follows l h j g is).dynstr in
-    let before = given_before l h role.Dynstr (record { raw = λ e. absurd (omega arith); dynamic = λ e. absurd (omega arith) }) j in
+    let before = shares_before l h role.Dynstr (record { raw = λ e. absurd (omega arith); dynamic = λ e. absurd (omega arith) }) j in
     omega arith
 
 pub table_starts_from_laid : (l : Layout) → Laid l → (j : ℕ) (g : Group) → slice_get l.groups j ≡ Some g → g.strtab_start ≡ bytes_before l role.Strtab j
 table_starts_from_laid l h j g is =
     let start = (group_follows l h j g is).strtab in
-    let before = given_before l h role.Strtab (record { raw = λ e. absurd (omega arith); dynamic = λ e. absurd (omega arith) }) j in
+    let before = shares_before l h role.Strtab (record { raw = λ e. absurd (omega arith); dynamic = λ e. absurd (omega arith) }) j in
     omega arith
 
 -- and its frames
 pub frame_starts_from_laid : (l : Layout) → Laid l → (j : ℕ) (g : Group) → slice_get l.groups j ≡ Some g → g.eh_frame_start ≡ bytes_before l role.EhFrame j
 frame_starts_from_laid l h j g is =
     let start = (group_follows l h j g is).frames in
-    let before = given_before l h role.EhFrame (record { raw = λ e. absurd (omega arith); dynamic = λ e. absurd (omega arith) }) j in
+    let before = shares_before l h role.EhFrame (record { raw = λ e. absurd (omega arith); dynamic = λ e. absurd (omega arith) }) j in
     omega arith

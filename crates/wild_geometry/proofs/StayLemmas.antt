@@ -15,17 +15,17 @@ use Rattle.wild_types.specs.declared.layout.Layout.{Layout}
 use Rattle.wild_types.specs.FileRoles.{is_epilogue}
 use Rattle.wild_types.specs.Lists.{total}
 use Rattle.wild_types.specs.Kinds.{is_partial_link}
-use Rattle.wild_types.specs.Lookups.{is_loaded, is_frame, is_discarded, is_rela, has_counted, has_range, is_filled, has_data, is_hollow_part, section_of}
+use Rattle.wild_types.specs.Lookups.{is_loaded, is_frame, is_discarded, is_rela, has_counted, has_range, is_filled, has_data, is_header_only_part, section_of}
 use Rattle.wild_types.specs.Rows.{field_bytes}
 use Rattle.wild_frames.specs.Frames.{kept_in}
-use Rattle.wild_laid.specs.Turned.{turned_bytes, turned_offset, turned, as_turned}
-use Rattle.wild_laid.specs.FrameInputs.{frames_of, kept_size}
-use Rattle.wild_laid.specs.Laid.{Input, entry_relocations, moved_by, laid_relocations, framed, without_relocations, unread, tabled, laid_by, laid_section, laid_sections, laid_file, file_frames, frames_at, laid_files, sorted_inputs, sorted_sections, of_last_file, processed}
-use Rattle.wild_laid.proofs.LaidFiles.{All-low_sections, All-low_files}
-use Rattle.wild_laid.proofs.TurnedBytes.{length-turned_bytes}
-use Rattle.wild_clauses.specs.Contents.{may_lack_bytes}
-use Rattle.wild_clauses.specs.Fronts.{is_whole_word}
-use Rattle.wild_clauses.specs.Thunks.{standing}
+use Rattle.wild_placement.specs.ReversedWords.{reversed_word_bytes, reversed_offset, reversed_section, with_word_order}
+use Rattle.wild_placement.specs.FrameInputs.{frames_of, kept_size}
+use Rattle.wild_placement.specs.PlacedSections.{Input, entry_relocations, moved_relocation, moved_relocations, placed_frames, without_relocations, unread, rela_with_target, placed_by, placed_section, placed_sections, placed_file, file_frames, frames_at, placed_files, sorted_inputs, sorted_sections, of_last_file, processed_sections}
+use Rattle.wild_placement.proofs.PlacedFiles.{All-low_sections, All-low_files}
+use Rattle.wild_placement.proofs.ReversedBytes.{length-reversed_word_bytes}
+use Rattle.wild_plan_rules.specs.Contents.{may_lack_bytes}
+use Rattle.wild_plan_rules.specs.Fronts.{is_whole_word}
+use Rattle.wild_plan_rules.specs.Thunks.{sections_in_ranges}
 use Rattle.wild_layout.specs.Geometry.{NamesSymbol, EachSection}
 use Rattle.wild_layout.specs.SectionPlaces.{FieldLies, IsWord}
 use Rattle.wild_geometry.proofs.StandingLemmas.{EachStanding, sorted_loaded}
@@ -69,20 +69,20 @@ bytes_even l s h own e = by s.nobits refl
 
 -- ---- a section whose words are reversed
 
-pub length-turned : (l : Layout) (s : InputSection) → Known l s → is_whole s.slot ≡ true → s.reversed ≡ true → length (turned_bytes s.bytes) ≡ length s.bytes
-length-turned l s h whole e = length-turned_bytes s.bytes (bytes_even l s h whole e)
+pub length-reversed_section : (l : Layout) (s : InputSection) → Known l s → is_whole s.slot ≡ true → s.reversed ≡ true → length (reversed_word_bytes s.bytes) ≡ length s.bytes
+length-reversed_section l s h whole e = length-reversed_word_bytes s.bytes (bytes_even l s h whole e)
 
-turned_fields : (l : Layout) (s : InputSection) → Known l s → s.reversed ≡ true → All (FieldLies l.machine s.size) (map (turned_offset s.size) s.relocations)
+turned_fields : (l : Layout) (s : InputSection) → Known l s → s.reversed ≡ true → All (FieldLies l.machine s.size) (map (reversed_offset s.size) s.relocations)
 turned_fields l s h e =
-    All-map (FieldLies l.machine s.size) (turned_offset s.size) s.relocations (λ i r m.
+    All-map (FieldLies l.machine s.size) (reversed_offset s.size) s.relocations (λ i r m.
     let word = (Words-from_known l s h e).fields i r m in
     let wide = word.wide in
     let within = word.within in
     inr (omega arith))
 
-turned_holds : (l : Layout) (s : InputSection) → Known l s → is_whole s.slot ≡ true → s.reversed ≡ true → Holds l (turned s)
+turned_holds : (l : Layout) (s : InputSection) → Known l s → is_whole s.slot ≡ true → s.reversed ≡ true → Holds l (reversed_section s)
 turned_holds l s h whole e =
-    let long = length-turned l s h whole e in
+    let long = length-reversed_section l s h whole e in
     record {
       small = h.holds.small;
       part = h.holds.part;
@@ -91,14 +91,14 @@ turned_holds l s h whole e =
       allocation = h.holds.allocation;
       room = subst (λ (n : ℕ). (not (not (n == 0) || (is_rela s.slot && not (s.size == 0))) || has_data l (section_of l s.part)) ≡ true) (sym long) h.holds.room;
       fields = turned_fields l s h e;
-      symbols = All-map (NamesSymbol l) (turned_offset s.size) s.relocations h.holds.symbols;
+      symbols = All-map (NamesSymbol l) (reversed_offset s.size) s.relocations h.holds.symbols;
     }
 
 -- as it stands it fills what it filled
-turned_filled : (l : Layout) (s : InputSection) → Known l s → is_whole s.slot ≡ true → s.reversed ≡ true → is_filled l (turned s) ≡ is_filled l s
+turned_filled : (l : Layout) (s : InputSection) → Known l s → is_whole s.slot ≡ true → s.reversed ≡ true → is_filled l (reversed_section s) ≡ is_filled l s
 turned_filled l s h whole e =
-    let long = length-turned l s h whole e in
-    ap (λ (n : ℕ). (has_range s.slot && (if s.nobits then has_counted s.slot && (not (s.size == 0) && has_data l (section_of l s.part)) else if is_rela s.slot then not (s.size == 0) else not (n == 0))) && not (is_hollow_part l s.part)) long
+    let long = length-reversed_section l s h whole e in
+    ap (λ (n : ℕ). (has_range s.slot && (if s.nobits then has_counted s.slot && (not (s.size == 0) && has_data l (section_of l s.part)) else if is_rela s.slot then not (s.size == 0) else not (n == 0))) && not (is_header_only_part l s.part)) long
 
 -- a section has the place and the room of another
 pub record IsAt (l : Layout) (s t : InputSection) : Type 0 where
@@ -113,11 +113,11 @@ pub record Turns (l : Layout) (s t : InputSection) : Type 0 where
   pub slot : t.slot ≡ s.slot
   pub at : IsAt l s t
 
-pub turns : (l : Layout) (s : InputSection) → Known l s → is_whole s.slot ≡ true → Turns l s (as_turned s)
-unfolding as_turned
+pub turns : (l : Layout) (s : InputSection) → Known l s → is_whole s.slot ≡ true → Turns l s (with_word_order s)
+unfolding with_word_order
 turns l s h whole = by s.reversed refl
   where
-    by : (b : Bool) → s.reversed ≡ b → Turns l s (if b then turned s else s)
+    by : (b : Bool) → s.reversed ≡ b → Turns l s (if b then reversed_section s else s)
     by true e = record { holds = turned_holds l s h whole e; slot = refl; at = record { filled = turned_filled l s h whole e; part = refl; address = refl; size = refl } }
     by false e = record { holds = h.holds; slot = refl; at = record { filled = refl; part = refl; address = refl; size = refl } }
 
@@ -129,7 +129,7 @@ unread_at l s = by (is_partial_link l.kind)
     by false = record { filled = refl; part = refl; address = refl; size = refl }
 
 -- of a relocatable object without its relocations
-pub turns_unread : (l : Layout) (s : InputSection) → Known l s → is_whole s.slot ≡ true → Turns l s (as_turned (unread l s))
+pub turns_unread : (l : Layout) (s : InputSection) → Known l s → is_whole s.slot ≡ true → Turns l s (with_word_order (unread l s))
 turns_unread l s h whole =
     let t = turns l (unread l s) (known_unread l s h) (ap is_whole (slot_of_unread l s) ∙ whole) in
     let u = unread_at l s in
@@ -157,13 +157,13 @@ own_named l s h = by s.nobits
     by true = All-nil (NamesSymbol l)
     by false = h.symbols
 
-pub framed_named : (l : Layout) (f : File) (s : InputSection) → Holds l s → All (NamesSymbol l) (laid_relocations (frames_of l f s))
-unfolding laid_relocations
+pub framed_named : (l : Layout) (f : File) (s : InputSection) → Holds l s → All (NamesSymbol l) (moved_relocations (frames_of l f s))
+unfolding moved_relocations
 framed_named l f s h =
     let fs = frames_of l f s in
-    All-flat_map (NamesSymbol l) (λ k. map (moved_by k) (entry_relocations fs k)) (kept_in fs) (λ i k m.
+    All-flat_map (NamesSymbol l) (λ k. map (moved_relocation k) (entry_relocations fs k)) (kept_in fs) (λ i k m.
     let x = get_or (kept_in fs) i k in
-    All-map (NamesSymbol l) (moved_by x) (entry_relocations fs x) (All-filter (NamesSymbol l) (λ r. nat_le x.from r.offset && nat_lt r.offset (x.from + x.size)) fs.relocations (own_named l s h)))
+    All-map (NamesSymbol l) (moved_relocation x) (entry_relocations fs x) (All-filter (NamesSymbol l) (λ r. nat_le x.from r.offset && nat_lt r.offset (x.from + x.size)) fs.relocations (own_named l s h)))
 
 -- ---- all that stand, as they do
 
@@ -183,19 +183,19 @@ is_as_it_is other = true
 
 -- what of a section that stands in a file's ranges is known, of it as it stands
 pub record Stays (l : Layout) (R : File → InputSection → Type 0) (P : InputSection → Type 0) : Type 0 where
-  pub loaded : (f : File) (s : InputSection) → is_loaded s.slot ≡ true → R f s → P (as_turned (unread l s))
-  pub turned : (f : File) (s : InputSection) → is_turned s.slot ≡ true → R f s → P (as_turned s)
-  pub frame : (f : File) (at : ℕ) (s : InputSection) → is_frame s.slot ≡ true → at + kept_size l f s ≤ 2 ^ 62 → R f s → P (framed l f at s)
-  pub table : (f : File) (s : InputSection) → is_rela s.slot ≡ true → R f s → P (tabled f s)
+  pub loaded : (f : File) (s : InputSection) → is_loaded s.slot ≡ true → R f s → P (with_word_order (unread l s))
+  pub reversed_section : (f : File) (s : InputSection) → is_turned s.slot ≡ true → R f s → P (with_word_order s)
+  pub frame : (f : File) (at : ℕ) (s : InputSection) → is_frame s.slot ≡ true → at + kept_size l f s ≤ 2 ^ 62 → R f s → P (placed_frames l f at s)
+  pub table : (f : File) (s : InputSection) → is_rela s.slot ≡ true → R f s → P (rela_with_target f s)
   pub other : (f : File) (s : InputSection) → is_as_it_is s.slot ≡ true → R f s → P s
 
-laid_stays : (l : Layout) (R : File → InputSection → Type 0) (P : InputSection → Type 0) → Stays l R P → (f : File) (at : ℕ) (s : InputSection) → at + kept_size l f s ≤ 2 ^ 62 → R f s → P (laid_section l f at s)
-unfolding laid_section
+laid_stays : (l : Layout) (R : File → InputSection → Type 0) (P : InputSection → Type 0) → Stays l R P → (f : File) (at : ℕ) (s : InputSection) → at + kept_size l f s ≤ 2 ^ 62 → R f s → P (placed_section l f at s)
+unfolding placed_section
 laid_stays l R P stays f at s low r = by s.slot refl
   where
-    by : (k : Slot) → s.slot ≡ k → P (laid_by k l f at s)
+    by : (k : Slot) → s.slot ≡ k → P (placed_by k l f at s)
     by slot.Loaded e = stays.loaded f s (ap is_loaded e) r
-    by slot.Debug e = stays.turned f s (ap is_turned e) r
+    by slot.Debug e = stays.reversed_section f s (ap is_turned e) r
     by slot.Frame e = stays.frame f at s (ap is_frame e) low r
     by slot.Rela e = stays.table f s (ap is_rela e) r
     by other e = stays.other f s (ap is_as_it_is e) r
@@ -209,17 +209,17 @@ sorted_stays : (l : Layout) (R : File → InputSection → Type 0) (P : InputSec
 sorted_stays l R P stays f false h = All-nil P
 sorted_stays l R P stays f true h =
     let each = All-of_map (R f) (λ (x : Input). x.section) (sorted_inputs l) h in
-    All-map P (λ (x : Input). as_turned x.section) (sorted_inputs l) (λ i x m. (let y = get_or (sorted_inputs l) i x in stays.turned f y.section (loaded_turned y.section.slot (sorted_loaded l i x m)) (each i x m)))
+    All-map P (λ (x : Input). with_word_order x.section) (sorted_inputs l) (λ i x m. (let y = get_or (sorted_inputs l) i x in stays.reversed_section f y.section (loaded_turned y.section.slot (sorted_loaded l i x m)) (each i x m)))
   where
     loaded_turned : (k : Slot) → is_loaded k ≡ true → is_turned k ≡ true
     loaded_turned slot.Loaded h = refl
     loaded_turned other h = cc
 
-file_stays : (l : Layout) (R : File → InputSection → Type 0) (P : InputSection → Type 0) → Stays l R P → (f : File) (at : ℕ) → at + file_frames l f ≤ 2 ^ 62 → All (R f) (standing l f) → All P (processed l (laid_file l at f))
+file_stays : (l : Layout) (R : File → InputSection → Type 0) (P : InputSection → Type 0) → Stays l R P → (f : File) (at : ℕ) → at + file_frames l f ≤ 2 ^ 62 → All (R f) (sections_in_ranges l f) → All P (processed_sections l (placed_file l at f))
 file_stays l R P stays f at low h =
     let sorted = of_last_file f (map (λ (x : Input). x.section) (sorted_inputs l)) in
     let own = All-append-left (R f) f.sections sorted h in
-    All-append P (laid_sections l f at f.sections) (of_last_file f (sorted_sections l))
+    All-append P (placed_sections l f at f.sections) (of_last_file f (sorted_sections l))
     (All-low_sections l f P (2 ^ 62) at f.sections (omega arith) low (λ i s m a ends. laid_stays l R P stays f a (get_or f.sections i s) ends (own i s m)))
     (sorted_stays l R P stays f (is_epilogue f.role) (All-append-right (R f) f.sections sorted h))
 
@@ -227,10 +227,10 @@ file_stays l R P stays f at low h =
 abbrev pub FramesEnd : Layout → Group → Type 0
 FramesEnd l g = frames_at l g + total (file_frames l) g.files ≤ 2 ^ 62
 
-group_stays : (l : Layout) (R : File → InputSection → Type 0) (P : InputSection → Type 0) → Stays l R P → (g : Group) → FramesEnd l g → All (λ (f : File). All (R f) (standing l f)) g.files → All (λ (f : File). All P (processed l f)) (laid_files l g)
-unfolding laid_files
+group_stays : (l : Layout) (R : File → InputSection → Type 0) (P : InputSection → Type 0) → Stays l R P → (g : Group) → FramesEnd l g → All (λ (f : File). All (R f) (sections_in_ranges l f)) g.files → All (λ (f : File). All P (processed_sections l f)) (placed_files l g)
+unfolding placed_files
 group_stays l R P stays g low h =
-    All-low_files l (λ (f : File). All P (processed l f)) (2 ^ 62) (frames_at l g) g.files (omega arith) low (λ i f m a ends. file_stays l R P stays (get_or g.files i f) a ends (h i f m))
+    All-low_files l (λ (f : File). All P (processed_sections l f)) (2 ^ 62) (frames_at l g) g.files (omega arith) low (λ i f m a ends. file_stays l R P stays (get_or g.files i f) a ends (h i f m))
 
 pub EachSection-from_standing : (l : Layout) (R : File → InputSection → Type 0) (P : InputSection → Type 0) → Stays l R P → All (FramesEnd l) l.groups → EachStanding l R → EachSection l P
 EachSection-from_standing l R P stays low h = λ i g m. group_stays l R P stays (get_or l.groups i g) (low i g m) (h i g m)

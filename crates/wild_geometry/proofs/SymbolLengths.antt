@@ -7,13 +7,13 @@ use Rattle.wild_types.specs.declared.file.File.{File}
 use Rattle.wild_types.specs.declared.file.Group.{Group}
 use Rattle.wild_types.specs.declared.layout.DynamicSymbol.{DynamicSymbol}
 use Rattle.wild_types.specs.declared.layout.Layout.{Layout}
-use Rattle.wild_needs.specs.DynamicStrings.{undefined_symbols, entry_names, behind_file}
+use Rattle.wild_needs.specs.DynamicStrings.{undefined_symbols, entry_names, next_dynstr}
 use Rattle.wild_types.specs.FileRoles.{is_prelude, is_epilogue}
 use Rattle.wild_types.specs.Kinds.{needs_dynsym}
 use Rattle.wild_types.specs.Lists.{total}
 use Rattle.wild_needs.specs.Needs.{dynsym_count}
-use Rattle.wild_symbols.specs.DynamicEntries.{listed, undefined, file_symbols, entry_at, no_fields, entries_at, null_entries, behind_lead, file_entries, entries_from, group_symbols}
-use Rattle.wild_versions.proofs.BesideLemmas.{length-entries_at}
+use Rattle.wild_table_formats.specs.DynamicEntries.{listed, undefined, file_symbols, entry_at, no_fields, entries_at, null_entries, offset_after_lead, file_entries, entries_from, group_symbols}
+use Rattle.wild_table_formats.proofs.EntryLengths.{length-entries_at}
 
 one_length : {X : Type 0} (b : Bool) (x : X) → length (if b then x ∷ [] else []) ≡ (if b then 1 else 0)
 one_length true x = refl
@@ -30,8 +30,8 @@ names_length l f =
 
 file_length : (l : Layout) (at : ℕ) (f : File) → length (file_entries l at f) ≡ (if is_prelude f.role then 1 else 0) + length (entry_names l f)
 file_length l at f =
-    let a = length-append (null_entries f) (entries_at (behind_lead l at f) (file_symbols l f)) in
-    let b = length-entries_at (file_symbols l f) (behind_lead l at f) in
+    let a = length-append (null_entries f) (entries_at (offset_after_lead l at f) (file_symbols l f)) in
+    let b = length-entries_at (file_symbols l f) (offset_after_lead l at f) in
     let c = names_length l f in
     let d = one_length (is_prelude f.role) (entry_at 0 no_fields) in
     omega arith
@@ -39,9 +39,9 @@ file_length l at f =
 files_length : (l : Layout) (at : ℕ) (fs : List File) → needs_dynsym l.kind ≡ true → length (entries_from l at fs) ≡ total (dynsym_count l) fs
 files_length l at [] needs = refl
 files_length l at (f ∷ fs) needs =
-    let a = length-append (file_entries l at f) (entries_from l (behind_file l at f) fs) in
+    let a = length-append (file_entries l at f) (entries_from l (next_dynstr l at f) fs) in
     let b = file_length l at f in
-    let c = files_length l (behind_file l at f) fs needs in
+    let c = files_length l (next_dynstr l at f) fs needs in
     let d : dynsym_count l f ≡ (if is_prelude f.role then 1 else 0) + length (entry_names l f) = rw needs refl in
     omega arith
 

@@ -5,7 +5,7 @@ use Rattle.std.specs.List.{list_any}
 use Rattle.std.proofs.lemmas.Bool.{cases_Bool, and_parts, and_from, eqb-true, ne_eqb, ltb-true}
 use Rattle.std.proofs.lemmas.Option.{get_or_from_slice_get, slice_get_within, slice_get-get_or, same_Some}
 use Rattle.std.proofs.lemmas.List.Elements.{All-nil, All-cons, All-head, All-tail, All-weaker}
-use Rattle.wild_words.specs.Overlay.{Piece, Apart}
+use Rattle.wild_words.specs.Overlay.{Piece, Disjoint}
 use Rattle.wild_words.proofs.Basics.{implied}
 use Rattle.wild_words.proofs.ListLemmas.{AllPairs-nil, All-flat_map, AllPairs-flat_map, All-from_flat_map, holds_at, Found-from_list_any}
 use Rattle.wild_types.specs.declared.kind.Machine.{Machine}
@@ -17,18 +17,18 @@ use Rattle.wild_types.specs.declared.layout.Thunk.{Thunk}
 use Rattle.wild_types.specs.declared.layout.Layout.{Layout}
 use Rattle.wild_types.specs.Kinds.{is_partial_link}
 use Rattle.wild_types.specs.FileThunks.{thunk_size, block_of, thunks_of}
-use Rattle.wild_types.specs.Lookups.{is_filled, image_size, is_allocated_section, section_of_part, has_data, is_hollow_at, is_hollow_part}
+use Rattle.wild_types.specs.Lookups.{is_filled, image_size, is_allocated_section, section_of_part, has_data, is_header_only_at, is_header_only_part}
 use Rattle.wild_types.specs.FilePlaces.{given}
-use Rattle.wild_clauses.specs.Contents.{is_raw, holds_thunks, section_misplaced}
-use Rattle.wild_clauses.specs.Indexes.{part_index_fits}
-use Rattle.wild_clauses.specs.Places.{part_lies}
-use Rattle.wild_clauses.specs.Thunks.{is_used, has_thunks, misplaced_from, misplaced_in, owns, is_owned, block_lost, machine_takes}
+use Rattle.wild_plan_rules.specs.Contents.{is_raw, holds_thunks, section_misplaced}
+use Rattle.wild_plan_rules.specs.Indexes.{part_index_fits}
+use Rattle.wild_plan_rules.specs.Places.{part_lies}
+use Rattle.wild_plan_rules.specs.Thunks.{is_used, has_thunks, misplaced_from, misplaced_in, owns, is_owned, block_lost, machine_takes}
 use Rattle.wild_layout.specs.Thunks.{thunk_bytes}
 use Rattle.wild_layout.specs.Image.{thunk_offset, thunk_piece, unless_hollow}
 use Rattle.wild_layout.specs.SectionPlaces.{HasRoom}
 use Rattle.wild_layout.specs.ThunkPlaces.{ThunkLies, IsOwned}
 use Rattle.wild_layout.proofs.ThunkLemmas.{length-thunk_bytes}
-use Rattle.wild_geometry.proofs.LaidLemmas.{Laid}
+use Rattle.wild_geometry.proofs.PlacedSectionLemmas.{Laid}
 use Rattle.wild_geometry.proofs.OrderLemmas.{Follows, EndsBy-image}
 use Rattle.wild_geometry.proofs.ShareLemmas.{size_from_shares}
 use Rattle.wild_geometry.proofs.RunLemmas.{get_or-map_address, length-map_address}
@@ -65,7 +65,7 @@ pub record ThunkStood (l : Layout) (t : Thunk) : Type 0 where
   pub allocated : is_allocated_section l part.section ≡ true
 
 pub record ThunksStand (l : Layout) : Type 0 where
-  pub stood : is_hollow_part l l.primary_part ≡ false → All (ThunkStood l) (all_thunks l)
+  pub stood : is_header_only_part l l.primary_part ≡ false → All (ThunkStood l) (all_thunks l)
   pub ascend : AllPairs Ahead (all_thunks l)
   pub beside : All (λ s. All (Beside l l.primary_part s) (all_thunks l)) (all_sections l)
   pub behind : (g : Group) (gs : List Group) (p : Part) → l.groups ≡ g ∷ gs → slice_get l.parts l.primary_part ≡ Some p → All (λ (t : Thunk). p.address + given l.primary_part g ≤ t.address) (flat_map (thunks_in l) gs)
@@ -99,8 +99,8 @@ some_stand l h p is fits placed =
     let r = Spread-from_groups l (p.address + p.size) p.address (map (λ (q : Part). q.address) l.parts) 0 0 l.groups h.inputs.order placed (omega arith) start (p.address + p.size) (omega arith) in
     record {
       stood = λ written. (
-          let here : is_hollow_at l p.section ≡ false = sym (ap (λ (o : Option Part). is_hollow_at l (section_of_part o)) is) ∙ written in
-          let takes = and_from (has_data l p.section) (not (is_hollow_at l p.section)) b.0 (rw here refl) in
+          let here : is_header_only_at l p.section ≡ false = sym (ap (λ (o : Option Part). is_header_only_at l (section_of_part o)) is) ∙ written in
+          let takes = and_from (has_data l p.section) (not (is_header_only_at l p.section)) b.0 (rw here refl) in
           All-weaker (LiesFrom p.address (p.address + p.size)) (ThunkStood l) (λ t f. record { part = p; room = record { listed = is; raw = raw_role p p.role refl a.0; takes = takes; from = f.from; to = f.to }; allocated = b.1 }) (all_thunks l) r.within
           );
       ascend = r.ascend;
@@ -132,19 +132,19 @@ thunk_at l t = record { at = thunk_offset l t; bytes = thunk_bytes l t }
 pub thunk_room : (l : Layout) (t : Thunk) (st : ThunkStood l t) → HasRoom l l.primary_part t.address (length (thunk_bytes l t)) st.part
 thunk_room l t st = subst (λ (n : ℕ). HasRoom l l.primary_part t.address n st.part) (sym (length-thunk_bytes l t)) st.room
 
-pub each_thunk : (l : Layout) (P : Piece → Type 0) → (is_hollow_part l l.primary_part ≡ false → All (λ t. P (thunk_at l t)) (all_thunks l)) → All P (pieces_of_thunks l)
+pub each_thunk : (l : Layout) (P : Piece → Type 0) → (is_header_only_part l l.primary_part ≡ false → All (λ t. P (thunk_at l t)) (all_thunks l)) → All P (pieces_of_thunks l)
 each_thunk l P h =
-    All-written P (is_hollow_part l l.primary_part) (flat_map (thunk_piece l) (all_thunks l)) (λ written.
+    All-written P (is_header_only_part l l.primary_part) (flat_map (thunk_piece l) (all_thunks l)) (λ written.
     All-flat_map P (thunk_piece l) (all_thunks l) (λ i t m. All-cons P (thunk_at l (get_or (all_thunks l) i t)) [] (h written i t m) (All-nil P)))
 
-pub thunks_apart : (l : Layout) → AllPairs (Follows l) l.parts → ThunksStand l → AllPairs Apart (pieces_of_thunks l)
+pub thunks_apart : (l : Layout) → AllPairs (Follows l) l.parts → ThunksStand l → AllPairs Disjoint (pieces_of_thunks l)
 thunks_apart l f h =
-    AllPairs-written Apart (is_hollow_part l l.primary_part) (flat_map (thunk_piece l) (all_thunks l)) (λ written.
-    AllPairs-flat_map Apart (thunk_piece l) (all_thunks l)
+    AllPairs-written Disjoint (is_header_only_part l l.primary_part) (flat_map (thunk_piece l) (all_thunks l)) (λ written.
+    AllPairs-flat_map Disjoint (thunk_piece l) (all_thunks l)
     (λ i t m. (λ j k d lt n. absurd (omega arith)))
-    (λ i j t lt m. All-cons (λ a. All (Apart a) (thunk_piece l (get_or (all_thunks l) j t))) (thunk_at l (get_or (all_thunks l) i t)) [] (All-cons (Apart (thunk_at l (get_or (all_thunks l) i t))) (thunk_at l (get_or (all_thunks l) j t)) [] (two written i j t lt m) (All-nil (Apart (thunk_at l (get_or (all_thunks l) i t))))) (All-nil (λ a. All (Apart a) (thunk_piece l (get_or (all_thunks l) j t))))))
+    (λ i j t lt m. All-cons (λ a. All (Disjoint a) (thunk_piece l (get_or (all_thunks l) j t))) (thunk_at l (get_or (all_thunks l) i t)) [] (All-cons (Disjoint (thunk_at l (get_or (all_thunks l) i t))) (thunk_at l (get_or (all_thunks l) j t)) [] (two written i j t lt m) (All-nil (Disjoint (thunk_at l (get_or (all_thunks l) i t))))) (All-nil (λ a. All (Disjoint a) (thunk_piece l (get_or (all_thunks l) j t))))))
   where
-    two : is_hollow_part l l.primary_part ≡ false → (i j : ℕ) (t : Thunk) → i < j → j < length (all_thunks l) → Apart (thunk_at l (get_or (all_thunks l) i t)) (thunk_at l (get_or (all_thunks l) j t))
+    two : is_header_only_part l l.primary_part ≡ false → (i j : ℕ) (t : Thunk) → i < j → j < length (all_thunks l) → Disjoint (thunk_at l (get_or (all_thunks l) i t)) (thunk_at l (get_or (all_thunks l) j t))
     two written i j t lt m =
         let x = get_or (all_thunks l) i t in
         let y = get_or (all_thunks l) j t in
@@ -186,7 +186,7 @@ none_used (b ∷ bs) h = (let here = All-head (λ (x : List Thunk). (length x ==
 none_in_partial : (l : Layout) → Laid l → is_partial_link l.kind ≡ true → has_thunks l ≡ false
 none_in_partial l h partial = none_used l.thunk_blocks (λ i b m. implied (is_partial_link l.kind) (length (get_or l.thunk_blocks i b) == 0) (h.partial.thunks i b m) partial)
 
-pub thunks_lie : (l : Layout) → Laid l → ThunksStand l → is_hollow_part l l.primary_part ≡ false → All (λ (g : Group). All (λ (f : File). All (ThunkLies l) (thunks_of l f)) g.files) l.groups
+pub thunks_lie : (l : Layout) → Laid l → ThunksStand l → is_header_only_part l l.primary_part ≡ false → All (λ (g : Group). All (λ (f : File). All (ThunkLies l) (thunks_of l f)) g.files) l.groups
 thunks_lie l h st written =
     elim (cases_Bool (is_partial_link l.kind)) [
       | inl partial ↦ (λ i g m j f n. subst (λ (ts : List Thunk). All (ThunkLies l) ts) (sym (no_thunks l (none_in_partial l h partial) (get_or (get_or l.groups i g).files j f))) (All-nil (ThunkLies l)))

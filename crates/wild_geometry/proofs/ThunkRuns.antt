@@ -12,13 +12,13 @@ use Rattle.wild_types.specs.declared.file.Group.{Group}
 use Rattle.wild_types.specs.declared.layout.Thunk.{Thunk}
 use Rattle.wild_types.specs.declared.layout.Layout.{Layout}
 use Rattle.wild_types.specs.Lists.{total}
-use Rattle.wild_types.specs.Lookups.{is_given}
+use Rattle.wild_types.specs.Lookups.{has_range_bytes}
 use Rattle.wild_types.specs.FilePlaces.{given}
 use Rattle.wild_types.specs.FileThunks.{thunk_size, thunks_of}
-use Rattle.wild_clauses.specs.Contents.{ends_of, parts_placed, section_misplaced}
-use Rattle.wild_clauses.specs.SlotPlaces.{and_then, walk}
-use Rattle.wild_clauses.specs.Thunks.{standing, is_used, next_code, stand_from, block_step, section_step, file_step, or_next, misplaced_from}
-use Rattle.wild_clauses.proofs.BlockLemmas.{length-ends_of, get_or-ends_of}
+use Rattle.wild_plan_rules.specs.Contents.{ends_of, parts_placed, section_misplaced}
+use Rattle.wild_plan_rules.specs.SlotPlaces.{and_then, walk}
+use Rattle.wild_plan_rules.specs.Thunks.{sections_in_ranges, is_used, next_code, are_consecutive_from, block_step, section_step, file_step, or_next, misplaced_from}
+use Rattle.wild_plan_rules.proofs.BlockLemmas.{length-ends_of, get_or-ends_of}
 use Rattle.wild_geometry.proofs.RunLemmas.{sections_in, Owns, From, To, Run-from_group, each_part_placed}
 
 -- the thunks of a group, and all, in the order of processing
@@ -107,7 +107,7 @@ ok_if false end n group h = cc
 
 Passed-from_step : (l : Layout) (group start limit end : ℕ) (s : InputSection) → section_step l group start s ≡ Ok end → start ≤ limit → To l l.primary_part limit s → Passed l start limit end s
 Passed-from_step l group start limit end s h le ends =
-    elim (cases_Bool (is_given l s && s.part == l.primary_part)) [
+    elim (cases_Bool (has_range_bytes l s && s.part == l.primary_part)) [
       | inl own ↦
           (let a = ok_if (nat_le start s.address) end (s.address + s.size) group (rw own at h) in
           let low = leb-true _ _ a.0 in
@@ -152,12 +152,12 @@ Spread-from_sections l group start limit end (s ∷ ss) h le ends =
 -- ---- thunks
 
 -- thunks one behind the other
-Spread-from_thunks : (l : Layout) (part at end : ℕ) (ts : List Thunk) → stand_from at ts ≡ true → end ≡ at + thunk_size * length ts → Spread l part at end [] ts
+Spread-from_thunks : (l : Layout) (part at end : ℕ) (ts : List Thunk) → are_consecutive_from at ts ≡ true → end ≡ at + thunk_size * length ts → Spread l part at end [] ts
 Spread-from_thunks l part at end [] h e =
     let same : at ≡ end = omega arith in
     subst (λ (n : ℕ). Spread l part at n [] []) same (Spread-none l part at)
 Spread-from_thunks l part at end (t ∷ ts) h e =
-    let both = and_parts (t.address == at) (stand_from (at + thunk_size) ts) h in
+    let both = and_parts (t.address == at) (are_consecutive_from (at + thunk_size) ts) h in
     let here = eqb-true _ _ both.0 in
     let one : Spread l part at (at + thunk_size) [] (t ∷ []) = record {
       grows = omega arith;
@@ -194,8 +194,8 @@ Spread-from_block : (l : Layout) (part block limit at end : ℕ) (ts : List Thun
 Spread-from_block l part block limit at end ts h le =
     elim (cases_Bool (is_used ts)) [
       | inl used ↦
-          (let a = ok_if (stand_from (next_code at) ts && nat_le (next_code at + thunk_size * length ts) limit) end (next_code at + thunk_size * length ts) block (rw used at h) in
-          let both = and_parts (stand_from (next_code at) ts) (nat_le (next_code at + thunk_size * length ts) limit) a.0 in
+          (let a = ok_if (are_consecutive_from (next_code at) ts && nat_le (next_code at + thunk_size * length ts) limit) end (next_code at + thunk_size * length ts) block (rw used at h) in
+          let both = and_parts (are_consecutive_from (next_code at) ts) (nat_le (next_code at + thunk_size * length ts) limit) a.0 in
           let high = leb-true _ _ both.1 in
           let same = a.1 in
           (omega arith, Spread-lower l part at (next_code at) end ts (next_code-up at) (Spread-from_thunks l part (next_code at) end ts both.0 (sym same))))
@@ -217,22 +217,22 @@ in_turn : {S : Type 0} (first : Result S ℕ) (next : S → Result S ℕ) (end :
 in_turn (Err e) next end h = cc
 in_turn (Ok s) next end h = record { between = s; is = refl; rest = h }
 
-Spread-from_file : (l : Layout) (group limit start end : ℕ) (f : File) → file_step l group limit start f ≡ Ok end → start ≤ limit → All (To l l.primary_part limit) (standing l f) → (end ≤ limit) × Spread l l.primary_part start end (standing l f) (thunks_of l f)
+Spread-from_file : (l : Layout) (group limit start end : ℕ) (f : File) → file_step l group limit start f ≡ Ok end → start ≤ limit → All (To l l.primary_part limit) (sections_in_ranges l f) → (end ≤ limit) × Spread l l.primary_part start end (sections_in_ranges l f) (thunks_of l f)
 Spread-from_file l group limit start end f h le ends =
-    let w = in_turn (walk (section_step l group) start (standing l f)) (λ n. block_step f.thunk_block limit n (thunks_of l f)) end h in
-    let a = Spread-from_sections l group start limit w.between (standing l f) w.is le ends in
+    let w = in_turn (walk (section_step l group) start (sections_in_ranges l f)) (λ n. block_step f.thunk_block limit n (thunks_of l f)) end h in
+    let a = Spread-from_sections l group start limit w.between (sections_in_ranges l f) w.is le ends in
     let b = Spread-from_block l l.primary_part f.thunk_block limit w.between end (thunks_of l f) w.rest a.0 in
-    (b.0, subst (λ (ss : List InputSection). Spread l l.primary_part start end ss (thunks_of l f)) (append-nil (standing l f)) (Spread-append l l.primary_part start w.between end (standing l f) [] [] (thunks_of l f) a.1 b.1))
+    (b.0, subst (λ (ss : List InputSection). Spread l l.primary_part start end ss (thunks_of l f)) (append-nil (sections_in_ranges l f)) (Spread-append l l.primary_part start w.between end (sections_in_ranges l f) [] [] (thunks_of l f) a.1 b.1))
 
-Spread-from_files : (l : Layout) (group limit start end : ℕ) (fs : List File) → walk (file_step l group limit) start fs ≡ Ok end → start ≤ limit → All (To l l.primary_part limit) (flat_map (standing l) fs) → (end ≤ limit) × Spread l l.primary_part start end (flat_map (standing l) fs) (flat_map (thunks_of l) fs)
+Spread-from_files : (l : Layout) (group limit start end : ℕ) (fs : List File) → walk (file_step l group limit) start fs ≡ Ok end → start ≤ limit → All (To l l.primary_part limit) (flat_map (sections_in_ranges l) fs) → (end ≤ limit) × Spread l l.primary_part start end (flat_map (sections_in_ranges l) fs) (flat_map (thunks_of l) fs)
 Spread-from_files l group limit start end [] h le ends =
     let e = walk_nil (file_step l group limit) start end h in
     (omega arith, subst (λ (n : ℕ). Spread l l.primary_part start n [] []) e (Spread-none l l.primary_part start))
 Spread-from_files l group limit start end (f ∷ fs) h le ends =
     let w = Walked-from_walk (file_step l group limit) start f fs end h in
-    let a = Spread-from_file l group limit start w.next f w.first le (All-append-left (To l l.primary_part limit) (standing l f) (flat_map (standing l) fs) ends) in
-    let b = Spread-from_files l group limit w.next end fs w.others a.0 (All-append-right (To l l.primary_part limit) (standing l f) (flat_map (standing l) fs) ends) in
-    (b.0, Spread-append l l.primary_part start w.next end (standing l f) (flat_map (standing l) fs) (thunks_of l f) (flat_map (thunks_of l) fs) a.1 b.1)
+    let a = Spread-from_file l group limit start w.next f w.first le (All-append-left (To l l.primary_part limit) (sections_in_ranges l f) (flat_map (sections_in_ranges l) fs) ends) in
+    let b = Spread-from_files l group limit w.next end fs w.others a.0 (All-append-right (To l l.primary_part limit) (sections_in_ranges l f) (flat_map (sections_in_ranges l) fs) ends) in
+    (b.0, Spread-append l l.primary_part start w.next end (sections_in_ranges l f) (flat_map (sections_in_ranges l) fs) (thunks_of l f) (flat_map (thunks_of l) fs) a.1 b.1)
 
 Spread-longer : (l : Layout) (part low end high : ℕ) (ss : List InputSection) (ts : List Thunk) → end ≤ high → Spread l part low end ss ts → Spread l part low high ss ts
 Spread-longer l part low end high ss ts le r = record {

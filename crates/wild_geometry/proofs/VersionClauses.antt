@@ -12,9 +12,9 @@ use Rattle.wild_types.specs.declared.layout.Layout.{Layout}
 use Rattle.wild_types.specs.Lists.{unless}
 use Rattle.wild_types.specs.Parts.{has_role, part_with}
 use Rattle.wild_needs.specs.Versions.{need_count}
-use Rattle.wild_clauses.specs.VersionTables.{parent_fits, parent_astray, some_definition, definition_astray, mark_astray, versions_agree}
-use Rattle.wild_clauses.specs.ClauseTests.{fails, first_error, check_versions}
-use Rattle.wild_clauses.proofs.ClauseLemmas.{None-from_fails}
+use Rattle.wild_plan_rules.specs.VersionTables.{parent_fits, parent_astray, some_definition, definition_astray, mark_astray, versions_agree}
+use Rattle.wild_plan_rules.specs.ClauseTests.{fails, first_error, check_versions}
+use Rattle.wild_plan_rules.proofs.ClauseLemmas.{None-from_fails}
 use Rattle.wild_layout.specs.VersionOrder.{ParentsStand, HasVersionsInOrder}
 use Rattle.wild_geometry.proofs.ClauseLemmas.{Both-from_first_error}
 

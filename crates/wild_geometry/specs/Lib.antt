@@ -3,4 +3,4 @@ pub mod MachineFacts
 pub mod Loaded
 pub mod Slots
 pub mod Thunks
-pub mod Laid
+pub mod PlacedSections

@@ -5,12 +5,12 @@
 --   number_at stage w     the number at the place of an address that moves
 --   HasDecision ..        relocation i has that decision
 --   MakesChange p w ..    the change that a loader makes for an entry
---   ReadsLeft p stage ..  the bytes of a field that is left to an entry
+--   ReadsFilledField p stage ..  the bytes of a field that is left to an entry
 --   HasItem ..         memory has the item's values, its addresses, the fields left to entries, and its other bytes
 use Rattle.std.specs.Prelude.{◌≡◌, ℕ, ◌+◌, ◌%◌, ◌^◌, ◌<◌, ◌≤◌, ◌⊎◌, Bool, if◌then◌else◌, List, [], length, replicate, Some, Ok, All, slice_index, slice_get}
 use Rattle.std.specs.Int.{w64, cast_signed}
 use Rattle.wild_words.specs.Words.{word}
-use Rattle.wild_words.specs.Overlay.{Piece, AreApart}
+use Rattle.wild_words.specs.Overlay.{Piece, AreDisjoint}
 use Rattle.wild_records.specs.declared.relocations.Rela.{Rela}
 use Rattle.wild_reloc.specs.Field.{size_width}
 use Rattle.wild_types.specs.declared.input.InputRelocation.{InputRelocation}
@@ -18,7 +18,7 @@ use Rattle.wild_types.specs.Item.{Item}
 use Rattle.wild_types.specs.declared.layout.Layout.{Layout}
 use Rattle.wild_reloc.specs.declared.info.RelocationSize.{RelocationSize}
 use Rattle.wild_layout.specs.declared.decision.Decision.{Decision}
-use Rattle.wild_layout.specs.declared.decision.Decision.TheVariants.{Field, Moved, Left, Rewritten}
+use Rattle.wild_layout.specs.declared.decision.Decision.TheVariants.{Field, RelativeAddress, DynamicField, Rewritten}
 use Rattle.wild_relax.specs.declared.row.Row.{Row}
 use Rattle.wild_layout.specs.Decide.{decide}
 use Rattle.wild_layout.specs.Sites.{field_site, template_site, sites}
@@ -30,12 +30,12 @@ use Rattle.wild_loader.specs.declared.change.Change.TheVariants as changes
 use Rattle.wild_loader.specs.declared.kind.DynamicKind.{DynamicKind}
 use Rattle.wild_loader.specs.Changes.{kind_of, change_of}
 use Rattle.wild_loader.specs.Memory.{Holds, byte_in}
-use Rattle.wild_meaning.specs.Linked.{processor_of}
+use Rattle.wild_meaning.specs.LinkedImage.{processor_of}
 
 -- each relocation of the item has a decision, no fault, and no byte is written by two
 pub record IsDecided (l : Layout) (s : Item) : Type 0 where
   pub each : (i : ℕ) → i < length s.relocations → (d : Decision) × (decide l s i ≡ Ok d)
-  pub apart : AreApart (length s.bytes) (sites l s)
+  pub apart : AreDisjoint (length s.bytes) (sites l s)
 
 -- no relocation writes byte k
 abbrev pub InNoSite : Layout → Item → ℕ → Type 0
@@ -70,9 +70,9 @@ stored_bytes (changes.Half v) = word 4 v
 stored_bytes other = []
 
 -- the bytes of a field of that size that is left to such an entry: 0 in the file, and in memory the number that the entry stores
-abbrev pub ReadsLeft : Processor → Stage → World → RelocationSize → (number symbol addend : ℕ) → List ℕ → Type 0
-ReadsLeft p InFile w z number symbol addend bs = bs ≡ replicate (size_width z) 0
-ReadsLeft p InMemory w z number symbol addend bs = (c : Change) × MakesChange p w number symbol addend c × (bs ≡ stored_bytes c) × (length bs ≡ size_width z)
+abbrev pub ReadsFilledField : Processor → Stage → World → RelocationSize → (number symbol addend : ℕ) → List ℕ → Type 0
+ReadsFilledField p InFile w z number symbol addend bs = bs ≡ replicate (size_width z) 0
+ReadsFilledField p InMemory w z number symbol addend bs = (c : Change) × MakesChange p w number symbol addend c × (bs ≡ stored_bytes c) × (length bs ≡ size_width z)
 
 -- relocation i of the item has that decision
 pub record HasDecision (l : Layout) (s : Item) (i : ℕ) (r : InputRelocation) (d : Decision) : Type 0 where
@@ -87,8 +87,8 @@ pub record HasDecision (l : Layout) (s : Item) (i : ℕ) (r : InputRelocation) (
 pub record HasItem (l : Layout) (w : World) (m : Memory) (s : Item) (stage : Stage) : Type 0 where
   pub ends : 1 ≤ length s.bytes → w.base + s.address + length s.bytes ≤ 2 ^ 64
   pub values : (i : ℕ) (r : InputRelocation) (z : RelocationSize) (v : ℕ) → HasDecision l s i r (Field z v) → Holds m (w.base + s.address + r.offset) (field_site s r.offset z v).bytes
-  pub addresses : (i : ℕ) (r : InputRelocation) (v : ℕ) (packed : Bool) → HasDecision l s i r (Moved v packed) → Holds m (w.base + s.address + r.offset) (word 8 (number_at stage w v packed))
-  pub left : (i : ℕ) (r : InputRelocation) (z : RelocationSize) (number symbol addend : ℕ) → HasDecision l s i r (Left z number symbol addend)
-      → (bs : List ℕ) × Holds m (w.base + s.address + r.offset) bs × ReadsLeft (processor_of l.machine) stage w z number symbol addend bs
+  pub addresses : (i : ℕ) (r : InputRelocation) (v : ℕ) (packed : Bool) → HasDecision l s i r (RelativeAddress v packed) → Holds m (w.base + s.address + r.offset) (word 8 (number_at stage w v packed))
+  pub left : (i : ℕ) (r : InputRelocation) (z : RelocationSize) (number symbol addend : ℕ) → HasDecision l s i r (DynamicField z number symbol addend)
+      → (bs : List ℕ) × Holds m (w.base + s.address + r.offset) bs × ReadsFilledField (processor_of l.machine) stage w z number symbol addend bs
   pub rewritten : (i : ℕ) (r : InputRelocation) (row : Row) (v : ℕ) → HasDecision l s i r (Rewritten row v) → Holds m (w.base + s.address + (template_site s r row v).at) (template_site s r row v).bytes
   pub others : (k : ℕ) → k < length s.bytes → InNoSite l s k → byte_in m (w.base + s.address + k) ≡ Some (slice_index s.bytes k)

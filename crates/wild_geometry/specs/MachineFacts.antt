@@ -17,13 +17,13 @@ use Rattle.wild_types.specs.declared.layout.Tls.{Tls}
 use Rattle.wild_types.specs.Rows.{row_of}
 use Rattle.wild_slot.specs.SlotParts.{type_of}
 use Rattle.wild_slot.specs.Storage.{thread_pointer}
-use Rattle.wild_headers.specs.Headers.{machine_number}
+use Rattle.wild_table_formats.specs.Headers.{machine_number}
 use Rattle.wild_loader.specs.declared.memory.Machine.{Machine as Processor}
 use Rattle.wild_loader.specs.declared.kind.DynamicKind.TheVariants as kinds
 use Rattle.wild_loader.specs.Changes.{kind_of}
 use Rattle.wild_loader.specs.Headers.{machine_of}
 use Rattle.wild_meaning.specs.Field.{formula_of}
-use Rattle.wild_meaning.specs.Linked.{processor_of}
+use Rattle.wild_meaning.specs.LinkedImage.{processor_of}
 use Rattle.wild_meaning.specs.Thread.{control_block_size, rounded_up, thread_pointer_of}
 use Rattle.wild_geometry.specs.EntryKinds.{loaded_kind}
 

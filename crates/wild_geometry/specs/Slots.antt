@@ -8,7 +8,7 @@ use Rattle.wild_types.specs.declared.symbol.Symbol.{Symbol}
 use Rattle.wild_types.specs.declared.layout.Layout.{Layout}
 use Rattle.wild_slot.specs.declared.slot.SlotEntry.{SlotEntry}
 use Rattle.wild_slot.specs.declared.slot.SlotWord.{SlotWord}
-use Rattle.wild_slot.specs.declared.slot.SlotWord.TheVariants.{Number, Address, InBlock, General, Plt}
+use Rattle.wild_slot.specs.declared.slot.SlotWord.TheVariants.{Number, Address, InRelrGot, General, Plt}
 use Rattle.wild_types.specs.SymbolSlots.{got_of, plt_of}
 use Rattle.wild_slot.specs.SymbolWords.{slots_of}
 use Rattle.wild_needs.specs.SlotShares.{storage_words}
@@ -23,22 +23,22 @@ use Rattle.wild_geometry.specs.Loaded.{entry_with}
 use Rattle.wild_slot.specs.MachineStub.{stub_in}
 
 -- the value of a word after a change: the number that it stores; for a descriptor, which is two words, the offset is noted
-abbrev pub IsLeft : Memory → ℕ → Change → ℕ → Type 0
-IsLeft m place (changes.Word v) x = x ≡ v
-IsLeft m place (changes.Descriptor o) x = first_value m.descriptors place ≡ Some o
-IsLeft m place other x = ⊥
+abbrev pub IsWordAfterChange : Memory → ℕ → Change → ℕ → Type 0
+IsWordAfterChange m place (changes.Word v) x = x ≡ v
+IsWordAfterChange m place (changes.Descriptor o) x = first_value m.descriptors place ≡ Some o
+IsWordAfterChange m place other x = ⊥
 
 -- an entry fills the word with the change that the loader of the memory's machine makes for its kind, whatever its type
 pub record IsFilledBy (w : World) (m : Memory) (place : ℕ) (e : SlotEntry) (x : ℕ) : Type 0 where
   pub change : Change
   pub makes : change_of w (loaded_kind m.machine e.kind) (entry_with 0 e.symbol e.addend) ≡ Ok change
-  pub leaves : IsLeft m place change x
+  pub leaves : IsWordAfterChange m place change x
 
 -- the loaded value of a word: a number is unchanged, the base is added to an address, an entry fills its word
 abbrev pub IsLoadedWord : World → Memory → ℕ → SlotWord → ℕ → Type 0
 IsLoadedWord w m place (Number n) x = x ≡ n
 IsLoadedWord w m place (Address a) x = x ≡ (a + w.base) % 2 ^ 64
-IsLoadedWord w m place (InBlock a) x = x ≡ (a + w.base) % 2 ^ 64
+IsLoadedWord w m place (InRelrGot a) x = x ≡ (a + w.base) % 2 ^ 64
 IsLoadedWord w m place (General e) x = IsFilledBy w m place e x
 IsLoadedWord w m place (Plt e) x = IsFilledBy w m place e x
 

@@ -4,8 +4,8 @@ use Rattle.std.specs.Prelude.{if◌then◌else◌, ◌==◌, nat_le, fold}
 use Rattle.std.proofs.lemmas.Bool.{leb-true, and_parts, le-leb, ne_eqb, cases_Bool}
 use Rattle.std.proofs.lemmas.List.{length-map}
 use Rattle.std.proofs.Math.Nat.{mod-lt}
-use Rattle.wild_words.specs.Words.{Stands}
-use Rattle.wild_words.proofs.OverlayLemmas.{Stands-inner}
+use Rattle.wild_words.specs.Words.{HasBytesAt}
+use Rattle.wild_words.proofs.OverlayLemmas.{HasBytesAt-inner}
 use Rattle.wild_records.specs.Hashes.{gnu_hash, sysv_hash, gnu_start, gnu_next}
 use Rattle.wild_records.specs.HashTables.{gnu_hash_header_at, GnuHashHeaderIsRead, gnu_hash_header_fields}
 use Rattle.wild_records.specs.declared.hash_tables.GnuHashHeader.{GnuHashHeader}
@@ -16,7 +16,7 @@ use Rattle.wild_hashes.specs.Reading.{read, symbol_name}
 use Rattle.wild_hashes.proofs.NameLemmas.{symbol_named}
 use Rattle.wild_types.specs.declared.layout.DynamicSymbol.{DynamicSymbol}
 use Rattle.wild_words.specs.Record.{spell}
-use Rattle.wild_hashes.specs.Laws.{ascends, ascends_from, Reads, GnuIsRead, SysvIsRead, first_named, IsGnuLaidOut, AreNumbered, names_of, GnuLookUpFindsTheFirst, SysvLookUpFindsTheFirst}
+use Rattle.wild_hashes.specs.Laws.{ascends, ascends_from, Reads, GnuIsRead, SysvIsRead, first_named, IsValidGnuTable, AreNumbered, names_of, GnuLookUpFindsTheFirst, SysvLookUpFindsTheFirst}
 use Rattle.wild_hashes.proofs.BucketLemmas.{length-buckets, bucket_small}
 use Rattle.wild_hashes.proofs.BloomLemmas.{length-bloom, bloom_small, filtered_none}
 use Rattle.wild_hashes.proofs.SysvLemmas.{sysv_scan_finds}
@@ -61,7 +61,7 @@ hashes_small [] k l = absurd (omega arith)
 hashes_small (m ∷ ns) zero l = hash_small m
 hashes_small (m ∷ ns) (suc k) l = hashes_small ns k (omega arith)
 
-gnu_read_in_bucket : (read : ℕ → ℕ → Result ℕ LookupFault) (named : ℕ → Result (List ℕ) LookupFault) (left at : ℕ) (t : GnuHashHeader) (ns : List (List ℕ)) (name : List ℕ) → GnuIsRead read at t (map gnu_hash ns) → Reads named t.symbol_base ns [] → 1 ≤ t.symbol_base → IsGnuLaidOut t (map gnu_hash ns) → length ns ≤ left
+gnu_read_in_bucket : (read : ℕ → ℕ → Result ℕ LookupFault) (named : ℕ → Result (List ℕ) LookupFault) (left at : ℕ) (t : GnuHashHeader) (ns : List (List ℕ)) (name : List ℕ) → GnuIsRead read at t (map gnu_hash ns) → Reads named t.symbol_base ns [] → 1 ≤ t.symbol_base → IsValidGnuTable t (map gnu_hash ns) → length ns ≤ left
     → gnu_in_bucket read named name (gnu_hash name) left at t ≡ Ok (first_named t.symbol_base ns name)
 unfolding gnu_in_bucket
 gnu_read_in_bucket read named left at t ns name s r b laid enough =
@@ -77,7 +77,7 @@ gnu_read_in_bucket read named left at t ns name s r b laid enough =
     rw first (gnu_bucket_finds (chain_word read from base) named name n left base base ns in_range b (omega arith) enough laid.ascend chain r)
 
 -- where a GNU table is read, and the names from its base on are, the first of a name is found
-pub gnu_read_found : (read : ℕ → ℕ → Result ℕ LookupFault) (named : ℕ → Result (List ℕ) LookupFault) (left at : ℕ) (t : GnuHashHeader) (ns : List (List ℕ)) (name : List ℕ) → GnuIsRead read at t (map gnu_hash ns) → Reads named t.symbol_base ns [] → 1 ≤ t.symbol_base → IsGnuLaidOut t (map gnu_hash ns) → length ns ≤ left
+pub gnu_read_found : (read : ℕ → ℕ → Result ℕ LookupFault) (named : ℕ → Result (List ℕ) LookupFault) (left at : ℕ) (t : GnuHashHeader) (ns : List (List ℕ)) (name : List ℕ) → GnuIsRead read at t (map gnu_hash ns) → Reads named t.symbol_base ns [] → 1 ≤ t.symbol_base → IsValidGnuTable t (map gnu_hash ns) → length ns ≤ left
     → gnu_find read named name (gnu_hash name) left at t ≡ Ok (first_named t.symbol_base ns name)
 unfolding gnu_find
 gnu_read_found read named left at t ns name s r o laid enough =
@@ -97,7 +97,7 @@ hashes_count : (f : List ℕ → ℕ) (ns : List (List ℕ)) → length (map f n
 hashes_count f ns = length-map ns f
 
 -- a GNU table that stands in bytes is read there
-gnu_is_read : (image : List ℕ) (at : ℕ) (t : GnuHashHeader) (ns : List (List ℕ)) → Stands image at (gnu_table t (map gnu_hash ns)) → t.symbol_base + length ns < 2 ^ 32 → GnuIsRead (read image) at t (map gnu_hash ns)
+gnu_is_read : (image : List ℕ) (at : ℕ) (t : GnuHashHeader) (ns : List (List ℕ)) → HasBytesAt image at (gnu_table t (map gnu_hash ns)) → t.symbol_base + length ns < 2 ^ 32 → GnuIsRead (read image) at t (map gnu_hash ns)
 gnu_is_read image at t ns st few =
     let hs : List ℕ = map gnu_hash ns in
     let count : length hs ≡ length ns = hashes_count gnu_hash ns in
@@ -106,21 +106,21 @@ gnu_is_read image at t ns st few =
     let wide = length-bloom t.bloom_count t.bloom_shift hs in
     let one : at + (16 + 8 * t.bloom_count) ≡ at + 16 + 8 * t.bloom_count = omega arith in
     let two : at + (16 + 8 * t.bloom_count + 4 * t.bucket_count) ≡ at + 16 + 8 * t.bloom_count + 4 * t.bucket_count = omega arith in
-    let bloom_stands = Stands-inner image (gnu_table t hs) (words 8 (bloom t.bloom_count t.bloom_shift hs)) at 16 st s.bloom in
-    let buckets_stand = rw one at (Stands-inner image (gnu_table t hs) (words 4 (buckets t.bucket_count t.symbol_base hs)) at (16 + 8 * t.bloom_count) st s.buckets) in
-    let chains_stand = rw two at (Stands-inner image (gnu_table t hs) (words 4 (gnu_chains t.bucket_count hs)) at (16 + 8 * t.bloom_count + 4 * t.bucket_count) st s.chains) in
+    let bloom_stands = HasBytesAt-inner image (gnu_table t hs) (words 8 (bloom t.bloom_count t.bloom_shift hs)) at 16 st s.bloom in
+    let buckets_stand = rw one at (HasBytesAt-inner image (gnu_table t hs) (words 4 (buckets t.bucket_count t.symbol_base hs)) at (16 + 8 * t.bloom_count) st s.buckets) in
+    let chains_stand = rw two at (HasBytesAt-inner image (gnu_table t hs) (words 4 (gnu_chains t.bucket_count hs)) at (16 + 8 * t.bloom_count + 4 * t.bucket_count) st s.chains) in
     record {
       bloom = reads_words image (at + 16) 8 (bloom t.bloom_count t.bloom_shift hs) bloom_stands (λ k l. bloom_small t.bloom_count t.bloom_shift k hs (omega arith));
       buckets = reads_words image (at + 16 + 8 * t.bloom_count) 4 (buckets t.bucket_count t.symbol_base hs) buckets_stand (λ k l. bucket_small t.bucket_count t.symbol_base k (2 ^ 32) hs (omega arith) (omega arith) (omega arith));
       chains = reads_words image (at + 16 + 8 * t.bloom_count + 4 * t.bucket_count) 4 (gnu_chains t.bucket_count hs) chains_stand (chains_small t.bucket_count hs (hashes_small ns));
     }
 
-pub gnu_stood_found : (image : List ℕ) (named : ℕ → Result (List ℕ) LookupFault) (left at : ℕ) (t : GnuHashHeader) (ns : List (List ℕ)) (name : List ℕ) → Stands image at (gnu_table t (map gnu_hash ns)) → Reads named t.symbol_base ns [] → 1 ≤ t.symbol_base → t.symbol_base + length ns < 2 ^ 32 → IsGnuLaidOut t (map gnu_hash ns) → length ns ≤ left
+pub gnu_stood_found : (image : List ℕ) (named : ℕ → Result (List ℕ) LookupFault) (left at : ℕ) (t : GnuHashHeader) (ns : List (List ℕ)) (name : List ℕ) → HasBytesAt image at (gnu_table t (map gnu_hash ns)) → Reads named t.symbol_base ns [] → 1 ≤ t.symbol_base → t.symbol_base + length ns < 2 ^ 32 → IsValidGnuTable t (map gnu_hash ns) → length ns ≤ left
     → gnu_find (read image) named name (gnu_hash name) left at t ≡ Ok (first_named t.symbol_base ns name)
 gnu_stood_found image named left at t ns name st r o few laid enough = gnu_read_found (read image) named left at t ns name (gnu_is_read image at t ns st few) r o laid enough
 
 -- a System V table that stands in bytes is read there
-sysv_is_read : (image : List ℕ) (at n base : ℕ) (ns : List (List ℕ)) → Stands image at (sysv_table n base (map sysv_hash ns)) → base + length ns < 2 ^ 32 → 1 ≤ n → n < 2 ^ 32 → SysvIsRead (read image) at n base (map sysv_hash ns)
+sysv_is_read : (image : List ℕ) (at n base : ℕ) (ns : List (List ℕ)) → HasBytesAt image at (sysv_table n base (map sysv_hash ns)) → base + length ns < 2 ^ 32 → 1 ≤ n → n < 2 ^ 32 → SysvIsRead (read image) at n base (map sysv_hash ns)
 sysv_is_read image at n base ns st few p f =
     let hs : List ℕ = map sysv_hash ns in
     let count : length hs ≡ length ns = hashes_count sysv_hash ns in
@@ -130,9 +130,9 @@ sysv_is_read image at n base ns st few p f =
     let first_at : at + 4 * 0 ≡ at = omega arith in
     let two : at + (8 + 4 * n + 4 * base) ≡ at + 8 + 4 * n + 4 * base = omega arith in
     let pair : List ℕ = n ∷ (base + length hs) ∷ [] in
-    let counts_stand = rw zero_at at (Stands-inner image (sysv_table n base hs) (words 4 pair) at 0 st s.counts) in
-    let buckets_stand = Stands-inner image (sysv_table n base hs) (words 4 (buckets n base hs)) at 8 st s.buckets in
-    let chains_stand = rw two at (Stands-inner image (sysv_table n base hs) (words 4 (sysv_chains n base hs)) at (8 + 4 * n + 4 * base) st s.chains) in
+    let counts_stand = rw zero_at at (HasBytesAt-inner image (sysv_table n base hs) (words 4 pair) at 0 st s.counts) in
+    let buckets_stand = HasBytesAt-inner image (sysv_table n base hs) (words 4 (buckets n base hs)) at 8 st s.buckets in
+    let chains_stand = rw two at (HasBytesAt-inner image (sysv_table n base hs) (words 4 (sysv_chains n base hs)) at (8 + 4 * n + 4 * base) st s.chains) in
     record {
       buckets_count = rw first_at at (reads_word image at 4 pair 0 counts_stand (omega arith) f);
       count = reads_word image at 4 pair 1 counts_stand (omega arith) (omega arith);
@@ -140,7 +140,7 @@ sysv_is_read image at n base ns st few p f =
       chains = reads_words image (at + 8 + 4 * n + 4 * base) 4 (sysv_chains n base hs) chains_stand (sysv_chains_small n base (2 ^ 32) hs p (omega arith));
     }
 
-pub sysv_stood_found : (image : List ℕ) (named : ℕ → Result (List ℕ) LookupFault) (at n base : ℕ) (ns : List (List ℕ)) (name : List ℕ) → Stands image at (sysv_table n base (map sysv_hash ns)) → Reads named base ns [] → 1 ≤ base → base + length ns < 2 ^ 32 → 1 ≤ n → n < 2 ^ 32
+pub sysv_stood_found : (image : List ℕ) (named : ℕ → Result (List ℕ) LookupFault) (at n base : ℕ) (ns : List (List ℕ)) (name : List ℕ) → HasBytesAt image at (sysv_table n base (map sysv_hash ns)) → Reads named base ns [] → 1 ≤ base → base + length ns < 2 ^ 32 → 1 ≤ n → n < 2 ^ 32
     → sysv_by (read image) named name at ≡ Ok (first_named base ns name)
 sysv_stood_found image named at n base ns name st r o few p f = sysv_read_found (read image) named at n base ns name (sysv_is_read image at n base ns st few p f) r o p
 
@@ -167,10 +167,10 @@ gnu_found header_is_read table symbols strings t ds name st h laid =
     let ns : List (List ℕ) = names_of ds in
     let hs : List ℕ = map gnu_hash ns in
     let same = hashes_of_gnu ds in
-    let st_names : Stands table 0 (gnu_table t hs) = subst (λ (x : List ℕ). Stands table 0 (gnu_table t x)) same st in
-    let laid_names : IsGnuLaidOut t hs = subst (IsGnuLaidOut t) same laid in
+    let st_names : HasBytesAt table 0 (gnu_table t hs) = subst (λ (x : List ℕ). HasBytesAt table 0 (gnu_table t x)) same st in
+    let laid_names : IsValidGnuTable t hs = subst (IsValidGnuTable t) same laid in
     let s = gnu_stands t hs in
-    let front = Stands-inner table (gnu_table t hs) (spell (gnu_hash_header_fields t)) 0 0 st_names s.header in
+    let front = HasBytesAt-inner table (gnu_table t hs) (spell (gnu_hash_header_fields t)) 0 0 st_names s.header in
     let header : gnu_hash_header_at table 0 ≡ t = header_is_read table 0 t laid.fits front in
     let fits = st_names.fits in
     let bloom_fits = s.bloom.fits in
@@ -188,7 +188,7 @@ pub sysv_found : SysvLookUpFindsTheFirst
 unfolding sysv_lookup
 sysv_found table symbols strings n base ds name st h p f =
     let same = hashes_of_sysv ds in
-    let st_names : Stands table 0 (sysv_table n base (map sysv_hash (names_of ds))) = subst (λ (x : List ℕ). Stands table 0 (sysv_table n base x)) same st in
+    let st_names : HasBytesAt table 0 (sysv_table n base (map sysv_hash (names_of ds))) = subst (λ (x : List ℕ). HasBytesAt table 0 (sysv_table n base x)) same st in
     let count : length (names_of ds) ≡ length ds = length-map ds (λ (d : DynamicSymbol). d.name) in
     let few = h.few in
     sysv_stood_found table (symbol_name symbols strings) 0 n base (names_of ds) name st_names (reads_names symbols strings base ds h) h.not_0 (omega (arith, few, count)) p f

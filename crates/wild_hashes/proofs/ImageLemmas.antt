@@ -4,9 +4,9 @@ use Rattle.std.specs.Prelude.{if◌then◌else◌, ◌==◌}
 use Rattle.wild_records.specs.ProgramHeader.{program_header_at}
 use Rattle.wild_records.specs.Dynamic.{dynamic_entry_at}
 use Rattle.wild_loader.specs.Headers.{program_headers}
-use Rattle.wild_loader.specs.Tables.{dynamic_entries, first_dynamic, tagged, has_in_memory}
+use Rattle.wild_loader.specs.Tables.{dynamic_entries, first_dynamic, value_of_tag, has_in_memory}
 use Rattle.wild_hashes.specs.declared.fault.ImageFault.TheVariants as faults
-use Rattle.wild_hashes.specs.Image.{part_in, part_at, bytes_of, bytes_if, gnu_lookup_in, sysv_lookup_in}
+use Rattle.wild_hashes.specs.Image.{part_in, part_at, bytes_of, bytes_or_none, gnu_lookup_in, sysv_lookup_in}
 use Rattle.wild_hashes.specs.Laws.{GnuLookUpFindsTheFirst, GnuLookUpInImagesFindsTheFirst, SysvLookUpFindsTheFirst, SysvLookUpInImagesFindsTheFirst}
 
 headers_more : (image : List ℕ) (count i start : ℕ) → i < count → program_headers image (count - i) (start + 56 * i) ≡ program_header_at image (start + 56 * i) ∷ program_headers image (count - (i + 1)) (start + 56 * (i + 1))
@@ -40,19 +40,19 @@ part_none image count i start a l = rw (headers_none image count i start l) refl
 
 pub ruleset part_steps = (part_more, part_none)
 
-pub tagged_more : (image : List ℕ) (tag count i start : ℕ) → i < count → tagged tag (dynamic_entries image (count - i) (start + 16 * i)) ≡ (if (dynamic_entry_at image (start + 16 * i)).tag == 0 then None else if (dynamic_entry_at image (start + 16 * i)).tag == tag then Some (dynamic_entry_at image (start + 16 * i)).value else tagged tag (dynamic_entries image (count - (i + 1)) (start + 16 * (i + 1))))
-unfolding tagged dynamic_entries
+pub tagged_more : (image : List ℕ) (tag count i start : ℕ) → i < count → value_of_tag tag (dynamic_entries image (count - i) (start + 16 * i)) ≡ (if (dynamic_entry_at image (start + 16 * i)).tag == 0 then None else if (dynamic_entry_at image (start + 16 * i)).tag == tag then Some (dynamic_entry_at image (start + 16 * i)).value else value_of_tag tag (dynamic_entries image (count - (i + 1)) (start + 16 * (i + 1))))
+unfolding value_of_tag dynamic_entries
 tagged_more image tag count i start l =
     let e : count - i ≡ suc (count - (i + 1)) = omega (arith, l) in
     let f : start + 16 * i + 16 ≡ start + 16 * (i + 1) = omega arith in
     rw (e, f) (by_tag ((dynamic_entry_at image (start + 16 * i)).tag == 0))
   where
-    by_tag : (b : Bool) → tagged tag (if b then [] else dynamic_entry_at image (start + 16 * i) ∷ dynamic_entries image (count - (i + 1)) (start + 16 * (i + 1))) ≡ (if b then None else if (dynamic_entry_at image (start + 16 * i)).tag == tag then Some (dynamic_entry_at image (start + 16 * i)).value else tagged tag (dynamic_entries image (count - (i + 1)) (start + 16 * (i + 1))))
+    by_tag : (b : Bool) → value_of_tag tag (if b then [] else dynamic_entry_at image (start + 16 * i) ∷ dynamic_entries image (count - (i + 1)) (start + 16 * (i + 1))) ≡ (if b then None else if (dynamic_entry_at image (start + 16 * i)).tag == tag then Some (dynamic_entry_at image (start + 16 * i)).value else value_of_tag tag (dynamic_entries image (count - (i + 1)) (start + 16 * (i + 1))))
     by_tag true = refl
     by_tag false = refl
 
-pub tagged_none : (image : List ℕ) (tag count i start : ℕ) → count ≤ i → tagged tag (dynamic_entries image (count - i) (start + 16 * i)) ≡ None
-unfolding tagged dynamic_entries
+pub tagged_none : (image : List ℕ) (tag count i start : ℕ) → count ≤ i → value_of_tag tag (dynamic_entries image (count - i) (start + 16 * i)) ≡ None
+unfolding value_of_tag dynamic_entries
 tagged_none image tag count i start l = let e : count - i ≡ 0 = omega (arith, l) in rw e refl
 
 pub ruleset tag_steps = (tagged_more, tagged_none)
@@ -66,11 +66,11 @@ wrapped_once a b = omega arith
 pub gnu_found_in_image : GnuLookUpFindsTheFirst → GnuLookUpInImagesFindsTheFirst
 unfolding gnu_lookup_in
 gnu_found_in_image found image ps t ds name e st named laid =
-    let f = found (bytes_of image ps.hashes) (bytes_if image ps.symbols) (bytes_if image ps.strings) t ds name st named laid in
+    let f = found (bytes_of image ps.hashes) (bytes_or_none image ps.symbols) (bytes_or_none image ps.strings) t ds name st named laid in
     rw (e, f) refl
 
 pub sysv_found_in_image : SysvLookUpFindsTheFirst → SysvLookUpInImagesFindsTheFirst
 unfolding sysv_lookup_in
 sysv_found_in_image found image ps n base ds name e st named p q =
-    let f = found (bytes_of image ps.hashes) (bytes_if image ps.symbols) (bytes_if image ps.strings) n base ds name st named p q in
+    let f = found (bytes_of image ps.hashes) (bytes_or_none image ps.symbols) (bytes_or_none image ps.strings) n base ds name st named p q in
     rw (e, f) refl

@@ -5,8 +5,8 @@ use Rattle.std.specs.List.{position_or_len}
 use Rattle.std.proofs.lemmas.Bool.{ne_eqb, lt-ltb, le-leb}
 use Rattle.std.proofs.lemmas.List.{take-append-drop, length-append}
 use Rattle.std.proofs.Math.Seq.{take-append_seam}
-use Rattle.wild_words.specs.Words.{Stands}
-use Rattle.wild_words.proofs.RecordLemmas.{Stands-slice}
+use Rattle.wild_words.specs.Words.{HasBytesAt}
+use Rattle.wild_words.proofs.RecordLemmas.{HasBytesAt-slice}
 use Rattle.wild_records.specs.SymtabEntry.{symtab_entry_at}
 use Rattle.wild_hashes.specs.Reading.{is_zero, first_bytes, string_at, name_offset, symbol_name, HasNoZero, IsNamed}
 
@@ -25,13 +25,13 @@ string_front at name rest h =
     rw (e, l) (ap (λ (x : List ℕ). Ok x) (take-append_seam name (0 ∷ rest)))
 
 -- what stands at an offset is the front of the rest
-drop-stands : (whole part : List ℕ) (at : ℕ) → Stands whole at part → drop at whole ≡ part ++ drop (length part) (drop at whole)
+drop-stands : (whole part : List ℕ) (at : ℕ) → HasBytesAt whole at part → drop at whole ≡ part ++ drop (length part) (drop at whole)
 drop-stands whole part at s =
     let n : at + length part - at ≡ length part = omega arith in
-    let e = rw n at (Stands-slice whole part at s) in
+    let e = rw n at (HasBytesAt-slice whole part at s) in
     sym (take-append-drop (length part) (drop at whole)) ∙ ap (λ (r : List ℕ). r ++ drop (length part) (drop at whole)) e
 
-pub string_stands : (strings name : List ℕ) (at : ℕ) → Stands strings at (name ++ 0 ∷ []) → HasNoZero name → string_at strings at ≡ Ok name
+pub string_stands : (strings name : List ℕ) (at : ℕ) → HasBytesAt strings at (name ++ 0 ∷ []) → HasNoZero name → string_at strings at ≡ Ok name
 unfolding string_at
 string_stands strings name at s h =
     let rest : List ℕ = drop (length (name ++ 0 ∷ [])) (drop at strings) in

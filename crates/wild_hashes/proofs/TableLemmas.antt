@@ -2,11 +2,11 @@
 use Rattle.std.proofs.Common.{Result, ◌≡◌, ℕ, zero, suc, ◌+◌, ◌-◌, ◌*◌, ◌%◌, ◌^◌, ◌<◌, ◌≤◌, List, [], ◌∷◌, ◌++◌, length, get_or, replicate, refl, arith, ◌∙◌, ap, Ok}
 use Rattle.std.proofs.lemmas.Bool.{le-leb}
 use Rattle.std.proofs.lemmas.List.{length-append, length-replicate}
-use Rattle.wild_words.specs.Words.{word, Stands}
+use Rattle.wild_words.specs.Words.{word, HasBytesAt}
 use Rattle.wild_words.specs.Record.{spell}
 use Rattle.wild_words.proofs.WordLemmas.{length-word}
-use Rattle.wild_words.proofs.OverlayLemmas.{Stands-inner}
-use Rattle.wild_words.proofs.RecordLemmas.{Stands-left, Stands-right, number-stands, length-spell}
+use Rattle.wild_words.proofs.OverlayLemmas.{HasBytesAt-inner}
+use Rattle.wild_words.proofs.RecordLemmas.{HasBytesAt-left, HasBytesAt-right, number-stands, length-spell}
 use Rattle.wild_records.specs.HashTables.{gnu_hash_header_fields}
 use Rattle.wild_records.specs.declared.hash_tables.GnuHashHeader.{GnuHashHeader}
 use Rattle.wild_hashes.specs.declared.fault.LookupFault.{LookupFault}
@@ -25,24 +25,24 @@ length-words w (x ∷ xs) =
     length-append (word w x) (words w xs) ∙ rw (length-word w x, length-words w xs, e) refl
 
 -- each word stands at its place
-pub Stands-word : (w : ℕ) (xs : List ℕ) (k : ℕ) → k < length xs → Stands (words w xs) (w * k) (word w (get_or xs k 0))
+pub HasBytesAt-word : (w : ℕ) (xs : List ℕ) (k : ℕ) → k < length xs → HasBytesAt (words w xs) (w * k) (word w (get_or xs k 0))
 unfolding words
-Stands-word w [] k l = absurd (omega arith)
-Stands-word w (x ∷ xs) zero l = let e : w * 0 ≡ 0 = omega arith in rw e (Stands-left (word w x) (words w xs))
-Stands-word w (x ∷ xs) (suc k) l =
+HasBytesAt-word w [] k l = absurd (omega arith)
+HasBytesAt-word w (x ∷ xs) zero l = let e : w * 0 ≡ 0 = omega arith in rw e (HasBytesAt-left (word w x) (words w xs))
+HasBytesAt-word w (x ∷ xs) (suc k) l =
     let e : length (word w x) + w * k ≡ w * suc k = let n = length-word w x in omega arith in
-    rw e at (Stands-right (word w x) (words w xs) (word w (get_or xs k 0)) (w * k) (Stands-word w xs k (omega arith)))
+    rw e at (HasBytesAt-right (word w x) (words w xs) (word w (get_or xs k 0)) (w * k) (HasBytesAt-word w xs k (omega arith)))
 
 -- each word is read where they stand
-pub reads_word : (table : List ℕ) (at w : ℕ) (xs : List ℕ) (k : ℕ) → Stands table at (words w xs) → k < length xs → get_or xs k 0 < 256 ^ w → read table (at + w * k) w ≡ Ok (get_or xs k 0)
+pub reads_word : (table : List ℕ) (at w : ℕ) (xs : List ℕ) (k : ℕ) → HasBytesAt table at (words w xs) → k < length xs → get_or xs k 0 < 256 ^ w → read table (at + w * k) w ≡ Ok (get_or xs k 0)
 unfolding read
 reads_word table at w xs k s l b =
-    let here = Stands-inner table (words w xs) (word w (get_or xs k 0)) at (w * k) s (Stands-word w xs k l) in
+    let here = HasBytesAt-inner table (words w xs) (word w (get_or xs k 0)) at (w * k) s (HasBytesAt-word w xs k l) in
     let fits = rw (length-word w (get_or xs k 0)) at here.fits in
     rw (le-leb (at + w * k + w) (length table) fits, number-stands table (at + w * k) w (get_or xs k 0) here b) refl
 
 -- words that stand in bytes are read
-pub reads_words : (table : List ℕ) (at w : ℕ) (xs : List ℕ) → Stands table at (words w xs) → ((k : ℕ) → k < length xs → get_or xs k 0 < 256 ^ w) → ReadsWords (read table) at w xs
+pub reads_words : (table : List ℕ) (at w : ℕ) (xs : List ℕ) → HasBytesAt table at (words w xs) → ((k : ℕ) → k < length xs → get_or xs k 0 < 256 ^ w) → ReadsWords (read table) at w xs
 reads_words table at w xs s b k l = reads_word table at w xs k s l (b k l)
 
 -- the chain from a symbol on
@@ -65,9 +65,9 @@ sysv_chains_small n i m (g ∷ hs) p h (suc k) l = sysv_chains_small n (i + 1) m
 
 -- the parts of a System V table stand in bytes
 pub record SysvStands (table : List ℕ) (n base : ℕ) (hs : List ℕ) : Type 0 where
-  pub counts : Stands table 0 (words 4 (n ∷ (base + length hs) ∷ []))
-  pub buckets : Stands table 8 (words 4 (buckets n base hs))
-  pub chains : Stands table (8 + 4 * n + 4 * base) (words 4 (sysv_chains n base hs))
+  pub counts : HasBytesAt table 0 (words 4 (n ∷ (base + length hs) ∷ []))
+  pub buckets : HasBytesAt table 8 (words 4 (buckets n base hs))
+  pub chains : HasBytesAt table (8 + 4 * n + 4 * base) (words 4 (sysv_chains n base hs))
 
 pub sysv_stands : (n base : ℕ) (hs : List ℕ) → SysvStands (sysv_table n base hs) n base hs
 unfolding sysv_table
@@ -81,11 +81,11 @@ sysv_stands n base hs =
     let three : length none ≡ 4 * base = length-words 4 (replicate base 0) ∙ ap (λ (k : ℕ). 4 * k) (length-replicate base 0) in
     let buckets_at : length front + 0 ≡ 8 = omega arith in
     let chains_at : length front + (length bs + (length none + 0)) ≡ 8 + 4 * n + 4 * base = omega arith in
-    let last : Stands cs 0 cs = record { fits = omega arith; same = λ k l. let z : 0 + k ≡ k = omega arith in rw z refl } in
+    let last : HasBytesAt cs 0 cs = record { fits = omega arith; same = λ k l. let z : 0 + k ≡ k = omega arith in rw z refl } in
     record {
-      counts = Stands-left front (bs ++ (none ++ cs));
-      buckets = rw buckets_at at (Stands-right front (bs ++ (none ++ cs)) bs 0 (Stands-left bs (none ++ cs)));
-      chains = rw chains_at at (Stands-right front (bs ++ (none ++ cs)) cs (length bs + (length none + 0)) (Stands-right bs (none ++ cs) cs (length none + 0) (Stands-right none cs cs 0 last)));
+      counts = HasBytesAt-left front (bs ++ (none ++ cs));
+      buckets = rw buckets_at at (HasBytesAt-right front (bs ++ (none ++ cs)) bs 0 (HasBytesAt-left bs (none ++ cs)));
+      chains = rw chains_at at (HasBytesAt-right front (bs ++ (none ++ cs)) cs (length bs + (length none + 0)) (HasBytesAt-right bs (none ++ cs) cs (length none + 0) (HasBytesAt-right none cs cs 0 last)));
     }
 
 -- ---- GNU
@@ -96,10 +96,10 @@ length-gnu_chains n (h ∷ hs) = let e = length-gnu_chains n hs in omega arith
 
 -- the parts of a GNU table stand in bytes
 pub record GnuStands (table : List ℕ) (t : GnuHashHeader) (hs : List ℕ) : Type 0 where
-  pub header : Stands table 0 (spell (gnu_hash_header_fields t))
-  pub bloom : Stands table 16 (words 8 (bloom t.bloom_count t.bloom_shift hs))
-  pub buckets : Stands table (16 + 8 * t.bloom_count) (words 4 (buckets t.bucket_count t.symbol_base hs))
-  pub chains : Stands table (16 + 8 * t.bloom_count + 4 * t.bucket_count) (words 4 (gnu_chains t.bucket_count hs))
+  pub header : HasBytesAt table 0 (spell (gnu_hash_header_fields t))
+  pub bloom : HasBytesAt table 16 (words 8 (bloom t.bloom_count t.bloom_shift hs))
+  pub buckets : HasBytesAt table (16 + 8 * t.bloom_count) (words 4 (buckets t.bucket_count t.symbol_base hs))
+  pub chains : HasBytesAt table (16 + 8 * t.bloom_count + 4 * t.bucket_count) (words 4 (gnu_chains t.bucket_count hs))
 
 length-header : (t : GnuHashHeader) → length (spell (gnu_hash_header_fields t)) ≡ 16
 unfolding gnu_hash_header_fields
@@ -118,12 +118,12 @@ gnu_stands t hs =
     let bloom_at : length front + 0 ≡ 16 = omega arith in
     let buckets_at : length front + (length filter + 0) ≡ 16 + 8 * t.bloom_count = omega arith in
     let chains_at : length front + (length filter + (length bs + 0)) ≡ 16 + 8 * t.bloom_count + 4 * t.bucket_count = omega arith in
-    let last : Stands cs 0 cs = record { fits = omega arith; same = λ k l. let z : 0 + k ≡ k = omega arith in rw z refl } in
+    let last : HasBytesAt cs 0 cs = record { fits = omega arith; same = λ k l. let z : 0 + k ≡ k = omega arith in rw z refl } in
     record {
-      header = Stands-left front (filter ++ (bs ++ cs));
-      bloom = rw bloom_at at (Stands-right front (filter ++ (bs ++ cs)) filter 0 (Stands-left filter (bs ++ cs)));
-      buckets = rw buckets_at at (Stands-right front (filter ++ (bs ++ cs)) bs (length filter + 0) (Stands-right filter (bs ++ cs) bs 0 (Stands-left bs cs)));
-      chains = rw chains_at at (Stands-right front (filter ++ (bs ++ cs)) cs (length filter + (length bs + 0)) (Stands-right filter (bs ++ cs) cs (length bs + 0) (Stands-right bs cs cs 0 last)));
+      header = HasBytesAt-left front (filter ++ (bs ++ cs));
+      bloom = rw bloom_at at (HasBytesAt-right front (filter ++ (bs ++ cs)) filter 0 (HasBytesAt-left filter (bs ++ cs)));
+      buckets = rw buckets_at at (HasBytesAt-right front (filter ++ (bs ++ cs)) bs (length filter + 0) (HasBytesAt-right filter (bs ++ cs) bs 0 (HasBytesAt-left bs cs)));
+      chains = rw chains_at at (HasBytesAt-right front (filter ++ (bs ++ cs)) cs (length filter + (length bs + 0)) (HasBytesAt-right filter (bs ++ cs) cs (length bs + 0) (HasBytesAt-right bs cs cs 0 last)));
     }
 
 -- ---- lengths

@@ -10,7 +10,7 @@ use Rattle.wild_words.proofs.OverlayLemmas.{length-place}
 use Rattle.wild_words.proofs.RecordLemmas.{number-stands}
 use Rattle.wild_types.specs.declared.layout.DynamicSymbol.{DynamicSymbol}
 use Rattle.wild_hashes.specs.Tables.{gnu_hash_of, sysv_hash_of, words, buckets, bloom, with_bits, gnu_chains, sysv_chains, is_last}
-use Rattle.wild_hashes.proofs.TableLemmas.{Stands-word}
+use Rattle.wild_hashes.proofs.TableLemmas.{HasBytesAt-word}
 use Rattle.wild_hashes.proofs.BucketLemmas.{length-buckets, bucket_small, bucket_is, buckets-nil, buckets-cons}
 use Rattle.wild_hashes.proofs.BloomLemmas.{length-bloom, bloom_small, bloom-nil, bloom-cons}
 
@@ -85,7 +85,7 @@ pub ruleset bucket_steps = (buckets_more, buckets_none, buckets_all, place_withi
 
 -- a word of words, as it is read
 pub words_read : (w k : ℕ) (xs : List ℕ) → k < length xs → get_or xs k 0 < 256 ^ w → number (slice_range (words w xs) (w * k) (w * k + w)) ≡ get_or xs k 0
-words_read w k xs l b = number-stands (words w xs) (w * k) w (get_or xs k 0) (Stands-word w xs k l) b
+words_read w k xs l b = number-stands (words w xs) (w * k) w (get_or xs k 0) (HasBytesAt-word w xs k l) b
 
 pub bloom_more : (n shift i j v : ℕ) (names : List DynamicSymbol) (x : DynamicSymbol) (out : List ℕ) → 0 < n → i < length names → j ≡ i + 1 → x ≡ get_or names i x → out ≡ words 8 (bloom n shift (map gnu_hash_of (drop j names)))
     → v ≡ number (slice_range out (8 * (gnu_hash_of x / 64 % n)) (8 * (gnu_hash_of x / 64 % n) + 8))

@@ -14,7 +14,7 @@ use Rattle.wild_records.specs.declared.dynamic.DynamicEntry.{DynamicEntry}
 use Rattle.wild_records.specs.declared.file_header.FileHeader.{FileHeader}
 use Rattle.wild_records.specs.declared.program_header.ProgramHeader.{ProgramHeader}
 use Rattle.wild_loader.specs.Headers.{is_loadable_header, program_headers}
-use Rattle.wild_loader.specs.Tables.{dynamic_entries, first_dynamic, tagged, has_in_memory, offset_in}
+use Rattle.wild_loader.specs.Tables.{dynamic_entries, first_dynamic, value_of_tag, has_in_memory, offset_in}
 use Rattle.wild_hashes.specs.declared.fault.LookupFault.{LookupFault}
 use Rattle.wild_hashes.specs.declared.fault.LookupFault.TheVariants as low
 use Rattle.wild_hashes.specs.declared.fault.ImageFault.{ImageFault}
@@ -65,15 +65,15 @@ part_of image hs tag None = Err (faults.NoTable tag)
 part_of image hs tag (Some a) = part_at image hs a
 
 -- the first n bytes of a part; if it has fewer, the table is cut
-abbrev pub sized : ℕ → Part → Result Part ImageFault
-sized n p = if nat_le n p.size then Ok (record p { size = n }) else Err (faults.Cut p.offset)
+abbrev pub sized_part : ℕ → Part → Result Part ImageFault
+sized_part n p = if nat_le n p.size then Ok (record p { size = n }) else Err (faults.Cut p.offset)
 
 -- the string table, from DT_STRTAB and DT_STRSZ; if only one is present, the fault has its tag
 unfoldable pub strings_of : List ℕ → List ProgramHeader → Option ℕ → Option ℕ → Result Part ImageFault
 strings_of image hs None None = Err (faults.NoTable dt_strtab)
 strings_of image hs None (Some n) = Err (faults.NoTable dt_strsz)
 strings_of image hs (Some a) None = Err (faults.NoTable dt_strtab)
-strings_of image hs (Some a) (Some n) = part_at image hs a >>> λ p. sized n p
+strings_of image hs (Some a) (Some n) = part_at image hs a >>> λ p. sized_part n p
 
 -- the tables for a look-up in the hash table at an address; the symbol and string tables are only needed once a name is compared, so
 -- a fault of theirs is kept until then
@@ -81,10 +81,10 @@ abbrev pub parts_by : List ℕ → List ProgramHeader → List DynamicEntry → 
 parts_by image hs ds None = Ok None
 parts_by image hs ds (Some a) =
     part_at image hs a >>> λ t.
-    Ok (Some (record { hashes = t; symbols = part_of image hs dt_symtab (tagged dt_symtab ds); strings = strings_of image hs (tagged dt_strtab ds) (tagged dt_strsz ds) }))
+    Ok (Some (record { hashes = t; symbols = part_of image hs dt_symtab (value_of_tag dt_symtab ds); strings = strings_of image hs (value_of_tag dt_strtab ds) (value_of_tag dt_strsz ds) }))
 
 abbrev pub parts_of : List ℕ → List ProgramHeader → ℕ → Result (Option Parts) ImageFault
-parts_of image hs tag = dynamic_in image (first_dynamic hs) >>> λ ds. parts_by image hs ds (tagged tag ds)
+parts_of image hs tag = dynamic_in image (first_dynamic hs) >>> λ ds. parts_by image hs ds (value_of_tag tag ds)
 
 -- the tables for a look-up in the hash table of a tag
 unfoldable pub tables_of : List ℕ → ℕ → Result (Option Parts) ImageFault
@@ -107,33 +107,33 @@ abbrev pub bytes_of : List ℕ → Part → List ℕ
 bytes_of image p = take p.size (drop p.start image)
 
 -- the bytes of a part; none if it was not found
-abbrev pub bytes_if : List ℕ → Result Part ImageFault → List ℕ
-bytes_if image (Ok p) = bytes_of image p
-bytes_if image (Err e) = []
+abbrev pub bytes_or_none : List ℕ → Result Part ImageFault → List ℕ
+bytes_or_none image (Ok p) = bytes_of image p
+bytes_or_none image (Err e) = []
 
 -- the fault at an offset of a part, or the fault because of which the part was not found
-abbrev pub cut_in : Result Part ImageFault → ℕ → ImageFault
-cut_in (Ok p) at = faults.Cut ((p.offset + at) % 2 ^ 64)
-cut_in (Err e) at = e
+abbrev pub fault_in_part : Result Part ImageFault → ℕ → ImageFault
+fault_in_part (Ok p) at = faults.Cut ((p.offset + at) % 2 ^ 64)
+fault_in_part (Err e) at = e
 
 -- a fault of the look-up in tables, with its offset in the image
-abbrev pub placed : Parts → LookupFault → ImageFault
-placed ps (low.Cut at) = faults.Cut ((ps.hashes.offset + at) % 2 ^ 64)
-placed ps (low.NoSymbol i) = cut_in ps.symbols (symtab_entry_size * i)
-placed ps (low.NoString at) = cut_in ps.strings at
-placed ps (low.Cycle i) = faults.Cycle i
+abbrev pub fault_in_image : Parts → LookupFault → ImageFault
+fault_in_image ps (low.Cut at) = faults.Cut ((ps.hashes.offset + at) % 2 ^ 64)
+fault_in_image ps (low.NoSymbol i) = fault_in_part ps.symbols (symtab_entry_size * i)
+fault_in_image ps (low.NoString at) = fault_in_part ps.strings at
+fault_in_image ps (low.Cycle i) = faults.Cycle i
 
-abbrev pub answer : Parts → Result (Option ℕ) LookupFault → Result (Option ℕ) ImageFault
-answer ps (Ok found) = Ok found
-answer ps (Err e) = Err (placed ps e)
+abbrev pub result_in_image : Parts → Result (Option ℕ) LookupFault → Result (Option ℕ) ImageFault
+result_in_image ps (Ok found) = Ok found
+result_in_image ps (Err e) = Err (fault_in_image ps e)
 
 abbrev pub gnu_by : List ℕ → List ℕ → Option Parts → Result (Option ℕ) ImageFault
 gnu_by image name None = Ok None
-gnu_by image name (Some ps) = answer ps (gnu_lookup (bytes_of image ps.hashes) (bytes_if image ps.symbols) (bytes_if image ps.strings) name)
+gnu_by image name (Some ps) = result_in_image ps (gnu_lookup (bytes_of image ps.hashes) (bytes_or_none image ps.symbols) (bytes_or_none image ps.strings) name)
 
 abbrev pub sysv_by : List ℕ → List ℕ → Option Parts → Result (Option ℕ) ImageFault
 sysv_by image name None = Ok None
-sysv_by image name (Some ps) = answer ps (sysv_lookup (bytes_of image ps.hashes) (bytes_if image ps.symbols) (bytes_if image ps.strings) name)
+sysv_by image name (Some ps) = result_in_image ps (sysv_lookup (bytes_of image ps.hashes) (bytes_or_none image ps.symbols) (bytes_or_none image ps.strings) name)
 
 -- the symbol that the look-up in the GNU table of an image finds
 unfoldable pub gnu_lookup_in : List ℕ → List ℕ → Result (Option ℕ) ImageFault

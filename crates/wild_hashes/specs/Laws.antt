@@ -1,14 +1,14 @@
 -- What a look-up finds in a table of names.
 --   LengthsOfSysvTables, LengthsOfGnuTables   the lengths of the tables
 --   first_named i ns name      the first symbol with a name; ns are the names from symbol i on
---   IsGnuLaidOut t hs          the conditions on a GNU table's header, and on the order of its symbols
+--   IsValidGnuTable t hs          the conditions on a GNU table's header, and on the order of its symbols
 --   Reads, ReadsWords          a reader returns these items
 --   GnuIsRead, SysvIsRead      a reader returns the words of a table
 --   AreNumbered                the defined symbols in the symbol and string tables
 --   GnuLookUpFindsTheFirst, SysvLookUpFindsTheFirst   the first symbol with any name is found, and none if no symbol has it
 --   GnuLookUpInImagesFindsTheFirst, SysvLookUpInImagesFindsTheFirst   the same in an image that refers to such tables
 use Rattle.std.specs.Prelude.{Bool, true, ◌&&◌, nat_le, Result, ◌*◌, slice_index, slice_index_or, ◌≡◌, ℕ, ◌+◌, ◌%◌, ◌^◌, ◌<◌, ◌≤◌, if◌then◌else◌, List, [], ◌∷◌, length, map, bytes_eq, AllPairs, Option, Some, None, Ok}
-use Rattle.wild_words.specs.Words.{Stands}
+use Rattle.wild_words.specs.Words.{HasBytesAt}
 use Rattle.wild_records.specs.Hashes.{gnu_hash, sysv_hash}
 use Rattle.wild_records.specs.HashTables.{GnuHashHeaderFits}
 use Rattle.wild_records.specs.declared.hash_tables.GnuHashHeader.{GnuHashHeader}
@@ -18,7 +18,7 @@ use Rattle.wild_hashes.specs.Tables.{sysv_hash_of, gnu_hash_of, bloom, buckets, 
 use Rattle.wild_hashes.specs.Reading.{read, IsNamed}
 use Rattle.wild_records.specs.Abi.Dynamic.{dt_hash, dt_gnu_hash}
 use Rattle.wild_hashes.specs.declared.image.Parts.{Parts}
-use Rattle.wild_hashes.specs.Image.{tables_of, bytes_of, bytes_if, gnu_lookup_in, sysv_lookup_in}
+use Rattle.wild_hashes.specs.Image.{tables_of, bytes_of, bytes_or_none, gnu_lookup_in, sysv_lookup_in}
 use Rattle.wild_hashes.specs.LookUp.{gnu_find, sysv_by, gnu_lookup, sysv_lookup}
 
 -- ---- lengths
@@ -39,7 +39,7 @@ first_named i [] name = None
 first_named i (n ∷ ns) name = if bytes_eq n name then Some i else first_named (i + 1) ns name
 
 -- the conditions on a GNU table's header and on the hashes of the defined symbols, which ascend by bucket
-pub record IsGnuLaidOut (t : GnuHashHeader) (hs : List ℕ) : Type 0 where
+pub record IsValidGnuTable (t : GnuHashHeader) (hs : List ℕ) : Type 0 where
   pub fits : GnuHashHeaderFits t
   pub some_bucket : 1 ≤ t.bucket_count
   pub some_bloom : 1 ≤ t.bloom_count
@@ -71,7 +71,7 @@ pub record SysvIsRead (read : ℕ → ℕ → Result ℕ LookupFault) (at n base
 -- none if no symbol has it
 abbrev pub GnuReadersFindTheFirst : Type 0
 GnuReadersFindTheFirst = (read : ℕ → ℕ → Result ℕ LookupFault) (named : ℕ → Result (List ℕ) LookupFault) (left at : ℕ) (t : GnuHashHeader) (ns : List (List ℕ)) (name : List ℕ) → GnuIsRead read at t (map gnu_hash ns) → Reads named t.symbol_base ns [] → 1 ≤ t.symbol_base
-    → IsGnuLaidOut t (map gnu_hash ns) → length ns ≤ left → gnu_find read named name (gnu_hash name) left at t ≡ Ok (first_named t.symbol_base ns name)
+    → IsValidGnuTable t (map gnu_hash ns) → length ns ≤ left → gnu_find read named name (gnu_hash name) left at t ≡ Ok (first_named t.symbol_base ns name)
 
 -- the same for a System V table
 abbrev pub SysvReadersFindTheFirst : Type 0
@@ -81,12 +81,12 @@ SysvReadersFindTheFirst = (read : ℕ → ℕ → Result ℕ LookupFault) (named
 -- if a GNU table is in bytes at offset at, and a reader returns the names ns from its base on, the look-up finds the first symbol
 -- with a name
 abbrev pub GnuTablesInBytesFindTheFirst : Type 0
-GnuTablesInBytesFindTheFirst = (image : List ℕ) (named : ℕ → Result (List ℕ) LookupFault) (left at : ℕ) (t : GnuHashHeader) (ns : List (List ℕ)) (name : List ℕ) → Stands image at (gnu_table t (map gnu_hash ns)) → Reads named t.symbol_base ns [] → 1 ≤ t.symbol_base
-    → t.symbol_base + length ns < 2 ^ 32 → IsGnuLaidOut t (map gnu_hash ns) → length ns ≤ left → gnu_find (read image) named name (gnu_hash name) left at t ≡ Ok (first_named t.symbol_base ns name)
+GnuTablesInBytesFindTheFirst = (image : List ℕ) (named : ℕ → Result (List ℕ) LookupFault) (left at : ℕ) (t : GnuHashHeader) (ns : List (List ℕ)) (name : List ℕ) → HasBytesAt image at (gnu_table t (map gnu_hash ns)) → Reads named t.symbol_base ns [] → 1 ≤ t.symbol_base
+    → t.symbol_base + length ns < 2 ^ 32 → IsValidGnuTable t (map gnu_hash ns) → length ns ≤ left → gnu_find (read image) named name (gnu_hash name) left at t ≡ Ok (first_named t.symbol_base ns name)
 
 -- the same for a System V table
 abbrev pub SysvTablesInBytesFindTheFirst : Type 0
-SysvTablesInBytesFindTheFirst = (image : List ℕ) (named : ℕ → Result (List ℕ) LookupFault) (at n base : ℕ) (ns : List (List ℕ)) (name : List ℕ) → Stands image at (sysv_table n base (map sysv_hash ns)) → Reads named base ns [] → 1 ≤ base → base + length ns < 2 ^ 32 → 1 ≤ n → n < 2 ^ 32
+SysvTablesInBytesFindTheFirst = (image : List ℕ) (named : ℕ → Result (List ℕ) LookupFault) (at n base : ℕ) (ns : List (List ℕ)) (name : List ℕ) → HasBytesAt image at (sysv_table n base (map sysv_hash ns)) → Reads named base ns [] → 1 ≤ base → base + length ns < 2 ^ 32 → 1 ≤ n → n < 2 ^ 32
     → sysv_by (read image) named name at ≡ Ok (first_named base ns name)
 
 -- each hash's bucket is at most the next one's
@@ -118,23 +118,23 @@ pub record AreNumbered (symbols strings : List ℕ) (base : ℕ) (ds : List Dyna
 -- if bytes begin with a GNU table of the defined symbols, the look-up of any name finds the first symbol with that name, and none if
 -- no symbol has it
 abbrev pub GnuLookUpFindsTheFirst : Type 0
-GnuLookUpFindsTheFirst = (table symbols strings : List ℕ) (t : GnuHashHeader) (ds : List DynamicSymbol) (name : List ℕ) → Stands table 0 (gnu_table t (map gnu_hash_of ds)) → AreNumbered symbols strings t.symbol_base ds → IsGnuLaidOut t (map gnu_hash_of ds)
+GnuLookUpFindsTheFirst = (table symbols strings : List ℕ) (t : GnuHashHeader) (ds : List DynamicSymbol) (name : List ℕ) → HasBytesAt table 0 (gnu_table t (map gnu_hash_of ds)) → AreNumbered symbols strings t.symbol_base ds → IsValidGnuTable t (map gnu_hash_of ds)
     → gnu_lookup table symbols strings name ≡ Ok (first_named t.symbol_base (names_of ds) name)
 
 -- the same for a System V table
 abbrev pub SysvLookUpFindsTheFirst : Type 0
-SysvLookUpFindsTheFirst = (table symbols strings : List ℕ) (n base : ℕ) (ds : List DynamicSymbol) (name : List ℕ) → Stands table 0 (sysv_table n base (map sysv_hash_of ds)) → AreNumbered symbols strings base ds → 1 ≤ n → n < 2 ^ 32
+SysvLookUpFindsTheFirst = (table symbols strings : List ℕ) (n base : ℕ) (ds : List DynamicSymbol) (name : List ℕ) → HasBytesAt table 0 (sysv_table n base (map sysv_hash_of ds)) → AreNumbered symbols strings base ds → 1 ≤ n → n < 2 ^ 32
     → sysv_lookup table symbols strings name ≡ Ok (first_named base (names_of ds) name)
 
 -- if an image's dynamic section refers to such tables, the look-up in the image finds the first symbol with any name, and none if no
 -- symbol has it
 abbrev pub GnuLookUpInImagesFindsTheFirst : Type 0
-GnuLookUpInImagesFindsTheFirst = (image : List ℕ) (ps : Parts) (t : GnuHashHeader) (ds : List DynamicSymbol) (name : List ℕ) → tables_of image dt_gnu_hash ≡ Ok (Some ps) → Stands (bytes_of image ps.hashes) 0 (gnu_table t (map gnu_hash_of ds))
-    → AreNumbered (bytes_if image ps.symbols) (bytes_if image ps.strings) t.symbol_base ds → IsGnuLaidOut t (map gnu_hash_of ds)
+GnuLookUpInImagesFindsTheFirst = (image : List ℕ) (ps : Parts) (t : GnuHashHeader) (ds : List DynamicSymbol) (name : List ℕ) → tables_of image dt_gnu_hash ≡ Ok (Some ps) → HasBytesAt (bytes_of image ps.hashes) 0 (gnu_table t (map gnu_hash_of ds))
+    → AreNumbered (bytes_or_none image ps.symbols) (bytes_or_none image ps.strings) t.symbol_base ds → IsValidGnuTable t (map gnu_hash_of ds)
     → gnu_lookup_in image name ≡ Ok (first_named t.symbol_base (names_of ds) name)
 
 -- the same for a System V table
 abbrev pub SysvLookUpInImagesFindsTheFirst : Type 0
-SysvLookUpInImagesFindsTheFirst = (image : List ℕ) (ps : Parts) (n base : ℕ) (ds : List DynamicSymbol) (name : List ℕ) → tables_of image dt_hash ≡ Ok (Some ps) → Stands (bytes_of image ps.hashes) 0 (sysv_table n base (map sysv_hash_of ds))
-    → AreNumbered (bytes_if image ps.symbols) (bytes_if image ps.strings) base ds → 1 ≤ n → n < 2 ^ 32
+SysvLookUpInImagesFindsTheFirst = (image : List ℕ) (ps : Parts) (n base : ℕ) (ds : List DynamicSymbol) (name : List ℕ) → tables_of image dt_hash ≡ Ok (Some ps) → HasBytesAt (bytes_of image ps.hashes) 0 (sysv_table n base (map sysv_hash_of ds))
+    → AreNumbered (bytes_or_none image ps.symbols) (bytes_or_none image ps.strings) base ds → 1 ≤ n → n < 2 ^ 32
     → sysv_lookup_in image name ≡ Ok (first_named base (names_of ds) name)

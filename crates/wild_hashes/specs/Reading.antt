@@ -6,7 +6,7 @@
 --   HasNoZero name                 a name has no zero byte
 --   IsNamed symbols strings i name symbol i is in the symbol table, and its st_name is the offset of this name
 use Rattle.std.specs.Prelude.{◌≡◌, ℕ, ◌+◌, ◌*◌, ◌<◌, ◌≤◌, Bool, ◌==◌, nat_le, if◌then◌else◌, List, [], ◌∷◌, ◌++◌, length, take, drop, slice_index, position, bytes_eq, Option, Some, None, Result, Ok, Err}
-use Rattle.wild_words.specs.Words.{number_at, Stands}
+use Rattle.wild_words.specs.Words.{number_at, HasBytesAt}
 use Rattle.wild_records.specs.SymtabEntry.{symtab_entry_size, symtab_entry_at}
 use Rattle.wild_hashes.specs.declared.fault.LookupFault.{LookupFault}
 use Rattle.wild_hashes.specs.declared.fault.LookupFault.TheVariants as faults
@@ -55,5 +55,5 @@ HasNoZero name = (k : ℕ) → k < length name → slice_index name k ≡ 0 → 
 -- symbol i is in the symbol table, and at its st_name the string table has the name and a zero
 pub record IsNamed (symbols strings : List ℕ) (i : ℕ) (name : List ℕ) : Type 0 where
   pub inside : symtab_entry_size * i + symtab_entry_size ≤ length symbols
-  pub named : Stands strings (symtab_entry_at symbols (symtab_entry_size * i)).name (name ++ 0 ∷ [])
+  pub named : HasBytesAt strings (symtab_entry_at symbols (symtab_entry_size * i)).name (name ++ 0 ∷ [])
   pub no_zero : HasNoZero name

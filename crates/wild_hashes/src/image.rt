@@ -5,8 +5,8 @@ ghost use Rattle.wild_records.specs.FileHeader.{file_header_at};
 ghost use Rattle.wild_records.specs.ProgramHeader.{program_header_size};
 ghost use Rattle.wild_records.specs.SymtabEntry.{symtab_entry_size};
 ghost use Rattle.wild_loader.specs.Headers.{is_loadable_header, program_headers};
-ghost use Rattle.wild_loader.specs.Tables.{dynamic_entries, first_dynamic, tagged, has_in_memory};
-ghost use Rattle.wild_hashes.specs.Image.{image_header, dynamic_in, part_in, part_at, part_of, sized, strings_of, parts_by, tables_of, IsInside, AreInside, bytes_of, bytes_if, cut_in, placed, answer, gnu_lookup_in, sysv_lookup_in};
+ghost use Rattle.wild_loader.specs.Tables.{dynamic_entries, first_dynamic, value_of_tag, has_in_memory};
+ghost use Rattle.wild_hashes.specs.Image.{image_header, dynamic_in, part_in, part_at, part_of, sized_part, strings_of, parts_by, tables_of, IsInside, AreInside, bytes_of, bytes_or_none, fault_in_part, fault_in_image, result_in_image, gnu_lookup_in, sysv_lookup_in};
 
 use crate::fault::{ImageFault, LookupFault};
 use crate::lookup::{find_gnu_symbol, find_sysv_symbol};
@@ -97,7 +97,7 @@ fn find_dynamic(image: &[u8], headers: Records) -> Option<ProgramHeader>
 #[tactic(auto, using(crate::proofs::ImageLemmas::tag_steps))]
 fn find_tag(image: &[u8], entries: Records, tag: u64) -> Option<u64>
     requires { entries.start + dynamic_entry_size * entries.count ≤ length image.now }
-    ensures { result ≡ tagged tag (dynamic_entries image.now entries.count entries.start) }
+    ensures { result ≡ value_of_tag tag (dynamic_entries image.now entries.count entries.start) }
 {
     for i in 0..entries.count {
         let entry = DynamicEntry::read(image, entries.start + DynamicEntry::SIZE * i);
@@ -112,7 +112,7 @@ fn find_tag(image: &[u8], entries: Records, tag: u64) -> Option<u64>
 }
 
 /// Whether a program header is a `PT_LOAD` that contains an address in memory.
-fn is_in(header: &ProgramHeader, address: u64) -> bool
+fn segment_contains(header: &ProgramHeader, address: u64) -> bool
     ensures { result ≡ has_in_memory header.now address }
 {
     header.kind == PT_LOAD
@@ -148,7 +148,7 @@ fn find_part(image: &[u8], headers: Records, address: u64) -> Result<Part, Image
 {
     for i in 0..headers.count {
         let header = ProgramHeader::read(image, headers.start + ProgramHeader::SIZE * i);
-        if is_in(&header, address) {
+        if segment_contains(&header, address) {
             return Ok(part_within(image, &header, address));
         }
     }
@@ -174,8 +174,8 @@ fn find_table(
 }
 
 /// The first `size` bytes of a part. Fails if it has fewer.
-fn sized(part: Part, size: u64) -> Result<Part, ImageFault>
-    ensures { result ≡ sized size part }
+fn sized_part(part: Part, size: u64) -> Result<Part, ImageFault>
+    ensures { result ≡ sized_part size part }
 {
     if size <= part.size as u64 {
         Ok(Part {
@@ -203,7 +203,7 @@ fn find_strings(
     ensures room { IfOk result (λ p. IsInside image.now p) }
 {
     match (address, size) {
-        (Some(address), Some(size)) => sized(find_part(image, headers, address)?, size),
+        (Some(address), Some(size)) => sized_part(find_part(image, headers, address)?, size),
         (None, Some(_)) => Err(ImageFault::NoTable { tag: DT_STRSZ }),
         _ => Err(ImageFault::NoTable { tag: DT_STRTAB }),
     }
@@ -243,7 +243,7 @@ fn find_parts(
 ) -> Result<Option<Parts>, ImageFault>
     requires headers { headers.start + program_header_size * headers.count ≤ length image.now }
     requires entries { entries.start + dynamic_entry_size * entries.count ≤ length image.now }
-    ensures is { let ds = dynamic_entries image.now entries.count entries.start in result ≡ parts_by image.now (program_headers image.now headers.count headers.start) ds (tagged tag ds) }
+    ensures is { let ds = dynamic_entries image.now entries.count entries.start in result ≡ parts_by image.now (program_headers image.now headers.count headers.start) ds (value_of_tag tag ds) }
     ensures room { IfOk result (λ found. IfSome found (λ ps. AreInside image.now ps)) }
 {
     let Some(address) = find_tag(image, entries, tag) else {
@@ -286,9 +286,9 @@ fn bytes_of(image: &[u8], part: Part) -> &[u8]
 }
 
 /// The bytes of a part; none if it was not found.
-fn bytes_if(image: &[u8], part: Result<Part, ImageFault>) -> &[u8]
+fn bytes_or_none(image: &[u8], part: Result<Part, ImageFault>) -> &[u8]
     requires { IfOk part (λ p. IsInside image.now p) }
-    ensures { result.now ≡ bytes_if image.now part }
+    ensures { result.now ≡ bytes_or_none image.now part }
 {
     match part {
         Ok(part) => bytes_of(image, part),
@@ -297,8 +297,8 @@ fn bytes_if(image: &[u8], part: Result<Part, ImageFault>) -> &[u8]
 }
 
 /// The fault at an offset of a part, or the fault because of which the part was not found.
-fn cut_in(part: Result<Part, ImageFault>, at: u64) -> ImageFault
-    ensures { result ≡ cut_in part at }
+fn fault_in_part(part: Result<Part, ImageFault>, at: u64) -> ImageFault
+    ensures { result ≡ fault_in_part part at }
 {
     match part {
         Ok(part) => ImageFault::Cut {
@@ -310,8 +310,8 @@ fn cut_in(part: Result<Part, ImageFault>, at: u64) -> ImageFault
 
 /// The fault of a symbol past the end of the symbol table.
 #[tactic(auto, using(crate::proofs::ImageLemmas::wrapped_once))]
-fn symbol_cut(symbols: Result<Part, ImageFault>, index: u64) -> ImageFault
-    ensures { result ≡ cut_in symbols (symtab_entry_size * index) }
+fn missing_symbol_fault(symbols: Result<Part, ImageFault>, index: u64) -> ImageFault
+    ensures { result ≡ fault_in_part symbols (symtab_entry_size * index) }
 {
     match symbols {
         Ok(part) => {
@@ -325,24 +325,27 @@ fn symbol_cut(symbols: Result<Part, ImageFault>, index: u64) -> ImageFault
 }
 
 /// A fault of the look-up in tables, with its offset in the image.
-fn placed(parts: Parts, fault: LookupFault) -> ImageFault
-    ensures { result ≡ placed parts fault }
+fn fault_in_image(parts: Parts, fault: LookupFault) -> ImageFault
+    ensures { result ≡ fault_in_image parts fault }
 {
     match fault {
-        LookupFault::Cut { offset } => cut_in(Ok(parts.hashes), offset),
-        LookupFault::NoSymbol { index } => symbol_cut(parts.symbols, index),
-        LookupFault::NoString { offset } => cut_in(parts.strings, offset),
+        LookupFault::Cut { offset } => fault_in_part(Ok(parts.hashes), offset),
+        LookupFault::NoSymbol { index } => missing_symbol_fault(parts.symbols, index),
+        LookupFault::NoString { offset } => fault_in_part(parts.strings, offset),
         LookupFault::Cycle { index } => ImageFault::Cycle { index },
     }
 }
 
 /// The result of the look-up in tables, with a fault's offset in the image.
-fn answer(parts: Parts, found: Result<Option<u64>, LookupFault>) -> Result<Option<u64>, ImageFault>
-    ensures { result ≡ answer parts found }
+fn result_in_image(
+    parts: Parts,
+    found: Result<Option<u64>, LookupFault>,
+) -> Result<Option<u64>, ImageFault>
+    ensures { result ≡ result_in_image parts found }
 {
     match found {
         Ok(index) => Ok(index),
-        Err(fault) => Err(placed(parts, fault)),
+        Err(fault) => Err(fault_in_image(parts, fault)),
     }
 }
 
@@ -357,10 +360,10 @@ pub fn lookup_gnu(image: &[u8], name: &[u8]) -> Result<Option<u64>, ImageFault>
     };
     let tables = LookupTables {
         hashes: bytes_of(image, parts.hashes),
-        symbols: bytes_if(image, parts.symbols),
-        strings: bytes_if(image, parts.strings),
+        symbols: bytes_or_none(image, parts.symbols),
+        strings: bytes_or_none(image, parts.strings),
     };
-    answer(parts, find_gnu_symbol(&tables, name))
+    result_in_image(parts, find_gnu_symbol(&tables, name))
 }
 
 /// Looks a name up in the System V hash table of an image, and returns the index of the dynamic symbol. `None` if no symbol
@@ -374,8 +377,8 @@ pub fn lookup_sysv(image: &[u8], name: &[u8]) -> Result<Option<u64>, ImageFault>
     };
     let tables = LookupTables {
         hashes: bytes_of(image, parts.hashes),
-        symbols: bytes_if(image, parts.symbols),
-        strings: bytes_if(image, parts.strings),
+        symbols: bytes_or_none(image, parts.symbols),
+        strings: bytes_or_none(image, parts.strings),
     };
-    answer(parts, find_sysv_symbol(&tables, name))
+    result_in_image(parts, find_sysv_symbol(&tables, name))
 }

@@ -99,7 +99,7 @@ fn scan_gnu(
 
 /// A hash shifted right; 0 for a shift of 32 or more.
 #[tactic(auto, using(crate::proofs::StringLemmas::shifted_out))]
-fn shifted(hash: u32, shift: u32) -> u32
+fn shift_right(hash: u32, shift: u32) -> u32
     ensures { result ≡ hash / 2 ^ shift }
 {
     if shift >= 32 { 0 } else { hash >> shift }
@@ -118,7 +118,7 @@ fn has_bit(word: u64, bit: u32) -> bool
 fn may_hold(shift: u32, hash: u32, word: u64) -> bool
     ensures { result ≡ may_hold shift hash word }
 {
-    has_bit(word, hash % 64) && has_bit(word, shifted(hash, shift) % 64)
+    has_bit(word, hash % 64) && has_bit(word, shift_right(hash, shift) % 64)
 }
 
 /// The look-up in the bucket of a hash.

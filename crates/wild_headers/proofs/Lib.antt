@@ -1,4 +1,2 @@
-pub mod HeaderLemmas
-pub mod LengthLemmas
 pub mod NumberLemmas
 pub mod ReadLemmas

@@ -1,9 +1,9 @@
 //! The file header (gABI, "ELF Header").
 ghost use Rattle.std.specs.Prelude.{◌≡◌, ◌^◌, ◌<◌, length};
 ghost use Rattle.wild_records.specs.FileHeader.{file_header_size};
-ghost use Rattle.wild_headers.specs.Headers.{file_type, machine_number, file_header, file_header_bytes};
+ghost use Rattle.wild_table_formats.specs.Headers.{file_type, machine_number, file_header, file_header_bytes};
 
-use crate::numbers::{or_escape, or_partial, section_headers_offset, section_of_role};
+use crate::numbers::{number_or_escape, section_headers_offset, section_of_role, zero_if_partial};
 use wild_needs::elf_entry_address;
 use wild_records::abi::header::{
     ELFCLASS64, ELFDATA2LSB, ELFMAG, ELFOSABI_NONE, EM_AARCH64, EM_X86_64, ET_DYN, ET_EXEC, ET_REL,
@@ -36,7 +36,7 @@ fn machine_number(machine: Machine) -> u16
     }
 }
 
-#[tactic(auto, unfolding(crate::specs::Headers::file_header))]
+#[tactic(auto, unfolding(wild_table_formats::specs::Headers::file_header))]
 fn file_header(layout: &Layout) -> FileHeader
     requires { length layout.now.segments < 2 ^ 16 }
     ensures { result ≡ file_header layout.now }
@@ -52,15 +52,15 @@ fn file_header(layout: &Layout) -> FileHeader
         machine: machine_number(layout.machine),
         version: EV_CURRENT as u32,
         entry: elf_entry_address(layout).0,
-        program_offset: or_partial(layout.kind, FileHeader::SIZE as u64),
+        program_offset: zero_if_partial(layout.kind, FileHeader::SIZE as u64),
         section_offset: section_headers_offset(layout.parts.as_slice()),
         flags: 0,
         header_size: FileHeader::SIZE as u16,
-        program_entry_size: or_partial(layout.kind, ProgramHeader::SIZE as u64) as u16,
+        program_entry_size: zero_if_partial(layout.kind, ProgramHeader::SIZE as u64) as u16,
         program_count: layout.segments.len() as u16,
         section_entry_size: SectionHeader::SIZE as u16,
-        section_count: or_escape(layout.sections.len(), SHN_UNDEF),
-        name_table: or_escape(
+        section_count: number_or_escape(layout.sections.len(), SHN_UNDEF),
+        name_table: number_or_escape(
             section_of_role(Role::Shstrtab, layout.parts.as_slice()).0,
             SHN_XINDEX,
         ),

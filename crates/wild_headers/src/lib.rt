@@ -10,7 +10,7 @@ mod section_headers;
 mod section_names;
 
 pub use file_header::populate_file_header;
-pub use laws::{headers_are_read, headers_have_their_lengths, large_numbers_stand};
+pub use laws::{headers_are_read, headers_have_their_lengths, large_numbers_are_read};
 pub use program_headers::write_program_headers;
 pub use section_headers::write_section_headers;
 pub use section_names::write_section_names;

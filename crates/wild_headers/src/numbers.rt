@@ -1,6 +1,6 @@
 //! The numbers in the headers that are computed from the parts and the libraries of the layout.
 ghost use Rattle.std.specs.Prelude.{◌≡◌, ◌%◌, ◌^◌};
-ghost use Rattle.wild_headers.specs.Headers.{offset_of_role, section_of_role, size_of_role, or_escape, or_none, or_partial};
+ghost use Rattle.wild_table_formats.specs.Headers.{offset_of_role, section_of_role, size_of_role, number_or_escape, or_none, zero_if_partial};
 ghost use Rattle.wild_types.specs.Parts.{has_role};
 ghost use Rattle.wild_needs.specs.Versions.{has_needs, need_count};
 ghost use Rattle.wild_types.specs.declared.part.Role.TheVariants.{SectionHeaders};
@@ -9,8 +9,8 @@ use wild_records::abi::section::{SHN_LORESERVE, SHN_UNDEF};
 use wild_types::{File, Layout, OutputKind, Part, Role, SectionIndex, has_role};
 
 /// `e_shnum` or `e_shstrndx`: the number, or the escape if the number is `SHN_LORESERVE` or more.
-pub(crate) fn or_escape(n: usize, escape: u16) -> u16
-    ensures { result ≡ or_escape n escape }
+pub(crate) fn number_or_escape(n: usize, escape: u16) -> u16
+    ensures { result ≡ number_or_escape n escape }
 {
     if n < SHN_LORESERVE as usize {
         n as u16
@@ -27,8 +27,8 @@ pub(crate) fn or_none(n: usize) -> usize
 }
 
 /// The value of a header field that is 0 in a relocatable object.
-pub(crate) fn or_partial(kind: OutputKind, n: u64) -> u64
-    ensures { result ≡ or_partial kind n }
+pub(crate) fn zero_if_partial(kind: OutputKind, n: u64) -> u64
+    ensures { result ≡ zero_if_partial kind n }
 {
     if kind.is_partial_link() { 0 } else { n }
 }

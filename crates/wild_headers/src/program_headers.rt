@@ -3,7 +3,7 @@ ghost use Rattle.std.specs.Prelude.{◌≡◌, ◌+◌, ◌*◌, ◌≤◌, leng
 ghost use Rattle.wild_words.specs.Words.{place};
 ghost use Rattle.wild_words.specs.Record.{spell};
 ghost use Rattle.wild_records.specs.ProgramHeader.{program_header_size, program_header_fields};
-ghost use Rattle.wild_headers.specs.Headers.{with_execute, program_header, program_header_bytes};
+ghost use Rattle.wild_table_formats.specs.Headers.{with_execute, program_header, program_header_bytes};
 
 use wild_records::ProgramHeader;
 use wild_records::abi::segment::{PF_X, PT_GNU_STACK, PT_LOAD};
@@ -21,7 +21,7 @@ fn with_execute(flags: u32) -> u32
     }
 }
 
-#[tactic(auto, unfolding(crate::specs::Headers::program_header))]
+#[tactic(auto, unfolding(wild_table_formats::specs::Headers::program_header))]
 fn program_header(layout: &Layout, segment: &Segment) -> ProgramHeader
     ensures { result ≡ program_header layout.now segment.now }
 {

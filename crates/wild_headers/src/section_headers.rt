@@ -4,15 +4,16 @@ ghost use Rattle.wild_words.specs.Words.{place};
 ghost use Rattle.wild_words.specs.Record.{spell};
 ghost use Rattle.wild_records.specs.SectionHeader.{section_header_size, section_header_fields};
 ghost use Rattle.wild_needs.specs.Needs.{name_bytes};
-ghost use Rattle.wild_headers.specs.Headers.{name_table, told_at, local_symbols, told_of, null_header, uncompressed, info_at, type_told, section_header, section_header_bytes};
+ghost use Rattle.wild_table_formats.specs.Headers.{name_table, computed_info, local_symbols, computed_infos, null_header, uncompressed_flags, info_at, section_type, section_header, section_header_bytes};
 
-use crate::numbers::{need_count, or_none, or_partial, section_of_role, size_of_role};
+use crate::numbers::{need_count, or_none, section_of_role, size_of_role, zero_if_partial};
 use wild_records::abi::section::{SHF_COMPRESSED, SHT_NOBITS, SHT_NULL};
 use wild_records::{SectionHeader, SymtabEntry};
+use wild_table_formats::ComputedInfo;
 use wild_types::{Layout, Role, Section, SectionIndex};
 use wild_words::put;
 
-#[tactic(auto, unfolding(crate::specs::Headers::null_header))]
+#[tactic(auto, unfolding(wild_table_formats::specs::Headers::null_header))]
 fn null_header(layout: &Layout) -> SectionHeader
     requires { name_table layout.now < 2 ^ 32 }
     ensures { result ≡ null_header layout.now }
@@ -33,8 +34,8 @@ fn null_header(layout: &Layout) -> SectionHeader
 
 /// `sh_flags` with `SHF_COMPRESSED` cleared.
 #[tactic(auto, unfolding(wild_types::specs::Lookups::bit))]
-fn uncompressed(flags: u64) -> u64
-    ensures { result ≡ uncompressed flags }
+fn uncompressed_flags(flags: u64) -> u64
+    ensures { result ≡ uncompressed_flags flags }
 {
     if flags & SHF_COMPRESSED == SHF_COMPRESSED {
         flags - SHF_COMPRESSED
@@ -43,18 +44,11 @@ fn uncompressed(flags: u64) -> u64
     }
 }
 
-/// An `sh_info` that the writer computes, and the section that gets it instead of the layout's value.
-#[derive(Clone, Copy)]
-struct Told {
-    section: SectionIndex,
-    info: u32,
-}
-
 /// `sh_info` of the section that holds the part with this role: a number, modulo 2^32.
-fn told_at(layout: &Layout, role: Role, number: u64) -> Told
-    ensures { result ≡ told_at layout.now role number }
+fn computed_info(layout: &Layout, role: Role, number: u64) -> ComputedInfo
+    ensures { result ≡ computed_info layout.now role number }
 {
-    Told {
+    ComputedInfo {
         section: section_of_role(role, layout.parts.as_slice()),
         info: (number % 0x1_0000_0000) as u32,
     }
@@ -69,22 +63,22 @@ fn local_symbols(layout: &Layout) -> u64
 
 /// Every computed `sh_info`: for `.dynsym` and `.symtab` the number of local symbols, which come first; for `.rela.plt`
 /// the section of the GOT words; for `.gnu.version_d` and `.gnu.version_r` the number of their records.
-#[tactic(auto, unfolding(crate::specs::Headers::told_of))]
-fn told_of(layout: &Layout) -> [Told; 5]
-    ensures { result ≡ told_of layout.now }
+#[tactic(auto, unfolding(wild_table_formats::specs::Headers::computed_infos))]
+fn computed_infos(layout: &Layout) -> [ComputedInfo; 5]
+    ensures { result ≡ computed_infos layout.now }
 {
     let table = section_of_role(Role::Got, layout.parts.as_slice());
     [
-        told_at(layout, Role::Dynsym, 1),
-        told_at(layout, Role::RelaPlt, table.0 as u64),
-        told_at(layout, Role::SymtabLocal, local_symbols(layout)),
-        told_at(layout, Role::GnuVersionD, layout.verdefs.len() as u64),
-        told_at(layout, Role::GnuVersionR, need_count(layout) as u64),
+        computed_info(layout, Role::Dynsym, 1),
+        computed_info(layout, Role::RelaPlt, table.0 as u64),
+        computed_info(layout, Role::SymtabLocal, local_symbols(layout)),
+        computed_info(layout, Role::GnuVersionD, layout.verdefs.len() as u64),
+        computed_info(layout, Role::GnuVersionR, need_count(layout) as u64),
     ]
 }
 
 /// `sh_info` of section i: the first computed value for it, otherwise the layout's.
-fn info_at(told: &[Told], i: SectionIndex, given: u32) -> u32
+fn info_at(told: &[ComputedInfo], i: SectionIndex, given: u32) -> u32
     ensures { result ≡ info_at told.now i given }
 {
     for number in told {
@@ -96,10 +90,10 @@ fn info_at(told: &[Told], i: SectionIndex, given: u32) -> u32
 }
 
 /// `sh_type`: `SHT_NOBITS` for a section of which only the header is written, otherwise the layout's.
-fn type_told(layout: &Layout, section: &Section) -> u32
-    ensures { result ≡ type_told layout.now section.now }
+fn section_type(layout: &Layout, section: &Section) -> u32
+    ensures { result ≡ section_type layout.now section.now }
 {
-    if layout.is_hollow(section) {
+    if layout.is_header_only(section) {
         SHT_NOBITS
     } else {
         section.kind
@@ -107,15 +101,15 @@ fn type_told(layout: &Layout, section: &Section) -> u32
 }
 
 /// The header of a section other than section 0. In a relocatable object `sh_addr` is 0.
-#[tactic(auto, unfolding(crate::specs::Headers::section_header))]
+#[tactic(auto, unfolding(wild_table_formats::specs::Headers::section_header))]
 fn section_header(layout: &Layout, info: u32, name: u32, section: &Section) -> SectionHeader
     ensures { result ≡ section_header layout.now info name section.now }
 {
     SectionHeader {
         name,
-        kind: type_told(layout, section),
-        flags: uncompressed(section.flags),
-        address: or_partial(layout.kind, section.address),
+        kind: section_type(layout, section),
+        flags: uncompressed_flags(section.flags),
+        address: zero_if_partial(layout.kind, section.address),
         offset: section.offset,
         size: section.size,
         link: section.link,
@@ -128,7 +122,7 @@ fn section_header(layout: &Layout, info: u32, name: u32, section: &Section) -> S
 /// The header of section i, whose name begins at offset `name` of `.shstrtab`.
 fn header_of(
     layout: &Layout,
-    told: &[Told],
+    told: &[ComputedInfo],
     i: SectionIndex,
     name: u64,
     section: &Section,
@@ -146,17 +140,17 @@ fn header_of(
 
 fn put_section_header(
     layout: &Layout,
-    told: &[Told],
+    told: &[ComputedInfo],
     section: &Section,
     i: usize,
     name: u64,
     out: &mut [u8],
 )
     requires room { section_header_size * i + section_header_size ≤ length out.old }
-    requires told { told.now ≡ told_of layout.now }
+    requires told { told.now ≡ computed_infos layout.now }
     requires name { name < 2 ^ 32 }
     requires name_table { name_table layout.now < 2 ^ 32 }
-    ensures { out.new ≡ place (section_header_size * i) (spell (section_header_fields (if i == 0 then null_header layout.now else section_header layout.now (info_at (told_of layout.now) i section.now.info) name section.now))) out.old }
+    ensures { out.new ≡ place (section_header_size * i) (spell (section_header_fields (if i == 0 then null_header layout.now else section_header layout.now (info_at (computed_infos layout.now) i section.now.info) name section.now))) out.old }
 {
     let mut header = [0; SectionHeader::SIZE];
     header_of(layout, told, SectionIndex(i), name, section).put(&mut header);
@@ -170,7 +164,7 @@ pub fn write_section_headers(layout: &Layout, out: &mut [u8])
     requires name_table { name_table layout.now < 2 ^ 32 }
     ensures { out.new ≡ section_header_bytes layout.now }
 {
-    let told = told_of(layout);
+    let told = computed_infos(layout);
     let mut name = 0;
     for (i, section) in layout.sections.as_slice().iter().enumerate() {
         put_section_header(layout, &told, section, i, name, out);

@@ -2,13 +2,13 @@
 ghost use Rattle.std.specs.Prelude.{◌≡◌, ◌+◌, ◌≤◌, [], ◌∷◌, ◌++◌, length};
 ghost use Rattle.wild_words.specs.Words.{place};
 ghost use Rattle.wild_needs.specs.Needs.{name_bytes};
-ghost use Rattle.wild_headers.specs.Headers.{names_of};
+ghost use Rattle.wild_table_formats.specs.Headers.{names_of};
 
 use wild_types::{Layout, Section};
 use wild_words::{put, put_u8};
 
 /// Writes the name of a section and the zero that ends it.
-#[tactic(auto, using(crate::proofs::HeaderLemmas::place_word_behind))]
+#[tactic(auto, using(wild_table_formats::proofs::HeaderLemmas::place_word_behind))]
 fn put_name(section: &Section, at: usize, out: &mut [u8])
     requires { at + (length section.now.name + 1) ≤ length out.old }
     ensures { out.new ≡ place at (section.now.name ++ 0 ∷ []) out.old }

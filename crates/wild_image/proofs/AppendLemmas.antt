@@ -12,17 +12,17 @@ use Rattle.wild_types.specs.declared.file.File.{File}
 use Rattle.wild_types.specs.declared.file.Group.{Group}
 use Rattle.wild_types.specs.declared.layout.Thunk.{Thunk}
 use Rattle.wild_types.specs.declared.layout.Layout.{Layout}
-use Rattle.wild_types.specs.Lookups.{has_range, is_filled, is_hollow_part, image_size}
+use Rattle.wild_types.specs.Lookups.{has_range, is_filled, is_header_only_part, image_size}
 use Rattle.wild_types.specs.declared.layout.SortedSection.{SortedSection}
-use Rattle.wild_laid.specs.Turned.{as_turned}
-use Rattle.wild_laid.specs.Laid.{as_loaded, unread, sorted_input}
+use Rattle.wild_placement.specs.ReversedWords.{with_word_order}
+use Rattle.wild_placement.specs.PlacedSections.{as_loaded, unread, sorted_input}
 use Rattle.wild_layout.specs.Sites.{section_bytes}
 use Rattle.wild_layout.specs.Thunks.{thunk_bytes, file_thunks}
 use Rattle.wild_layout.specs.Image.{offset_in, unless_hollow, section_piece, thunk_offset, thunk_piece}
 use Rattle.std.proofs.lemmas.Bool.{cases_Bool}
-use Rattle.wild_image.specs.Pieces.{standing, has_room, ranged_room, place_in, section_owned, ranged_owned, sorted_owned, in_part, owned_in, ranged_in, sorted_in}
+use Rattle.wild_image.specs.Pieces.{placed_in_range, has_room, ranged_room, place_in, section_owned, ranged_owned, sorted_owned, in_part, owned_in, ranged_in, sorted_in}
 use Rattle.wild_image.specs.Owners.{ranged_piece, sorted_pieces}
-use Rattle.wild_image.specs.Append.{BeginsWith, GoesOn, RangedLies, SortedLies}
+use Rattle.wild_image.specs.Append.{BeginsWith, HasRest, RangedLies, SortedLies}
 use Rattle.wild_image.proofs.StandingLemmas.{piece_at, StandsFor, ranged_stands, ranged_none, sorted_stands, one_input, one_owned, one_piece, one_in, one_lies}
 
 -- what is left behind the first i items, whatever stands behind them all
@@ -38,7 +38,7 @@ next_begins {X} f xs i x base now h read begins stands =
     (flat_map f (drop (i + 1) xs) ++ begins.0, subst P (sym read) (e ∙ split ∙ append_assoc (f (get_or xs i x)) (flat_map f (drop (i + 1) xs)) begins.0))
 
 -- one more item
-pub stands_more : {X : Type 0} (f : X → List ℕ) (xs : List X) (i : ℕ) (x : X) (base now next : List ℕ) → i < length xs → x ≡ get_or xs i x → StandsBehind f xs base now i → GoesOn (f x) now next → StandsBehind f xs base next (i + 1)
+pub stands_more : {X : Type 0} (f : X → List ℕ) (xs : List X) (i : ℕ) (x : X) (base now next : List ℕ) → i < length xs → x ≡ get_or xs i x → StandsBehind f xs base now i → HasRest (f x) now next → StandsBehind f xs base next (i + 1)
 stands_more {X} f xs i x base now next h read stands goes = λ rest e.
     let split = ap (λ (ys : List X). flat_map f ys ++ rest) (drop_more xs i x h) in
     let P : X → Type 0 = λ y. now ≡ f y ++ (flat_map f (drop (i + 1) xs) ++ rest) in
@@ -50,23 +50,23 @@ next_begins_at {X} f xs items i d base now same h read begins stands =
     let P : List X → Type 0 = λ ys. i < length ys → BeginsWith (f (get_or ys i d)) now in
     subst (λ (x : X). BeginsWith (f x) now) (sym read) (subst P (sym same) (λ low. next_begins f xs i (get_or xs i d) base now low (get_or_default xs i d (get_or xs i d) low) begins stands) h)
 
-pub stands_more_at : {X : Type 0} (f : X → List ℕ) (xs items : List X) (i : ℕ) (d : X) (base now next : List ℕ) → items ≡ xs → i < length items → d ≡ get_or items i d → StandsBehind f xs base now i → GoesOn (f d) now next → StandsBehind f xs base next (i + 1)
+pub stands_more_at : {X : Type 0} (f : X → List ℕ) (xs items : List X) (i : ℕ) (d : X) (base now next : List ℕ) → items ≡ xs → i < length items → d ≡ get_or items i d → StandsBehind f xs base now i → HasRest (f d) now next → StandsBehind f xs base next (i + 1)
 stands_more_at {X} f xs items i d base now next same h read stands goes =
-    let P : List X → Type 0 = λ ys. i < length ys → GoesOn (f (get_or ys i d)) now next → StandsBehind f xs base next (i + 1) in
-    subst P (sym same) (λ low on. stands_more f xs i (get_or xs i d) base now next low (get_or_default xs i d (get_or xs i d) low) stands on) h (subst (λ (x : X). GoesOn (f x) now next) read goes)
+    let P : List X → Type 0 = λ ys. i < length ys → HasRest (f (get_or ys i d)) now next → StandsBehind f xs base next (i + 1) in
+    subst P (sym same) (λ low on. stands_more f xs i (get_or xs i d) base now next low (get_or_default xs i d (get_or xs i d) low) stands on) h (subst (λ (x : X). HasRest (f x) now next) read goes)
 
 pub read_at : {X : Type 0} (xs items : List X) (i : ℕ) (d : X) → items ≡ xs → i < length items → d ≡ get_or items i d → slice_get xs i ≡ Some d
 read_at {X} xs items i d same h read = let P : List X → Type 0 = λ ys. slice_get ys i ≡ Some d in subst P same (slice_get-get_or items i d h ∙ ap (λ (x : X). Some x) (sym read))
 
 -- all items
-pub stands_all : {X : Type 0} (f : X → List ℕ) (xs : List X) (i : ℕ) (base now : List ℕ) → length xs ≤ i → StandsBehind f xs base now i → GoesOn (flat_map f xs) base now
+pub stands_all : {X : Type 0} (f : X → List ℕ) (xs : List X) (i : ℕ) (base now : List ℕ) → length xs ≤ i → StandsBehind f xs base now i → HasRest (flat_map f xs) base now
 stands_all {X} f xs i base now h stands = λ rest e. stands rest e ∙ ap (λ (ys : List X). flat_map f ys ++ rest) (drop_all i xs h)
 
 -- what stands at the front, cut off
 pub record CutOff (own bytes : List ℕ) (n : ℕ) : Type 0 where
   pub within : n ≤ length bytes
   pub front : take n bytes ≡ own
-  pub back : GoesOn own bytes (drop n bytes)
+  pub back : HasRest own bytes (drop n bytes)
 
 pub cut_off : (own bytes : List ℕ) (n : ℕ) → length own ≡ n → BeginsWith own bytes → CutOff own bytes n
 cut_off own bytes n long begins = record {
@@ -125,14 +125,14 @@ takes_for l f s t owns h = by owns (sym h.filled)
 pub takes_ranged : (l : Layout) (f : File) (s : InputSection) → RangedLies l f s → Takes l s (ranged_room l s) (ranged_owned l f s) (ranged_piece l f s) (λ k. ranged_in l f k s)
 takes_ranged l f s lies =
     elim (cases_Bool (has_range s.slot)) [
-      | inl t ↦ rw t (takes_for l f s (standing l f s) (ranged_room l s) (ranged_stands l f s lies t))
+      | inl t ↦ rw t (takes_for l f s (placed_in_range l f s) (ranged_room l s) (ranged_stands l f s lies t))
       | inr n ↦ (let e = ranged_none l s n in rw (n, e) (takes_none l s))
     ]
 
 -- of one that is named among the sorted ones
 pub takes_sorted : (l : Layout) (x : SortedSection) (f : File) (s : InputSection) → sorted_input l x ≡ one_input l f s ∷ [] → SortedLies l x → Takes l s (has_room l s) (sorted_owned l x) (sorted_pieces l x) (λ k. sorted_in l k x)
 takes_sorted l x f s is lies =
-    let t = as_turned (as_loaded (unread l s)) in
+    let t = with_word_order (as_loaded (unread l s)) in
     let h = takes_for l f s t (has_room l s) (sorted_stands l s (one_lies l x f s is lies)) in
     record {
       long = λ e. ap length (one_owned l x f s is) ∙ h.long e;
@@ -149,7 +149,7 @@ pub record Taken (l : Layout) (s : InputSection) (owns : Bool) (own bytes : List
   pub ends : owns ≡ true → place_in l s + s.size ≤ image_size l
   pub there : owns ≡ true → s.part < length l.parts
   pub put : (out : List ℕ) → (if owns then place (place_in l s) (take s.size bytes) out else out) ≡ overlay ps out
-  pub rest : GoesOn own bytes (if owns then drop s.size bytes else bytes)
+  pub rest : HasRest own bytes (if owns then drop s.size bytes else bytes)
   pub part : (k : ℕ) → (if owns then in_part k s.part (take s.size bytes) else []) ≡ inside k
 
 pub taken : (l : Layout) (s : InputSection) (owns : Bool) (own bytes : List ℕ) (ps : List Piece) (inside : ℕ → List ℕ) → Takes l s owns own ps inside → BeginsWith own bytes → Taken l s owns own bytes ps inside
@@ -196,10 +196,10 @@ thunk_appended l t at own out next is bytes e = e ∙ ap (λ (n : ℕ). place n 
 abbrev pub thunks_written : Layout → File → List ℕ
 thunks_written l f = unless_hollow l l.primary_part (file_thunks l f)
 
-pub none_written : {X : Type 0} (l : Layout) (part : ℕ) (xs : List X) → is_hollow_part l part ≡ true → unless_hollow l part xs ≡ []
-none_written l part xs hollow = ap (λ (b : Bool). if b then [] else xs) hollow
+pub none_written : {X : Type 0} (l : Layout) (part : ℕ) (xs : List X) → is_header_only_part l part ≡ true → unless_hollow l part xs ≡ []
+none_written l part xs header_only = ap (λ (b : Bool). if b then [] else xs) header_only
 
-pub all_written : {X : Type 0} (l : Layout) (part : ℕ) (xs : List X) → is_hollow_part l part ≡ false → unless_hollow l part xs ≡ xs
+pub all_written : {X : Type 0} (l : Layout) (part : ℕ) (xs : List X) → is_header_only_part l part ≡ false → unless_hollow l part xs ≡ xs
 all_written l part xs written = ap (λ (b : Bool). if b then [] else xs) written
 
 -- ---- what stands one behind the other
@@ -209,11 +209,11 @@ pub both_begin : (xs ys bytes : List ℕ) → BeginsWith (xs ++ ys) bytes → Be
 both_begin xs ys bytes begins = (ys ++ begins.0, begins.1 ∙ append_assoc xs ys begins.0)
 
 -- and go on with the second
-pub both_go_on : (xs ys bytes rest : List ℕ) → BeginsWith (xs ++ ys) bytes → GoesOn xs bytes rest → BeginsWith ys rest
+pub both_go_on : (xs ys bytes rest : List ℕ) → BeginsWith (xs ++ ys) bytes → HasRest xs bytes rest → BeginsWith ys rest
 both_go_on xs ys bytes rest begins goes = (begins.0, goes (ys ++ begins.0) (begins.1 ∙ append_assoc xs ys begins.0))
 
 -- behind the second stands what stands behind both
-pub both_end : (xs ys bytes between rest : List ℕ) → GoesOn xs bytes between → GoesOn ys between rest → GoesOn (xs ++ ys) bytes rest
+pub both_end : (xs ys bytes between rest : List ℕ) → HasRest xs bytes between → HasRest ys between rest → HasRest (xs ++ ys) bytes rest
 both_end xs ys bytes between rest first second = λ after e. second after (first (ys ++ after) (e ∙ append_assoc xs ys after))
 
 -- bytes that are all of some items begin with those
@@ -236,9 +236,9 @@ begins_at {X} f xs items i d base now same h begins stands =
     let Q : List X → Type 0 = λ ys. i < length ys → BeginsWith (f (get_or ys i d)) now in
     subst Q (sym same) (λ low. next_begins f xs i (get_or xs i d) base now low (get_or_default xs i d (get_or xs i d) low) begins stands) h
 
-pub stands_at : {X : Type 0} (f : X → List ℕ) (xs items : List X) (i : ℕ) (d : X) (base now next : List ℕ) → items ≡ xs → i < length items → StandsBehind f xs base now i → GoesOn (f (get_or items i d)) now next → StandsBehind f xs base next (i + 1)
+pub stands_at : {X : Type 0} (f : X → List ℕ) (xs items : List X) (i : ℕ) (d : X) (base now next : List ℕ) → items ≡ xs → i < length items → StandsBehind f xs base now i → HasRest (f (get_or items i d)) now next → StandsBehind f xs base next (i + 1)
 stands_at {X} f xs items i d base now next same h stands goes =
-    let Q : List X → Type 0 = λ ys. i < length ys → GoesOn (f (get_or ys i d)) now next → StandsBehind f xs base next (i + 1) in
+    let Q : List X → Type 0 = λ ys. i < length ys → HasRest (f (get_or ys i d)) now next → StandsBehind f xs base next (i + 1) in
     subst Q (sym same) (λ low on. stands_more f xs i (get_or xs i d) base now next low (get_or_default xs i d (get_or xs i d) low) stands on) h goes
 
 pub overlay_at : {X : Type 0} (f : X → List Piece) (xs items : List X) (i : ℕ) (d : X) (base now next : List ℕ) → items ≡ xs → i < length items → now ≡ overlay (flat_map f (take i xs)) base → next ≡ overlay (f (get_or items i d)) now → next ≡ overlay (flat_map f (take (i + 1) xs)) base

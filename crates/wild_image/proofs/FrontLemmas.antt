@@ -7,7 +7,7 @@ use Rattle.wild_words.specs.Words.{place}
 use Rattle.wild_words.specs.Overlay.{Piece, overlay}
 use Rattle.wild_types.specs.declared.part.Part.{Part}
 use Rattle.wild_types.specs.declared.layout.Layout.{Layout}
-use Rattle.wild_types.specs.Lookups.{section_of_part, is_hollow_at, is_hollow_part, image_size}
+use Rattle.wild_types.specs.Lookups.{section_of_part, is_header_only_at, is_header_only_part, image_size}
 use Rattle.wild_layout.specs.Image.{some_piece, offset_of_part, front_piece}
 use Rattle.wild_layout.specs.SectionPlaces.{FrontLies}
 use Rattle.wild_image.specs.Append.{SomeLies}
@@ -30,46 +30,46 @@ front_offset : (l : Layout) (k : ℕ) (bs : List ℕ) (d : Part) → FrontLies l
 front_offset l k bs d h = ap (λ (p : Part). p.offset) (get_or_from_slice_get l.parts k h.part d h.listed) ∙ sym (ap offset_of_part h.listed)
 
 -- what lies in the part is written where its section is
-front_written : (l : Layout) (k : ℕ) (bs : List ℕ) (h : FrontLies l k bs) → is_hollow_part l k ≡ false → is_hollow_at l h.part.section ≡ false
-front_written l k bs h e = sym (ap (λ (o : Option Part). is_hollow_at l (section_of_part o)) h.listed) ∙ e
+front_written : (l : Layout) (k : ℕ) (bs : List ℕ) (h : FrontLies l k bs) → is_header_only_part l k ≡ false → is_header_only_at l h.part.section ≡ false
+front_written l k bs h e = sym (ap (λ (o : Option Part). is_header_only_at l (section_of_part o)) h.listed) ∙ e
 
 -- the bytes lie in the image
-pub front_ends : (l : Layout) (k : ℕ) (bs : List ℕ) (d : Part) → FrontLies l k bs → is_hollow_part l k ≡ false → 1 ≤ length bs → (get_or l.parts k d).offset + length bs ≤ image_size l
+pub front_ends : (l : Layout) (k : ℕ) (bs : List ℕ) (d : Part) → FrontLies l k bs → is_header_only_part l k ≡ false → 1 ≤ length bs → (get_or l.parts k d).offset + length bs ≤ image_size l
 front_ends l k bs d h written some =
     let e = ap (λ (p : Part). p.offset) (get_or_from_slice_get l.parts k h.part d h.listed) in
     let f = h.ends some (front_written l k bs h written) in
     omega (arith, e, f)
 
 -- of a part that is written they are one piece
-front_is : (l : Layout) (k : ℕ) (bs out : List ℕ) → is_hollow_part l k ≡ false → overlay (some_piece (h_offset l k) bs) out ≡ overlay (front_piece l k bs) out
+front_is : (l : Layout) (k : ℕ) (bs out : List ℕ) → is_header_only_part l k ≡ false → overlay (some_piece (h_offset l k) bs) out ≡ overlay (front_piece l k bs) out
 front_is l k bs out written = sym (ap (λ (b : Bool). overlay (if b then [] else some_piece (h_offset l k) bs) out) written)
 
 -- the bytes, put
-pub front_put : (l : Layout) (k : ℕ) (bs out next : List ℕ) (d : Part) → FrontLies l k bs → is_hollow_part l k ≡ false → 1 ≤ length bs → next ≡ place (get_or l.parts k d).offset bs out → next ≡ overlay (front_piece l k bs) out
+pub front_put : (l : Layout) (k : ℕ) (bs out next : List ℕ) (d : Part) → FrontLies l k bs → is_header_only_part l k ≡ false → 1 ≤ length bs → next ≡ place (get_or l.parts k d).offset bs out → next ≡ overlay (front_piece l k bs) out
 front_put l k bs out next d h written some e = put_some (h_offset l k) bs out next some (e ∙ ap (λ (n : ℕ). place n bs out) (front_offset l k bs d h)) ∙ front_is l k bs out written
 
 -- ---- where there is nothing to put
 
-not_written : (hollow none : Bool) (ps : List Piece) (out : List ℕ) → (not none && not hollow) ≡ false → out ≡ overlay (if hollow then [] else if none then [] else ps) out
+not_written : (header_only none : Bool) (ps : List Piece) (out : List ℕ) → (not none && not header_only) ≡ false → out ≡ overlay (if header_only then [] else if none then [] else ps) out
 not_written true none ps out h = refl
 not_written false true ps out h = refl
 not_written false false ps out h = cc
 
 -- there is nothing, or nothing of the part is written
-pub front_not_put : (l : Layout) (k : ℕ) (bs out : List ℕ) → (not (length bs == 0) && not (is_hollow_part l k)) ≡ false → out ≡ overlay (front_piece l k bs) out
-front_not_put l k bs out h = not_written (is_hollow_part l k) (length bs == 0) (record { at = h_offset l k; bytes = bs } ∷ []) out h
+pub front_not_put : (l : Layout) (k : ℕ) (bs out : List ℕ) → (not (length bs == 0) && not (is_header_only_part l k)) ≡ false → out ≡ overlay (front_piece l k bs) out
+front_not_put l k bs out h = not_written (is_header_only_part l k) (length bs == 0) (record { at = h_offset l k; bytes = bs } ∷ []) out h
 
 some_bytes : (bs : List ℕ) → not (length bs == 0) ≡ true → 1 ≤ length bs
 some_bytes [] h = cc
 some_bytes (b ∷ bs) h = omega arith
 
-written_by : (hollow : Bool) → not hollow ≡ true → hollow ≡ false
+written_by : (header_only : Bool) → not header_only ≡ true → header_only ≡ false
 written_by true h = cc
 written_by false h = refl
 
 -- there are some, and the part is written
-pub writes_some : (l : Layout) (k : ℕ) (bs : List ℕ) → (not (length bs == 0) && not (is_hollow_part l k)) ≡ true → 1 ≤ length bs
+pub writes_some : (l : Layout) (k : ℕ) (bs : List ℕ) → (not (length bs == 0) && not (is_header_only_part l k)) ≡ true → 1 ≤ length bs
 writes_some l k bs h = some_bytes bs (and_parts (not (length bs == 0)) _ h).0
 
-pub writes_part : (l : Layout) (k : ℕ) (bs : List ℕ) → (not (length bs == 0) && not (is_hollow_part l k)) ≡ true → is_hollow_part l k ≡ false
-writes_part l k bs h = written_by (is_hollow_part l k) (and_parts (not (length bs == 0)) _ h).1
+pub writes_part : (l : Layout) (k : ℕ) (bs : List ℕ) → (not (length bs == 0) && not (is_header_only_part l k)) ≡ true → is_header_only_part l k ≡ false
+writes_part l k bs h = written_by (is_header_only_part l k) (and_parts (not (length bs == 0)) _ h).1

@@ -11,13 +11,13 @@ use Rattle.wild_types.specs.declared.file.Group.{Group}
 use Rattle.wild_types.specs.declared.layout.Layout.{Layout}
 use Rattle.wild_types.specs.Kinds.{is_partial_link}
 use Rattle.wild_types.specs.Lists.{total}
-use Rattle.wild_types.specs.Hollow.{is_dropped}
+use Rattle.wild_types.specs.HeaderOnly.{is_omitted}
 use Rattle.wild_types.specs.Lookups.{is_counted, section_of, section_of_part}
-use Rattle.wild_clauses.specs.Places.{relocation_count}
+use Rattle.wild_plan_rules.specs.Places.{relocation_count}
 use Rattle.wild_layout.specs.Image.{counted, count_of, counts}
 use Rattle.wild_layout.specs.Geometry.{IsLaidOut}
 use Rattle.wild_crew.specs.Sums.{between, n_if, counted as counted_in}
-use Rattle.wild_crew.specs.Ended.{sum_of, AreTotals}
+use Rattle.wild_crew.specs.FinalCore.{sum_of, AreTotals}
 use Rattle.wild_image.specs.Steps.{group_relocations, file_counted, group_counted}
 use Rattle.wild_image.specs.Pieces.{section_pairs, file_pairs, group_pairs}
 use Rattle.wild_image.specs.Batches.{AreBatches, batch_pairs, pairs_of, pairs_at}
@@ -36,14 +36,14 @@ section_below l h part = by l h (slice_get l.parts part) part refl
     by l h (Some p) part e = holds_at (λ (q : Part). q.section < length l.sections) l.parts part p e h.named
 
 -- the relocations of a section are counted
-abbrev is_told : Layout → InputSection → Bool
-is_told l s = is_counted s && not (is_dropped l s)
+abbrev adds_to_counts : Layout → InputSection → Bool
+adds_to_counts l s = is_counted s && not (is_omitted l s)
 
 files_below : (l : Layout) → IsLaidOut l → (g : Group) → All (IsBelow (length l.sections)) (flat_map (file_pairs l) g.files)
 files_below l h g =
     All-flat_map (IsBelow (length l.sections)) (file_pairs l) g.files (λ i d m.
     All-flat_map (IsBelow (length l.sections)) (section_pairs l) (get_or g.files i d).sections (λ j e n.
-    All-optional (IsBelow (length l.sections)) (is_told l (get_or (get_or g.files i d).sections j e)) (section_of l (get_or (get_or g.files i d).sections j e).part, length (get_or (get_or g.files i d).sections j e).relocations) (λ r.
+    All-optional (IsBelow (length l.sections)) (adds_to_counts l (get_or (get_or g.files i d).sections j e)) (section_of l (get_or (get_or g.files i d).sections j e).part, length (get_or (get_or g.files i d).sections j e).relocations) (λ r.
     section_below l h (get_or (get_or g.files i d).sections j e).part)))
 
 group_below : (l : Layout) → IsLaidOut l → (g : Group) → All (IsBelow (length l.sections)) (group_pairs l g)
@@ -79,7 +79,7 @@ pair_counted true false n = refl
 pair_counted false same n = refl
 
 section_counted : (l : Layout) (k : ℕ) (s : InputSection) → counted_in k (section_pairs l s) ≡ counted l k s
-section_counted l k s = by (is_told l s) k (section_of l s.part) (length s.relocations) ∙ pair_counted (is_told l s) (section_of l s.part == k) (length s.relocations)
+section_counted l k s = by (adds_to_counts l s) k (section_of l s.part) (length s.relocations) ∙ pair_counted (adds_to_counts l s) (section_of l s.part == k) (length s.relocations)
   where
     by : (read : Bool) (k at n : ℕ) → counted_in k (if read then (at, n) ∷ [] else []) ≡ (if read then n_if (at == k) n + 0 else 0)
     by true k at n = refl

@@ -5,9 +5,9 @@ use Rattle.wild_types.specs.declared.fault.Error.{Error}
 use Rattle.wild_types.specs.declared.file.Group.{Group}
 use Rattle.wild_types.specs.declared.layout.Layout.{Layout}
 use Rattle.wild_types.specs.Faults.{Answers, Refuses}
-use Rattle.wild_clauses.specs.ClauseTests.{check_sizes, check_counts}
-use Rattle.wild_clauses.specs.WellFormed.{first_clause}
-use Rattle.wild_clauses.proofs.ClauseLemmas.{first_holds, rest_holds}
+use Rattle.wild_plan_rules.specs.ClauseTests.{check_sizes, check_counts}
+use Rattle.wild_plan_rules.specs.WellFormed.{first_clause}
+use Rattle.wild_plan_rules.proofs.ClauseLemmas.{first_holds, rest_holds}
 use Rattle.wild_layout.specs.Faults.{group_errors}
 use Rattle.wild_image.specs.Pieces.{group_parts, group_pairs}
 use Rattle.wild_image.specs.Batches.{batch_errors, HasBatch, batch_pairs, pairs_at, GivesBatch}

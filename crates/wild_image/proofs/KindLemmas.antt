@@ -11,11 +11,11 @@ use Rattle.wild_types.specs.Kinds.{is_partial_link}
 use Rattle.wild_types.specs.Lookups.{is_rela, is_debug}
 use Rattle.wild_types.specs.Lists.{unless, first_failing}
 use Rattle.wild_types.proofs.ListLemmas.{All-from_none_fails}
-use Rattle.wild_clauses.specs.Contents.{each_in, each_section}
-use Rattle.wild_clauses.specs.Partial.{has_no_segments, has_no_slot, has_no_pair, has_no_thunks, lists_no_symbols, has_no_index, is_no_debug, is_of_kind}
-use Rattle.wild_clauses.specs.ClauseTests.{fails, check_partial}
-use Rattle.wild_clauses.specs.WellFormed.{first_clause}
-use Rattle.wild_clauses.proofs.ClauseLemmas.{None-from_fails}
+use Rattle.wild_plan_rules.specs.Contents.{each_in, each_section}
+use Rattle.wild_plan_rules.specs.Partial.{has_no_segments, has_no_slot, has_no_pair, has_no_thunks, lists_no_symbols, has_no_index, is_no_debug, is_of_kind}
+use Rattle.wild_plan_rules.specs.ClauseTests.{fails, check_partial}
+use Rattle.wild_plan_rules.specs.WellFormed.{first_clause}
+use Rattle.wild_plan_rules.proofs.ClauseLemmas.{None-from_fails}
 use Rattle.wild_geometry.proofs.ClauseLemmas.{Both-from_first_error, NoneFails-from_first_clause}
 use Rattle.wild_image.specs.Append.{IsOfKind}
 

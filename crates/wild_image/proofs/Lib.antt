@@ -1,5 +1,5 @@
 pub mod PaddingLemmas
-pub mod FullLemmas
+pub mod GapLemmas
 pub mod ChangedLemmas
 pub mod CountLemmas
 pub mod PairLemmas
@@ -12,9 +12,9 @@ pub mod GatherLemmas
 pub mod BatchLemmas
 pub mod PlainLemmas
 pub mod KindLemmas
-pub mod MadeLemmas
+pub mod RelaOrGroupLemmas
 pub mod StandingLemmas
 pub mod FrontLemmas
-pub mod StoodLemmas
-pub mod SoLemmas
+pub mod PlacedLemmas
+pub mod UnchangedLemmas
 pub mod BareLemmas

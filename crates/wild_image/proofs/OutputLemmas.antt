@@ -5,13 +5,13 @@ use Rattle.std.proofs.lemmas.Bool.{cases_Bool, and_parts, ltb-true}
 use Rattle.wild_words.specs.Overlay.{overlay}
 use Rattle.wild_types.specs.declared.fault.Error.{Error}
 use Rattle.wild_types.specs.declared.layout.Layout.{Layout}
-use Rattle.wild_clauses.specs.Places.{relocation_count}
+use Rattle.wild_plan_rules.specs.Places.{relocation_count}
 use Rattle.wild_needs.specs.Needs.{total_share, name_bytes}
-use Rattle.wild_clauses.specs.Counts.{counts_fit}
+use Rattle.wild_plan_rules.specs.Counts.{counts_fit}
 use Rattle.wild_needs.specs.Versions.{versions_fit}
-use Rattle.wild_clauses.specs.ClauseTests.{check_sizes, check_counts}
-use Rattle.wild_clauses.specs.WellFormed.{first_clause}
-use Rattle.wild_headers.specs.Headers.{section_of_role}
+use Rattle.wild_plan_rules.specs.ClauseTests.{check_sizes, check_counts}
+use Rattle.wild_plan_rules.specs.WellFormed.{first_clause}
+use Rattle.wild_table_formats.specs.Headers.{section_of_role}
 use Rattle.wild_layout.specs.Image.{group_pieces, pieces, padding, bytes}
 use Rattle.wild_layout.specs.Faults.{clause_errors, flat_map_from, part_errors, group_errors, errors}
 use Rattle.wild_layout.specs.Geometry.{IsLaidOut}
@@ -20,13 +20,13 @@ use Rattle.wild_sections.specs.Fits.{FieldsFit}
 use Rattle.wild_types.specs.declared.part.Part.{Part}
 use Rattle.wild_types.specs.declared.part.Role.{Role}
 use Rattle.wild_types.specs.Parts.{has_role, part_with}
-use Rattle.wild_laid.specs.Laid.{part_address}
+use Rattle.wild_placement.specs.PlacedSections.{part_address}
 use Rattle.wild_layout.specs.SearchTable.{address_of_role}
 use Rattle.std.proofs.lemmas.List.Elements.{All-head, All-tail}
 use Rattle.wild_types.specs.declared.part.Role.TheVariants as role
 use Rattle.wild_types.specs.Faults.{Refuses}
-use Rattle.wild_clauses.proofs.ClauseLemmas.{test_holds, first_holds, rest_holds}
-use Rattle.wild_headers.proofs.LengthLemmas.{role_below}
+use Rattle.wild_plan_rules.proofs.ClauseLemmas.{test_holds, first_holds, rest_holds}
+use Rattle.wild_table_formats.proofs.HeaderLengths.{role_below}
 use Rattle.wild_layout.proofs.LayoutLemmas.{definitions_fit}
 use Rattle.wild_sections.proofs.FaultLemmas.{Refuses-front, Refuses-behind}
 use Rattle.wild_contents.proofs.HashLemmas.{sysv_stands, gnu_stands}
@@ -70,9 +70,9 @@ image_is (Ok x) l one two a b = b ∙ ap (overlay (flat_map_from (group_pieces l
 image_is (Err x) l one two a b = b
 
 -- without faults of clauses and shares, those of the groups are all
-pub errors_behind : (l : Layout) → clause_errors (first_clause l) ≡ [] → flat_map_from (part_errors l) 0 l.parts ≡ [] → flat_map_from (group_errors l) 0 l.groups ≡ errors l
+pub file_trailer_errors : (l : Layout) → clause_errors (first_clause l) ≡ [] → flat_map_from (part_errors l) 0 l.parts ≡ [] → flat_map_from (group_errors l) 0 l.groups ≡ errors l
 unfolding errors
-errors_behind l a b = rw (a, b) refl
+file_trailer_errors l a b = rw (a, b) refl
 
 -- neither relocations nor groups are too many
 pub few_lists : (l : Layout) → check_counts l ≡ Ok tt → (relocation_count l < 2 ^ 32 - 1) × (length l.groups < 2 ^ 32 - 1)

@@ -13,7 +13,7 @@ use Rattle.wild_types.specs.declared.input.InputSection.{InputSection}
 use Rattle.wild_types.specs.declared.file.File.{File}
 use Rattle.wild_types.specs.declared.file.Group.{Group}
 use Rattle.wild_types.specs.declared.layout.Layout.{Layout}
-use Rattle.wild_types.specs.Lookups.{section_of_part, is_filled, is_hollow_at, is_hollow_part}
+use Rattle.wild_types.specs.Lookups.{section_of_part, is_filled, is_header_only_at, is_header_only_part}
 use Rattle.wild_layout.specs.Sites.{section_bytes}
 use Rattle.wild_layout.specs.Content.{content}
 use Rattle.wild_image.specs.Pieces.{role_of, table_given, group_given, front_in, in_part, group_owned, group_part, group_parts}
@@ -53,16 +53,16 @@ empty_by : (none : Bool) → (not none && true) ≡ false → none ≡ true
 empty_by true h = refl
 empty_by false h = cc
 
-nothing_in : (hollow : Bool) (old : List ℕ) (k part : ℕ) (bs : List ℕ) → (not (length bs == 0) && not hollow) ≡ false → old ≡ old ++ (if hollow then [] else in_part k part bs)
+nothing_in : (header_only : Bool) (old : List ℕ) (k part : ℕ) (bs : List ℕ) → (not (length bs == 0) && not header_only) ≡ false → old ≡ old ++ (if header_only then [] else in_part k part bs)
 nothing_in true old k part bs h = sym (append-nil old)
 nothing_in false old k part bs h = sym (append-nil old) ∙ ap (λ (ys : List ℕ). old ++ ys) (sym (nowhere (part == k) bs (eqb-true (length bs) 0 (empty_by (length bs == 0) h))))
 
 -- nor do those at the front of a part, where there are none or the part is not written
-pub front_none : (l : Layout) (parts : List (List ℕ)) (k part : ℕ) (bs : List ℕ) → (not (length bs == 0) && not (is_hollow_part l part)) ≡ false → get_or parts k [] ≡ get_or parts k [] ++ front_in l k part bs
-front_none l parts k part bs h = nothing_in (is_hollow_part l part) (get_or parts k []) k part bs h
+pub front_none : (l : Layout) (parts : List (List ℕ)) (k part : ℕ) (bs : List ℕ) → (not (length bs == 0) && not (is_header_only_part l part)) ≡ false → get_or parts k [] ≡ get_or parts k [] ++ front_in l k part bs
+front_none l parts k part bs h = nothing_in (is_header_only_part l part) (get_or parts k []) k part bs h
 
 -- of one that is written they stand there
-pub front_written : (l : Layout) (k part : ℕ) (bs : List ℕ) → is_hollow_part l part ≡ false → in_part k part bs ≡ front_in l k part bs
+pub front_written : (l : Layout) (k part : ℕ) (bs : List ℕ) → is_header_only_part l part ≡ false → in_part k part bs ≡ front_in l k part bs
 front_written l k part bs written = sym (ap (λ (b : Bool). if b then [] else in_part k part bs) written)
 
 -- one more item's bytes, for an item that a loop read
@@ -104,7 +104,7 @@ table_at l g k low =
     let p = there.0 in
     get_or-map (table_given l g) l.parts k p [] low
     ∙ ap (table_given l g) (get_or_from_slice_get l.parts k p p there.1)
-    ∙ sym (ap (λ (o : Option Part). if is_hollow_at l (section_of_part o) then [] else content l (role_of o) g) there.1)
+    ∙ sym (ap (λ (o : Option Part). if is_header_only_at l (section_of_part o) then [] else content l (role_of o) g) there.1)
 
 -- all parts of a group: first what it gives, then what its input sections own
 pub parts_are : (l : Layout) (g : Group) (tables parts : List (List ℕ)) → tables ≡ map (table_given l g) l.parts → length parts ≡ length tables → ((k : ℕ) → k < length tables → get_or parts k [] ≡ get_or tables k [] ++ group_owned l k g) → parts ≡ group_parts l g

@@ -8,7 +8,7 @@ use Rattle.std.proofs.lemmas.List.Elements.{All-head, All-tail, All-push, All-se
 use Rattle.std.proofs.lemmas.Option.{slice_get_within}
 use Rattle.wild_words.proofs.ListLemmas.{flat_map-more}
 use Rattle.wild_crew.specs.Sums.{n_if, counted}
-use Rattle.wild_image.specs.Pairs.{with_more, put_pair, with_pair, with_pairs}
+use Rattle.wild_image.specs.RelocationCounts.{with_more, put_pair, with_pair, with_pairs}
 
 -- ---- the last pair
 

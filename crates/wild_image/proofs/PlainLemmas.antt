@@ -12,12 +12,12 @@ use Rattle.wild_types.specs.declared.part.Role.TheVariants as role
 use Rattle.wild_types.specs.FilePlaces.{given}
 use Rattle.wild_types.specs.Lists.{total}
 use Rattle.wild_types.specs.Parts.{has_role}
-use Rattle.wild_clauses.specs.WellFormed.{first_clause}
+use Rattle.wild_plan_rules.specs.WellFormed.{first_clause}
 use Rattle.wild_geometry.proofs.ClauseLemmas.{NoneFails-from_first_clause, SharesHold-from_check}
 use Rattle.wild_geometry.proofs.ShareLemmas.{size_from_shares}
 use Rattle.wild_geometry.proofs.TableLemmas.{role_place-0}
-use Rattle.wild_needs.specs.Needs.{group_share, needs_of, needs, is_bare, is_bare_group, inner, is_bare_inside}
-use Rattle.wild_needs.proofs.BareLemmas.{bare_needs}
+use Rattle.wild_needs.specs.Needs.{group_share, needs_of, needs, has_no_dynamic_tables, group_needs_no_tables, inner_groups, inner_groups_need_no_tables}
+use Rattle.wild_needs.proofs.NoTableLemmas.{bare_needs}
 use Rattle.wild_layout.specs.Faults.{flat_map_from, has_spare, share_errors}
 use Rattle.wild_image.specs.Steps.{share_faults, part_faults, has_all, OthersHaveNone}
 
@@ -62,14 +62,14 @@ front_at test (y ∷ ys) zero i x h e low = absurd (omega (arith, low))
 front_at test (y ∷ ys) (suc n) zero x h e low = (let same : y ≡ x = cc in ap test (sym same) ∙ (and_parts (test y) (list_all test (take n ys)) h).0)
 front_at test (y ∷ ys) (suc n) (suc i) x h e low = front_at test ys n i x (and_parts (test y) (list_all test (take n ys)) h).1 e (omega (arith, low))
 
-inner_at : (gs : List Group) (j : ℕ) (g : Group) → list_all is_bare_group (inner gs) ≡ true → slice_get gs j ≡ Some g → 1 ≤ j → j < length gs - 1 → is_bare_group g ≡ true
+inner_at : (gs : List Group) (j : ℕ) (g : Group) → list_all group_needs_no_tables (inner_groups gs) ≡ true → slice_get gs j ≡ Some g → 1 ≤ j → j < length gs - 1 → group_needs_no_tables g ≡ true
 inner_at [] j g h e behind before = cc
 inner_at (x ∷ ys) zero g h e behind before = absurd (omega (arith, behind))
-inner_at (x ∷ ys) (suc j) g h e behind before = front_at is_bare_group ys (length (x ∷ ys) - 1 - 1) j g h e (omega (arith, before))
+inner_at (x ∷ ys) (suc j) g h e behind before = front_at group_needs_no_tables ys (length (x ∷ ys) - 1 - 1) j g h e (omega (arith, before))
 
-pub inner_plain : (l : Layout) (j : ℕ) (g : Group) → is_bare_inside l ≡ true → slice_get l.groups j ≡ Some g → 1 ≤ j → j < length l.groups - 1 → (r : Role) → group_share l r g ≡ 0
+pub inner_plain : (l : Layout) (j : ℕ) (g : Group) → inner_groups_need_no_tables l ≡ true → slice_get l.groups j ≡ Some g → 1 ≤ j → j < length l.groups - 1 → (r : Role) → group_share l r g ≡ 0
 inner_plain l j g h e behind before =
-    let p = and_parts (is_bare l) (list_all is_bare_group (inner l.groups)) h in
+    let p = and_parts (has_no_dynamic_tables l) (list_all group_needs_no_tables (inner_groups l.groups)) h in
     bare_needs l g true (sym (inner_at l.groups j g p.1 e behind before)) p.0 refl
 
 -- where the first group is given all, the others are given nothing

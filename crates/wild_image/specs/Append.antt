@@ -1,6 +1,6 @@
 -- Bytes that are taken from the front of a list of bytes.
 --   BeginsWith own bytes   the list begins with these bytes
---   GoesOn own from to     `to` is the rest of `from` after these bytes
+--   HasRest own from to     `to` is the rest of `from` after these bytes
 --   HasStarts l j starts   the number of bytes that the groups before group j write of each part
 --   GivesItsShares l g     the group's content of each table has the length of its share
 --   HasRolesOnce l         each role except raw has one part
@@ -18,17 +18,17 @@ use Rattle.wild_types.specs.declared.layout.Merged.{Merged}
 use Rattle.wild_types.specs.declared.layout.SortedSection.{SortedSection}
 use Rattle.wild_types.specs.FileRoles.{is_prelude, is_epilogue}
 use Rattle.wild_types.specs.Kinds.{is_partial_link}
-use Rattle.wild_types.specs.Lookups.{has_range, is_counted, is_rela, is_debug, is_hollow_part}
-use Rattle.wild_laid.specs.Turned.{as_turned}
-use Rattle.wild_laid.specs.Laid.{Input, laid_sections, behind, file_frames, frames_at, sorted_input}
+use Rattle.wild_types.specs.Lookups.{has_range, is_counted, is_rela, is_debug, is_header_only_part}
+use Rattle.wild_placement.specs.ReversedWords.{with_word_order}
+use Rattle.wild_placement.specs.PlacedSections.{Input, placed_sections, behind, file_frames, frames_at, sorted_input}
 use Rattle.wild_types.specs.FilePlaces.{given}
 use Rattle.wild_types.specs.FileThunks.{thunks_of}
 use Rattle.wild_types.specs.Parts.{role_place, part_with, has_role}
 use Rattle.wild_layout.specs.Content.{content}
-use Rattle.wild_layout.specs.Image.{given_before}
+use Rattle.wild_layout.specs.Image.{shares_before}
 use Rattle.wild_layout.specs.Image.{merged_bytes}
 use Rattle.wild_layout.specs.SectionPlaces.{SectionLies, HasWords, FrontLies, PartLies}
-use Rattle.wild_image.specs.Pieces.{standing, written}
+use Rattle.wild_image.specs.Pieces.{placed_in_range, written}
 use Rattle.wild_layout.specs.ThunkPlaces.{ThunkLies}
 
 -- the list begins with these bytes
@@ -36,13 +36,13 @@ abbrev pub BeginsWith : List ℕ → List ℕ → Type 0
 BeginsWith own bytes = (rest : List ℕ) × (bytes ≡ own ++ rest)
 
 -- the rest after these bytes
-abbrev pub GoesOn : List ℕ → List ℕ → List ℕ → Type 0
-GoesOn own from to = (rest : List ℕ) → from ≡ own ++ rest → to ≡ rest
+abbrev pub HasRest : List ℕ → List ℕ → List ℕ → Type 0
+HasRest own from to = (rest : List ℕ) → from ≡ own ++ rest → to ≡ rest
 
 -- the number of bytes that the groups before group j write of part k
 abbrev pub start_of : Layout → ℕ → ℕ → Option Part → ℕ
 start_of l j k None = 0
-start_of l j k (Some p) = written l p (given_before l k j)
+start_of l j k (Some p) = written l p (shares_before l k j)
 
 -- the same for each part
 pub record HasStarts (l : Layout) (j : ℕ) (starts : List ℕ) : Type 0 where
@@ -63,11 +63,11 @@ HasRolesOnce l = (r : Role) (p : Part) → (role_place r ≡ 0 → ⊥) → Cont
 
 -- a section of a file that has a range in its part is within the image, as placed
 abbrev pub RangedLies : Layout → File → InputSection → Type 0
-RangedLies l f s = has_range s.slot ≡ true → SectionLies l (standing l f s)
+RangedLies l f s = has_range s.slot ≡ true → SectionLies l (placed_in_range l f s)
 
 -- a sorted input section is within the image
 abbrev pub InputLies : Layout → Input → Type 0
-InputLies l x = SectionLies l (as_turned x.section)
+InputLies l x = SectionLies l (with_word_order x.section)
 
 abbrev pub SortedLies : Layout → SortedSection → Type 0
 SortedLies l x = All (InputLies l) (sorted_input l x)
@@ -87,7 +87,7 @@ pub record FileLies (l : Layout) (f : File) : Type 0 where
   pub sorted : is_epilogue f.role ≡ true → All (SortedLies l) l.sorted
   pub merged : is_prelude f.role ≡ true → All (MergedLies l) l.merged
   pub identity : is_prelude f.role ≡ true → SomeLies l l.identity.part l.identity.bytes
-  pub thunks : is_hollow_part l l.primary_part ≡ false → All (ThunkLies l) (thunks_of l f)
+  pub thunks : is_header_only_part l l.primary_part ≡ false → All (ThunkLies l) (thunks_of l f)
 
 abbrev pub EachFileLies : Layout → Type 0
 EachFileLies l = All (λ (g : Group). All (FileLies l) g.files) l.groups
@@ -95,8 +95,8 @@ EachFileLies l = All (λ (g : Group). All (FileLies l) g.files) l.groups
 -- ---- placed sections
 
 -- a reversed section consists of whole words, and each of its relocations applies to one
-abbrev pub IsTurned : Layout → InputSection → Type 0
-IsTurned l s = is_counted s ≡ true → s.reversed ≡ true → HasWords l.machine s
+abbrev pub CanBeReversed : Layout → InputSection → Type 0
+CanBeReversed l s = is_counted s ≡ true → s.reversed ≡ true → HasWords l.machine s
 
 -- relocation tables are in relocatable outputs only, debug sections in others only
 pub record IsOfKind (l : Layout) (s : InputSection) : Type 0 where
@@ -106,15 +106,15 @@ pub record IsOfKind (l : Layout) (s : InputSection) : Type 0 where
 -- a sorted input section is within the image, and can be reversed if it is to be
 pub record InputStands (l : Layout) (x : Input) : Type 0 where
   pub lies : InputLies l x
-  pub turned : IsTurned l x.section
+  pub reversed_section : CanBeReversed l x.section
 
 abbrev pub SortedStands : Layout → SortedSection → Type 0
 SortedStands l x = All (InputStands l) (sorted_input l x)
 
 -- the placed sections of a file whose frames begin at an address, and the sorted input sections if it is the last file, are within the image
 pub record FileStands (l : Layout) (at : ℕ) (f : File) : Type 0 where
-  pub lies : All (SectionLies l) (laid_sections l f at f.sections)
-  pub turned : All (IsTurned l) f.sections
+  pub lies : All (SectionLies l) (placed_sections l f at f.sections)
+  pub reversed_section : All (CanBeReversed l) f.sections
   pub kinds : All (IsOfKind l) f.sections
   pub sorted : is_epilogue f.role ≡ true → All (SortedStands l) l.sorted
 

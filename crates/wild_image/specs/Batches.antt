@@ -14,7 +14,7 @@ use Rattle.wild_types.specs.Faults.{Answers}
 use Rattle.wild_layout.specs.Faults.{flat_map_from, group_errors}
 use Rattle.wild_layout.specs.Image.{group_pieces}
 use Rattle.wild_image.specs.Pieces.{group_tables, group_files, group_pairs}
-use Rattle.wild_image.specs.Pairs.{with_pairs}
+use Rattle.wild_image.specs.RelocationCounts.{with_pairs}
 use Rattle.wild_image.specs.declared.batch.Batch.{Batch}
 use Rattle.wild_image.specs.declared.buffer.GroupBytes.{GroupBytes}
 

@@ -1,11 +1,11 @@
 pub mod Append
 pub mod Padding
-pub mod Full
+pub mod Gaps
 pub mod Batches
 pub mod Jobs
-pub mod Pairs
+pub mod RelocationCounts
 pub mod Pieces
 pub mod Steps
-pub mod Stood
+pub mod Placed
 pub mod Owners
 pub mod Known

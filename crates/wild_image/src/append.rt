@@ -7,17 +7,17 @@ ghost use Rattle.wild_types.specs.declared.file.File.{File};
 ghost use Rattle.wild_types.specs.declared.file.Group.{Group};
 ghost use Rattle.wild_types.specs.FileRoles.{is_prelude, is_epilogue};
 ghost use Rattle.wild_types.specs.Faults.{Answers};
-ghost use Rattle.wild_laid.specs.Laid.{of_last_file};
-ghost use Rattle.wild_types.specs.Lookups.{image_size, is_hollow_at, is_hollow_part};
+ghost use Rattle.wild_placement.specs.PlacedSections.{of_last_file};
+ghost use Rattle.wild_types.specs.Lookups.{image_size, is_header_only_at, is_header_only_part};
 ghost use Rattle.wild_types.specs.FilePlaces.{given};
 ghost use Rattle.wild_types.specs.FileThunks.{thunks_of};
-ghost use Rattle.wild_layout.specs.Image.{unless_hollow, merged_bytes, front_piece, once_pieces, thunk_piece, thunk_pieces, of_first_file, given_before, table_piece, table_pieces};
+ghost use Rattle.wild_layout.specs.Image.{unless_hollow, merged_bytes, front_piece, merged_and_identity_pieces, thunk_piece, thunk_pieces, of_first_file, shares_before, table_piece, table_pieces};
 ghost use Rattle.wild_layout.specs.SectionPlaces.{FrontLies};
 ghost use Rattle.wild_layout.specs.ThunkPlaces.{ThunkLies};
 ghost use Rattle.wild_layout.specs.Thunks.{thunk_bytes, file_thunks};
-ghost use Rattle.wild_image.specs.Pieces.{has_some, has_room, some_by, ranged_room, table_given, written, place_in, file_sections, sorted_owned, all_sorted, once_bytes, ends_bytes, file_bytes, group_tables, group_files};
-ghost use Rattle.wild_image.specs.Owners.{ranged_pieces, sorted_pieces, all_sorted_pieces, merged_piece, ends_pieces, standing_pieces};
-ghost use Rattle.wild_image.specs.Append.{BeginsWith, GoesOn, HasStarts, EachPartLies, RangedLies, SortedLies, SomeLies, MergedLies, FileLies, EachFileLies};
+ghost use Rattle.wild_image.specs.Pieces.{has_some, has_room, some_by, ranged_room, table_given, written, place_in, file_sections, sorted_owned, all_sorted, merged_and_identity_bytes, trailer_bytes, file_bytes, group_tables, group_files};
+ghost use Rattle.wild_image.specs.Owners.{ranged_pieces, sorted_pieces, all_sorted_pieces, merged_piece, trailer_pieces, file_pieces_in_order};
+ghost use Rattle.wild_image.specs.Append.{BeginsWith, HasRest, HasStarts, EachPartLies, RangedLies, SortedLies, SomeLies, MergedLies, FileLies, EachFileLies};
 ghost use Rattle.wild_image.specs.Batches.{AreBatches, IsWithin, GivesBatch, HasBatch, batch_errors, batch_pieces};
 ghost use Rattle.wild_image.specs.declared.job.Outcome.{Outcome};
 
@@ -25,7 +25,7 @@ use crate::batch::Batch;
 use crate::buffer::GroupBytes;
 use crate::job::Outcome;
 use crate::marks::strings_size;
-use wild_laid::sorted_input;
+use wild_placement::sorted_input;
 use wild_sections::offset_of;
 use wild_types::{
     Error, File, Group, InputSection, Layout, Merged, Part, Role, Slot, SortedSection, THUNK_SIZE,
@@ -35,9 +35,9 @@ use wild_words::put;
 
 /// Whether there are bytes to write at the front of a part.
 pub(crate) fn writes_front(layout: &Layout, part: usize, own: &[u8]) -> bool
-    ensures { result ≡ (not (length own.now == 0) && not (is_hollow_part layout.now part)) }
+    ensures { result ≡ (not (length own.now == 0) && not (is_header_only_part layout.now part)) }
 {
-    own.len() != 0 && !layout.is_hollow_part(part)
+    own.len() != 0 && !layout.is_header_only_part(part)
 }
 
 /// Whether a section that is loaded, sorted or read by debuggers has bytes in the image, as placed.
@@ -51,7 +51,7 @@ fn has_some(layout: &Layout, section: &InputSection) -> bool
 pub(crate) fn owns_room(layout: &Layout, section: &InputSection) -> bool
     ensures { result ≡ has_room layout.now section.now }
 {
-    has_some(layout, section) && !layout.is_hollow_part(section.part)
+    has_some(layout, section) && !layout.is_header_only_part(section.part)
 }
 
 /// Whether a loaded or debug section, a relocation table or a section group has bytes in the image, as the plan gives its place.
@@ -70,7 +70,7 @@ fn has_range(layout: &Layout, section: &InputSection) -> bool
 pub(crate) fn owns_range(layout: &Layout, section: &InputSection) -> bool
     ensures { result ≡ ranged_room layout.now section.now }
 {
-    has_range(layout, section) && !layout.is_hollow_part(section.part)
+    has_range(layout, section) && !layout.is_header_only_part(section.part)
 }
 
 /// Copies the bytes of a section, the first of `bytes`, to their place if the section has some; returns the rest.
@@ -101,7 +101,7 @@ fn append_sections<'b>(layout: &Layout, file: &File, bytes: &'b [u8], out: &mut 
     requires room { length out.old ≡ image_size layout.now }
     requires own { BeginsWith (file_sections layout.now file.now) bytes.now }
     ensures image { out.new ≡ overlay (ranged_pieces layout.now file.now) out.old }
-    ensures rest { GoesOn (file_sections layout.now file.now) bytes.now result.now }
+    ensures rest { HasRest (file_sections layout.now file.now) bytes.now result.now }
 {
     let mut rest = bytes;
     for section in file.sections.as_slice() {
@@ -121,7 +121,7 @@ fn append_sorted_section<'b>(
     requires room { length out.old ≡ image_size layout.now }
     requires own { BeginsWith (sorted_owned layout.now entry.now) bytes.now }
     ensures image { out.new ≡ overlay (sorted_pieces layout.now entry.now) out.old }
-    ensures rest { GoesOn (sorted_owned layout.now entry.now) bytes.now result.now }
+    ensures rest { HasRest (sorted_owned layout.now entry.now) bytes.now result.now }
 {
     match sorted_input(layout, *entry) {
         Some(input) => {
@@ -138,7 +138,7 @@ fn append_sorted<'b>(layout: &Layout, bytes: &'b [u8], out: &mut [u8]) -> &'b [u
     requires room { length out.old ≡ image_size layout.now }
     requires own { BeginsWith (all_sorted layout.now) bytes.now }
     ensures image { out.new ≡ overlay (all_sorted_pieces layout.now) out.old }
-    ensures rest { GoesOn (all_sorted layout.now) bytes.now result.now }
+    ensures rest { HasRest (all_sorted layout.now) bytes.now result.now }
 {
     let mut rest = bytes;
     for entry in layout.sorted.as_slice() {
@@ -151,7 +151,7 @@ fn append_sorted<'b>(layout: &Layout, bytes: &'b [u8], out: &mut [u8]) -> &'b [u
 #[tactic(auto, using(crate::proofs::FrontLemmas::front_part, crate::proofs::FrontLemmas::front_ends, crate::proofs::FrontLemmas::front_put))]
 fn put_some(layout: &Layout, part: usize, own: &[u8], out: &mut [u8])
     requires some { 1 ≤ length own.now }
-    requires written { is_hollow_part layout.now part ≡ false }
+    requires written { is_header_only_part layout.now part ≡ false }
     requires lies { FrontLies layout.now part own.now }
     requires room { length out.old ≡ image_size layout.now }
     ensures { out.new ≡ overlay (front_piece layout.now part own.now) out.old }
@@ -186,7 +186,7 @@ fn append_merged<'b>(layout: &Layout, merged: &Merged, bytes: &'b [u8], out: &mu
     requires room { length out.old ≡ image_size layout.now }
     requires own { BeginsWith (merged_bytes merged.now) bytes.now }
     ensures image { out.new ≡ overlay (front_piece layout.now merged.now.part (merged_bytes merged.now)) out.old }
-    ensures rest { GoesOn (merged_bytes merged.now) bytes.now result.now }
+    ensures rest { HasRest (merged_bytes merged.now) bytes.now result.now }
 {
     let (own, rest) = bytes.split_at(merged_size(merged));
     put_front(layout, merged.part, own, out);
@@ -199,7 +199,7 @@ fn append_strings<'b>(layout: &Layout, bytes: &'b [u8], out: &mut [u8]) -> &'b [
     requires room { length out.old ≡ image_size layout.now }
     requires own { BeginsWith (flat_map merged_bytes layout.now.merged) bytes.now }
     ensures image { out.new ≡ overlay (flat_map (merged_piece layout.now) layout.now.merged) out.old }
-    ensures rest { GoesOn (flat_map merged_bytes layout.now.merged) bytes.now result.now }
+    ensures rest { HasRest (flat_map merged_bytes layout.now.merged) bytes.now result.now }
 {
     let mut rest = bytes;
     for merged in layout.merged.as_slice() {
@@ -214,7 +214,7 @@ fn append_identity<'b>(layout: &Layout, bytes: &'b [u8], out: &mut [u8]) -> &'b 
     requires room { length out.old ≡ image_size layout.now }
     requires own { BeginsWith layout.now.identity.bytes bytes.now }
     ensures image { out.new ≡ overlay (front_piece layout.now layout.now.identity.part layout.now.identity.bytes) out.old }
-    ensures rest { GoesOn layout.now.identity.bytes bytes.now result.now }
+    ensures rest { HasRest layout.now.identity.bytes bytes.now result.now }
 {
     let (own, rest) = bytes.split_at(layout.identity.bytes.len());
     put_front(layout, layout.identity.part, own, out);
@@ -222,13 +222,13 @@ fn append_identity<'b>(layout: &Layout, bytes: &'b [u8], out: &mut [u8]) -> &'b 
 }
 
 /// Copies merged strings and the output's identity, which the first file writes, to their parts; returns the rest.
-fn append_once<'b>(layout: &Layout, bytes: &'b [u8], out: &mut [u8]) -> &'b [u8]
+fn append_merged_and_identity<'b>(layout: &Layout, bytes: &'b [u8], out: &mut [u8]) -> &'b [u8]
     requires merged { All (MergedLies layout.now) layout.now.merged }
     requires identity { SomeLies layout.now layout.now.identity.part layout.now.identity.bytes }
     requires room { length out.old ≡ image_size layout.now }
-    requires own { BeginsWith (once_bytes layout.now) bytes.now }
-    ensures image { out.new ≡ overlay (once_pieces layout.now) out.old }
-    ensures rest { GoesOn (once_bytes layout.now) bytes.now result.now }
+    requires own { BeginsWith (merged_and_identity_bytes layout.now) bytes.now }
+    ensures image { out.new ≡ overlay (merged_and_identity_pieces layout.now) out.old }
+    ensures rest { HasRest (merged_and_identity_bytes layout.now) bytes.now result.now }
 {
     let rest = append_strings(layout, bytes, out);
     append_identity(layout, rest, out)
@@ -240,7 +240,7 @@ fn append_last<'b>(layout: &Layout, file: &File, bytes: &'b [u8], out: &mut [u8]
     requires room { length out.old ≡ image_size layout.now }
     requires own { BeginsWith (of_last_file file.now (all_sorted layout.now)) bytes.now }
     ensures image { out.new ≡ overlay (of_last_file file.now (all_sorted_pieces layout.now)) out.old }
-    ensures rest { GoesOn (of_last_file file.now (all_sorted layout.now)) bytes.now result.now }
+    ensures rest { HasRest (of_last_file file.now (all_sorted layout.now)) bytes.now result.now }
 {
     if file.role.is_epilogue() {
         return append_sorted(layout, bytes, out);
@@ -253,23 +253,23 @@ fn append_first<'b>(layout: &Layout, file: &File, bytes: &'b [u8], out: &mut [u8
     requires merged { is_prelude file.now.role ≡ true → All (MergedLies layout.now) layout.now.merged }
     requires identity { is_prelude file.now.role ≡ true → SomeLies layout.now layout.now.identity.part layout.now.identity.bytes }
     requires room { length out.old ≡ image_size layout.now }
-    requires own { BeginsWith (of_first_file file.now (once_bytes layout.now)) bytes.now }
-    ensures image { out.new ≡ overlay (of_first_file file.now (once_pieces layout.now)) out.old }
-    ensures rest { GoesOn (of_first_file file.now (once_bytes layout.now)) bytes.now result.now }
+    requires own { BeginsWith (of_first_file file.now (merged_and_identity_bytes layout.now)) bytes.now }
+    ensures image { out.new ≡ overlay (of_first_file file.now (merged_and_identity_pieces layout.now)) out.old }
+    ensures rest { HasRest (of_first_file file.now (merged_and_identity_bytes layout.now)) bytes.now result.now }
 {
     if file.role.is_prelude() {
-        return append_once(layout, bytes, out);
+        return append_merged_and_identity(layout, bytes, out);
     }
     bytes
 }
 
 /// Copies what only the last or only the first file writes; returns the rest.
-fn append_ends<'b>(layout: &Layout, file: &File, bytes: &'b [u8], out: &mut [u8]) -> &'b [u8]
+fn append_trailer<'b>(layout: &Layout, file: &File, bytes: &'b [u8], out: &mut [u8]) -> &'b [u8]
     requires lies { FileLies layout.now file.now }
     requires room { length out.old ≡ image_size layout.now }
-    requires own { BeginsWith (ends_bytes layout.now file.now) bytes.now }
-    ensures image { out.new ≡ overlay (ends_pieces layout.now file.now) out.old }
-    ensures rest { GoesOn (ends_bytes layout.now file.now) bytes.now result.now }
+    requires own { BeginsWith (trailer_bytes layout.now file.now) bytes.now }
+    ensures image { out.new ≡ overlay (trailer_pieces layout.now file.now) out.old }
+    ensures rest { HasRest (trailer_bytes layout.now file.now) bytes.now result.now }
 {
     let rest = append_last(layout, file, bytes, out);
     append_first(layout, file, rest, out)
@@ -281,7 +281,7 @@ fn append_thunk<'b>(layout: &Layout, thunk: &Thunk, bytes: &'b [u8], out: &mut [
     requires room { (length out.old ≡ image_size layout.now) × (image_size layout.now ≤ 2 ^ 62) }
     requires own { BeginsWith (thunk_bytes layout.now thunk.now) bytes.now }
     ensures image { out.new ≡ overlay (thunk_piece layout.now thunk.now) out.old }
-    ensures rest { GoesOn (thunk_bytes layout.now thunk.now) bytes.now result.now }
+    ensures rest { HasRest (thunk_bytes layout.now thunk.now) bytes.now result.now }
 {
     let at = offset_of(layout.parts.as_slice(), layout.primary_part, thunk.address);
     let (own, rest) = bytes.split_at(THUNK_SIZE as usize);
@@ -295,7 +295,7 @@ fn append_all_thunks<'b>(layout: &Layout, file: &File, bytes: &'b [u8], out: &mu
     requires room { (length out.old ≡ image_size layout.now) × (image_size layout.now ≤ 2 ^ 62) }
     requires own { BeginsWith (file_thunks layout.now file.now) bytes.now }
     ensures image { out.new ≡ overlay (flat_map (thunk_piece layout.now) (thunks_of layout.now file.now)) out.old }
-    ensures rest { GoesOn (file_thunks layout.now file.now) bytes.now result.now }
+    ensures rest { HasRest (file_thunks layout.now file.now) bytes.now result.now }
 {
     let mut rest = bytes;
     for thunk in layout.thunks_of(file) {
@@ -306,13 +306,13 @@ fn append_all_thunks<'b>(layout: &Layout, file: &File, bytes: &'b [u8], out: &mu
 
 /// Copies the thunks of a file to their places, unless their output section is omitted; returns the rest.
 fn append_thunks<'b>(layout: &Layout, file: &File, bytes: &'b [u8], out: &mut [u8]) -> &'b [u8]
-    requires lies { is_hollow_part layout.now layout.now.primary_part ≡ false → All (ThunkLies layout.now) (thunks_of layout.now file.now) }
+    requires lies { is_header_only_part layout.now layout.now.primary_part ≡ false → All (ThunkLies layout.now) (thunks_of layout.now file.now) }
     requires room { (length out.old ≡ image_size layout.now) × (image_size layout.now ≤ 2 ^ 62) }
     requires own { BeginsWith (unless_hollow layout.now layout.now.primary_part (file_thunks layout.now file.now)) bytes.now }
     ensures image { out.new ≡ overlay (thunk_pieces layout.now file.now) out.old }
-    ensures rest { GoesOn (unless_hollow layout.now layout.now.primary_part (file_thunks layout.now file.now)) bytes.now result.now }
+    ensures rest { HasRest (unless_hollow layout.now layout.now.primary_part (file_thunks layout.now file.now)) bytes.now result.now }
 {
-    if layout.is_hollow_part(layout.primary_part) {
+    if layout.is_header_only_part(layout.primary_part) {
         return bytes;
     }
     append_all_thunks(layout, file, bytes, out)
@@ -323,11 +323,11 @@ fn append_file<'b>(layout: &Layout, file: &File, bytes: &'b [u8], out: &mut [u8]
     requires lies { FileLies layout.now file.now }
     requires room { (length out.old ≡ image_size layout.now) × (image_size layout.now ≤ 2 ^ 62) }
     requires own { BeginsWith (file_bytes layout.now file.now) bytes.now }
-    ensures image { out.new ≡ overlay (standing_pieces layout.now file.now) out.old }
-    ensures rest { GoesOn (file_bytes layout.now file.now) bytes.now result.now }
+    ensures image { out.new ≡ overlay (file_pieces_in_order layout.now file.now) out.old }
+    ensures rest { HasRest (file_bytes layout.now file.now) bytes.now result.now }
 {
     let behind = append_sections(layout, file, bytes, out);
-    let rest = append_ends(layout, file, behind, out);
+    let rest = append_trailer(layout, file, behind, out);
     append_thunks(layout, file, rest, out)
 }
 
@@ -337,8 +337,8 @@ fn append_files<'b>(layout: &Layout, group: &Group, bytes: &'b [u8], out: &mut [
     requires lies { All (FileLies layout.now) group.now.files }
     requires room { (length out.old ≡ image_size layout.now) × (image_size layout.now ≤ 2 ^ 62) }
     requires own { BeginsWith (group_files layout.now group.now) bytes.now }
-    ensures image { out.new ≡ overlay (flat_map (standing_pieces layout.now) group.now.files) out.old }
-    ensures rest { GoesOn (group_files layout.now group.now) bytes.now result.now }
+    ensures image { out.new ≡ overlay (flat_map (file_pieces_in_order layout.now) group.now.files) out.old }
+    ensures rest { HasRest (group_files layout.now group.now) bytes.now result.now }
 {
     let mut rest = bytes;
     for file in group.files.as_slice() {
@@ -352,7 +352,7 @@ pub(crate) fn written_size(layout: &Layout, part: &Part, group: &Group, i: usize
     ensures { result ≡ written layout.now part.now (given i group.now) }
 {
     let size = group.given(i);
-    if size == 0 || has_role(Role::Raw, part) || layout.is_hollow_at(part.section) {
+    if size == 0 || has_role(Role::Raw, part) || layout.is_header_only_at(part.section) {
         0
     } else {
         size
@@ -376,11 +376,11 @@ fn append_table<'b>(
     requires parts { EachPartLies layout.now }
     requires group { slice_get layout.now.groups index ≡ Some group.now }
     requires size { size ≡ written layout.now part.now (given i group.now) }
-    requires start { start ≡ written layout.now part.now (given_before layout.now i index) }
+    requires start { start ≡ written layout.now part.now (shares_before layout.now i index) }
     requires own { BeginsWith (table_given layout.now group.now part.now) bytes.now }
     requires room { (length out.old ≡ image_size layout.now) × (image_size layout.now ≤ 2 ^ 62) }
     ensures image { out.new ≡ overlay (table_piece layout.now index group.now i part.now) out.old }
-    ensures rest { GoesOn (table_given layout.now group.now part.now) bytes.now result.now }
+    ensures rest { HasRest (table_given layout.now group.now part.now) bytes.now result.now }
 {
     if size == 0 {
         return bytes;
@@ -406,7 +406,7 @@ fn append_tables<'b>(
     requires starts { HasStarts layout.now index starts.old }
     requires room { (length out.old ≡ image_size layout.now) × (image_size layout.now ≤ 2 ^ 62) }
     ensures image { out.new ≡ overlay (table_pieces layout.now index group.now) out.old }
-    ensures rest { GoesOn (group_tables layout.now group.now) bytes.now result.now }
+    ensures rest { HasRest (group_tables layout.now group.now) bytes.now result.now }
     ensures starts { HasStarts layout.now (index + 1) starts.new }
 {
     if bytes.is_empty() {

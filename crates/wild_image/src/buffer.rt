@@ -8,22 +8,22 @@ ghost use Rattle.wild_types.specs.FilePlaces.{given};
 ghost use Rattle.wild_types.specs.Lists.{total};
 ghost use Rattle.wild_types.specs.declared.file.File.{File};
 ghost use Rattle.wild_types.specs.declared.part.Role.TheVariants.{EhFrame, EhFrameHdr};
-ghost use Rattle.wild_types.specs.Hollow.{is_hollow_role, is_dropped};
-ghost use Rattle.wild_types.specs.Lookups.{is_given, is_read, is_frame, is_debug, is_rela};
+ghost use Rattle.wild_types.specs.HeaderOnly.{is_header_only_role, is_omitted};
+ghost use Rattle.wild_types.specs.Lookups.{has_range_bytes, is_read, is_frame, is_debug, is_rela};
 ghost use Rattle.wild_layout.specs.Sites.{section_bytes};
-ghost use Rattle.wild_laid.specs.FrameInputs.{kept_size};
-ghost use Rattle.wild_laid.specs.Laid.{laid_section, laid_sections, laid_file, file_frames, frames_at, behind, of_last_file};
+ghost use Rattle.wild_placement.specs.FrameInputs.{kept_size};
+ghost use Rattle.wild_placement.specs.PlacedSections.{placed_section, placed_sections, placed_file, file_frames, frames_at, behind, of_last_file};
 ghost use Rattle.wild_layout.specs.Faults.{section_errors, sections_errors, sorted_errors, first_errors, file_errors, files_errors, group_errors};
 ghost use Rattle.wild_layout.specs.Content.{frame_bytes_of, end_of_frames, frames_bytes};
 ghost use Rattle.wild_layout.specs.Image.{of_first_file};
 ghost use Rattle.wild_layout.specs.SectionPlaces.{SectionLies};
-ghost use Rattle.wild_contents.specs.Given.{NeedsFit};
-ghost use Rattle.wild_contents.specs.Laid.{group_frames, HaveSearchTable};
+ghost use Rattle.wild_contents.specs.VersionCounts.{NeedsFit};
+ghost use Rattle.wild_contents.specs.PlacedSections.{group_frames, HaveSearchTable};
 ghost use Rattle.wild_contents.specs.SearchTable.{IsTableFor, IsSearchTable};
-ghost use Rattle.wild_image.specs.Append.{GivesItsShares, HasRolesOnce, IsTurned, IsOfKind, SortedStands, FileStands, GroupStands};
+ghost use Rattle.wild_image.specs.Append.{GivesItsShares, HasRolesOnce, CanBeReversed, IsOfKind, SortedStands, FileStands, GroupStands};
 ghost use Rattle.wild_image.specs.Known.{IsKnown, GiveNothing};
-ghost use Rattle.wild_image.specs.Pieces.{table_given, written, section_owned, sorted_owned, all_sorted, once_bytes, file_bytes, group_files, group_tables};
-ghost use Rattle.wild_image.specs.Stood.{kept_faults, stood_faults, StoodApart, HasOrigins, IsMadeOf, IsWhole, zeros_of, stands_so, so_errors, so_bytes, errors_behind, bytes_behind, is_plain_object};
+ghost use Rattle.wild_image.specs.Pieces.{table_given, written, section_owned, sorted_owned, all_sorted, merged_and_identity_bytes, file_bytes, group_files, group_tables};
+ghost use Rattle.wild_image.specs.Placed.{kept_section_faults, placed_section_faults, PlacedApart, HasOrigins, IsRelaOrGroup, IsWhole, zeros_of, is_written_unchanged, unchanged_errors, unchanged_bytes, file_trailer_errors, file_trailer_bytes, is_plain_object};
 ghost use Rattle.wild_image.specs.Batches.{HasBatch, IsWithin, batch_errors};
 
 use crate::append::written_size;
@@ -32,11 +32,11 @@ use crate::known::Known;
 use std::alloc::{AllocError, Global};
 use std::thread::Threads;
 use wild_contents::{
-    Beside, PartBytes, SearchTable, add_content, add_thunks, behind_frames, check_entries,
-    check_symbol_tables,
+    FrameTables, PartBytes, SearchTable, add_content, add_thunks, address_after_frames,
+    check_entries, check_symbol_tables,
 };
 use wild_debug::{ShardedArch, Workers};
-use wild_laid::{LaidSection, lay, lay_sorted, sorted_input};
+use wild_placement::{PlacedInput, place_input, place_sorted, sorted_input};
 use wild_relax::Arch;
 use wild_sections::{InputPlace, Origin, Resolved, write_data};
 use wild_types::{
@@ -63,15 +63,15 @@ fn add_table<A: Arch>(
     group: &Group,
     i: usize,
     part: &Part,
-    beside: &Beside<'_>,
+    beside: &FrameTables<'_>,
     bytes: &mut PartBytes,
 ) -> Result<(), AllocError>
     requires part { slice_get resolved.now.layout.now.parts i ≡ Some part.now }
     requires gives { GivesItsShares resolved.now.layout.now group.now }
     requires few { NeedsFit group.now }
     requires once { HasRolesOnce resolved.now.layout.now }
-    requires frames { is_hollow_role resolved.now.layout.now EhFrame ≡ false → beside.now.frames.now ≡ group_frames resolved.now.layout.now group.now }
-    requires table { is_hollow_role resolved.now.layout.now EhFrameHdr ≡ false → HaveSearchTable resolved.now.layout.now beside.now.table.now group.now.files }
+    requires frames { is_header_only_role resolved.now.layout.now EhFrame ≡ false → beside.now.frames.now ≡ group_frames resolved.now.layout.now group.now }
+    requires table { is_header_only_role resolved.now.layout.now EhFrameHdr ≡ false → HaveSearchTable resolved.now.layout.now beside.now.table.now group.now.files }
     ensures { OnOk result (bytes.new ≡ bytes.old ++ table_given resolved.now.layout.now group.now part.now) }
 {
     if written_size(resolved.layout, part, group, i) == 0 {
@@ -85,14 +85,14 @@ fn add_group_tables<A: Arch>(
     alloc: Global,
     resolved: &Resolved<A>,
     group: &Group,
-    beside: &Beside<'_>,
+    beside: &FrameTables<'_>,
     bytes: &mut PartBytes,
 ) -> Result<(), AllocError>
     requires gives { GivesItsShares resolved.now.layout.now group.now }
     requires few { NeedsFit group.now }
     requires once { HasRolesOnce resolved.now.layout.now }
-    requires frames { is_hollow_role resolved.now.layout.now EhFrame ≡ false → beside.now.frames.now ≡ group_frames resolved.now.layout.now group.now }
-    requires table { is_hollow_role resolved.now.layout.now EhFrameHdr ≡ false → HaveSearchTable resolved.now.layout.now beside.now.table.now group.now.files }
+    requires frames { is_header_only_role resolved.now.layout.now EhFrame ≡ false → beside.now.frames.now ≡ group_frames resolved.now.layout.now group.now }
+    requires table { is_header_only_role resolved.now.layout.now EhFrameHdr ≡ false → HaveSearchTable resolved.now.layout.now beside.now.table.now group.now.files }
     ensures { OnOk result (bytes.new ≡ bytes.old ++ group_tables resolved.now.layout.now group.now) }
 {
     for (i, part) in resolved.layout.parts.as_slice().iter().enumerate() {
@@ -102,7 +102,7 @@ fn add_group_tables<A: Arch>(
 }
 
 /// Where in the input the relocations of a placed section are, for error messages.
-fn origin_of<'a>(place: InputPlace, laid: &'a LaidSection<'_>) -> Origin<'a>
+fn origin_of<'a>(place: InputPlace, laid: &'a PlacedInput<'_>) -> Origin<'a>
     ensures place { result.place ≡ place }
     ensures relocations { result.relocations.now ≡ laid.now.origins }
     ensures ending { option_to_list result.ending ≡ laid.now.faults }
@@ -115,20 +115,20 @@ fn origin_of<'a>(place: InputPlace, laid: &'a LaidSection<'_>) -> Origin<'a>
 }
 
 /// Returns the first fault of a placed section without bytes whose relocations are read.
-#[tactic(auto, unfolding(crate::specs::Stood::kept_faults))]
+#[tactic(auto, unfolding(crate::specs::Placed::kept_section_faults))]
 fn check_data<A: Arch>(
     alloc: Global,
     resolved: &Resolved<A>,
     place: InputPlace,
     file: &File,
-    laid: &LaidSection<'_>,
+    laid: &PlacedInput<'_>,
 ) -> Result<(), Error>
     requires read { is_read laid.now.section ≡ true }
-    requires moves { StoodApart resolved.now.layout.now file.now laid.now }
-    requires none { is_given resolved.now.layout.now laid.now.section ≡ false }
+    requires moves { PlacedApart resolved.now.layout.now file.now laid.now }
+    requires none { has_range_bytes resolved.now.layout.now laid.now.section ≡ false }
     requires loaded { is_frame laid.now.section.slot ≡ false }
     requires lies { SectionLies resolved.now.layout.now laid.now.section }
-    ensures faults { Answers result (kept_faults resolved.now.layout.now place.group place.file place.section file.now laid.now) }
+    ensures faults { Answers result (kept_section_faults resolved.now.layout.now place.group place.file place.section file.now laid.now) }
 {
     let mut room = [0; 0];
     let item = laid.section().item(resolved.layout, file);
@@ -160,20 +160,20 @@ fn add_zeros(
 
 /// Appends the bytes of a placed section with data: to the file's sections, or to its frames. Fails with the section's first
 /// fault.
-#[tactic(auto, using(crate::proofs::StoodLemmas::frames_own_none), unfolding(crate::specs::Stood::kept_faults, wild_layout::specs::Sites::section_bytes, wild_layout::specs::Content::frame_bytes_of))]
+#[tactic(auto, using(crate::proofs::PlacedLemmas::frames_own_none), unfolding(crate::specs::Placed::kept_section_faults, wild_layout::specs::Sites::section_bytes, wild_layout::specs::Content::frame_bytes_of))]
 fn add_read<A: Arch>(
     alloc: Global,
     resolved: &Resolved<A>,
     place: InputPlace,
     file: &File,
-    laid: &LaidSection<'_>,
+    laid: &PlacedInput<'_>,
     bytes: &mut GroupBytes,
 ) -> Result<(), Error>
     requires read { is_read laid.now.section ≡ true }
-    requires moves { StoodApart resolved.now.layout.now file.now laid.now }
-    requires written { is_dropped resolved.now.layout.now laid.now.section ≡ false }
+    requires moves { PlacedApart resolved.now.layout.now file.now laid.now }
+    requires written { is_omitted resolved.now.layout.now laid.now.section ≡ false }
     requires lies { SectionLies resolved.now.layout.now laid.now.section }
-    ensures faults { Answers result (kept_faults resolved.now.layout.now place.group place.file place.section file.now laid.now) }
+    ensures faults { Answers result (kept_section_faults resolved.now.layout.now place.group place.file place.section file.now laid.now) }
     ensures files { OnOk result (bytes.new.files ≡ bytes.old.files ++ section_owned resolved.now.layout.now file.now laid.now.section) }
     ensures frames { OnOk result (bytes.new.frames ≡ bytes.old.frames ++ frame_bytes_of resolved.now.layout.now file.now laid.now.section) }
     ensures tables { bytes.new.tables ≡ bytes.old.tables }
@@ -191,20 +191,20 @@ fn add_read<A: Arch>(
 }
 
 /// Appends the bytes of a placed section with data that debuggers read to the file's sections, or returns its first fault.
-#[tactic(auto, using(crate::proofs::MadeLemmas::debug_answers, crate::proofs::MadeLemmas::debug_added))]
+#[tactic(auto, using(crate::proofs::RelaOrGroupLemmas::debug_answers, crate::proofs::RelaOrGroupLemmas::debug_added))]
 fn add_debug<A: ShardedArch, R: Threads + Sync>(
     by: &Workers<R>,
     resolved: &Resolved<A>,
     place: InputPlace,
-    laid: &LaidSection<'_>,
+    laid: &PlacedInput<'_>,
     bytes: &mut PartBytes,
 ) -> Result<(), Error>
     requires debug { is_debug laid.now.section.slot ≡ true }
-    requires written { is_dropped resolved.now.layout.now laid.now.section ≡ false }
+    requires written { is_omitted resolved.now.layout.now laid.now.section ≡ false }
     requires whole { laid.now.section.nobits ≡ false }
     requires origins { HasOrigins laid.now }
     requires lies { SectionLies resolved.now.layout.now laid.now.section }
-    ensures faults { (f : File) → Answers result (kept_faults resolved.now.layout.now place.group place.file place.section f laid.now) }
+    ensures faults { (f : File) → Answers result (kept_section_faults resolved.now.layout.now place.group place.file place.section f laid.now) }
     ensures bytes { OnOk result ((f : File) → bytes.new ≡ bytes.old ++ section_owned resolved.now.layout.now f laid.now.section) }
 {
     bytes.add_debug(by, resolved, &origin_of(place, laid), laid.section())
@@ -218,14 +218,14 @@ fn is_rela(slot: Slot) -> bool
 }
 
 /// Appends the bytes computed for a relocation table or section group, as placed, which has bytes in the image.
-#[tactic(auto, using(crate::proofs::MadeLemmas::rela_size, crate::proofs::MadeLemmas::group_size, crate::proofs::MadeLemmas::rela_added, crate::proofs::MadeLemmas::group_added))]
-fn add_made<A: Arch>(
+#[tactic(auto, using(crate::proofs::RelaOrGroupLemmas::rela_size, crate::proofs::RelaOrGroupLemmas::group_size, crate::proofs::RelaOrGroupLemmas::rela_added, crate::proofs::RelaOrGroupLemmas::group_added))]
+fn add_rela_or_group<A: Arch>(
     alloc: Global,
     resolved: &Resolved<A>,
     section: &InputSection,
     bytes: &mut PartBytes,
 ) -> Result<(), AllocError>
-    requires made { IsMadeOf resolved.now.layout.now section.now }
+    requires made { IsRelaOrGroup resolved.now.layout.now section.now }
     requires kind { IsOfKind resolved.now.layout.now section.now }
     requires long { (f : File) × (length (section_bytes resolved.now.layout.now f section.now) ≡ section.now.size) }
     ensures { OnOk result ((f : File) → bytes.new ≡ bytes.old ++ section_owned resolved.now.layout.now f section.now) }
@@ -238,22 +238,22 @@ fn add_made<A: Arch>(
 }
 
 /// Appends the bytes of a placed section with data that is not loaded to the file's sections, or returns its first fault.
-#[tactic(auto, using(crate::proofs::MadeLemmas::no_faults, crate::proofs::MadeLemmas::nothing_added))]
+#[tactic(auto, using(crate::proofs::RelaOrGroupLemmas::no_faults, crate::proofs::RelaOrGroupLemmas::nothing_added))]
 fn add_unread<A: ShardedArch, R: Threads + Sync>(
     by: &Workers<R>,
     resolved: &Resolved<A>,
     place: InputPlace,
     file: &File,
-    laid: &LaidSection<'_>,
+    laid: &PlacedInput<'_>,
     bytes: &mut PartBytes,
 ) -> Result<(), Error>
     requires unread { is_read laid.now.section ≡ false }
-    requires written { is_dropped resolved.now.layout.now laid.now.section ≡ false }
+    requires written { is_omitted resolved.now.layout.now laid.now.section ≡ false }
     requires whole { laid.now.section.nobits ≡ false }
     requires kind { IsOfKind resolved.now.layout.now laid.now.section }
     requires origins { HasOrigins laid.now }
     requires lies { SectionLies resolved.now.layout.now laid.now.section }
-    ensures faults { Answers result (kept_faults resolved.now.layout.now place.group place.file place.section file.now laid.now) }
+    ensures faults { Answers result (kept_section_faults resolved.now.layout.now place.group place.file place.section file.now laid.now) }
     ensures bytes { OnOk result (bytes.new ≡ bytes.old ++ section_owned resolved.now.layout.now file.now laid.now.section) }
 {
     let section = laid.section();
@@ -261,34 +261,34 @@ fn add_unread<A: ShardedArch, R: Threads + Sync>(
         return add_debug(by, resolved, place, laid, bytes);
     }
     if section.is_filled(resolved.layout) {
-        add_made(by.alloc, resolved, section, bytes)?;
+        add_rela_or_group(by.alloc, resolved, section, bytes)?;
     }
     Ok(())
 }
 
 /// Appends the bytes of a placed section of the file, or returns its first fault; appends nothing if it is omitted.
-#[tactic(auto, using(crate::proofs::StoodLemmas::zeros_owned), unfolding(crate::specs::Stood::kept_faults, crate::specs::Stood::stood_faults))]
-fn add_stood<A: ShardedArch, R: Threads + Sync>(
+#[tactic(auto, using(crate::proofs::PlacedLemmas::zeros_owned), unfolding(crate::specs::Placed::kept_section_faults, crate::specs::Placed::placed_section_faults))]
+fn add_placed<A: ShardedArch, R: Threads + Sync>(
     by: &Workers<R>,
     resolved: &Resolved<A>,
     place: InputPlace,
     file: &File,
-    laid: &LaidSection<'_>,
+    laid: &PlacedInput<'_>,
     bytes: &mut GroupBytes,
 ) -> Result<(), Error>
     requires whole { IsWhole laid.now.section }
-    requires moves { is_read laid.now.section ≡ true → StoodApart resolved.now.layout.now file.now laid.now }
+    requires moves { is_read laid.now.section ≡ true → PlacedApart resolved.now.layout.now file.now laid.now }
     requires kind { IsOfKind resolved.now.layout.now laid.now.section }
     requires origins { HasOrigins laid.now }
     requires lies { SectionLies resolved.now.layout.now laid.now.section }
-    ensures faults { Answers result (stood_faults resolved.now.layout.now place.group place.file place.section file.now laid.now) }
+    ensures faults { Answers result (placed_section_faults resolved.now.layout.now place.group place.file place.section file.now laid.now) }
     ensures files { OnOk result (bytes.new.files ≡ bytes.old.files ++ section_owned resolved.now.layout.now file.now laid.now.section) }
-    ensures frames { OnOk result (is_hollow_role resolved.now.layout.now EhFrame ≡ false → bytes.new.frames ≡ bytes.old.frames ++ frame_bytes_of resolved.now.layout.now file.now laid.now.section) }
+    ensures frames { OnOk result (is_header_only_role resolved.now.layout.now EhFrame ≡ false → bytes.new.frames ≡ bytes.old.frames ++ frame_bytes_of resolved.now.layout.now file.now laid.now.section) }
     ensures plain { OnOk result (is_frame laid.now.section.slot ≡ false → bytes.new.frames ≡ bytes.old.frames) }
     ensures tables { bytes.new.tables ≡ bytes.old.tables }
 {
     let section = laid.section();
-    if section.is_dropped(resolved.layout) {
+    if section.is_omitted(resolved.layout) {
         return Ok(());
     }
     if section.is_read() {
@@ -301,20 +301,20 @@ fn add_stood<A: ShardedArch, R: Threads + Sync>(
 }
 
 /// Whether a section is loaded, and what the plan gives is written unchanged except for its relocations.
-#[tactic(auto, unfolding(crate::specs::Stood::stands_so))]
-fn stands_so(layout: &Layout, section: &InputSection) -> bool
-    ensures { result ≡ stands_so layout.now section.now }
+#[tactic(auto, unfolding(crate::specs::Placed::is_written_unchanged))]
+fn is_written_unchanged(layout: &Layout, section: &InputSection) -> bool
+    ensures { result ≡ is_written_unchanged layout.now section.now }
 {
     section.slot.is_loaded()
         && !section.nobits
         && !section.reversed
         && !layout.kind.is_partial_link()
         && section.bytes.len() != 0
-        && !layout.is_hollow_part(section.part)
+        && !layout.is_header_only_part(section.part)
 }
 
 /// Appends an input section that is written exactly as the plan gives it, or returns its first fault.
-fn add_so<A: Arch>(
+fn add_unchanged<A: Arch>(
     alloc: Global,
     resolved: &Resolved<A>,
     place: InputPlace,
@@ -322,10 +322,10 @@ fn add_so<A: Arch>(
     section: &InputSection,
     bytes: &mut PartBytes,
 ) -> Result<(), Error>
-    requires so { stands_so resolved.now.layout.now section.now ≡ true }
+    requires so { is_written_unchanged resolved.now.layout.now section.now ≡ true }
     requires lies { SectionLies resolved.now.layout.now section.now }
-    ensures faults { Answers result (so_errors resolved.now.layout.now place.group place.file place.section file.now section.now) }
-    ensures bytes { OnOk result (bytes.new ≡ bytes.old ++ so_bytes resolved.now.layout.now file.now section.now) }
+    ensures faults { Answers result (unchanged_errors resolved.now.layout.now place.group place.file place.section file.now section.now) }
+    ensures bytes { OnOk result (bytes.new ≡ bytes.old ++ unchanged_bytes resolved.now.layout.now file.now section.now) }
 {
     let origin = Origin {
         place,
@@ -343,7 +343,7 @@ fn add_so<A: Arch>(
 /// Places a section of the file and appends its bytes, or returns its first fault. The file's next frames begin at address `at`;
 /// returns the address after this section's frames.
 #[inline(never)]
-#[tactic(auto, using(crate::proofs::StoodLemmas::section_stood, crate::proofs::StoodLemmas::laid_whole, crate::proofs::StoodLemmas::laid_apart, wild_contents::proofs::LaidLemmas::room_of_laid))]
+#[tactic(auto, using(crate::proofs::PlacedLemmas::section_placed, crate::proofs::PlacedLemmas::laid_whole, crate::proofs::PlacedLemmas::laid_apart, wild_contents::proofs::PlacedLemmas::room_of_laid))]
 fn add_section<A: ShardedArch, R: Threads + Sync>(
     by: &Workers<R>,
     resolved: &Resolved<A>,
@@ -353,23 +353,23 @@ fn add_section<A: ShardedArch, R: Threads + Sync>(
     section: &InputSection,
     bytes: &mut GroupBytes,
 ) -> Result<u64, Error>
-    requires lies { SectionLies resolved.now.layout.now (laid_section resolved.now.layout.now file.now at section.now) }
-    requires turned { IsTurned resolved.now.layout.now section.now }
+    requires lies { SectionLies resolved.now.layout.now (placed_section resolved.now.layout.now file.now at section.now) }
+    requires reversed_section { CanBeReversed resolved.now.layout.now section.now }
     requires kind { IsOfKind resolved.now.layout.now section.now }
     ensures faults { Answers result (section_errors resolved.now.layout.now place.group place.file file.now at place.section section.now) }
     ensures next { IfOk result (λ n. n ≡ behind at (kept_size resolved.now.layout.now file.now section.now)) }
-    ensures files { OnOk result (bytes.new.files ≡ bytes.old.files ++ section_owned resolved.now.layout.now file.now (laid_section resolved.now.layout.now file.now at section.now)) }
-    ensures frames { OnOk result (is_hollow_role resolved.now.layout.now EhFrame ≡ false → bytes.new.frames ≡ bytes.old.frames ++ frame_bytes_of resolved.now.layout.now file.now (laid_section resolved.now.layout.now file.now at section.now)) }
+    ensures files { OnOk result (bytes.new.files ≡ bytes.old.files ++ section_owned resolved.now.layout.now file.now (placed_section resolved.now.layout.now file.now at section.now)) }
+    ensures frames { OnOk result (is_header_only_role resolved.now.layout.now EhFrame ≡ false → bytes.new.frames ≡ bytes.old.frames ++ frame_bytes_of resolved.now.layout.now file.now (placed_section resolved.now.layout.now file.now at section.now)) }
     ensures tables { bytes.new.tables ≡ bytes.old.tables }
 {
-    let laid = lay(by.alloc, resolved.layout, file, at, section)?;
-    add_stood(by, resolved, place, file, &laid, bytes)?;
-    Ok(behind_frames(at, laid.section()))
+    let laid = place_input(by.alloc, resolved.layout, file, at, section)?;
+    add_placed(by, resolved, place, file, &laid, bytes)?;
+    Ok(address_after_frames(at, laid.section()))
 }
 
 /// Appends the sections of a file, whose frames begin at address `at`, or returns their first fault. Returns the address after its
 /// frames. A section that is written exactly as the plan gives it needs no placing.
-#[tactic(auto, using(crate::proofs::StoodLemmas::faults_refuse, crate::proofs::StoodLemmas::faults_done, crate::proofs::StoodLemmas::given_done, wild_contents::proofs::LaidLemmas::reach_done))]
+#[tactic(auto, using(crate::proofs::PlacedLemmas::faults_refuse, crate::proofs::PlacedLemmas::faults_done, crate::proofs::PlacedLemmas::given_done, wild_contents::proofs::PlacedLemmas::reach_done))]
 fn add_file_sections<A: ShardedArch, R: Threads + Sync>(
     by: &Workers<R>,
     resolved: &Resolved<A>,
@@ -378,13 +378,13 @@ fn add_file_sections<A: ShardedArch, R: Threads + Sync>(
     at: u64,
     bytes: &mut GroupBytes,
 ) -> Result<u64, Error>
-    requires lies { All (SectionLies resolved.now.layout.now) (laid_sections resolved.now.layout.now file.now at file.now.sections) }
-    requires turned { All (IsTurned resolved.now.layout.now) file.now.sections }
+    requires lies { All (SectionLies resolved.now.layout.now) (placed_sections resolved.now.layout.now file.now at file.now.sections) }
+    requires reversed_section { All (CanBeReversed resolved.now.layout.now) file.now.sections }
     requires kinds { All (IsOfKind resolved.now.layout.now) file.now.sections }
     ensures faults { Answers result (sections_errors resolved.now.layout.now place.group place.file file.now at 0 file.now.sections) }
     ensures next { IfOk result (λ n. n ≡ behind at (file_frames resolved.now.layout.now file.now)) }
-    ensures files { OnOk result (bytes.new.files ≡ bytes.old.files ++ flat_map (section_owned resolved.now.layout.now file.now) (laid_sections resolved.now.layout.now file.now at file.now.sections)) }
-    ensures frames { OnOk result (is_hollow_role resolved.now.layout.now EhFrame ≡ false → bytes.new.frames ≡ bytes.old.frames ++ flat_map (frame_bytes_of resolved.now.layout.now file.now) (laid_sections resolved.now.layout.now file.now at file.now.sections)) }
+    ensures files { OnOk result (bytes.new.files ≡ bytes.old.files ++ flat_map (section_owned resolved.now.layout.now file.now) (placed_sections resolved.now.layout.now file.now at file.now.sections)) }
+    ensures frames { OnOk result (is_header_only_role resolved.now.layout.now EhFrame ≡ false → bytes.new.frames ≡ bytes.old.frames ++ flat_map (frame_bytes_of resolved.now.layout.now file.now) (placed_sections resolved.now.layout.now file.now at file.now.sections)) }
     ensures tables { bytes.new.tables ≡ bytes.old.tables }
 {
     let mut next = at;
@@ -393,8 +393,8 @@ fn add_file_sections<A: ShardedArch, R: Threads + Sync>(
             section: i,
             ..place
         };
-        if stands_so(resolved.layout, section) {
-            add_so(by.alloc, resolved, here, file, section, &mut bytes.files)?;
+        if is_written_unchanged(resolved.layout, section) {
+            add_unchanged(by.alloc, resolved, here, file, section, &mut bytes.files)?;
         } else {
             next = add_section(by, resolved, here, file, next, section, bytes)?;
         }
@@ -403,7 +403,7 @@ fn add_file_sections<A: ShardedArch, R: Threads + Sync>(
 }
 
 /// Appends one sorted input section, or returns its first fault, which names the section's own place in the input.
-#[tactic(auto, using(crate::proofs::StoodLemmas::sorted_stood, crate::proofs::StandingLemmas::one_owned))]
+#[tactic(auto, using(crate::proofs::PlacedLemmas::sorted_stood, crate::proofs::StandingLemmas::one_owned))]
 fn add_sorted_section<A: ShardedArch, R: Threads + Sync>(
     by: &Workers<R>,
     resolved: &Resolved<A>,
@@ -423,8 +423,8 @@ fn add_sorted_section<A: ShardedArch, R: Threads + Sync>(
     };
     match sorted_input(resolved.layout, *entry) {
         Some(input) => {
-            let laid = lay_sorted(by.alloc, resolved.layout, input.section)?;
-            add_stood(by, resolved, place, input.file, &laid, bytes)
+            let laid = place_sorted(by.alloc, resolved.layout, input.section)?;
+            add_placed(by, resolved, place, input.file, &laid, bytes)
         }
         None => Ok(()),
     }
@@ -490,8 +490,8 @@ fn add_strings(strings: &[Bytes], bytes: &mut PartBytes) -> Result<(), AllocErro
 }
 
 /// Appends merged strings and the output's identity, which are written once.
-fn add_once(layout: &Layout, bytes: &mut PartBytes) -> Result<(), AllocError>
-    ensures { OnOk result (bytes.new ≡ bytes.old ++ once_bytes layout.now) }
+fn add_merged_and_identity(layout: &Layout, bytes: &mut PartBytes) -> Result<(), AllocError>
+    ensures { OnOk result (bytes.new ≡ bytes.old ++ merged_and_identity_bytes layout.now) }
 {
     for merged in layout.merged.as_slice() {
         add_strings(merged.strings.as_slice(), bytes)?;
@@ -501,10 +501,10 @@ fn add_once(layout: &Layout, bytes: &mut PartBytes) -> Result<(), AllocError>
 
 /// Appends what only the first file writes: merged strings and the output's identity.
 fn add_first(layout: &Layout, file: &File, bytes: &mut PartBytes) -> Result<(), AllocError>
-    ensures { OnOk result (bytes.new ≡ bytes.old ++ of_first_file file.now (once_bytes layout.now)) }
+    ensures { OnOk result (bytes.new ≡ bytes.old ++ of_first_file file.now (merged_and_identity_bytes layout.now)) }
 {
     if file.role.is_prelude() {
-        add_once(layout, bytes)?;
+        add_merged_and_identity(layout, bytes)?;
     }
     Ok(())
 }
@@ -531,8 +531,8 @@ fn check_search_table(
 /// Appends the part of a file that follows its sections: what only the last or the first file writes, and its thunks. Fails with the
 /// first fault of these, of the file's copied symbols and GOT and PLT entries, and of the search table.
 #[inline(never)]
-#[tactic(auto, using(wild_sections::proofs::FaultLemmas::first_of_both), unfolding(crate::specs::Stood::errors_behind, crate::specs::Stood::bytes_behind))]
-fn add_behind<A: ShardedArch, R: Threads + Sync>(
+#[tactic(auto, using(wild_sections::proofs::FaultLemmas::first_of_both), unfolding(crate::specs::Placed::file_trailer_errors, crate::specs::Placed::file_trailer_bytes))]
+fn add_file_trailer<A: ShardedArch, R: Threads + Sync>(
     by: &Workers<R>,
     resolved: &Resolved<A>,
     place: InputPlace,
@@ -542,8 +542,8 @@ fn add_behind<A: ShardedArch, R: Threads + Sync>(
 ) -> Result<(), Error>
     requires stands { is_epilogue file.now.role ≡ true → All (SortedStands resolved.now.layout.now) resolved.now.layout.now.sorted }
     requires table { IsTableFor resolved.now.layout.now table.now file.now }
-    ensures faults { Answers result (errors_behind resolved.now.layout.now place.group place.file file.now) }
-    ensures files { OnOk result (bytes.new.files ≡ bytes.old.files ++ bytes_behind resolved.now.layout.now file.now) }
+    ensures faults { Answers result (file_trailer_errors resolved.now.layout.now place.group place.file file.now) }
+    ensures files { OnOk result (bytes.new.files ≡ bytes.old.files ++ file_trailer_bytes resolved.now.layout.now file.now) }
     ensures frames { OnOk result (bytes.new.frames ≡ bytes.old.frames ++ of_last_file file.now (end_of_frames resolved.now.layout.now)) }
     ensures tables { bytes.new.tables ≡ bytes.old.tables }
 {
@@ -555,15 +555,15 @@ fn add_behind<A: ShardedArch, R: Threads + Sync>(
 }
 
 /// Fast test whether a file has nothing after its sections: an object without thunks, in an output without dynamic tables.
-fn ends_there(known: Known, file: &File) -> bool
-    ensures { result ≡ (known.bare && is_plain_object file.now) }
+fn has_no_trailer(known: Known, file: &File) -> bool
+    ensures { result ≡ (known.needs_no_dynamic_tables && is_plain_object file.now) }
 {
-    known.bare && matches!(file.role, FileRole::Object) && !file.owns_thunk_block
+    known.needs_no_dynamic_tables && matches!(file.role, FileRole::Object) && !file.owns_thunk_block
 }
 
 /// Appends the sections of a file, whose frames begin at address `at`, and what follows them; or returns its first fault. Returns the
 /// address at which the frames of the next file begin.
-#[tactic(auto, using(wild_sections::proofs::FaultLemmas::first_of_both, crate::proofs::StoodLemmas::file_faults_by, crate::proofs::StoodLemmas::file_owned_by, crate::proofs::StoodLemmas::file_frames_by))]
+#[tactic(auto, using(wild_sections::proofs::FaultLemmas::first_of_both, crate::proofs::PlacedLemmas::file_faults_by, crate::proofs::PlacedLemmas::file_owned_by, crate::proofs::PlacedLemmas::file_frames_by))]
 fn add_file<A: ShardedArch, R: Threads + Sync>(
     by: &Workers<R>,
     resolved: &Resolved<A>,
@@ -580,19 +580,19 @@ fn add_file<A: ShardedArch, R: Threads + Sync>(
     ensures faults { Answers result (file_errors resolved.now.layout.now place.group at place.file file.now) }
     ensures next { IfOk result (λ n. n ≡ behind at (file_frames resolved.now.layout.now file.now)) }
     ensures files { OnOk result (bytes.new.files ≡ bytes.old.files ++ file_bytes resolved.now.layout.now file.now) }
-    ensures frames { OnOk result (is_hollow_role resolved.now.layout.now EhFrame ≡ false → bytes.new.frames ≡ bytes.old.frames ++ frames_bytes resolved.now.layout.now (laid_file resolved.now.layout.now at file.now)) }
+    ensures frames { OnOk result (is_header_only_role resolved.now.layout.now EhFrame ≡ false → bytes.new.frames ≡ bytes.old.frames ++ frames_bytes resolved.now.layout.now (placed_file resolved.now.layout.now at file.now)) }
     ensures tables { bytes.new.tables ≡ bytes.old.tables }
 {
     let next = add_file_sections(by, resolved, place, file, at, bytes)?;
-    if ends_there(known, file) {
+    if has_no_trailer(known, file) {
         return Ok(next);
     }
-    add_behind(by, resolved, place, file, table, bytes)?;
+    add_file_trailer(by, resolved, place, file, table, bytes)?;
     Ok(next)
 }
 
 /// Appends the bytes of a group's files, or returns their first fault.
-#[tactic(auto, using(crate::proofs::StoodLemmas::files_refuse, crate::proofs::StoodLemmas::files_done, crate::proofs::StoodLemmas::framed_done), unfolding(crate::specs::Append::GroupStands, crate::specs::Pieces::group_files, wild_contents::specs::Laid::group_frames, wild_laid::specs::Laid::laid_files))]
+#[tactic(auto, using(crate::proofs::PlacedLemmas::files_refuse, crate::proofs::PlacedLemmas::files_done, crate::proofs::PlacedLemmas::framed_done), unfolding(crate::specs::Append::GroupStands, crate::specs::Pieces::group_files, wild_contents::specs::PlacedSections::group_frames, wild_placement::specs::PlacedSections::placed_files))]
 fn add_files<A: ShardedArch, R: Threads + Sync>(
     by: &Workers<R>,
     resolved: &Resolved<A>,
@@ -607,7 +607,7 @@ fn add_files<A: ShardedArch, R: Threads + Sync>(
     requires table { All (IsTableFor resolved.now.layout.now table.now) group.now.files }
     ensures faults { Answers result (files_errors resolved.now.layout.now index (frames_at resolved.now.layout.now group.now) 0 group.now.files) }
     ensures files { OnOk result (bytes.new.files ≡ bytes.old.files ++ group_files resolved.now.layout.now group.now) }
-    ensures frames { OnOk result (is_hollow_role resolved.now.layout.now EhFrame ≡ false → bytes.new.frames ≡ bytes.old.frames ++ group_frames resolved.now.layout.now group.now) }
+    ensures frames { OnOk result (is_header_only_role resolved.now.layout.now EhFrame ≡ false → bytes.new.frames ≡ bytes.old.frames ++ group_frames resolved.now.layout.now group.now) }
     ensures tables { bytes.new.tables ≡ bytes.old.tables }
 {
     let mut next = known.frames_at(group);
@@ -639,11 +639,11 @@ fn add_group_files<A: ShardedArch, R: Threads + Sync>(
     requires table { All (IsTableFor resolved.now.layout.now table.now) group.now.files }
     ensures faults { Answers result (group_errors resolved.now.layout.now index group.now) }
     ensures files { OnOk result (bytes.new.files ≡ bytes.old.files ++ group_files resolved.now.layout.now group.now) }
-    ensures frames { OnOk result (is_hollow_role resolved.now.layout.now EhFrame ≡ false → bytes.new.frames ≡ bytes.old.frames ++ group_frames resolved.now.layout.now group.now) }
+    ensures frames { OnOk result (is_header_only_role resolved.now.layout.now EhFrame ≡ false → bytes.new.frames ≡ bytes.old.frames ++ group_frames resolved.now.layout.now group.now) }
     ensures tables { bytes.new.tables ≡ bytes.old.tables }
 {
     add_files(by, resolved, index, group, known, table, bytes)?;
-    if known.bare {
+    if known.needs_no_dynamic_tables {
         return Ok(());
     }
     check_symbol_tables(resolved, index, group.files.as_slice())
@@ -676,7 +676,7 @@ fn room_of_files(layout: &Layout, groups: &[Group]) -> u64 {
 fn total_written(layout: &Layout, i: usize, part: &Part, groups: &[Group]) -> u64
     ensures { result ≡ 0 → written layout.now part.now (total (given i) groups.now) ≡ 0 }
 {
-    if has_role(Role::Raw, part) || layout.is_hollow_at(part.section) {
+    if has_role(Role::Raw, part) || layout.is_header_only_at(part.section) {
         0
     } else {
         total_given(i, groups)
@@ -689,7 +689,7 @@ fn room_of_tables(layout: &Layout, known: Known, batch: &Batch) -> u64
     requires within { IsWithin layout.now.groups batch.now }
     ensures { result ≡ 0 → GiveNothing layout.now batch.now.groups.now }
 {
-    if known.none && batch.first != 0 {
+    if known.only_first_group_has_tables && batch.first != 0 {
         return 0;
     }
     let mut room: u64 = 0;
@@ -736,7 +736,7 @@ pub(crate) fn add_group<A: ShardedArch, R: Threads + Sync>(
 {
     bytes.frames = PartBytes::empty(by.alloc);
     add_group_files(by, resolved, index, group, known, table, bytes)?;
-    let beside = Beside {
+    let beside = FrameTables {
         frames: bytes.frames.as_slice(),
         table: table.bytes.as_slice(),
     };
@@ -744,7 +744,7 @@ pub(crate) fn add_group<A: ShardedArch, R: Threads + Sync>(
     Ok(())
 }
 
-/// Appends all bytes of a group, or returns its first fault. Without `gives` the group contributes nothing to the tables.
+/// Appends all bytes of a group, or returns its first fault. Without `has_tables` the group contributes nothing to the tables.
 fn add_batch_group<A: ShardedArch, R: Threads + Sync>(
     by: &Workers<R>,
     resolved: &Resolved<A>,
@@ -752,7 +752,7 @@ fn add_batch_group<A: ShardedArch, R: Threads + Sync>(
     group: &Group,
     known: Known,
     table: &SearchTable,
-    gives: bool,
+    has_tables: bool,
     bytes: &mut GroupBytes,
 ) -> Result<(), Error>
     requires known { IsKnown resolved.now.layout.now known }
@@ -761,12 +761,12 @@ fn add_batch_group<A: ShardedArch, R: Threads + Sync>(
     requires few { NeedsFit group.now }
     requires once { HasRolesOnce resolved.now.layout.now }
     requires table { All (IsTableFor resolved.now.layout.now table.now) group.now.files }
-    requires none { gives ≡ false → group_tables resolved.now.layout.now group.now ≡ [] }
+    requires none { has_tables ≡ false → group_tables resolved.now.layout.now group.now ≡ [] }
     ensures faults { Answers result (group_errors resolved.now.layout.now index group.now) }
     ensures tables { OnOk result (bytes.new.tables ≡ bytes.old.tables ++ group_tables resolved.now.layout.now group.now) }
     ensures files { OnOk result (bytes.new.files ≡ bytes.old.files ++ group_files resolved.now.layout.now group.now) }
 {
-    if gives {
+    if has_tables {
         return add_group(by, resolved, index, group, known, table, bytes);
     }
     add_group_files(by, resolved, index, group, known, table, bytes)

@@ -1,15 +1,15 @@
 //! The work of writing an image, divided into batches of groups.
 ghost use Rattle.std.specs.Prelude.{◌≡◌, ◌<◌, ◌^◌, length, Ok, []};
-ghost use Rattle.wild_clauses.specs.WellFormed.{first_clause};
+ghost use Rattle.wild_plan_rules.specs.WellFormed.{first_clause};
 ghost use Rattle.wild_layout.specs.Faults.{flat_map_from, part_errors};
 ghost use Rattle.wild_image.specs.Batches.{AreBatches};
 ghost use Rattle.wild_image.specs.Known.{IsKnown};
-ghost use Rattle.wild_image.specs.Stood.{IsMade};
+ghost use Rattle.wild_image.specs.Placed.{HasTableOrFault};
 
 use crate::batch::Batch;
 use crate::buffer::{GroupBytes, bytes_of_batch};
 use crate::known::Known;
-use crate::pairs::pairs_of_groups;
+use crate::relocation_counts::relocation_counts_of_groups;
 use std::alloc::AllocError;
 use std::thread::Threads;
 use wild_contents::SearchTable;
@@ -48,7 +48,7 @@ pub(crate) struct GroupJob<'a, A: Arch, R> {
     ghost batches_are: { AreBatches resolved.layout.now.groups batches.now },
     ghost few: { length batches.now < 2 ^ 32 },
     ghost known_is: { IsKnown resolved.layout.now known },
-    ghost table_is: { IsMade resolved.layout.now table.now },
+    ghost table_is: { HasTableOrFault resolved.layout.now table.now },
 }
 
 impl<'a, A: ShardedArch, R: Threads + Sync> Job<Outcome> for GroupJob<'a, A, R> {
@@ -71,7 +71,11 @@ impl<'a, A: ShardedArch, R: Threads + Sync> Job<Outcome> for GroupJob<'a, A, R> 
     fn run(&self, group: u32) -> Result<Outcome, AllocError> {
         layouts_are_laid_out();
         let batch = &self.batches[group as usize];
-        let counts = pairs_of_groups(self.by.alloc, self.resolved.layout, batch.groups)?;
+        let counts = relocation_counts_of_groups(
+            self.by.alloc,
+            self.resolved.layout,
+            batch.groups,
+        )?;
         let bytes = bytes_of_batch(&self.by, &self.resolved, batch, self.known, self.table);
         Ok(Outcome { bytes, counts })
     }

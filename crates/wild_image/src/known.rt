@@ -1,45 +1,49 @@
 //! Properties of a layout that are computed once and used for each group.
 ghost use Rattle.std.specs.Prelude.{◌≡◌, true};
 ghost use Rattle.wild_types.specs.declared.layout.Layout.{Layout};
-ghost use Rattle.wild_laid.specs.Laid.{frames_at};
-ghost use Rattle.wild_needs.specs.Needs.{is_bare_inside};
+ghost use Rattle.wild_placement.specs.PlacedSections.{frames_at};
+ghost use Rattle.wild_needs.specs.Needs.{inner_groups_need_no_tables};
 ghost use Rattle.wild_image.specs.Known.{IsKnown};
 ghost use Rattle.wild_image.specs.Steps.{OthersHaveNone};
 
-use wild_needs::is_bare;
+use wild_needs::has_no_dynamic_tables;
 use wild_types::{Group, Layout, Role, part_with};
 
 /// Properties of a layout, by field:
-/// - `bare`: no .dynamic, no .symtab, and no symbol has a GOT or PLT entry or is imported.
-/// - `inside`: `bare`, and only the first and the last group need tables.
-/// - `none`: only the first group has shares of parts that are not raw.
+/// - `needs_no_dynamic_tables`: no .dynamic, no .symtab, and no symbol has a GOT or PLT entry or is imported.
+/// - `inner_groups_have_no_tables`: `needs_no_dynamic_tables`, and only the first and the last group need tables.
+/// - `only_first_group_has_tables`: only the first group has shares of parts that are not raw.
 /// - `frames`: the address of .eh_frame, 0 without one.
 #[derive(Clone, Copy)]
 pub(crate) struct Known {
-    pub(crate) bare: bool,
-    pub(crate) inside: bool,
-    pub(crate) none: bool,
+    pub(crate) needs_no_dynamic_tables: bool,
+    pub(crate) inner_groups_have_no_tables: bool,
+    pub(crate) only_first_group_has_tables: bool,
     frames: u64,
 }
 
 impl Known {
-    /// Computes these properties. The caller passes `inside` and `none`.
+    /// Computes these properties. The caller passes `inner_groups_have_no_tables` and `only_first_group_has_tables`.
     /// Each may be false although the property holds.
-    #[tactic(auto, using(wild_needs::proofs::BareLemmas::bare_by_inside))]
-    pub(crate) fn of(layout: &Layout, inside: bool, none: bool) -> Self
-        requires inside { inside ≡ true → is_bare_inside layout.now ≡ true }
-        requires none { none ≡ true → OthersHaveNone layout.now }
+    #[tactic(auto, using(wild_needs::proofs::NoTableLemmas::bare_by_inside))]
+    pub(crate) fn of(
+        layout: &Layout,
+        inner_groups_have_no_tables: bool,
+        only_first_group_has_tables: bool,
+    ) -> Self
+        requires inner_groups_have_no_tables { inner_groups_have_no_tables ≡ true → inner_groups_need_no_tables layout.now ≡ true }
+        requires only_first_group_has_tables { only_first_group_has_tables ≡ true → OthersHaveNone layout.now }
         ensures { IsKnown layout.now result }
     {
         let frames = match part_with(Role::EhFrame, layout.parts.as_slice()) {
             Some(part) => part.address,
             None => 0,
         };
-        let bare = inside || is_bare(layout);
+        let needs_no_dynamic_tables = inner_groups_have_no_tables || has_no_dynamic_tables(layout);
         Known {
-            bare,
-            inside,
-            none,
+            needs_no_dynamic_tables,
+            inner_groups_have_no_tables,
+            only_first_group_has_tables,
             frames,
         }
     }

@@ -4,16 +4,16 @@
 mod append;
 mod batch;
 mod buffer;
-mod cut;
-mod full;
+mod gaps;
 mod job;
 mod known;
 mod marks;
 mod output;
 mod padding;
-mod pairs;
 mod piece;
+mod relocation_counts;
 mod shares;
+mod split_by_part;
 
 pub use output::{SizedOutput, write, write_gated, write_layout};
 pub use padding::fill_padding_for_sections;

@@ -2,8 +2,8 @@
 ghost use Rattle.std.specs.Prelude.{◌≡◌, ◌≤◌, not, ◌&&◌, ◌-◌, ◌^◌, ℕ, List, min, nat_le, nat_lt, length, slice_get};
 ghost use Rattle.std.specs.List.{flat_map, list_any};
 ghost use Rattle.wild_types.specs.FileThunks.{thunks_of};
-ghost use Rattle.wild_types.specs.Lookups.{is_hollow_part};
-ghost use Rattle.wild_layout.specs.Image.{offset_in, offset_of_part, is_within, part_owns, section_owns, thunk_owns, file_owns, group_owns, merged_bytes, front_owns, once_owns, is_owned};
+ghost use Rattle.wild_types.specs.Lookups.{is_header_only_part};
+ghost use Rattle.wild_layout.specs.Image.{offset_in, offset_of_part, is_within, part_owns, section_owns, thunk_owns, file_owns, group_owns, merged_bytes, front_owns, merged_and_identity_owns, is_owned};
 ghost use Rattle.wild_image.specs.Padding.{Marks};
 
 use wild_types::{
@@ -64,7 +64,7 @@ fn mark_section(layout: &Layout, section: &InputSection, taken: &mut [bool])
 fn mark_thunk(layout: &Layout, thunk: &Thunk, taken: &mut [bool])
     ensures { Marks (λ (k : ℕ). thunk_owns layout.now k thunk.now) taken.old taken.new }
 {
-    if !layout.is_hollow_part(layout.primary_part) {
+    if !layout.is_header_only_part(layout.primary_part) {
         let at = offset_in(layout.parts.as_slice(), layout.primary_part, thunk.address);
         mark(at, THUNK_SIZE, taken);
     }
@@ -130,9 +130,9 @@ pub(crate) fn strings_size(strings: &[Bytes]) -> u64
 
 /// Marks `size` bytes at the front of a part, unless its section is omitted.
 fn mark_front(layout: &Layout, part: usize, size: u64, taken: &mut [bool])
-    ensures { Marks (λ (k : ℕ). not (is_hollow_part layout.now part) && is_within (offset_of_part (slice_get layout.now.parts part)) size k) taken.old taken.new }
+    ensures { Marks (λ (k : ℕ). not (is_header_only_part layout.now part) && is_within (offset_of_part (slice_get layout.now.parts part)) size k) taken.old taken.new }
 {
-    if !layout.is_hollow_part(part) {
+    if !layout.is_header_only_part(part) {
         let at = offset_of_part(layout.parts.as_slice(), part);
         mark(at as u128, size, taken);
     }
@@ -150,8 +150,8 @@ fn mark_merged(layout: &Layout, merged: &Merged, taken: &mut [bool])
 
 /// Marks what is written once: merged strings and the output's identity.
 #[tactic(auto, using(crate::proofs::PaddingLemmas::marks_both))]
-fn mark_once(layout: &Layout, taken: &mut [bool])
-    ensures { Marks (once_owns layout.now) taken.old taken.new }
+fn mark_merged_and_identity(layout: &Layout, taken: &mut [bool])
+    ensures { Marks (merged_and_identity_owns layout.now) taken.old taken.new }
 {
     for merged in layout.merged.as_slice() {
         mark_merged(layout, merged, taken);
@@ -175,5 +175,5 @@ pub(crate) fn mark_owned(layout: &Layout, taken: &mut [bool])
 {
     mark_parts(layout, taken);
     mark_groups(layout, taken);
-    mark_once(layout, taken);
+    mark_merged_and_identity(layout, taken);
 }

@@ -1,10 +1,10 @@
 //! Writes the image of a layout.
 ghost use Rattle.std.specs.Prelude.{◌≡◌, ◌<◌, ◌≤◌, ◌^◌, ℕ, [], length, Ok, Some, slice_get, replicate, OnOk, IfOk};
 ghost use Rattle.wild_types.specs.Faults.{Answers};
-ghost use Rattle.wild_clauses.specs.Places.{relocation_count};
-ghost use Rattle.wild_clauses.specs.WellFormed.{first_clause};
-ghost use Rattle.wild_clauses.specs.Seen.{IsSeen};
-ghost use Rattle.wild_sections.specs.Owners.{asks_owners};
+ghost use Rattle.wild_plan_rules.specs.Places.{relocation_count};
+ghost use Rattle.wild_plan_rules.specs.WellFormed.{first_clause};
+ghost use Rattle.wild_clauses.specs.LayoutSurvey.{IsLayoutSurvey};
+ghost use Rattle.wild_sections.specs.DefiningFiles.{layout_needs_owner_files};
 ghost use Rattle.wild_layout.specs.Image.{padding, bytes, counts};
 ghost use Rattle.wild_layout.specs.Warnings.{warnings};
 ghost use Rattle.wild_layout.specs.Faults.{clause_errors, flat_map_from, part_errors, group_errors, errors};
@@ -21,7 +21,7 @@ use crate::padding::padded_image;
 use crate::shares::{check_shares_in, first_has_all};
 use std::alloc::{AllocError, Global};
 use std::thread::Threads;
-use wild_clauses::{Seen, well_formed_seen};
+use wild_clauses::{LayoutSurvey, well_formed_with};
 use wild_contents::make_search_table;
 use wild_crew::{Gate, OpenGate, gather};
 use wild_debug::{ShardedArch, Workers};
@@ -41,18 +41,18 @@ pub struct SizedOutput {
 }
 
 /// Refuses a layout if one of its clauses fails.
-fn check_clauses(layout: &Layout, seen: Seen) -> Result<(), Error>
-    requires { IsSeen layout.now seen }
+fn check_clauses(layout: &Layout, seen: LayoutSurvey) -> Result<(), Error>
+    requires { IsLayoutSurvey layout.now seen }
     ensures { Answers result (clause_errors (first_clause layout.now)) }
 {
-    match well_formed_seen(layout, seen) {
+    match well_formed_with(layout, seen) {
         Ok(()) => Ok(()),
         Err(clause) => Err(Error {
             fault: Fault::MalformedLayout {
                 clause: clause.clause,
                 index: clause.index,
             },
-            at: At::NOWHERE,
+            at: At::NO_PLACE,
         }),
     }
 }
@@ -90,20 +90,20 @@ fn write_bytes<A: Arch>(
 }
 
 /// Writes the image of a layout whose clauses hold and whose shares are correct, or returns its first fault. `known`
-/// has been computed by the caller; `asks` is set if relocations depend on the file that defines a symbol.
+/// has been computed by the caller; `needs_owner_files` is set if relocations depend on the file that defines a symbol.
 fn write_laid_out<A: ShardedArch + Sync, G: Gate + Sync, R: Threads + Sync>(
     rt: &R,
     alloc: Global,
     layout: &Layout,
     known: Known,
-    asks: bool,
+    needs_owner_files: bool,
     workers: u8,
     gate: &G,
 ) -> Result<SizedOutput, Error>
 where
     A::Relaxation: Sync,
     requires known { IsKnown layout.now known }
-    requires asks { asks ≡ asks_owners layout.now }
+    requires needs_owner_files { needs_owner_files ≡ layout_needs_owner_files layout.now }
     requires machine { layout.now.machine ≡ A.machine }
     requires workers { (1 ≤ workers) × (workers ≤ 64) }
     requires clauses { first_clause layout.now ≡ Ok tt }
@@ -115,7 +115,7 @@ where
     ensures warnings { IfOk result (λ o. o.warnings ≡ warnings layout.now) }
     ensures counts { IfOk result (λ o. o.counts ≡ counts layout.now) }
 {
-    let resolved = Resolved::<A>::asking(alloc, layout, asks)?;
+    let resolved = Resolved::<A>::with_survey(alloc, layout, needs_owner_files)?;
     let table = make_search_table(rt, alloc, &resolved)?;
     let groups = layout.groups.as_slice();
     let cut = batches_of(alloc, groups, batch_size(groups.len()))?;
@@ -164,13 +164,17 @@ where
     ensures warnings { IfOk result (λ o. o.warnings ≡ warnings layout.now) }
     ensures counts { IfOk result (λ o. o.counts ≡ counts layout.now) }
 {
-    let seen = Seen::of(layout);
+    let seen = LayoutSurvey::of(layout);
     check_clauses(layout, seen)?;
-    let known = Known::of(layout, seen.inside, first_has_all(layout));
+    let known = Known::of(
+        layout,
+        seen.inner_groups_need_no_tables,
+        first_has_all(layout),
+    );
     check_shares_in(layout, known)?;
     layouts_are_laid_out();
-    let asks = layout.kind.is_partial_link() || !seen.unmerged;
-    write_laid_out::<A, _, _>(rt, alloc, layout, known, asks, workers, gate)
+    let needs_owner_files = layout.kind.is_partial_link() || !seen.unmerged;
+    write_laid_out::<A, _, _>(rt, alloc, layout, known, needs_owner_files, workers, gate)
 }
 
 /// Writes the image of a layout, or returns its first fault. `workers` threads share the work.

@@ -2,7 +2,7 @@
 ghost use Rattle.std.specs.Prelude.{◌≡◌, [], ℕ, ◌<◌, ◌+◌, ◌^◌, length, IfOk, All, Ok};
 ghost use Rattle.wild_types.specs.Faults.{Answers};
 ghost use Rattle.wild_types.specs.Lookups.{section_of};
-ghost use Rattle.wild_clauses.specs.WellFormed.{first_clause};
+ghost use Rattle.wild_plan_rules.specs.WellFormed.{first_clause};
 ghost use Rattle.wild_layout.specs.Faults.{flat_map_from, part_errors, group_errors};
 ghost use Rattle.std.specs.List.{list_any};
 ghost use Rattle.wild_types.specs.declared.part.Role.TheVariants as role;
@@ -14,12 +14,12 @@ ghost use Rattle.wild_image.specs.Append.{GivesItsShares, HasRolesOnce, FileLies
 ghost use Rattle.wild_image.specs.Pieces.{group_parts, group_pairs};
 ghost use Rattle.wild_image.specs.Jobs.{GivesPiece};
 ghost use Rattle.wild_image.specs.Known.{IsKnown};
-ghost use Rattle.wild_contents.specs.Given.{NeedsFit};
+ghost use Rattle.wild_contents.specs.VersionCounts.{NeedsFit};
 
 use crate::buffer::{GroupBytes, add_group};
-use crate::cut::cut_group;
 use crate::known::Known;
-use crate::pairs::pairs_of_group;
+use crate::relocation_counts::relocation_counts;
+use crate::split_by_part::split_by_part;
 use std::alloc::{AllocError, Global};
 use std::marker::Sync;
 use std::thread::Threads;
@@ -62,8 +62,8 @@ fn piece_of<A: ShardedArch, R: Threads + Sync>(
 {
     let mut bytes = GroupBytes::with_room(by.alloc, 0, 0)?;
     add_group(by, resolved, index, group, known, table, &mut bytes)?;
-    let parts = cut_group(by.alloc, resolved.layout, group, &bytes)?;
-    let counts = Items::from_vec(pairs_of_group(by.alloc, resolved.layout, group)?);
+    let parts = split_by_part(by.alloc, resolved.layout, group, &bytes)?;
+    let counts = Items::from_vec(relocation_counts(by.alloc, resolved.layout, group)?);
     Ok(GroupPiece { parts, counts })
 }
 
@@ -79,7 +79,7 @@ fn has_first(group: &Group) -> bool
 }
 
 /// The `.eh_frame_hdr` search table, if the group has the first file, which writes it.
-#[tactic(auto, using(crate::proofs::StoodLemmas::table_of_all, crate::proofs::StoodLemmas::table_of_none))]
+#[tactic(auto, using(crate::proofs::PlacedLemmas::table_of_all, crate::proofs::PlacedLemmas::table_of_none))]
 fn table_for<A: Arch>(
     rt: &(impl Threads + Sync),
     alloc: Global,

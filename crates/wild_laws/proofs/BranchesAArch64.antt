@@ -10,7 +10,7 @@ use Rattle.wild_types.specs.declared.kind.Machine.TheVariants as machine
 use Rattle.wild_types.specs.declared.input.InputRelocation.{InputRelocation}
 use Rattle.wild_types.specs.declared.layout.Layout.{Layout}
 use Rattle.wild_types.specs.Item.{Item}
-use Rattle.wild_reloc.specs.Barred.{is_listed}
+use Rattle.wild_reloc.specs.BarredTypes.{is_listed}
 use Rattle.wild_reloc.specs.Formula.{Formula, formula, StubDistance, Bits, Imm26Field, WithinPower}
 use Rattle.wild_reloc.specs.FormulaAArch64.{aarch64_formula}
 use Rattle.wild_aarch64.specs.Immediate.{immediate, Imm26}
@@ -24,12 +24,12 @@ use Rattle.wild_loader.specs.declared.instruction.Deed.TheVariants.{Call, Jump}
 use Rattle.wild_loader.specs.Instruction.{stands}
 use Rattle.wild_loader.specs.InstructionAArch64.{demand_aarch64}
 use Rattle.wild_meaning.specs.WordsAArch64.{is_filled}
-use Rattle.wild_meaning.specs.ReferentAArch64.{IsAbsent, branch_types, own_place}
+use Rattle.wild_meaning.specs.ReferentAArch64.{IsUndefinedWeak, branch_types, own_place}
 use Rattle.wild_meaning.specs.Item.{place_at}
 use Rattle.wild_meaning.specs.Field.{formula_of}
 use Rattle.wild_meaning.specs.Formula.{IsTarget, IsReferent, IsReferentOnAArch64}
 use Rattle.wild_meaning.specs.Sequence.{Target, Instruction, of_word, bytes_of, instructions_of}
-use Rattle.wild_meaning.specs.Template.{counts_from, demand_of, reads, reads_alone, IsInstruction, DoesDemanded, IsBranchReferent}
+use Rattle.wild_meaning.specs.Template.{field_origin, demand_of, reads, reads_without_calls, IsInstruction, DoesDemanded, IsBranchReferent}
 use Rattle.wild_meaning.specs.Reference.{ReferenceHolds}
 use Rattle.wild_meaning.proofs.BitLemmas.{bit_code}
 use Rattle.wild_meaning.proofs.StringLemmas.{referent_by, branch_stands, goes_to_none}
@@ -133,7 +133,7 @@ does_it : (l : Layout) (w : World) (m : Memory) (s : Item) (r : InputRelocation)
 does_it l w m s r n opcode deed b x h (inl p) = p.does r.offset (of_word Target n) r (alone_template l s r (of_word Target n) x (alone_here r n opcode deed b h.number) (word_instruction l s r n opcode deed b x h))
 does_it l w m s r n opcode deed b x h (inr q) =
     does_so l w m s r r.offset (of_word Target n)
-    (alone_only (λ (start : ℕ) (o : Instruction) (first : InputRelocation). DoesDemanded (reads_alone w m) l w m s first start o → DoesDemanded (reads_alone w m) l w m s r r.offset (of_word Target n)) l s r (of_word Target n) x (alone_here r n opcode deed b h.number) (λ d. d) q.start q.instruction q.first q.template q.does)
+    (alone_only (λ (start : ℕ) (o : Instruction) (first : InputRelocation). DoesDemanded (reads_without_calls w m) l w m s first start o → DoesDemanded (reads_without_calls w m) l w m s r r.offset (of_word Target n)) l s r (of_word Target n) x (alone_here r n opcode deed b h.number) (λ d. d) q.start q.instruction q.first q.template q.does)
 
 -- ---- where it goes
 
@@ -148,7 +148,7 @@ by_symbol l w m s r a None listed e h =
     inl (record { present = λ d. (let both : Some d.symbol ≡ None = sym d.named ∙ e in cc); symbol = a; stands = subst (λ (p : Option ℕ). IsTarget l w m p a) (sym e) h; comes = inl refl })
 by_symbol l w m s r a (Some i) listed e (inl t) = inr (record { absent = record { symbol = i; named = e; absent = t.0.1 }; behind = t.1 ∙ behind_is w s r listed })
 by_symbol l w m s r a (Some i) listed e (inr t) = inl (record {
-  present = λ d. t.0 (tt, subst (λ (j : ℕ). IsAbsent l j) (one_symbol (sym d.named ∙ e)) d.absent);
+  present = λ d. t.0 (tt, subst (λ (j : ℕ). IsUndefinedWeak l j) (one_symbol (sym d.named ∙ e)) d.absent);
   symbol = t.1.symbol;
   stands = subst (λ (p : Option ℕ). IsTarget l w m p t.1.symbol) (sym e) t.1.denoted;
   comes = t.1.comes;
@@ -167,7 +167,7 @@ goes l w m s r n opcode deed b x h d =
     let bs = slice_range s.bytes r.offset (r.offset + 4) in
     let old : demand_of machine.AArch64 d.value a bs ≡ Some d.code.effect = subst (λ (k : Machine). demand_of k d.value a bs ≡ Some d.code.effect) x d.code.demanded in
     let is = b.does a d.value (number bs) bs h.begins (old_word s r opcode n h) in
-    let value = once_more d.value (d.demands.goal + cast_unsigned w64 r.addend + counts_from l.machine) d.demands.is in
+    let value = once_more d.value (d.demands.goal + cast_unsigned w64 r.addend + field_origin l.machine) d.demands.is in
     record {
       target = d.demands.goal;
       stands = branched_to l w m s r n opcode deed d.demands.goal b x h.number d.demands.stands;

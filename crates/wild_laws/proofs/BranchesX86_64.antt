@@ -15,7 +15,7 @@ use Rattle.wild_loader.specs.declared.instruction.Deed.TheVariants.{Call, Jump}
 use Rattle.wild_meaning.specs.Sequence.{Instruction}
 use Rattle.wild_types.specs.Item.{Item}
 use Rattle.wild_meaning.specs.Item.{place_at}
-use Rattle.wild_meaning.specs.Template.{counts_from, demand_of, reads, IsInstruction, DoesDemanded, IsBranchReferent}
+use Rattle.wild_meaning.specs.Template.{field_origin, demand_of, reads, IsInstruction, DoesDemanded, IsBranchReferent}
 use Rattle.wild_meaning.specs.Reference.{ReferenceHolds}
 use Rattle.wild_meaning.proofs.SymbolLemmas.{referent_stands}
 use Rattle.wild_laws.specs.FirstTypes.{IsBranch, IsThreadCall}
@@ -74,7 +74,7 @@ goes l w m s r k opcode deed does x branch d =
     let a = place_at w s k in
     let old : demand_of machine.X86_64 d.value a (slice_range s.bytes k (k + 5)) ≡ Some d.code.effect = subst (λ (mach : Machine). demand_of mach d.value a (slice_range s.bytes k (k + 5)) ≡ Some d.code.effect) x d.code.demanded in
     let is = does a d.value (slice_range s.bytes k (k + 5)) (old_length l s r k opcode branch) (first_byte s.bytes k ∙ branch.begins) in
-    let value = once_more d.value (d.demands.goal + cast_unsigned w64 r.addend + counts_from l.machine) d.demands.is in
+    let value = once_more d.value (d.demands.goal + cast_unsigned w64 r.addend + field_origin l.machine) d.demands.is in
     record {
       target = d.demands.goal;
       stands = branched_to l w m s r d.demands.goal x d.demands.stands;

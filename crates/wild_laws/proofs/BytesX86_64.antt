@@ -20,10 +20,10 @@ use Rattle.wild_meaning.specs.Sequence.{Instruction, size_of, IsOwnByte}
 use Rattle.wild_types.specs.Item.{Item}
 use Rattle.wild_meaning.specs.Item.{place_at}
 use Rattle.wild_meaning.specs.Field.{formula_of, form_width, InNoField, IsInputByte}
-use Rattle.wild_meaning.specs.Template.{effect_of, demand_of, reads, reads_alone, IsInstruction, IsTemplate, DoesWith}
+use Rattle.wild_meaning.specs.Template.{effect_of, demand_of, reads, reads_without_calls, IsInstruction, IsTemplate, DoesWith}
 use Rattle.wild_meaning.specs.Reference.{ReferenceHolds, LinkedHolds, ItemHolds}
 use Rattle.wild_laws.specs.FirstTypes.{branch_types, HasFirstTypes, IsBranch}
-use Rattle.wild_laws.specs.FirstPath.{EachIsAsked}
+use Rattle.wild_laws.specs.FirstPath.{EachIsChecked}
 use Rattle.wild_laws.proofs.Readers.{with_too}
 use Rattle.wild_laws.proofs.SequencesX86_64.{direct}
 use Rattle.wild_laws.proofs.CodeX86_64.{first_byte, IsFirst, of_section, IsCallOrJump, template_direct, is_branch, old_length, DoesDeed, HasOpcode, call_does, jump_does, call_opcode, jump_opcode}
@@ -131,7 +131,7 @@ record HasCode (l : Layout) (w : World) (m : Memory) (s : Item) (r : InputReloca
   first : InputRelocation
   template : IsTemplate l s r start instruction first
   value : ℕ
-  code : DoesWith (reads_alone w m) l w m s start instruction value
+  code : DoesWith (reads_without_calls w m) l w m s start instruction value
 
 opcode_there : (l : Layout) (w : World) (m : Memory) (s : Item) (r : InputRelocation) (start : ℕ) (o : Instruction) (one : InputRelocation) → l.machine ≡ machine.X86_64 → IsFirst l s r → IsTemplate l s r start o one → KeepsBytes l w m s r ⊎ HasCode l w m s r → IsInputByte w m s start
 opcode_there l w m s r start o one x f t (inl keeps) = kept_opcode l w m s r start o one (template_direct l s r start o one x f t).which t keeps
@@ -179,7 +179,7 @@ at_start : (k start size offset : ℕ) → size ≡ 5 → offset ≡ start + 1 �
 at_start k start size offset five e from to (inl a) = omega (arith, e, from, a)
 at_start k start size offset five e from to (inr b) = absurd (omega (arith, five, e, to, b))
 
-pub other_byte : (l : Layout) (w : World) (m : Memory) (s : Item) (k : ℕ) → l.machine ≡ machine.X86_64 → HasFirstTypes machine.X86_64 s → EachIsAsked l w s → ItemHolds l w m s → k < length s.bytes → InNoField l s k → IsInputByte w m s k
+pub other_byte : (l : Layout) (w : World) (m : Memory) (s : Item) (k : ℕ) → l.machine ≡ machine.X86_64 → HasFirstTypes machine.X86_64 s → EachIsChecked l w s → ItemHolds l w m s → k < length s.bytes → InNoField l s k → IsInputByte w m s k
 other_byte l w m s k x types asked holds lt out =
     stable (byte_in m (place_at w s k)) (slice_index s.bytes k) (λ never. holds.others k lt (record {
       fields = out;

@@ -13,7 +13,7 @@ use Rattle.wild_loader.specs.declared.instruction.Cell.TheVariants.{Is}
 use Rattle.wild_loader.specs.declared.instruction.Action.{Action}
 use Rattle.wild_loader.specs.declared.instruction.Deed.{Deed}
 use Rattle.wild_loader.specs.declared.instruction.Deed.TheVariants.{Call, Jump}
-use Rattle.wild_loader.specs.Instruction.{Template, Reader, Effect, exact, field, stands, fills, first_meaning, effect, with_value, as_value}
+use Rattle.wild_loader.specs.Instruction.{Template, Reader, Effect, exact_cells, field, stands, template_fills, first_meaning, effect, with_value, as_value}
 use Rattle.wild_loader.specs.ThreadCodeX86_64.{nop_byte}
 use Rattle.wild_loader.specs.InstructionX86_64.{templates_x86_64, meaning_x86_64, effect_x86_64}
 use Rattle.wild_meaning.specs.Sequence.{Instruction, size_of, IsOwnByte, instructions_of}
@@ -160,7 +160,7 @@ four (a ∷ b ∷ []) n = absurd (omega (arith, n))
 four (a ∷ b ∷ c ∷ []) n = absurd (omega (arith, n))
 four (a ∷ b ∷ c ∷ d ∷ rest) n = refl
 
-stands_from : (opcode : ℕ) (bs : List ℕ) → length bs ≡ 5 → get_or bs 0 0 ≡ opcode → stands (exact (opcode ∷ []) ++ field) bs ≡ true
+stands_from : (opcode : ℕ) (bs : List ℕ) → length bs ≡ 5 → get_or bs 0 0 ≡ opcode → stands (exact_cells (opcode ∷ []) ++ field) bs ≡ true
 stands_from opcode [] n e = absurd (omega (arith, n))
 stands_from opcode (a ∷ bs) n e = let t : (a == opcode) ≡ true = eq-eqb a opcode e in rw t (four bs (omega (arith, n)))
 
@@ -252,7 +252,7 @@ third true true c h x y = h
 third true false c h x y = cc
 third false b c h x y = cc
 
-here : (is : Deed → Bool) (opcode a : ℕ) (bs : List ℕ) (t : Template) (act : Action) → length bs ≡ 5 → fits_deed is opcode a bs t ≡ true → fills (nop_byte ∷ []) t bs ≡ true → Some (t.action a bs) ≡ Some act → is act.deed ≡ true → get_or bs 0 0 ≡ opcode
+here : (is : Deed → Bool) (opcode a : ℕ) (bs : List ℕ) (t : Template) (act : Action) → length bs ≡ 5 → fits_deed is opcode a bs t ≡ true → template_fills (nop_byte ∷ []) t bs ≡ true → Some (t.action a bs) ≡ Some act → is act.deed ≡ true → get_or bs 0 0 ≡ opcode
 here is opcode a bs t act n fit full same does =
     let one : t.action a bs ≡ act = cc in
     let parts = and_parts _ _ full in
@@ -265,7 +265,7 @@ opcode_of : (is : Deed → Bool) (opcode a : ℕ) (bs : List ℕ) (ts : List Tem
 opcode_of is opcode a bs [] act n fit h does = cc
 opcode_of is opcode a bs (t ∷ ts) act n fit h does =
     let both = and_parts (fits_deed is opcode a bs t) (list_all (fits_deed is opcode a bs) ts) fit in
-    elim (cases_Bool (fills (nop_byte ∷ []) t bs)) [
+    elim (cases_Bool (template_fills (nop_byte ∷ []) t bs)) [
       | inl y ↦ here is opcode a bs t act n both.0 y (rw y at h) does
       | inr f ↦ opcode_of is opcode a bs ts act n both.1 (rw f at h) does
     ]

@@ -11,7 +11,7 @@ use Rattle.wild_types.specs.declared.kind.Machine.TheVariants as machine
 use Rattle.wild_types.specs.declared.input.InputRelocation.{InputRelocation}
 use Rattle.wild_types.specs.declared.layout.Layout.{Layout}
 use Rattle.wild_types.specs.Item.{Item}
-use Rattle.wild_reloc.specs.Barred.{is_listed}
+use Rattle.wild_reloc.specs.BarredTypes.{is_listed}
 use Rattle.wild_reloc.specs.Formula.{SymbolAddress, Distance, Formula, formula, Full, Plain, Either}
 use Rattle.wild_reloc.specs.FormulaAArch64.{aarch64_formula}
 use Rattle.wild_loader.specs.declared.memory.Memory.{Memory}

@@ -6,19 +6,19 @@ use Rattle.wild_types.specs.declared.kind.Machine.TheVariants as machine
 use Rattle.wild_types.specs.declared.input.InputRelocation.{InputRelocation}
 use Rattle.wild_types.specs.declared.layout.Layout.{Layout}
 use Rattle.wild_types.specs.Flags.{ifunc}
-use Rattle.wild_reloc.specs.Barred.{is_listed}
+use Rattle.wild_reloc.specs.BarredTypes.{is_listed}
 use Rattle.wild_reloc.specs.Formula.{Value, SymbolAddress, Distance}
 use Rattle.wild_loader.specs.declared.memory.Memory.{Memory}
 use Rattle.wild_loader.specs.declared.world.World.{World}
-use Rattle.wild_meaning.specs.Value.{HasFlag, HasOwnValue, IsReplaceable, moved}
+use Rattle.wild_meaning.specs.Value.{HasFlag, HasOwnValue, IsReplaceable, with_base}
 use Rattle.wild_meaning.specs.Denotes.{HasStub, Denotes}
 use Rattle.wild_types.specs.Item.{Item}
 use Rattle.wild_meaning.specs.Item.{place_at}
-use Rattle.wild_meaning.specs.ReferentAArch64.{IsAbsent, branch_types, own_place}
-use Rattle.wild_meaning.specs.Formula.{IsTarget, Gives, TakesAddress, IsReferent, IsReferentBy, IsReferentOnAArch64}
+use Rattle.wild_meaning.specs.ReferentAArch64.{IsUndefinedWeak, branch_types, own_place}
+use Rattle.wild_meaning.specs.Formula.{IsTarget, Gives, TakesAddress, IsReferent, IsReferentOnMachine, IsReferentOnAArch64}
 use Rattle.wild_meaning.specs.Reference.{HoldsPlain}
 use Rattle.wild_meaning.proofs.SymbolLemmas.{target_reached}
-use Rattle.wild_laws.specs.FirstPath.{IsAddress, Demands, NamesAreAddresses, StandsFor, IsNamed, HasFormula}
+use Rattle.wild_laws.specs.FirstPath.{IsAddress, Demands, NamesAreAddresses, RepresentsSymbol, IsNamed, HasFormula}
 use Rattle.wild_laws.proofs.Symbols.{own_value, plain_value}
 
 -- ---- symbols
@@ -31,7 +31,7 @@ address l w i a f h = record {
   defined = h.absolute.defined;
   symbol = h.absolute.symbol;
   listed = h.absolute.listed;
-  moves = plain_value l w i a h f ∙ ap (λ (b : Bool). moved b w.base h.raw) (sym h.absolute.flagged);
+  moves = plain_value l w i a h f ∙ ap (λ (b : Bool). with_base b w.base h.raw) (sym h.absolute.flagged);
 }
 
 alone : (l : Layout) (w : World) (m : Memory) (i a : ℕ) → IsReplaceable l i false → HasFlag l i ifunc false → ((p : ℕ) → HasStub l i p → ⊥) → Denotes l w m i a → IsAddress l w i a
@@ -59,20 +59,20 @@ one_symbol : {i j : ℕ} → Some i ≡ Some j → i ≡ j
 one_symbol {i} {j} e = cc
 
 -- what is S by the judge's expression stands for the symbol
-address_stands : (l : Layout) (w : World) (m : Memory) (s : Item) (r : InputRelocation) (a : ℕ) (o : Option ℕ) → r.symbol ≡ o → IsReferentOnAArch64 SymbolAddress l w m s r o a → StandsFor machine.AArch64 SymbolAddress l w m s r a
+address_stands : (l : Layout) (w : World) (m : Memory) (s : Item) (r : InputRelocation) (a : ℕ) (o : Option ℕ) → r.symbol ≡ o → IsReferentOnAArch64 SymbolAddress l w m s r o a → RepresentsSymbol machine.AArch64 SymbolAddress l w m s r a
 address_stands l w m s r a None e h = inr ((λ d. cc d.distance), subst (λ (p : Option ℕ). IsTarget l w m p a) (sym e) h)
 address_stands l w m s r a (Some i) e (inl t) = absurd t.0.0
 address_stands l w m s r a (Some i) e (inr t) = inr ((λ d. cc d.distance), subst (λ (p : Option ℕ). IsTarget l w m p a) (sym e) t.1)
 
-distance_stands : (l : Layout) (w : World) (m : Memory) (s : Item) (r : InputRelocation) (a : ℕ) (o : Option ℕ) → is_listed r.number branch_types ≡ false → r.symbol ≡ o → IsReferentOnAArch64 Distance l w m s r o a → StandsFor machine.AArch64 Distance l w m s r a
+distance_stands : (l : Layout) (w : World) (m : Memory) (s : Item) (r : InputRelocation) (a : ℕ) (o : Option ℕ) → is_listed r.number branch_types ≡ false → r.symbol ≡ o → IsReferentOnAArch64 Distance l w m s r o a → RepresentsSymbol machine.AArch64 Distance l w m s r a
 distance_stands l w m s r a None none e h = inr ((λ d. (let both : Some d.symbol.symbol ≡ None = sym d.symbol.named ∙ e in cc)), subst (λ (p : Option ℕ). IsTarget l w m p a) (sym e) h)
 distance_stands l w m s r a (Some i) none e (inl t) = inl (record { distance = refl; symbol = record { symbol = i; named = e; absent = t.0.1 } }, t.1 ∙ own_is w s r none)
-distance_stands l w m s r a (Some i) none e (inr t) = inr ((λ d. t.0 (tt, subst (λ (j : ℕ). IsAbsent l j) (one_symbol (sym d.symbol.named ∙ e)) d.symbol.absent)), subst (λ (p : Option ℕ). IsTarget l w m p a) (sym e) t.1)
+distance_stands l w m s r a (Some i) none e (inr t) = inr ((λ d. t.0 (tt, subst (λ (j : ℕ). IsUndefinedWeak l j) (one_symbol (sym d.symbol.named ∙ e)) d.symbol.absent)), subst (λ (p : Option ℕ). IsTarget l w m p a) (sym e) t.1)
 
-stands_by : (k : Machine) (v : Value) (l : Layout) (w : World) (m : Memory) (s : Item) (r : InputRelocation) (a : ℕ) → IsKnown v → (k ≡ machine.AArch64 → is_listed r.number branch_types ≡ false) → IsReferentBy k v l w m s r a → StandsFor k v l w m s r a
+stands_by : (k : Machine) (v : Value) (l : Layout) (w : World) (m : Memory) (s : Item) (r : InputRelocation) (a : ℕ) → IsKnown v → (k ≡ machine.AArch64 → is_listed r.number branch_types ≡ false) → IsReferentOnMachine k v l w m s r a → RepresentsSymbol k v l w m s r a
 stands_by machine.X86_64 v l w m s r a known none h = h
-stands_by machine.AArch64 v l w m s r a (inl e) none h = subst (λ (u : Value). IsReferentOnAArch64 u l w m s r r.symbol a → StandsFor machine.AArch64 u l w m s r a) (sym e) (λ t. address_stands l w m s r a r.symbol refl t) h
-stands_by machine.AArch64 v l w m s r a (inr e) none h = subst (λ (u : Value). IsReferentOnAArch64 u l w m s r r.symbol a → StandsFor machine.AArch64 u l w m s r a) (sym e) (λ t. distance_stands l w m s r a r.symbol (none refl) refl t) h
+stands_by machine.AArch64 v l w m s r a (inl e) none h = subst (λ (u : Value). IsReferentOnAArch64 u l w m s r r.symbol a → RepresentsSymbol machine.AArch64 u l w m s r a) (sym e) (λ t. address_stands l w m s r a r.symbol refl t) h
+stands_by machine.AArch64 v l w m s r a (inr e) none h = subst (λ (u : Value). IsReferentOnAArch64 u l w m s r r.symbol a → RepresentsSymbol machine.AArch64 u l w m s r a) (sym e) (λ t. distance_stands l w m s r a r.symbol (none refl) refl t) h
 
 named_by : (v : Value) (l : Layout) (w : World) (m : Memory) (s : Item) (r : InputRelocation) (a : ℕ) → IsKnown v → TakesAddress v → (l.machine ≡ machine.AArch64 → is_listed r.number branch_types ≡ false) → IsReferent l.machine v l w m s r a → IsNamed v l w m s r a
 named_by v l w m s r a known takes none (inl t) = inl (t.0.1, t.1)

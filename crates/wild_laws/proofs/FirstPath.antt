@@ -7,17 +7,17 @@ use Rattle.wild_types.specs.declared.input.InputRelocation.{InputRelocation}
 use Rattle.wild_types.specs.declared.input.InputSection.{InputSection}
 use Rattle.wild_types.specs.declared.layout.Layout.{Layout}
 use Rattle.wild_types.specs.declared.part.Part.{Part}
-use Rattle.wild_types.specs.Lookups.{section_of_part, is_hollow_at, is_hollow_part}
+use Rattle.wild_types.specs.Lookups.{section_of_part, is_header_only_at, is_header_only_part}
 use Rattle.wild_reloc.specs.Formula.{Formula}
 use Rattle.wild_loader.specs.declared.memory.Memory.{Memory}
 use Rattle.wild_loader.specs.declared.world.World.{World}
 use Rattle.wild_types.specs.Item.{Item}
-use Rattle.wild_meaning.specs.Item.{IsLoadedSlot, IsKept, OfSection, stood_item}
-use Rattle.wild_meaning.specs.Section.{IsHollow}
+use Rattle.wild_meaning.specs.Item.{IsLoadedSlot, IsKept, OfSection, placed_item}
+use Rattle.wild_meaning.specs.Section.{IsHeaderOnly}
 use Rattle.wild_meaning.specs.Field.{formula_of}
 use Rattle.wild_meaning.specs.Reference.{ReferenceHolds, ItemHolds}
 use Rattle.wild_meaning.proofs.BitLemmas.{bit_alloc}
-use Rattle.wild_geometry.proofs.HollowLemmas.{test_from_IsHollow}
+use Rattle.wild_geometry.proofs.HeaderOnlyLemmas.{test_from_IsHollow}
 use Rattle.wild_laws.specs.FirstTypes.{IsLoadedSection, IsRelocated, address_types, HasFirstTypes, IsCall, IsJump, IsBranchField, IsSlotCall, IsSlotJump, IsThreadCall, GivesThreadAddress}
 use Rattle.wild_laws.specs.FirstPath.{IsFollowed, HoldsByForms, HoldsByFields, HasValueOf, HasInstruction, DoesInstruction, MeaningGivesForms, MeaningGivesFields}
 use Rattle.wild_laws.proofs.Readers.{does_so}
@@ -30,16 +30,16 @@ use Rattle.wild_laws.proofs.BranchesAArch64.{call_goes, jump_goes}
 use Rattle.wild_laws.proofs.FieldsAArch64.{number_has, word_byte}
 
 -- nothing of a section that is written stands in a part that is not
-section_written : (l : Layout) (s : InputSection) (p : Part) → is_hollow_part l s.part ≡ false → slice_get l.parts s.part ≡ Some p → IsHollow l p → ⊥
-section_written l s p written e hollow =
-    let t = test_from_IsHollow l p hollow in
-    let f : is_hollow_at l p.section ≡ false = subst (λ (o : Option Part). is_hollow_at l (section_of_part o) ≡ false) e written in
+section_written : (l : Layout) (s : InputSection) (p : Part) → is_header_only_part l s.part ≡ false → slice_get l.parts s.part ≡ Some p → IsHeaderOnly l p → ⊥
+section_written l s p written e header_only =
+    let t = test_from_IsHollow l p header_only in
+    let f : is_header_only_at l p.section ≡ false = subst (λ (o : Option Part). is_header_only_at l (section_of_part o) ≡ false) e written in
     let both : true ≡ false = sym t ∙ f in
     cc
 
 -- such a section is kept
-pub kept : (l : Layout) (s : InputSection) (k : IsLoadedSection l s) → IsKept l (stood_item l k.file s)
-kept l s h = OfSection s (record { input = record { group = h.group; grouped = h.grouped; file = h.file; filed = h.filed; listed = h.listed }; loaded = subst IsLoadedSlot (sym h.loaded) tt; room = bit_alloc s.flags h.carried; has_data = h.has_data; written = λ p e hollow. section_written l s p h.written e hollow }) refl
+pub kept : (l : Layout) (s : InputSection) (k : IsLoadedSection l s) → IsKept l (placed_item l k.file s)
+kept l s h = OfSection s (record { input = record { group = h.group; grouped = h.grouped; file = h.file; filed = h.filed; listed = h.listed }; loaded = subst IsLoadedSlot (sym h.loaded) tt; room = bit_alloc s.flags h.carried; has_data = h.has_data; written = λ p e header_only. section_written l s p h.written e header_only }) refl
 
 -- ---- every type
 
@@ -104,7 +104,7 @@ item_fields l w m s all = by l.machine refl
     by machine.AArch64 x = fields_aarch64 l w m s x all
 
 pub meaning_gives_forms : MeaningGivesForms
-meaning_gives_forms = λ l w image linked s loaded. item_forms l w linked.memory (stood_item l loaded.file s) (linked.kept (stood_item l loaded.file s) (kept l s loaded))
+meaning_gives_forms = λ l w image linked s loaded. item_forms l w linked.memory (placed_item l loaded.file s) (linked.kept (placed_item l loaded.file s) (kept l s loaded))
 
 pub meaning_gives_fields : MeaningGivesFields
-meaning_gives_fields = λ l w image linked s loaded. item_fields l w linked.memory (stood_item l loaded.file s) (linked.kept (stood_item l loaded.file s) (kept l s loaded))
+meaning_gives_fields = λ l w image linked s loaded. item_fields l w linked.memory (placed_item l loaded.file s) (linked.kept (placed_item l loaded.file s) (kept l s loaded))

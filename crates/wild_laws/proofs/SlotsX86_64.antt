@@ -13,13 +13,13 @@ use Rattle.wild_loader.specs.declared.instruction.Cell.{Cell}
 use Rattle.wild_loader.specs.declared.instruction.Cell.TheVariants.{Is}
 use Rattle.wild_loader.specs.declared.instruction.Deed.{Deed}
 use Rattle.wild_loader.specs.declared.instruction.Deed.TheVariants.{Call, Jump}
-use Rattle.wild_loader.specs.Instruction.{exact, field, stands, as_value}
+use Rattle.wild_loader.specs.Instruction.{exact_cells, field, stands, as_value}
 use Rattle.wild_loader.specs.InstructionX86_64.{meaning_x86_64, effect_x86_64}
 use Rattle.wild_meaning.specs.Sequence.{Instruction, TargetInSlot, size_of, IsOwnByte, instructions_of}
 use Rattle.wild_types.specs.Item.{Item}
 use Rattle.wild_meaning.specs.Item.{place_at}
 use Rattle.wild_meaning.specs.Field.{InNoField}
-use Rattle.wild_meaning.specs.Template.{AddsNothing, demand_of, reads, IsInstruction, IsTemplate, DoesDemanded}
+use Rattle.wild_meaning.specs.Template.{HasOriginAddend, demand_of, reads, IsInstruction, IsTemplate, DoesDemanded}
 use Rattle.wild_meaning.specs.Reference.{ReferenceHolds}
 use Rattle.wild_meaning.proofs.BitLemmas.{bit_code}
 use Rattle.wild_laws.specs.FirstTypes.{slot_types, IsSlotBranch, IsThreadCall}
@@ -40,9 +40,9 @@ six P h (a ∷ b ∷ c ∷ d ∷ e ∷ []) n = absurd (omega (arith, n))
 six P h (a ∷ b ∷ c ∷ d ∷ e ∷ f ∷ []) n = h a b c d e f
 six P h (a ∷ b ∷ c ∷ d ∷ e ∷ f ∷ g ∷ bs) n = absurd (omega (arith, n))
 
-stands_from : (opcode : ℕ) (bs : List ℕ) → length bs ≡ 6 → get_or bs 0 0 ≡ 0xff → get_or bs 1 0 ≡ opcode → stands (exact (0xff ∷ opcode ∷ []) ++ field) bs ≡ true
+stands_from : (opcode : ℕ) (bs : List ℕ) → length bs ≡ 6 → get_or bs 0 0 ≡ 0xff → get_or bs 1 0 ≡ opcode → stands (exact_cells (0xff ∷ opcode ∷ []) ++ field) bs ≡ true
 stands_from opcode bs n h i = six
-    (λ (xs : List ℕ). get_or xs 0 0 ≡ 0xff → get_or xs 1 0 ≡ opcode → stands (exact (0xff ∷ opcode ∷ []) ++ field) xs ≡ true)
+    (λ (xs : List ℕ). get_or xs 0 0 ≡ 0xff → get_or xs 1 0 ≡ opcode → stands (exact_cells (0xff ∷ opcode ∷ []) ++ field) xs ≡ true)
     (λ a b c d e f first second.
     let t : (a == 0xff) ≡ true = eq-eqb a 0xff first in
     let u : (b == opcode) ≡ true = eq-eqb b opcode second in
@@ -116,7 +116,7 @@ slot_instruction l s r k opcode deed known x branch =
       inside = omega (arith, behind, ends);
       stands = stands_from opcode (slice_range s.bytes k (k + 6)) (old_length l s r k opcode branch) (old_first l s r k opcode branch) (old_second l s r k opcode branch);
       words = refl;
-      counts = subst (λ (m : Machine). AddsNothing m TargetInSlot r) (sym x) branch.addend;
+      counts = subst (λ (m : Machine). HasOriginAddend m TargetInSlot r) (sym x) branch.addend;
       alone = λ j own. own_byte l s k opcode j deed branch.free branch.free_too own;
     }
 

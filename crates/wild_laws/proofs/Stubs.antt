@@ -3,7 +3,7 @@ use Rattle.wild_meaning.proofs.OutputLemmas.{not_partial}
 use Rattle.std.proofs.Common.{◌≡◌, [], sym, ◌∙◌, subst}
 use Rattle.std.specs.Prelude.{Ok}
 use Rattle.wild_types.specs.declared.layout.Layout.{Layout}
-use Rattle.wild_types.specs.Hollow.{KeepsAll}
+use Rattle.wild_types.specs.HeaderOnly.{KeepsAll}
 use Rattle.wild_types.specs.ResolvedFlags.{HaveTheirFlags}
 use Rattle.wild_layout.specs.Faults.{errors}
 use Rattle.wild_layout.specs.Geometry.{IsLaidOut, LayoutsAreLaidOut}
@@ -16,11 +16,11 @@ use Rattle.wild_loader.specs.declared.world.World.{World}
 use Rattle.wild_meaning.specs.World.{IsLoadable, IsLegal}
 use Rattle.wild_loaded.specs.Laws.{SlotsAreThere}
 use Rattle.wild_loaded.specs.Memory.{HasMemory}
-use Rattle.wild_loaded.specs.MovedLaws.{ImagesAreLoaded}
+use Rattle.wild_loaded.specs.LoadedMemoryLaws.{ImagesAreLoaded}
 use Rattle.wild_references.specs.Laws.{OutputsMoveByPages}
-use Rattle.wild_references.specs.Stubs.{EachStubGoesOn, StubsGoOn}
-use Rattle.wild_references.specs.Thunks.{EachThunkGoesOn, ThunksGoOn}
-use Rattle.wild_laws.specs.Laws.{StubsOfImagesGoOn, ThunksOfImagesGoOn}
+use Rattle.wild_references.specs.Stubs.{EachStubJumps, StubsJumpToSlots}
+use Rattle.wild_references.specs.Thunks.{EachThunkJumps, ThunksJumpToTargets}
+use Rattle.wild_laws.specs.Laws.{StubsOfImagesJump, ThunksOfImagesJump}
 use Rattle.wild_laws.proofs.Decided.{sections_decided}
 
 -- what the loader makes of the image, where all is written
@@ -38,12 +38,12 @@ image layouts there loaded l w m keeps numbers flags none loads legal accepted =
     let same : h.memory ≡ m = cc in
     record { laid = laid; loaded = h; same = same }
 
-pub images_stubs : LayoutsAreLaidOut → SlotsAreThere → ImagesAreLoaded → OutputsMoveByPages → StubsGoOn → StubsOfImagesGoOn
+pub images_stubs : LayoutsAreLaidOut → SlotsAreThere → ImagesAreLoaded → OutputsMoveByPages → StubsJumpToSlots → StubsOfImagesJump
 images_stubs layouts there loaded pages go = λ l w m keeps numbers flags none loads legal accepted.
     let i = image layouts there loaded l w m keeps numbers flags none loads legal accepted in
-    subst (λ (n : Memory). EachStubGoesOn l w n) i.same (go l w i.loaded.memory (pages l w numbers legal i.laid) i.loaded.machine flags i.laid.slot_flags i.loaded.slots)
+    subst (λ (n : Memory). EachStubJumps l w n) i.same (go l w i.loaded.memory (pages l w numbers legal i.laid) i.loaded.machine flags i.laid.slot_flags i.loaded.slots)
 
-pub images_thunks : LayoutsAreLaidOut → SlotsAreThere → ImagesAreLoaded → OutputsMoveByPages → ThunksGoOn → ThunksOfImagesGoOn
+pub images_thunks : LayoutsAreLaidOut → SlotsAreThere → ImagesAreLoaded → OutputsMoveByPages → ThunksJumpToTargets → ThunksOfImagesJump
 images_thunks layouts there loaded pages go = λ l w m keeps numbers flags none loads legal accepted.
     let i = image layouts there loaded l w m keeps numbers flags none loads legal accepted in
-    subst (λ (n : Memory). EachThunkGoesOn l w n) i.same (go l w i.loaded.memory (pages l w numbers legal i.laid) i.loaded.machine i.laid i.loaded.thunks)
+    subst (λ (n : Memory). EachThunkJumps l w n) i.same (go l w i.loaded.memory (pages l w numbers legal i.laid) i.loaded.machine i.laid i.loaded.thunks)

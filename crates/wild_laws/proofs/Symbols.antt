@@ -8,7 +8,7 @@ use Rattle.wild_types.specs.Flags.{has_flag, absolute, ifunc}
 use Rattle.wild_loader.specs.declared.world.World.{World}
 use Rattle.wild_loader.specs.Changes.{answer_at}
 use Rattle.wild_loader.specs.declared.world.Answer.{Answer}
-use Rattle.wild_meaning.specs.Value.{IsSymbol, IsDefinedBy, HasFlag, HasOwnValue, HasAnswer, HasValue, IsReplaceable, IsValue, moved, may_be_replaced}
+use Rattle.wild_meaning.specs.Value.{IsSymbol, IsDefinedBy, HasFlag, HasOwnValue, HasAnswer, HasValue, IsReplaceable, IsValue, with_base, may_be_replaced}
 
 -- a symbol has one definition
 pub one_definition : (l : Layout) (i c d : ℕ) → IsDefinedBy l i c → IsDefinedBy l i d → c ≡ d
@@ -76,12 +76,12 @@ one_answer l w i x y h g =
         cc
 
 -- the value of one of the output's own that is no IFUNC
-pub plain_value : (l : Layout) (w : World) (i a : ℕ) → (h : HasOwnValue l w i a) → HasFlag l i ifunc false → a ≡ moved h.still w.base h.raw
+pub plain_value : (l : Layout) (w : World) (i a : ℕ) → (h : HasOwnValue l w i a) → HasFlag l i ifunc false → a ≡ with_base h.still w.base h.raw
 plain_value l w i a h f = subst (λ (b : Bool). IsValue w b h.still h.raw a) (one_flag l i ifunc h.indirect false h.resolved f) h.is
 
 -- where it moves
 pub moved_value : (l : Layout) (w : World) (i a : ℕ) → (h : HasOwnValue l w i a) → HasFlag l i ifunc false → HasFlag l i absolute false → a ≡ (w.base + h.raw) % 2 ^ 64
-moved_value l w i a h f g = plain_value l w i a h f ∙ ap (λ (b : Bool). moved b w.base h.raw) (one_flag l i absolute h.still false h.absolute g)
+moved_value l w i a h f g = plain_value l w i a h f ∙ ap (λ (b : Bool). with_base b w.base h.raw) (one_flag l i absolute h.still false h.absolute g)
 
 -- of an IFUNC it is the answer
 pub answered_value : (l : Layout) (w : World) (i a : ℕ) → (h : HasOwnValue l w i a) → HasFlag l i ifunc true → answer_at w ((w.base + h.raw) % 2 ^ 64) ≡ Ok a

@@ -22,68 +22,68 @@ use Rattle.wild_reloc.specs.Formula.{Value, SymbolAddress, Distance, Form, Formu
 use Rattle.wild_loader.specs.declared.world.World.{World}
 use Rattle.wild_loader.specs.declared.memory.Memory.{Memory}
 use Rattle.wild_loader.specs.Memory.{Holds, byte_in}
-use Rattle.wild_meaning.specs.Value.{IsSymbol, IsDefinedBy, HasRaw, HasFlag, IsReplaceable, moved}
+use Rattle.wild_meaning.specs.Value.{IsSymbol, IsDefinedBy, HasRaw, HasFlag, IsReplaceable, with_base}
 use Rattle.wild_loader.specs.Reach.{Reaches, ReachesWithin}
 use Rattle.wild_meaning.specs.Denotes.{HasStub, Denotes}
-use Rattle.wild_meaning.specs.ReferentAArch64.{IsAbsent}
+use Rattle.wild_meaning.specs.ReferentAArch64.{IsUndefinedWeak}
 use Rattle.wild_meaning.specs.Field.{formula_of, form_width, InNoField}
 use Rattle.wild_meaning.specs.Formula.{IsTarget, IsGoal, Gives}
 use Rattle.wild_loader.specs.declared.instruction.Deed.{Deed}
 use Rattle.wild_loader.specs.declared.instruction.Deed.TheVariants.{Call, Jump}
 use Rattle.wild_meaning.specs.Sequence.{Instruction}
-use Rattle.wild_meaning.specs.Template.{counts_from, effect_of, reads, IsTemplate, DoesDemanded}
+use Rattle.wild_meaning.specs.Template.{field_origin, effect_of, reads, IsTemplate, DoesDemanded}
 use Rattle.wild_types.specs.Item.{Item}
-use Rattle.wild_meaning.specs.Item.{stood_item}
+use Rattle.wild_meaning.specs.Item.{placed_item}
 use Rattle.wild_meaning.specs.Strings.{NamesStrings, IsString}
-use Rattle.wild_meaning.specs.Reference.{IsAsked, IsLinkedAlone, IsLeftOut}
-use Rattle.wild_meaning.specs.Linked.{IsLinked}
+use Rattle.wild_meaning.specs.Reference.{MustHold, UsesOwnSymbolOnly, IsOmitted}
+use Rattle.wild_meaning.specs.LinkedImage.{IsLinked}
 use Rattle.wild_laws.specs.FirstTypes.{IsLoadedSection, IsRelocated, address_types, HasFirstTypes, address_at, IsCall, IsJump, IsBranchField, IsSlotCall, IsSlotJump, GivesThreadAddress}
 
 -- ---- S
 
 -- the reference is to a symbol that is weak and undefined
-pub record NamesAbsent (l : Layout) (r : InputRelocation) : Type 0 where
+pub record NamesUndefinedWeak (l : Layout) (r : InputRelocation) : Type 0 where
   pub symbol : ℕ
   pub named : r.symbol ≡ Some symbol
-  pub absent : IsAbsent l symbol
+  pub absent : IsUndefinedWeak l symbol
 
 -- on AArch64 the distance to such a symbol is A, as if it were at the place itself (aaelf64, "Weak references")
-pub record IsDistanceOfAbsent (v : Value) (l : Layout) (r : InputRelocation) : Type 0 where
+pub record IsDistanceOfUndefinedWeak (v : Value) (l : Layout) (r : InputRelocation) : Type 0 where
   pub distance : v ≡ Distance
-  pub symbol : NamesAbsent l r
+  pub symbol : NamesUndefinedWeak l r
 
 -- a represents the symbol in an address or a distance
-abbrev pub StandsFor : Machine → Value → Layout → World → Memory → Item → InputRelocation → ℕ → Type 0
-StandsFor machine.X86_64 v l w m s r a = IsTarget l w m r.symbol a
-StandsFor machine.AArch64 v l w m s r a = (IsDistanceOfAbsent v l r × (a ≡ address_at w s r.offset % 2 ^ 64)) ⊎ ((IsDistanceOfAbsent v l r → ⊥) × IsTarget l w m r.symbol a)
+abbrev pub RepresentsSymbol : Machine → Value → Layout → World → Memory → Item → InputRelocation → ℕ → Type 0
+RepresentsSymbol machine.X86_64 v l w m s r a = IsTarget l w m r.symbol a
+RepresentsSymbol machine.AArch64 v l w m s r a = (IsDistanceOfUndefinedWeak v l r × (a ≡ address_at w s r.offset % 2 ^ 64)) ⊎ ((IsDistanceOfUndefinedWeak v l r → ⊥) × IsTarget l w m r.symbol a)
 
 -- a is S there: it represents the symbol; for merged strings, a and A together make the address of a byte of a string
 abbrev pub IsNamed : Value → Layout → World → Memory → Item → InputRelocation → ℕ → Type 0
-IsNamed v l w m s r a = (NamesStrings l r × IsString l w r a) ⊎ ((NamesStrings l r → ⊥) × StandsFor l.machine v l w m s r a)
+IsNamed v l w m s r a = (NamesStrings l r × IsString l w r a) ⊎ ((NamesStrings l r → ⊥) × RepresentsSymbol l.machine v l w m s r a)
 
 -- On AArch64 execution that starts at a + A reaches an address that represents the symbol, plus A; or a thunk that leads there
 -- (aaelf64, "Call and Jump relocations").
-pub record ComesTo (l : Layout) (w : World) (m : Memory) (r : InputRelocation) (a : ℕ) : Type 0 where
-  pub present : NamesAbsent l r → ⊥
+pub record LeadsToSymbol (l : Layout) (w : World) (m : Memory) (r : InputRelocation) (a : ℕ) : Type 0 where
+  pub present : NamesUndefinedWeak l r → ⊥
   pub symbol : ℕ
   pub stands : IsTarget l w m r.symbol symbol
   pub comes : ReachesWithin 1 m ((a + cast_unsigned w64 r.addend) % 2 ^ 64) ((symbol + cast_unsigned w64 r.addend) % 2 ^ 64)
 
 -- an undefined weak symbol counts as if it were directly after the call or the jump
-pub record IsBehind (l : Layout) (w : World) (s : Item) (r : InputRelocation) (a : ℕ) : Type 0 where
-  pub absent : NamesAbsent l r
+pub record IsNextInstruction (l : Layout) (w : World) (s : Item) (r : InputRelocation) (a : ℕ) : Type 0 where
+  pub absent : NamesUndefinedWeak l r
   pub behind : a ≡ (address_at w s r.offset + 4) % 2 ^ 64
 
 -- a is S or L in a call or a jump: it represents the symbol or, with A, makes a string's address; on AArch64 a thunk may lead there
 abbrev pub IsBranchedTo : Machine → Layout → World → Memory → Item → InputRelocation → ℕ → Type 0
 IsBranchedTo machine.X86_64 l w m s r a = IsTarget l w m r.symbol a ⊎ (NamesStrings l r × IsString l w r a)
-IsBranchedTo machine.AArch64 l w m s r a = ComesTo l w m r a ⊎ IsBehind l w s r a
+IsBranchedTo machine.AArch64 l w m s r a = LeadsToSymbol l w m r a ⊎ IsNextInstruction l w s r a
 
 -- ---- calls and jumps
 
 -- the symbol's value plus A, relative to the origin of the field: on x86-64 A contains -4 for the four bytes of the field
-abbrev pub past_field : Machine → InputRelocation → ℕ → ℕ
-past_field m r a = (a + cast_unsigned w64 r.addend + counts_from m) % 2 ^ 64
+abbrev pub branch_target : Machine → InputRelocation → ℕ → ℕ
+branch_target m r a = (a + cast_unsigned w64 r.addend + field_origin m) % 2 ^ 64
 
 -- the sizes in bytes of a direct call or jump, and of one through a slot
 abbrev pub branch_size : Machine → ℕ
@@ -97,7 +97,7 @@ pub record BranchReaches (l : Layout) (w : World) (m : Memory) (s : Item) (r : I
   pub bytes : List ℕ
   pub whole : length bytes ≡ branch_size l.machine
   pub held : Holds m (address_at w s k) bytes
-  pub goes : effect_of l.machine (reads w m) (address_at w s k) bytes ≡ Some (record { deed = deed; width = 64; value = past_field l.machine r target })
+  pub goes : effect_of l.machine (reads w m) (address_at w s k) bytes ≡ Some (record { deed = deed; width = 64; value = branch_target l.machine r target })
 
 -- the six loaded bytes call, or jump to, an address that leads to the symbol
 pub record SlotBranchReaches (l : Layout) (w : World) (m : Memory) (s : Item) (r : InputRelocation) (k : ℕ) (deed : Deed) : Type 0 where
@@ -136,11 +136,11 @@ pub record HasFormula (l : Layout) (w : World) (m : Memory) (s : Item) (r : Inpu
 -- The reference is checked in the world; it does not only refer to the output's own symbol, whichever module defines it. The
 -- image contains what the reference depends on.
 abbrev pub IsFollowed : Layout → World → Item → InputRelocation → Type 0
-IsFollowed l w s r = IsAsked l w s r × (IsLinkedAlone l s r → ⊥) × (IsLeftOut l s r → ⊥)
+IsFollowed l w s r = MustHold l w s r × (UsesOwnSymbolOnly l s r → ⊥) × (IsOmitted l s r → ⊥)
 
 -- each reference of the item is checked, one to the output's own symbol only at base 0, and the image contains what it depends on
-abbrev pub EachIsAsked : Layout → World → Item → Type 0
-EachIsAsked l w s = (r : InputRelocation) → IsRelocated s r → IsAsked l w s r × (IsLinkedAlone l s r → w.base ≡ 0) × (IsLeftOut l s r → ⊥)
+abbrev pub EachIsChecked : Layout → World → Item → Type 0
+EachIsChecked l w s = (r : InputRelocation) → IsRelocated s r → MustHold l w s r × (UsesOwnSymbolOnly l s r → w.base ≡ 0) × (IsOmitted l s r → ⊥)
 
 -- the field has the value of the judge's formula for the relocation's type, whichever type that is
 pub record HasValueOf (l : Layout) (w : World) (m : Memory) (s : Item) (r : InputRelocation) (f : Formula) : Type 0 where
@@ -178,15 +178,15 @@ pub record HoldsByFields (l : Layout) (w : World) (m : Memory) (s : Item) : Type
   pub slot_calls : (r : InputRelocation) (k : ℕ) → IsRelocated s r → IsFollowed l w s r → (GivesThreadAddress l.machine l s r → ⊥) → IsSlotCall l.machine l s r k → SlotBranchReaches l w m s r k Call
   pub slot_jumps : (r : InputRelocation) (k : ℕ) → IsRelocated s r → IsFollowed l w s r → (GivesThreadAddress l.machine l s r → ⊥) → IsSlotJump l.machine l s r k → SlotBranchReaches l w m s r k Jump
   pub forms : HoldsByForms l w m s
-  pub others : HasFirstTypes l.machine s → EachIsAsked l w s → (k : ℕ) → k < length s.bytes → InNoField l s k → byte_in m (address_at w s k) ≡ Some (slice_index s.bytes k)
+  pub others : HasFirstTypes l.machine s → EachIsChecked l w s → (k : ℕ) → k < length s.bytes → InNoField l s k → byte_in m (address_at w s k) ≡ Some (slice_index s.bytes k)
 
 -- an image that meets the requirements for all layouts in a world, at any base, meets these
 abbrev pub MeaningGivesFields : Type 0
-MeaningGivesFields = (l : Layout) (w : World) (image : List ℕ) → (linked : IsLinked l w image) → (s : InputSection) (k : IsLoadedSection l s) → HoldsByFields l w linked.memory (stood_item l k.file s)
+MeaningGivesFields = (l : Layout) (w : World) (image : List ℕ) → (linked : IsLinked l w image) → (s : InputSection) (k : IsLoadedSection l s) → HoldsByFields l w linked.memory (placed_item l k.file s)
 
 -- it also meets those on forms
 abbrev pub MeaningGivesForms : Type 0
-MeaningGivesForms = (l : Layout) (w : World) (image : List ℕ) → (linked : IsLinked l w image) → (s : InputSection) (k : IsLoadedSection l s) → HoldsByForms l w linked.memory (stood_item l k.file s)
+MeaningGivesForms = (l : Layout) (w : World) (image : List ℕ) → (linked : IsLinked l w image) → (s : InputSection) (k : IsLoadedSection l s) → HoldsByForms l w linked.memory (placed_item l k.file s)
 
 -- ---- symbols
 
@@ -198,7 +198,7 @@ pub record IsAddress (l : Layout) (w : World) (i a : ℕ) : Type 0 where
   pub defined : IsDefinedBy l i definition
   pub symbol : Symbol
   pub listed : IsSymbol l definition symbol
-  pub moves : a ≡ moved (has_flag symbol.flags absolute) w.base raw
+  pub moves : a ≡ with_base (has_flag symbol.flags absolute) w.base raw
 
 -- An address that represents a symbol leads to it. Without a stub, an own symbol that is not an IFUNC is represented only by its
 -- address, and execution that reaches the symbol reaches that address.

@@ -21,7 +21,7 @@ use Rattle.wild_types.specs.declared.file.File.{File}
 use Rattle.wild_types.specs.declared.file.Group.{Group}
 use Rattle.wild_types.specs.declared.layout.Layout.{Layout}
 use Rattle.wild_types.specs.Item.{Item}
-use Rattle.wild_types.specs.Lookups.{allocated, executable, is_hollow_part}
+use Rattle.wild_types.specs.Lookups.{allocated, executable, is_header_only_part}
 use Rattle.wild_loader.specs.declared.world.World.{World}
 use Rattle.wild_meaning.specs.Field.{InNoField}
 use Rattle.wild_meaning.specs.Partners.{NamesGetter}
@@ -36,7 +36,7 @@ pub record IsLoadedSection (l : Layout) (s : InputSection) : Type 0 where
   pub loaded : s.slot ≡ slot.Loaded
   pub carried : allocated s.flags ≡ true
   pub has_data : s.nobits ≡ false
-  pub written : is_hollow_part l s.part ≡ false
+  pub written : is_header_only_part l s.part ≡ false
 
 -- a relocation of the item other than R_X86_64_NONE and R_AARCH64_NONE
 pub record IsRelocated (s : Item) (r : InputRelocation) : Type 0 where

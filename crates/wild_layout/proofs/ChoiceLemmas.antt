@@ -34,15 +34,15 @@ use Rattle.wild_relax.specs.declared.row.Row.{Row}
 use Rattle.wild_relax.specs.declared.row.Partner.{Partner}
 use Rattle.wild_relax.specs.Question.{Question, entry_at, relocation_of}
 use Rattle.wild_relax.specs.Pattern.{field_of}
-use Rattle.wild_relax.specs.First.{checked}
+use Rattle.wild_relax.specs.FirstRow.{row_or_fault}
 use Rattle.wild_relax.specs.RowSequences.{form_by, call_form, is_call_number, is_partner_at, has_its_sequence}
-use Rattle.wild_relax.specs.Rows.{rows_x86_64, applies, unknown_sequence, standing_x86_64, chosen_x86_64}
+use Rattle.wild_relax.specs.Rows.{rows_x86_64, applies, unknown_sequence, first_row_x86_64, chosen_row_x86_64}
 use Rattle.wild_relax.specs.RowSequences as rows
 use Rattle.wild_relax.specs.declared.row.Written.TheVariants as written
 use Rattle.wild_relax.specs.RewriteX86_64.{rewrite_of, info_by}
-use Rattle.wild_relax.specs.Linked.{pattern_of, pattern_size, keeps_bytes, fits_in, template_of}
-use Rattle.wild_relax.specs.RowsAArch64.{rows_aarch64, has_its_words, standing_aarch64, chosen_aarch64}
-use Rattle.wild_relax.specs.Relaxation.{chosen_of}
+use Rattle.wild_relax.specs.LinkedPattern.{pattern_of, pattern_size, keeps_bytes, fits_in, template_of}
+use Rattle.wild_relax.specs.RowsAArch64.{rows_aarch64, has_its_words, first_row_aarch64, chosen_row_aarch64}
+use Rattle.wild_relax.specs.Relaxation.{chosen_row_of}
 use Rattle.wild_layout.specs.Merged.{names_merged}
 use Rattle.wild_relax.specs.SequenceAArch64.{words_before}
 use Rattle.wild_relax.proofs.TemplateLemmas as template-lemmas
@@ -61,7 +61,7 @@ pub record IsChosen (l : Layout) (s : Item) (r : InputRelocation) (next : Option
   pub named : r.symbol ≡ Some symbol
   pub plain : names_merged l r.symbol ≡ false
   pub other : (r.number == abi.r_x86_64_pc32) ≡ false
-  pub chosen : chosen_x86_64 (question_of l s r symbol next) ≡ Ok (Some row)
+  pub chosen : chosen_row_x86_64 (question_of l s r symbol next) ≡ Ok (Some row)
   pub number : r.number ≡ row.number
   pub before : field_of (pattern_of row) ≤ r.offset
   pub inside : r.offset - field_of (pattern_of row) + pattern_size row ≤ length s.bytes
@@ -79,7 +79,7 @@ unfolding choice_by
 choice_row l s r next row x86 h = by_symbol l s r next row r.symbol x86 h refl h
   where
     by_number : (l : Layout) (s : Item) (r : InputRelocation) (next : Option InputRelocation) (row : Row) (i : ℕ) (b m : Bool) → l.machine ≡ machine.X86_64 → choice_of l s r next ≡ Ok (Some row) → r.symbol ≡ Some i → (r.number == abi.r_x86_64_pc32) ≡ b → names_merged l (Some i) ≡ m
-        → (if b then Ok None else if m then choice_merged r else chosen_x86_64 (question_of l s r i next)) ≡ Ok (Some row) → IsChosen l s r next row
+        → (if b then Ok None else if m then choice_merged r else chosen_row_x86_64 (question_of l s r i next)) ≡ Ok (Some row) → IsChosen l s r next row
     by_number l s r next row i true m x86 all named is plain e = cc
     by_number l s r next row i false true x86 all named is plain e = absurd (nothing_merged r row e)
     by_number l s r next row i false false x86 all named is plain e =
@@ -113,7 +113,7 @@ pub record IsChosenAArch64 (l : Layout) (s : Item) (i : ℕ) (r : InputRelocatio
   pub symbol : ℕ
   pub named : r.symbol ≡ Some symbol
   pub plain : names_merged l r.symbol ≡ false
-  pub chosen : chosen_aarch64 (question_around l s i r symbol) ≡ Ok (Some row)
+  pub chosen : chosen_row_aarch64 (question_around l s i r symbol) ≡ Ok (Some row)
   pub listed : Contains rows_aarch64 row
   pub here : applies (question_around l s i r symbol) row ≡ true
   pub number : r.number ≡ row.number
@@ -154,7 +154,7 @@ pub choice_row_aarch64 : (l : Layout) (s : Item) (i : ℕ) (r : InputRelocation)
 unfolding choice_around_by
 choice_row_aarch64 l s i r row on at h = by_symbol r.symbol refl h
   where
-    by_merged : (symbol : ℕ) (b : Bool) → r.symbol ≡ Some symbol → names_merged l (Some symbol) ≡ b → (if b then Ok None else chosen_of machine.AArch64 (question_around l s i r symbol)) ≡ Ok (Some row) → IsChosenAArch64 l s i r row
+    by_merged : (symbol : ℕ) (b : Bool) → r.symbol ≡ Some symbol → names_merged l (Some symbol) ≡ b → (if b then Ok None else chosen_row_of machine.AArch64 (question_around l s i r symbol)) ≡ Ok (Some row) → IsChosenAArch64 l s i r row
     by_merged symbol true named plain e = cc
     by_merged symbol false named plain e =
         let q = question_around l s i r symbol in
@@ -358,11 +358,11 @@ unfolding row_of
 loads_there machine.X86_64 n row is known h = cc
 loads_there machine.AArch64 n row is known h = subst (λ (o : Option RelocationKindInfo). loads_at o ≡ true) (sym known) h
 
-none_stands : (q : Question) → loads_at (x86_64_row (relocation_of q).number) ≡ true → chosen_x86_64 q ≡ Ok None
-unfolding chosen_x86_64
-none_stands q h = by_standing q (standing_x86_64 q) refl h
+none_stands : (q : Question) → loads_at (x86_64_row (relocation_of q).number) ≡ true → chosen_row_x86_64 q ≡ Ok None
+unfolding chosen_row_x86_64
+none_stands q h = by_standing q (first_row_x86_64 q) refl h
   where
-    by_standing : (q : Question) (o : Option Row) → standing_x86_64 q ≡ o → loads_at (x86_64_row (relocation_of q).number) ≡ true → checked (has_its_sequence q) (unknown_sequence q) o ≡ Ok None
+    by_standing : (q : Question) (o : Option Row) → first_row_x86_64 q ≡ o → loads_at (x86_64_row (relocation_of q).number) ≡ true → row_or_fault (has_its_sequence q) (unknown_sequence q) o ≡ Ok None
     by_standing q None is h = refl
     by_standing q (Some row) is h =
         let first = standing_first q row is in
@@ -375,15 +375,15 @@ unfolding static_row thread_row rows_aarch64
 each_word_stays = refl
 
 -- where none of the table's rows has the relocation's type, none is chosen
-pub none_chosen : (q : Question) → ((row : Row) → Contains rows_aarch64 row → (relocation_of q).number ≡ row.number → ⊥) → chosen_aarch64 q ≡ Ok None
-unfolding chosen_aarch64
-none_chosen q none = by_standing (standing_aarch64 q) refl
+pub none_chosen : (q : Question) → ((row : Row) → Contains rows_aarch64 row → (relocation_of q).number ≡ row.number → ⊥) → chosen_row_aarch64 q ≡ Ok None
+unfolding chosen_row_aarch64
+none_chosen q none = by_standing (first_row_aarch64 q) refl
   where
-    by_standing : (o : Option Row) → standing_aarch64 q ≡ o → checked (has_its_words q) (unknown_sequence q) o ≡ Ok None
+    by_standing : (o : Option Row) → first_row_aarch64 q ≡ o → row_or_fault (has_its_words q) (unknown_sequence q) o ≡ Ok None
     by_standing None is = refl
     by_standing (Some row) is = (let first = standing_first_aarch64 q row is in absurd (none row first.listed (applied q row (and_parts _ _ first.here).0).number))
 
-none_around : (q : Question) → loads_at (aarch64_row (relocation_of q).number) ≡ true → chosen_aarch64 q ≡ Ok None
+none_around : (q : Question) → loads_at (aarch64_row (relocation_of q).number) ≡ true → chosen_row_aarch64 q ≡ Ok None
 none_around q h = none_chosen q (λ row listed number. not_both _ (listed_passes (λ (x : Row). not (loads_at (aarch64_row x.number))) rows_aarch64 row each_word_stays listed) (subst (λ (n : ℕ). loads_at (aarch64_row n) ≡ true) number h))
 
 pub none_by : (b : Bool) (c : Result (Option Row) UnknownSequence) → c ≡ Ok None → (if b then Ok None else c) ≡ Ok None
@@ -423,12 +423,12 @@ no_row l s i r row listed known h = by_machine l.machine known
     by_x86_64 : (next : Option InputRelocation) (o : Option ℕ) → loads_at (x86_64_row r.number) ≡ true → choice_by l s r next o ≡ Ok None
     by_x86_64 next None loads = refl
     by_x86_64 next (Some n) loads =
-        none_of_two (r.number == abi.r_x86_64_pc32) (names_merged l (Some n)) (choice_merged r) (chosen_x86_64 (question_of l s r n next)) (merged_none r (loads_no_thread r.number loads)) (none_stands (question_of l s r n next) loads)
+        none_of_two (r.number == abi.r_x86_64_pc32) (names_merged l (Some n)) (choice_merged r) (chosen_row_x86_64 (question_of l s r n next)) (merged_none r (loads_no_thread r.number loads)) (none_stands (question_of l s r n next) loads)
 
     by_aarch64 : (o : Option ℕ) → loads_at (aarch64_row r.number) ≡ true → choice_around_by l s i r o ≡ Ok None
     by_aarch64 None loads = refl
     by_aarch64 (Some n) loads =
-        none_by (names_merged l (Some n)) (chosen_of machine.AArch64 (question_around l s i r n)) (none_around (question_around l s i r n) (subst (λ (x : RelocationInfo). loads_at (aarch64_row x.number) ≡ true) (sym (relocation_around l s i r n listed)) loads))
+        none_by (names_merged l (Some n)) (chosen_row_of machine.AArch64 (question_around l s i r n)) (none_around (question_around l s i r n) (subst (λ (x : RelocationInfo). loads_at (aarch64_row x.number) ≡ true) (sym (relocation_around l s i r n listed)) loads))
 
     by_machine : (m : Machine) → row_of m r.number ≡ Some row → choice_on m l s i r ≡ Ok None
     by_machine machine.X86_64 is = by_x86_64 (slice_get s.relocations (i + 1)) r.symbol (loads_here machine.X86_64 r.number row refl is h)

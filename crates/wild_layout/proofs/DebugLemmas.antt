@@ -21,15 +21,15 @@ use Rattle.wild_reloc.specs.declared.info.RelocationSize.{RelocationSize}
 use Rattle.wild_reloc.specs.declared.info.RelocationSize.TheVariants.{ByteSize, BitMasking}
 use Rattle.wild_reloc.specs.declared.info.Width.TheVariants.{Zero, One, Two, Four, Eight}
 use Rattle.wild_reloc.proofs.PlaceLemmas.{length-size_written}
-use Rattle.wild_shards.specs.InOrder.{Rule, width, width_of, field_at, in_order, step_on, then_on, AreSmall, KeepsLength}
+use Rattle.wild_shards.specs.InOrder.{Rule, width, width_of, field_at, in_order, apply_step, then_apply, AreSmall, KeepsLength}
 use Rattle.wild_layout.specs.declared.decision.Decision.{Decision}
 use Rattle.wild_layout.specs.declared.decision.Decision.TheVariants.{Nothing, Field}
 use Rattle.wild_layout.specs.SymbolValues.{sum, raw_address}
 use Rattle.wild_layout.specs.Merged.{address_for, names_merged}
-use Rattle.wild_layout.specs.Values.{behind, pointer_offset}
+use Rattle.wild_layout.specs.Values.{offset_from, pointer_offset}
 use Rattle.wild_layout.specs.Decide.{field}
 use Rattle.wild_layout.specs.SectionPlaces.{FieldLies}
-use Rattle.wild_layout.specs.Debug.{tombstone, tombstone_field, added_to, valued, unvalued, by_address, unnamed, named_by, debug_by, debug_with, debug_decided, debug_field, debug_written, width_by, debug_rule, nowhere_at, or_input, debug_bytes}
+use Rattle.wild_layout.specs.Debug.{tombstone, tombstone_field, field_of_sum, field_of_address, field_without_address, by_address, field_without_symbol, field_by_symbol, debug_by, debug_with, debug_decided, debug_field, debug_written, width_by, debug_rule, at_offset_only, or_input, debug_bytes}
 
 -- ---- fields
 
@@ -47,7 +47,7 @@ tested false row v n f old h = tt
 field_leaves : (row : RelocationKindInfo) (v n : ℕ) (old : List ℕ) → n ≡ field_width row → Leaves n old (field row v)
 field_leaves row v n old h = tested (allows row v) row v n _ old h
 
-added_leaves : (r : InputRelocation) (row : RelocationKindInfo) (a : Result ℕ Fault) (n : ℕ) (old : List ℕ) → n ≡ field_width row → Leaves n old (added_to r row a)
+added_leaves : (r : InputRelocation) (row : RelocationKindInfo) (a : Result ℕ Fault) (n : ℕ) (old : List ℕ) → n ≡ field_width row → Leaves n old (field_of_sum r row a)
 added_leaves r row (Err f) n old h = tt
 added_leaves r row (Ok a) n old h = field_leaves row (sum a r.addend) n old h
 
@@ -59,22 +59,22 @@ tombstone_leaves : (l : Layout) (s : InputSection) (row : RelocationKindInfo) (n
 tombstone_leaves l s row n old h =
     either l.options.new_tombstones n old (Ok (Field row.size (tombstone l s))) (field row (tombstone l s)) (in_field row (tombstone l s) n old h) (field_leaves row (tombstone l s) n old h)
 
-valued_leaves : (l : Layout) (r : InputRelocation) (i : ℕ) (row : RelocationKindInfo) (k : RelocationKind) (n : ℕ) (old : List ℕ) → n ≡ field_width row → Leaves n old (valued l r i row k)
+valued_leaves : (l : Layout) (r : InputRelocation) (i : ℕ) (row : RelocationKindInfo) (k : RelocationKind) (n : ℕ) (old : List ℕ) → n ≡ field_width row → Leaves n old (field_of_address l r i row k)
 valued_leaves l r i row kinds.Absolute n old h = added_leaves r row (address_for l r) n old h
-valued_leaves l r i row kinds.DtpOff n old h = added_leaves r row (behind l.tls.start (raw_address l (Some i))) n old h
+valued_leaves l r i row kinds.DtpOff n old h = added_leaves r row (offset_from l.tls.start (raw_address l (Some i))) n old h
 valued_leaves l r i row kinds.TpOff n old h = added_leaves r row (pointer_offset l (Some i)) n old h
 valued_leaves l r i row other n old h = tt
 
 by_address_leaves : (l : Layout) (s : InputSection) (r : InputRelocation) (i : ℕ) (row : RelocationKindInfo) (v : Option ℕ) (n : ℕ) (old : List ℕ) → n ≡ field_width row → Leaves n old (by_address l s r i row v)
 by_address_leaves l s r i row None n old h =
-    either (names_merged l (Some i)) n old (added_to r row (address_for l r)) (tombstone_field l s row) (added_leaves r row (address_for l r) n old h) (tombstone_leaves l s row n old h)
+    either (names_merged l (Some i)) n old (field_of_sum r row (address_for l r)) (tombstone_field l s row) (added_leaves r row (address_for l r) n old h) (tombstone_leaves l s row n old h)
 by_address_leaves l s r i row (Some v) n old h = valued_leaves l r i row row.kind n old h
 
-unnamed_leaves : (r : InputRelocation) (row : RelocationKindInfo) (k : RelocationKind) (n : ℕ) (old : List ℕ) → n ≡ field_width row → Leaves n old (unnamed r row k)
+unnamed_leaves : (r : InputRelocation) (row : RelocationKindInfo) (k : RelocationKind) (n : ℕ) (old : List ℕ) → n ≡ field_width row → Leaves n old (field_without_symbol r row k)
 unnamed_leaves r row kinds.Absolute n old h = field_leaves row _ n old h
 unnamed_leaves r row other n old h = tt
 
-named_leaves : (l : Layout) (s : InputSection) (r : InputRelocation) (row : RelocationKindInfo) (o : Option ℕ) (n : ℕ) (old : List ℕ) → n ≡ field_width row → Leaves n old (named_by l s r row o)
+named_leaves : (l : Layout) (s : InputSection) (r : InputRelocation) (row : RelocationKindInfo) (o : Option ℕ) (n : ℕ) (old : List ℕ) → n ≡ field_width row → Leaves n old (field_by_symbol l s r row o)
 named_leaves l s r row None n old h = unnamed_leaves r row row.kind n old h
 named_leaves l s r row (Some i) n old h = by_address_leaves l s r i row (raw_value l i) n old h
 
@@ -144,7 +144,7 @@ in_range : (rule : Rule) (r : InputRelocation) (a : ℕ) (xs : List ℕ) → a �
 in_range rule r a xs e (inl z) = length-none a (a + width rule r) xs (omega (arith, z)) ∙ sym z
 in_range rule r a xs e (inr h) = length-range xs a (width rule r) (omega (arith, e, h))
 
-put_keeps : (a w : ℕ) (xs : List ℕ) (d : Result (List ℕ) Error) → (w ≡ 0) ⊎ (a + w ≤ length xs) → IfOk d (λ ys. length ys ≡ w) → IfOk (then_on d (λ ys. Ok (place a ys xs))) (λ zs. length zs ≡ length xs)
+put_keeps : (a w : ℕ) (xs : List ℕ) (d : Result (List ℕ) Error) → (w ≡ 0) ⊎ (a + w ≤ length xs) → IfOk d (λ ys. length ys ≡ w) → IfOk (then_apply d (λ ys. Ok (place a ys xs))) (λ zs. length zs ≡ length xs)
 put_keeps a w xs (Err e) h k = tt
 put_keeps a w xs (Ok ys) (inl z) k = place-none a ys xs (k ∙ z)
 put_keeps a w xs (Ok ys) (inr h) k = length-place a xs ys (omega (arith, h, k))
@@ -153,7 +153,7 @@ lies_at : (rule : Rule) (r : InputRelocation) (a n : ℕ) → a ≡ r.offset →
 lies_at rule r a n e (inl z) = inl z
 lies_at rule r a n e (inr h) = inr (omega (arith, e, h))
 
-step_keeps : (rule : Rule) (r : InputRelocation) (xs : List ℕ) → KeepsLength rule → LiesIn rule (length xs) r → IfOk (step_on rule 0 r xs) (λ ys. length ys ≡ length xs)
+step_keeps : (rule : Rule) (r : InputRelocation) (xs : List ℕ) → KeepsLength rule → LiesIn rule (length xs) r → IfOk (apply_step rule 0 r xs) (λ ys. length ys ≡ length xs)
 step_keeps rule r xs keeps h =
     let a : ℕ = r.offset - 0 in
     let e : a ≡ r.offset = omega arith in
@@ -163,7 +163,7 @@ step_keeps rule r xs keeps h =
 
 on_keeps : (rule : Rule) (rs : List InputRelocation) (n : ℕ) (o : Result (List ℕ) Error) → IfOk o (λ ys. length ys ≡ n)
     → ((ys : List ℕ) → length ys ≡ n → IfOk (in_order rule 0 rs ys) (λ zs. length zs ≡ n))
-    → IfOk (then_on o (in_order rule 0 rs)) (λ zs. length zs ≡ n)
+    → IfOk (then_apply o (in_order rule 0 rs)) (λ zs. length zs ≡ n)
 on_keeps rule rs n (Err e) h rest = tt
 on_keeps rule rs n (Ok ys) h rest = rest ys h
 
@@ -171,8 +171,8 @@ pub in_order_keeps : (rule : Rule) (rs : List InputRelocation) (xs : List ℕ) (
 in_order_keeps rule [] xs n keeps e h = e
 in_order_keeps rule (r ∷ rs) xs n keeps e h =
     let first : LiesIn rule (length xs) r = subst (λ (k : ℕ). LiesIn rule k r) (sym e) (h 0 r (omega arith)) in
-    let one : IfOk (step_on rule 0 r xs) (λ ys. length ys ≡ n) = subst (λ (k : ℕ). IfOk (step_on rule 0 r xs) (λ ys. length ys ≡ k)) e (step_keeps rule r xs keeps first) in
-    on_keeps rule rs n (step_on rule 0 r xs) one (λ ys f. in_order_keeps rule rs ys n keeps f (λ i d b. h (suc i) d (omega arith)))
+    let one : IfOk (apply_step rule 0 r xs) (λ ys. length ys ≡ n) = subst (λ (k : ℕ). IfOk (apply_step rule 0 r xs) (λ ys. length ys ≡ k)) e (step_keeps rule r xs keeps first) in
+    on_keeps rule rs n (apply_step rule 0 r xs) one (λ ys f. in_order_keeps rule rs ys n keeps f (λ i d b. h (suc i) d (omega arith)))
 
 or_input_keeps : (old : List ℕ) (o : Result (List ℕ) Error) → IfOk o (λ ys. length ys ≡ length old) → length (or_input old o) ≡ length old
 or_input_keeps old (Ok new) h = h
@@ -182,6 +182,6 @@ or_input_keeps old (Err e) h = refl
 pub length-debug_bytes : (l : Layout) (s : InputSection) → All (FieldLies l.machine (length s.bytes)) s.relocations → length (debug_bytes l s) ≡ length s.bytes
 unfolding debug_bytes
 length-debug_bytes l s h =
-    or_input_keeps s.bytes (in_order (debug_rule l nowhere_at s) 0 s.relocations s.bytes)
-    (in_order_keeps (debug_rule l nowhere_at s) s.relocations s.bytes (length s.bytes) (debug_keeps l nowhere_at s) refl
-    (λ i d b. rw (debug_width l nowhere_at s _) (h i d b)))
+    or_input_keeps s.bytes (in_order (debug_rule l at_offset_only s) 0 s.relocations s.bytes)
+    (in_order_keeps (debug_rule l at_offset_only s) s.relocations s.bytes (length s.bytes) (debug_keeps l at_offset_only s) refl
+    (λ i d b. rw (debug_width l at_offset_only s _) (h i d b)))

@@ -12,7 +12,7 @@ use Rattle.wild_slot.specs.declared.treatment.Treatment.{Treatment}
 use Rattle.wild_slot.specs.declared.treatment.Treatment.TheVariants as treatments
 use Rattle.wild_types.specs.Rows.{row_of, row_width, field_bytes}
 use Rattle.wild_types.specs.Lookups.{place_of, packs, allocated}
-use Rattle.wild_needs.specs.Entries.{is_left_to_entry}
+use Rattle.wild_needs.specs.Entries.{has_dynamic_entry}
 use Rattle.wild_slot.specs.SlotParts.{type_of}
 use Rattle.wild_slot.specs.Slots.{is_replaceable}
 use Rattle.wild_slot.specs.Treatment.{flags_at, treatment}
@@ -26,19 +26,19 @@ use Rattle.wild_reloc.specs.declared.info.RelocationSize.{RelocationSize}
 use Rattle.wild_reloc.specs.declared.info.RelocationSize.TheVariants.{ByteSize, BitMasking}
 use Rattle.wild_reloc.specs.declared.info.Width.TheVariants.{Zero, One, Two, Four, Eight}
 use Rattle.wild_reloc.specs.declared.dynamic.DynamicRelocationKind.TheVariants.{Absolute, Irelative}
-use Rattle.wild_reloc.specs.declared.expression.Taken.{Taken}
-use Rattle.wild_reloc.specs.declared.expression.Taken.TheVariants as taken
+use Rattle.wild_reloc.specs.declared.expression.Subtrahend.{Subtrahend}
+use Rattle.wild_reloc.specs.declared.expression.Subtrahend.TheVariants as taken
 use Rattle.wild_reloc.specs.Expression.{expression_of}
 use Rattle.wild_layout.specs.declared.decision.Decision.{Decision}
-use Rattle.wild_layout.specs.declared.decision.Decision.TheVariants.{Nothing, Field, Moved, Left}
+use Rattle.wild_layout.specs.declared.decision.Decision.TheVariants.{Nothing, Field, RelativeAddress, DynamicField}
 use Rattle.wild_layout.specs.SymbolValues.{sum, symbol_size}
 use Rattle.wild_layout.specs.SlotValues.{index_of, decided_address}
 use Rattle.wild_layout.specs.Merged.{address_for}
 use Rattle.wild_layout.specs.Values.{value_less, value_by, value_in, term_at}
 use Rattle.wild_layout.specs.SectionPlaces.{FieldLies}
-use Rattle.wild_layout.specs.Decide.{field_for, moved_to, added, left_to, sized_to, chosen_to, decide_by, decided}
-use Rattle.wild_layout.specs.Left.{left_by, left_entry, entry_for}
-use Rattle.wild_layout.proofs.ReachedLemmas.{ComesTo, reached_by}
+use Rattle.wild_layout.specs.Decide.{field_for, relative_decision, addend_bits, dynamic_decision, size_decision, ifunc_decision, decide_by, decided}
+use Rattle.wild_layout.specs.DynamicRelocations.{dynamic_relocation_by, dynamic_relocation, entry_for}
+use Rattle.wild_layout.proofs.ThunkFieldLemmas.{ComesTo, reached_by}
 pub use Rattle.wild_slot.proofs.TreatmentLemmas.{has_value, HasValue, IsSilent}
 use Rattle.wild_slot.proofs.TreatmentLemmas.{IsMovedBy, IsLeftBy, known_value, known_nothing, known_moved}
 pub use Rattle.wild_slot.proofs.TreatmentLemmas.{known_symbolic, known_indirect, known_extent}
@@ -110,13 +110,13 @@ field_from l s r row z v (Ok a) known treated kind given h =
 
 -- a field that is left to an entry
 abbrev IsLeftAlone : Decision → Type 0
-IsLeftAlone (Left z number symbol addend) = ⊤
+IsLeftAlone (DynamicField z number symbol addend) = ⊤
 IsLeftAlone other = ⊥
 
-left_alone : (d : Decision) (z : RelocationSize) (number : ℕ) (r : InputRelocation) (i : ℕ) (o : Option ℕ) → left_to z number r i o ≡ Ok d → IsLeftAlone d
+left_alone : (d : Decision) (z : RelocationSize) (number : ℕ) (r : InputRelocation) (i : ℕ) (o : Option ℕ) → dynamic_decision z number r i o ≡ Ok d → IsLeftAlone d
 left_alone d z number r i None h = cc
 left_alone d z number r i (Some index) h =
-    let e : Left z number index (added r) ≡ d = cc in
+    let e : DynamicField z number index (addend_bits r) ≡ d = cc in
     subst IsLeftAlone e tt
 
 -- a size that is left to an entry is in range, where it is known
@@ -124,7 +124,7 @@ pub record IsSizedTo (l : Layout) (r : InputRelocation) (row : RelocationKindInf
   pub left : o ≡ Ok d
   pub ranged : (is_replaceable l.kind (flags_at l i) || allows row (sum (symbol_size l i) r.addend)) ≡ true
 
-pub sized_parts : (l : Layout) (r : InputRelocation) (row : RelocationKindInfo) (i : ℕ) (o : Result Decision Fault) (d : Decision) → sized_to l r row i o ≡ Ok d → IsSizedTo l r row i o d
+pub sized_parts : (l : Layout) (r : InputRelocation) (row : RelocationKindInfo) (i : ℕ) (o : Result Decision Fault) (d : Decision) → size_decision l r row i o ≡ Ok d → IsSizedTo l r row i o d
 sized_parts l r row i (Err f) d h = cc
 sized_parts l r row i (Ok e) d h =
     elim (cases_Bool (is_replaceable l.kind (flags_at l i) || allows row (sum (symbol_size l i) r.addend))) [
@@ -133,21 +133,21 @@ sized_parts l r row i (Ok e) d h =
     ]
 
 -- the entry that it is left to
-pub sized_left : (l : Layout) (r : InputRelocation) (row : RelocationKindInfo) (i : ℕ) (d : Decision) → sized_to l r row i (left_to row.size r.number r i (index_of l i)) ≡ Ok d → left_to row.size r.number r i (index_of l i) ≡ Ok d
-sized_left l r row i d h = (sized_parts l r row i (left_to row.size r.number r i (index_of l i)) d h).left
+pub sized_left : (l : Layout) (r : InputRelocation) (row : RelocationKindInfo) (i : ℕ) (d : Decision) → size_decision l r row i (dynamic_decision row.size r.number r i (index_of l i)) ≡ Ok d → dynamic_decision row.size r.number r i (index_of l i) ≡ Ok d
+sized_left l r row i d h = (sized_parts l r row i (dynamic_decision row.size r.number r i (index_of l i)) d h).left
 
-chosen_alone : (d : Decision) (l : Layout) (r : InputRelocation) (a : Result ℕ Fault) → chosen_to l r a ≡ Ok d → IsLeftAlone d
+chosen_alone : (d : Decision) (l : Layout) (r : InputRelocation) (a : Result ℕ Fault) → ifunc_decision l r a ≡ Ok d → IsLeftAlone d
 chosen_alone d l r (Err f) h = cc
 chosen_alone d l r (Ok resolver) h =
-    elim (cases_Bool (added r == 0)) [
+    elim (cases_Bool (addend_bits r == 0)) [
       | inr f ↦ cc (rw f at h)
       | inl t ↦
-          (let made : Ok (Left (ByteSize Eight) (type_of l.machine Irelative) 0 resolver) ≡ Ok d = rw t at h in
-          let e : Left (ByteSize Eight) (type_of l.machine Irelative) 0 resolver ≡ d = cc in
+          (let made : Ok (DynamicField (ByteSize Eight) (type_of l.machine Irelative) 0 resolver) ≡ Ok d = rw t at h in
+          let e : DynamicField (ByteSize Eight) (type_of l.machine Irelative) 0 resolver ≡ d = cc in
           subst IsLeftAlone e tt)
     ]
 
-moved_is_no_field : (l : Layout) (s : Item) (r : InputRelocation) (z : RelocationSize) (v : ℕ) (a : Result ℕ Fault) → moved_to l s r a ≡ Ok (Field z v) → ⊥
+moved_is_no_field : (l : Layout) (s : Item) (r : InputRelocation) (z : RelocationSize) (v : ℕ) (a : Result ℕ Fault) → relative_decision l s r a ≡ Ok (Field z v) → ⊥
 moved_is_no_field l s r z v (Err f) h = cc
 moved_is_no_field l s r z v (Ok a) h = cc
 
@@ -165,11 +165,11 @@ pub decided_field : (l : Layout) (s : Item) (r : InputRelocation) (z : Relocatio
 unfolding decided
 decided_field l s r z v h = treated_field l s r (treatment l s.flags r) z v refl h
 
-value_is_not_moved : (l : Layout) (s : Item) (r : InputRelocation) (row : RelocationKindInfo) (v : ℕ) (packed : Bool) (a : Result ℕ Fault) → field_for l s r row a ≡ Ok (Moved v packed) → ⊥
+value_is_not_moved : (l : Layout) (s : Item) (r : InputRelocation) (row : RelocationKindInfo) (v : ℕ) (packed : Bool) (a : Result ℕ Fault) → field_for l s r row a ≡ Ok (RelativeAddress v packed) → ⊥
 value_is_not_moved l s r row v packed (Err f) h = cc
-value_is_not_moved l s r row v packed (Ok a) h = let e = (reached_by l s r row (value_in l row a r.addend (place_of s.address r)) (Moved v packed) h).is in cc
+value_is_not_moved l s r row v packed (Ok a) h = let e = (reached_by l s r row (value_in l row a r.addend (place_of s.address r)) (RelativeAddress v packed) h).is in cc
 
-moved_from : (l : Layout) (s : Item) (r : InputRelocation) (v : ℕ) (packed : Bool) (a : Result ℕ Fault) → treatment l s.flags r ≡ treatments.BaseRelative → address_for l r ≡ a → moved_to l s r a ≡ Ok (Moved v packed) → IsMoved l s r v packed
+moved_from : (l : Layout) (s : Item) (r : InputRelocation) (v : ℕ) (packed : Bool) (a : Result ℕ Fault) → treatment l s.flags r ≡ treatments.BaseRelative → address_for l r ≡ a → relative_decision l s r a ≡ Ok (RelativeAddress v packed) → IsMoved l s r v packed
 moved_from l s r v packed (Err f) treated is h = cc
 moved_from l s r v packed (Ok a) treated is h =
     let k = known_moved l s.flags r treated in
@@ -177,17 +177,17 @@ moved_from l s r v packed (Ok a) treated is h =
     let same : packs l (place_of s.address r) ≡ packed = cc in
     record { row = k.0; known = k.1; treated = treated; by = k.2; address = a; given = is; value = value; packs = same }
 
-treated_moved : (l : Layout) (s : Item) (r : InputRelocation) (t : Treatment) (v : ℕ) (packed : Bool) → treatment l s.flags r ≡ t → decide_by l s r t ≡ Ok (Moved v packed) → IsMoved l s r v packed
+treated_moved : (l : Layout) (s : Item) (r : InputRelocation) (t : Treatment) (v : ℕ) (packed : Bool) → treatment l s.flags r ≡ t → decide_by l s r t ≡ Ok (RelativeAddress v packed) → IsMoved l s r v packed
 treated_moved l s r treatments.Nothing v packed is h = cc
 treated_moved l s r (treatments.Value row) v packed is h = absurd (value_is_not_moved l s r row v packed (term_at l r row (place_of s.address r)) h)
 treated_moved l s r treatments.BaseRelative v packed is h = moved_from l s r v packed (address_for l r) is refl h
-treated_moved l s r (treatments.Symbolic i) v packed is h = absurd (left_alone (Moved v packed) (ByteSize Eight) (type_of l.machine Absolute) r i (index_of l i) h)
-treated_moved l s r (treatments.Indirect i) v packed is h = absurd (chosen_alone (Moved v packed) l r (decided_address l i) h)
-treated_moved l s r (treatments.Extent row i) v packed is h = absurd (left_alone (Moved v packed) row.size r.number r i (index_of l i) (sized_left l r row i (Moved v packed) h))
+treated_moved l s r (treatments.Symbolic i) v packed is h = absurd (left_alone (RelativeAddress v packed) (ByteSize Eight) (type_of l.machine Absolute) r i (index_of l i) h)
+treated_moved l s r (treatments.Indirect i) v packed is h = absurd (chosen_alone (RelativeAddress v packed) l r (decided_address l i) h)
+treated_moved l s r (treatments.Extent row i) v packed is h = absurd (left_alone (RelativeAddress v packed) row.size r.number r i (index_of l i) (sized_left l r row i (RelativeAddress v packed) h))
 treated_moved l s r treatments.Recompile v packed is h = cc
 treated_moved l s r treatments.Unsupported v packed is h = cc
 
-pub decided_moved : (l : Layout) (s : Item) (r : InputRelocation) (v : ℕ) (packed : Bool) → decided l s r ≡ Ok (Moved v packed) → IsMoved l s r v packed
+pub decided_moved : (l : Layout) (s : Item) (r : InputRelocation) (v : ℕ) (packed : Bool) → decided l s r ≡ Ok (RelativeAddress v packed) → IsMoved l s r v packed
 unfolding decided
 decided_moved l s r v packed h = treated_moved l s r (treatment l s.flags r) v packed refl h
 
@@ -231,7 +231,7 @@ value_is_some : (l : Layout) (s : Item) (r : InputRelocation) (row : RelocationK
 value_is_some l s r row (Err f) h = cc
 value_is_some l s r row (Ok a) h = let e = (reached_by l s r row (value_in l row a r.addend (place_of s.address r)) Nothing h).is in cc
 
-moved_is_some : (l : Layout) (s : Item) (r : InputRelocation) (a : Result ℕ Fault) → moved_to l s r a ≡ Ok Nothing → ⊥
+moved_is_some : (l : Layout) (s : Item) (r : InputRelocation) (a : Result ℕ Fault) → relative_decision l s r a ≡ Ok Nothing → ⊥
 moved_is_some l s r (Err f) h = cc
 moved_is_some l s r (Ok a) h = cc
 
@@ -257,9 +257,9 @@ pub record IsLeft (l : Layout) (s : Item) (r : InputRelocation) (z : RelocationS
   pub room : allocated s.flags ≡ true
   pub treated : Treatment
   pub is : treatment l s.flags r ≡ treated
-  pub left : is_left_to_entry treated ≡ true
-  pub made : decide_by l s r treated ≡ Ok (Left z number symbol addend)
-  pub entry : left_entry l s.address s.flags r ≡ entry_for (place_of s.address r) number symbol addend
+  pub left : has_dynamic_entry treated ≡ true
+  pub made : decide_by l s r treated ≡ Ok (DynamicField z number symbol addend)
+  pub entry : dynamic_relocation l s.address s.flags r ≡ entry_for (place_of s.address r) number symbol addend
 
 -- of an address in 8 bytes
 left_field : (l : Layout) (s : Item) (r : InputRelocation) (row : RelocationKindInfo) (i : ℕ) → row_of l.machine r.number ≡ Some row → IsLeftBy s.flags r.symbol row i → HasField l r (ByteSize Eight)
@@ -272,22 +272,22 @@ record IsLeftTo (z x : RelocationSize) (number n symbol addend a : ℕ) (o : Opt
   index : o ≡ Some symbol
   more : a ≡ addend
 
-left_parts : (z x : RelocationSize) (number n symbol addend : ℕ) (r : InputRelocation) (i : ℕ) (o : Option ℕ) → left_to z number r i o ≡ Ok (Left x n symbol addend) → IsLeftTo z x number n symbol addend (added r) o
+left_parts : (z x : RelocationSize) (number n symbol addend : ℕ) (r : InputRelocation) (i : ℕ) (o : Option ℕ) → dynamic_decision z number r i o ≡ Ok (DynamicField x n symbol addend) → IsLeftTo z x number n symbol addend (addend_bits r) o
 left_parts z x number n symbol addend r i None h = cc
 left_parts z x number n symbol addend r i (Some index) h =
     let size : z ≡ x = cc in
     let same : number ≡ n = cc in
     let there : index ≡ symbol = cc in
-    let more : added r ≡ addend = cc in
+    let more : addend_bits r ≡ addend = cc in
     record { size = size; type_is = same; index = ap (λ (k : ℕ). Some k) there; more = more }
 
-chosen_parts : (l : Layout) (x : RelocationSize) (n symbol addend : ℕ) (r : InputRelocation) (a : Result ℕ Fault) → chosen_to l r a ≡ Ok (Left x n symbol addend) → (ByteSize Eight ≡ x) × (type_of l.machine Irelative ≡ n) × (0 ≡ symbol) × (a ≡ Ok addend)
+chosen_parts : (l : Layout) (x : RelocationSize) (n symbol addend : ℕ) (r : InputRelocation) (a : Result ℕ Fault) → ifunc_decision l r a ≡ Ok (DynamicField x n symbol addend) → (ByteSize Eight ≡ x) × (type_of l.machine Irelative ≡ n) × (0 ≡ symbol) × (a ≡ Ok addend)
 chosen_parts l x n symbol addend r (Err f) h = cc
 chosen_parts l x n symbol addend r (Ok resolver) h =
-    elim (cases_Bool (added r == 0)) [
+    elim (cases_Bool (addend_bits r == 0)) [
       | inr f ↦ cc (rw f at h)
       | inl t ↦
-          (let e : Ok (Left (ByteSize Eight) (type_of l.machine Irelative) 0 resolver) ≡ Ok (Left x n symbol addend) = rw t at h in
+          (let e : Ok (DynamicField (ByteSize Eight) (type_of l.machine Irelative) 0 resolver) ≡ Ok (DynamicField x n symbol addend) = rw t at h in
           let size : ByteSize Eight ≡ x = cc in
           let same : type_of l.machine Irelative ≡ n = cc in
           let none : 0 ≡ symbol = cc in
@@ -295,15 +295,15 @@ chosen_parts l x n symbol addend r (Ok resolver) h =
           (size, same, none, ap (λ (k : ℕ). Ok k) is))
     ]
 
-value_is_not_left : (l : Layout) (s : Item) (r : InputRelocation) (row : RelocationKindInfo) (z : RelocationSize) (n symbol addend : ℕ) (a : Result ℕ Fault) → field_for l s r row a ≡ Ok (Left z n symbol addend) → ⊥
+value_is_not_left : (l : Layout) (s : Item) (r : InputRelocation) (row : RelocationKindInfo) (z : RelocationSize) (n symbol addend : ℕ) (a : Result ℕ Fault) → field_for l s r row a ≡ Ok (DynamicField z n symbol addend) → ⊥
 value_is_not_left l s r row z n symbol addend (Err f) h = cc
-value_is_not_left l s r row z n symbol addend (Ok a) h = let e = (reached_by l s r row (value_in l row a r.addend (place_of s.address r)) (Left z n symbol addend) h).is in cc
+value_is_not_left l s r row z n symbol addend (Ok a) h = let e = (reached_by l s r row (value_in l row a r.addend (place_of s.address r)) (DynamicField z n symbol addend) h).is in cc
 
-moved_is_not_left : (l : Layout) (s : Item) (r : InputRelocation) (z : RelocationSize) (n symbol addend : ℕ) (a : Result ℕ Fault) → moved_to l s r a ≡ Ok (Left z n symbol addend) → ⊥
+moved_is_not_left : (l : Layout) (s : Item) (r : InputRelocation) (z : RelocationSize) (n symbol addend : ℕ) (a : Result ℕ Fault) → relative_decision l s r a ≡ Ok (DynamicField z n symbol addend) → ⊥
 moved_is_not_left l s r z n symbol addend (Err f) h = cc
 moved_is_not_left l s r z n symbol addend (Ok a) h = cc
 
-treated_left : (l : Layout) (s : Item) (r : InputRelocation) (t : Treatment) (z : RelocationSize) (n symbol addend : ℕ) → treatment l s.flags r ≡ t → decide_by l s r t ≡ Ok (Left z n symbol addend) → IsLeft l s r z n symbol addend
+treated_left : (l : Layout) (s : Item) (r : InputRelocation) (t : Treatment) (z : RelocationSize) (n symbol addend : ℕ) → treatment l s.flags r ≡ t → decide_by l s r t ≡ Ok (DynamicField z n symbol addend) → IsLeft l s r z n symbol addend
 treated_left l s r treatments.Nothing z n symbol addend is h = cc
 treated_left l s r (treatments.Value row) z n symbol addend is h = absurd (value_is_not_left l s r row z n symbol addend (term_at l r row (place_of s.address r)) h)
 treated_left l s r treatments.BaseRelative z n symbol addend is h = absurd (moved_is_not_left l s r z n symbol addend (address_for l r) h)
@@ -317,10 +317,10 @@ treated_left l s r (treatments.Symbolic i) z n symbol addend is h =
       is = is;
       left = refl;
       made = h;
-      entry = ap (left_by l s.address r) is ∙ same p.type_is p.index p.more;
+      entry = ap (dynamic_relocation_by l s.address r) is ∙ same p.type_is p.index p.more;
     }
   where
-    same : type_of l.machine Absolute ≡ n → index_of l i ≡ Some symbol → added r ≡ addend → left_by l s.address r (treatments.Symbolic i) ≡ entry_for (place_of s.address r) n symbol addend
+    same : type_of l.machine Absolute ≡ n → index_of l i ≡ Some symbol → addend_bits r ≡ addend → dynamic_relocation_by l s.address r (treatments.Symbolic i) ≡ entry_for (place_of s.address r) n symbol addend
     same e f g = rw (e, f, g) refl
 treated_left l s r (treatments.Indirect i) z n symbol addend is h =
     let k = known_indirect l s.flags r i is in
@@ -332,14 +332,14 @@ treated_left l s r (treatments.Indirect i) z n symbol addend is h =
       is = is;
       left = refl;
       made = h;
-      entry = ap (left_by l s.address r) is ∙ same p.1 p.2 p.3;
+      entry = ap (dynamic_relocation_by l s.address r) is ∙ same p.1 p.2 p.3;
     }
   where
-    same : type_of l.machine Irelative ≡ n → 0 ≡ symbol → decided_address l i ≡ Ok addend → left_by l s.address r (treatments.Indirect i) ≡ entry_for (place_of s.address r) n symbol addend
+    same : type_of l.machine Irelative ≡ n → 0 ≡ symbol → decided_address l i ≡ Ok addend → dynamic_relocation_by l s.address r (treatments.Indirect i) ≡ entry_for (place_of s.address r) n symbol addend
     same e f g = rw (e, sym f, g) refl
 treated_left l s r (treatments.Extent row i) z n symbol addend is h =
     let k = known_extent l s.flags r row i is in
-    let p = left_parts row.size z r.number n symbol addend r i (index_of l i) (sized_left l r row i (Left z n symbol addend) h) in
+    let p = left_parts row.size z r.number n symbol addend r i (index_of l i) (sized_left l r row i (DynamicField z n symbol addend) h) in
     record {
       field = record { row = row; known = k.0; kind = ap has_value k.1.kind; size = p.size };
       room = k.1.room;
@@ -347,15 +347,15 @@ treated_left l s r (treatments.Extent row i) z n symbol addend is h =
       is = is;
       left = refl;
       made = h;
-      entry = ap (left_by l s.address r) is ∙ same p.type_is p.index p.more;
+      entry = ap (dynamic_relocation_by l s.address r) is ∙ same p.type_is p.index p.more;
     }
   where
-    same : r.number ≡ n → index_of l i ≡ Some symbol → added r ≡ addend → left_by l s.address r (treatments.Extent row i) ≡ entry_for (place_of s.address r) n symbol addend
+    same : r.number ≡ n → index_of l i ≡ Some symbol → addend_bits r ≡ addend → dynamic_relocation_by l s.address r (treatments.Extent row i) ≡ entry_for (place_of s.address r) n symbol addend
     same e f g = rw (e, f, g) refl
 treated_left l s r treatments.Recompile z n symbol addend is h = cc
 treated_left l s r treatments.Unsupported z n symbol addend is h = cc
 
-pub decided_left : (l : Layout) (s : Item) (r : InputRelocation) (z : RelocationSize) (n symbol addend : ℕ) → decided l s r ≡ Ok (Left z n symbol addend) → IsLeft l s r z n symbol addend
+pub decided_left : (l : Layout) (s : Item) (r : InputRelocation) (z : RelocationSize) (n symbol addend : ℕ) → decided l s r ≡ Ok (DynamicField z n symbol addend) → IsLeft l s r z n symbol addend
 unfolding decided
 decided_left l s r z n symbol addend h = treated_left l s r (treatment l s.flags r) z n symbol addend refl h
 
@@ -363,7 +363,7 @@ pub left_has : (l : Layout) (s : Item) (r : InputRelocation) (z : RelocationSize
 left_has l s r z n symbol addend h = h.field
 
 -- a value is below 2 ^ 64
-pub less_below : (l : Layout) (less : Taken) (s p : ℕ) (a : ℤ) → value_less l less s a p < 2 ^ 64
+pub less_below : (l : Layout) (less : Subtrahend) (s p : ℕ) (a : ℤ) → value_less l less s a p < 2 ^ 64
 less_below l taken.Nothing s p a = omega arith
 less_below l taken.Place s p a = omega arith
 less_below l taken.Table s p a = omega arith

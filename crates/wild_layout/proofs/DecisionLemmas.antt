@@ -19,7 +19,7 @@ use Rattle.std.specs.List.{list_all, filter}
 use Rattle.std.proofs.lemmas.Bool.{cases_Bool, not-true, eqb-true, and_parts}
 use Rattle.wild_words.proofs.Basics.{not_both, implied, listed_passes}
 use Rattle.wild_records.specs.Abi.Relocation as abi
-use Rattle.wild_reloc.specs.Expression.{taken_of, expression_of}
+use Rattle.wild_reloc.specs.Expression.{subtrahend_of, expression_of}
 use Rattle.wild_reloc.specs.Field.{allows}
 use Rattle.wild_reloc.specs.Table.{plain}
 use Rattle.wild_reloc.specs.TableX86_64.{x86_64_row}
@@ -68,18 +68,18 @@ use Rattle.wild_relax.specs.declared.row.SymbolTest.TheVariants as symbol
 use Rattle.wild_relax.specs.RowsAArch64.{rows_aarch64}
 use Rattle.wild_relax.specs.RewriteX86_64.{distance_type, change_of, number_written, or_nothing, is_aarch64, type_row, info_by, info_written, rewrite_of}
 use Rattle.wild_relax.proofs.RewriteLemmas.{typed, written_row, listed_type}
-use Rattle.wild_relax.specs.Linked.{keeps_bytes}
+use Rattle.wild_relax.specs.LinkedPattern.{keeps_bytes}
 use Rattle.wild_layout.specs.declared.decision.Decision.{Decision}
-use Rattle.wild_layout.specs.declared.decision.Decision.TheVariants.{Nothing, Field, Moved, Left, Rewritten, Partner}
+use Rattle.wild_layout.specs.declared.decision.Decision.TheVariants.{Nothing, Field, RelativeAddress, DynamicField, Rewritten, Partner}
 use Rattle.wild_types.specs.Lookups.{place_of}
 use Rattle.wild_layout.specs.SlotValues.{index_of, decided_address}
 use Rattle.wild_layout.specs.Merged.{names_merged, address_for}
 use Rattle.wild_layout.specs.Values.{term_of, value_by, value_less, value_in, is_own_place, term_by, term_at}
 use Rattle.wild_layout.specs.Choice.{choice_of, choice_on, takes_next, is_partner}
-use Rattle.wild_layout.specs.Decide.{field_for, reached, moved_to, added, left_to, chosen_to, decide_by, decided, field_at, place_to, value_to, term_to, rewritten_to, refused_with, decide_with, decide_at, decide}
+use Rattle.wild_layout.specs.Decide.{field_for, field_or_thunk, relative_decision, addend_bits, dynamic_decision, ifunc_decision, decide_by, decided, field_at, place_to, value_to, term_to, rewritten_decision, refused_sequence, decide_with, decide_at, decide}
 use Rattle.wild_slot.proofs.TreatmentLemmas.{HasValue, known_moved, known_symbolic, known_indirect, known_extent}
 use Rattle.wild_layout.proofs.ChoiceLemmas.{IsChosen, choice_row, IsChosenAArch64, choice_row_aarch64, is_listed, kept_listed, of_two, IsSequence, partner_is_taken, no_partner_aarch64, partner_number, loads, no_row, no_partner}
-use Rattle.wild_layout.proofs.ReachedLemmas.{ComesTo, IsReached, reached_by, comes_alone}
+use Rattle.wild_layout.proofs.ThunkFieldLemmas.{ComesTo, IsReached, reached_by, comes_alone}
 use Rattle.wild_layout.proofs.DecideLemmas.{HasField, sized_left}
 use Rattle.wild_layout.proofs.MergedLemmas.{term_plain}
 
@@ -95,27 +95,27 @@ value_keeps : (l : Layout) (s : Item) (r : InputRelocation) (row : RelocationKin
 value_keeps l s r row (Err f) d h = cc
 value_keeps l s r row (Ok a) d h = subst KeepsInstruction (reached_by l s r row (value_in l row a r.addend (place_of s.address r)) d h).is tt
 
-moved_keeps : (l : Layout) (s : Item) (r : InputRelocation) (a : Result ℕ Fault) (d : Decision) → moved_to l s r a ≡ Ok d → KeepsInstruction d
+moved_keeps : (l : Layout) (s : Item) (r : InputRelocation) (a : Result ℕ Fault) (d : Decision) → relative_decision l s r a ≡ Ok d → KeepsInstruction d
 moved_keeps l s r (Err f) d h = cc
-moved_keeps l s r (Ok a) (Moved v packed) h = tt
+moved_keeps l s r (Ok a) (RelativeAddress v packed) h = tt
 moved_keeps l s r (Ok a) Nothing h = tt
 moved_keeps l s r (Ok a) (Field z v) h = tt
-moved_keeps l s r (Ok a) (Left z number symbol addend) h = tt
+moved_keeps l s r (Ok a) (DynamicField z number symbol addend) h = tt
 moved_keeps l s r (Ok a) (Rewritten row v) h = cc
 moved_keeps l s r (Ok a) Partner h = cc
 
-left_keeps : (z : RelocationSize) (number : ℕ) (r : InputRelocation) (i : ℕ) (o : Option ℕ) (d : Decision) → left_to z number r i o ≡ Ok d → KeepsInstruction d
+left_keeps : (z : RelocationSize) (number : ℕ) (r : InputRelocation) (i : ℕ) (o : Option ℕ) (d : Decision) → dynamic_decision z number r i o ≡ Ok d → KeepsInstruction d
 left_keeps z number r i None d h = cc
-left_keeps z number r i (Some index) d h = let same : Left z number index (added r) ≡ d = cc in subst KeepsInstruction same tt
+left_keeps z number r i (Some index) d h = let same : DynamicField z number index (addend_bits r) ≡ d = cc in subst KeepsInstruction same tt
 
-chosen_keeps : (l : Layout) (r : InputRelocation) (a : Result ℕ Fault) (d : Decision) → chosen_to l r a ≡ Ok d → KeepsInstruction d
+chosen_keeps : (l : Layout) (r : InputRelocation) (a : Result ℕ Fault) (d : Decision) → ifunc_decision l r a ≡ Ok d → KeepsInstruction d
 chosen_keeps l r (Err f) d h = cc
 chosen_keeps l r (Ok resolver) d h =
-    elim (cases_Bool (added r == 0)) [
+    elim (cases_Bool (addend_bits r == 0)) [
       | inr f ↦ cc (rw f at h)
       | inl t ↦
-          (let e : Ok (Left (ByteSize Eight) (type_of l.machine Irelative) 0 resolver) ≡ Ok d = rw t at h in
-          let same : Left (ByteSize Eight) (type_of l.machine Irelative) 0 resolver ≡ d = cc in
+          (let e : Ok (DynamicField (ByteSize Eight) (type_of l.machine Irelative) 0 resolver) ≡ Ok d = rw t at h in
+          let same : DynamicField (ByteSize Eight) (type_of l.machine Irelative) 0 resolver ≡ d = cc in
           subst KeepsInstruction same tt)
     ]
 
@@ -218,14 +218,14 @@ unthunked written.GotOff64 h = refl
 unthunked other h = cc
 
 whole_value : (l : Layout) (info : RelocationKindInfo) (a : ℕ) (addend : ℤ) (p : ℕ) → info.mask ≡ None → value_in l info a addend p ≡ value_by l info.kind a addend p
-whole_value l info a addend p none = ap (λ (m : Option PageMask). value_less l (taken_of info.kind m) a addend p) none
+whole_value l info a addend p none = ap (λ (m : Option PageMask). value_less l (subtrahend_of info.kind m) a addend p) none
 
 known_on : (m : Machine) (row : Row) → m ≡ machine.X86_64 → is_aarch64 row.written ≡ false → row_of m (rewrite_of row).number ≡ Some (info_written row)
 unfolding row_of
 known_on machine.AArch64 row is type = cc
 known_on machine.X86_64 row is type = written_row row.written type
 
-row_makes : (l : Layout) (s : Item) (r : InputRelocation) (row : Row) (d : Decision) → l.machine ≡ machine.X86_64 → names_merged l r.symbol ≡ false → is_aarch64 row.written ≡ false → rewritten_to l s r row ≡ Ok d → IsMade l s r row d
+row_makes : (l : Layout) (s : Item) (r : InputRelocation) (row : Row) (d : Decision) → l.machine ≡ machine.X86_64 → names_merged l r.symbol ≡ false → is_aarch64 row.written ≡ false → rewritten_decision l s r row ≡ Ok d → IsMade l s r row d
 row_makes l s r row d x86 unmerged type h = by_term (term_to l r (info_written row) (place_to s r row)) refl h
   where
     made_of : (a v : ℕ) → term_to l r (info_written row) (place_to s r row) ≡ Ok a → value_in l (info_written row) a ((rewrite_of row).addend r.addend) (place_to s r row) ≡ v → allows (info_written row) v ≡ true
@@ -244,7 +244,7 @@ row_makes l s r row d x86 unmerged type h = by_term (term_to l r (info_written r
     }
 
     by_test : (a v : ℕ) (k b : Bool) → term_to l r (info_written row) (place_to s r row) ≡ Ok a → value_in l (info_written row) a ((rewrite_of row).addend r.addend) (place_to s r row) ≡ v → keeps_bytes row ≡ k → allows (info_written row) v ≡ b
-        → (if k then reached l s r (info_written row) v else (if b then Ok (Rewritten row v) else Err (faults.OutOfRange v))) ≡ Ok d → IsMade l s r row d
+        → (if k then field_or_thunk l s r (info_written row) v else (if b then Ok (Rewritten row v) else Err (faults.OutOfRange v))) ≡ Ok d → IsMade l s r row d
     by_test a v false false given value keeps allowed e = cc
     by_test a v false true given value keeps allowed e = let is : Rewritten row v ≡ d = cc in made_of a v given value allowed (rw keeps is)
     by_test a v true b given value keeps allowed e =
@@ -351,7 +351,7 @@ record IsMadeInPlace (l : Layout) (s : Item) (r : InputRelocation) (row : Row) (
   by : IsWrittenInPlace l s r row value
   is : Field (info_written row).size value ≡ d
 
-made_in_place : (l : Layout) (s : Item) (r : InputRelocation) (row : Row) (d : Decision) → IsDistance row → keeps_bytes row ≡ true → rewritten_to l s r row ≡ Ok d → IsMadeInPlace l s r row d
+made_in_place : (l : Layout) (s : Item) (r : InputRelocation) (row : Row) (d : Decision) → IsDistance row → keeps_bytes row ≡ true → rewritten_decision l s r row ≡ Ok d → IsMadeInPlace l s r row d
 made_in_place l s r row d goes k h = by_term (term_at l r (info_written row) (place_of s.address r)) refl (subst (λ (t : Result ℕ Fault). value_to l s r row t ≡ Ok d) asked h)
   where
     asked : term_to l r (info_written row) (place_to s r row) ≡ term_at l r (info_written row) (place_of s.address r)
@@ -367,8 +367,8 @@ made_in_place l s r row d goes k h = by_term (term_at l r (info_written row) (pl
     by_term (Ok a) given e =
         let v = value_in l (info_written row) a ((rewrite_of row).addend r.addend) (place_to s r row) in
         let value : v ≡ value_in l (info_written row) a r.addend (place_of s.address r) = ap (value_in l (info_written row) a ((rewrite_of row).addend r.addend)) (same_place s r row k) ∙ ap (λ (x : ℤ). value_in l (info_written row) a x (place_of s.address r)) (same_addend row r.addend k) in
-        let goes : reached l s r (info_written row) v ≡ Ok d = rw k at e in
-        by_reached a given (reached_by l s r (info_written row) (value_in l (info_written row) a r.addend (place_of s.address r)) d (subst (λ (w : ℕ). reached l s r (info_written row) w ≡ Ok d) value goes))
+        let goes : field_or_thunk l s r (info_written row) v ≡ Ok d = rw k at e in
+        by_reached a given (reached_by l s r (info_written row) (value_in l (info_written row) a r.addend (place_of s.address r)) d (subst (λ (w : ℕ). field_or_thunk l s r (info_written row) w ≡ Ok d) value goes))
 
 -- ---- the four ways
 
@@ -383,21 +383,21 @@ pub own_choice : (l : Layout) (s : Item) (i : ℕ) (r : InputRelocation) (d : De
 own_choice l s i r d own x86 = subst (λ (m : Machine). choice_on m l s i r ≡ Ok None) x86 own.choice
 
 -- a sequence that is not there has no decision
-pub refused : (l : Layout) (s : Item) (r : InputRelocation) (e : UnknownSequence) (d : Decision) → refused_with l s r e ≡ Ok d → ⊥
+pub refused : (l : Layout) (s : Item) (r : InputRelocation) (e : UnknownSequence) (d : Decision) → refused_sequence l s r e ≡ Ok d → ⊥
 refused l s r e d h = by_term l s r e d (term_to l r e.written (place_of s.address r)) refl h
   where
-    by_term : (l : Layout) (s : Item) (r : InputRelocation) (e : UnknownSequence) (d : Decision) (t : Result ℕ Fault) → term_to l r e.written (place_of s.address r) ≡ t → refused_with l s r e ≡ Ok d → ⊥
+    by_term : (l : Layout) (s : Item) (r : InputRelocation) (e : UnknownSequence) (d : Decision) (t : Result ℕ Fault) → term_to l r e.written (place_of s.address r) ≡ t → refused_sequence l s r e ≡ Ok d → ⊥
     by_term l s r e d (Err f) is h = cc (rw is at h)
     by_term l s r e d (Ok a) is h = cc (rw is at h)
 
 -- a row of AArch64 that changes a word, and what it comes to
 record IsMadeWord (l : Layout) (s : Item) (r : InputRelocation) (row : Row) (d : Decision) : Type 0 where
   changes : keeps_bytes row ≡ false
-  made : rewritten_to l s r row ≡ Ok d
+  made : rewritten_decision l s r row ≡ Ok d
   value : ℕ
   is : Rewritten row value ≡ d
 
-made_word : (l : Layout) (s : Item) (r : InputRelocation) (row : Row) (d : Decision) → keeps_bytes row ≡ false → rewritten_to l s r row ≡ Ok d → IsMadeWord l s r row d
+made_word : (l : Layout) (s : Item) (r : InputRelocation) (row : Row) (d : Decision) → keeps_bytes row ≡ false → rewritten_decision l s r row ≡ Ok d → IsMadeWord l s r row d
 made_word l s r row d k h = by_term (term_to l r (info_written row) (place_to s r row)) h
   where
     by_test : (v : ℕ) (b : Bool) → (if b then Ok (Rewritten row v) else Err (faults.OutOfRange v)) ≡ Ok d → IsMadeWord l s r row d
@@ -412,7 +412,7 @@ made_word l s r row d k h = by_term (term_to l r (info_written row) (place_to s 
 abbrev IsMadeThere : Layout → Item → InputRelocation → Row → Decision → Type 0
 IsMadeThere l s r row d = IsMadeInPlace l s r row d ⊎ IsMadeWord l s r row d
 
-made_there : (l : Layout) (s : Item) (i : ℕ) (r : InputRelocation) (row : Row) (d : Decision) → IsChosenAArch64 l s i r row → rewritten_to l s r row ≡ Ok d → IsMadeThere l s r row d
+made_there : (l : Layout) (s : Item) (i : ℕ) (r : InputRelocation) (row : Row) (d : Decision) → IsChosenAArch64 l s i r row → rewritten_decision l s r row ≡ Ok d → IsMadeThere l s r row d
 made_there l s i r row d c h =
     elim (cases_Bool (keeps_bytes row)) [
       | inl k ↦ inl (made_in_place l s r row d (distance_of row c.listed k) k h)
@@ -424,7 +424,7 @@ decide_cases : {P : Type 0} (l : Layout) (s : Item) (i : ℕ) (r : InputRelocati
 unfolding decide
 decide_cases {P} l s i r d listed h own made there taken = by_partner (is_partner l s i) refl h
   where
-    by_machine : (m : Machine) (row : Row) → l.machine ≡ m → choice_on m l s i r ≡ Ok (Some row) → rewritten_to l s r row ≡ Ok d → P
+    by_machine : (m : Machine) (row : Row) → l.machine ≡ m → choice_on m l s i r ≡ Ok (Some row) → rewritten_decision l s r row ≡ Ok d → P
     by_machine machine.X86_64 row on is e = (let c = choice_row l s r (slice_get s.relocations (i + 1)) row on is in made row c (row_makes l s r row d on c.plain (listed_type row (is_listed l s r (slice_get s.relocations (i + 1)) row c)) e))
     by_machine machine.AArch64 row on is e = (let c = choice_row_aarch64 l s i r row on listed is in there row c (made_there l s i r row d c e))
 
@@ -454,11 +454,11 @@ own_alone l s i r d listed h no_row no_call =
 pub decide_nothing : (l : Layout) (s : Item) (i : ℕ) (r : InputRelocation) → slice_get s.relocations i ≡ Some r → decide l s i ≡ Ok Nothing → IsOwn l s i r Nothing
 decide_nothing l s i r listed h = own_alone l s i r Nothing listed h (λ x. x) (λ e. cc)
 
-pub decide_moved : (l : Layout) (s : Item) (i : ℕ) (r : InputRelocation) (v : ℕ) (packed : Bool) → slice_get s.relocations i ≡ Some r → decide l s i ≡ Ok (Moved v packed) → IsOwn l s i r (Moved v packed)
-decide_moved l s i r v packed listed h = own_alone l s i r (Moved v packed) listed h (λ x. x) (λ e. cc)
+pub decide_moved : (l : Layout) (s : Item) (i : ℕ) (r : InputRelocation) (v : ℕ) (packed : Bool) → slice_get s.relocations i ≡ Some r → decide l s i ≡ Ok (RelativeAddress v packed) → IsOwn l s i r (RelativeAddress v packed)
+decide_moved l s i r v packed listed h = own_alone l s i r (RelativeAddress v packed) listed h (λ x. x) (λ e. cc)
 
-pub decide_left : (l : Layout) (s : Item) (i : ℕ) (r : InputRelocation) (z : RelocationSize) (number symbol addend : ℕ) → slice_get s.relocations i ≡ Some r → decide l s i ≡ Ok (Left z number symbol addend) → IsOwn l s i r (Left z number symbol addend)
-decide_left l s i r z number symbol addend listed h = own_alone l s i r (Left z number symbol addend) listed h (λ x. x) (λ e. cc)
+pub decide_left : (l : Layout) (s : Item) (i : ℕ) (r : InputRelocation) (z : RelocationSize) (number symbol addend : ℕ) → slice_get s.relocations i ≡ Some r → decide l s i ≡ Ok (DynamicField z number symbol addend) → IsOwn l s i r (DynamicField z number symbol addend)
+decide_left l s i r z number symbol addend listed h = own_alone l s i r (DynamicField z number symbol addend) listed h (λ x. x) (λ e. cc)
 
 -- ---- values of rows that keep the bytes around their field
 
@@ -603,7 +603,7 @@ pub record IsRewritten (l : Layout) (s : Item) (r : InputRelocation) (next : Opt
 pub record IsRewrittenAArch64 (l : Layout) (s : Item) (i : ℕ) (r : InputRelocation) (row : Row) (v : ℕ) : Type 0 where
   pub chosen : IsChosenAArch64 l s i r row
   pub changes : keeps_bytes row ≡ false
-  pub made : rewritten_to l s r row ≡ Ok (Rewritten row v)
+  pub made : rewritten_decision l s r row ≡ Ok (Rewritten row v)
   pub alone : is_partner l s i ≡ false
 
 abbrev pub IsRewrittenBy : Layout → Item → ℕ → InputRelocation → Row → ℕ → Type 0
@@ -633,7 +633,7 @@ decide_rewritten l s i r row v listed h = decide_cases l s i r (Rewritten row v)
         record {
           chosen = subst Q same c;
           changes = subst (λ (y : Row). keeps_bytes y ≡ false) same m.changes;
-          made = subst (λ (y : Row). rewritten_to l s r y ≡ Ok (Rewritten row v)) same m.made;
+          made = subst (λ (y : Row). rewritten_decision l s r y ≡ Ok (Rewritten row v)) same m.made;
           alone = no_partner_aarch64 l s i c.machine;
         }
 

@@ -16,16 +16,16 @@ use Rattle.wild_types.specs.declared.layout.Layout.{Layout}
 use Rattle.wild_types.specs.declared.layout.Thunk.{Thunk}
 use Rattle.wild_types.specs.FileSymbols.{copies_of, own_symbols}
 use Rattle.wild_types.specs.FileThunks.{thunks_of}
-use Rattle.wild_types.specs.Hollow.{is_hollow_role, KeepsAll}
-use Rattle.wild_types.specs.Lookups.{is_hollow_part}
+use Rattle.wild_types.specs.HeaderOnly.{is_header_only_role, KeepsAll}
+use Rattle.wild_types.specs.Lookups.{is_header_only_part}
 use Rattle.wild_types.proofs.LookupLemmas.{not_hollow_role, not_hollow_part}
 use Rattle.wild_slot.specs.SymbolWords.{slots_of}
-use Rattle.wild_clauses.specs.WellFormed.{first_clause}
-use Rattle.wild_laid.specs.Laid.{file_frames, frames_at, behind, of_last_file}
+use Rattle.wild_plan_rules.specs.WellFormed.{first_clause}
+use Rattle.wild_placement.specs.PlacedSections.{file_frames, frames_at, behind, of_last_file}
 use Rattle.wild_layout.specs.SymbolValues.{raw_address}
 use Rattle.wild_layout.specs.SlotValues.{index_of}
 use Rattle.wild_layout.specs.Thunks.{thunk_fault}
-use Rattle.wild_layout.specs.Faults.{flat_map_from, clause_errors, overlap_errors, sections_errors, sorted_errors, first_errors, files_errors, at_file, slot_refusal, slot_role, symbol_errors, slot_errors, copy_fault, fault_errors, copy_errors, thunk_error, thunk_errors, entry_errors, file_errors, listed_errors, table_errors, group_errors, errors, part_errors}
+use Rattle.wild_layout.specs.Faults.{flat_map_from, clause_errors, overlap_errors, sections_errors, sorted_errors, first_errors, files_errors, at_file, slot_refusal, slot_role, symbol_errors, slot_errors, copy_fault, fault_errors, copy_errors, thunk_error, thunk_errors, entry_errors, file_errors, exported_errors, table_errors, group_errors, errors, part_errors}
 use Rattle.wild_layout.specs.Geometry.{IsLaidOut, LayoutsAreLaidOut}
 
 pub clause_holds : (r : Result (Unit {0}) Clause) → clause_errors r ≡ [] → r ≡ Ok tt
@@ -96,12 +96,12 @@ first_of_file l g at k f h = rest_empty (thunk_errors l g k f) (first_errors l g
 pub slots_of_file : (l : Layout) (g at k : ℕ) (f : File) → KeepsAll l → file_errors l g at k f ≡ [] → All (HasWholeSlots l) (own_symbols l f)
 unfolding slot_errors
 slots_of_file l g at k f keeps h =
-    All-from_none (HasWholeSlots l) (symbol_errors l g k) f.first_symbol (own_symbols l f) (λ i s e. no_refusal (at_file g k) i (slots_of l s).fault (of_written (is_hollow_role l (slot_role l s)) (slot_refusal (at_file g k) i (slots_of l s).fault) (not_hollow_role l (slot_role l s) keeps) e)) (rest_empty (flat_map (copy_errors l g k) (copies_of f)) (slot_errors l g k f) (entries_of_file l g at k f h))
+    All-from_none (HasWholeSlots l) (symbol_errors l g k) f.first_symbol (own_symbols l f) (λ i s e. no_refusal (at_file g k) i (slots_of l s).fault (of_written (is_header_only_role l (slot_role l s)) (slot_refusal (at_file g k) i (slots_of l s).fault) (not_hollow_role l (slot_role l s) keeps) e)) (rest_empty (flat_map (copy_errors l g k) (copies_of f)) (slot_errors l g k f) (entries_of_file l g at k f h))
 
 -- the faults of the files of a group
 pub files_of_group : (l : Layout) (i : ℕ) (g : Group) → group_errors l i g ≡ [] → files_errors l i (frames_at l g) 0 g.files ≡ []
 unfolding group_errors
-files_of_group l i g h = first_empty (files_errors l i (frames_at l g) 0 g.files) (flat_map_from (listed_errors l i) 0 g.files ++ flat_map_from (table_errors l i) 0 g.files) h
+files_of_group l i g h = first_empty (files_errors l i (frames_at l g) 0 g.files) (flat_map_from (exported_errors l i) 0 g.files ++ flat_map_from (table_errors l i) 0 g.files) h
 
 -- what holds of each file without faults, where its frames begin so, holds of all that follow one another
 pub All-files : (l : Layout) (P : File → Type 0) (i at k : ℕ) (fs : List File) → ((at k : ℕ) (f : File) → file_errors l i at k f ≡ [] → P f) → files_errors l i at k fs ≡ [] → All P fs
@@ -145,7 +145,7 @@ pub thunks_of_file : (l : Layout) (g at k : ℕ) (f : File) → KeepsAll l → f
 unfolding thunk_errors
 thunks_of_file l g at k f keeps h =
     let none = first_empty (thunk_errors l g k f) (first_errors l g k f) (behind_entries l g at k f h) in
-    All-from_nothing (CanGoOn l) (thunk_error l (at_file g k)) (thunks_of l f) (λ t e. no_fault (at_file g k) (thunk_fault l t) e) (of_written (is_hollow_part l l.primary_part) (flat_map (thunk_error l (at_file g k)) (thunks_of l f)) (not_hollow_part l l.primary_part keeps) none)
+    All-from_nothing (CanGoOn l) (thunk_error l (at_file g k)) (thunks_of l f) (λ t e. no_fault (at_file g k) (thunk_fault l t) e) (of_written (is_header_only_part l l.primary_part) (flat_map (thunk_error l (at_file g k)) (thunks_of l f)) (not_hollow_part l l.primary_part keeps) none)
 
 pub thunks_of_groups : (l : Layout) → KeepsAll l → flat_map_from (group_errors l) 0 l.groups ≡ [] → All (λ (g : Group). All (λ (f : File). All (CanGoOn l) (thunks_of l f)) g.files) l.groups
 thunks_of_groups l keeps h = of_files l (λ (f : File). All (CanGoOn l) (thunks_of l f)) (λ i at k f n. thunks_of_file l i at k f keeps n) h

@@ -1,8 +1,8 @@
 pub mod FaultLemmas
 pub mod MergedLemmas
 pub mod ChoiceLemmas
-pub mod AskedLemmas
-pub mod ReachedLemmas
+pub mod QuestionLemmas
+pub mod ThunkFieldLemmas
 pub mod DecideLemmas
 pub mod DecisionLemmas
 pub mod SitesApart

@@ -21,7 +21,7 @@ use Rattle.wild_types.specs.Lookups.{files_of}
 use Rattle.wild_slot.specs.Treatment.{flags_at}
 use Rattle.wild_layout.specs.SlotValues.{address_of}
 use Rattle.wild_layout.specs.Values.{term_value, term_by}
-use Rattle.wild_layout.specs.Merged.{is_section_symbol, strings_of, strings_at, strings_told, is_plain_own, merged_strings, names_merged, address_by, address_named, address_for}
+use Rattle.wild_layout.specs.Merged.{is_section_symbol, strings_of, strings_at, strings_of_symbol, is_plain_own, merged_strings, names_merged, address_by, address_named, address_for}
 
 plain_by : (l : Layout) (r : InputRelocation) (i : ℕ) (o : Option (List MergedString)) → is_some o ≡ false → address_by l r i o ≡ address_of l (Some i)
 plain_by l r i None h = refl
@@ -58,7 +58,7 @@ none_by : (b : Bool) (o : Option (List MergedString)) → o ≡ None → (if b t
 none_by true o h = h
 none_by false o h = refl
 
-none_told : (fs : List File) (i : ℕ) (s : Symbol) → HaveNoStrings fs → strings_told fs i s ≡ None
+none_told : (fs : List File) (i : ℕ) (s : Symbol) → HaveNoStrings fs → strings_of_symbol fs i s ≡ None
 none_told [] i s h = refl
 none_told (f ∷ fs) i s h =
     elim (cases_Bool (nat_le f.first_symbol i && nat_lt i (f.first_symbol + f.symbol_count))) [
@@ -66,14 +66,14 @@ none_told (f ∷ fs) i s h =
       | inr n ↦ rw n (none_told fs i s (All-tail (λ (f : File). All (λ (s : InputSection). strings_of s ≡ None) f.sections) f fs h))
     ]
 
-none_symbol : (fs : List File) (i : ℕ) (o : Option Symbol) → HaveNoStrings fs → option_and_then (strings_told fs i) o ≡ None
+none_symbol : (fs : List File) (i : ℕ) (o : Option Symbol) → HaveNoStrings fs → option_and_then (strings_of_symbol fs i) o ≡ None
 none_symbol fs i None h = refl
 none_symbol fs i (Some s) h = none_told fs i s h
 
 -- so no symbol stands for merged strings
 pub none_merged : (l : Layout) (i : ℕ) → HaveNoStrings (files_of l.groups) → merged_strings l i ≡ None
 unfolding merged_strings
-none_merged l i h = none_by (is_plain_own (flags_at l i)) (option_and_then (strings_told (files_of l.groups) i) (slice_get l.symbols i)) (none_symbol (files_of l.groups) i (slice_get l.symbols i) h)
+none_merged l i h = none_by (is_plain_own (flags_at l i)) (option_and_then (strings_of_symbol (files_of l.groups) i) (slice_get l.symbols i)) (none_symbol (files_of l.groups) i (slice_get l.symbols i) h)
 
 pub none_named : (l : Layout) (o : Option ℕ) → HaveNoStrings (files_of l.groups) → names_merged l o ≡ false
 none_named l None h = refl

@@ -33,16 +33,16 @@ use Rattle.wild_reloc.specs.TableAArch64.{static_row, thread_row, aarch64_row}
 use Rattle.wild_relax.specs.declared.row.Row.{Row}
 use Rattle.wild_relax.specs.Rows.{rows_x86_64}
 use Rattle.wild_relax.specs.RowsAArch64.{rows_aarch64}
-use Rattle.wild_relax.specs.Linked.{keeps_bytes}
-use Rattle.wild_laid.specs.Turned.{turned_offset, turned, as_turned}
+use Rattle.wild_relax.specs.LinkedPattern.{keeps_bytes}
+use Rattle.wild_placement.specs.ReversedWords.{reversed_offset, reversed_section, with_word_order}
 use Rattle.wild_types.specs.declared.input.Slot.{Slot}
 use Rattle.wild_types.specs.declared.input.Slot.TheVariants as slot
-use Rattle.wild_laid.specs.Laid.{origins_of}
-use Rattle.wild_laid.specs.FrameInputs.{frames_of}
-use Rattle.wild_laid.specs.Laid.{entry_relocations, kept_relocations, laid_relocations, without_write, frame_flags, framed, laid_by, laid_section, without_relocations, unread}
-use Rattle.wild_laid.proofs.PlainLemmas.{unread_linked}
+use Rattle.wild_placement.specs.PlacedSections.{origins_of}
+use Rattle.wild_placement.specs.FrameInputs.{frames_of}
+use Rattle.wild_placement.specs.PlacedSections.{entry_relocations, kept_relocations, moved_relocations, without_write, frame_flags, placed_frames, placed_by, placed_section, without_relocations, unread}
+use Rattle.wild_placement.proofs.PlainLemmas.{unread_linked}
 use Rattle.wild_types.specs.Kinds.{is_partial_link}
-use Rattle.wild_laid.specs.Laid.{moved_by as moved_entry}
+use Rattle.wild_placement.specs.PlacedSections.{moved_relocation as moved_entry}
 use Rattle.wild_frames.specs.declared.entry.KeptEntry.{KeptEntry}
 use Rattle.wild_frames.specs.Frames.{Frames, State, start, behind, kept_of, found_in, kept_in}
 use Rattle.wild_frames.specs.Walks.{FieldLies}
@@ -70,9 +70,9 @@ record Moved : Type 0 where
   from : ℕ
   to : ℕ
 
-abbrev moved_by : Option InputRelocation → Option InputRelocation → Piece → Moved
-moved_by (Some o) (Some r) p = record { piece = p; from = o.offset; to = r.offset }
-moved_by a b p = record { piece = p; from = 0; to = 0 }
+abbrev moved_relocation : Option InputRelocation → Option InputRelocation → Piece → Moved
+moved_relocation (Some o) (Some r) p = record { piece = p; from = o.offset; to = r.offset }
+moved_relocation a b p = record { piece = p; from = 0; to = 0 }
 
 -- where it stands, and where it stands in the input
 abbrev here : Moved → Extent
@@ -82,12 +82,12 @@ abbrev there : Moved → Extent
 there m = extent_back m.from m.to m.piece
 
 abbrev moved_site : Layout → Item → List InputRelocation → ℕ → List Moved
-moved_site l s origins i = map (moved_by (slice_get origins i) (slice_get s.relocations i)) (site l s i)
+moved_site l s origins i = map (moved_relocation (slice_get origins i) (slice_get s.relocations i)) (site l s i)
 
 abbrev moved_sites : Layout → Item → List InputRelocation → List Moved
 moved_sites l s origins = flat_map (moved_site l s origins) (range_with_len 0 (length s.relocations))
 
-all_here : (a b : Option InputRelocation) (ps : List Piece) → map here (map (moved_by a b) ps) ≡ map extent_of ps
+all_here : (a b : Option InputRelocation) (ps : List Piece) → map here (map (moved_relocation a b) ps) ≡ map extent_of ps
 all_here a b [] = refl
 all_here (Some o) (Some r) (p ∷ ps) = ap (λ (es : List Extent). extent_of p ∷ es) (all_here (Some o) (Some r) ps)
 all_here (Some o) None (p ∷ ps) = ap (λ (es : List Extent). extent_of p ∷ es) (all_here (Some o) None ps)
@@ -96,7 +96,7 @@ all_here None b (p ∷ ps) = ap (λ (es : List Extent). extent_of p ∷ es) (all
 back_again : (k : ℕ) (p : Piece) → extent_back k k p ≡ extent_of p
 back_again k p = let e : p.at + k - k ≡ p.at = omega arith in rw e refl
 
-all_there : (a b : Option InputRelocation) (ps : List Piece) → map there (map (moved_by a b) ps) ≡ extents_by a b ps
+all_there : (a b : Option InputRelocation) (ps : List Piece) → map there (map (moved_relocation a b) ps) ≡ extents_by a b ps
 all_there (Some o) (Some r) [] = refl
 all_there (Some o) None [] = refl
 all_there None b [] = refl
@@ -164,10 +164,10 @@ stays_apart l s = record { count = refl; apart = λ none. sym (stays l s) ∙ no
 
 -- ---- a site by its relocation
 
-one_site : (P : Moved → Type 0) (a b : Option InputRelocation) (ps : List Piece) (o r : InputRelocation) (p : Piece) → a ≡ Some o → b ≡ Some r → ps ≡ p ∷ [] → P (record { piece = p; from = o.offset; to = r.offset }) → All P (map (moved_by a b) ps)
+one_site : (P : Moved → Type 0) (a b : Option InputRelocation) (ps : List Piece) (o r : InputRelocation) (p : Piece) → a ≡ Some o → b ≡ Some r → ps ≡ p ∷ [] → P (record { piece = p; from = o.offset; to = r.offset }) → All P (map (moved_relocation a b) ps)
 one_site P a b ps o r p is listed only h = rw (is, listed, only) (All-one P (record { piece = p; from = o.offset; to = r.offset }) h)
 
-no_site : (P : Moved → Type 0) (a b : Option InputRelocation) (ps : List Piece) → ps ≡ [] → All P (map (moved_by a b) ps)
+no_site : (P : Moved → Type 0) (a b : Option InputRelocation) (ps : List Piece) → ps ≡ [] → All P (map (moved_relocation a b) ps)
 no_site P a b ps none = rw none (All-nil P)
 
 -- a field of a relocation, with its place in the input
@@ -285,20 +285,20 @@ turned_back n x y p q nothing =
 record IsOrigin (n : ℕ) (origins : List InputRelocation) (i : ℕ) (r : InputRelocation) : Type 0 where
   origin : InputRelocation
   listed : slice_get origins i ≡ Some origin
-  is : r ≡ turned_offset n origin
+  is : r ≡ reversed_offset n origin
 
-origin_of : (n : ℕ) (origins : List InputRelocation) (i : ℕ) (r : InputRelocation) → slice_get (map (turned_offset n) origins) i ≡ Some r → IsOrigin n origins i r
-origin_of n origins i r h = by_origin (slice_get origins i) refl (sym (slice_get-map (turned_offset n) origins i) ∙ h)
+origin_of : (n : ℕ) (origins : List InputRelocation) (i : ℕ) (r : InputRelocation) → slice_get (map (reversed_offset n) origins) i ≡ Some r → IsOrigin n origins i r
+origin_of n origins i r h = by_origin (slice_get origins i) refl (sym (slice_get-map (reversed_offset n) origins i) ∙ h)
   where
-    by_origin : (o : Option InputRelocation) → slice_get origins i ≡ o → option_map (turned_offset n) o ≡ Some r → IsOrigin n origins i r
+    by_origin : (o : Option InputRelocation) → slice_get origins i ≡ o → option_map (reversed_offset n) o ≡ Some r → IsOrigin n origins i r
     by_origin None e h = cc
-    by_origin (Some o) e h = let is : r ≡ turned_offset n o = cc in record { origin = o; listed = e; is = is }
+    by_origin (Some o) e h = let is : r ≡ reversed_offset n o = cc in record { origin = o; listed = e; is = is }
 
-words_apart : (l : Layout) (s : Item) (n : ℕ) (origins : List InputRelocation) → s.relocations ≡ map (turned_offset n) origins → All (IsWord l.machine n) origins → MovesApart l s origins
+words_apart : (l : Layout) (s : Item) (n : ℕ) (origins : List InputRelocation) → s.relocations ≡ map (reversed_offset n) origins → All (IsWord l.machine n) origins → MovesApart l s origins
 words_apart l s n origins moved words = moves_by l s origins (IsTurned n) count (each_moved l s origins (IsTurned n) plain each) (turned_both n) (turned_back n)
   where
     count : length origins ≡ length s.relocations
-    count = sym (length-map origins (turned_offset n)) ∙ ap length (sym moved)
+    count = sym (length-map origins (reversed_offset n)) ∙ ap length (sym moved)
 
     from : (i : ℕ) (r : InputRelocation) → slice_get s.relocations i ≡ Some r → IsOrigin n origins i r
     from i r listed = origin_of n origins i r (subst (λ (rs : List InputRelocation). slice_get rs i ≡ Some r) moved listed)
@@ -322,8 +322,8 @@ words_apart l s n origins moved words = moves_by l s origins (IsTurned n) count 
         )
 
 -- a section whose words are reversed
-pub turned_apart : (l : Layout) (k : ℕ) (s : InputSection) → HasWords l.machine s → MovesApart l (item_with k (turned s)) s.relocations
-turned_apart l k s words = words_apart l (item_with k (turned s)) s.size s.relocations refl words.fields
+pub turned_apart : (l : Layout) (k : ℕ) (s : InputSection) → HasWords l.machine s → MovesApart l (item_with k (reversed_section s)) s.relocations
+turned_apart l k s words = words_apart l (item_with k (reversed_section s)) s.size s.relocations refl words.fields
 
 -- ---- frames
 
@@ -401,8 +401,8 @@ as_input fs =
     map-flat_map (λ (x : OfEntry). x.relocation) (of_entries fs) (kept_in fs)
     ∙ flat_map-same (λ k. map (λ (x : OfEntry). x.relocation) (of_entries fs k)) (entry_relocations fs) (kept_in fs) (λ k. map-map (λ (x : OfEntry). x.relocation) (of_entry k) (entry_relocations fs k) ∙ map-id (entry_relocations fs k))
 
-as_laid : (fs : Frames) → map (λ (x : OfEntry). moved_entry x.entry x.relocation) (all_of_entries fs) ≡ laid_relocations fs
-unfolding laid_relocations
+as_laid : (fs : Frames) → map (λ (x : OfEntry). moved_entry x.entry x.relocation) (all_of_entries fs) ≡ moved_relocations fs
+unfolding moved_relocations
 as_laid fs =
     map-flat_map (λ (x : OfEntry). moved_entry x.entry x.relocation) (of_entries fs) (kept_in fs)
     ∙ flat_map-same (λ k. map (λ (x : OfEntry). moved_entry x.entry x.relocation) (of_entries fs k)) (λ k. map (moved_entry k) (entry_relocations fs k)) (kept_in fs) (λ k. map-map (λ (x : OfEntry). moved_entry x.entry x.relocation) (of_entry k) (entry_relocations fs k))
@@ -534,7 +534,7 @@ record IsOfEntry (fs : Frames) (i : ℕ) (r : InputRelocation) : Type 0 where
   lies : LiesInEntry fs item
   is : r ≡ moved_entry item.entry item.relocation
 
-from_entry : (fs : Frames) (i : ℕ) (r : InputRelocation) → slice_get (laid_relocations fs) i ≡ Some r → IsOfEntry fs i r
+from_entry : (fs : Frames) (i : ℕ) (r : InputRelocation) → slice_get (moved_relocations fs) i ≡ Some r → IsOfEntry fs i r
 from_entry fs i r h = by_item (slice_get (all_of_entries fs) i) refl (sym (slice_get-map (λ (x : OfEntry). moved_entry x.entry x.relocation) (all_of_entries fs) i) ∙ ap (λ (rs : List InputRelocation). slice_get rs i) (as_laid fs) ∙ h)
   where
     by_item : (o : Option OfEntry) → slice_get (all_of_entries fs) i ≡ o → option_map (λ (x : OfEntry). moved_entry x.entry x.relocation) o ≡ Some r → IsOfEntry fs i r
@@ -545,7 +545,7 @@ from_entry fs i r h = by_item (slice_get (all_of_entries fs) i) refl (sym (slice
         record { item = x; listed = here ∙ ap (option_map (λ (x : OfEntry). x.relocation)) e; lies = holds_at (LiesInEntry fs) (all_of_entries fs) i x e (each_of_entries fs); is = is }
 
 -- an item of data whose relocations are those of kept entries
-frames_apart : (l : Layout) (s : Item) (fs : Frames) → s.relocations ≡ laid_relocations fs → executable s.flags ≡ false → ((r : InputRelocation) → fs.width r ≡ field_bytes l.machine r.number) → MovesApart l s (kept_relocations fs)
+frames_apart : (l : Layout) (s : Item) (fs : Frames) → s.relocations ≡ moved_relocations fs → executable s.flags ≡ false → ((r : InputRelocation) → fs.width r ≡ field_bytes l.machine r.number) → MovesApart l s (kept_relocations fs)
 frames_apart l s fs moved still wide = moves_by l s (kept_relocations fs) (IsInEntry fs) count (each_moved l s (kept_relocations fs) (IsInEntry fs) plain each) (entries_both fs) (entries_back fs)
   where
     count : length (kept_relocations fs) ≡ length s.relocations
@@ -581,25 +581,25 @@ frames_apart l s fs moved still wide = moves_by l s (kept_relocations fs) (IsInE
         (o.item.relocation, o.listed, ap (λ (x : InputRelocation). x.number) o.is, in_entry i r o)
 
 -- a section of frames as it stands
-pub framed_apart : (l : Layout) (f : File) (k at : ℕ) (s : InputSection) → MovesApart l (item_with k (framed l f at s)) (kept_relocations (frames_of l f s))
-framed_apart l f k at s = frames_apart l (item_with k (framed l f at s)) (frames_of l f s) refl (frames_are_data s.flags) (λ r. refl)
+pub framed_apart : (l : Layout) (f : File) (k at : ℕ) (s : InputSection) → MovesApart l (item_with k (placed_frames l f at s)) (kept_relocations (frames_of l f s))
+framed_apart l f k at s = frames_apart l (item_with k (placed_frames l f at s)) (frames_of l f s) refl (frames_are_data s.flags) (λ r. refl)
 
 -- ---- sections as they stand
 
 -- a section that is turned where its words are reversed
-pub turned_or_stays : (l : Layout) (k : ℕ) (s : InputSection) → (s.reversed ≡ true → HasWords l.machine s) → MovesApart l (item_with k (as_turned s)) s.relocations
-unfolding as_turned
+pub turned_or_stays : (l : Layout) (k : ℕ) (s : InputSection) → (s.reversed ≡ true → HasWords l.machine s) → MovesApart l (item_with k (with_word_order s)) s.relocations
+unfolding with_word_order
 turned_or_stays l k s words = by_test s.reversed words
   where
-    by_test : (b : Bool) → (b ≡ true → HasWords l.machine s) → MovesApart l (item_with k (if b then turned s else s)) s.relocations
+    by_test : (b : Bool) → (b ≡ true → HasWords l.machine s) → MovesApart l (item_with k (if b then reversed_section s else s)) s.relocations
     by_test true words = turned_apart l k s (words refl)
     by_test false words = stays_apart l (item_with k s)
 
-turned_read : (s : InputSection) → s.slot ≡ slot.Loaded → is_read (as_turned s) ≡ true → is_counted s ≡ true
-unfolding as_turned
+turned_read : (s : InputSection) → s.slot ≡ slot.Loaded → is_read (with_word_order s) ≡ true → is_counted s ≡ true
+unfolding with_word_order
 turned_read s is h = by_test s.reversed h
   where
-    by_test : (b : Bool) → is_read (if b then turned s else s) ≡ true → is_counted s ≡ true
+    by_test : (b : Bool) → is_read (if b then reversed_section s else s) ≡ true → is_counted s ≡ true
     by_test true h = rw is ((and_parts _ _ h).1)
     by_test false h = rw is ((and_parts _ _ h).1)
 
@@ -608,7 +608,7 @@ bare_words : (l : Layout) (s : InputSection) → HasWords l.machine s → HasWor
 bare_words l s h = record { whole = h.whole; bytes = h.bytes; fields = All-nil (IsWord l.machine s.size) }
 
 loaded_moves : (b : Bool) (l : Layout) (k : ℕ) (s : InputSection) → (is_counted s ≡ true → s.reversed ≡ true → HasWords l.machine s) → s.slot ≡ slot.Loaded
-    → is_read (as_turned (if b then without_relocations s else s)) ≡ true → MovesApart l (item_with k (as_turned (if b then without_relocations s else s))) (if b then without_relocations s else s).relocations
+    → is_read (with_word_order (if b then without_relocations s else s)) ≡ true → MovesApart l (item_with k (with_word_order (if b then without_relocations s else s))) (if b then without_relocations s else s).relocations
 loaded_moves true l k s words is h = turned_or_stays l k (without_relocations s) (λ r. bare_words l s (words (turned_read (without_relocations s) is h) r))
 loaded_moves false l k s words is h = turned_or_stays l k s (words (turned_read s is h))
 
@@ -619,20 +619,20 @@ not_read s x is n h =
     let both : true ≡ false = sym p ∙ (ap has_relocations is ∙ n) in
     cc
 
-turned_not_read : (s : InputSection) (x : Slot) → s.slot ≡ x → has_relocations x ≡ false → is_read (as_turned s) ≡ true → ⊥
-unfolding as_turned
+turned_not_read : (s : InputSection) (x : Slot) → s.slot ≡ x → has_relocations x ≡ false → is_read (with_word_order s) ≡ true → ⊥
+unfolding with_word_order
 turned_not_read s x is n h = by_test s.reversed h
   where
-    by_test : (b : Bool) → is_read (if b then turned s else s) ≡ true → ⊥
-    by_test true h = not_read (turned s) x is n h
+    by_test : (b : Bool) → is_read (if b then reversed_section s else s) ≡ true → ⊥
+    by_test true h = not_read (reversed_section s) x is n h
     by_test false h = not_read s x is n h
 
 -- a section of a file
-pub laid_moves : (l : Layout) (f : File) (k at : ℕ) (s : InputSection) → (is_counted s ≡ true → s.reversed ≡ true → HasWords l.machine s) → is_read (laid_section l f at s) ≡ true → MovesApart l (item_with k (laid_section l f at s)) (origins_of l f s)
-unfolding laid_section
+pub laid_moves : (l : Layout) (f : File) (k at : ℕ) (s : InputSection) → (is_counted s ≡ true → s.reversed ≡ true → HasWords l.machine s) → is_read (placed_section l f at s) ≡ true → MovesApart l (item_with k (placed_section l f at s)) (origins_of l f s)
+unfolding placed_section
 laid_moves l f k at s words h = by_slot s.slot refl h
   where
-    by_slot : (x : Slot) → s.slot ≡ x → is_read (laid_by x l f at s) ≡ true → MovesApart l (item_with k (laid_by x l f at s)) (if is_frame x then kept_relocations (frames_of l f s) else (unread l s).relocations)
+    by_slot : (x : Slot) → s.slot ≡ x → is_read (placed_by x l f at s) ≡ true → MovesApart l (item_with k (placed_by x l f at s)) (if is_frame x then kept_relocations (frames_of l f s) else (unread l s).relocations)
     by_slot slot.Loaded is h = loaded_moves (is_partial_link l.kind) l k s words is h
     by_slot slot.Frame is h = framed_apart l f k at s
     by_slot slot.Debug is h = absurd (turned_not_read s slot.Debug is refl h)
@@ -644,17 +644,17 @@ laid_moves l f k at s words h = by_slot s.slot refl h
 
 -- ---- sections that debuggers read
 
-turned_relocations : (s : InputSection) → length (as_turned s).relocations ≡ length s.relocations
-unfolding as_turned
-turned_relocations s = by_test s.reversed
+reversed_relocations : (s : InputSection) → length (with_word_order s).relocations ≡ length s.relocations
+unfolding with_word_order
+reversed_relocations s = by_test s.reversed
   where
-    by_test : (b : Bool) → length (if b then turned s else s).relocations ≡ length s.relocations
-    by_test true = length-map s.relocations (turned_offset s.size)
+    by_test : (b : Bool) → length (if b then reversed_section s else s).relocations ≡ length s.relocations
+    by_test true = length-map s.relocations (reversed_offset s.size)
     by_test false = refl
 
 -- such a section of an output that is no relocatable object stands with as many relocations as it has in the input
-pub debug_count : (l : Layout) (f : File) (at : ℕ) (s : InputSection) → is_partial_link l.kind ≡ false → s.slot ≡ slot.Debug → length (origins_of l f s) ≡ length (laid_section l f at s).relocations
-unfolding laid_section
+pub debug_count : (l : Layout) (f : File) (at : ℕ) (s : InputSection) → is_partial_link l.kind ≡ false → s.slot ≡ slot.Debug → length (origins_of l f s) ≡ length (placed_section l f at s).relocations
+unfolding placed_section
 debug_count l f at s whole is =
-    subst (λ (x : Slot). length (if is_frame x then kept_relocations (frames_of l f s) else (unread l s).relocations) ≡ length (laid_by x l f at s).relocations) (sym is)
-    (ap (λ (t : InputSection). length t.relocations) (unread_linked l s whole) ∙ sym (turned_relocations s))
+    subst (λ (x : Slot). length (if is_frame x then kept_relocations (frames_of l f s) else (unread l s).relocations) ≡ length (placed_by x l f at s).relocations) (sym is)
+    (ap (λ (t : InputSection). length t.relocations) (unread_linked l s whole) ∙ sym (reversed_relocations s))

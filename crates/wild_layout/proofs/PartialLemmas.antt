@@ -7,7 +7,7 @@ use Rattle.wild_words.specs.Words.{word}
 use Rattle.wild_words.proofs.Basics.{length-flat_map_each}
 use Rattle.wild_words.proofs.WordLemmas.{length-word}
 use Rattle.wild_records.specs.Relocations.{rela_size}
-use Rattle.wild_tables.proofs.EntryLemmas.{length-rela_bytes}
+use Rattle.wild_table_formats.proofs.EntryLemmas.{length-rela_bytes}
 use Rattle.wild_types.specs.declared.input.Slot.{Slot}
 use Rattle.wild_types.specs.declared.input.Slot.TheVariants as slot
 use Rattle.wild_types.specs.declared.input.InputSection.{InputSection}

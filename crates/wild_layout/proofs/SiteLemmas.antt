@@ -3,7 +3,7 @@ use Rattle.std.proofs.Common.{◌≡◌, ℕ, zero, suc, ◌+◌, ◌<◌, ◌�
 use Rattle.std.specs.Prelude.{Option, Some, None, Result, Ok, Err, All, Contains, slice_get, if◌then◌else◌}
 use Rattle.std.specs.List.{flat_map, range_with_len}
 use Rattle.std.proofs.lemmas.List.Elements.{Contains-append_left, Contains-append_right, All-nil, All-same}
-use Rattle.wild_words.specs.Overlay.{AreApart, Piece}
+use Rattle.wild_words.specs.Overlay.{AreDisjoint, Piece}
 use Rattle.wild_words.proofs.ListLemmas.{All-flat_map, holds_at}
 use Rattle.wild_words.proofs.Basics.{length-range}
 use Rattle.wild_types.specs.declared.fault.Fault.{Fault}
@@ -16,9 +16,9 @@ use Rattle.wild_reloc.specs.declared.info.RelocationSize.TheVariants.{ByteSize}
 use Rattle.wild_reloc.specs.declared.info.Width.TheVariants.{Eight}
 use Rattle.wild_reloc.proofs.PlaceLemmas.{length-size_written}
 use Rattle.wild_layout.specs.declared.decision.Decision.{Decision}
-use Rattle.wild_layout.specs.declared.decision.Decision.TheVariants.{Nothing, Field, Moved, Left, Rewritten, Partner}
+use Rattle.wild_layout.specs.declared.decision.Decision.TheVariants.{Nothing, Field, RelativeAddress, DynamicField, Rewritten, Partner}
 use Rattle.wild_relax.specs.declared.row.Row.{Row}
-use Rattle.wild_relax.specs.Linked.{pattern_size, keeps_bytes}
+use Rattle.wild_relax.specs.LinkedPattern.{pattern_size, keeps_bytes}
 use Rattle.wild_layout.specs.Decide.{decide}
 use Rattle.wild_layout.specs.Sites.{Written, written_by, field_site, template_start, template_site, site_by, site_for, site_of, site_at, site, sites, shared_byte, MovesApart}
 use Rattle.wild_layout.specs.SectionPlaces.{FieldLies}
@@ -74,8 +74,8 @@ pub record IsTemplateSite (l : Layout) (s : Item) (i : ℕ) : Type 0 where
 site_for_field : (s : Item) (r : InputRelocation) (d : Decision) (w : Written) → written_by d ≡ Some w → site_for s r d ≡ field_site s r.offset w.size w.value ∷ []
 site_for_field s r Nothing w by = cc
 site_for_field s r (Field z v) w by = ap (site_by s r) by
-site_for_field s r (Moved v packed) w by = ap (site_by s r) by
-site_for_field s r (Left z number symbol addend) w by = ap (site_by s r) by
+site_for_field s r (RelativeAddress v packed) w by = ap (site_by s r) by
+site_for_field s r (DynamicField z number symbol addend) w by = ap (site_by s r) by
 site_for_field s r (Rewritten row v) w by = cc
 site_for_field s r Partner w by = cc
 
@@ -113,8 +113,8 @@ site_cases l s i = listed l s i (slice_get s.relocations i) refl
     decision l s i r (Ok Nothing) e is = inl refl
     decision l s i r (Ok Partner) e is = inl refl
     decision l s i r (Ok (Field z v)) e is = field_of l s i r (Field z v) (record { size = z; value = v }) e is refl (decide_field_has l s i r z v e is)
-    decision l s i r (Ok (Moved v packed)) e is = field_of l s i r (Moved v packed) (record { size = ByteSize Eight; value = if packed then v else 0 }) e is refl (moved_has l s r v packed (decided_moved l s r v packed (decide_moved l s i r v packed e is).made))
-    decision l s i r (Ok (Left z number symbol addend)) e is = field_of l s i r (Left z number symbol addend) (record { size = z; value = 0 }) e is refl (left_has l s r z number symbol addend (decided_left l s r z number symbol addend (decide_left l s i r z number symbol addend e is).made))
+    decision l s i r (Ok (RelativeAddress v packed)) e is = field_of l s i r (RelativeAddress v packed) (record { size = ByteSize Eight; value = if packed then v else 0 }) e is refl (moved_has l s r v packed (decided_moved l s r v packed (decide_moved l s i r v packed e is).made))
+    decision l s i r (Ok (DynamicField z number symbol addend)) e is = field_of l s i r (DynamicField z number symbol addend) (record { size = z; value = 0 }) e is refl (left_has l s r z number symbol addend (decided_left l s r z number symbol addend (decide_left l s i r z number symbol addend e is).made))
     decision l s i r (Ok (Rewritten row v)) e is = inr (inr (record { relocation = r; listed = e; row = row; value = v; made = is; rewritten = decide_rewritten l s i r row v e is; is = site_rewritten l s i r row v e is }))
 
     listed : (l : Layout) (s : Item) (i : ℕ) (o : Option InputRelocation) → slice_get s.relocations i ≡ o → (site_at s (decide l s i) o ≡ []) ⊎ (IsSite l s i ⊎ IsTemplateSite l s i)
@@ -176,6 +176,6 @@ site_is_field l s i lies =
         All-same P _ _ x.is (All-one P (template_site s x.relocation x.row x.value) (template_lies s x.relocation x.row x.value (window_in l s i x.relocation x.row x.value x.rewritten)))
 
 -- the sites of an item lie in its bytes, each apart from the others
-pub sites_apart : (l : Layout) (s : Item) (origins : List InputRelocation) → All (FieldLies l.machine (length s.bytes)) s.relocations → MovesApart l s origins → shared_byte l s origins ≡ None → AreApart (length s.bytes) (sites l s)
+pub sites_apart : (l : Layout) (s : Item) (origins : List InputRelocation) → All (FieldLies l.machine (length s.bytes)) s.relocations → MovesApart l s origins → shared_byte l s origins ≡ None → AreDisjoint (length s.bytes) (sites l s)
 sites_apart l s origins lies moves none =
     fields_apart (sites l s) (length s.bytes) (All-flat_map (IsFieldIn (length s.bytes)) (site l s) (range_with_len 0 (length s.relocations)) (λ k d m. site_is_field l s (get_or (range_with_len 0 (length s.relocations)) k d) lies)) (moves.apart none)

@@ -3,7 +3,7 @@ use Rattle.std.proofs.Common.{◌≡◌, ℕ, ◌+◌, ◌<◌, ◌≤◌, List,
 use Rattle.std.specs.Prelude.{All, None}
 use Rattle.std.proofs.lemmas.List.{get_or-map, length-map}
 use Rattle.wild_words.specs.declared.extents.Extent.{Extent}
-use Rattle.wild_words.specs.Overlay.{Piece, Apart, AreApart}
+use Rattle.wild_words.specs.Overlay.{Piece, Disjoint, AreDisjoint}
 use Rattle.wild_words.specs.Extents.{SharesNothing, least_extent}
 use Rattle.wild_words.proofs.ExtentLemmas.{all-apart, apart-beside}
 use Rattle.wild_layout.specs.Sites.{extent_of}
@@ -13,10 +13,10 @@ pub record IsFieldIn (n : ℕ) (p : Piece) : Type 0 where
   pub ends : p.at + length p.bytes ≤ n
   pub some : 0 < length p.bytes
 
-beside : (p q : Piece) → 0 < length p.bytes → 0 < length q.bytes → SharesNothing (extent_of p) (extent_of q) → Apart p q
+beside : (p q : Piece) → 0 < length p.bytes → 0 < length q.bytes → SharesNothing (extent_of p) (extent_of q) → Disjoint p q
 beside p q some more nothing = apart-beside (extent_of p) (extent_of q) nothing (omega arith) (omega arith)
 
-pub fields_apart : (ps : List Piece) (n : ℕ) → All (IsFieldIn n) ps → least_extent (map extent_of ps) ≡ None → AreApart n ps
+pub fields_apart : (ps : List Piece) (n : ℕ) → All (IsFieldIn n) ps → least_extent (map extent_of ps) ≡ None → AreDisjoint n ps
 fields_apart ps n each none =
     let pairs = all-apart (map extent_of ps) none in
     let len = length-map ps extent_of in

@@ -1,6 +1,6 @@
 -- The rewrite (relaxation) that applies to a relocation's instruction.
 --   info_of l r            what the rows of rewrites check of a relocation; `nameless` without its symbol's name
---   asked_of ..            what they check of one of some relocations, whose symbol is i
+--   question_for ..            what they check of one of some relocations, whose symbol is i
 --   question_of ..         the same for x86-64, with the next relocation
 --   question_around ..     the same for AArch64, with the relocations of its sequence
 --   choice_of l s r next   the row of x86-64 that applies, or why it is refused
@@ -25,9 +25,9 @@ use Rattle.wild_relax.specs.Question.{Question, no_relocation}
 use Rattle.wild_relax.specs.Rewrite.{is_skip}
 use Rattle.wild_relax.specs.declared.row.Written.TheVariants as written
 use Rattle.wild_relax.specs.RewriteX86_64.{rewrite_of, info_by}
-use Rattle.wild_relax.specs.Rows.{chosen_x86_64}
+use Rattle.wild_relax.specs.Rows.{chosen_row_x86_64}
 use Rattle.wild_relax.specs.SequenceAArch64.{words_before}
-use Rattle.wild_relax.specs.Relaxation.{chosen_of}
+use Rattle.wild_relax.specs.Relaxation.{chosen_row_of}
 use Rattle.wild_types.specs.Addresses.{raw_value}
 use Rattle.wild_layout.specs.Merged.{names_merged}
 
@@ -53,8 +53,8 @@ nameless r = record { number = r.number; offset = r.offset; symbol = r.symbol; a
 
 -- what they check of one of these relocations, whose symbol is i: the flags are those of its definition, and the value is its
 -- address in the layout
-abbrev pub asked_of : Layout → Item → ℕ → List RelocationInfo → ℕ → Question
-asked_of l s i infos at = record {
+abbrev pub question_for : Layout → Item → ℕ → List RelocationInfo → ℕ → Question
+question_for l s i infos at = record {
   relocations = infos;
   at = at;
   bytes = s.bytes;
@@ -73,7 +73,7 @@ abbrev pub infos_of : Layout → Option InputRelocation → Option InputRelocati
 infos_of l r next = option_to_list (option_map (info_of l) r) ++ option_to_list (option_map (info_of l) next)
 
 abbrev pub question_of : Layout → Item → InputRelocation → ℕ → Option InputRelocation → Question
-question_of l s r i next = asked_of l s i (infos_of l (Some r) next) 0
+question_of l s r i next = question_for l s i (infos_of l (Some r) next) 0
 
 -- references to thread-local storage that are rewritten in each executable
 abbrev pub is_thread_type : ℕ → Bool
@@ -92,7 +92,7 @@ merged_on machine.AArch64 r = Ok None
 -- needed here
 unfoldable pub choice_by : Layout → Item → InputRelocation → Option InputRelocation → Option ℕ → Result (Option Row) UnknownSequence
 choice_by l s r next None = Ok None
-choice_by l s r next (Some i) = if r.number == r_x86_64_pc32 then Ok None else if names_merged l (Some i) then choice_merged r else chosen_x86_64 (question_of l s r i next)
+choice_by l s r next (Some i) = if r.number == r_x86_64_pc32 then Ok None else if names_merged l (Some i) then choice_merged r else chosen_row_x86_64 (question_of l s r i next)
 
 abbrev pub choice_of : Layout → Item → InputRelocation → Option InputRelocation → Result (Option Row) UnknownSequence
 choice_of l s r next = choice_by l s r next r.symbol
@@ -112,11 +112,11 @@ abbrev pub first_of : InputRelocation → ℕ → ℕ
 first_of r i = i - words_before r.number
 
 abbrev pub question_around : Layout → Item → ℕ → InputRelocation → ℕ → Question
-question_around l s i r symbol = asked_of l s symbol (infos_from s.relocations (first_of r i)) (i - first_of r i)
+question_around l s i r symbol = question_for l s symbol (infos_from s.relocations (first_of r i)) (i - first_of r i)
 
 unfoldable pub choice_around_by : Layout → Item → ℕ → InputRelocation → Option ℕ → Result (Option Row) UnknownSequence
 choice_around_by l s i r None = Ok None
-choice_around_by l s i r (Some symbol) = if names_merged l (Some symbol) then Ok None else chosen_of machine.AArch64 (question_around l s i r symbol)
+choice_around_by l s i r (Some symbol) = if names_merged l (Some symbol) then Ok None else chosen_row_of machine.AArch64 (question_around l s i r symbol)
 
 abbrev pub choice_around : Layout → Item → ℕ → InputRelocation → Result (Option Row) UnknownSequence
 choice_around l s i r = choice_around_by l s i r r.symbol

@@ -1,6 +1,6 @@
 -- What a group contributes to the parts.
---   whole_bytes l r   a table that the image has once, by role; empty for the other roles
---   own_bytes l r f   what a file contributes to a part that a loader reads
+--   unique_table l r   a table that the image has once, by role; empty for the other roles
+--   file_part_bytes l r f   what a file contributes to a part that a loader reads
 --   content l r g     the bytes that a group contributes to a part of that role: the first file's group has the headers and
 --                     the names; the input sections of a raw part are not among them
 use Rattle.std.specs.Prelude.{ℕ, ◌-◌, ◌*◌, Bool, true, false, ◌&&◌, List, [], ◌∷◌, ◌++◌, length, map, if◌then◌else◌, Option, Some, None, slice_get}
@@ -20,49 +20,49 @@ use Rattle.wild_needs.specs.Needs.{has_last}
 use Rattle.wild_types.specs.Kinds.{needs_dynsym}
 use Rattle.wild_needs.specs.TableSymbols.{has_long, table_strings}
 use Rattle.wild_hashes.specs.Tables.{sysv_hash_of, gnu_hash_of, gnu_header, gnu_table, sysv_table}
-use Rattle.wild_versions.specs.Symbols.{version_bytes}
-use Rattle.wild_versions.specs.Names.{symbol_versions, file_definitions, group_needs}
-use Rattle.wild_symbols.specs.Strings.{string_bytes}
-use Rattle.wild_symbols.specs.TableEntries.{file_table, table_entries, long_indexes, index_bytes}
-use Rattle.wild_symbols.specs.Symbols.{symbol_bytes}
-use Rattle.wild_symbols.specs.DynamicEntries.{group_symbols}
+use Rattle.wild_table_formats.specs.SymbolVersions.{version_bytes}
+use Rattle.wild_table_formats.specs.VersionNames.{symbol_versions, file_definitions, group_needs}
+use Rattle.wild_table_formats.specs.Strings.{string_bytes}
+use Rattle.wild_table_formats.specs.TableEntries.{file_table, table_entries, long_indexes, index_bytes}
+use Rattle.wild_table_formats.specs.Symbols.{symbol_bytes}
+use Rattle.wild_table_formats.specs.DynamicEntries.{group_symbols}
 use Rattle.wild_types.specs.FileRoles.{is_prelude, is_epilogue}
 use Rattle.wild_types.specs.Shares.{share_of}
-use Rattle.wild_relr.specs.Written.{word_bytes}
-use Rattle.wild_tables.specs.Entries.{rela_bytes}
-use Rattle.wild_tables.specs.Dynamic.{entries_bytes, dynamic_bytes}
-use Rattle.wild_layout.specs.Moved.{file_entries, file_words}
-use Rattle.wild_layout.specs.Left.{file_generals}
+use Rattle.wild_relr.specs.WriterState.{word_bytes}
+use Rattle.wild_table_formats.specs.RelativeEntries.{rela_bytes}
+use Rattle.wild_table_formats.specs.DynamicSection.{entries_bytes, dynamic_bytes}
+use Rattle.wild_layout.specs.RelativeRelocations.{file_entries, file_words}
+use Rattle.wild_layout.specs.DynamicRelocations.{file_generals}
 use Rattle.wild_types.specs.declared.input.InputSection.{InputSection}
 use Rattle.wild_types.specs.Item.{item_of}
 use Rattle.wild_types.specs.Lookups.{is_frame}
 use Rattle.wild_frames.specs.Frames.{terminator}
-use Rattle.wild_laid.specs.Laid.{laid_files, of_last_file}
+use Rattle.wild_placement.specs.PlacedSections.{placed_files, of_last_file}
 use Rattle.wild_layout.specs.Sites.{item_bytes}
 use Rattle.wild_layout.specs.Notes.{build_id_note, property_note}
 use Rattle.wild_layout.specs.SearchTable.{search_table}
 use Rattle.wild_layout.specs.SlotBytes.{slot_bytes, header_bytes, block_bytes}
-use Rattle.wild_headers.specs.Headers.{file_header_bytes, program_header_bytes, section_header_bytes, names_of}
+use Rattle.wild_table_formats.specs.Headers.{file_header_bytes, program_header_bytes, section_header_bytes, names_of}
 
 -- a table that the image has once, by role; empty for the other roles
-abbrev pub whole_bytes : Layout → Role → List ℕ
-whole_bytes l role.FileHeader = file_header_bytes l
-whole_bytes l role.ProgramHeaders = program_header_bytes l
-whole_bytes l role.SectionHeaders = section_header_bytes l
-whole_bytes l role.Shstrtab = names_of l
-whole_bytes l role.EhFrameHdr = search_table l
-whole_bytes l role.Interp = l.interp
-whole_bytes l other = []
+abbrev pub unique_table : Layout → Role → List ℕ
+unique_table l role.FileHeader = file_header_bytes l
+unique_table l role.ProgramHeaders = program_header_bytes l
+unique_table l role.SectionHeaders = section_header_bytes l
+unique_table l role.Shstrtab = names_of l
+unique_table l role.EhFrameHdr = search_table l
+unique_table l role.Interp = l.interp
+unique_table l other = []
 
 -- ---- what a loader reads
 
 -- the size of the last file's room in the dynamic section: the last group's share minus its DT_NEEDED entries
-abbrev pub room_behind : Layout → Option Group → ℕ
-room_behind l None = 0
-room_behind l (Some g) = share_of l (length l.groups - 1) role.Dynamic - dynamic_entry_size * length (needed_entries l g)
+abbrev pub last_file_room : Layout → Option Group → ℕ
+last_file_room l None = 0
+last_file_room l (Some g) = share_of l (length l.groups - 1) role.Dynamic - dynamic_entry_size * length (needed_entries l g)
 
 abbrev pub dynamic_room : Layout → ℕ
-dynamic_room l = room_behind l (slice_get l.groups (length l.groups - 1))
+dynamic_room l = last_file_room l (slice_get l.groups (length l.groups - 1))
 
 -- the hash tables of the symbols that the output defines (gABI, "Hash Table"; GNU, "DT_GNU_HASH")
 abbrev pub sysv_bytes : Layout → Option SysvHash → List ℕ
@@ -96,26 +96,26 @@ frames_bytes l f = flat_map (frame_bytes_of l f) f.sections ++ of_last_file f (e
 -- by role: RELA entries and RELR words; strings, each with a zero; versions of symbols, and those that the output defines; hash tables;
 -- extended section indexes (gABI, "Relocation", "Relative Relocation Table", "String Table", "Hash Table", "Symbol Table"; LSB,
 -- "Symbol Versioning"); frames; notes
-abbrev pub own_bytes : Layout → Role → File → List ℕ
-own_bytes l role.RelaDynRelative f = rela_bytes (file_entries l f)
-own_bytes l role.RelaDynGeneral f = rela_bytes (file_generals l f)
-own_bytes l role.RelrDyn f = word_bytes (file_words l f)
-own_bytes l role.Dynstr f = string_bytes (file_strings l f)
-own_bytes l role.GnuVersion f = version_bytes (symbol_versions l f)
-own_bytes l role.GnuVersionD f = file_definitions l f
-own_bytes l role.SysvHash f = of_last l f (sysv_bytes l l.sysv_hash)
-own_bytes l role.GnuHash f = of_last l f (gnu_bytes l l.gnu_hash)
-own_bytes l role.SymtabShndxLocal f = indexes_of l role.SymtabShndxLocal true f
-own_bytes l role.SymtabShndxGlobal f = indexes_of l role.SymtabShndxGlobal false f
-own_bytes l role.Strtab f = string_bytes (table_strings l f)
-own_bytes l role.EhFrame f = frames_bytes l f
-own_bytes l role.BuildId f = of_last_file f (build_id_note l.build_id)
-own_bytes l role.Property f = of_last_file f (property_note l.properties)
-own_bytes l other f = []
+abbrev pub file_part_bytes : Layout → Role → File → List ℕ
+file_part_bytes l role.RelaDynRelative f = rela_bytes (file_entries l f)
+file_part_bytes l role.RelaDynGeneral f = rela_bytes (file_generals l f)
+file_part_bytes l role.RelrDyn f = word_bytes (file_words l f)
+file_part_bytes l role.Dynstr f = string_bytes (file_strings l f)
+file_part_bytes l role.GnuVersion f = version_bytes (symbol_versions l f)
+file_part_bytes l role.GnuVersionD f = file_definitions l f
+file_part_bytes l role.SysvHash f = of_last l f (sysv_bytes l l.sysv_hash)
+file_part_bytes l role.GnuHash f = of_last l f (gnu_bytes l l.gnu_hash)
+file_part_bytes l role.SymtabShndxLocal f = indexes_of l role.SymtabShndxLocal true f
+file_part_bytes l role.SymtabShndxGlobal f = indexes_of l role.SymtabShndxGlobal false f
+file_part_bytes l role.Strtab f = string_bytes (table_strings l f)
+file_part_bytes l role.EhFrame f = frames_bytes l f
+file_part_bytes l role.BuildId f = of_last_file f (build_id_note l.build_id)
+file_part_bytes l role.Property f = of_last_file f (property_note l.properties)
+file_part_bytes l other f = []
 
 -- the bytes that a file contributes to a part of that role
 abbrev pub file_content : Layout → Role → File → List ℕ
-file_content l r f = (if is_prelude f.role then whole_bytes l r ++ header_bytes l r else []) ++ own_bytes l r f ++ slot_bytes l r f
+file_content l r f = (if is_prelude f.role then unique_table l r ++ header_bytes l r else []) ++ file_part_bytes l r f ++ slot_bytes l r f
 
 -- the entries of a group in the dynamic section: DT_NEEDED of its libraries, and all others for the group of the last file (gABI,
 -- "Dynamic Section")
@@ -140,4 +140,4 @@ group_bytes l r g = block_bytes l r g
 -- the bytes that a group contributes to a part of that role: those of its files, with placed sections, and then those that depend on all
 -- its files together
 abbrev pub content : Layout → Role → Group → List ℕ
-content l r g = flat_map (file_content l r) (laid_files l g) ++ group_bytes l r g
+content l r g = flat_map (file_content l r) (placed_files l g) ++ group_bytes l r g

@@ -23,7 +23,7 @@ use Rattle.wild_layout.specs.declared.decision.Decision.{Decision}
 use Rattle.wild_layout.specs.declared.decision.Decision.TheVariants.{Nothing, Field}
 use Rattle.wild_layout.specs.SymbolValues.{sum, raw_address}
 use Rattle.wild_layout.specs.Merged.{address_for, names_merged}
-use Rattle.wild_layout.specs.Values.{behind, pointer_offset}
+use Rattle.wild_layout.specs.Values.{offset_from, pointer_offset}
 use Rattle.wild_layout.specs.Decide.{field}
 
 -- ---- tombstones
@@ -46,38 +46,38 @@ tombstone_field l s row = if l.options.new_tombstones then Ok (Field row.size (t
 -- ---- values
 
 -- S + A, or the fault of S
-abbrev pub added_to : InputRelocation → RelocationKindInfo → Result ℕ Fault → Result Decision Fault
-added_to r row (Err f) = Err f
-added_to r row (Ok a) = field row (sum a r.addend)
+abbrev pub field_of_sum : InputRelocation → RelocationKindInfo → Result ℕ Fault → Result Decision Fault
+field_of_sum r row (Err f) = Err f
+field_of_sum r row (Ok a) = field row (sum a r.addend)
 
 -- of a symbol with an address: the address, its offset in the thread-local data, or its offset from the thread pointer; other kinds are
 -- refused
-abbrev pub valued : Layout → InputRelocation → ℕ → RelocationKindInfo → RelocationKind → Result Decision Fault
-valued l r i row kinds.Absolute = added_to r row (address_for l r)
-valued l r i row kinds.DtpOff = added_to r row (behind l.tls.start (raw_address l (Some i)))
-valued l r i row kinds.TpOff = added_to r row (pointer_offset l (Some i))
-valued l r i row other = Err (faults.UnsupportedRelocation r.number)
+abbrev pub field_of_address : Layout → InputRelocation → ℕ → RelocationKindInfo → RelocationKind → Result Decision Fault
+field_of_address l r i row kinds.Absolute = field_of_sum r row (address_for l r)
+field_of_address l r i row kinds.DtpOff = field_of_sum r row (offset_from l.tls.start (raw_address l (Some i)))
+field_of_address l r i row kinds.TpOff = field_of_sum r row (pointer_offset l (Some i))
+field_of_address l r i row other = Err (faults.UnsupportedRelocation r.number)
 
 -- of a symbol without an address: the merged string's address, or the tombstone, whatever the kind
-abbrev pub unvalued : Layout → InputSection → InputRelocation → ℕ → RelocationKindInfo → Result Decision Fault
-unvalued l s r i row = if names_merged l (Some i) then added_to r row (address_for l r) else tombstone_field l s row
+abbrev pub field_without_address : Layout → InputSection → InputRelocation → ℕ → RelocationKindInfo → Result Decision Fault
+field_without_address l s r i row = if names_merged l (Some i) then field_of_sum r row (address_for l r) else tombstone_field l s row
 
 abbrev pub by_address : Layout → InputSection → InputRelocation → ℕ → RelocationKindInfo → Option ℕ → Result Decision Fault
-by_address l s r i row None = unvalued l s r i row
-by_address l s r i row (Some v) = valued l r i row row.kind
+by_address l s r i row None = field_without_address l s r i row
+by_address l s r i row (Some v) = field_of_address l r i row row.kind
 
 -- without a symbol: A, if the kind is an absolute address
-abbrev pub unnamed : InputRelocation → RelocationKindInfo → RelocationKind → Result Decision Fault
-unnamed r row kinds.Absolute = field row (cast_unsigned w64 r.addend)
-unnamed r row other = Err (faults.UnsupportedRelocation r.number)
+abbrev pub field_without_symbol : InputRelocation → RelocationKindInfo → RelocationKind → Result Decision Fault
+field_without_symbol r row kinds.Absolute = field row (cast_unsigned w64 r.addend)
+field_without_symbol r row other = Err (faults.UnsupportedRelocation r.number)
 
-abbrev pub named_by : Layout → InputSection → InputRelocation → RelocationKindInfo → Option ℕ → Result Decision Fault
-named_by l s r row None = unnamed r row row.kind
-named_by l s r row (Some i) = by_address l s r i row (raw_value l i)
+abbrev pub field_by_symbol : Layout → InputSection → InputRelocation → RelocationKindInfo → Option ℕ → Result Decision Fault
+field_by_symbol l s r row None = field_without_symbol r row row.kind
+field_by_symbol l s r row (Some i) = by_address l s r i row (raw_value l i)
 
 abbrev pub debug_by : Layout → InputSection → InputRelocation → RelocationKindInfo → RelocationKind → Result Decision Fault
 debug_by l s r row kinds.None = Ok Nothing
-debug_by l s r row other = named_by l s r row r.symbol
+debug_by l s r row other = field_by_symbol l s r row r.symbol
 
 abbrev pub debug_with : Layout → InputSection → InputRelocation → Option RelocationKindInfo → Result Decision Fault
 debug_with l s r None = Err (faults.UnsupportedRelocation r.number)
@@ -111,8 +111,8 @@ width_by (Some row) = Some (field_width row)
 abbrev pub debug_rule : Layout → (ℕ → At) → InputSection → Rule
 debug_rule l to s = record { sized = λ r. width_by (row_of l.machine r.number); written = λ r old. debug_written to r (debug_decided l s r) old }
 
-abbrev pub nowhere_at : ℕ → At
-nowhere_at offset = record { group = None; file = None; section = None; offset = Some offset }
+abbrev pub at_offset_only : ℕ → At
+at_offset_only offset = record { group = None; file = None; section = None; offset = Some offset }
 
 abbrev pub or_input : List ℕ → Result (List ℕ) Error → List ℕ
 or_input old (Ok new) = new
@@ -120,4 +120,4 @@ or_input old (Err e) = old
 
 -- the bytes of the section, with its relocations applied one after another
 unfoldable pub debug_bytes : Layout → InputSection → List ℕ
-debug_bytes l s = or_input s.bytes (in_order (debug_rule l nowhere_at s) 0 s.relocations s.bytes)
+debug_bytes l s = or_input s.bytes (in_order (debug_rule l at_offset_only s) 0 s.relocations s.bytes)

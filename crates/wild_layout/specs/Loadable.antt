@@ -5,7 +5,7 @@
 --   HasSegment l p   the first segment of type PT_DYNAMIC is that of the part
 --   IsCarriedWhole   one PT_LOAD segment loads a part to its addresses
 --   IsPaged page g   address and offset of a PT_LOAD segment are equal modulo the page size
---   BeginsBehind p q a part begins at the end of another
+--   BeginsAtEnd p q a part begins at the end of another
 --   HasEntriesAlone  the section of a part with relocation entries has no other content, and no other section has entries
 --   IsLoadable l     the segments can be loaded, and a loader finds the tables where it looks for them
 use Rattle.std.specs.Prelude.{◌≡◌, ℕ, ◌+◌, ◌-◌, ◌%◌, ◌^◌, ◌<◌, ◌≤◌, ◌==◌, true, find, All, AllPairs, Contains, slice_get, List, false, Option, Some, None}
@@ -19,10 +19,10 @@ use Rattle.wild_types.specs.declared.section.Segment.{Segment}
 use Rattle.wild_types.specs.declared.input.InputSection.{InputSection}
 use Rattle.wild_types.specs.declared.layout.Layout.{Layout}
 use Rattle.wild_types.specs.Kinds.{is_partial_link, needs_dynamic, is_fixed_static}
-use Rattle.wild_types.specs.Lookups.{allocated, image_size, is_loaded, is_filled, is_hollow, is_hollow_at}
+use Rattle.wild_types.specs.Lookups.{allocated, image_size, is_loaded, is_filled, is_header_only, is_header_only_at}
 use Rattle.wild_types.specs.Lists.{total}
 use Rattle.wild_types.specs.Parts.{is_loaded_role, part_with, is_table_role, is_look_up_role, has_hashes, is_entry_role, entry_parts, bytes_in}
-use Rattle.wild_clauses.specs.Segments.{size_in_file}
+use Rattle.wild_plan_rules.specs.Segments.{size_in_file}
 use Rattle.wild_layout.specs.Image.{offset_in}
 
 -- the segment loads the byte at that file offset to that address
@@ -55,7 +55,7 @@ pub record IsPartCarried (l : Layout) (p : Part) (k : ℕ) (h : Segment) : Type 
 
 -- each byte of a part that a loader or the program reads is loaded, unless its section is omitted or the output is relocatable
 abbrev pub IsPartMapped : Layout → Part → Type 0
-IsPartMapped l p = is_partial_link l.kind ≡ false → is_loaded_role p.role ≡ true → is_hollow_at l p.section ≡ false → (k : ℕ) → k < p.size → (h : Segment) × IsPartCarried l p k h
+IsPartMapped l p = is_partial_link l.kind ≡ false → is_loaded_role p.role ≡ true → is_header_only_at l p.section ≡ false → (k : ℕ) → k < p.size → (h : Segment) × IsPartCarried l p k h
 
 -- the file bytes of a segment are in the image; a PT_LOAD segment is at least as large in memory as in the file
 pub record SegmentLoads (size : ℕ) (h : Segment) : Type 0 where
@@ -90,7 +90,7 @@ pub record IsCarriedWhole (l : Layout) (p : Part) : Type 0 where
   pub distance : p.offset ≡ segment.offset + (p.address - segment.address)
 
 -- a part begins at the end of another, in the file and in memory
-pub record BeginsBehind (p q : Part) : Type 0 where
+pub record BeginsAtEnd (p q : Part) : Type 0 where
   pub offset : q.offset ≡ p.offset + p.size
   pub address : q.address ≡ p.address + p.size
 
@@ -113,7 +113,7 @@ pub record EntriesLie (p : Part) (s : Section) : Type 0 where
 -- the section with header index k contains the parts with entries that are in it; if it is allocated and of type SHT_RELA, it has no
 -- other bytes
 pub record HasEntriesAlone (l : Layout) (k : ℕ) (s : Section) : Type 0 where
-  pub own : is_hollow l s ≡ false → (r : Role) (p : Part) → is_entry_role r ≡ true → part_with r l.parts ≡ Some p → p.section ≡ k → EntriesLie p s
+  pub own : is_header_only l s ≡ false → (r : Role) (p : Part) → is_entry_role r ≡ true → part_with r l.parts ≡ Some p → p.section ≡ k → EntriesLie p s
   pub full : allocated s.flags ≡ true → s.kind ≡ sht_rela → total (bytes_in k) (entry_parts l.parts) ≡ s.size
 
 -- a PT_LOAD segment ends before a later one begins, or where it begins
@@ -135,7 +135,7 @@ pub record IsLoadable (l : Layout) : Type 0 where
   pub fixed : is_fixed_static l.kind ≡ true → part_with role.Dynamic l.parts ≡ None
   pub entries : is_fixed_static l.kind ≡ true → (k : ℕ) (s : Section) → 1 ≤ k → slice_get l.sections k ≡ Some s → HasEntriesAlone l k s
   pub stands : is_fixed_static l.kind ≡ true → (r : Role) (p : Part) → is_entry_role r ≡ true → part_with r l.parts ≡ Some p → 1 ≤ p.section
-  pub tables : needs_dynamic l.kind ≡ true → (r : Role) (p : Part) → is_table_role r ≡ true → part_with r l.parts ≡ Some p → is_hollow_at l p.section ≡ false → 1 ≤ p.size → IsCarriedWhole l p
-  pub look_ups : needs_dynamic l.kind ≡ true → has_hashes l ≡ true → (r : Role) (p : Part) → is_look_up_role r ≡ true → part_with r l.parts ≡ Some p → is_hollow_at l p.section ≡ false → 1 ≤ p.size → IsCarriedWhole l p
-  pub behind : (p q : Part) → part_with role.RelaDynRelative l.parts ≡ Some p → part_with role.RelaDynGeneral l.parts ≡ Some q → BeginsBehind p q
-  pub together : needs_dynamic l.kind ≡ true → (p q : Part) → part_with role.RelaDynRelative l.parts ≡ Some p → part_with role.RelaDynGeneral l.parts ≡ Some q → is_hollow_at l p.section ≡ false → is_hollow_at l q.section ≡ false → 1 ≤ p.size → 1 ≤ q.size → AreCarriedTogether l p q
+  pub tables : needs_dynamic l.kind ≡ true → (r : Role) (p : Part) → is_table_role r ≡ true → part_with r l.parts ≡ Some p → is_header_only_at l p.section ≡ false → 1 ≤ p.size → IsCarriedWhole l p
+  pub look_ups : needs_dynamic l.kind ≡ true → has_hashes l ≡ true → (r : Role) (p : Part) → is_look_up_role r ≡ true → part_with r l.parts ≡ Some p → is_header_only_at l p.section ≡ false → 1 ≤ p.size → IsCarriedWhole l p
+  pub behind : (p q : Part) → part_with role.RelaDynRelative l.parts ≡ Some p → part_with role.RelaDynGeneral l.parts ≡ Some q → BeginsAtEnd p q
+  pub together : needs_dynamic l.kind ≡ true → (p q : Part) → part_with role.RelaDynRelative l.parts ≡ Some p → part_with role.RelaDynGeneral l.parts ≡ Some q → is_header_only_at l p.section ≡ false → is_header_only_at l q.section ≡ false → 1 ≤ p.size → 1 ≤ q.size → AreCarriedTogether l p q

@@ -24,7 +24,7 @@ use Rattle.wild_types.specs.declared.symbol.ValueFlags.{ValueFlags}
 use Rattle.wild_types.specs.Flags.{has_flag, interposable, absolute, dynamic, ifunc, undefined_weak}
 use Rattle.wild_types.specs.Lookups.{files_of, file_of}
 use Rattle.wild_slot.specs.Treatment.{flags_at}
-use Rattle.wild_layout.specs.SymbolValues.{less, sum, address_or}
+use Rattle.wild_layout.specs.SymbolValues.{minus, sum, resolved_address}
 use Rattle.wild_layout.specs.SlotValues.{address_of}
 
 -- the symbol is a section symbol (gABI, "Symbol Table": STT_SECTION)
@@ -46,15 +46,15 @@ strings_at other f = None
 abbrev pub strings_in : File → Symbol → Option (List MergedString)
 strings_in f s = if is_section_symbol s then strings_at s.place f else None
 
-abbrev pub strings_told : List File → ℕ → Symbol → Option (List MergedString)
-strings_told files i s = option_and_then (λ f. strings_in f s) (file_of files i)
+abbrev pub strings_of_symbol : List File → ℕ → Symbol → Option (List MergedString)
+strings_of_symbol files i s = option_and_then (λ f. strings_in f s) (file_of files i)
 
 -- the output defines the value, which moves with the load bias
 abbrev pub is_plain_own : ValueFlags → Bool
 is_plain_own f = not (interposable f) && (not (has_flag f dynamic) && (not (has_flag f absolute) && (not (has_flag f ifunc) && not (has_flag f undefined_weak))))
 
 unfoldable pub merged_strings : Layout → ℕ → Option (List MergedString)
-merged_strings l i = if is_plain_own (flags_at l i) then option_and_then (strings_told (files_of l.groups) i) (slice_get l.symbols i) else None
+merged_strings l i = if is_plain_own (flags_at l i) then option_and_then (strings_of_symbol (files_of l.groups) i) (slice_get l.symbols i) else None
 
 -- the symbol is the section symbol of a merged section
 abbrev pub names_merged : Layout → Option ℕ → Bool
@@ -81,11 +81,11 @@ merged_byte l i r = sum (symbol_value (slice_get l.symbols i)) r.addend
 -- the string's address minus A
 abbrev pub without_addend : InputRelocation → Result ℕ Fault → Result ℕ Fault
 without_addend r (Err f) = Err f
-without_addend r (Ok a) = Ok (less a (cast_unsigned w64 r.addend))
+without_addend r (Ok a) = Ok (minus a (cast_unsigned w64 r.addend))
 
 abbrev pub address_by : Layout → InputRelocation → ℕ → Option (List MergedString) → Result ℕ Fault
 address_by l r i None = address_of l (Some i)
-address_by l r i (Some strings) = without_addend r (address_or missing.Address i (string_place strings (merged_byte l i r)))
+address_by l r i (Some strings) = without_addend r (resolved_address missing.Address i (string_place strings (merged_byte l i r)))
 
 abbrev pub address_named : Layout → InputRelocation → Option ℕ → Result ℕ Fault
 address_named l r None = Ok 0

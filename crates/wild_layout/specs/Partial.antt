@@ -11,9 +11,9 @@ use Rattle.wild_types.specs.declared.symbol.Symbol.{Symbol}
 use Rattle.wild_types.specs.declared.input.InputRelocation.{InputRelocation}
 use Rattle.wild_types.specs.declared.input.InputSection.{InputSection}
 use Rattle.wild_types.specs.declared.layout.Layout.{Layout}
-use Rattle.wild_laid.specs.Laid.{base_of}
-use Rattle.wild_symbols.specs.SectionSymbols.{symbol_section, is_section_type, named_index}
-use Rattle.wild_tables.specs.Entries.{rela_bytes}
+use Rattle.wild_placement.specs.PlacedSections.{base_of}
+use Rattle.wild_table_formats.specs.SectionSymbols.{symbol_section, is_section_type, named_index}
+use Rattle.wild_table_formats.specs.RelativeEntries.{rela_bytes}
 use Rattle.wild_layout.specs.SymbolValues.{sum}
 
 -- the offset in its output section of a section symbol's section

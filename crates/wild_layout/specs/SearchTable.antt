@@ -15,7 +15,7 @@ use Rattle.wild_types.specs.declared.file.File.{File}
 use Rattle.wild_types.specs.declared.file.Group.{Group}
 use Rattle.wild_types.specs.declared.layout.Layout.{Layout}
 use Rattle.wild_types.specs.Lookups.{is_frame}
-use Rattle.wild_types.specs.Hollow.{is_hollow_role}
+use Rattle.wild_types.specs.HeaderOnly.{is_header_only_role}
 use Rattle.wild_types.specs.Parts.{part_with}
 use Rattle.wild_frames.specs.declared.entry.KeptEntry.{KeptEntry}
 use Rattle.wild_frames.specs.declared.table.Fde.{Fde}
@@ -23,15 +23,15 @@ use Rattle.wild_frames.specs.declared.table.TableError.{TableError}
 use Rattle.wild_frames.specs.declared.table.TableError.TheVariants as table_error
 use Rattle.wild_frames.specs.Frames.{Frames, fdes_in}
 use Rattle.wild_frames.specs.Table.{table_of, table_errors}
-use Rattle.wild_laid.specs.FrameInputs.{frames_of, kept_size}
-use Rattle.wild_laid.specs.Laid.{entry_relocations, file_frames, frames_at, behind, part_address}
+use Rattle.wild_placement.specs.FrameInputs.{frames_of, kept_size}
+use Rattle.wild_placement.specs.PlacedSections.{entry_relocations, file_frames, frames_at, behind, part_address}
 use Rattle.wild_layout.specs.SymbolValues.{sum, raw_address}
-use Rattle.wild_layout.specs.Moved.{or_zero}
+use Rattle.wild_layout.specs.RelativeRelocations.{value_or_0}
 
 -- S + A of the first relocation
 abbrev pub code_at : Layout → List InputRelocation → ℕ
 code_at l [] = 0
-code_at l (r ∷ rs) = sum (or_zero (raw_address l r.symbol)) r.addend
+code_at l (r ∷ rs) = sum (value_or_0 (raw_address l r.symbol)) r.addend
 
 -- the start address of the code that an FDE describes (LSB, PC Begin), by its first relocation
 abbrev pub code_of : Layout → Frames → KeptEntry → ℕ
@@ -71,4 +71,4 @@ fault_of table_error.OutOfMemory = faults.OutOfMemory
 
 -- the faults of frames too far from it, if it is written
 unfoldable pub search_table_faults : Layout → List Fault
-search_table_faults l = if l.options.eh_frame_hdr && not (is_hollow_role l role.EhFrameHdr) then map fault_of (table_errors (address_of_role l role.EhFrameHdr) (address_of_role l role.EhFrame) (layout_fdes l)) else []
+search_table_faults l = if l.options.eh_frame_hdr && not (is_header_only_role l role.EhFrameHdr) then map fault_of (table_errors (address_of_role l role.EhFrameHdr) (address_of_role l role.EhFrame) (layout_fdes l)) else []

@@ -11,7 +11,7 @@ use Rattle.wild_types.specs.declared.input.InputRelocation.{InputRelocation}
 use Rattle.wild_types.specs.declared.input.InputSection.{InputSection}
 use Rattle.wild_types.specs.declared.file.Group.{Group}
 use Rattle.wild_types.specs.declared.layout.Layout.{Layout}
-use Rattle.wild_types.specs.Lookups.{image_size, is_filled, has_fields, is_written, is_hollow_at, has_data, takes_file_bytes}
+use Rattle.wild_types.specs.Lookups.{image_size, is_filled, has_fields, has_written_relocations, is_header_only_at, has_data, takes_file_bytes}
 use Rattle.wild_types.specs.declared.file.File.{File}
 use Rattle.wild_layout.specs.Sites.{section_bytes}
 use Rattle.wild_types.specs.Rows.{field_bytes}
@@ -49,7 +49,7 @@ pub record OwnerLies (l : Layout) (s : InputSection) : Type 0 where
 
 pub record SectionLies (l : Layout) (s : InputSection) : Type 0 where
   pub small : s.address + s.size ≤ 2 ^ 62
-  pub bytes : is_written s ≡ true → length s.bytes ≡ s.size
+  pub bytes : has_written_relocations s ≡ true → length s.bytes ≡ s.size
   pub fields : has_fields s.slot ≡ true → All (FieldLies l.machine s.size) s.relocations
   pub long : is_filled l s ≡ true → (f : File) → length (section_bytes l f s) ≡ s.size
   pub owner : is_filled l s ≡ true → OwnerLies l s
@@ -74,7 +74,7 @@ pub record FrontLies (l : Layout) (k : ℕ) (bs : List ℕ) : Type 0 where
   pub raw : part.role ≡ role.Raw
   pub holds : 1 ≤ length bs → has_data l part.section ≡ true
   pub within : length bs ≤ part.size
-  pub ends : 1 ≤ length bs → is_hollow_at l part.section ≡ false → part.offset + length bs ≤ image_size l
+  pub ends : 1 ≤ length bs → is_header_only_at l part.section ≡ false → part.offset + length bs ≤ image_size l
 
 -- the groups' shares add up to the part's size. If the part is not raw, each share is the size of the group's content, and the part
 -- is within the image unless its section is omitted
@@ -83,4 +83,4 @@ pub record PartLies (l : Layout) (i : ℕ) (p : Part) : Type 0 where
   pub address : p.address + p.size ≤ 2 ^ 62
   pub shares : total (given i) l.groups ≡ p.size
   pub tables : has_role role.Raw p ≡ false → All (λ (g : Group). length (content l p.role g) ≡ given i g) l.groups
-  pub ends : has_role role.Raw p ≡ false → is_hollow_at l p.section ≡ false → 1 ≤ p.size → p.offset + p.size ≤ image_size l
+  pub ends : has_role role.Raw p ≡ false → is_header_only_at l p.section ≡ false → 1 ≤ p.size → p.offset + p.size ≤ image_size l

@@ -20,27 +20,27 @@ use Rattle.wild_slot.specs.declared.slot_parts.WordPart.{WordPart}
 use Rattle.wild_slot.specs.declared.slot_parts.WordPart.TheVariants as words
 use Rattle.wild_slot.specs.declared.slot_parts.EntryPart.{EntryPart}
 use Rattle.wild_slot.specs.declared.slot_parts.EntryPart.TheVariants as entries
-use Rattle.wild_types.specs.SymbolSlots.{plt_of, slots_at}
-use Rattle.wild_slot.specs.SlotParts.{slot_entries, flat_places}
+use Rattle.wild_types.specs.SymbolSlots.{plt_of, slots_address}
+use Rattle.wild_slot.specs.SlotParts.{slot_entries, relr_slot_places}
 use Rattle.wild_types.specs.FileSymbols.{own_symbols}
 use Rattle.wild_slot.specs.SymbolWords.{slots_of}
 use Rattle.wild_needs.specs.SlotShares.{words_in, storage_words, header_words, block_words}
 use Rattle.wild_slot.specs.MachineStub.{stub_in}
-use Rattle.wild_relr.specs.Written.{word_bytes}
-use Rattle.wild_tables.specs.Entries.{rela_bytes}
+use Rattle.wild_relr.specs.WriterState.{word_bytes}
+use Rattle.wild_table_formats.specs.RelativeEntries.{rela_bytes}
 
 -- ---- by symbol
 
 -- the dynamic relocations of a symbol's GOT words in a part
 abbrev pub symbol_entries : EntryPart → Layout → Symbol → List Rela
-symbol_entries part l s = slot_entries part l.machine l.options.relr (slots_at s) (slots_of l s).words
+symbol_entries part l s = slot_entries part l.machine l.options.relr (slots_address s) (slots_of l s).words
 
 -- its PLT stub, which jumps to the address in its first GOT word
 abbrev pub stub_bytes : Layout → Symbol → List ℕ
-stub_bytes l s = if (slots_of l s).has_stub then (stub_in l (slots_at s) (unwrap_or (plt_of s) 0)).bytes else []
+stub_bytes l s = if (slots_of l s).has_stub then (stub_in l (slots_address s) (unwrap_or (plt_of s) 0)).bytes else []
 
-abbrev pub flat_in : Layout → Symbol → List ℕ
-flat_in l s = flat_places l.options.relr (slots_at s) (slots_of l s).words
+abbrev pub relr_slots_in : Layout → Symbol → List ℕ
+relr_slots_in l s = relr_slot_places l.options.relr (slots_address s) (slots_of l s).words
 
 -- ---- by file
 
@@ -54,12 +54,12 @@ unfoldable pub stubs_of : Layout → File → List ℕ
 stubs_of l f = flat_map (stub_bytes l) (own_symbols l f)
 
 unfoldable pub flat_places_of : Layout → File → List ℕ
-flat_places_of l f = flat_map (flat_in l) (own_symbols l f)
+flat_places_of l f = flat_map (relr_slots_in l) (own_symbols l f)
 
 -- the bytes of a file's GOT and PLT entries in the part of a role
 abbrev pub slot_bytes : Layout → Role → File → List ℕ
 slot_bytes l role.Got f = word_bytes (slot_words_of words.Got l f)
-slot_bytes l role.GotRelr f = word_bytes (slot_words_of words.Block l f)
+slot_bytes l role.GotRelr f = word_bytes (slot_words_of words.RelrGot l f)
 slot_bytes l role.PltGot f = stubs_of l f
 slot_bytes l role.RelaPlt f = rela_bytes (slot_entries_of entries.Plt l f)
 slot_bytes l role.RelaDynRelative f = rela_bytes (slot_entries_of entries.Relative l f)

@@ -10,13 +10,13 @@ use Rattle.wild_types.specs.declared.part.Part.{Part}
 use Rattle.wild_types.specs.declared.part.Role.TheVariants as role
 use Rattle.wild_types.specs.declared.symbol.Symbol.{Symbol}
 use Rattle.wild_types.specs.declared.layout.Layout.{Layout}
-use Rattle.wild_types.specs.FilePlaces.{file_misplaced}
+use Rattle.wild_types.specs.FilePlaces.{first_misplaced_file}
 use Rattle.wild_types.specs.Lookups.{canonical}
 use Rattle.wild_needs.specs.SlotShares.{word_size}
-use Rattle.wild_clauses.specs.SlotPlaces.{start_of, slots_astray, slot_is_even, block_has_base}
-use Rattle.wild_clauses.specs.SlotFlags.{dynamic_is_interposable, stub_has_slot, thread_slot_alone, resolver_is_own, resolver_moves, second_slot_fits}
+use Rattle.wild_plan_rules.specs.SlotPlaces.{start_of, slots_astray, slot_is_even, block_has_base}
+use Rattle.wild_plan_rules.specs.SlotFlags.{dynamic_is_interposable, stub_has_slot, thread_slot_alone, resolver_is_own, resolver_moves, second_slot_fits}
 use Rattle.wild_types.specs.ResolvedFlags.{HaveTheirFlags}
-use Rattle.wild_clauses.specs.WellFormed.{first_clause}
+use Rattle.wild_plan_rules.specs.WellFormed.{first_clause}
 
 -- GOT words and PLT stubs are assigned consecutively in their parts. GOT words are at multiples of 8, the pair for the output's own
 -- thread-local data follows the reserved words, and a run of GOT words does not begin at address 0
@@ -46,7 +46,7 @@ pub record HasSlotsInOrder (l : Layout) : Type 0 where
   pub slots : SlotsFollow l
   pub flags : EachAgrees l
   pub resolved : HaveTheirFlags l
-  pub files : file_misplaced true 0 l.groups ≡ None
+  pub files : first_misplaced_file true 0 l.groups ≡ None
 
 -- ---- law
 

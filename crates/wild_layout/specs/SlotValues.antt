@@ -16,7 +16,7 @@ use Rattle.wild_types.specs.SymbolSlots.{has_thread_slot}
 use Rattle.wild_slot.specs.Treatment.{flags_at}
 use Rattle.wild_reloc.specs.declared.expression.SlotSort.{SlotSort}
 use Rattle.wild_reloc.specs.declared.expression.SlotSort.TheVariants as sorts
-use Rattle.wild_layout.specs.SymbolValues.{definition_of, address_or, raw_address}
+use Rattle.wild_layout.specs.SymbolValues.{definition_of, resolved_address, raw_address}
 
 -- the resolution of the symbol's definition
 abbrev pub resolution_of : Layout → ℕ → Option Resolution
@@ -28,41 +28,41 @@ index_of l i = option_and_then (λ (r : Resolution). r.dynamic_symbol_index) (re
 
 -- the address in the symbol's resolution, or the fault that it has none
 abbrev pub decided_address : Layout → ℕ → Result ℕ Fault
-decided_address l i = address_or missing.Address i (option_map (λ (r : Resolution). r.raw_value) (resolution_of l i))
+decided_address l i = resolved_address missing.Address i (option_map (λ (r : Resolution). r.raw_value) (resolution_of l i))
 
 abbrev pub stub_of : Layout → ℕ → Option ℕ
 stub_of l i = option_and_then (λ (r : Resolution). r.plt_address) (resolution_of l i)
 
 -- the symbol is an IFUNC: its address is its stub's
-abbrev pub is_chosen : Layout → ℕ → Bool
-is_chosen l i = has_flag (flags_at l i) ifunc
+abbrev pub symbol_is_ifunc : Layout → ℕ → Bool
+symbol_is_ifunc l i = has_flag (flags_at l i) ifunc
 
 -- S: the address of the symbol; 0 without a symbol
 abbrev pub address_of : Layout → Option ℕ → Result ℕ Fault
 address_of l None = Ok 0
-address_of l (Some i) = if is_chosen l i then address_or missing.Stub i (stub_of l i) else raw_address l (Some i)
+address_of l (Some i) = if symbol_is_ifunc l i then resolved_address missing.Stub i (stub_of l i) else raw_address l (Some i)
 
 -- L: the address of the symbol's PLT stub
 abbrev pub stub_address : Layout → Option ℕ → Result ℕ Fault
 stub_address l None = Ok 0
-stub_address l (Some i) = address_or missing.Stub i (stub_of l i)
+stub_address l (Some i) = resolved_address missing.Stub i (stub_of l i)
 
 abbrev pub has_second_slot : ValueFlags → Bool
 has_second_slot f = has_flag f ifunc_got_for_address || has_flag f canonical_plt_got_for_address
 
-abbrev pub behind_word : Bool → ℕ → ℕ
-behind_word b at = if b then (at + 8) % 2 ^ 64 else at
+abbrev pub after_word : Bool → ℕ → ℕ
+after_word b at = if b then (at + 8) % 2 ^ 64 else at
 
-abbrev pub behind_pair : Bool → ℕ → ℕ
-behind_pair b at = if b then (at + 16) % 2 ^ 64 else at
+abbrev pub after_pair : Bool → ℕ → ℕ
+after_pair b at = if b then (at + 16) % 2 ^ 64 else at
 
 -- the address of a GOT entry of a sort, for a symbol with these flags whose first GOT entry is at `at`. References to an address use the
 -- second entry if there are two; the module pair follows the offset, and the descriptor follows both
 abbrev pub slot_among : SlotSort → ValueFlags → ℕ → Option ℕ
 slot_among sorts.Offset f at = if has_flag f got_tls_offset then Some at else None
-slot_among sorts.Pair f at = if has_flag f got_tls_module then Some (behind_word (has_flag f got_tls_offset) at) else None
-slot_among sorts.Descriptor f at = if has_flag f got_tls_descriptor then Some (behind_pair (has_flag f got_tls_module) (behind_word (has_flag f got_tls_offset) at)) else None
-slot_among other f at = if has_thread_slot f then None else Some (behind_word (has_second_slot f) at)
+slot_among sorts.Pair f at = if has_flag f got_tls_module then Some (after_word (has_flag f got_tls_offset) at) else None
+slot_among sorts.Descriptor f at = if has_flag f got_tls_descriptor then Some (after_pair (has_flag f got_tls_module) (after_word (has_flag f got_tls_offset) at)) else None
+slot_among other f at = if has_thread_slot f then None else Some (after_word (has_second_slot f) at)
 
 abbrev pub slot_decided : SlotSort → Option Resolution → Option ℕ
 slot_decided sort None = None
@@ -75,4 +75,4 @@ slot_of l sort i = slot_decided sort (resolution_of l i)
 
 abbrev pub slot_address : Layout → SlotSort → Option ℕ → Result ℕ Fault
 slot_address l sort None = Ok 0
-slot_address l sort (Some i) = address_or missing.Slot i (slot_of l sort i)
+slot_address l sort (Some i) = resolved_address missing.Slot i (slot_of l sort i)

@@ -29,8 +29,8 @@ abbrev pub displacement : ℕ → ℤ → ℕ → ℕ
 displacement s a p = (sum s a + (2 ^ 64 - p)) % 2 ^ 64
 
 -- a - b, modulo 2^64
-abbrev pub less : ℕ → ℕ → ℕ
-less a b = storage.less a b
+abbrev pub minus : ℕ → ℕ → ℕ
+minus a b = storage.minus a b
 
 -- the address of the thread pointer
 abbrev pub thread_pointer : Machine → Tls → ℕ
@@ -61,11 +61,11 @@ abbrev pub symbol_size : Layout → ℕ → ℕ
 symbol_size l i = unwrap_or (option_map (λ (s : Symbol). s.size) (definition_of l i)) 0
 
 -- an address, or the fault that symbol i has none of this kind
-abbrev pub address_or : Missing → ℕ → Option ℕ → Result ℕ Fault
-address_or what i None = Err (faults.MissingResolution what i)
-address_or what i (Some a) = Ok a
+abbrev pub resolved_address : Missing → ℕ → Option ℕ → Result ℕ Fault
+resolved_address what i None = Err (faults.MissingResolution what i)
+resolved_address what i (Some a) = Ok a
 
 -- the address of the symbol, by its resolution or by its place; 0 without a symbol
 abbrev pub raw_address : Layout → Option ℕ → Result ℕ Fault
 raw_address l None = Ok 0
-raw_address l (Some i) = address_or missing.Address i (raw_value l i)
+raw_address l (Some i) = resolved_address missing.Address i (raw_value l i)

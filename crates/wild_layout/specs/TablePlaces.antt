@@ -10,12 +10,12 @@ use Rattle.wild_types.specs.declared.part.Role.{Role}
 use Rattle.wild_types.specs.declared.part.Role.TheVariants as role
 use Rattle.wild_types.specs.declared.file.Group.{Group}
 use Rattle.wild_types.specs.declared.layout.Layout.{Layout}
-use Rattle.wild_types.specs.Lookups.{image_size, is_hollow_at}
+use Rattle.wild_types.specs.Lookups.{image_size, is_header_only_at}
 use Rattle.wild_types.specs.Lists.{total}
 use Rattle.wild_types.specs.Parts.{part_with}
 use Rattle.wild_needs.specs.DynamicStrings.{needed_entries}
 use Rattle.wild_records.specs.declared.dynamic.DynamicEntry.{DynamicEntry}
-use Rattle.wild_headers.specs.Headers.{offset_of_role, file_header_bytes, program_header_bytes, section_header_bytes}
+use Rattle.wild_table_formats.specs.Headers.{offset_of_role, file_header_bytes, program_header_bytes, section_header_bytes}
 use Rattle.wild_layout.specs.Content.{content}
 use Rattle.wild_layout.specs.Image.{pieces, bytes}
 
@@ -42,8 +42,8 @@ pub record TableLies (l : Layout) (r : Role) (p : Part) : Type 0 where
   pub listed : Contains l.parts p
   pub has : p.role ≡ r
   pub size : length (table_bytes l r) ≡ p.size
-  pub ends : is_hollow_at l p.section ≡ false → 1 ≤ p.size → p.offset + p.size ≤ image_size l
-  pub pieces : is_hollow_at l p.section ≡ false → (j : ℕ) (g : Group) → j < length l.groups → 1 ≤ length (content l r (slice_index_or l.groups j g))
+  pub ends : is_header_only_at l p.section ≡ false → 1 ≤ p.size → p.offset + p.size ≤ image_size l
+  pub pieces : is_header_only_at l p.section ≡ false → (j : ℕ) (g : Group) → j < length l.groups → 1 ≤ length (content l r (slice_index_or l.groups j g))
       → Contains (pieces l) (record { at = p.offset + bytes_before l r j; bytes = content l r (slice_index_or l.groups j g) })
 
 -- this holds for the part of a role if there is one; otherwise there are no such bytes

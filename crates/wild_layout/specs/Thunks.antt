@@ -16,7 +16,7 @@ use Rattle.wild_types.specs.declared.layout.Thunk.{Thunk}
 use Rattle.wild_types.specs.declared.layout.Layout.{Layout}
 use Rattle.wild_types.specs.FileThunks.{block_of, thunks_of}
 use Rattle.wild_types.specs.Lookups.{canonical}
-use Rattle.wild_clauses.specs.Thunks.{ascends}
+use Rattle.wild_plan_rules.specs.Thunks.{ascends}
 use Rattle.wild_relax.specs.ThunkAArch64.{thunk_aarch64}
 use Rattle.wild_layout.specs.SymbolValues.{raw_address}
 use Rattle.wild_layout.specs.SlotValues.{resolution_of, stub_of}
@@ -63,10 +63,10 @@ thunk_of c (t ∷ ts) = if t.symbol == c then Some t else thunk_of c ts
 
 -- references to symbol i use its definition's resolution: the symbol is its own definition, or the definition has a resolution. Other
 -- symbols use their own place, for which there is no thunk
-abbrev pub goes_by_definition : Layout → ℕ → Bool
-goes_by_definition l i = canonical l i == i || is_some (resolution_of l i)
+abbrev pub uses_definition : Layout → ℕ → Bool
+uses_definition l i = canonical l i == i || is_some (resolution_of l i)
 
 -- the thunk of its definition, in a block
 abbrev pub thunk_for : Layout → ℕ → Option ℕ → Option Thunk
 thunk_for l block None = None
-thunk_for l block (Some i) = if goes_by_definition l i then thunk_of (canonical l i) (block_of l block) else None
+thunk_for l block (Some i) = if uses_definition l i then thunk_of (canonical l i) (block_of l block) else None

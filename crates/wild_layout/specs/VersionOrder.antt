@@ -8,7 +8,7 @@ use Rattle.wild_types.specs.declared.layout.VersionDefinition.{VersionDefinition
 use Rattle.wild_types.specs.declared.layout.Layout.{Layout}
 use Rattle.wild_types.specs.Parts.{part_with}
 use Rattle.wild_needs.specs.Versions.{need_count}
-use Rattle.wild_clauses.specs.VersionTables.{mark_astray}
+use Rattle.wild_plan_rules.specs.VersionTables.{mark_astray}
 
 -- there is at least one, and each parent comes before its child
 pub record ParentsStand (ds : List VersionDefinition) : Type 0 where

@@ -14,13 +14,13 @@ pub enum Decision {
     },
     /// The address `value`, which moves with the load bias, in 8 bytes. If it is packed in `.relr.dyn` it is written there, and the loader
     /// adds the load bias; otherwise 0 is written, and the loader stores the sum by a RELATIVE entry.
-    Moved {
+    RelativeAddress {
         value: u64,
         packed: bool,
     },
     /// 0 into a field of that size, which the dynamic linker fills by an entry of type `number`, with an index in the dynamic symbol
     /// table (0: none) and an addend.
-    Left {
+    DynamicField {
         size: RelocationSize,
         number: u32,
         symbol: u64,

@@ -1,6 +1,6 @@
 -- What the tables of a layout fill is known and lies beside each other.
-use Rattle.wild_geometry.proofs.StoodSections.{all_sections, input_of, each_at}
-use Rattle.wild_loaded.proofs.SectionsAside.{section_apart}
+use Rattle.wild_geometry.proofs.PlacedInputs.{all_sections, input_of, each_at}
+use Rattle.wild_loaded.proofs.SectionsDisjoint.{section_apart}
 use Rattle.std.proofs.Common.{◌≡◌, ℕ, ◌+◌, ◌^◌, ◌<◌, ◌≤◌, true, List, [], ◌++◌, get_or, refl, sym, arith, subst}
 use Rattle.std.specs.Prelude.{All, AllPairs, Contains, ◌≢◌, IsPermutation}
 use Rattle.std.specs.List.{flat_map}
@@ -14,32 +14,32 @@ use Rattle.wild_types.specs.declared.part.Role.TheVariants as role
 use Rattle.wild_slot.specs.declared.slot_parts.WordPart.TheVariants as words
 use Rattle.wild_types.specs.declared.input.InputSection.{InputSection}
 use Rattle.wild_types.specs.declared.layout.Layout.{Layout}
-use Rattle.wild_types.specs.Hollow.{KeepsAll}
+use Rattle.wild_types.specs.HeaderOnly.{KeepsAll}
 use Rattle.wild_types.specs.Parts.{is_loaded_role}
 use Rattle.wild_types.proofs.LookupLemmas.{not_hollow_role}
 use Rattle.wild_needs.specs.SlotShares.{word_size}
-use Rattle.wild_clauses.specs.SlotPlaces.{start_of}
+use Rattle.wild_plan_rules.specs.SlotPlaces.{start_of}
 use Rattle.wild_layout.specs.Numbers.{NumbersFit}
 use Rattle.wild_layout.specs.Faults.{flat_map_from, group_errors}
 use Rattle.wild_layout.specs.SectionPlaces.{SectionLies}
 use Rattle.wild_layout.specs.Geometry.{IsLaidOut}
-use Rattle.wild_relr.specs.Packed.{FlatIsARun}
-use Rattle.wild_tables.specs.Laws.{PlacesAreLoaded}
+use Rattle.wild_relr.specs.RunWords.{RelrSlotIsARun}
+use Rattle.wild_table_formats.specs.EntryLaws.{PlacesAreLoaded}
 use Rattle.wild_loader.specs.Places.{places}
 use Rattle.wild_loader.specs.declared.memory.Memory.{Memory}
 use Rattle.wild_loader.specs.declared.world.World.{World}
-use Rattle.wild_meaning.specs.World.{IsLoadable, IsLegal, IsBehind}
+use Rattle.wild_meaning.specs.World.{IsLoadable, IsLegal, IsPastFileBytes}
 use Rattle.wild_slots.specs.Order.{end_of}
-use Rattle.wild_slots.specs.Ascend.{Ascend, PlacesAscend}
+use Rattle.wild_slots.specs.AscendingPlaces.{Ascend, PlacesAscend}
 use Rattle.wild_slots.specs.Blocks.{BlocksAreWhole}
 use Rattle.wild_loaded.specs.Memory.{image_memory, EachDecided}
 use Rattle.wild_loaded.specs.WholeSlots.{HasWholeSlots}
 use Rattle.wild_loaded.specs.Tables.{tables_of}
-use Rattle.wild_loaded.specs.Laws.{SectionsAreCarried, SegmentsAreLoadable}
+use Rattle.wild_loaded.specs.Laws.{SectionsAreInSegments, SegmentsAreLoadable}
 use Rattle.wild_loaded.proofs.PartsHeld.{placed}
 use Rattle.wild_loaded.proofs.SlotSites.{all_sites}
 use Rattle.wild_loaded.specs.FilledLaws.{TablesAreMade}
-use Rattle.wild_loaded.proofs.Fillings.{Table, PackedTable, RelativeTable, GeneralTable, JumpTable, Filling, Misses, AreBeside, IsKnown, Makes, packed_in}
+use Rattle.wild_loaded.proofs.Fillings.{Table, PackedTable, RelativeTable, GeneralTable, JumpTable, Filling, Misses, DoNotOverlap, IsKnown, Makes, packed_in}
 use Rattle.wild_loaded.proofs.FilledTables.{ChangeLaws, AreSorted, tables_made, patches_apart, All-made}
 use Rattle.wild_loaded.proofs.Homes.{HomesApart, homes_back, beside_across, behind_misses}
 use Rattle.wild_loaded.proofs.SectionsApart.{section_home, stored_home}
@@ -58,13 +58,13 @@ use Rattle.wild_loaded.proofs.PackedTables.{AreWhole, packed_sorted}
 
 -- what the crates below owe
 pub record FilledLaws : Type 0 where
-  pub carried : SectionsAreCarried
+  pub carried : SectionsAreInSegments
   pub segments : SegmentsAreLoadable
   pub changes : ChangeLaws
   pub sections : SectionLaws
   pub slots : SlotLaws
   pub copies : CopyLaws
-  pub flat : FlatIsARun
+  pub flat : RelrSlotIsARun
   pub found : PlacesAreLoaded
   pub ascend : PlacesAscend
   pub blocks : BlocksAreWhole
@@ -103,7 +103,7 @@ slot_tables l w laws h =
     let got = got_filled l w laws h in
     let low = (table_ends l role.Got refl h.laid).1 in
     let a = (laws.ascend l h.whole.order (omega (arith, low))).blocks in
-    let block = subst (λ (xs : List ℕ). Ascend word_size (start_of l role.GotRelr) (end_of l role.GotRelr) xs) (words_by_sites words.Block l) a in
+    let block = subst (λ (xs : List ℕ). Ascend word_size (start_of l role.GotRelr) (end_of l role.GotRelr) xs) (words_by_sites words.RelrGot l) a in
     let from = blocks_placed (λ (q : ℕ). start_of l role.GotRelr ≤ q) (all_sites l) (λ k d m. (block.within k d m).from) in
     let to = blocks_placed (λ (q : ℕ). q + 8 ≤ end_of l role.GotRelr) (all_sites l) (λ k d m. (block.within k d m).to) in
     let wide = blocks_wide (all_sites l) in
@@ -115,9 +115,9 @@ slot_tables l w laws h =
 pub got_apart : (l : Layout) → KeepsAll l → IsLaidOut l → HomesApart (role_home l role.Got) (role_home l role.GotRelr)
 got_apart l keeps laid = roles_apart l role.Got role.GotRelr refl refl (λ e. cc) keeps laid
 
-tables_beside : (l : Layout) → IsLoadable l.kind → KeepsAll l → IsLaidOut l → SlotTables l → AllPairs AreBeside (slots_filled l ++ blocks_filled l)
+tables_beside : (l : Layout) → IsLoadable l.kind → KeepsAll l → IsLaidOut l → SlotTables l → AllPairs DoNotOverlap (slots_filled l ++ blocks_filled l)
 tables_beside l kind keeps laid t =
-    AllPairs-append AreBeside (slots_filled l) (blocks_filled l) t.got.beside t.block.beside
+    AllPairs-append DoNotOverlap (slots_filled l) (blocks_filled l) t.got.beside t.block.beside
     (λ k d m. (λ i e n. beside_across l (role_home l role.Got) (role_home l role.GotRelr) (get_or (slots_filled l) k d) (get_or (blocks_filled l) i e) kind laid (role_there l role.Got refl (not_hollow_role l role.Got keeps) kind laid) (role_there l role.GotRelr refl (not_hollow_role l role.GotRelr keeps) kind laid) (got_apart l keeps laid) (t.got.within k d m) (t.block.within i e n)))
 
 -- ---- sections
@@ -125,21 +125,21 @@ tables_beside l kind keeps laid t =
 pub lies_of : (l : Layout) (s : InputSection) → IsLaidOut l → Contains (all_sections l) s → SectionLies l s
 lies_of l s laid c = each_at (SectionLies l) l s laid.inputs (input_of l s c)
 
-sections_beside : (l : Layout) (r : Role) (xs : List Filling) → is_loaded_role r ≡ true → (r ≡ role.EhFrame → ⊥) → IsLoadable l.kind → KeepsAll l → IsLaidOut l → HavePlaces l (section_fillings l) → InTable l r xs → All (λ (x : Filling). All (AreBeside x) xs) (sections_filled l)
+sections_beside : (l : Layout) (r : Role) (xs : List Filling) → is_loaded_role r ≡ true → (r ≡ role.EhFrame → ⊥) → IsLoadable l.kind → KeepsAll l → IsLaidOut l → HavePlaces l (section_fillings l) → InTable l r xs → All (λ (x : Filling). All (DoNotOverlap x) xs) (sections_filled l)
 sections_beside l r xs loaded other kind keeps laid h t =
-    All-flat_map (λ (x : Filling). All (AreBeside x) xs) (section_fillings l) (all_sections l) (λ i d m. (λ k e n. (λ p f q.
+    All-flat_map (λ (x : Filling). All (DoNotOverlap x) xs) (section_fillings l) (all_sections l) (λ i d m. (λ k e n. (λ p f q.
     let s = get_or (all_sections l) i d in
     let stored = h.stored i d m (not_empty _ k n) in
     let c : Contains (all_sections l) s = (i, m, get_or_default (all_sections l) i s d m) in
     beside_across l (section_home l s) (role_home l r) (get_or (section_fillings l s) k e) (get_or xs p f) kind laid (stored_home l s stored) (role_there l r loaded (not_hollow_role l r keeps) kind laid) (homes_back (role_home l r) (section_home l s) (section_apart l r s loaded other keeps laid c stored)) (h.within i d m k e n) (t.within p f q))))
 
-both_beside : (xs ys zs : List Filling) → All (λ (x : Filling). All (AreBeside x) ys) xs → All (λ (x : Filling). All (AreBeside x) zs) xs → All (λ (x : Filling). All (AreBeside x) (ys ++ zs)) xs
-both_beside xs ys zs h k = λ i d m. All-append (AreBeside (get_or xs i d)) ys zs (h i d m) (k i d m)
+both_beside : (xs ys zs : List Filling) → All (λ (x : Filling). All (DoNotOverlap x) ys) xs → All (λ (x : Filling). All (DoNotOverlap x) zs) xs → All (λ (x : Filling). All (DoNotOverlap x) (ys ++ zs)) xs
+both_beside xs ys zs h k = λ i d m. All-append (DoNotOverlap (get_or xs i d)) ys zs (h i d m) (k i d m)
 
 -- those in file bytes lie beside each other
-stored_beside : (l : Layout) → IsLoadable l.kind → KeepsAll l → IsLaidOut l → HavePlaces l (section_fillings l) → SlotTables l → AllPairs AreBeside (stored_fillings l)
+stored_beside : (l : Layout) → IsLoadable l.kind → KeepsAll l → IsLaidOut l → HavePlaces l (section_fillings l) → SlotTables l → AllPairs DoNotOverlap (stored_fillings l)
 stored_beside l kind keeps laid h t =
-    AllPairs-append AreBeside (sections_filled l) (slots_filled l ++ blocks_filled l)
+    AllPairs-append DoNotOverlap (sections_filled l) (slots_filled l ++ blocks_filled l)
     (places_beside l (section_fillings l) kind keeps laid h)
     (tables_beside l kind keeps laid t)
     (both_beside (sections_filled l) (slots_filled l) (blocks_filled l) (sections_beside l role.Got (slots_filled l) refl (λ e. cc) kind keeps laid h t.got) (sections_beside l role.GotRelr (blocks_filled l) refl (λ e. cc) kind keeps laid h t.block))
@@ -147,30 +147,30 @@ stored_beside l kind keeps laid h t =
 -- ---- copies
 
 -- a copy and a filling in file bytes
-behind_beside : (l : Layout) (x y : Filling) → (LiesBehind l y) → ((a : ℕ) → IsBehind l a → Misses a x) → AreBeside x y
+behind_beside : (l : Layout) (x y : Filling) → (LiesBehind l y) → ((a : ℕ) → IsPastFileBytes l a → Misses a x) → DoNotOverlap x y
 behind_beside l x y behind misses = λ k lt j less e. misses (y.entry.offset + j) (behind j less) k lt (sym e)
 
-table_behind : (l : Layout) (r : Role) (xs : List Filling) → is_loaded_role r ≡ true → IsLoadable l.kind → KeepsAll l → IsLaidOut l → InTable l r xs → All (λ (x : Filling). (a : ℕ) → IsBehind l a → Misses a x) xs
+table_behind : (l : Layout) (r : Role) (xs : List Filling) → is_loaded_role r ≡ true → IsLoadable l.kind → KeepsAll l → IsLaidOut l → InTable l r xs → All (λ (x : Filling). (a : ℕ) → IsPastFileBytes l a → Misses a x) xs
 table_behind l r xs loaded kind keeps laid t = λ i d m. (λ a b. behind_misses l (role_home l r) a (get_or xs i d) kind laid (role_there l r loaded (not_hollow_role l r keeps) kind laid) (t.within i d m) b)
 
 -- no filling in file bytes has a byte behind file bytes
-pub stored_misses : (l : Layout) → IsLoadable l.kind → KeepsAll l → IsLaidOut l → HavePlaces l (section_fillings l) → SlotTables l → All (λ (x : Filling). (a : ℕ) → IsBehind l a → Misses a x) (stored_fillings l)
+pub stored_misses : (l : Layout) → IsLoadable l.kind → KeepsAll l → IsLaidOut l → HavePlaces l (section_fillings l) → SlotTables l → All (λ (x : Filling). (a : ℕ) → IsPastFileBytes l a → Misses a x) (stored_fillings l)
 stored_misses l kind keeps laid h t =
-    let P : Filling → Type 0 = λ x. (a : ℕ) → IsBehind l a → Misses a x in
+    let P : Filling → Type 0 = λ x. (a : ℕ) → IsPastFileBytes l a → Misses a x in
     All-append P (sections_filled l) (slots_filled l ++ blocks_filled l)
     (All-flat_map P (section_fillings l) (all_sections l) (λ i d m. (λ k e n. (λ a b. behind_misses l (section_home l (get_or (all_sections l) i d)) a (get_or (section_fillings l (get_or (all_sections l) i d)) k e) kind laid (stored_home l (get_or (all_sections l) i d) (h.stored i d m (not_empty _ k n))) (h.within i d m k e n) b))))
     (All-append P (slots_filled l) (blocks_filled l) (table_behind l role.Got (slots_filled l) refl kind keeps laid t.got) (table_behind l role.GotRelr (blocks_filled l) refl kind keeps laid t.block))
 
 -- ---- all of them
 
-pub all_beside : (l : Layout) (w : World) → FilledLaws → IsFilledWell l w → AllPairs AreBeside (all_fillings l w)
+pub all_beside : (l : Layout) (w : World) → FilledLaws → IsFilledWell l w → AllPairs DoNotOverlap (all_fillings l w)
 all_beside l w laws h =
     let have = have_places l laws.carried h.kind h.keeps h.laid h.decided in
     let t = slot_tables l w laws h in
     let c = copies_of_well l w h in
     let misses = stored_misses l h.kind h.keeps h.laid have t in
     let behind = copies_behind l w laws.copies c in
-    AllPairs-append AreBeside (stored_fillings l) (copies_filled l w)
+    AllPairs-append DoNotOverlap (stored_fillings l) (copies_filled l w)
     (stored_beside l h.kind h.keeps h.laid have t)
     (copies_beside l w laws.copies c)
     (λ i d m. (λ k e n. behind_beside l (get_or (stored_fillings l) i d) (get_or (copies_filled l w) k e) (behind k e n) (misses i d m)))
@@ -202,7 +202,7 @@ place_low w m x h = by_table x.table x.entry x.width h.low h.makes
     by_table JumpTable e n low h = All-nil P
 
 -- and has a byte
-one_differs : (w : World) (m : Memory) (x y : Filling) → IsKnown w m x → IsKnown w m y → AreBeside x y → All (λ (a : ℕ). All (λ (b : ℕ). a ≢ b) (packed_in y)) (packed_in x)
+one_differs : (w : World) (m : Memory) (x y : Filling) → IsKnown w m x → IsKnown w m y → DoNotOverlap x y → All (λ (a : ℕ). All (λ (b : ℕ). a ≢ b) (packed_in y)) (packed_in x)
 one_differs w m x y hx hy beside = first x.table x.entry x.width hx.makes beside
   where
     second : (a : ℕ) (t : Table) (e : Rela) (n : ℕ) → Makes w m t e n → Misses a (record { table = t; entry = e; width = n }) → All (λ (b : ℕ). a ≢ b) (packed_in (record { table = t; entry = e; width = n }))
@@ -214,13 +214,13 @@ one_differs w m x y hx hy beside = first x.table x.entry x.width hx.makes beside
     P : ℕ → Type 0
     P a = All (λ (b : ℕ). a ≢ b) (packed_in y)
 
-    first : (t : Table) (e : Rela) (n : ℕ) → Makes w m t e n → AreBeside (record { table = t; entry = e; width = n }) y → All P (packed_in (record { table = t; entry = e; width = n }))
+    first : (t : Table) (e : Rela) (n : ℕ) → Makes w m t e n → DoNotOverlap (record { table = t; entry = e; width = n }) y → All P (packed_in (record { table = t; entry = e; width = n }))
     first PackedTable e n h b = All-cons P e.offset [] (second e.offset y.table y.entry y.width hy.makes (λ j lt at. b 0 (let eight = h.0 in omega (arith, eight)) j lt (omega (arith, at)))) (All-nil P)
     first RelativeTable e n h b = All-nil P
     first GeneralTable e n h b = All-nil P
     first JumpTable e n h b = All-nil P
 
-places_differ : (w : World) (m : Memory) (xs : List Filling) → All (IsKnown w m) xs → AllPairs AreBeside xs → AllPairs (λ (a b : ℕ). a ≢ b) (flat_map packed_in xs)
+places_differ : (w : World) (m : Memory) (xs : List Filling) → All (IsKnown w m) xs → AllPairs DoNotOverlap xs → AllPairs (λ (a b : ℕ). a ≢ b) (flat_map packed_in xs)
 places_differ w m xs known beside =
     AllPairs-flat_map (λ (a b : ℕ). a ≢ b) packed_in xs
     (λ k d lt. one_alone (get_or xs k d).table (get_or xs k d).entry)
@@ -235,7 +235,7 @@ places_differ w m xs known beside =
 blocks_whole : (l : Layout) → BlocksAreWhole → IsLaidOut l → HasWholeSlots l → AreWhole l
 blocks_whole l law laid whole = λ g c. law l whole.order (let e = (table_ends l role.GotRelr refl laid).1 in omega (arith, e)) (laid.roles role.GotRelr (placed role.GotRelr refl)).missing g c
 
-packed_there : (l : Layout) (w : World) → FilledLaws → IsFilledWell l w → AllPairs AreBeside (all_fillings l w) → All (IsKnown w (image_memory l w)) (all_fillings l w) → IsPermutation (flat_map packed_in (all_fillings l w)) (places (tables_of l).words)
+packed_there : (l : Layout) (w : World) → FilledLaws → IsFilledWell l w → AllPairs DoNotOverlap (all_fillings l w) → All (IsKnown w (image_memory l w)) (all_fillings l w) → IsPermutation (flat_map packed_in (all_fillings l w)) (places (tables_of l).words)
 packed_there l w laws h beside known =
     let m = image_memory l w in
     let xs = all_fillings l w in

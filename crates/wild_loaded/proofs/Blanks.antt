@@ -1,10 +1,10 @@
 -- Input sections without data, in sections that have bytes in the file: their bytes are zeros, and stay so.
 use Rattle.wild_meaning.proofs.OutputLemmas.{not_partial}
 use Rattle.std.specs.List.{flat_map}
-use Rattle.wild_laid.specs.Laid.{as_loaded}
-use Rattle.wild_geometry.specs.Laid.{IsLaid}
-use Rattle.wild_geometry.proofs.HollowLemmas.{part_is_written}
-use Rattle.wild_geometry.proofs.StoodSections.{listed_section}
+use Rattle.wild_placement.specs.PlacedSections.{as_loaded}
+use Rattle.wild_geometry.specs.PlacedSections.{IsPlacedSection}
+use Rattle.wild_geometry.proofs.HeaderOnlyLemmas.{part_is_written}
+use Rattle.wild_geometry.proofs.PlacedInputs.{listed_section}
 use Rattle.wild_geometry.proofs.KeptItems.{input_stands, turned_fields}
 use Rattle.std.proofs.Common.{◌≡◌, ℕ, ◌+◌, ◌<◌, ◌≤◌, ◌==◌, Bool, true, false, not, ◌&&◌, List, [], length, replicate, refl, sym, ap, ◌∙◌, arith, subst}
 use Rattle.std.specs.Prelude.{Option, Some, All, if◌then◌else◌, option_to_list}
@@ -18,7 +18,7 @@ use Rattle.wild_types.specs.declared.input.InputRelocation.{InputRelocation}
 use Rattle.wild_types.specs.declared.input.InputSection.{InputSection}
 use Rattle.wild_types.specs.declared.file.File.{File}
 use Rattle.wild_types.specs.declared.layout.Layout.{Layout}
-use Rattle.wild_types.specs.Lookups.{without_data, section_of, section_of_part, has_data, is_hollow_part, is_loaded, is_filled, allocated, has_relocations}
+use Rattle.wild_types.specs.Lookups.{without_data, section_of, section_of_part, has_data, is_header_only_part, is_loaded, is_filled, allocated, has_relocations}
 use Rattle.wild_layout.specs.Sites.{section_bytes}
 use Rattle.wild_layout.specs.Image.{bytes}
 use Rattle.wild_layout.specs.Geometry.{IsLaidOut}
@@ -26,13 +26,13 @@ use Rattle.wild_loader.specs.declared.memory.Memory.{Memory}
 use Rattle.wild_loader.specs.declared.world.World.{World}
 use Rattle.wild_loader.specs.Memory.{byte_in}
 use Rattle.wild_loader.specs.SegmentLaws.{BytesAreLoaded}
-use Rattle.wild_meaning.specs.Section.{IsHollow, HasFileBytes}
+use Rattle.wild_meaning.specs.Section.{IsHeaderOnly, HasFileBytes}
 use Rattle.wild_meaning.specs.World.{IsLoadable}
-use Rattle.wild_meaning.specs.Linked.{IsBlank}
+use Rattle.wild_meaning.specs.LinkedImage.{IsSectionWithoutData}
 use Rattle.wild_meaning.proofs.BitLemmas.{alloc_bit}
 use Rattle.wild_loaded.specs.Memory.{IsStored, image_memory, Filled}
 use Rattle.wild_loaded.specs.Laws.{BlanksAreStored}
-use Rattle.wild_loaded.proofs.Carried.{kept_carried, filled_held}
+use Rattle.wild_loaded.proofs.SectionBytesInMemory.{kept_carried, filled_held}
 use Rattle.wild_loaded.proofs.Fillings.{Misses}
 use Rattle.wild_loaded.proofs.MadeChanges.{IsMovedImage, kept_at}
 use Rattle.wild_loaded.proofs.OutsideTables.{section_misses}
@@ -46,13 +46,13 @@ has_bytes l n h =
     subst (λ (k : ℕ). has_data l k ≡ true) (sym at) (subst (λ (o : Option Section). not (without_data o) ≡ true) (sym h.found) (ap not none))
 
 -- which are written
-bytes_written : (l : Layout) (n : ℕ) → HasFileBytes l n → is_hollow_part l n ≡ false
-bytes_written l n h = part_is_written l n (λ p e hollow. (let both : Some p ≡ Some h.part = sym e ∙ h.listed in let is : p ≡ h.part = cc in h.written (subst (IsHollow l) is hollow)))
+bytes_written : (l : Layout) (n : ℕ) → HasFileBytes l n → is_header_only_part l n ≡ false
+bytes_written l n h = part_is_written l n (λ p e header_only. (let both : Some p ≡ Some h.part = sym e ∙ h.listed in let is : p ≡ h.part = cc in h.written (subst (IsHeaderOnly l) is header_only)))
 
 -- the section as it stands
 pub record StandsBlank (l : Layout) (s : InputSection) : Type 0 where
   pub section : InputSection
-  pub input : IsLaid l section
+  pub input : IsPlacedSection l section
   pub loaded : section.slot ≡ slot.Loaded
   pub blank : section.nobits ≡ true
   pub part : section.part ≡ s.part
@@ -60,7 +60,7 @@ pub record StandsBlank (l : Layout) (s : InputSection) : Type 0 where
   pub size : section.size ≡ s.size
   pub flags : section.flags ≡ s.flags
 
-blank_stands : (l : Layout) (s : InputSection) → IsLoadable l.kind → IsLaidOut l → IsBlank l s → StandsBlank l s
+blank_stands : (l : Layout) (s : InputSection) → IsLoadable l.kind → IsLaidOut l → IsSectionWithoutData l s → StandsBlank l s
 blank_stands l s kind laid b =
     let t = input_stands l s (not_partial l.kind kind) laid b.input b.loaded in
     let e = t.is in
@@ -91,7 +91,7 @@ zero_bytes : (l : Layout) (f : File) (s : InputSection) → s.nobits ≡ true �
 unfolding section_bytes
 zero_bytes l f s e = rw e refl
 
-blank_stored : (l : Layout) (s : InputSection) → IsLoadable l.kind → IsLaidOut l → IsLaid l s → allocated s.flags ≡ true → is_loaded s.slot ≡ true → is_filled l s ≡ true → 1 ≤ s.size → IsStored l s
+blank_stored : (l : Layout) (s : InputSection) → IsLoadable l.kind → IsLaidOut l → IsPlacedSection l s → allocated s.flags ≡ true → is_loaded s.slot ≡ true → is_filled l s ≡ true → 1 ≤ s.size → IsStored l s
 blank_stored l s kind laid input room loaded filled some = record { some = some; place = Filled filled; carried = kept_carried l s kind laid input room loaded filled }
 
 pub blanks_stored : BytesAreLoaded → BlanksAreStored
@@ -117,7 +117,7 @@ unfilled l s a blank =
     by_reads false true e = refl
     by_reads b false e = cc
 
-pub blank_moved : (l : Layout) (w : World) (m : Memory) (s : InputSection) (k : ℕ) → BlanksAreStored → IsMovedImage l w m → IsBlank l s → HasFileBytes l s.part → k < s.size → byte_in m (w.base + (s.address + k)) ≡ Some 0
+pub blank_moved : (l : Layout) (w : World) (m : Memory) (s : InputSection) (k : ℕ) → BlanksAreStored → IsMovedImage l w m → IsSectionWithoutData l s → HasFileBytes l s.part → k < s.size → byte_in m (w.base + (s.address + k)) ≡ Some 0
 blank_moved l w m s k law h b f lt =
     let t = blank_stands l s h.well.kind h.well.laid b in
     let size = t.size in

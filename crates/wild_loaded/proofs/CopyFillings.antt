@@ -14,14 +14,14 @@ use Rattle.wild_types.specs.declared.section.Segment.{Segment}
 use Rattle.wild_types.specs.declared.file.File.{File}
 use Rattle.wild_types.specs.declared.file.Group.{Group}
 use Rattle.wild_types.specs.declared.layout.Layout.{Layout}
-use Rattle.wild_types.specs.FileSymbols.{copies_of, copied_in, are_new, copied_again}
+use Rattle.wild_types.specs.FileSymbols.{copies_of, copied_definitions, are_distinct_from, first_double_copy}
 use Rattle.wild_types.specs.FileRoles.{is_library}
 use Rattle.wild_types.specs.Lookups.{canonical}
 use Rattle.wild_types.proofs.FileLemmas.{library_role}
 use Rattle.wild_layout.specs.Numbers.{NumbersFit}
 use Rattle.wild_layout.specs.Faults.{flat_map_from, group_errors}
 use Rattle.wild_layout.specs.Geometry.{IsLaidOut}
-use Rattle.wild_layout.specs.Left.{copy_entry}
+use Rattle.wild_layout.specs.DynamicRelocations.{copy_entry}
 use Rattle.wild_loader.specs.declared.change.Change.{Change}
 use Rattle.wild_loader.specs.declared.change.Change.TheVariants as changes
 use Rattle.wild_loader.specs.declared.fault.LoadFault.{LoadFault}
@@ -31,14 +31,14 @@ use Rattle.wild_loader.specs.declared.world.World.{World}
 use Rattle.wild_loader.specs.Changes.{change_of, size_of, kind_of}
 use Rattle.wild_loader.specs.Memory.{byte_in}
 use Rattle.wild_loader.specs.Relocate.{loaded_at}
-use Rattle.wild_meaning.specs.World.{IsLegal, IsBehind, IsCopied, HasCopy, IsLoadable}
+use Rattle.wild_meaning.specs.World.{IsLegal, IsPastFileBytes, IsCopied, HasCopy, IsLoadable}
 use Rattle.wild_meaning.proofs.SymbolLemmas.{canonical_is}
 use Rattle.wild_loaded.specs.Memory.{image_memory}
-use Rattle.wild_loaded.specs.Stored.{Copies}
+use Rattle.wild_loaded.specs.StoredTables.{Copies}
 use Rattle.wild_loaded.specs.Laws.{ZerosAreStored, EntriesHaveChanges, CopiesAreThere}
 use Rattle.wild_loaded.proofs.PairLemmas.{AllPairs-fewer, All-unmap}
-use Rattle.wild_loaded.proofs.Fillings.{Filling, general_of, AreBeside, IsKnown, place_loaded}
-use Rattle.wild_meaning.specs.Linked.{processor_of}
+use Rattle.wild_loaded.proofs.Fillings.{Filling, general_of, DoNotOverlap, IsKnown, place_loaded}
+use Rattle.wild_meaning.specs.LinkedImage.{processor_of}
 use Rattle.wild_loader.specs.declared.memory.Machine.{Machine as Processor}
 use Rattle.wild_loaded.proofs.Loads.{image_machine}
 
@@ -114,17 +114,17 @@ copy_of l w i laws h c =
 -- ---- they lie behind file bytes
 
 abbrev pub LiesBehind : Layout → Filling → Type 0
-LiesBehind l x = (k : ℕ) → k < x.width → IsBehind l (x.entry.offset + k)
+LiesBehind l x = (k : ℕ) → k < x.width → IsPastFileBytes l (x.entry.offset + k)
 
 behind_of : (l : Layout) (w : World) (i : ℕ) (x : Filling) → HasCopies l w → IsCopyOf l w i x → LiesBehind l x
 behind_of l w i x h c = λ k lt.
     let width = c.width in
-    subst (λ (a : ℕ). IsBehind l (a + k)) (sym c.place) ((h.legal.symbols.copies i c.raw c.answer c.has).behind k (omega (arith, width, lt)))
+    subst (λ (a : ℕ). IsPastFileBytes l (a + k)) (sym c.place) ((h.legal.symbols.copies i c.raw c.answer c.has).behind k (omega (arith, width, lt)))
 
 pub copies_behind : (l : Layout) (w : World) → CopyLaws → HasCopies l w → All (LiesBehind l) (copies_filled l w)
 copies_behind l w laws h = All-map (LiesBehind l) (copy_filling l w) (all_copies l) (All-each (λ (i : ℕ). LiesBehind l (copy_filling l w i)) (all_copies l) (λ i c. behind_of l w i (copy_filling l w i) h (copy_of l w i laws h c)))
 
-segment_ends : (l : Layout) (w : World) (a : ℕ) → IsLegal l w → IsBehind l a → w.base + a + 1 ≤ 2 ^ 64
+segment_ends : (l : Layout) (w : World) (a : ℕ) → IsLegal l w → IsPastFileBytes l a → w.base + a + 1 ≤ 2 ^ 64
 segment_ends l w a legal b =
     let ends = All-contains (λ (g : Segment). g.kind ≡ pt_load → w.base + g.address + g.mem_size ≤ 2 ^ 64) l.segments b.segment legal.ends b.listed b.loads in
     let to = b.to in
@@ -173,21 +173,21 @@ none_is c (x ∷ xs) h =
 one_more : (xs : List ℕ) (c : ℕ) → AllPairs Differ xs → All (λ (d : ℕ). Differ d c) xs → AllPairs Differ (xs ++ c ∷ [])
 one_more xs c p h = AllPairs-append Differ xs (c ∷ []) p (AllPairs-cons Differ c [] (All-nil (Differ c)) (AllPairs-nil Differ)) (λ k d m. All-cons (Differ (get_or xs k d)) c [] (h k d m) (All-nil (Differ (get_or xs k d))))
 
-new_differ : (earlier cs : List ℕ) → AllPairs Differ earlier → are_new earlier cs ≡ true → AllPairs Differ (earlier ++ cs)
+new_differ : (earlier cs : List ℕ) → AllPairs Differ earlier → are_distinct_from earlier cs ≡ true → AllPairs Differ (earlier ++ cs)
 new_differ earlier [] p h = subst (AllPairs Differ) (sym (append-nil earlier)) p
 new_differ earlier (c ∷ cs) p h =
-    let both = and_parts (not (list_any (λ d. d == c) earlier)) (are_new (earlier ++ c ∷ []) cs) h in
+    let both = and_parts (not (list_any (λ d. d == c) earlier)) (are_distinct_from (earlier ++ c ∷ []) cs) h in
     let more = one_more earlier c p (none_is c earlier (not-true (list_any (λ d. d == c) earlier) both.0)) in
     subst (AllPairs Differ) (append_assoc earlier (c ∷ []) cs) (new_differ (earlier ++ c ∷ []) cs more both.1)
 
-groups_differ : (l : Layout) (earlier : List ℕ) (i : ℕ) (gs : List Group) → AllPairs Differ earlier → copied_again l earlier i gs ≡ None → AllPairs Differ (earlier ++ flat_map (copied_in l) gs)
+groups_differ : (l : Layout) (earlier : List ℕ) (i : ℕ) (gs : List Group) → AllPairs Differ earlier → first_double_copy l earlier i gs ≡ None → AllPairs Differ (earlier ++ flat_map (copied_definitions l) gs)
 groups_differ l earlier i [] p h = subst (AllPairs Differ) (sym (append-nil earlier)) p
 groups_differ l earlier i (g ∷ gs) p h =
-    elim (cases_Bool (are_new earlier (copied_in l g))) [
+    elim (cases_Bool (are_distinct_from earlier (copied_definitions l g))) [
       | inr f ↦ cc (rw f at h)
       | inl t ↦
-          (let rest : copied_again l (earlier ++ copied_in l g) (i + 1) gs ≡ None = rw t at h in
-          subst (AllPairs Differ) (append_assoc earlier (copied_in l g) (flat_map (copied_in l) gs)) (groups_differ l (earlier ++ copied_in l g) (i + 1) gs (new_differ earlier (copied_in l g) p t) rest))
+          (let rest : first_double_copy l (earlier ++ copied_definitions l g) (i + 1) gs ≡ None = rw t at h in
+          subst (AllPairs Differ) (append_assoc earlier (copied_definitions l g) (flat_map (copied_definitions l) gs)) (groups_differ l (earlier ++ copied_definitions l g) (i + 1) gs (new_differ earlier (copied_definitions l g) p t) rest))
     ]
 
 files_of_groups : {Y : Type 0} (f : File → List Y) (gs : List Group) → flat_map f (flat_map (λ (g : Group). g.files) gs) ≡ flat_map (λ (g : Group). flat_map f g.files) gs
@@ -196,7 +196,7 @@ files_of_groups f gs = flat_map-flat_map f (λ (g : Group). g.files) gs
 -- the definitions of the symbols that are copied
 copies_differ : (l : Layout) → IsLaidOut l → AllPairs Differ (map (canonical l) (all_copies l))
 copies_differ l laid =
-    let all : AllPairs Differ (flat_map (copied_in l) l.groups) = groups_differ l [] 0 l.groups (AllPairs-nil Differ) laid.copies in
+    let all : AllPairs Differ (flat_map (copied_definitions l) l.groups) = groups_differ l [] 0 l.groups (AllPairs-nil Differ) laid.copies in
     let whole : File → List ℕ = λ f. map (canonical l) f.copies in
     let some : File → List ℕ = λ f. map (canonical l) (copies_of f) in
     let files = flat_map (λ (g : Group). g.files) l.groups in
@@ -211,7 +211,7 @@ copies_differ l laid =
 
 -- ---- they lie beside each other
 
-two_beside : (l : Layout) (w : World) (i j : ℕ) → HasCopies l w → IsCopyOf l w i (copy_filling l w i) → IsCopyOf l w j (copy_filling l w j) → Differ (canonical l i) (canonical l j) → AreBeside (copy_filling l w i) (copy_filling l w j)
+two_beside : (l : Layout) (w : World) (i j : ℕ) → HasCopies l w → IsCopyOf l w i (copy_filling l w i) → IsCopyOf l w j (copy_filling l w j) → Differ (canonical l i) (canonical l j) → DoNotOverlap (copy_filling l w i) (copy_filling l w j)
 two_beside l w i j h a b other =
     let ci = a.has.given.definition in
     let cj = b.has.given.definition in
@@ -219,20 +219,20 @@ two_beside l w i j h a b other =
     let apart = h.legal.symbols.apart i j ci cj a.raw b.raw a.answer b.answer a.has.given.defined b.has.given.defined different a.has b.has in
     sides (copy_filling l w i) (copy_filling l w j) a.raw b.raw (length a.answer.bytes) (length b.answer.bytes) a.place b.place a.width b.width apart
   where
-    sides : (x y : Filling) (p q n m : ℕ) → x.entry.offset ≡ p → y.entry.offset ≡ q → x.width ≡ n → y.width ≡ m → (p + n ≤ q) ⊎ (q + m ≤ p) → AreBeside x y
+    sides : (x y : Filling) (p q n m : ℕ) → x.entry.offset ≡ p → y.entry.offset ≡ q → x.width ≡ n → y.width ≡ m → (p + n ≤ q) ⊎ (q + m ≤ p) → DoNotOverlap x y
     sides x y p q n m ep eq en em (inl le) = λ k lk o lo e. omega (arith, ep, eq, en, em, le, lk, lo, e)
     sides x y p q n m ep eq en em (inr le) = λ k lk o lo e. omega (arith, ep, eq, en, em, le, lk, lo, e)
 
-beside_in : (l : Layout) (w : World) (xs : List ℕ) → HasCopies l w → All (λ (i : ℕ). IsCopyOf l w i (copy_filling l w i)) xs → AllPairs Differ (map (canonical l) xs) → AllPairs AreBeside (map (copy_filling l w) xs)
-beside_in l w [] h all p = AllPairs-nil AreBeside
+beside_in : (l : Layout) (w : World) (xs : List ℕ) → HasCopies l w → All (λ (i : ℕ). IsCopyOf l w i (copy_filling l w i)) xs → AllPairs Differ (map (canonical l) xs) → AllPairs DoNotOverlap (map (copy_filling l w) xs)
+beside_in l w [] h all p = AllPairs-nil DoNotOverlap
 beside_in l w (i ∷ xs) h all p =
     let P : ℕ → Type 0 = λ i. IsCopyOf l w i (copy_filling l w i) in
     let first = All-head P i xs all in
     let rest = All-tail P i xs all in
     let others = All-unmap (Differ (canonical l i)) (canonical l) xs (AllPairs-head Differ (canonical l i) (map (canonical l) xs) p) in
-    AllPairs-cons AreBeside (copy_filling l w i) (map (copy_filling l w) xs)
-    (All-map (AreBeside (copy_filling l w i)) (copy_filling l w) xs (λ k d m. two_beside l w i (get_or xs k d) h first (rest k d m) (others k d m)))
+    AllPairs-cons DoNotOverlap (copy_filling l w i) (map (copy_filling l w) xs)
+    (All-map (DoNotOverlap (copy_filling l w i)) (copy_filling l w) xs (λ k d m. two_beside l w i (get_or xs k d) h first (rest k d m) (others k d m)))
     (beside_in l w xs h rest (AllPairs-tail Differ (canonical l i) (map (canonical l) xs) p))
 
-pub copies_beside : (l : Layout) (w : World) → CopyLaws → HasCopies l w → AllPairs AreBeside (copies_filled l w)
+pub copies_beside : (l : Layout) (w : World) → CopyLaws → HasCopies l w → AllPairs DoNotOverlap (copies_filled l w)
 copies_beside l w laws h = beside_in l w (all_copies l) h (All-each (λ (i : ℕ). IsCopyOf l w i (copy_filling l w i)) (all_copies l) (λ i c. copy_of l w i laws h c)) (copies_differ l h.laid)

@@ -6,8 +6,8 @@ use Rattle.std.specs.List.{flat_map}
 use Rattle.std.proofs.lemmas.Bool.{cases_Bool}
 use Rattle.std.proofs.lemmas.List.{length-append, length-replicate}
 use Rattle.std.proofs.lemmas.List.Elements.{All-nil, All-append, All-contains}
-use Rattle.wild_words.specs.Words.{Stands}
-use Rattle.wild_words.proofs.OverlayLemmas.{Stands-inner}
+use Rattle.wild_words.specs.Words.{HasBytesAt}
+use Rattle.wild_words.proofs.OverlayLemmas.{HasBytesAt-inner}
 use Rattle.wild_records.specs.Abi.Segment.{pt_dynamic}
 use Rattle.wild_records.specs.Dynamic.{dynamic_entry_size, DynamicEntryFits}
 use Rattle.wild_records.specs.declared.dynamic.DynamicEntry.{DynamicEntry}
@@ -19,26 +19,26 @@ use Rattle.wild_types.specs.declared.layout.Layout.{Layout}
 use Rattle.wild_needs.specs.declared.dynamic.DynamicTag.TheVariants as tags
 use Rattle.wild_needs.specs.Dynamic.{dynamic_number, dynamic_entry, dynamic_flags, dynamic_entries, dynamic_count}
 use Rattle.wild_types.specs.Parts.{part_with}
-use Rattle.wild_types.specs.Hollow.{KeepsAll}
+use Rattle.wild_types.specs.HeaderOnly.{KeepsAll}
 use Rattle.wild_types.specs.Kinds.{needs_dynamic}
 use Rattle.wild_types.proofs.LookupLemmas.{not_hollow_at}
 use Rattle.wild_types.specs.Lookups.{image_size}
-use Rattle.wild_headers.specs.Headers.{program_header}
+use Rattle.wild_table_formats.specs.Headers.{program_header}
 use Rattle.wild_layout.specs.Image.{bytes}
 use Rattle.wild_layout.specs.Numbers.{NumbersFit}
 use Rattle.wild_layout.specs.Loadable.{SegmentLoads, first_dynamic}
 use Rattle.wild_layout.specs.TablePlaces.{table_bytes, all_needed}
 use Rattle.wild_layout.specs.Geometry.{IsLaidOut, TablesStand}
 use Rattle.wild_layout.specs.Content.{dynamic_room}
-use Rattle.wild_loader.specs.Tables.{first_dynamic as found_dynamic, tagged}
+use Rattle.wild_loader.specs.Tables.{first_dynamic as found_dynamic, value_of_tag}
 use Rattle.wild_loader.specs.SegmentLaws.{word_bytes, rela_bytes}
-use Rattle.wild_loader.specs.Laws.{HasDynamic, HasTables, IsTableOf, before_null}
-use Rattle.wild_tables.specs.Dynamic.{dynamic_records, dynamic_bytes, entries_bytes, IsNeeded, NeededAreOfLibraries, LengthsOfRecords, RecordsStand, RecordsFit, EntriesAreFound, TablesAreNamed}
+use Rattle.wild_loader.specs.Laws.{HasDynamic, HasTables, IsTableOf, entries_before_null}
+use Rattle.wild_table_formats.specs.DynamicSection.{dynamic_records, dynamic_bytes, entries_bytes, IsNeeded, NeededAreOfLibraries, LengthsOfRecords, RecordsAreInOrder, RecordsFit, EntriesAreFound, TablesAreNamed}
 use Rattle.wild_relr.specs.Laws.{WordsFit}
 use Rattle.wild_loader.proofs.TableLemmas.{no_tag}
-use Rattle.wild_slots.specs.Stand.{PairStands}
+use Rattle.wild_slots.specs.SlotPlaces.{PairIsPlaced}
 use Rattle.wild_loaded.specs.WholeSlots.{HasWholeSlots}
-use Rattle.wild_loaded.specs.Laws.{DynamicSectionsStand, TablesAreFound}
+use Rattle.wild_loaded.specs.Laws.{DynamicSectionsAreThere, TablesAreFound}
 use Rattle.wild_loaded.specs.Tables.{tables_of}
 use Rattle.wild_loaded.proofs.Loads.{length-bytes}
 use Rattle.wild_loaded.proofs.TablesFit.{entries_fit, jumps_fit, words_fit}
@@ -50,7 +50,7 @@ pub record SectionLaws : Type 0 where
   pub stand : TablesStand
   pub needed : NeededAreOfLibraries
   pub lengths : LengthsOfRecords
-  pub records : RecordsStand
+  pub records : RecordsAreInOrder
   pub fit : RecordsFit
   pub found : EntriesAreFound
 
@@ -59,7 +59,7 @@ pub record DynamicLaws : Type 0 where
   pub section : SectionLaws
   pub named : TablesAreNamed
   pub words : WordsFit
-  pub pair : PairStands
+  pub pair : PairIsPlaced
 
 -- ---- the part of the dynamic section
 
@@ -78,7 +78,7 @@ some_entry : (l : Layout) → EntriesAreFound → needs_dynamic l.kind ≡ true 
 unfolding dynamic_entry
 some_entry l law needs = by_entries (dynamic_entries l) (law l [] [] tags.Flags (All-nil IsNeeded) needs (λ e. cc))
   where
-    by_entries : (ds : List DynamicEntry) → tagged (dynamic_number tags.Flags) (before_null (ds ++ [])) ≡ Some (dynamic_flags l.kind l.options) → 1 ≤ length ds
+    by_entries : (ds : List DynamicEntry) → value_of_tag (dynamic_number tags.Flags) (entries_before_null (ds ++ [])) ≡ Some (dynamic_flags l.kind l.options) → 1 ≤ length ds
     by_entries [] h = (let e : None ≡ Some (dynamic_flags l.kind l.options) = sym (no_tag (dynamic_number tags.Flags)) ∙ h in cc)
     by_entries (d ∷ ds) h = omega arith
 
@@ -158,8 +158,8 @@ has_dynamic l laws keeps needs numbers laid d =
     let o = place.0 in
     let z = place.1 in
     let here = laws.stand l laid role.Dynamic (λ e. cc) d.part d.there written d.some in
-    let whole = subst (λ (bs : List ℕ). Stands (bytes l) d.part.offset bs) d.bytes here in
-    let inner = Stands-inner (bytes l) (entries_bytes (all_needed l) ++ dynamic_bytes l d.room) (entries_bytes (all_records l d.room)) d.part.offset 0 whole at.stand in
+    let whole = subst (λ (bs : List ℕ). HasBytesAt (bytes l) d.part.offset bs) d.bytes here in
+    let inner = HasBytesAt-inner (bytes l) (entries_bytes (all_needed l) ++ dynamic_bytes l d.room) (entries_bytes (all_records l d.room)) d.part.offset 0 whole at.stand in
     let nothing : d.part.offset + 0 ≡ (program_header l s.segment).offset = (let f : d.part.offset + 0 ≡ d.part.offset = omega arith in f ∙ sym offset) in
     record {
       segment = program_header l s.segment;
@@ -167,11 +167,11 @@ has_dynamic l laws keeps needs numbers laid d =
       room = omega (arith, file, n, o, z);
       count = ap (λ (k : ℕ). k / dynamic_entry_size) size ∙ at.count;
       fits = All-append DynamicEntryFits (all_needed l) (dynamic_records l d.room) (laws.needed.fit l l.groups numbers.starts) (laws.fit l d.room numbers.dynamic);
-      entries = subst (λ (a : ℕ). Stands (bytes l) a (entries_bytes (all_records l d.room))) nothing inner;
+      entries = subst (λ (a : ℕ). HasBytesAt (bytes l) a (entries_bytes (all_records l d.room))) nothing inner;
     }
 
 -- so it is found, whatever the tables are
-pub entries_found : SectionLaws → DynamicSectionsStand
+pub entries_found : SectionLaws → DynamicSectionsAreThere
 entries_found laws = λ l keeps needs numbers laid.
     let d = dynamic_part l laws.lengths laws.found laid needs in
     record { room = d.room; dynamic = has_dynamic l laws keeps needs numbers laid d }

@@ -15,21 +15,21 @@ use Rattle.wild_types.specs.declared.layout.Entry.{Entry}
 use Rattle.wild_types.specs.declared.layout.Entry.TheVariants as entry
 use Rattle.wild_types.specs.declared.layout.Layout.{Layout}
 use Rattle.wild_types.specs.Addresses.{raw_value}
-use Rattle.wild_needs.specs.EntryPoint.{entry_point, told, entry_by, entry_value}
+use Rattle.wild_needs.specs.EntryPoint.{entry_point, without_warning, entry_by, entry_value}
 use Rattle.wild_types.specs.Flags.{has_flag, ifunc}
 use Rattle.wild_types.specs.Lookups.{canonical}
 use Rattle.wild_slot.specs.Treatment.{flags_at}
-use Rattle.wild_headers.specs.Headers.{entry_address, file_type, file_header, with_execute, program_header, section_headers_of}
+use Rattle.wild_table_formats.specs.Headers.{entry_address, file_type, file_header, with_execute, program_header, section_headers_of}
 use Rattle.wild_layout.specs.Image.{bytes}
 use Rattle.wild_layout.specs.Loadable.{IsPaged}
 use Rattle.wild_loader.specs.SegmentLaws.{HasHeaders}
 use Rattle.wild_loader.proofs.RecordLists.{programs-read}
-use Rattle.wild_meaning.specs.Segments.{headers_in, TellsSegment, AreTold}
-use Rattle.wild_meaning.specs.Linked.{TellsSizes, IsDecidedPlace}
+use Rattle.wild_meaning.specs.Segments.{headers_in, DescribesSegment, DescribeSegments}
+use Rattle.wild_meaning.specs.LinkedImage.{HasStandardSizes, HasResolvedAddress}
 use Rattle.wild_meaning.specs.World.{IsLoadable}
 use Rattle.wild_meaning.proofs.SymbolLemmas.{canonical_is}
 use Rattle.wild_meaning.proofs.OutputLemmas.{not_partial}
-use Rattle.wild_loaded.specs.Laws.{HeadersTell}
+use Rattle.wild_loaded.specs.Laws.{HeadersDescribeOutput}
 use Rattle.wild_loaded.specs.Memory.{headers_of}
 use Rattle.wild_loaded.proofs.FileType.{kind_fits, movable_type}
 use Rattle.wild_loaded.proofs.Loads.{has_headers}
@@ -45,7 +45,7 @@ type_is l = refl
 -- the entry is that of its case
 entry_by_case : (l : Layout) (e : Option Entry) → IsLoadable l.kind → l.entry ≡ e → entry_address l ≡ (entry_by l e).address
 unfolding entry_point
-entry_by_case l e k is = ap (λ (b : Bool). (if b then told 0 else entry_by l l.entry).address) (not_partial l.kind k) ∙ ap (λ (o : Option Entry). (entry_by l o).address) is
+entry_by_case l e k is = ap (λ (b : Bool). (if b then without_warning 0 else entry_by l l.entry).address) (not_partial l.kind k) ∙ ap (λ (o : Option Entry). (entry_by l o).address) is
 
 -- ---- an entry that is a symbol
 
@@ -60,7 +60,7 @@ raw_is : (l : Layout) (i c : ℕ) (s : Symbol) (r : Resolution) → canonical l 
 unfolding raw_value
 raw_is l i c s r is listed decided = rw (is, listed, decided) refl
 
-plain_entry : (l : Layout) (i a : ℕ) → IsDecidedPlace l i a → entry_value l i ≡ Some a
+plain_entry : (l : Layout) (i a : ℕ) → HasResolvedAddress l i a → entry_value l i ≡ Some a
 plain_entry l i a h =
     let flagged = canonical_is l i h.plain.definition h.plain.defined in
     let flags = flags_are l i h.plain.definition h.plain.symbol flagged h.plain.listed in
@@ -68,7 +68,7 @@ plain_entry l i a h =
     let given = raw_is l i h.definition h.given.symbol h.given.resolution (canonical_is l i h.definition h.defined) h.given.listed h.given.decided in
     rw plain (given ∙ ap (λ (v : ℕ). Some v) (sym h.given.value))
 
-symbol_entry : (l : Layout) (i a : ℕ) → IsLoadable l.kind → l.entry ≡ Some (entry.Symbol i) → IsDecidedPlace l i a → entry_address l ≡ a
+symbol_entry : (l : Layout) (i a : ℕ) → IsLoadable l.kind → l.entry ≡ Some (entry.Symbol i) → HasResolvedAddress l i a → entry_address l ≡ a
 symbol_entry l i a k is h =
     let by = entry_by_case l (Some (entry.Symbol i)) k is in
     let value = plain_entry l i a h in
@@ -89,7 +89,7 @@ executes f =
       | inr n ↦ (let e : f / 1 % 2 ≡ 0 → ⊥ = eqb-false _ _ n in rw n (omega (arith, e)))
     ]
 
-one_told : (l : Layout) (g : Segment) → IsPaged l.page_size g → TellsSegment l g (program_header l g)
+one_told : (l : Layout) (g : Segment) → IsPaged l.page_size g → DescribesSegment l g (program_header l g)
 unfolding program_header
 one_told l g paged = record {
   kind = refl;
@@ -106,7 +106,7 @@ one_told l g paged = record {
 }
 
 -- each program header tells its segment
-each_told : (l : Layout) (gs : List Segment) → All (IsPaged l.page_size) gs → AreTold l gs (map (program_header l) gs)
+each_told : (l : Layout) (gs : List Segment) → All (IsPaged l.page_size) gs → DescribeSegments l gs (map (program_header l) gs)
 each_told l [] h = tt
 each_told l (g ∷ gs) h = (one_told l g (All-head (IsPaged l.page_size) g gs h), each_told l gs (All-tail (IsPaged l.page_size) g gs h))
 
@@ -118,13 +118,13 @@ headers_read file program l headers =
     let count = headers.program_count in
     rw (is, count) (programs-read program (bytes l) (headers_of l) e.program_offset headers.programs_fit headers.programs)
 
-sizes_told : (l : Layout) → IsLoadable l.kind → TellsSizes (file_header l)
+sizes_told : (l : Layout) → IsLoadable l.kind → HasStandardSizes (file_header l)
 unfolding file_header
 sizes_told l k = record { ident_version = refl; version = refl; header = refl; program = ap (λ (b : Bool). if b then 0 else program_header_size) (not_partial l.kind k); section = refl; flags = refl }
 
 -- ---- the whole
 
-pub header_told : FileHeaderIsRead → ProgramHeaderIsRead → HeadersTell
+pub header_told : FileHeaderIsRead → ProgramHeaderIsRead → HeadersDescribeOutput
 header_told file program = λ l k numbers laid.
     let headers = has_headers l k numbers laid in
     record {
@@ -137,5 +137,5 @@ header_told file program = λ l k numbers laid.
       symbol = λ i a e d. entry_is l ∙ symbol_entry l i a k e d;
       none = λ e. entry_is l ∙ entry_by_case l None k e;
       sizes = sizes_told l k;
-      segments = subst (λ (hs : List ProgramHeader). AreTold l l.segments hs) (sym (headers_read file program l headers)) (each_told l l.segments (laid.loadable (not_partial l.kind k)).pages);
+      segments = subst (λ (hs : List ProgramHeader). DescribeSegments l l.segments hs) (sym (headers_read file program l headers)) (each_told l l.segments (laid.loadable (not_partial l.kind k)).pages);
     }

@@ -5,7 +5,7 @@ use Rattle.wild_types.specs.declared.kind.RelocationModel.TheVariants as model
 use Rattle.wild_types.specs.declared.kind.OutputKind.{OutputKind}
 use Rattle.wild_types.specs.declared.kind.OutputKind.TheVariants as output
 use Rattle.wild_types.specs.Kinds.{needs_dynamic, is_fixed_static}
-use Rattle.wild_headers.specs.Headers.{file_type}
+use Rattle.wild_table_formats.specs.Headers.{file_type}
 use Rattle.wild_meaning.specs.World.{IsFixed, IsMovable, IsLoadable}
 
 pub kind_fits : (k : OutputKind) → IsFixed k → file_type k ≡ et_exec

@@ -24,22 +24,22 @@ use Rattle.wild_loader.specs.Changes.{kind_of, change_of, size_of, patch_over}
 use Rattle.wild_loader.specs.Memory.{Holds, number_in}
 use Rattle.wild_loader.specs.Places.{places}
 use Rattle.wild_loader.specs.Relocate.{loaded_at, rela_patch, place_patch, runs_of_patches}
-use Rattle.wild_loader.specs.SegmentLaws.{IsApart, IsElsewhere}
+use Rattle.wild_loader.specs.SegmentLaws.{DoesNotOverlap, IsOutsideRun}
 use Rattle.wild_loader.specs.Laws.{NumbersAreRead}
-use Rattle.wild_loader.specs.EntryLaws.{PlacesAreMoved, EntriesMakeChanges, OrderIsFree, HasMade, patches_of}
+use Rattle.wild_loader.specs.EntryLaws.{PlacesAddBase, EntriesMakeChanges, OrderDoesNotMatter, HasMade, patches_of}
 use Rattle.wild_loader.proofs.EntryLemmas.{length-after}
 use Rattle.wild_loaded.specs.Words.{number_or, value_at, place_change, patch_or, entry_change}
 use Rattle.wild_loaded.proofs.Permuted.{flat_map-parts}
-use Rattle.wild_loaded.proofs.Fillings.{Table, PackedTable, RelativeTable, GeneralTable, JumpTable, Filling, Misses, AreBeside, HasChange, HasWord, Makes, IsKnown, loaded_is, packed_in, relative_in, general_in, jump_in}
+use Rattle.wild_loaded.proofs.Fillings.{Table, PackedTable, RelativeTable, GeneralTable, JumpTable, Filling, Misses, DoNotOverlap, HasChange, HasWord, Makes, IsKnown, loaded_is, packed_in, relative_in, general_in, jump_in}
 
 -- ---- changes
 
 -- what the loader's crate owes of changes
 pub record ChangeLaws : Type 0 where
   pub read : NumbersAreRead
-  pub moved : PlacesAreMoved
+  pub moved : PlacesAddBase
   pub entries : EntriesMakeChanges
-  pub order : OrderIsFree
+  pub order : OrderDoesNotMatter
 
 -- the number that memory has at a place
 pub value_is : (w : World) (m : Memory) (a n : ℕ) → NumbersAreRead → n < 2 ^ 64 → Holds m (loaded_at w a) (word 8 n) → value_at w m a ≡ n
@@ -99,7 +99,7 @@ has_run w m x laws h = by_table x.table x.entry x.width h.old h.wide h.held h.ma
     by_table JumpTable e n old wide held h = let r = of_entry w m (record { table = JumpTable; entry = e; width = n }) h old laws wide held in record { start = r.0; size = r.1 }
 
 -- runs without a common address
-pub runs_apart_by : (p q : Run) → ((k j : ℕ) → k < length p.bytes → j < length q.bytes → p.start + k ≡ q.start + j → ⊥) → IsApart p q
+pub runs_apart_by : (p q : Run) → ((k j : ℕ) → k < length p.bytes → j < length q.bytes → p.start + k ≡ q.start + j → ⊥) → DoesNotOverlap p q
 runs_apart_by p q h =
     elim (cases_Bool (nat_lt (max p.start q.start) (min (p.start + length p.bytes) (q.start + length q.bytes)))) [
       | inr f ↦ rw f refl
@@ -110,7 +110,7 @@ runs_apart_by p q h =
     by_start (inl lt) both = h (q.start - p.start) 0 (omega (arith, lt, both)) (omega (arith, lt, both)) (omega (arith, lt))
     by_start (inr le) both = h 0 (p.start - q.start) (omega (arith, le, both)) (omega (arith, le, both)) (omega (arith, le))
 
-both_apart : (w : World) (m : Memory) (x y : Filling) → ChangeLaws → IsKnown w m x → IsKnown w m y → AreBeside x y → IsApart (run_in w m x) (run_in w m y)
+both_apart : (w : World) (m : Memory) (x y : Filling) → ChangeLaws → IsKnown w m x → IsKnown w m y → DoNotOverlap x y → DoesNotOverlap (run_in w m x) (run_in w m y)
 both_apart w m x y laws hx hy beside =
     let rx = has_run w m x laws hx in
     let ry = has_run w m y laws hy in
@@ -123,14 +123,14 @@ both_apart w m x y laws hx hy beside =
     let lowy = loaded_is w y (omega (arith, lj, ny)) hy.low in
     beside k (omega (arith, lk, nx)) j (omega (arith, lj, ny)) (omega (arith, e, sx, sy, lowx, lowy))))
 
-pub runs_apart : (w : World) (m : Memory) (xs : List Filling) → ChangeLaws → All (IsKnown w m) xs → AllPairs AreBeside xs → AllPairs IsApart (map (run_in w m) xs)
-runs_apart w m [] laws known beside = AllPairs-nil IsApart
+pub runs_apart : (w : World) (m : Memory) (xs : List Filling) → ChangeLaws → All (IsKnown w m) xs → AllPairs DoNotOverlap xs → AllPairs DoesNotOverlap (map (run_in w m) xs)
+runs_apart w m [] laws known beside = AllPairs-nil DoesNotOverlap
 runs_apart w m (x ∷ xs) laws known beside =
     let first = All-head (IsKnown w m) x xs known in
     let rest = All-tail (IsKnown w m) x xs known in
-    AllPairs-cons IsApart (run_in w m x) (map (run_in w m) xs)
-    (All-map (IsApart (run_in w m x)) (run_in w m) xs (λ k d lt. both_apart w m x (get_or xs k d) laws first (rest k d lt) (AllPairs-head AreBeside x xs beside k d lt)))
-    (runs_apart w m xs laws rest (AllPairs-tail AreBeside x xs beside))
+    AllPairs-cons DoesNotOverlap (run_in w m x) (map (run_in w m) xs)
+    (All-map (DoesNotOverlap (run_in w m x)) (run_in w m) xs (λ k d lt. both_apart w m x (get_or xs k d) laws first (rest k d lt) (AllPairs-head DoNotOverlap x xs beside k d lt)))
+    (runs_apart w m xs laws rest (AllPairs-tail DoNotOverlap x xs beside))
 
 -- ---- tables
 
@@ -139,7 +139,7 @@ pub record AreSorted (w : World) (before : Memory) (t : Tables) (xs : List Filli
   pub packed : IsPermutation (flat_map packed_in xs) (places t.words)
   pub entries : IsPermutation (flat_map relative_in xs ++ flat_map general_in xs) t.entries
   pub jumps : IsPermutation (flat_map jump_in xs) t.jumps
-  pub beside : AllPairs AreBeside xs
+  pub beside : AllPairs DoNotOverlap xs
   pub known : All (IsKnown w before) xs
 
 abbrev place_run : World → Memory → ℕ → Run
@@ -210,7 +210,7 @@ runs_permuted w m t xs h =
     (subst (λ (ys : List Run). IsPermutation ys (runs_of_patches (patches_of t g f))) (sym grouped)
     (subst (λ (ys : List Run). IsPermutation ((map p (flat_map packed_in xs) ++ map e (flat_map relative_in xs ++ flat_map general_in xs)) ++ map e (flat_map jump_in xs)) ys) target moved)))
 
-pub patches_apart : (w : World) (before : Memory) (t : Tables) (xs : List Filling) → ChangeLaws → AreSorted w before t xs → AllPairs IsApart (runs_of_patches (patches_of t (place_change w before) (entry_change w before)))
+pub patches_apart : (w : World) (before : Memory) (t : Tables) (xs : List Filling) → ChangeLaws → AreSorted w before t xs → AllPairs DoesNotOverlap (runs_of_patches (patches_of t (place_change w before) (entry_change w before)))
 patches_apart w m t xs laws h = laws.order (map (run_in w m) xs) (runs_of_patches (patches_of t (place_change w m) (entry_change w m))) (runs_permuted w m t xs h) (runs_apart w m xs laws h.known h.beside)
 
 -- ---- known changes
@@ -268,7 +268,7 @@ tables_made w m t xs laws h =
 
 -- ---- bytes that no table fills
 
-elsewhere_by : (a : ℕ) (p : Run) → ((j : ℕ) → j < length p.bytes → p.start + j ≡ a → ⊥) → IsElsewhere a p
+elsewhere_by : (a : ℕ) (p : Run) → ((j : ℕ) → j < length p.bytes → p.start + j ≡ a → ⊥) → IsOutsideRun a p
 elsewhere_by a p h =
     elim (cases_lt a p.start) [
       | inl lt ↦ inl lt
@@ -278,7 +278,7 @@ elsewhere_by a p h =
       ]
     ]
 
-one_elsewhere : (w : World) (m : Memory) (a : ℕ) (x : Filling) → ChangeLaws → IsKnown w m x → Misses a x → IsElsewhere (w.base + a) (run_in w m x)
+one_elsewhere : (w : World) (m : Memory) (a : ℕ) (x : Filling) → ChangeLaws → IsKnown w m x → Misses a x → IsOutsideRun (w.base + a) (run_in w m x)
 one_elsewhere w m a x laws h out =
     let r = has_run w m x laws h in
     let start = r.start in
@@ -286,7 +286,7 @@ one_elsewhere w m a x laws h out =
     elsewhere_by (w.base + a) (run_in w m x) (λ j lt e. (let low = loaded_is w x (omega (arith, lt, size)) h.low in out j (omega (arith, lt, size)) (omega (arith, e, start, low))))
 
 -- the runs of all tables lie elsewhere
-pub all_elsewhere : (w : World) (before : Memory) (t : Tables) (xs : List Filling) (a : ℕ) → ChangeLaws → AreSorted w before t xs → All (Misses a) xs → All (IsElsewhere (w.base + a)) (runs_of_patches (patches_of t (place_change w before) (entry_change w before)))
+pub all_elsewhere : (w : World) (before : Memory) (t : Tables) (xs : List Filling) (a : ℕ) → ChangeLaws → AreSorted w before t xs → All (Misses a) xs → All (IsOutsideRun (w.base + a)) (runs_of_patches (patches_of t (place_change w before) (entry_change w before)))
 all_elsewhere w m t xs a laws h out =
-    All-permutation (IsElsewhere (w.base + a)) (map (run_in w m) xs) (runs_of_patches (patches_of t (place_change w m) (entry_change w m))) (runs_permuted w m t xs h)
-    (All-map (IsElsewhere (w.base + a)) (run_in w m) xs (λ k d lt. one_elsewhere w m a (get_or xs k d) laws (h.known k d lt) (out k d lt)))
+    All-permutation (IsOutsideRun (w.base + a)) (map (run_in w m) xs) (runs_of_patches (patches_of t (place_change w m) (entry_change w m))) (runs_permuted w m t xs h)
+    (All-map (IsOutsideRun (w.base + a)) (run_in w m) xs (λ k d lt. one_elsewhere w m a (get_or xs k d) laws (h.known k d lt) (out k d lt)))

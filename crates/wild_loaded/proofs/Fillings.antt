@@ -48,8 +48,8 @@ abbrev pub Misses : ℕ → Filling → Type 0
 Misses a x = (j : ℕ) → j < x.width → x.entry.offset + j ≡ a → ⊥
 
 -- they have no byte in common
-abbrev pub AreBeside : Filling → Filling → Type 0
-AreBeside x y = (k : ℕ) → k < x.width → Misses (x.entry.offset + k) y
+abbrev pub DoNotOverlap : Filling → Filling → Type 0
+DoNotOverlap x y = (k : ℕ) → k < x.width → Misses (x.entry.offset + k) y
 
 -- ---- what is known of them
 

@@ -22,13 +22,13 @@ use Rattle.wild_loader.specs.declared.memory.Machine.{Machine as Processor}
 use Rattle.wild_loader.specs.declared.memory.Machine.TheVariants as processors
 use Rattle.wild_loader.specs.declared.change.Change.{Change}
 use Rattle.wild_loader.specs.declared.change.Change.TheVariants as changes
-use Rattle.wild_loader.specs.Changes.{change_of, plus}
-use Rattle.wild_meaning.specs.Linked.{processor_of}
+use Rattle.wild_loader.specs.Changes.{change_of, sum_with_addend}
+use Rattle.wild_meaning.specs.LinkedImage.{processor_of}
 use Rattle.wild_geometry.specs.EntryKinds.{address_kind}
 use Rattle.wild_meaning.specs.World.{IsLegal, HasResolver, IsAnsweredOnce}
 use Rattle.wild_slots.specs.Entries.{NamesSymbols, NamesModules, NamesItself, NamesResolver, IsKnownEntry, entry_in, EntriesAreKnown}
 use Rattle.wild_loaded.specs.WholeSlots.{HasWholeSlots}
-use Rattle.wild_loaded.specs.Stored.{FillsWords, FillsSlot}
+use Rattle.wild_loaded.specs.StoredTables.{FillsWords, FillsSlot}
 use Rattle.wild_loaded.proofs.Answers.{answered, IsGiven, symbol_answer, index_small, IsKnownPair, known_pair}
 
 abbrev entry : DynamicRelocationKind → ℕ → ℕ → SlotEntry
@@ -45,7 +45,7 @@ record StoresAddress (p : Processor) (w : World) (symbol addend : ℕ) : Type 0 
 stores_address : (p : Processor) (w : World) (symbol addend : ℕ) → IsGiven w symbol → StoresAddress p w symbol addend
 unfolding change_of
 stores_address processors.X86_64 w symbol addend g = record { change = changes.Word g.answer.address; makes = rw g.listed refl; fills = (refl, g.is.address) }
-stores_address processors.AArch64 w symbol addend g = record { change = changes.Word (plus g.answer.address (entry_with 0 symbol addend)); makes = rw g.listed refl; fills = (refl, omega arith) }
+stores_address processors.AArch64 w symbol addend g = record { change = changes.Word (sum_with_addend g.answer.address (entry_with 0 symbol addend)); makes = rw g.listed refl; fills = (refl, omega arith) }
 
 fills_address : (p : Processor) (w : World) (symbol addend : ℕ) → symbol < 2 ^ 32 → IsGiven w symbol → FillsSlot p w (entry GotEntry symbol addend)
 fills_address p w symbol addend small g = (let a = stores_address p w symbol addend g in record { index = small; change = a.change; makes = a.makes; fills = a.fills })
@@ -57,7 +57,7 @@ fills_offset : (p : Processor) (w : World) (symbol addend : ℕ) → symbol < 2 
 unfolding change_of
 fills_offset p w symbol addend small g = record {
   index = small;
-  change = changes.Word (plus g.answer.offset (entry_with 0 symbol addend));
+  change = changes.Word (sum_with_addend g.answer.offset (entry_with 0 symbol addend));
   makes = rw g.listed refl;
   fills = (refl, omega arith);
 }
@@ -77,7 +77,7 @@ fills_thread : (p : Processor) (w : World) (symbol addend : ℕ) → symbol < 2 
 unfolding change_of
 fills_thread p w symbol addend small k = record {
   index = small;
-  change = changes.Word (plus ((k.distance + k.pair.1) % 2 ^ 64) (entry_with 0 symbol addend));
+  change = changes.Word (sum_with_addend ((k.distance + k.pair.1) % 2 ^ 64) (entry_with 0 symbol addend));
   makes = rw (k.given, k.known) refl;
   fills = (refl, omega arith);
 }
@@ -86,7 +86,7 @@ fills_descriptor : (p : Processor) (w : World) (symbol addend : ℕ) → symbol 
 unfolding change_of
 fills_descriptor p w symbol addend small k = record {
   index = small;
-  change = changes.Descriptor (plus ((k.distance + k.pair.1) % 2 ^ 64) (entry_with 0 symbol addend));
+  change = changes.Descriptor (sum_with_addend ((k.distance + k.pair.1) % 2 ^ 64) (entry_with 0 symbol addend));
   makes = rw (k.given, k.known) refl;
   fills = refl;
 }

@@ -8,24 +8,24 @@ use Rattle.std.proofs.lemmas.List.Kept.{AllPairs-cons}
 use Rattle.wild_reloc.specs.declared.dynamic.DynamicRelocationKind.TheVariants as entry_kinds
 use Rattle.wild_types.specs.declared.part.Role.TheVariants as role
 use Rattle.wild_slot.specs.declared.slot.SlotWord.{SlotWord}
-use Rattle.wild_slot.specs.declared.slot.SlotWord.TheVariants.{Number, Address, InBlock, General, Plt}
+use Rattle.wild_slot.specs.declared.slot.SlotWord.TheVariants.{Number, Address, InRelrGot, General, Plt}
 use Rattle.wild_slot.specs.declared.slot_parts.WordPart.TheVariants as words
 use Rattle.wild_types.specs.declared.layout.Layout.{Layout}
 use Rattle.wild_types.specs.Kinds.{is_executable}
 use Rattle.wild_slot.specs.Slots.{setting_of}
-use Rattle.wild_slot.specs.Storage.{less}
+use Rattle.wild_slot.specs.Storage.{minus}
 use Rattle.wild_slot.specs.SlotParts.{next, slot_words}
 use Rattle.wild_needs.specs.SlotShares.{word_size, storage_at, storage_words}
-use Rattle.wild_clauses.specs.SlotPlaces.{start_of, first_free}
+use Rattle.wild_plan_rules.specs.SlotPlaces.{start_of, first_free}
 use Rattle.wild_layout.specs.Geometry.{IsLaidOut}
 use Rattle.wild_loader.specs.declared.world.World.{World}
 use Rattle.wild_words.specs.Words.{word}
 use Rattle.wild_words.proofs.WordLemmas.{length-word}
 use Rattle.wild_words.proofs.ListLemmas.{AllPairs-nil, AllPairs-append}
 use Rattle.wild_slots.specs.Order.{end_of}
-use Rattle.wild_slots.specs.Ascend.{LiesWithin, Ascend, place_in, PlacesAscend}
-use Rattle.wild_slots.specs.Stand.{StandsAt}
-use Rattle.wild_loaded.specs.Stored.{IsWordStored}
+use Rattle.wild_slots.specs.AscendingPlaces.{LiesWithin, Ascend, place_in, PlacesAscend}
+use Rattle.wild_slots.specs.SlotPlaces.{IsLocatedAt}
+use Rattle.wild_loaded.specs.StoredTables.{IsWordStored}
 use Rattle.wild_loaded.specs.Laws.{SlotsAreStored}
 use Rattle.wild_loaded.proofs.SlotSites.{of_site, sites_at, all_sites}
 use Rattle.wild_loaded.proofs.SlotFillings.{pair_sites, got_sites, made_of, words_by_sites}
@@ -44,7 +44,7 @@ pub record IsPair (relr : Bool) (ws : List SlotWord) : Type 0 where
   pub written : (at : ℕ) → length (slot_words words.Got relr at (first ∷ second ∷ [])) ≡ 2
 
 pub pair_is : (l : Layout) (at : ℕ) → l.tlsld ≡ Some at → IsPair l.options.relr (storage_words l)
-pair_is l at e = subst (λ (o : Option ℕ). IsPair l.options.relr (storage_at (setting_of l) o)) (sym e) (by_kind (is_executable l.kind) 1 (less (setting_of l).thread_pointer l.tls.start))
+pair_is l at e = subst (λ (o : Option ℕ). IsPair l.options.relr (storage_at (setting_of l) o)) (sym e) (by_kind (is_executable l.kind) 1 (minus (setting_of l).thread_pointer l.tls.start))
   where
     by_kind : (b : Bool) (n m : ℕ) → IsPair l.options.relr (if b then Number n ∷ Number m ∷ [] else General (record { kind = entry_kinds.DtpMod; symbol = 0; addend = 0 }) ∷ Number 0 ∷ [])
     by_kind true n m = record { first = Number n; second = Number m; are = refl; one = λ at. refl; two = λ at. refl; written = λ at. refl }
@@ -67,7 +67,7 @@ pair_ahead l at laid e =
 in_got : (l : Layout) (w : World) (at : ℕ) (d : SlotWord) → ((k : ℕ) → place_in words.Got k d ≡ Some k) → IsWordStored l w at d → (start_of l role.Got ≤ at) × (at + 8 ≤ end_of l role.Got)
 in_got l w at d own s = by_word d own s
   where
-    ends : (v : ℕ) → StandsAt l role.Got at (word 8 v) → (start_of l role.Got ≤ at) × (at + 8 ≤ end_of l role.Got)
+    ends : (v : ℕ) → IsLocatedAt l role.Got at (word 8 v) → (start_of l role.Got ≤ at) × (at + 8 ≤ end_of l role.Got)
     ends v st = (let n = length-word 8 v in let to = st.to in (st.from, omega (arith, n, to)))
 
     by_word : (d : SlotWord) → ((k : ℕ) → place_in words.Got k d ≡ Some k) → IsWordStored l w at d → (start_of l role.Got ≤ at) × (at + 8 ≤ end_of l role.Got)
@@ -75,7 +75,7 @@ in_got l w at d own s = by_word d own s
     by_word (Address a) own s = ends s.value s.stands
     by_word (General e) own s = ends s.value s.stands
     by_word (Plt e) own s = ends s.value s.stands
-    by_word (InBlock a) own s = absurd (let e = own 0 in cc)
+    by_word (InRelrGot a) own s = absurd (let e = own 0 in cc)
 
 -- ---- all words
 

@@ -17,15 +17,15 @@ use Rattle.wild_types.specs.declared.section.Section.{Section}
 use Rattle.wild_types.specs.declared.section.Segment.{Segment}
 use Rattle.wild_types.specs.declared.layout.Layout.{Layout}
 use Rattle.wild_types.specs.Lists.{total}
-use Rattle.wild_types.specs.Lookups.{bit, is_hollow}
+use Rattle.wild_types.specs.Lookups.{bit, is_header_only}
 use Rattle.wild_needs.specs.Versions.{need_count}
-use Rattle.wild_headers.specs.Headers.{or_escape, or_none, name_table, section_of_role, file_header, with_execute, program_header, null_header, uncompressed, told_of, local_symbols, info_at, section_header, headers_from, section_headers_of}
+use Rattle.wild_table_formats.specs.Headers.{number_or_escape, or_none, name_table, section_of_role, file_header, with_execute, program_header, null_header, uncompressed_flags, computed_infos, local_symbols, info_at, section_header, headers_from, section_headers_of}
 use Rattle.wild_layout.specs.Numbers.{NumbersFit, SegmentNumbers, SectionNumbers}
 use Rattle.wild_meaning.specs.World.{IsLoadable}
 use Rattle.wild_loaded.proofs.FileType.{type_known, type_fits}
 use Rattle.wild_loader.specs.Headers.{is_loadable_header}
-use Rattle.wild_loader.specs.SegmentLaws.{told_sections, first_size}
-use Rattle.wild_headers.proofs.LengthLemmas.{length-section_headers_of, role_below}
+use Rattle.wild_loader.specs.SegmentLaws.{section_header_count, first_size}
+use Rattle.wild_table_formats.proofs.HeaderLengths.{length-section_headers_of, role_below}
 use Rattle.wild_geometry.proofs.MachineLemmas.{facts_of}
 
 -- ---- bits
@@ -38,15 +38,15 @@ compressed_bit f h =
     omega (arith, a, e)
 
 -- clearing SHF_COMPRESSED leaves SHF_ALLOC
-pub uncompressed-alloc : (f : ℕ) → uncompressed f / shf_alloc % 2 ≡ f / shf_alloc % 2
-uncompressed-alloc f =
+pub uncompressed_flags-alloc : (f : ℕ) → uncompressed_flags f / shf_alloc % 2 ≡ f / shf_alloc % 2
+uncompressed_flags-alloc f =
     elim (cases_Bool (bit f shf_compressed)) [
       | inl t ↦ (let b : f / 2048 % 2 ≡ 1 = compressed_bit f t in let e : (f - 2048) / 2 % 2 ≡ f / 2 % 2 = omega (arith, b) in rw t e)
       | inr n ↦ rw n refl
     ]
 
-uncompressed-le : (f : ℕ) → uncompressed f ≤ f
-uncompressed-le f =
+uncompressed_flags-le : (f : ℕ) → uncompressed_flags f ≤ f
+uncompressed_flags-le f =
     elim (cases_Bool (bit f shf_compressed)) [
       | inl t ↦ rw t (omega arith)
       | inr n ↦ rw n (omega arith)
@@ -54,7 +54,7 @@ uncompressed-le f =
 
 -- ---- escapes
 
-escape_fits : (n e : ℕ) → e < 2 ^ 16 → or_escape n e < 2 ^ 16
+escape_fits : (n e : ℕ) → e < 2 ^ 16 → number_or_escape n e < 2 ^ 16
 escape_fits n e h =
     elim (cases_Bool (nat_lt n shn_loreserve)) [
       | inl t ↦ (let l = ltb-true _ _ t in rw t (omega (arith, l)))
@@ -72,7 +72,7 @@ pub name_table_below : (l : Layout) (n : ℕ) → 1 ≤ n → All (λ (p : Part)
 name_table_below l n some h = role_below role.Shstrtab l.parts n some h
 
 -- the number of sections is told
-pub sections_told : (n : ℕ) → 1 ≤ n → (if or_escape n 0 == 0 then or_none n else or_escape n 0) ≡ n
+pub sections_told : (n : ℕ) → 1 ≤ n → (if number_or_escape n 0 == 0 then or_none n else number_or_escape n 0) ≡ n
 sections_told n h =
     elim (cases_Bool (nat_lt n shn_loreserve)) [
       | inl t ↦ (let f : (n == 0) ≡ false = not_zero n h in rw (t, f) refl)
@@ -153,8 +153,8 @@ one_told : (b : Bool) (n given : ℕ) → given < 2 ^ 32 → (if b then n % 2 ^ 
 one_told true n given h = omega arith
 one_told false n given h = h
 
-info_fits : (l : Layout) (i : ℕ) (s : Section) → SectionNumbers s → info_at (told_of l) i s.info < 2 ^ 32
-unfolding told_of
+info_fits : (l : Layout) (i : ℕ) (s : Section) → SectionNumbers s → info_at (computed_infos l) i s.info < 2 ^ 32
+unfolding computed_infos
 info_fits l i s n =
     one_told (i == section_of_role role.Dynsym l.parts) 1 _
     (one_told (i == section_of_role role.RelaPlt l.parts) (section_of_role role.Got l.parts) _
@@ -170,10 +170,10 @@ told_fits false k h = h
 section_header_fits : (l : Layout) (info name : ℕ) (s : Section) → info < 2 ^ 32 → name < 2 ^ 32 → SectionNumbers s → SectionHeaderFits (section_header l info name s)
 unfolding section_header
 section_header_fits l info name s told h n =
-    let f = uncompressed-le s.flags in
+    let f = uncompressed_flags-le s.flags in
     let p = n.places.flags in
     record {
-      front = record { name = h; kind = told_fits (is_hollow l s) s.kind n.places.kind; flags = omega (arith, f, p); address = header_fits (is_partial_link l.kind) s.address (2 ^ 64) n.places.address; offset = n.places.offset; size = n.places.size; link = n.links.link };
+      front = record { name = h; kind = told_fits (is_header_only l s) s.kind n.places.kind; flags = omega (arith, f, p); address = header_fits (is_partial_link l.kind) s.address (2 ^ 64) n.places.address; offset = n.places.offset; size = n.places.size; link = n.links.link };
       back = record { info = told; align = n.links.align; entry_size = n.links.entsize };
     }
 
@@ -187,21 +187,21 @@ null_header_fits l few named =
       back = record { info = omega arith; align = omega arith; entry_size = omega arith };
     }
 
-headers_fit : (l : Layout) (i name : ℕ) (ss : List Section) → name + total (λ (s : Section). length s.name + 1) ss < 2 ^ 32 → All SectionNumbers ss → All SectionHeaderFits (headers_from l (told_of l) i name ss)
+headers_fit : (l : Layout) (i name : ℕ) (ss : List Section) → name + total (λ (s : Section). length s.name + 1) ss < 2 ^ 32 → All SectionNumbers ss → All SectionHeaderFits (headers_from l (computed_infos l) i name ss)
 headers_fit l i name [] h n = λ k d m. absurd (omega arith)
 headers_fit l i name (s ∷ ss) h n =
-    All-cons SectionHeaderFits (section_header l (info_at (told_of l) i s.info) name s) (headers_from l (told_of l) (i + 1) (name + length s.name + 1) ss)
-    (section_header_fits l (info_at (told_of l) i s.info) name s (info_fits l i s (n 0 s (omega arith))) (omega (arith, h)) (n 0 s (omega arith)))
+    All-cons SectionHeaderFits (section_header l (info_at (computed_infos l) i s.info) name s) (headers_from l (computed_infos l) (i + 1) (name + length s.name + 1) ss)
+    (section_header_fits l (info_at (computed_infos l) i s.info) name s (info_fits l i s (n 0 s (omega arith))) (omega (arith, h)) (n 0 s (omega arith)))
     (headers_fit l (i + 1) (name + length s.name + 1) ss (omega (arith, h)) (λ k d m. n (suc k) d (omega arith)))
 
 pub section_headers_fit : (l : Layout) (ss : List Section) → length l.sections < 2 ^ 31 → name_table l < 2 ^ 32 → total (λ (s : Section). length s.name + 1) ss < 2 ^ 32 → All SectionNumbers ss → All SectionHeaderFits (section_headers_of l ss)
 section_headers_fit l [] few named h n = λ k d m. absurd (omega arith)
 section_headers_fit l (s ∷ ss) few named h n =
-    All-cons SectionHeaderFits (null_header l) (headers_from l (told_of l) 1 (length s.name + 1) ss)
+    All-cons SectionHeaderFits (null_header l) (headers_from l (computed_infos l) 1 (length s.name + 1) ss)
     (null_header_fits l few named)
     (headers_fit l 1 (length s.name + 1) ss (omega (arith, h)) (λ k d m. n (suc k) d (omega arith)))
 
-length-headers : (l : Layout) (i name : ℕ) (ss : List Section) → length (headers_from l (told_of l) i name ss) ≡ length ss
+length-headers : (l : Layout) (i name : ℕ) (ss : List Section) → length (headers_from l (computed_infos l) i name ss) ≡ length ss
 length-headers l i name [] = refl
 length-headers l i name (s ∷ ss) = ap suc (length-headers l (i + 1) (name + length s.name + 1) ss)
 
@@ -210,9 +210,9 @@ unfolding null_header
 first_size_is l [] h = absurd (omega (arith, h))
 first_size_is l (s ∷ ss) h = refl
 
-pub headers_told : (l : Layout) → 1 ≤ length l.sections → told_sections (file_header l) (section_headers_of l l.sections) ≡ length (section_headers_of l l.sections)
+pub headers_told : (l : Layout) → 1 ≤ length l.sections → section_header_count (file_header l) (section_headers_of l l.sections) ≡ length (section_headers_of l l.sections)
 unfolding file_header
 headers_told l h =
     let f = first_size_is l l.sections h in
     let n = length-section_headers_of l l.sections in
-    ap (λ (m : ℕ). if or_escape (length l.sections) 0 == 0 then m else or_escape (length l.sections) 0) f ∙ sections_told (length l.sections) h ∙ sym n
+    ap (λ (m : ℕ). if number_or_escape (length l.sections) 0 == 0 then m else number_or_escape (length l.sections) 0) f ∙ sections_told (length l.sections) h ∙ sym n

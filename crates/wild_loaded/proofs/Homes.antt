@@ -11,8 +11,8 @@ use Rattle.wild_types.specs.declared.layout.Layout.{Layout}
 use Rattle.wild_types.specs.Lookups.{image_size}
 use Rattle.wild_layout.specs.Loadable.{SegmentLoads, Ascends, CarriesByte}
 use Rattle.wild_layout.specs.Geometry.{IsLaidOut}
-use Rattle.wild_meaning.specs.World.{IsBehind, IsLoadable}
-use Rattle.wild_loaded.proofs.Fillings.{Filling, Misses, AreBeside}
+use Rattle.wild_meaning.specs.World.{IsPastFileBytes, IsLoadable}
+use Rattle.wild_loaded.proofs.Fillings.{Filling, Misses, DoNotOverlap}
 
 -- ---- homes
 
@@ -90,14 +90,14 @@ misses_across l h i k x kind laid sh si apart below lies = λ j lt e. (
     addresses_differ l h i k (x.entry.offset + j - i.address) kind laid sh si apart below (omega (arith, from, to, lt)) (omega (arith, from, e)))
 
 -- fillings in two runs
-pub beside_across : (l : Layout) (h i : Home) (x y : Filling) → IsLoadable l.kind → IsLaidOut l → HasHome l h → HasHome l i → HomesApart h i → LiesIn h x → LiesIn i y → AreBeside x y
+pub beside_across : (l : Layout) (h i : Home) (x y : Filling) → IsLoadable l.kind → IsLaidOut l → HasHome l h → HasHome l i → HomesApart h i → LiesIn h x → LiesIn i y → DoNotOverlap x y
 beside_across l h i x y kind laid sh si apart lx ly = λ k lt j less e. (
     let from = lx.from in
     let to = lx.to in
     misses_across l h i (x.entry.offset + k - h.address) y kind laid sh si apart (omega (arith, from, to, lt)) ly j less (omega (arith, from, e)))
 
 -- an address behind the file bytes of a segment is that of no byte of a filling in a run
-pub behind_misses : (l : Layout) (h : Home) (a : ℕ) (x : Filling) → IsLoadable l.kind → IsLaidOut l → HasHome l h → LiesIn h x → IsBehind l a → Misses a x
+pub behind_misses : (l : Layout) (h : Home) (a : ℕ) (x : Filling) → IsLoadable l.kind → IsLaidOut l → HasHome l h → LiesIn h x → IsPastFileBytes l a → Misses a x
 behind_misses l h a x kind laid there lies b = λ j lt e. (
     let from = lies.from in
     let to = lies.to in

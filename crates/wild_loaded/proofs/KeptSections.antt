@@ -9,19 +9,19 @@ use Rattle.wild_layout.specs.SectionPlaces.{FieldLies, SectionLies}
 use Rattle.wild_layout.specs.Geometry.{IsLaidOut}
 use Rattle.wild_geometry.specs.Loaded.{IsDecided}
 use Rattle.wild_loaded.specs.Memory.{EachDecided}
-use Rattle.wild_geometry.specs.Laid.{IsKeptLaid}
-use Rattle.wild_geometry.proofs.StoodSections.{each_at}
+use Rattle.wild_geometry.specs.PlacedSections.{IsKeptPlacedSection}
+use Rattle.wild_geometry.proofs.PlacedInputs.{each_at}
 
 -- what is known of a kept section of a layout that is laid out and decided, with the block of thunks that its file has for it
 pub record IsKeptWell (l : Layout) (block : ℕ) (s : InputSection) : Type 0 where
-  pub kept : IsKeptLaid l s
+  pub kept : IsKeptPlacedSection l s
   pub own : block ≡ block_for l kept.input.owner s
   pub decisions : IsDecided l (item_with block s)
   pub lies : SectionLies l s
   pub full : length s.bytes ≡ s.size
   pub fields : All (FieldLies l.machine (length s.bytes)) s.relocations
 
-pub kept_well : (l : Layout) (s : InputSection) → IsLaidOut l → EachDecided l → (k : IsKeptLaid l s) → IsKeptWell l (block_for l k.input.owner s) s
+pub kept_well : (l : Layout) (s : InputSection) → IsLaidOut l → EachDecided l → (k : IsKeptPlacedSection l s) → IsKeptWell l (block_for l k.input.owner s) s
 kept_well l s laid decided k =
     let lies = each_at (SectionLies l) l s laid.inputs k.input in
     let read = k.reads in

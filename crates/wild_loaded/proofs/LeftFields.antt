@@ -19,7 +19,7 @@ use Rattle.wild_types.specs.declared.symbol.ValueFlags.{ValueFlags}
 use Rattle.wild_types.specs.declared.layout.Layout.{Layout}
 use Rattle.wild_slot.specs.declared.treatment.Treatment.{Treatment}
 use Rattle.wild_slot.specs.declared.treatment.Treatment.TheVariants as treatments
-use Rattle.wild_needs.specs.Entries.{is_left_to_entry}
+use Rattle.wild_needs.specs.Entries.{has_dynamic_entry}
 use Rattle.wild_types.specs.Flags.{has_flag, ifunc}
 use Rattle.wild_types.specs.Kinds.{is_position_independent}
 use Rattle.wild_types.specs.Lookups.{writable, allocated, canonical}
@@ -31,9 +31,9 @@ use Rattle.wild_reloc.specs.declared.info.RelocationKindInfo.{RelocationKindInfo
 use Rattle.wild_reloc.specs.declared.info.RelocationSize.{RelocationSize}
 use Rattle.wild_reloc.specs.declared.info.RelocationSize.TheVariants.{ByteSize}
 use Rattle.wild_reloc.specs.declared.info.Width.TheVariants.{Four, Eight}
-use Rattle.wild_layout.specs.declared.decision.Decision.TheVariants.{Left}
-use Rattle.wild_layout.specs.Decide.{added, left_to, chosen_to, decide_by, decided}
-use Rattle.wild_layout.specs.SymbolValues.{address_or}
+use Rattle.wild_layout.specs.declared.decision.Decision.TheVariants.{DynamicField}
+use Rattle.wild_layout.specs.Decide.{addend_bits, dynamic_decision, ifunc_decision, decide_by, decided}
+use Rattle.wild_layout.specs.SymbolValues.{resolved_address}
 use Rattle.wild_layout.specs.SlotValues.{index_of, decided_address}
 use Rattle.wild_layout.specs.Numbers.{NumbersFit, SymbolNumbers}
 use Rattle.wild_layout.specs.Geometry.{IsLaidOut}
@@ -41,14 +41,14 @@ use Rattle.wild_layout.proofs.DecideLemmas.{sized_left, decided_left, known_indi
 use Rattle.wild_geometry.specs.Loaded.{entry_with}
 use Rattle.wild_geometry.specs.MachineFacts.{StoresSize}
 use Rattle.wild_geometry.proofs.MachineLemmas.{facts_of}
-use Rattle.wild_meaning.specs.Linked.{processor_of}
+use Rattle.wild_meaning.specs.LinkedImage.{processor_of}
 use Rattle.wild_loader.specs.declared.memory.Machine.{Machine as Processor}
 use Rattle.wild_loader.specs.declared.world.World.{World}
 use Rattle.wild_loader.specs.declared.change.Change.TheVariants as changes
 use Rattle.wild_loader.specs.declared.kind.DynamicKind.TheVariants as kinds
-use Rattle.wild_loader.specs.Changes.{kind_of, change_of, plus}
+use Rattle.wild_loader.specs.Changes.{kind_of, change_of, sum_with_addend}
 use Rattle.wild_meaning.specs.World.{IsLegal, HasResolver, IsAnsweredOnce}
-use Rattle.wild_loaded.specs.Stored.{FillsField}
+use Rattle.wild_loaded.specs.StoredTables.{FillsField}
 use Rattle.wild_loaded.proofs.Answers.{answered, IsGiven, symbol_answer, index_small}
 
 -- ---- rows of sizes
@@ -106,9 +106,9 @@ unfolding change_of
 stores_address m w symbol addend n = record {
   type_fits = (facts_of m).types Absolute;
   index_fits = n.small;
-  change = changes.Word (plus n.given.answer.address (entry_with (type_of m Absolute) symbol addend));
+  change = changes.Word (sum_with_addend n.given.answer.address (entry_with (type_of m Absolute) symbol addend));
   makes = record { kind = kinds.SymbolPlus; known = (facts_of m).entries Absolute; makes = rw n.given.listed refl };
-  width = length-word 8 (plus n.given.answer.address (entry_with (type_of m Absolute) symbol addend));
+  width = length-word 8 (sum_with_addend n.given.answer.address (entry_with (type_of m Absolute) symbol addend));
 }
 
 stores_half : (p : Processor) (w : World) (n symbol addend : ℕ) → n < 2 ^ 32 → kind_of p n ≡ Some kinds.Size32 → IsNamed w symbol → FillsField p w (ByteSize Four) n symbol addend
@@ -116,9 +116,9 @@ unfolding change_of
 stores_half p w n symbol addend low known named = record {
   type_fits = low;
   index_fits = named.small;
-  change = changes.Half (plus named.given.answer.size (entry_with n symbol addend) % 2 ^ 32);
+  change = changes.Half (sum_with_addend named.given.answer.size (entry_with n symbol addend) % 2 ^ 32);
   makes = record { kind = kinds.Size32; known = known; makes = rw named.given.listed refl };
-  width = length-word 4 (plus named.given.answer.size (entry_with n symbol addend) % 2 ^ 32);
+  width = length-word 4 (sum_with_addend named.given.answer.size (entry_with n symbol addend) % 2 ^ 32);
 }
 
 stores_size : (p : Processor) (w : World) (n symbol addend : ℕ) → n < 2 ^ 32 → kind_of p n ≡ Some kinds.Size64 → IsNamed w symbol → FillsField p w (ByteSize Eight) n symbol addend
@@ -126,9 +126,9 @@ unfolding change_of
 stores_size p w n symbol addend low known named = record {
   type_fits = low;
   index_fits = named.small;
-  change = changes.Word (plus named.given.answer.size (entry_with n symbol addend));
+  change = changes.Word (sum_with_addend named.given.answer.size (entry_with n symbol addend));
   makes = record { kind = kinds.Size64; known = known; makes = rw named.given.listed refl };
-  width = length-word 8 (plus named.given.answer.size (entry_with n symbol addend));
+  width = length-word 8 (sum_with_addend named.given.answer.size (entry_with n symbol addend));
 }
 
 stores_chosen : (m : Machine) (w : World) (value : ℕ) → value < 2 ^ 64 → IsAnsweredOnce w ((w.base + value) % 2 ^ 64) → FillsField (processor_of m) w (ByteSize Eight) (type_of m Irelative) 0 value
@@ -157,7 +157,7 @@ chosen_by : (l : Layout) (i value : ℕ) → decided_address l i ≡ Ok value �
 chosen_by l i value h = by_symbol (slice_get l.symbols (canonical l i)) refl h
   where
     address : Option Resolution → Result ℕ Fault
-    address o = address_or missing.Address i (option_map (λ (r : Resolution). r.raw_value) o)
+    address o = resolved_address missing.Address i (option_map (λ (r : Resolution). r.raw_value) o)
 
     by_resolution : (s : Symbol) → slice_get l.symbols (canonical l i) ≡ Some s → (o : Option Resolution) → s.resolution ≡ o → address o ≡ Ok value → IsChosen l i value
     by_resolution s listed None e h = cc
@@ -184,26 +184,26 @@ chosen_fills l w i value numbers legal flag h =
 -- ---- decisions
 
 -- what an entry that names a symbol has
-left_parts : (P : RelocationSize → ℕ → ℕ → ℕ → Type 0) (z x : RelocationSize) (number n symbol addend : ℕ) (r : InputRelocation) (i : ℕ) (o : Option ℕ) → left_to z number r i o ≡ Ok (Left x n symbol addend) → ((index : ℕ) → o ≡ Some index → P z number index (added r)) → P x n symbol addend
+left_parts : (P : RelocationSize → ℕ → ℕ → ℕ → Type 0) (z x : RelocationSize) (number n symbol addend : ℕ) (r : InputRelocation) (i : ℕ) (o : Option ℕ) → dynamic_decision z number r i o ≡ Ok (DynamicField x n symbol addend) → ((index : ℕ) → o ≡ Some index → P z number index (addend_bits r)) → P x n symbol addend
 left_parts P z x number n symbol addend r i None h k = cc
 left_parts P z x number n symbol addend r i (Some index) h k =
     let size : z ≡ x = cc in
     let same : number ≡ n = cc in
     let there : index ≡ symbol = cc in
-    let more : added r ≡ addend = cc in
+    let more : addend_bits r ≡ addend = cc in
     subst (λ (y : RelocationSize). P y n symbol addend) size
     (subst (λ (m : ℕ). P z m symbol addend) same
     (subst (λ (m : ℕ). P z number m addend) there
     (subst (λ (m : ℕ). P z number index m) more (k index refl))))
 
 -- and one with a resolver
-chosen_parts : (P : RelocationSize → ℕ → ℕ → ℕ → Type 0) (l : Layout) (x : RelocationSize) (n symbol addend : ℕ) (r : InputRelocation) (a : Result ℕ Fault) → chosen_to l r a ≡ Ok (Left x n symbol addend) → ((value : ℕ) → a ≡ Ok value → P (ByteSize Eight) (type_of l.machine Irelative) 0 value) → P x n symbol addend
+chosen_parts : (P : RelocationSize → ℕ → ℕ → ℕ → Type 0) (l : Layout) (x : RelocationSize) (n symbol addend : ℕ) (r : InputRelocation) (a : Result ℕ Fault) → ifunc_decision l r a ≡ Ok (DynamicField x n symbol addend) → ((value : ℕ) → a ≡ Ok value → P (ByteSize Eight) (type_of l.machine Irelative) 0 value) → P x n symbol addend
 chosen_parts P l x n symbol addend r (Err f) h k = cc
 chosen_parts P l x n symbol addend r (Ok value) h k =
-    elim (cases_Bool (added r == 0)) [
+    elim (cases_Bool (addend_bits r == 0)) [
       | inr f ↦ cc (rw f at h)
       | inl t ↦
-          (let e : Ok (Left (ByteSize Eight) (type_of l.machine Irelative) 0 value) ≡ Ok (Left x n symbol addend) = rw t at h in
+          (let e : Ok (DynamicField (ByteSize Eight) (type_of l.machine Irelative) 0 value) ≡ Ok (DynamicField x n symbol addend) = rw t at h in
           let size : ByteSize Eight ≡ x = cc in
           let same : type_of l.machine Irelative ≡ n = cc in
           let none : 0 ≡ symbol = cc in
@@ -216,25 +216,25 @@ chosen_parts P l x n symbol addend r (Ok value) h k =
 
 -- the cases of a field that is left to an entry: of an address, of a size, of what a resolver answers
 record IsLeftCase (l : Layout) (s : Item) (r : InputRelocation) (P : RelocationSize → ℕ → ℕ → ℕ → Type 0) : Type 0 where
-  address : (i index : ℕ) → index_of l i ≡ Some index → P (ByteSize Eight) (type_of l.machine Absolute) index (added r)
+  address : (i index : ℕ) → index_of l i ≡ Some index → P (ByteSize Eight) (type_of l.machine Absolute) index (addend_bits r)
   chosen : (i value : ℕ) → has_flag (flags_at l i) ifunc ≡ true → decided_address l i ≡ Ok value → P (ByteSize Eight) (type_of l.machine Irelative) 0 value
-  size : (i index : ℕ) (row : RelocationKindInfo) → IsSizeRow l r.number row.size → index_of l i ≡ Some index → P row.size r.number index (added r)
+  size : (i index : ℕ) (row : RelocationKindInfo) → IsSizeRow l r.number row.size → index_of l i ≡ Some index → P row.size r.number index (addend_bits r)
 
-by_treatment : (P : RelocationSize → ℕ → ℕ → ℕ → Type 0) (l : Layout) (s : Item) (r : InputRelocation) (z : RelocationSize) (n symbol addend : ℕ) → IsLeftCase l s r P → (t : Treatment) → treatment l s.flags r ≡ t → is_left_to_entry t ≡ true → decide_by l s r t ≡ Ok (Left z n symbol addend) → P z n symbol addend
+by_treatment : (P : RelocationSize → ℕ → ℕ → ℕ → Type 0) (l : Layout) (s : Item) (r : InputRelocation) (z : RelocationSize) (n symbol addend : ℕ) → IsLeftCase l s r P → (t : Treatment) → treatment l s.flags r ≡ t → has_dynamic_entry t ≡ true → decide_by l s r t ≡ Ok (DynamicField z n symbol addend) → P z n symbol addend
 by_treatment P l s r z n symbol addend k (treatments.Symbolic i) is left made = left_parts P (ByteSize Eight) z (type_of l.machine Absolute) n symbol addend r i (index_of l i) made (k.address i)
 by_treatment P l s r z n symbol addend k (treatments.Indirect i) is left made =
     let flag = last_of_four (allocated s.flags) (writable s.flags) (is_position_independent l.kind) (has_flag (flags_at l i) ifunc) (known_indirect l s.flags r i is).3.chosen in
     chosen_parts P l z n symbol addend r (decided_address l i) made (λ value e. k.chosen i value flag e)
 by_treatment P l s r z n symbol addend k (treatments.Extent row i) is left made =
     let told = known_extent l s.flags r row i is in
-    left_parts P row.size z r.number n symbol addend r i (index_of l i) (sized_left l r row i (Left z n symbol addend) made) (λ index e. k.size i index row ((facts_of l.machine).sizes r.number row told.0 told.1.kind) e)
+    left_parts P row.size z r.number n symbol addend r i (index_of l i) (sized_left l r row i (DynamicField z n symbol addend) made) (λ index e. k.size i index row ((facts_of l.machine).sizes r.number row told.0 told.1.kind) e)
 by_treatment P l s r z n symbol addend k treatments.Nothing is left made = cc
 by_treatment P l s r z n symbol addend k (treatments.Value row) is left made = cc
 by_treatment P l s r z n symbol addend k treatments.BaseRelative is left made = cc
 by_treatment P l s r z n symbol addend k treatments.Recompile is left made = cc
 by_treatment P l s r z n symbol addend k treatments.Unsupported is left made = cc
 
-left_case : (P : RelocationSize → ℕ → ℕ → ℕ → Type 0) (l : Layout) (s : Item) (r : InputRelocation) (z : RelocationSize) (n symbol addend : ℕ) → IsLeftCase l s r P → decided l s r ≡ Ok (Left z n symbol addend) → P z n symbol addend
+left_case : (P : RelocationSize → ℕ → ℕ → ℕ → Type 0) (l : Layout) (s : Item) (r : InputRelocation) (z : RelocationSize) (n symbol addend : ℕ) → IsLeftCase l s r P → decided l s r ≡ Ok (DynamicField z n symbol addend) → P z n symbol addend
 left_case P l s r z n symbol addend k h =
     let x = decided_left l s r z n symbol addend h in
     by_treatment P l s r z n symbol addend k x.treated x.is x.left x.made
@@ -259,7 +259,7 @@ size_zeroed l n z h = elim h.1 [
   | inr e ↦ subst IsZeroed (sym e.1) eight_zeroed
 ]
 
-pub left_zeroed : (l : Layout) (s : Item) (r : InputRelocation) (z : RelocationSize) (n symbol addend : ℕ) (old : List ℕ) → decided l s r ≡ Ok (Left z n symbol addend) → size_written z 0 old ≡ replicate (size_width z) 0
+pub left_zeroed : (l : Layout) (s : Item) (r : InputRelocation) (z : RelocationSize) (n symbol addend : ℕ) (old : List ℕ) → decided l s r ≡ Ok (DynamicField z n symbol addend) → size_written z 0 old ≡ replicate (size_width z) 0
 left_zeroed l s r z n symbol addend old h =
     left_case (λ y m k a. IsZeroed y) l s r z n symbol addend
     (record { address = λ i index e. eight_zeroed; chosen = λ i value f e. eight_zeroed; size = λ i index row q e. size_zeroed l r.number row.size q }) h old
@@ -274,9 +274,9 @@ size_fills l w n symbol addend z h named =
       | inr e ↦ subst P (sym e.1) (stores_size (processor_of l.machine) w n symbol addend h.0 e.0 named)
     ]
 
-pub left_fills : (l : Layout) (w : World) (s : Item) (r : InputRelocation) (z : RelocationSize) (n symbol addend : ℕ) → NumbersFit l → IsLegal l w → IsLaidOut l → decided l s r ≡ Ok (Left z n symbol addend) → FillsField (processor_of l.machine) w z n symbol addend
+pub left_fills : (l : Layout) (w : World) (s : Item) (r : InputRelocation) (z : RelocationSize) (n symbol addend : ℕ) → NumbersFit l → IsLegal l w → IsLaidOut l → decided l s r ≡ Ok (DynamicField z n symbol addend) → FillsField (processor_of l.machine) w z n symbol addend
 left_fills l w s r z n symbol addend numbers legal laid h = left_case (FillsField (processor_of l.machine) w) l s r z n symbol addend (record {
-  address = λ i index e. stores_address l.machine w index (added r) (named_by l w i index legal laid e);
+  address = λ i index e. stores_address l.machine w index (addend_bits r) (named_by l w i index legal laid e);
   chosen = λ i value f e. chosen_fills l w i value numbers legal f e;
-  size = λ i index row q e. size_fills l w r.number index (added r) row.size q (named_by l w i index legal laid e);
+  size = λ i index row q e. size_fills l w r.number index (addend_bits r) row.size q (named_by l w i index legal laid e);
 }) h

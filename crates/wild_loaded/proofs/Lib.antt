@@ -1,11 +1,11 @@
 pub mod KindLemmas
 pub mod Rooms
-pub mod FramesStand
+pub mod FramesInPart
 pub mod FileType
 pub mod HeadersFit
 pub mod Loads
 pub mod PartsHeld
-pub mod Carried
+pub mod SectionBytesInMemory
 pub mod SlotNumbers
 pub mod SlotSites
 pub mod SitesFit
@@ -14,8 +14,8 @@ pub mod WholeSlots
 pub mod Answers
 pub mod Fills
 pub mod LeftFields
-pub mod Copied
-pub mod Stored
+pub mod CopiedSymbols
+pub mod StoredParts
 pub mod TablesFit
 pub mod PairPlace
 pub mod TableBytes
@@ -23,7 +23,7 @@ pub mod DynamicSections
 pub mod SectionTable
 pub mod StaticTables
 pub mod FileHeader
-pub mod DynamicTold
+pub mod DynamicInformation
 pub mod PairLemmas
 pub mod Permuted
 pub mod Fillings
@@ -31,7 +31,7 @@ pub mod FilledTables
 pub mod Homes
 pub mod KeptSections
 pub mod SectionsApart
-pub mod SectionsAside
+pub mod SectionsDisjoint
 pub mod PlacesApart
 pub mod SectionFillings
 pub mod FilledSections
@@ -55,5 +55,5 @@ pub mod SitesLoaded
 pub mod SlotsLoaded
 pub mod ThunksHeld
 mod Notes
-pub mod Moving
-pub mod BareImages
+pub mod LoadedImages
+pub mod DebugImages

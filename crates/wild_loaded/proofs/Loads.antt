@@ -10,17 +10,17 @@ use Rattle.std.proofs.lemmas.List.Folds.{flat_map-map}
 use Rattle.std.proofs.lemmas.List.Elements.{All-map}
 use Rattle.wild_records.specs.FileHeader.{file_header_size}
 use Rattle.wild_records.specs.Abi.Segment.{pt_load}
-use Rattle.wild_words.specs.Words.{Stands}
+use Rattle.wild_words.specs.Words.{HasBytesAt}
 use Rattle.wild_words.specs.Record.{spell}
-use Rattle.wild_words.specs.Overlay.{Piece, AreApart}
-use Rattle.wild_words.proofs.OverlayLemmas.{Stands-overlay, overlay-outside, length-overlay}
+use Rattle.wild_words.specs.Overlay.{Piece, AreDisjoint}
+use Rattle.wild_words.proofs.OverlayLemmas.{HasBytesAt-overlay, overlay-outside, length-overlay}
 use Rattle.wild_records.specs.ProgramHeader.{ProgramHeaderFits, program_header_fields}
 use Rattle.wild_records.specs.declared.program_header.ProgramHeader.{ProgramHeader}
 use Rattle.wild_types.specs.declared.part.Role.TheVariants as role
 use Rattle.wild_types.specs.declared.section.Segment.{Segment}
 use Rattle.wild_types.specs.declared.layout.Layout.{Layout}
 use Rattle.wild_types.specs.Lookups.{image_size}
-use Rattle.wild_headers.specs.Headers.{file_header, program_header, section_headers_of, name_table, offset_of_role, file_header_bytes, program_header_bytes, section_header_bytes}
+use Rattle.wild_table_formats.specs.Headers.{file_header, program_header, section_headers_of, name_table, offset_of_role, file_header_bytes, program_header_bytes, section_header_bytes}
 use Rattle.wild_layout.specs.Image.{bytes, pieces, padding}
 use Rattle.wild_layout.specs.Numbers.{NumbersFit}
 use Rattle.wild_layout.specs.Loadable.{SegmentLoads, IsStatic as StaticSegment, Ascends}
@@ -30,26 +30,26 @@ use Rattle.wild_meaning.specs.World.{IsLoadable as IsLoadableKind, IsLegal}
 use Rattle.wild_loader.specs.declared.world.World.{World}
 use Rattle.wild_loader.specs.SegmentLaws.{HasHeaders, IsLoadable, AreLoadable, Ascends as HeadersAscend}
 use Rattle.wild_loader.specs.Laws.{IsStatic}
-use Rattle.wild_headers.proofs.LengthLemmas.{length-section_headers_of}
+use Rattle.wild_table_formats.proofs.HeaderLengths.{length-section_headers_of}
 use Rattle.wild_layout.proofs.LayoutLemmas.{length-padding}
 use Rattle.wild_loaded.specs.Owners.{HasOneOwnerEach}
 use Rattle.wild_loaded.specs.Memory.{image_memory}
 use Rattle.wild_loaded.proofs.HeadersFit.{file_header_fits, name_table_below, program_header_fits, section_headers_fit, headers_told}
-use Rattle.wild_meaning.specs.Linked.{processor_of}
+use Rattle.wild_meaning.specs.LinkedImage.{processor_of}
 use Rattle.wild_geometry.proofs.MachineLemmas.{facts_of}
 
 -- ---- owners
 
-apart_in : (l : Layout) → IsLaidOut l → AreApart (length (padding l)) (pieces l)
-apart_in l laid = subst (λ (n : ℕ). AreApart n (pieces l)) (sym (length-padding l)) laid.owners
+apart_in : (l : Layout) → IsLaidOut l → AreDisjoint (length (padding l)) (pieces l)
+apart_in l laid = subst (λ (n : ℕ). AreDisjoint n (pieces l)) (sym (length-padding l)) laid.owners
 
 pub length-bytes : (l : Layout) → IsLaidOut l → length (bytes l) ≡ image_size l
 unfolding bytes
 length-bytes l laid = length-overlay (pieces l) (padding l) (apart_in l laid) ∙ length-padding l
 
-pub piece_stands : (l : Layout) (p : Piece) → IsLaidOut l → Contains (pieces l) p → Stands (bytes l) p.at p.bytes
+pub piece_stands : (l : Layout) (p : Piece) → IsLaidOut l → Contains (pieces l) p → HasBytesAt (bytes l) p.at p.bytes
 unfolding bytes
-piece_stands l p laid c = Stands-overlay p (pieces l) (padding l) (apart_in l laid) c
+piece_stands l p laid c = HasBytesAt-overlay p (pieces l) (padding l) (apart_in l laid) c
 
 pub one_owner_each : (l : Layout) → IsLaidOut l → HasOneOwnerEach l
 unfolding bytes
@@ -63,7 +63,7 @@ one_owner_each l laid = record {
 -- ---- tables
 
 -- a table of the image stands at its offset
-table_stands : (l : Layout) (at : ℕ) (bs : List ℕ) → IsLaidOut l → IsPiece l at bs → Stands (bytes l) at bs
+table_stands : (l : Layout) (at : ℕ) (bs : List ℕ) → IsLaidOut l → IsPiece l at bs → HasBytesAt (bytes l) at bs
 table_stands l at bs laid t =
     elim (cases_lt 0 (length bs)) [
       | inl some ↦ piece_stands l (record { at = at; bytes = bs }) laid (t.listed (omega (arith, some)))
@@ -73,11 +73,11 @@ table_stands l at bs laid t =
 segment_headers : Layout → List ProgramHeader
 segment_headers l = map (program_header l) l.segments
 
-programs_stand : (l : Layout) → IsLoadableKind l.kind → IsLaidOut l → Stands (bytes l) (if is_partial_link l.kind then 0 else file_header_size) (flat_map (λ (h : ProgramHeader). spell (program_header_fields h)) (map (program_header l) l.segments))
+programs_stand : (l : Layout) → IsLoadableKind l.kind → IsLaidOut l → HasBytesAt (bytes l) (if is_partial_link l.kind then 0 else file_header_size) (flat_map (λ (h : ProgramHeader). spell (program_header_fields h)) (map (program_header l) l.segments))
 programs_stand l k laid =
     let st = table_stands l file_header_size (program_header_bytes l) laid laid.tables.program_headers in
     let told : (if is_partial_link l.kind then 0 else file_header_size) ≡ file_header_size = ap (λ (b : Bool). if b then 0 else file_header_size) (not_partial l.kind k) in
-    subst (λ (n : ℕ). Stands (bytes l) n (flat_map (λ (h : ProgramHeader). spell (program_header_fields h)) (map (program_header l) l.segments))) (sym told) (subst (λ (xs : List ℕ). Stands (bytes l) file_header_size xs) (sym (flat_map-map (λ (h : ProgramHeader). spell (program_header_fields h)) (program_header l) l.segments)) st)
+    subst (λ (n : ℕ). HasBytesAt (bytes l) n (flat_map (λ (h : ProgramHeader). spell (program_header_fields h)) (map (program_header l) l.segments))) (sym told) (subst (λ (xs : List ℕ). HasBytesAt (bytes l) file_header_size xs) (sym (flat_map-map (λ (h : ProgramHeader). spell (program_header_fields h)) (program_header l) l.segments)) st)
 
 headers_offset : (l : Layout) → IsLaidOut l → offset_of_role role.SectionHeaders l.parts < 2 ^ 64
 headers_offset l laid =

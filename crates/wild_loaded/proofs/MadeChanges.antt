@@ -17,8 +17,8 @@ use Rattle.wild_loader.specs.Changes.{kind_of, size_of, patch_over}
 use Rattle.wild_loader.specs.Memory.{Holds, byte_in}
 use Rattle.wild_loader.specs.Places.{places}
 use Rattle.wild_loader.specs.Relocate.{loaded_at}
-use Rattle.wild_meaning.specs.Linked.{processor_of}
-use Rattle.wild_slots.specs.Stand.{SlotsStand}
+use Rattle.wild_meaning.specs.LinkedImage.{processor_of}
+use Rattle.wild_slots.specs.SlotPlaces.{SlotsArePlaced}
 use Rattle.wild_loaded.specs.Memory.{image_memory}
 use Rattle.wild_loaded.specs.Laws.{BlanksAreStored, ThunksAreThere}
 use Rattle.wild_loaded.specs.Tables.{tables_of}
@@ -31,12 +31,12 @@ use Rattle.wild_loaded.proofs.SectionFillings.{section_fillings}
 use Rattle.wild_loaded.proofs.PlacesApart.{HavePlaces}
 use Rattle.wild_loaded.proofs.TableLists.{all_fillings}
 use Rattle.wild_loaded.proofs.AllTables.{FilledLaws, IsFilledWell, SlotTables}
-use Rattle.wild_loaded.specs.Moved.{IsMade, HasApplied}
+use Rattle.wild_loaded.specs.LoadedMemory.{IsMade, HasApplied}
 
 -- what the crates below owe of memory
 pub record MovingLaws : Type 0 where
   pub filled : FilledLaws
-  pub stand : SlotsStand
+  pub stand : SlotsArePlaced
   pub blanks : BlanksAreStored
   pub thunks : ThunksAreThere
 

@@ -16,19 +16,19 @@ use Rattle.wild_loader.specs.declared.memory.Memory.{Memory}
 use Rattle.wild_loader.specs.declared.memory.Run.{Run}
 use Rattle.wild_loader.specs.declared.tables.Tables.{Tables}
 use Rattle.wild_loader.specs.declared.world.World.{World}
-use Rattle.wild_loader.specs.Given.{known}
+use Rattle.wild_loader.specs.Outcome.{known}
 use Rattle.wild_loader.specs.Runs.{read_bytes}
 use Rattle.wild_loader.specs.Changes.{kind_of, change_of, size_of, patch_over, patch_at, first_value}
 use Rattle.wild_loader.specs.Memory.{byte_in, Holds}
 use Rattle.wild_loader.specs.Places.{places, places_from}
-use Rattle.wild_loader.specs.Relocate.{loaded_at, rela_patch, place_patch, runs_of_patches, patched, notes, relocate}
-use Rattle.wild_loader.specs.SegmentLaws.{IsApart, IsElsewhere}
-use Rattle.wild_loader.specs.EntryLaws.{HasMade, patches_of, TablesAreApplied, OrderIsFree}
+use Rattle.wild_loader.specs.Relocate.{loaded_at, rela_patch, place_patch, runs_of_patches, memory_with_patches, notes, relocate}
+use Rattle.wild_loader.specs.SegmentLaws.{DoesNotOverlap, IsOutsideRun}
+use Rattle.wild_loader.specs.EntryLaws.{HasMade, patches_of, TablesAreApplied, OrderDoesNotMatter}
 use Rattle.wild_loader.proofs.EntryLemmas.{stepped, same-ok, read-bytes}
-use Rattle.wild_loader.proofs.Overlaid.{elsewhere}
+use Rattle.wild_loader.proofs.OverlaidBytes.{elsewhere}
 use Rattle.wild_loaded.specs.Words.{place_change, entry_change}
 use Rattle.wild_loaded.proofs.PairLemmas.{All-unmap}
-use Rattle.wild_loaded.specs.Moved.{IsMade}
+use Rattle.wild_loaded.specs.LoadedMemory.{IsMade}
 
 -- ---- what is noted
 
@@ -62,17 +62,17 @@ unfolding place_patch
 place_notes w m x p h = patch_notes m (loaded_at w x) (changes.Add w.base) p h
 
 -- what the first of changes that are apart notes at its place
-starts_differ : (p q : Run) → IsApart p q → 1 ≤ length p.bytes → 1 ≤ length q.bytes → p.start ≡ q.start → ⊥
+starts_differ : (p q : Run) → DoesNotOverlap p q → 1 ≤ length p.bytes → 1 ≤ length q.bytes → p.start ≡ q.start → ⊥
 starts_differ p q h some more e = by_side (elsewhere p q 0 h (omega (arith, some)))
   where
     by_side : (p.start + 0 < q.start) ⊎ (q.start + length q.bytes ≤ p.start + 0) → ⊥
     by_side (inl lt) = omega (arith, e, lt)
     by_side (inr le) = omega (arith, e, le, more)
 
-noted_first : (ps : List Patch) (p : Patch) (o : ℕ) → AllPairs IsApart (runs_of_patches ps) → All NotesBytes ps → Contains ps p → p.offset ≡ Some o → first_value (notes ps) p.run.start ≡ Some o
+noted_first : (ps : List Patch) (p : Patch) (o : ℕ) → AllPairs DoesNotOverlap (runs_of_patches ps) → All NotesBytes ps → Contains ps p → p.offset ≡ Some o → first_value (notes ps) p.run.start ≡ Some o
 unfolding notes
 noted_first [] p o apart each c is = absurd (omega (arith, c.1))
-noted_first (q ∷ qs) p o apart each c is = by_number c.0 c.1 c.2 (λ k m e. noted_first qs p o (AllPairs-tail IsApart q.run (runs_of_patches qs) apart) (All-tail NotesBytes q qs each) (k, m, e) is)
+noted_first (q ∷ qs) p o apart each c is = by_number c.0 c.1 c.2 (λ k m e. noted_first qs p o (AllPairs-tail DoesNotOverlap q.run (runs_of_patches qs) apart) (All-tail NotesBytes q qs each) (k, m, e) is)
   where
     here : (q : Patch) (x : Option ℕ) → q.offset ≡ x → x ≡ Some o → first_value (notes (q ∷ qs)) q.run.start ≡ Some o
     here q None e x = cc
@@ -93,8 +93,8 @@ noted_first (q ∷ qs) p o apart each c is = by_number c.0 c.1 c.2 (λ k m e. no
         subst (λ (x : Patch). x.offset ≡ Some o → first_value (notes (q ∷ qs)) x.run.start ≡ Some o) e own is
     by_number (suc k) m e again =
         let c : Contains qs p = (k, omega (arith, m), e) in
-        let others = All-unmap (IsApart q.run) (λ (x : Patch). x.run) qs (AllPairs-head IsApart q.run (runs_of_patches qs) apart) in
-        let two = All-contains (λ (x : Patch). IsApart q.run x.run) qs p others c in
+        let others = All-unmap (DoesNotOverlap q.run) (λ (x : Patch). x.run) qs (AllPairs-head DoesNotOverlap q.run (runs_of_patches qs) apart) in
+        let two = All-contains (λ (x : Patch). DoesNotOverlap q.run x.run) qs p others c in
         let bytes = All-contains NotesBytes qs p (All-tail NotesBytes q qs each) c o is in
         there q.offset refl (λ same y h. starts_differ q.run p.run two (All-head NotesBytes q qs each y h) bytes same) (again k (omega (arith, m)) e)
 
@@ -106,10 +106,10 @@ pub record HasChanged (w : World) (before : Memory) (t : Tables) (m : Memory) : 
   pub machine : m.machine ≡ before.machine
   pub words : All (λ x. IsMade m (place_change w before x)) (places t.words)
   pub entries : All (λ (e : Rela). IsMade m (entry_change w before e)) (t.entries ++ t.jumps)
-  pub others : (a : ℕ) → All (IsElsewhere a) (runs_of_patches (patches_of t (place_change w before) (entry_change w before))) → byte_in m a ≡ byte_in before a
+  pub others : (a : ℕ) → All (IsOutsideRun a) (runs_of_patches (patches_of t (place_change w before) (entry_change w before))) → byte_in m a ≡ byte_in before a
 
-pub has_changed : (w : World) (before : Memory) (t : Tables) → TablesAreApplied → HasMade w before t (place_change w before) (entry_change w before) → AllPairs IsApart (runs_of_patches (patches_of t (place_change w before) (entry_change w before)))
-    → HasChanged w before t (patched before (patches_of t (place_change w before) (entry_change w before)))
+pub has_changed : (w : World) (before : Memory) (t : Tables) → TablesAreApplied → HasMade w before t (place_change w before) (entry_change w before) → AllPairs DoesNotOverlap (runs_of_patches (patches_of t (place_change w before) (entry_change w before)))
+    → HasChanged w before t (memory_with_patches before (patches_of t (place_change w before) (entry_change w before)))
 has_changed w before t law made apart =
     let g = place_change w before in
     let f = entry_change w before in
@@ -119,7 +119,7 @@ has_changed w before t law made apart =
     let entries : All NotesBytes (map f t.entries) = All-map NotesBytes f t.entries (λ k d lt. entry_notes w before (get_or t.entries k d) (f (get_or t.entries k d)) (made.entries k d lt)) in
     let jumps : All NotesBytes (map f t.jumps) = All-map NotesBytes f t.jumps (λ k d lt. entry_notes w before (get_or t.jumps k d) (f (get_or t.jumps k d)) (made.jumps k d lt)) in
     let each : All NotesBytes ps = All-append NotesBytes (map g (places t.words) ++ map f t.entries) (map f t.jumps) (All-append NotesBytes (map g (places t.words)) (map f t.entries) words entries) jumps in
-    let m = patched before ps in
+    let m = memory_with_patches before ps in
     let noted : (p : Patch) → Contains ps p → (o : ℕ) → p.offset ≡ Some o → first_value m.descriptors p.run.start ≡ Some o = λ p c o is. noted_first ps p o apart each c is in
     let P : Rela → Type 0 = λ e. IsMade m (f e) in
     record {
@@ -168,14 +168,14 @@ alone_made w before t rs moved made =
 to_alone : (t : Tables) (rs : List Rela) → IsPermutation rs (t.entries ++ t.jumps) → IsPermutation (t.entries ++ t.jumps) ((alone rs).entries ++ (alone rs).jumps)
 to_alone t rs moved = subst (λ (xs : List Rela). IsPermutation (t.entries ++ t.jumps) xs) (sym (append-nil rs)) (IsPermutation-sym rs (t.entries ++ t.jumps) moved)
 
-pub alone_apart : (w : World) (before : Memory) (t : Tables) (rs : List Rela) → OrderIsFree → t.words ≡ [] → IsPermutation rs (t.entries ++ t.jumps) → AllPairs IsApart (runs_of_patches (patches_of t (place_change w before) (entry_change w before))) → AllPairs IsApart (runs_of_patches (patches_of (alone rs) (place_change w before) (entry_change w before)))
+pub alone_apart : (w : World) (before : Memory) (t : Tables) (rs : List Rela) → OrderDoesNotMatter → t.words ≡ [] → IsPermutation rs (t.entries ++ t.jumps) → AllPairs DoesNotOverlap (runs_of_patches (patches_of t (place_change w before) (entry_change w before))) → AllPairs DoesNotOverlap (runs_of_patches (patches_of (alone rs) (place_change w before) (entry_change w before)))
 alone_apart w before t rs law none moved apart =
     let g = place_change w before in
     let f = entry_change w before in
     law (runs_of_patches (patches_of t g f)) (runs_of_patches (patches_of (alone rs) g f)) (runs_permuted t (alone rs) g f none refl (to_alone t rs moved)) apart
 
 pub alone_changed : (w : World) (before m : Memory) (t : Tables) (rs : List Rela) → t.words ≡ [] → IsPermutation rs (t.entries ++ t.jumps) → HasChanged w before (alone rs) m
-    → (All (λ x. IsMade m (place_change w before x)) (places t.words) × All (λ (e : Rela). IsMade m (entry_change w before e)) (t.entries ++ t.jumps)) × ((a : ℕ) → All (IsElsewhere a) (runs_of_patches (patches_of t (place_change w before) (entry_change w before))) → byte_in m a ≡ byte_in before a)
+    → (All (λ x. IsMade m (place_change w before x)) (places t.words) × All (λ (e : Rela). IsMade m (entry_change w before e)) (t.entries ++ t.jumps)) × ((a : ℕ) → All (IsOutsideRun a) (runs_of_patches (patches_of t (place_change w before) (entry_change w before))) → byte_in m a ≡ byte_in before a)
 alone_changed w before m t rs none moved h =
     let g = place_change w before in
     let f = entry_change w before in
@@ -184,4 +184,4 @@ alone_changed w before m t rs none moved h =
     let back = to_alone t rs moved in
     let words = subst (λ (ws : List ℕ). All Q (places ws)) (sym none) (subst (All Q) (sym no_places) (All-nil Q)) in
     let entries = All-permutation P ((alone rs).entries ++ (alone rs).jumps) (t.entries ++ t.jumps) (IsPermutation-sym (t.entries ++ t.jumps) ((alone rs).entries ++ (alone rs).jumps) back) h.entries in
-    ((words, entries), λ a out. h.others a (All-permutation (IsElsewhere a) (runs_of_patches (patches_of t g f)) (runs_of_patches (patches_of (alone rs) g f)) (runs_permuted t (alone rs) g f none refl back) out))
+    ((words, entries), λ a out. h.others a (All-permutation (IsOutsideRun a) (runs_of_patches (patches_of t g f)) (runs_of_patches (patches_of (alone rs) g f)) (runs_permuted t (alone rs) g f none refl back) out))

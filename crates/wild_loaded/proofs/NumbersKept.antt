@@ -4,14 +4,14 @@ use Rattle.std.specs.Prelude.{Option, Some, None, All, Contains, option_to_list}
 use Rattle.std.proofs.lemmas.List.Elements.{All-nil, All-cons, All-append, All-contains, Contains-append_right}
 use Rattle.wild_slot.specs.declared.slot.SlotEntry.{SlotEntry}
 use Rattle.wild_slot.specs.declared.slot.SlotWord.{SlotWord}
-use Rattle.wild_slot.specs.declared.slot.SlotWord.TheVariants.{Number, Address, InBlock, General, Plt}
+use Rattle.wild_slot.specs.declared.slot.SlotWord.TheVariants.{Number, Address, InRelrGot, General, Plt}
 use Rattle.wild_slot.specs.declared.slot_parts.WordPart.TheVariants as words
 use Rattle.wild_types.specs.declared.layout.Layout.{Layout}
 use Rattle.wild_slot.specs.SlotParts.{is_packed, next}
 use Rattle.wild_layout.proofs.SiteLemmas.{Contains-flat_map}
-use Rattle.wild_slots.specs.Ascend.{Ascend, place_in}
+use Rattle.wild_slots.specs.AscendingPlaces.{Ascend, place_in}
 use Rattle.wild_slots.specs.Entries.{entry_in}
-use Rattle.wild_loaded.specs.Stored.{filled_width}
+use Rattle.wild_loaded.specs.StoredTables.{filled_width}
 use Rattle.wild_loaded.proofs.SlotSites.{SlotSite, of_site}
 use Rattle.wild_loaded.proofs.Fillings.{Filling}
 use Rattle.wild_loaded.proofs.SlotFillings.{address_filling, slot_filling, made_of}
@@ -39,7 +39,7 @@ IsKept l xs y = IsNumber y.word → All (IsClear y.at) (made_of (slot_filling l)
 -- the filling of a site with a word that is all that its entry fills ends behind that
 narrow_end : (l : Layout) (at a : ℕ) (d : SlotWord) → IsNarrow d → at + 8 ≤ a → All (IsClear a) (option_to_list (slot_filling l at d))
 narrow_end l at a (Number n) narrow le = All-nil (IsClear a)
-narrow_end l at a (InBlock v) narrow le = All-nil (IsClear a)
+narrow_end l at a (InRelrGot v) narrow le = All-nil (IsClear a)
 narrow_end l at a (Address v) narrow le = by_test (is_packed l.options.relr at)
   where
     by_test : (b : Bool) → All (IsClear a) (address_filling l at v b ∷ [])
@@ -51,7 +51,7 @@ narrow_end l at a (Plt e) narrow le = All-cons (IsClear a) _ [] (inl (omega (ari
 -- that of any ends two words behind
 wide_end : (l : Layout) (at a : ℕ) (d : SlotWord) → at + 16 ≤ a → All (IsClear a) (option_to_list (slot_filling l at d))
 wide_end l at a (Number n) le = All-nil (IsClear a)
-wide_end l at a (InBlock v) le = All-nil (IsClear a)
+wide_end l at a (InRelrGot v) le = All-nil (IsClear a)
 wide_end l at a (Address v) le = narrow_end l at a (Address v) tt (omega (arith, le))
 wide_end l at a (General e) le = All-cons (IsClear a) _ [] (let most = width_most e in inl (omega (arith, le, most))) (All-nil (IsClear a))
 wide_end l at a (Plt e) le = All-cons (IsClear a) _ [] (let most = width_most e in inl (omega (arith, le, most))) (All-nil (IsClear a))
@@ -69,7 +69,7 @@ next_end l x xs a is = by_word x.word refl
     by_word : (d : SlotWord) → x.word ≡ d → All (IsClear a) (of_site (slot_filling l) x) ⊎ IsSecond (x ∷ xs) a
     by_word (Number n) e = inl (narrow (Number n) e tt)
     by_word (Address v) e = inl (narrow (Address v) e tt)
-    by_word (InBlock v) e = inl (narrow (InBlock v) e tt)
+    by_word (InRelrGot v) e = inl (narrow (InRelrGot v) e tt)
     by_word (General s) e = elim (two_widths s) [ inl n ↦ inl (narrow (General s) e n) | inr both ↦ inr (second s (ap entry_in e) both) ]
     by_word (Plt s) e = elim (two_widths s) [ inl n ↦ inl (narrow (Plt s) e n) | inr both ↦ inr (second s (ap entry_in e) both) ]
 
@@ -97,7 +97,7 @@ ahead l low high x xs h = λ num. inl (
 
 -- a word has its place in the table, or nothing there is filled for it
 placed : (l : Layout) (at : ℕ) (d : SlotWord) → (place_in words.Got at d ≡ Some at) ⊎ (slot_filling l at d ≡ None)
-placed l at (InBlock a) = inr refl
+placed l at (InRelrGot a) = inr refl
 placed l at (Number n) = inl refl
 placed l at (Address a) = inl refl
 placed l at (General e) = inl refl

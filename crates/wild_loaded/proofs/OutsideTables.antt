@@ -1,6 +1,6 @@
 -- Bytes that no table of the image fills.
-use Rattle.wild_geometry.proofs.StoodSections.{all_sections}
-use Rattle.wild_loaded.proofs.SectionsAside.{section_apart}
+use Rattle.wild_geometry.proofs.PlacedInputs.{all_sections}
+use Rattle.wild_loaded.proofs.SectionsDisjoint.{section_apart}
 use Rattle.std.proofs.Common.{◌≡◌, ℕ, ◌+◌, ◌<◌, ◌≤◌, ◌⊎◌, inl, inr, true, List, ◌++◌, length, get_or, refl, arith}
 use Rattle.std.specs.Prelude.{All, Contains}
 use Rattle.std.proofs.lemmas.List.Elements.{All-append, All-map}
@@ -15,8 +15,8 @@ use Rattle.wild_types.specs.Parts.{is_loaded_role}
 use Rattle.wild_types.proofs.LookupLemmas.{not_hollow_role}
 use Rattle.wild_loader.specs.declared.memory.Memory.{Memory}
 use Rattle.wild_loader.specs.declared.world.World.{World}
-use Rattle.wild_meaning.specs.World.{IsBehind}
-use Rattle.wild_meaning.specs.Linked.{IsNotCopied}
+use Rattle.wild_meaning.specs.World.{IsPastFileBytes}
+use Rattle.wild_meaning.specs.LinkedImage.{IsNotCopied}
 use Rattle.wild_loaded.specs.Memory.{IsStored}
 use Rattle.wild_loaded.proofs.Fillings.{Filling, Misses, general_of, place_entry}
 use Rattle.wild_loaded.proofs.Homes.{Home, HasHome, HomesApart, homes_back, misses_across, behind_misses}
@@ -110,7 +110,7 @@ got_misses l w m k h lt own =
 -- ---- zeros
 
 -- an address behind file bytes to which no symbol's bytes are copied
-pub behind_miss : (l : Layout) (w : World) (m : Memory) (a : ℕ) → IsMovedImage l w m → IsBehind l a → IsNotCopied l w a → All (Misses a) (all_fillings l w)
+pub behind_miss : (l : Layout) (w : World) (m : Memory) (a : ℕ) → IsMovedImage l w m → IsPastFileBytes l a → IsNotCopied l w a → All (Misses a) (all_fillings l w)
 behind_miss l w m a h b none =
     All-append (Misses a) (stored_fillings l) (copies_filled l w)
     (λ i d lt. stored_misses l h.well.kind h.well.keeps h.well.laid h.sections h.slots i d lt a b)

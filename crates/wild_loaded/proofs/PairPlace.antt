@@ -5,10 +5,10 @@ use Rattle.wild_types.specs.declared.part.Part.{Part}
 use Rattle.wild_types.specs.declared.part.Role.TheVariants as role
 use Rattle.wild_types.specs.declared.layout.Layout.{Layout}
 use Rattle.wild_types.specs.Parts.{part_with}
-use Rattle.wild_clauses.specs.SlotPlaces.{address_of_part, start_of}
+use Rattle.wild_plan_rules.specs.SlotPlaces.{address_of_part, start_of}
 use Rattle.wild_layout.specs.Geometry.{IsLaidOut}
 use Rattle.wild_slots.specs.Order.{end_of}
-use Rattle.wild_slots.specs.Stand.{PairStands}
+use Rattle.wild_slots.specs.SlotPlaces.{PairIsPlaced}
 use Rattle.wild_loaded.specs.WholeSlots.{HasWholeSlots}
 use Rattle.wild_loaded.proofs.TablesFit.{PairIsLow}
 
@@ -35,5 +35,5 @@ got_ends l laid = by_part (part_with role.Got l.parts) refl
         begins q = ap address_of_part q
 
 -- and the pair stands in it
-pub pair_low : (l : Layout) → PairStands → IsLaidOut l → HasWholeSlots l → PairIsLow l
+pub pair_low : (l : Layout) → PairIsPlaced → IsLaidOut l → HasWholeSlots l → PairIsLow l
 pair_low l law laid slots = λ at e. (let to = (law l slots.order laid.some_group at e).to in let ends = got_ends l laid in omega (arith, to, ends))

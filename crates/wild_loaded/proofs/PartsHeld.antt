@@ -3,8 +3,8 @@ use Rattle.std.proofs.Common.{◌≡◌, ℕ, zero, suc, ◌+◌, ◌-◌, ◌^�
 use Rattle.std.specs.Prelude.{Option, Some, None, nat_le, ◌&&◌, slice_get, slice_index}
 use Rattle.std.proofs.lemmas.List.Elements.{All-contains}
 use Rattle.wild_records.specs.Abi.Segment.{pt_load}
-use Rattle.wild_words.specs.Words.{Stands}
-use Rattle.wild_words.proofs.OverlayLemmas.{Stands-inner}
+use Rattle.wild_words.specs.Words.{HasBytesAt}
+use Rattle.wild_words.proofs.OverlayLemmas.{HasBytesAt-inner}
 use Rattle.wild_words.proofs.Basics.{Contains-map}
 use Rattle.wild_types.specs.declared.part.Part.{Part}
 use Rattle.wild_types.specs.declared.part.Role.{Role}
@@ -12,11 +12,11 @@ use Rattle.wild_types.specs.declared.part.Role.TheVariants as role
 use Rattle.wild_types.specs.declared.section.Segment.{Segment}
 use Rattle.wild_types.specs.declared.input.InputSection.{InputSection}
 use Rattle.wild_types.specs.declared.layout.Layout.{Layout}
-use Rattle.wild_types.specs.Hollow.{is_hollow_role}
-use Rattle.wild_types.specs.Lookups.{image_size, section_of_part, is_hollow_at}
+use Rattle.wild_types.specs.HeaderOnly.{is_header_only_role}
+use Rattle.wild_types.specs.Lookups.{image_size, section_of_part, is_header_only_at}
 use Rattle.wild_types.specs.Parts.{role_place, is_loaded_role, part_with}
-use Rattle.wild_clauses.specs.SlotPlaces.{address_of_part, start_of}
-use Rattle.wild_headers.specs.Headers.{file_header, program_header}
+use Rattle.wild_plan_rules.specs.SlotPlaces.{address_of_part, start_of}
+use Rattle.wild_table_formats.specs.Headers.{file_header, program_header}
 use Rattle.wild_layout.specs.Image.{bytes, offset_in}
 use Rattle.wild_layout.specs.Loadable.{SegmentLoads, CarriesByte, IsCarried, IsPartCarried, IsPartMapped}
 use Rattle.wild_layout.specs.TablePlaces.{table_bytes}
@@ -28,7 +28,7 @@ use Rattle.wild_loader.specs.Memory.{Holds, byte_in}
 use Rattle.wild_loader.specs.SegmentLaws.{BytesAreLoaded}
 use Rattle.wild_meaning.specs.World.{IsLoadable, IsLegal}
 use Rattle.wild_meaning.proofs.OutputLemmas.{not_partial}
-use Rattle.wild_slots.specs.Stand.{StandsAt}
+use Rattle.wild_slots.specs.SlotPlaces.{IsLocatedAt}
 use Rattle.wild_loaded.specs.Memory.{image_memory}
 use Rattle.wild_loaded.specs.Laws.{PartsAreStored}
 use Rattle.wild_loaded.proofs.Loads.{are_loadable, kind_is, header_from, header_to, header_distance}
@@ -36,7 +36,7 @@ use Rattle.wild_loaded.proofs.Loads.{are_loadable, kind_is, header_from, header_
 -- ---- bytes
 
 -- one byte of what stands in the image
-pub byte_stands : (whole : List ℕ) (at k : ℕ) (part : List ℕ) → k < length part → Stands whole at part → Stands whole (at + k) (slice_index part k ∷ [])
+pub byte_stands : (whole : List ℕ) (at k : ℕ) (part : List ℕ) → k < length part → HasBytesAt whole at part → HasBytesAt whole (at + k) (slice_index part k ∷ [])
 byte_stands whole at k part lt st = record { fits = (let f = st.fits in omega (arith, f, lt)); same = same whole at k part (st.same k lt) }
   where
     same : (whole : List ℕ) (at k : ℕ) (part : List ℕ) → slice_index whole (at + k) ≡ slice_index part k → (i : ℕ) → i < 1 → slice_index whole (at + k + i) ≡ slice_index (slice_index part k ∷ []) i
@@ -50,7 +50,7 @@ pub carries_part : (l : Layout) (p : Part) (k : ℕ) (g : Segment) → IsPartCar
 carries_part l p k g c = record { listed = c.listed; loaded = c.loaded; from = c.from; to = c.to; distance = c.distance }
 
 -- a byte that a segment carries
-pub byte_carried : (l : Layout) (w : World) (g : Segment) (offset address byte : ℕ) → BytesAreLoaded → IsLoadable l.kind → IsLegal l w → IsLaidOut l → CarriesByte l g offset address → Stands (bytes l) offset (byte ∷ []) → byte_in (image_memory l w) (w.base + address) ≡ Some byte
+pub byte_carried : (l : Layout) (w : World) (g : Segment) (offset address byte : ℕ) → BytesAreLoaded → IsLoadable l.kind → IsLegal l w → IsLaidOut l → CarriesByte l g offset address → HasBytesAt (bytes l) offset (byte ∷ []) → byte_in (image_memory l w) (w.base + address) ≡ Some byte
 byte_carried l w g offset address byte law kind legal laid c st =
     let to = c.to in
     let held = law (machine_of (file_header l)) w.base (bytes l) (map (program_header l) l.segments) (program_header l g) (byte ∷ []) offset address
@@ -74,7 +74,7 @@ byte_below l w g offset address kind legal laid c =
     omega (arith, to, sizes, ends)
 
 -- what stands in bytes that memory has
-pub Holds-inner : (m : Memory) (a off : ℕ) (whole part : List ℕ) → Holds m a whole → Stands whole off part → Holds m (a + off) part
+pub Holds-inner : (m : Memory) (a off : ℕ) (whole part : List ℕ) → Holds m a whole → HasBytesAt whole off part → Holds m (a + off) part
 Holds-inner m a off whole part h st = λ k l.
     let f = st.fits in
     let e : a + off + k ≡ a + (off + k) = omega arith in
@@ -89,11 +89,11 @@ placed r h e = by_place (role_place r) e h
     by_place n e h = (let z = subst (λ (k : ℕ). (nat_le (role_place role.Got) k && nat_le k (role_place role.Dynamic)) ≡ true) e h in cc)
 
 -- the part of a role, where it is written
-pub written_part : (l : Layout) (r : Role) (p : Part) → is_hollow_role l r ≡ false → part_with r l.parts ≡ Some p → is_hollow_at l p.section ≡ false
-written_part l r p written there = subst (λ (o : Option Part). is_hollow_at l (section_of_part o) ≡ false) there written
+pub written_part : (l : Layout) (r : Role) (p : Part) → is_header_only_role l r ≡ false → part_with r l.parts ≡ Some p → is_header_only_at l p.section ≡ false
+written_part l r p written there = subst (λ (o : Option Part). is_header_only_at l (section_of_part o) ≡ false) there written
 
 -- each byte of a part that a program reads is carried, where it is written
-pub part_carried : (l : Layout) (r : Role) (p : Part) (k : ℕ) → is_loaded_role r ≡ true → IsLoadable l.kind → IsLaidOut l → part_with r l.parts ≡ Some p → is_hollow_at l p.section ≡ false → k < p.size → (g : Segment) × CarriesByte l g (p.offset + k) (p.address + k)
+pub part_carried : (l : Layout) (r : Role) (p : Part) (k : ℕ) → is_loaded_role r ≡ true → IsLoadable l.kind → IsLaidOut l → part_with r l.parts ≡ Some p → is_header_only_at l p.section ≡ false → k < p.size → (g : Segment) × CarriesByte l g (p.offset + k) (p.address + k)
 part_carried l r p k loaded kind laid there written lt =
     let t = (laid.roles r (placed r loaded)).there p there in
     let c = All-contains (IsPartMapped l) l.parts p (laid.carried (not_partial l.kind kind)) t.listed (not_partial l.kind kind) (subst (λ (x : Role). is_loaded_role x ≡ true) (sym t.has) loaded) written k lt in
@@ -111,7 +111,7 @@ part_stored law stands = λ l w r p loaded kind legal laid there written.
           subst (λ (a : ℕ). byte_in (image_memory l w) a ≡ Some (slice_index (table_bytes l r) k)) e (byte_carried l w c.0 (p.offset + k) (p.address + k) (slice_index (table_bytes l r) k) law kind legal laid c.1 (byte_stands (bytes l) p.offset k (table_bytes l r) lt st)));
     }
   where
-    last : (l : Layout) (w : World) (r : Role) (p : Part) → is_loaded_role r ≡ true → IsLoadable l.kind → IsLegal l w → IsLaidOut l → part_with r l.parts ≡ Some p → is_hollow_at l p.section ≡ false → 1 ≤ p.size → w.base + p.address + p.size ≤ 2 ^ 64
+    last : (l : Layout) (w : World) (r : Role) (p : Part) → is_loaded_role r ≡ true → IsLoadable l.kind → IsLegal l w → IsLaidOut l → part_with r l.parts ≡ Some p → is_header_only_at l p.section ≡ false → 1 ≤ p.size → w.base + p.address + p.size ≤ 2 ^ 64
     last l w r p loaded kind legal laid there written some =
         let c = part_carried l r p (p.size - 1) loaded kind laid there written (omega (arith, some)) in
         let e = byte_below l w c.0 (p.offset + (p.size - 1)) (p.address + (p.size - 1)) kind legal laid c.1 in
@@ -124,7 +124,7 @@ pub record IsHeldAt (l : Layout) (w : World) (at : ℕ) (bs : List ℕ) : Type 0
   pub held : Holds (image_memory l w) (w.base + at) bs
 
 -- bytes that stand in the table of a role are in memory at their address, where it is written
-pub stands_held : (l : Layout) (w : World) (r : Role) (at : ℕ) (bs : List ℕ) → PartsAreStored → is_loaded_role r ≡ true → is_hollow_role l r ≡ false → IsLoadable l.kind → IsLegal l w → IsLaidOut l → 1 ≤ length bs → StandsAt l r at bs → IsHeldAt l w at bs
+pub stands_held : (l : Layout) (w : World) (r : Role) (at : ℕ) (bs : List ℕ) → PartsAreStored → is_loaded_role r ≡ true → is_header_only_role l r ≡ false → IsLoadable l.kind → IsLegal l w → IsLaidOut l → 1 ≤ length bs → IsLocatedAt l r at bs → IsHeldAt l w at bs
 stands_held l w r at bs law loaded written kind legal laid some h = by_part (part_with r l.parts) refl
   where
     start_is : (o : Option Part) → part_with r l.parts ≡ o → start_of l r ≡ address_of_part o
@@ -149,11 +149,11 @@ stands_held l w r at bs law loaded written kind legal laid some h = by_part (par
         }
 
 -- a part of what stands there
-pub stands_inner : (l : Layout) (r : Role) (at off : ℕ) (whole part : List ℕ) → StandsAt l r at whole → Stands whole off part → StandsAt l r (at + off) part
+pub stands_inner : (l : Layout) (r : Role) (at off : ℕ) (whole part : List ℕ) → IsLocatedAt l r at whole → HasBytesAt whole off part → IsLocatedAt l r (at + off) part
 stands_inner l r at off whole part h st =
     let from = h.from in
     let to = h.to in
     let f = st.fits in
-    let inner = Stands-inner (table_bytes l r) whole part (at - start_of l r) off h.stands st in
+    let inner = HasBytesAt-inner (table_bytes l r) whole part (at - start_of l r) off h.stands st in
     let e : at - start_of l r + off ≡ at + off - start_of l r = omega (arith, from) in
-    record { from = omega (arith, from); to = omega (arith, to, f); stands = subst (λ (n : ℕ). Stands (table_bytes l r) n part) e inner }
+    record { from = omega (arith, from); to = omega (arith, to, f); stands = subst (λ (n : ℕ). HasBytesAt (table_bytes l r) n part) e inner }

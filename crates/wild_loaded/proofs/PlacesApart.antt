@@ -1,7 +1,7 @@
 -- Places of eight bytes in kept sections lie beside each other in memory.
 use Rattle.wild_meaning.specs.World.{IsLoadable}
-use Rattle.wild_loaded.proofs.SectionsAside.{AreAside, sections_aside}
-use Rattle.wild_geometry.proofs.StoodSections.{all_sections}
+use Rattle.wild_loaded.proofs.SectionsDisjoint.{AreAside, sections_aside}
+use Rattle.wild_geometry.proofs.PlacedInputs.{all_sections}
 use Rattle.std.proofs.Common.{◌≡◌, ℕ, ◌+◌, ◌<◌, ◌≤◌, ◌⊎◌, inl, inr, List, length, get_or, sym, ap, ◌∙◌, arith, subst}
 use Rattle.std.specs.Prelude.{All, AllPairs, Contains}
 use Rattle.std.specs.List.{flat_map}
@@ -11,9 +11,9 @@ use Rattle.wild_words.proofs.Basics.{not_empty}
 use Rattle.wild_words.proofs.ListLemmas.{All-flat_map, at_places, AllPairs-flat_map}
 use Rattle.wild_types.specs.declared.input.InputSection.{InputSection}
 use Rattle.wild_types.specs.declared.layout.Layout.{Layout}
-use Rattle.wild_types.specs.Hollow.{KeepsAll}
+use Rattle.wild_types.specs.HeaderOnly.{KeepsAll}
 use Rattle.wild_layout.specs.Geometry.{IsLaidOut}
-use Rattle.wild_loaded.proofs.Fillings.{Filling, Misses, AreBeside}
+use Rattle.wild_loaded.proofs.Fillings.{Filling, Misses, DoNotOverlap}
 use Rattle.wild_loaded.specs.Memory.{IsStored}
 use Rattle.wild_loaded.proofs.Homes.{LiesIn, beside_across, misses_across, homes_back}
 use Rattle.wild_loaded.proofs.SectionsApart.{section_home, stored_home}
@@ -22,7 +22,7 @@ use Rattle.wild_loaded.proofs.SectionsApart.{section_home, stored_home}
 pub record HavePlaces (l : Layout) (of : InputSection → List Filling) : Type 0 where
   pub stored : All (λ (s : InputSection). 1 ≤ length (of s) → IsStored l s) (all_sections l)
   pub within : All (λ (s : InputSection). All (LiesIn (section_home l s)) (of s)) (all_sections l)
-  pub beside : All (λ (s : InputSection). AllPairs AreBeside (of s)) (all_sections l)
+  pub beside : All (λ (s : InputSection). AllPairs DoNotOverlap (of s)) (all_sections l)
 
 across_back : (l : Layout) (s t : InputSection) → AreAside l s t → AreAside l t s
 across_back l s t a = λ x y. homes_back (section_home l s) (section_home l t) (a y x)
@@ -34,10 +34,10 @@ abbrev pub all_places : Layout → (InputSection → List Filling) → List Fill
 all_places l of = flat_map of (all_sections l)
 
 -- all places lie beside each other
-pub places_beside : (l : Layout) (of : InputSection → List Filling) → IsLoadable l.kind → KeepsAll l → IsLaidOut l → HavePlaces l of → AllPairs AreBeside (flat_map of (all_sections l))
+pub places_beside : (l : Layout) (of : InputSection → List Filling) → IsLoadable l.kind → KeepsAll l → IsLaidOut l → HavePlaces l of → AllPairs DoNotOverlap (flat_map of (all_sections l))
 places_beside l of kind keeps laid h =
     let apart = sections_aside l keeps laid in
-    AllPairs-flat_map AreBeside of (all_sections l) h.beside
+    AllPairs-flat_map DoNotOverlap of (all_sections l) h.beside
     (λ i j d lt m. (λ k e n p f q.
     both (get_or (all_sections l) i d) (get_or (all_sections l) j d) (get_or (of (get_or (all_sections l) i d)) k e) (get_or (of (get_or (all_sections l) j d)) p f)
     (h.stored i d (omega (arith, lt, m)) (not_empty _ k n))
@@ -46,7 +46,7 @@ places_beside l of kind keeps laid h =
     (h.within i d (omega (arith, lt, m)) k e n)
     (h.within j d m p f q)))
   where
-    both : (s t : InputSection) (a b : Filling) → IsStored l s → IsStored l t → AreAside l s t → LiesIn (section_home l s) a → LiesIn (section_home l t) b → AreBeside a b
+    both : (s t : InputSection) (a b : Filling) → IsStored l s → IsStored l t → AreAside l s t → LiesIn (section_home l s) a → LiesIn (section_home l t) b → DoNotOverlap a b
     both s t a b x y across la lb = beside_across l (section_home l s) (section_home l t) a b kind laid (stored_home l s x) (stored_home l t y) (across x y) la lb
 
 -- a byte outside the places of its own section is outside all places

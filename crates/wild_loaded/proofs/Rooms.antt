@@ -11,11 +11,11 @@ use Rattle.wild_types.specs.declared.file.File.{File}
 use Rattle.wild_types.specs.declared.layout.Layout.{Layout}
 use Rattle.wild_types.specs.FileRoles.{is_epilogue}
 use Rattle.wild_types.specs.Lookups.{is_filled}
-use Rattle.wild_laid.specs.Turned.{as_turned}
-use Rattle.wild_laid.specs.Laid.{Input, laid_files, sorted_inputs, sorted_sections, of_last_file, processed}
+use Rattle.wild_placement.specs.ReversedWords.{with_word_order}
+use Rattle.wild_placement.specs.PlacedSections.{Input, placed_files, sorted_inputs, sorted_sections, of_last_file, processed_sections}
 use Rattle.wild_layout.specs.SectionPlaces.{SectionLies}
 use Rattle.wild_layout.specs.Geometry.{EachSection}
-use Rattle.wild_layout.specs.Image.{offset_in, section_piece, section_pieces, sorted_piece, thunk_pieces, of_first_file, once_pieces, file_pieces, owned_pieces}
+use Rattle.wild_layout.specs.Image.{offset_in, section_piece, section_pieces, sorted_piece, thunk_pieces, of_first_file, merged_and_identity_pieces, file_pieces, owned_pieces}
 use Rattle.wild_words.specs.Overlay.{Piece}
 use Rattle.wild_layout.specs.Sites.{section_bytes, extent_of}
 use Rattle.wild_geometry.proofs.Rooms.{length-room, same_items, room_of, section_room}
@@ -46,11 +46,11 @@ same_place l f s h = by (is_filled l s) refl
 
 -- the rooms of the sections of a file, the sorted ones behind those of the last
 abbrev pub rooms_in : Layout → File → List Piece
-rooms_in l f = flat_map (section_room l) (processed l f)
+rooms_in l f = flat_map (section_room l) (processed_sections l f)
 
 -- what stands once, and thunks
 abbrev pub once_and_thunks : Layout → File → List Piece
-once_and_thunks l f = of_first_file f (once_pieces l) ++ thunk_pieces l f
+once_and_thunks l f = of_first_file f (merged_and_identity_pieces l) ++ thunk_pieces l f
 
 abbrev pub file_rooms : Layout → File → List Piece
 file_rooms l f = rooms_in l f ++ once_and_thunks l f
@@ -61,11 +61,11 @@ sorted_pieces l f = of_last_file f (flat_map (sorted_piece l) (sorted_inputs l))
 own_places : (l : Layout) (f : File) (ss : List InputSection) → All (HasSize l) ss → map extent_of (flat_map (section_room l) ss) ≡ map extent_of (flat_map (section_piece l f) ss)
 own_places l f ss a = same_places (section_room l) (section_piece l f) ss (All-weaker (HasSize l) (λ (s : InputSection). map extent_of (section_room l s) ≡ map extent_of (section_piece l f s)) (λ s e. same_place l f s e) ss a)
 
-input_places : (l : Layout) (xs : List Input) → All (HasSize l) (map (λ (x : Input). as_turned x.section) xs) → map extent_of (flat_map (section_room l) (map (λ (x : Input). as_turned x.section) xs)) ≡ map extent_of (flat_map (sorted_piece l) xs)
+input_places : (l : Layout) (xs : List Input) → All (HasSize l) (map (λ (x : Input). with_word_order x.section) xs) → map extent_of (flat_map (section_room l) (map (λ (x : Input). with_word_order x.section) xs)) ≡ map extent_of (flat_map (sorted_piece l) xs)
 input_places l [] a = refl
 input_places l (x ∷ xs) a =
-    let s = as_turned x.section in
-    let ss = map (λ (y : Input). as_turned y.section) xs in
+    let s = with_word_order x.section in
+    let ss = map (λ (y : Input). with_word_order y.section) xs in
     map-append extent_of (section_room l s) (flat_map (section_room l) ss)
     ∙ ap (λ (es : List Extent). es ++ map extent_of (flat_map (section_room l) ss)) (same_place l x.file s (All-head (HasSize l) s ss a))
     ∙ ap (λ (es : List Extent). map extent_of (sorted_piece l x) ++ es) (input_places l xs (All-tail (HasSize l) s ss a))
@@ -78,7 +78,7 @@ sorted_places l f a = by_role (is_epilogue f.role) a
     by_role false a = refl
     by_role true a = input_places l (sorted_inputs l) a
 
-rooms_places : (l : Layout) (f : File) → All (HasSize l) (processed l f) → map extent_of (rooms_in l f) ≡ map extent_of (section_pieces l f ++ sorted_pieces l f)
+rooms_places : (l : Layout) (f : File) → All (HasSize l) (processed_sections l f) → map extent_of (rooms_in l f) ≡ map extent_of (section_pieces l f ++ sorted_pieces l f)
 rooms_places l f a =
     let last = of_last_file f (sorted_sections l) in
     ap (λ (ps : List Piece). map extent_of ps) (flat_map-append (section_room l) f.sections last)
@@ -87,7 +87,7 @@ rooms_places l f a =
     ∙ ap (λ (es : List Extent). map extent_of (section_pieces l f) ++ es) (sorted_places l f (All-append-right (HasSize l) f.sections last a))
     ∙ sym (map-append extent_of (section_pieces l f) (sorted_pieces l f))
 
-file_places : (l : Layout) (f : File) → All (HasSize l) (processed l f) → map extent_of (file_rooms l f) ≡ map extent_of (file_pieces l f)
+file_places : (l : Layout) (f : File) → All (HasSize l) (processed_sections l f) → map extent_of (file_rooms l f) ≡ map extent_of (file_pieces l f)
 file_places l f a =
     map-append extent_of (rooms_in l f) (once_and_thunks l f)
     ∙ ap (λ (es : List Extent). es ++ map extent_of (once_and_thunks l f)) (rooms_places l f a)
@@ -98,10 +98,10 @@ file_places l f a =
 
 -- the files of a layout with their sections as they stand
 abbrev pub stood_files : Layout → List File
-stood_files l = flat_map (laid_files l) l.groups
+stood_files l = flat_map (placed_files l) l.groups
 
 -- their rooms are where all that they own stands
 pub rooms_stand : (l : Layout) → EachSection l (HasSize l) → map extent_of (flat_map (file_rooms l) (stood_files l)) ≡ map extent_of (flat_map (owned_pieces l) l.groups)
 rooms_stand l h =
-    same_places (file_rooms l) (file_pieces l) (stood_files l) (All-weaker (λ (f : File). All (HasSize l) (processed l f)) (λ (f : File). map extent_of (file_rooms l f) ≡ map extent_of (file_pieces l f)) (file_places l) (stood_files l) (All-flat_map (λ (f : File). All (HasSize l) (processed l f)) (laid_files l) l.groups h))
-    ∙ ap (λ (ps : List Piece). map extent_of ps) (flat_map-flat_map (file_pieces l) (laid_files l) l.groups)
+    same_places (file_rooms l) (file_pieces l) (stood_files l) (All-weaker (λ (f : File). All (HasSize l) (processed_sections l f)) (λ (f : File). map extent_of (file_rooms l f) ≡ map extent_of (file_pieces l f)) (file_places l) (stood_files l) (All-flat_map (λ (f : File). All (HasSize l) (processed_sections l f)) (placed_files l) l.groups h))
+    ∙ ap (λ (ps : List Piece). map extent_of ps) (flat_map-flat_map (file_pieces l) (placed_files l) l.groups)

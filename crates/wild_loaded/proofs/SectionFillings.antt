@@ -15,7 +15,7 @@ use Rattle.wild_types.specs.declared.layout.Layout.{Layout}
 use Rattle.wild_slot.specs.declared.treatment.Treatment.{Treatment}
 use Rattle.wild_slot.specs.declared.treatment.Treatment.TheVariants as treatments
 use Rattle.wild_types.specs.Lookups.{place_of, packs, is_read, allocated}
-use Rattle.wild_needs.specs.Entries.{is_base_relative, is_moved, packed_place, moved_of, packed_places, is_left_to_entry, left_relocations}
+use Rattle.wild_needs.specs.Entries.{is_base_relative, is_relative, relr_place, relative_items, relr_places, has_dynamic_entry, dynamic_relocations}
 use Rattle.wild_types.specs.Flags.{has_flag, absolute}
 use Rattle.wild_types.specs.Kinds.{is_position_independent}
 use Rattle.wild_slot.specs.SlotParts.{type_of}
@@ -27,17 +27,17 @@ use Rattle.wild_reloc.specs.declared.info.RelocationSize.{RelocationSize}
 use Rattle.wild_reloc.specs.declared.info.RelocationSize.TheVariants.{ByteSize}
 use Rattle.wild_reloc.specs.declared.info.Width.TheVariants.{Eight}
 use Rattle.wild_layout.specs.declared.decision.Decision.{Decision}
-use Rattle.wild_layout.specs.declared.decision.Decision.TheVariants.{Moved, Left}
+use Rattle.wild_layout.specs.declared.decision.Decision.TheVariants.{RelativeAddress, DynamicField}
 use Rattle.wild_layout.specs.SymbolValues.{sum}
 use Rattle.wild_layout.specs.SlotValues.{decided_address, index_of}
-use Rattle.wild_layout.specs.Decide.{added, moved_to, left_to, chosen_to, decide_by, decided, decide}
-use Rattle.wild_layout.specs.Left.{entry_for, left_by, left_entry, section_generals}
-use Rattle.wild_layout.specs.Moved.{moved_value, listed_entry, section_entries}
+use Rattle.wild_layout.specs.Decide.{addend_bits, relative_decision, dynamic_decision, ifunc_decision, decide_by, decided, decide}
+use Rattle.wild_layout.specs.DynamicRelocations.{entry_for, dynamic_relocation_by, dynamic_relocation, section_generals}
+use Rattle.wild_layout.specs.RelativeRelocations.{relative_value, listed_entry, section_entries}
 use Rattle.wild_layout.specs.Sites.{Written, written_by}
 use Rattle.wild_slot.proofs.TreatmentLemmas.{known_moved}
 use Rattle.wild_layout.proofs.DecideLemmas.{HasField, IsMoved, sized_left, decided_moved, decided_left, moved_has}
 use Rattle.wild_layout.proofs.DecisionLemmas.{decide_base_relative, decide_symbolic, decide_indirect, decide_extent}
-use Rattle.wild_tables.specs.Tables.{relative_entry}
+use Rattle.wild_table_formats.specs.GroupTables.{relative_entry}
 use Rattle.wild_loaded.proofs.Fillings.{Filling, packed_at, relative_of, general_of, packed_in, relative_in, general_in, jump_in}
 
 -- ---- fillings
@@ -45,13 +45,13 @@ use Rattle.wild_loaded.proofs.Fillings.{Filling, packed_at, relative_of, general
 -- an address that moves
 abbrev pub moved_filling : Layout → InputSection → InputRelocation → Bool → Filling
 moved_filling l s r true = packed_at (place_of s.address r)
-moved_filling l s r false = relative_of (relative_entry l (place_of s.address r) (moved_value l r))
+moved_filling l s r false = relative_of (relative_entry l (place_of s.address r) (relative_value l r))
 
 abbrev pub filling_by : Layout → InputSection → InputRelocation → Treatment → Option Filling
 filling_by l s r treatments.BaseRelative = Some (moved_filling l s r (packs l (place_of s.address r)))
-filling_by l s r (treatments.Symbolic i) = Some (general_of (left_by l s.address r (treatments.Symbolic i)) 8)
-filling_by l s r (treatments.Indirect i) = Some (general_of (left_by l s.address r (treatments.Indirect i)) 8)
-filling_by l s r (treatments.Extent row i) = Some (general_of (left_by l s.address r (treatments.Extent row i)) (field_width row))
+filling_by l s r (treatments.Symbolic i) = Some (general_of (dynamic_relocation_by l s.address r (treatments.Symbolic i)) 8)
+filling_by l s r (treatments.Indirect i) = Some (general_of (dynamic_relocation_by l s.address r (treatments.Indirect i)) 8)
+filling_by l s r (treatments.Extent row i) = Some (general_of (dynamic_relocation_by l s.address r (treatments.Extent row i)) (field_width row))
 filling_by l s r other = None
 
 -- that of a relocation, where it has one
@@ -84,15 +84,15 @@ treated treatments.Recompile h = cc
 treated treatments.Unsupported h = cc
 
 -- no address of a fixed output moves
-fixed : (l : Layout) (s : InputSection) (r : InputRelocation) → is_position_independent l.kind ≡ false → is_moved l s r ≡ false
+fixed : (l : Layout) (s : InputSection) (r : InputRelocation) → is_position_independent l.kind ≡ false → is_relative l s r ≡ false
 fixed l s r h =
-    elim (cases_Bool (is_moved l s r)) [
+    elim (cases_Bool (is_relative l s r)) [
       | inr f ↦ f
       | inl t ↦ absurd (let moves = known_moves l s r (treated (treatment l s.flags r) t) in let both : true ≡ false = sym moves ∙ h in cc)
     ]
 
 -- what is made of addresses that move is made of all sections that are read
-read_moved : {X : Type 0} (l : Layout) (s : InputSection) (f : InputRelocation → Option X) → ((r : InputRelocation) → is_moved l s r ≡ false → f r ≡ None) → (if is_read s then flat_map (λ (r : InputRelocation). option_to_list (f r)) s.relocations else []) ≡ moved_of l s f
+read_moved : {X : Type 0} (l : Layout) (s : InputSection) (f : InputRelocation → Option X) → ((r : InputRelocation) → is_relative l s r ≡ false → f r ≡ None) → (if is_read s then flat_map (λ (r : InputRelocation). option_to_list (f r)) s.relocations else []) ≡ relative_items l s f
 read_moved {X} l s f none = by_tests (is_position_independent l.kind) (is_read s) refl
   where
     by_tests : (a b : Bool) → is_position_independent l.kind ≡ a → (if b then flat_map (λ (r : InputRelocation). option_to_list (f r)) s.relocations else []) ≡ (if a && b then flat_map (λ (r : InputRelocation). option_to_list (f r)) s.relocations else [])
@@ -108,9 +108,9 @@ made_of {Y} g l s f each = by_test (is_read s)
     by_test false = refl
     by_test true = flat_map-flat_map g (λ (r : InputRelocation). option_to_list (section_filling l s r)) s.relocations ∙ flat_map-same (λ (r : InputRelocation). flat_map g (option_to_list (section_filling l s r))) f s.relocations each
 
-pub packed_are : (l : Layout) (s : InputSection) → flat_map packed_in (section_fillings l s) ≡ packed_places l s
-unfolding packed_places
-packed_are l s = made_of packed_in l s (λ (r : InputRelocation). option_to_list (packed_place l s r)) (λ r. one r (treatment l s.flags r)) ∙ read_moved l s (packed_place l s) (λ r e. rw e refl)
+pub packed_are : (l : Layout) (s : InputSection) → flat_map packed_in (section_fillings l s) ≡ relr_places l s
+unfolding relr_places
+packed_are l s = made_of packed_in l s (λ (r : InputRelocation). option_to_list (relr_place l s r)) (λ r. one r (treatment l s.flags r)) ∙ read_moved l s (relr_place l s) (λ r e. rw e refl)
   where
     one : (r : InputRelocation) (t : Treatment) → flat_map packed_in (option_to_list (filling_by l s r t)) ≡ option_to_list (if is_base_relative t && packs l (place_of s.address r) then Some (place_of s.address r) else None)
     one r treatments.Nothing = refl
@@ -130,12 +130,12 @@ pub relatives_are : (l : Layout) (s : InputSection) → flat_map relative_in (se
 unfolding section_entries
 relatives_are l s = made_of relative_in l s (λ (r : InputRelocation). option_to_list (listed_entry l s r)) (λ r. one r (treatment l s.flags r)) ∙ read_moved l s (listed_entry l s) (λ r e. rw e refl)
   where
-    one : (r : InputRelocation) (t : Treatment) → flat_map relative_in (option_to_list (filling_by l s r t)) ≡ option_to_list (option_map (λ (place : ℕ). relative_entry l place (moved_value l r)) (if is_base_relative t && not (packs l (place_of s.address r)) then Some (place_of s.address r) else None))
+    one : (r : InputRelocation) (t : Treatment) → flat_map relative_in (option_to_list (filling_by l s r t)) ≡ option_to_list (option_map (λ (place : ℕ). relative_entry l place (relative_value l r)) (if is_base_relative t && not (packs l (place_of s.address r)) then Some (place_of s.address r) else None))
     one r treatments.Nothing = refl
     one r (treatments.Value row) = refl
     one r treatments.BaseRelative = by_place (packs l (place_of s.address r))
       where
-        by_place : (b : Bool) → flat_map relative_in (moved_filling l s r b ∷ []) ≡ option_to_list (option_map (λ (place : ℕ). relative_entry l place (moved_value l r)) (if not b then Some (place_of s.address r) else None))
+        by_place : (b : Bool) → flat_map relative_in (moved_filling l s r b ∷ []) ≡ option_to_list (option_map (λ (place : ℕ). relative_entry l place (relative_value l r)) (if not b then Some (place_of s.address r) else None))
         by_place true = refl
         by_place false = refl
     one r (treatments.Symbolic i) = refl
@@ -153,10 +153,10 @@ map-filter f p (x ∷ xs) =
     ]
 
 pub generals_are : (l : Layout) (s : InputSection) → flat_map general_in (section_fillings l s) ≡ section_generals l s
-unfolding section_generals left_relocations
-generals_are l s = made_of general_in l s (λ (r : InputRelocation). if is_left_to_entry (treatment l s.flags r) then left_entry l s.address s.flags r ∷ [] else []) (λ r. one r (treatment l s.flags r)) ∙ by_test (is_read s)
+unfolding section_generals dynamic_relocations
+generals_are l s = made_of general_in l s (λ (r : InputRelocation). if has_dynamic_entry (treatment l s.flags r) then dynamic_relocation l s.address s.flags r ∷ [] else []) (λ r. one r (treatment l s.flags r)) ∙ by_test (is_read s)
   where
-    one : (r : InputRelocation) (t : Treatment) → flat_map general_in (option_to_list (filling_by l s r t)) ≡ (if is_left_to_entry t then left_by l s.address r t ∷ [] else [])
+    one : (r : InputRelocation) (t : Treatment) → flat_map general_in (option_to_list (filling_by l s r t)) ≡ (if has_dynamic_entry t then dynamic_relocation_by l s.address r t ∷ [] else [])
     one r treatments.Nothing = refl
     one r (treatments.Value row) = refl
     one r treatments.BaseRelative = by_place (packs l (place_of s.address r))
@@ -170,8 +170,8 @@ generals_are l s = made_of general_in l s (λ (r : InputRelocation). if is_left_
     one r treatments.Recompile = refl
     one r treatments.Unsupported = refl
 
-    by_test : (b : Bool) → (if b then flat_map (λ (r : InputRelocation). if is_left_to_entry (treatment l s.flags r) then left_entry l s.address s.flags r ∷ [] else []) s.relocations else []) ≡ map (left_entry l s.address s.flags) (if b then filter (λ (r : InputRelocation). is_left_to_entry (treatment l s.flags r)) s.relocations else [])
-    by_test true = map-filter (left_entry l s.address s.flags) (λ (r : InputRelocation). is_left_to_entry (treatment l s.flags r)) s.relocations
+    by_test : (b : Bool) → (if b then flat_map (λ (r : InputRelocation). if has_dynamic_entry (treatment l s.flags r) then dynamic_relocation l s.address s.flags r ∷ [] else []) s.relocations else []) ≡ map (dynamic_relocation l s.address s.flags) (if b then filter (λ (r : InputRelocation). has_dynamic_entry (treatment l s.flags r)) s.relocations else [])
+    by_test true = map-filter (dynamic_relocation l s.address s.flags) (λ (r : InputRelocation). has_dynamic_entry (treatment l s.flags r)) s.relocations
     by_test false = refl
 
 -- a relocation has no entry that a stub goes through
@@ -203,8 +203,8 @@ jumps_are l s = made_of jump_in l s no_jump (λ r. one r (treatment l s.flags r)
 
 -- what a filling is, as its relocation was decided
 abbrev pub Fills : Layout → ℕ → InputSection → InputRelocation → Filling → Decision → Type 0
-Fills l block s r x (Moved v packed) = (x ≡ moved_filling l s r packed) × IsMoved l (item_with block s) r v packed
-Fills l block s r x (Left z n symbol addend) = x ≡ general_of (entry_for (place_of s.address r) n symbol addend) (size_width z)
+Fills l block s r x (RelativeAddress v packed) = (x ≡ moved_filling l s r packed) × IsMoved l (item_with block s) r v packed
+Fills l block s r x (DynamicField z n symbol addend) = x ≡ general_of (entry_for (place_of s.address r) n symbol addend) (size_width z)
 Fills l block s r x other = ⊥
 
 -- a relocation with a filling: what it writes in the file, and where
@@ -219,11 +219,11 @@ pub record IsFilledBy (l : Layout) (block : ℕ) (s : InputSection) (r : InputRe
   pub place : x.entry.offset ≡ place_of s.address r
   pub fills : Fills l block s r x decision
 
-moved_there : (l : Layout) (block : ℕ) (s : InputSection) (r : InputRelocation) (x : Filling) (v : ℕ) (packed : Bool) → decided l (item_with block s) r ≡ Ok (Moved v packed) → x ≡ moved_filling l s r packed → IsFilledBy l block s r x
+moved_there : (l : Layout) (block : ℕ) (s : InputSection) (r : InputRelocation) (x : Filling) (v : ℕ) (packed : Bool) → decided l (item_with block s) r ≡ Ok (RelativeAddress v packed) → x ≡ moved_filling l s r packed → IsFilledBy l block s r x
 moved_there l block s r x v packed made e =
     let f = decided_moved l (item_with block s) r v packed made in
     record {
-      decision = Moved v packed;
+      decision = RelativeAddress v packed;
       made = made;
       written = record { size = ByteSize Eight; value = if packed then v else 0 };
       by = refl;
@@ -242,12 +242,12 @@ moved_there l block s r x v packed made e =
     at true = refl
     at false = refl
 
-left_there : (l : Layout) (block : ℕ) (s : InputSection) (r : InputRelocation) (x : Filling) (z : RelocationSize) (n symbol addend : ℕ) → decided l (item_with block s) r ≡ Ok (Left z n symbol addend) → x ≡ general_of (left_entry l s.address s.flags r) (size_width z) → IsFilledBy l block s r x
+left_there : (l : Layout) (block : ℕ) (s : InputSection) (r : InputRelocation) (x : Filling) (z : RelocationSize) (n symbol addend : ℕ) → decided l (item_with block s) r ≡ Ok (DynamicField z n symbol addend) → x ≡ general_of (dynamic_relocation l s.address s.flags r) (size_width z) → IsFilledBy l block s r x
 left_there l block s r x z n symbol addend made e =
     let f = decided_left l (item_with block s) r z n symbol addend made in
     let is : x ≡ general_of (entry_for (place_of s.address r) n symbol addend) (size_width z) = e ∙ ap (λ (y : Rela). general_of y (size_width z)) f.entry in
     record {
-      decision = Left z n symbol addend;
+      decision = DynamicField z n symbol addend;
       made = made;
       written = record { size = z; value = 0 };
       by = refl;
@@ -263,33 +263,33 @@ pub record LeavesField (l : Layout) (s : InputSection) (r : InputRelocation) (d 
   pub number : ℕ
   pub symbol : ℕ
   pub addend : ℕ
-  pub is : d ≡ Left z number symbol addend
+  pub is : d ≡ DynamicField z number symbol addend
 
-left_is : (l : Layout) (s : InputSection) (r : InputRelocation) (d : Decision) (z : RelocationSize) (n i : ℕ) (o : Option ℕ) → left_to z n r i o ≡ Ok d → LeavesField l s r d z
+left_is : (l : Layout) (s : InputSection) (r : InputRelocation) (d : Decision) (z : RelocationSize) (n i : ℕ) (o : Option ℕ) → dynamic_decision z n r i o ≡ Ok d → LeavesField l s r d z
 left_is l s r d z n i None h = cc
 left_is l s r d z n i (Some index) h =
-    let e : Left z n index (added r) ≡ d = cc in
-    record { number = n; symbol = index; addend = added r; is = sym e }
+    let e : DynamicField z n index (addend_bits r) ≡ d = cc in
+    record { number = n; symbol = index; addend = addend_bits r; is = sym e }
 
-chosen_is : (l : Layout) (s : InputSection) (r : InputRelocation) (d : Decision) (a : Result ℕ Fault) → chosen_to l r a ≡ Ok d → LeavesField l s r d (ByteSize Eight)
+chosen_is : (l : Layout) (s : InputSection) (r : InputRelocation) (d : Decision) (a : Result ℕ Fault) → ifunc_decision l r a ≡ Ok d → LeavesField l s r d (ByteSize Eight)
 chosen_is l s r d (Err f) h = cc
 chosen_is l s r d (Ok resolver) h =
-    elim (cases_Bool (added r == 0)) [
+    elim (cases_Bool (addend_bits r == 0)) [
       | inr f ↦ cc (rw f at h)
       | inl t ↦
-          (let made : Ok (Left (ByteSize Eight) (type_of l.machine Irelative) 0 resolver) ≡ Ok d = rw t at h in
-          let e : Left (ByteSize Eight) (type_of l.machine Irelative) 0 resolver ≡ d = cc in
+          (let made : Ok (DynamicField (ByteSize Eight) (type_of l.machine Irelative) 0 resolver) ≡ Ok d = rw t at h in
+          let e : DynamicField (ByteSize Eight) (type_of l.machine Irelative) 0 resolver ≡ d = cc in
           record { number = type_of l.machine Irelative; symbol = 0; addend = resolver; is = sym e })
     ]
 
-moved_is : (l : Layout) (s : Item) (r : InputRelocation) (d : Decision) (a : Result ℕ Fault) → moved_to l s r a ≡ Ok d → (v : ℕ) × (d ≡ Moved v (packs l (place_of s.address r)))
+moved_is : (l : Layout) (s : Item) (r : InputRelocation) (d : Decision) (a : Result ℕ Fault) → relative_decision l s r a ≡ Ok d → (v : ℕ) × (d ≡ RelativeAddress v (packs l (place_of s.address r)))
 moved_is l s r d (Err f) h = cc
-moved_is l s r d (Ok a) h = (let e : Moved (sum a r.addend) (packs l (place_of s.address r)) ≡ d = cc in (sum a r.addend, sym e))
+moved_is l s r d (Ok a) h = (let e : RelativeAddress (sum a r.addend) (packs l (place_of s.address r)) ≡ d = cc in (sum a r.addend, sym e))
 
-by_left : (l : Layout) (block : ℕ) (s : InputSection) (r : InputRelocation) (x : Filling) (d : Decision) (t : Treatment) (z : RelocationSize) → treatment l s.flags r ≡ t → decided l (item_with block s) r ≡ Ok d → Some (general_of (left_by l s.address r t) (size_width z)) ≡ Some x → LeavesField l s r d z → IsFilledBy l block s r x
+by_left : (l : Layout) (block : ℕ) (s : InputSection) (r : InputRelocation) (x : Filling) (d : Decision) (t : Treatment) (z : RelocationSize) → treatment l s.flags r ≡ t → decided l (item_with block s) r ≡ Ok d → Some (general_of (dynamic_relocation_by l s.address r t) (size_width z)) ≡ Some x → LeavesField l s r d z → IsFilledBy l block s r x
 by_left l block s r x d t z is made e f =
-    let same : general_of (left_by l s.address r t) (size_width z) ≡ x = cc in
-    let here : x ≡ general_of (left_entry l s.address s.flags r) (size_width z) = sym same ∙ ap (λ (u : Treatment). general_of (left_by l s.address r u) (size_width z)) (sym is) in
+    let same : general_of (dynamic_relocation_by l s.address r t) (size_width z) ≡ x = cc in
+    let here : x ≡ general_of (dynamic_relocation l s.address s.flags r) (size_width z) = sym same ∙ ap (λ (u : Treatment). general_of (dynamic_relocation_by l s.address r u) (size_width z)) (sym is) in
     left_there l block s r x z f.number f.symbol f.addend (made ∙ ap (λ (y : Decision). Ok y) f.is) here
 
 treated_filling : (l : Layout) (block : ℕ) (s : InputSection) (r : InputRelocation) (x : Filling) (d : Decision) (t : Treatment) → treatment l s.flags r ≡ t → decided l (item_with block s) r ≡ Ok d → decide_by l (item_with block s) r t ≡ Ok d → filling_by l s r t ≡ Some x → IsFilledBy l block s r x
@@ -330,24 +330,24 @@ pub moved_given : (l : Layout) (block : ℕ) (s : InputSection) (r : InputReloca
 moved_given l block s r v packed h = ap (filling_by l s r) h.treated ∙ ap (λ (b : Bool). Some (moved_filling l s r b)) h.packs
 
 -- and so has one whose field is left to an entry
-pub left_given : (l : Layout) (block : ℕ) (s : InputSection) (r : InputRelocation) (z : RelocationSize) (n symbol addend : ℕ) → decided l (item_with block s) r ≡ Ok (Left z n symbol addend) → section_filling l s r ≡ Some (general_of (entry_for (place_of s.address r) n symbol addend) (size_width z))
+pub left_given : (l : Layout) (block : ℕ) (s : InputSection) (r : InputRelocation) (z : RelocationSize) (n symbol addend : ℕ) → decided l (item_with block s) r ≡ Ok (DynamicField z n symbol addend) → section_filling l s r ≡ Some (general_of (entry_for (place_of s.address r) n symbol addend) (size_width z))
 left_given l block s r z n symbol addend made =
     let f = decided_left l (item_with block s) r z n symbol addend made in
     let width = left_width f.treated f.left f.made in
-    ap (filling_by l s r) f.is ∙ width ∙ ap (λ (e : Rela). Some (general_of e (size_width z))) (ap (left_by l s.address r) (sym f.is) ∙ f.entry)
+    ap (filling_by l s r) f.is ∙ width ∙ ap (λ (e : Rela). Some (general_of e (size_width z))) (ap (dynamic_relocation_by l s.address r) (sym f.is) ∙ f.entry)
   where
-    of_size : (a b : RelocationSize) (t : Treatment) → a ≡ b → Some (general_of (left_by l s.address r t) (size_width a)) ≡ Some (general_of (left_by l s.address r t) (size_width b))
-    of_size a b t e = ap (λ (y : RelocationSize). Some (general_of (left_by l s.address r t) (size_width y))) e
+    of_size : (a b : RelocationSize) (t : Treatment) → a ≡ b → Some (general_of (dynamic_relocation_by l s.address r t) (size_width a)) ≡ Some (general_of (dynamic_relocation_by l s.address r t) (size_width b))
+    of_size a b t e = ap (λ (y : RelocationSize). Some (general_of (dynamic_relocation_by l s.address r t) (size_width y))) e
 
-    size_is : (a : RelocationSize) → LeavesField l s r (Left z n symbol addend) a → a ≡ z
-    size_is a h = (let e : Left z n symbol addend ≡ Left a h.number h.symbol h.addend = h.is in cc)
+    size_is : (a : RelocationSize) → LeavesField l s r (DynamicField z n symbol addend) a → a ≡ z
+    size_is a h = (let e : DynamicField z n symbol addend ≡ DynamicField a h.number h.symbol h.addend = h.is in cc)
 
-    left_width : (t : Treatment) → is_left_to_entry t ≡ true → decide_by l (item_with block s) r t ≡ Ok (Left z n symbol addend) → filling_by l s r t ≡ Some (general_of (left_by l s.address r t) (size_width z))
+    left_width : (t : Treatment) → has_dynamic_entry t ≡ true → decide_by l (item_with block s) r t ≡ Ok (DynamicField z n symbol addend) → filling_by l s r t ≡ Some (general_of (dynamic_relocation_by l s.address r t) (size_width z))
     left_width treatments.Nothing h m = cc
     left_width (treatments.Value row) h m = cc
     left_width treatments.BaseRelative h m = cc
-    left_width (treatments.Symbolic i) h m = of_size (ByteSize Eight) z (treatments.Symbolic i) (size_is (ByteSize Eight) (left_is l s r (Left z n symbol addend) (ByteSize Eight) (type_of l.machine Absolute) i (index_of l i) m))
-    left_width (treatments.Indirect i) h m = of_size (ByteSize Eight) z (treatments.Indirect i) (size_is (ByteSize Eight) (chosen_is l s r (Left z n symbol addend) (decided_address l i) m))
-    left_width (treatments.Extent row i) h m = of_size row.size z (treatments.Extent row i) (size_is row.size (left_is l s r (Left z n symbol addend) row.size r.number i (index_of l i) (sized_left l r row i (Left z n symbol addend) m)))
+    left_width (treatments.Symbolic i) h m = of_size (ByteSize Eight) z (treatments.Symbolic i) (size_is (ByteSize Eight) (left_is l s r (DynamicField z n symbol addend) (ByteSize Eight) (type_of l.machine Absolute) i (index_of l i) m))
+    left_width (treatments.Indirect i) h m = of_size (ByteSize Eight) z (treatments.Indirect i) (size_is (ByteSize Eight) (chosen_is l s r (DynamicField z n symbol addend) (decided_address l i) m))
+    left_width (treatments.Extent row i) h m = of_size row.size z (treatments.Extent row i) (size_is row.size (left_is l s r (DynamicField z n symbol addend) row.size r.number i (index_of l i) (sized_left l r row i (DynamicField z n symbol addend) m)))
     left_width treatments.Recompile h m = cc
     left_width treatments.Unsupported h m = cc

@@ -1,5 +1,5 @@
 -- The entries of an image without a dynamic section, by the sections that have them.
-use Rattle.wild_types.specs.Hollow.{KeepsAll}
+use Rattle.wild_types.specs.HeaderOnly.{KeepsAll}
 use Rattle.wild_types.proofs.LookupLemmas.{not_hollow, not_hollow_at}
 use Rattle.wild_loaded.proofs.KindLemmas.{fixed_whole}
 use Rattle.std.proofs.Common.{◌≡◌, ℕ, zero, suc, ◌+◌, ◌*◌, ◌/◌, ◌%◌, ◌<◌, ◌≤◌, ◌⊎◌, inl, inr, Bool, true, false, not, List, [], ◌∷◌, ◌++◌, length, get_or, All, refl, sym, ap, ◌∙◌, arith, subst}
@@ -11,7 +11,7 @@ use Rattle.std.proofs.lemmas.List.Elements.{All-nil, All-append, All-contains}
 use Rattle.std.proofs.lemmas.List.Sorted.{IsPermutation-refl, IsPermutation-trans, IsPermutation-append, IsPermutation-append_comm}
 use Rattle.std.proofs.lemmas.Option.{slice_get-get_or}
 use Rattle.std.proofs.lemmas.List.Concat.{flat_map-append}
-use Rattle.wild_words.specs.Words.{Stands}
+use Rattle.wild_words.specs.Words.{HasBytesAt}
 use Rattle.wild_words.proofs.Basics.{middle_exchanged}
 use Rattle.wild_records.specs.Abi.Section.{sht_rela, sht_nobits, shf_alloc}
 use Rattle.wild_records.specs.Relocations.{rela_size, rela_at, RelaFits}
@@ -22,22 +22,22 @@ use Rattle.wild_types.specs.declared.part.Role.{Role}
 use Rattle.wild_types.specs.declared.part.Role.TheVariants as role
 use Rattle.wild_types.specs.declared.section.Section.{Section}
 use Rattle.wild_types.specs.declared.layout.Layout.{Layout}
-use Rattle.wild_types.specs.Lookups.{allocated, is_hollow, is_hollow_at, has_data, takes_file_bytes}
+use Rattle.wild_types.specs.Lookups.{allocated, is_header_only, is_header_only_at, has_data, takes_file_bytes}
 use Rattle.wild_types.specs.Parts.{role_place, has_role, part_with, is_entry_role, bytes_in}
 use Rattle.wild_types.specs.Kinds.{is_fixed_static}
 use Rattle.wild_types.proofs.PartLemmas.{not_raw}
-use Rattle.wild_headers.specs.Headers.{null_header, info_at, section_header, headers_from, section_headers_of, told_of}
+use Rattle.wild_table_formats.specs.Headers.{null_header, info_at, section_header, headers_from, section_headers_of, computed_infos}
 use Rattle.wild_layout.specs.Image.{bytes}
 use Rattle.wild_layout.specs.SectionPlaces.{RangesApart}
 use Rattle.wild_layout.specs.TablePlaces.{table_bytes}
 use Rattle.wild_layout.specs.Geometry.{IsLaidOut, TablesStand}
-use Rattle.wild_tables.specs.Laws.{EntriesAreRead, LengthsOfEntries}
+use Rattle.wild_table_formats.specs.EntryLaws.{EntriesAreRead, LengthsOfEntries}
 use Rattle.wild_loader.specs.Tables.{has_entries, relas_at}
 use Rattle.wild_loader.specs.SegmentLaws.{rela_bytes}
 use Rattle.wild_loader.specs.Laws.{HoldsEntries, HasSectionTables, section_relas}
-use Rattle.wild_headers.proofs.LengthLemmas.{length-section_headers_of}
+use Rattle.wild_table_formats.proofs.HeaderLengths.{length-section_headers_of}
 use Rattle.wild_meaning.proofs.BitLemmas.{alloc_bit, bit_alloc}
-use Rattle.wild_loaded.proofs.HeadersFit.{uncompressed-alloc}
+use Rattle.wild_loaded.proofs.HeadersFit.{uncompressed_flags-alloc}
 use Rattle.wild_loaded.proofs.TableBytes.{stands_joined}
 
 -- ---- headers
@@ -50,9 +50,9 @@ record IsHeaderOf (l : Layout) (ss : List Section) (k : ℕ) (h : SectionHeader)
   name : ℕ
   is : h ≡ section_header l info name section
 
-header_of : (l : Layout) (i name : ℕ) (ss : List Section) (k : ℕ) (h : SectionHeader) → slice_get (headers_from l (told_of l) i name ss) k ≡ Some h → IsHeaderOf l ss k h
+header_of : (l : Layout) (i name : ℕ) (ss : List Section) (k : ℕ) (h : SectionHeader) → slice_get (headers_from l (computed_infos l) i name ss) k ≡ Some h → IsHeaderOf l ss k h
 header_of l i name [] k h there = cc
-header_of l i name (s ∷ ss) zero h there = record { section = s; listed = refl; info = info_at (told_of l) i s.info; name = name; is = (let same : section_header l (info_at (told_of l) i s.info) name s ≡ h = cc in sym same) }
+header_of l i name (s ∷ ss) zero h there = record { section = s; listed = refl; info = info_at (computed_infos l) i s.info; name = name; is = (let same : section_header l (info_at (computed_infos l) i s.info) name s ≡ h = cc in sym same) }
 header_of l i name (s ∷ ss) (suc k) h there =
     let r = header_of l (i + 1) (name + length s.name + 1) ss k h there in
     record { section = r.section; listed = r.listed; info = r.info; name = r.name; is = r.is }
@@ -62,10 +62,10 @@ unfolding null_header
 null_none l h = cc
 
 -- the header with entries is that of a section behind section 0
-behind_first : (l : Layout) (ss : List Section) (k : ℕ) (h : SectionHeader) → slice_get (section_headers_of l ss) k ≡ Some h → has_entries h ≡ true → (1 ≤ k) × IsHeaderOf l ss k h
-behind_first l [] k h there has = cc
-behind_first l (s ∷ ss) zero h there has = (let same : null_header l ≡ h = cc in absurd (null_none l (subst (λ (x : SectionHeader). has_entries x ≡ true) (sym same) has)))
-behind_first l (s ∷ ss) (suc k) h there has =
+all_but_first : (l : Layout) (ss : List Section) (k : ℕ) (h : SectionHeader) → slice_get (section_headers_of l ss) k ≡ Some h → has_entries h ≡ true → (1 ≤ k) × IsHeaderOf l ss k h
+all_but_first l [] k h there has = cc
+all_but_first l (s ∷ ss) zero h there has = (let same : null_header l ≡ h = cc in absurd (null_none l (subst (λ (x : SectionHeader). has_entries x ≡ true) (sym same) has)))
+all_but_first l (s ∷ ss) (suc k) h there has =
     let r = header_of l 1 (length s.name + 1) ss k h there in
     (omega arith, record { section = r.section; listed = r.listed; info = r.info; name = r.name; is = r.is })
 
@@ -128,7 +128,7 @@ found_there l h es law held =
 record LieIn (image : List ℕ) (from size n at : ℕ) (es : List Rela) : Type 0 where
   count : n ≡ rela_size * length es
   fits : All RelaFits es
-  stands : 1 ≤ n → Stands image at (flat_map rela_bytes es)
+  stands : 1 ≤ n → HasBytesAt image at (flat_map rela_bytes es)
   low : 1 ≤ n → from ≤ at
   high : 1 ≤ n → at + n ≤ from + size
 
@@ -137,7 +137,7 @@ record Fill (image : List ℕ) (from size : ℕ) (es : List Rela) : Type 0 where
   whole : List Rela
   count : size ≡ rela_size * length whole
   fits : All RelaFits whole
-  stands : Stands image from (flat_map rela_bytes whole)
+  stands : HasBytesAt image from (flat_map rela_bytes whole)
   same : IsPermutation whole es
 
 no_entries : (es : List Rela) (n : ℕ) → n ≡ rela_size * length es → n ≡ 0 → es ≡ []
@@ -154,7 +154,7 @@ one_fills image from size n at es x some e =
       whole = es;
       count = sym e ∙ x.count;
       fits = x.fits;
-      stands = subst (λ (a : ℕ). Stands image a (flat_map rela_bytes es)) begins (x.stands some);
+      stands = subst (λ (a : ℕ). HasBytesAt image a (flat_map rela_bytes es)) begins (x.stands some);
       same = IsPermutation-refl es;
     }
 
@@ -168,13 +168,13 @@ two_fill image from size n m a b xs ys law x y some more e apart =
     let other = y.count in
     let bytes_are = law xs in
     let back : b ≡ from + length (flat_map rela_bytes xs) = omega (arith, low, high, e, apart, bytes_are, count) in
-    let joined = stands_joined image (flat_map rela_bytes xs) (flat_map rela_bytes ys) from b back (subst (λ (c : ℕ). Stands image c (flat_map rela_bytes xs)) front (x.stands some)) (y.stands more) in
+    let joined = stands_joined image (flat_map rela_bytes xs) (flat_map rela_bytes ys) from b back (subst (λ (c : ℕ). HasBytesAt image c (flat_map rela_bytes xs)) front (x.stands some)) (y.stands more) in
     let all = length-append xs ys in
     record {
       whole = xs ++ ys;
       count = omega (arith, count, other, all, e);
       fits = All-append RelaFits xs ys x.fits y.fits;
-      stands = subst (λ (bs : List ℕ). Stands image from bs) (sym (flat_map-append rela_bytes xs ys)) joined;
+      stands = subst (λ (bs : List ℕ). HasBytesAt image from bs) (sym (flat_map-append rela_bytes xs ys)) joined;
       same = IsPermutation-refl (xs ++ ys);
     }
 
@@ -242,7 +242,7 @@ lies_in l r es js gs k s x t some there = by_part (part_with r l.parts) refl
         record {
           count = size_is l r es p x.laid x.lengths t e;
           fits = t.fits;
-          stands = λ h. subst (λ (bs : List ℕ). Stands (bytes l) p.offset bs) t.are (x.stand l x.laid r t.place p e (not_hollow_at l p.section x.keeps) h);
+          stands = λ h. subst (λ (bs : List ℕ). HasBytesAt (bytes l) p.offset bs) t.are (x.stand l x.laid r t.place p e (not_hollow_at l p.section x.keeps) h);
           low = λ h. lie.from;
           high = λ h. lie.to;
         }
@@ -265,13 +265,13 @@ roles_apart : (l : Layout) (r t : Role) (p q : Part) → KeepsAll l → IsLaidOu
 roles_apart l r t p q keeps laid place other two e f =
     let x = (laid.roles r place).there p e in
     let y = (laid.roles t other).there q f in
-    let takes : (u : Role) (z : Part) → Contains l.parts z → z.role ≡ u → (role_place u ≡ 0 → ⊥) → takes_file_bytes l z.section ≡ true = λ u z c h n. both (has_data l z.section) (is_hollow_at l z.section) (All-contains (λ (o : Part). has_role role.Raw o ≡ false → has_data l o.section ≡ true) l.parts z laid.room c (not_raw u z n h)) (not_hollow_at l z.section keeps) in
+    let takes : (u : Role) (z : Part) → Contains l.parts z → z.role ≡ u → (role_place u ≡ 0 → ⊥) → takes_file_bytes l z.section ≡ true = λ u z c h n. both (has_data l z.section) (is_header_only_at l z.section) (All-contains (λ (o : Part). has_role role.Raw o ≡ false → has_data l o.section ≡ true) l.parts z laid.room c (not_raw u z n h)) (not_hollow_at l z.section keeps) in
     laid.apart x.listed.0 y.listed.0 p q (listed_index l.parts p x.listed) (listed_index l.parts q y.listed)
     (λ same. two (roles_same x.listed.0 y.listed.0 same (listed_index l.parts p x.listed) (listed_index l.parts q y.listed) x.has y.has))
     (takes r p x.listed x.has place) (takes t q y.listed y.has other)
   where
-    both : (holds hollow : Bool) → holds ≡ true → hollow ≡ false → (holds && not hollow) ≡ true
-    both holds hollow d h = rw (d, h) refl
+    both : (holds header_only : Bool) → holds ≡ true → header_only ≡ false → (holds && not header_only) ≡ true
+    both holds header_only d h = rw (d, h) refl
 
     roles_same : (i j : ℕ) → i ≡ j → slice_get l.parts i ≡ Some p → slice_get l.parts j ≡ Some q → p.role ≡ r → q.role ≡ t → r ≡ t
     roles_same i j same x y h k =
@@ -327,11 +327,11 @@ rela_told false k e = e
 -- what a header tells of its section
 header_tells : (l : Layout) (info name : ℕ) (s : Section) → HasRelas (section_header l info name s) → (s.kind ≡ sht_rela) × (allocated s.flags ≡ true) × (s.size ≡ 0 → ⊥)
 unfolding section_header
-header_tells l info name s r = (rela_told (is_hollow l s) s.kind r.kind, alloc_bit s.flags (sym (uncompressed-alloc s.flags) ∙ r.flag), r.some)
+header_tells l info name s r = (rela_told (is_header_only l s) s.kind r.kind, alloc_bit s.flags (sym (uncompressed_flags-alloc s.flags) ∙ r.flag), r.some)
 
-tells_header : (l : Layout) (info name : ℕ) (s : Section) → is_hollow l s ≡ false → s.kind ≡ sht_rela → allocated s.flags ≡ true → (s.size ≡ 0 → ⊥) → HasRelas (section_header l info name s)
+tells_header : (l : Layout) (info name : ℕ) (s : Section) → is_header_only l s ≡ false → s.kind ≡ sht_rela → allocated s.flags ≡ true → (s.size ≡ 0 → ⊥) → HasRelas (section_header l info name s)
 unfolding section_header
-tells_header l info name s written kind flag some = record { kind = rw written kind; flag = uncompressed-alloc s.flags ∙ bit_alloc s.flags flag; some = some }
+tells_header l info name s written kind flag some = record { kind = rw written kind; flag = uncompressed_flags-alloc s.flags ∙ bit_alloc s.flags flag; some = some }
 
 holds : (l : Layout) (info name : ℕ) (s : Section) (es : List Rela) → (f : Fill (bytes l) s.offset s.size es) → HoldsEntries (bytes l) (section_header l info name s) f.whole
 unfolding section_header
@@ -348,7 +348,7 @@ positive (suc n) h = omega arith
 
 section_read : (l : Layout) (js gs : List Rela) (k : ℕ) (h : SectionHeader) → IsFixedTable l js gs → slice_get (section_headers_of l l.sections) k ≡ Some h → has_entries h ≡ true → IsRead l h (section_parts l k js gs)
 section_read l js gs k h x there has =
-    let b = behind_first l l.sections k h there has in
+    let b = all_but_first l l.sections k h there has in
     let y = b.1 in
     let tells = header_tells l y.info y.name y.section (subst HasRelas y.is (has_relas h has)) in
     let f = filled l js gs k y.section x b.0 y.listed tells.0 tells.1 (positive y.section.size tells.2) in

@@ -4,9 +4,9 @@ use Rattle.std.specs.Prelude.{All, AllPairs, slice_get, if◌then◌else◌, not
 use Rattle.std.specs.List.{flat_map}
 use Rattle.std.proofs.lemmas.Bool.{and_parts}
 use Rattle.std.proofs.lemmas.List.Elements.{All-weaker}
-use Rattle.wild_words.specs.Overlay.{Piece, Apart}
+use Rattle.wild_words.specs.Overlay.{Piece, Disjoint}
 use Rattle.wild_words.proofs.ListLemmas.{Between, AllPairs-from_flat_map, flat_map-flat_map}
-use Rattle.wild_words.proofs.OrderLemmas.{Apart-flip}
+use Rattle.wild_words.proofs.OrderLemmas.{Disjoint-flip}
 use Rattle.wild_types.specs.declared.part.Role.TheVariants as role
 use Rattle.wild_types.specs.declared.input.Slot.{Slot}
 use Rattle.wild_types.specs.declared.input.Slot.TheVariants as slot
@@ -14,50 +14,50 @@ use Rattle.wild_types.specs.declared.input.InputSection.{InputSection}
 use Rattle.wild_types.specs.declared.file.File.{File}
 use Rattle.wild_types.specs.declared.file.Group.{Group}
 use Rattle.wild_types.specs.declared.layout.Layout.{Layout}
-use Rattle.wild_types.specs.Lookups.{is_given, is_filled, is_frame, is_hollow_part, has_bytes, has_range}
+use Rattle.wild_types.specs.Lookups.{has_range_bytes, is_filled, is_frame, is_header_only_part, has_bytes, has_range}
 use Rattle.wild_types.specs.Parts.{part_with}
-use Rattle.wild_laid.specs.Laid.{laid_files, processed}
-use Rattle.wild_layout.specs.Image.{pieces, thunk_pieces, of_first_file, once_pieces, table_pieces, owned_pieces, offset_in}
+use Rattle.wild_placement.specs.PlacedSections.{placed_files, processed_sections}
+use Rattle.wild_layout.specs.Image.{pieces, thunk_pieces, of_first_file, merged_and_identity_pieces, table_pieces, owned_pieces, offset_in}
 use Rattle.wild_layout.specs.SectionPlaces.{SectionLies}
 use Rattle.wild_layout.specs.Geometry.{IsLaidOut}
-use Rattle.wild_geometry.specs.Laid.{file_place}
+use Rattle.wild_geometry.specs.PlacedSections.{file_place}
 use Rattle.wild_loaded.specs.Memory.{IsStored}
 use Rattle.wild_loaded.proofs.Homes.{Home, HasHome, HomesApart}
 use Rattle.wild_loaded.proofs.PairLemmas.{AllPairs-behind, AllPairs-first, AllPairs-across, All-second}
-use Rattle.wild_geometry.proofs.StoodSections.{all_sections, by_files}
+use Rattle.wild_geometry.proofs.PlacedInputs.{all_sections, by_files}
 use Rattle.wild_geometry.proofs.Rooms.{room_of, length-room, section_room, apart_at}
 use Rattle.wild_loaded.proofs.Rooms.{HasSize, lies_size, rooms_in, file_rooms, once_and_thunks, stood_files, rooms_stand}
 
 -- ---- rooms
 
 -- the rooms of what files own share no byte of the image
-rooms_apart : (l : Layout) → IsLaidOut l → AllPairs Apart (flat_map (file_rooms l) (stood_files l))
+rooms_apart : (l : Layout) → IsLaidOut l → AllPairs Disjoint (flat_map (file_rooms l) (stood_files l))
 unfolding pieces
 rooms_apart l laid =
-    let owned = AllPairs-behind Apart (table_pieces l) (owned_pieces l) 0 l.groups laid.owners.apart in
-    let sizes = All-weaker (λ (g : Group). All (λ (f : File). All (SectionLies l) (processed l f)) (laid_files l g)) (λ (g : Group). All (λ (f : File). All (HasSize l) (processed l f)) (laid_files l g)) (λ g a. All-weaker (λ (f : File). All (SectionLies l) (processed l f)) (λ (f : File). All (HasSize l) (processed l f)) (λ f b. All-weaker (SectionLies l) (HasSize l) (lies_size l) (processed l f) b) (laid_files l g) a) l.groups laid.inputs in
+    let owned = AllPairs-behind Disjoint (table_pieces l) (owned_pieces l) 0 l.groups laid.owners.apart in
+    let sizes = All-weaker (λ (g : Group). All (λ (f : File). All (SectionLies l) (processed_sections l f)) (placed_files l g)) (λ (g : Group). All (λ (f : File). All (HasSize l) (processed_sections l f)) (placed_files l g)) (λ g a. All-weaker (λ (f : File). All (SectionLies l) (processed_sections l f)) (λ (f : File). All (HasSize l) (processed_sections l f)) (λ f b. All-weaker (SectionLies l) (HasSize l) (lies_size l) (processed_sections l f) b) (placed_files l g) a) l.groups laid.inputs in
     apart_at (flat_map (owned_pieces l) l.groups) (flat_map (file_rooms l) (stood_files l)) (sym (rooms_stand l sizes)) owned
 
 -- nor do those of two sections
-pub section_rooms_apart : (l : Layout) → IsLaidOut l → AllPairs (Between Apart (section_room l)) (all_sections l)
+pub section_rooms_apart : (l : Layout) → IsLaidOut l → AllPairs (Between Disjoint (section_room l)) (all_sections l)
 section_rooms_apart l laid =
-    let sections = AllPairs-first Apart (rooms_in l) (once_and_thunks l) (stood_files l) (rooms_apart l laid) in
-    let same = by_files (section_room l) l ∙ sym (flat_map-flat_map (rooms_in l) (laid_files l) l.groups) in
-    AllPairs-from_flat_map Apart (section_room l) (all_sections l) (subst (AllPairs Apart) (sym same) sections)
+    let sections = AllPairs-first Disjoint (rooms_in l) (once_and_thunks l) (stood_files l) (rooms_apart l laid) in
+    let same = by_files (section_room l) l ∙ sym (flat_map-flat_map (rooms_in l) (placed_files l) l.groups) in
+    AllPairs-from_flat_map Disjoint (section_room l) (all_sections l) (subst (AllPairs Disjoint) (sym same) sections)
 
 -- nor that of a section and a thunk
-pub thunk_pieces_apart : (l : Layout) → IsLaidOut l → All (λ a. All (Apart a) (flat_map (thunk_pieces l) (stood_files l))) (flat_map (rooms_in l) (stood_files l))
+pub thunk_pieces_apart : (l : Layout) → IsLaidOut l → All (λ a. All (Disjoint a) (flat_map (thunk_pieces l) (stood_files l))) (flat_map (rooms_in l) (stood_files l))
 thunk_pieces_apart l laid =
-    All-weaker (λ a. All (Apart a) (flat_map (once_and_thunks l) (stood_files l))) (λ a. All (Apart a) (flat_map (thunk_pieces l) (stood_files l)))
-    (λ a h. All-second (Apart a) (λ (f : File). of_first_file f (once_pieces l)) (thunk_pieces l) (stood_files l) h)
+    All-weaker (λ a. All (Disjoint a) (flat_map (once_and_thunks l) (stood_files l))) (λ a. All (Disjoint a) (flat_map (thunk_pieces l) (stood_files l)))
+    (λ a h. All-second (Disjoint a) (λ (f : File). of_first_file f (merged_and_identity_pieces l)) (thunk_pieces l) (stood_files l) h)
     (flat_map (rooms_in l) (stood_files l))
-    (AllPairs-across Apart (rooms_in l) (once_and_thunks l) (stood_files l) Apart-flip (rooms_apart l laid))
+    (AllPairs-across Disjoint (rooms_in l) (once_and_thunks l) (stood_files l) Disjoint-flip (rooms_apart l laid))
 
 -- ---- two sections
 
-apart_rooms : (l : Layout) (s t : InputSection) → is_filled l s ≡ true → is_filled l t ≡ true → Between Apart (section_room l) s t → Apart (room_of l s) (room_of l t)
+apart_rooms : (l : Layout) (s t : InputSection) → is_filled l s ≡ true → is_filled l t ≡ true → Between Disjoint (section_room l) s t → Disjoint (room_of l s) (room_of l t)
 apart_rooms l s t fs ft a =
-    let P : Bool → Bool → Type 0 = λ x y. All (λ (p : Piece). All (Apart p) (if y then room_of l t ∷ [] else [])) (if x then room_of l s ∷ [] else []) in
+    let P : Bool → Bool → Type 0 = λ x y. All (λ (p : Piece). All (Disjoint p) (if y then room_of l t ∷ [] else [])) (if x then room_of l s ∷ [] else []) in
     let h : P true true = subst (λ (x : Bool). P x true) fs (subst (λ (y : Bool). P (is_filled l s) y) ft a) in
     h 0 (room_of l s) (omega arith) 0 (room_of l t) (omega arith)
 
@@ -74,12 +74,12 @@ not_frame other h = cc
 
 -- a section that owns bytes is none of frames
 pub filled_place : (l : Layout) (s : InputSection) → is_filled l s ≡ true → file_place l s ≡ offset_in (slice_get l.parts s.part) s.address
-filled_place l s filled = ap (λ (b : Bool). offset_in (if b then part_with role.EhFrame l.parts else slice_get l.parts s.part) s.address) (not_frame s.slot (and_parts (has_range s.slot) (has_bytes l s) (and_parts (is_given l s) (not (is_hollow_part l s.part)) filled).0).0)
+filled_place l s filled = ap (λ (b : Bool). offset_in (if b then part_with role.EhFrame l.parts else slice_get l.parts s.part) s.address) (not_frame s.slot (and_parts (has_range s.slot) (has_bytes l s) (and_parts (has_range_bytes l s) (not (is_header_only_part l s.part)) filled).0).0)
 
 -- sections with rooms apart share no byte of the file
-pub filled_apart : (l : Layout) (s t : InputSection) → is_filled l s ≡ true → is_filled l t ≡ true → Between Apart (section_room l) s t → HomesApart (section_home l s) (section_home l t)
+pub filled_apart : (l : Layout) (s t : InputSection) → is_filled l s ≡ true → is_filled l t ≡ true → Between Disjoint (section_room l) s t → HomesApart (section_home l s) (section_home l t)
 filled_apart l s t fs ft across = sides (apart_rooms l s t fs ft across) (length-room l s) (length-room l t) (filled_place l s fs) (filled_place l t ft)
   where
-    sides : Apart (room_of l s) (room_of l t) → length (room_of l s).bytes ≡ s.size → length (room_of l t).bytes ≡ t.size → file_place l s ≡ offset_in (slice_get l.parts s.part) s.address → file_place l t ≡ offset_in (slice_get l.parts t.part) t.address → HomesApart (section_home l s) (section_home l t)
+    sides : Disjoint (room_of l s) (room_of l t) → length (room_of l s).bytes ≡ s.size → length (room_of l t).bytes ≡ t.size → file_place l s ≡ offset_in (slice_get l.parts s.part) s.address → file_place l t ≡ offset_in (slice_get l.parts t.part) t.address → HomesApart (section_home l s) (section_home l t)
     sides (inl le) ns nt ps pt = inl (omega (arith, le, ns, ps, pt))
     sides (inr le) ns nt ps pt = inr (omega (arith, le, nt, ps, pt))

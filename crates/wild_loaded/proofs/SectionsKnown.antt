@@ -1,5 +1,5 @@
 -- The bytes that tables fill in kept sections, before any entry is applied.
-use Rattle.wild_geometry.proofs.StoodSections.{all_sections, input_of}
+use Rattle.wild_geometry.proofs.PlacedInputs.{all_sections, input_of}
 use Rattle.std.proofs.Common.{◌≡◌, ℕ, ◌+◌, ◌%◌, ◌^◌, ◌<◌, ◌≤◌, Bool, true, false, length, replicate, refl, sym, ap, ◌∙◌, arith, subst, List}
 use Rattle.std.specs.Prelude.{Some, Ok, All}
 use Rattle.std.proofs.lemmas.List.{length-replicate}
@@ -14,20 +14,20 @@ use Rattle.wild_types.specs.declared.input.InputRelocation.{InputRelocation}
 use Rattle.wild_types.specs.declared.input.InputSection.{InputSection}
 use Rattle.wild_types.specs.Item.{item_with, block_for}
 use Rattle.wild_types.specs.declared.layout.Layout.{Layout}
-use Rattle.wild_types.specs.Hollow.{KeepsAll}
+use Rattle.wild_types.specs.HeaderOnly.{KeepsAll}
 use Rattle.wild_types.specs.Lookups.{place_of}
 use Rattle.wild_layout.specs.declared.decision.Decision.{Decision}
-use Rattle.wild_layout.specs.declared.decision.Decision.TheVariants.{Nothing, Field, Moved, Left, Rewritten, Partner}
+use Rattle.wild_layout.specs.declared.decision.Decision.TheVariants.{Nothing, Field, RelativeAddress, DynamicField, Rewritten, Partner}
 use Rattle.wild_layout.specs.Numbers.{NumbersFit}
 use Rattle.wild_layout.specs.Geometry.{IsLaidOut}
 use Rattle.wild_layout.specs.Decide.{decided}
-use Rattle.wild_layout.specs.Left.{entry_for}
-use Rattle.wild_layout.specs.Moved.{moved_value}
+use Rattle.wild_layout.specs.DynamicRelocations.{entry_for}
+use Rattle.wild_layout.specs.RelativeRelocations.{relative_value}
 use Rattle.wild_layout.proofs.DecideLemmas.{IsMoved}
 use Rattle.wild_meaning.specs.World.{IsLegal, IsLoadable}
-use Rattle.wild_tables.specs.Tables.{relative_entry}
+use Rattle.wild_table_formats.specs.GroupTables.{relative_entry}
 use Rattle.wild_geometry.proofs.MachineLemmas.{facts_of}
-use Rattle.wild_meaning.specs.Linked.{processor_of}
+use Rattle.wild_meaning.specs.LinkedImage.{processor_of}
 use Rattle.wild_loaded.proofs.Loads.{image_machine}
 use Rattle.wild_loader.specs.declared.change.Change.{Change}
 use Rattle.wild_loader.specs.declared.change.Change.TheVariants as changes
@@ -40,7 +40,7 @@ use Rattle.wild_loader.specs.Relocate.{loaded_at}
 use Rattle.wild_loader.specs.FilledLaws.{RelativesStoreWords}
 use Rattle.wild_geometry.specs.Loaded.{IsDecided, HasDecision, number_at, entry_with, MakesChange, stored_bytes, HasItem, InFile}
 use Rattle.wild_loaded.specs.Memory.{image_memory, EachDecided}
-use Rattle.wild_loaded.specs.Stored.{FillsField}
+use Rattle.wild_loaded.specs.StoredTables.{FillsField}
 use Rattle.wild_loaded.specs.Laws.{SectionsAreStored, EntriesHaveChanges}
 use Rattle.wild_loaded.proofs.Fillings.{Filling, general_of, HasChange, HasWord, IsKnown, place_loaded}
 use Rattle.wild_loaded.proofs.PlacesApart.{all_places}
@@ -149,7 +149,7 @@ filling_there l w block s x laws kind numbers legal laid h = by_decision h.by.de
         let at = place_loaded w x.entry.offset x.width some (low some) in
         omega (arith, sum, at)
 
-    moved : (v : ℕ) (packed : Bool) → HasDecision l (item_with block s) h.filling.index h.filling.relocation (Moved v packed) → x ≡ moved_filling l s h.filling.relocation packed → IsMoved l (item_with block s) h.filling.relocation v packed → IsKnown w (image_memory l w) x
+    moved : (v : ℕ) (packed : Bool) → HasDecision l (item_with block s) h.filling.index h.filling.relocation (RelativeAddress v packed) → x ≡ moved_filling l s h.filling.relocation packed → IsMoved l (item_with block s) h.filling.relocation v packed → IsKnown w (image_memory l w) x
     moved v true has e f =
         let low_v = value_low l block s h.filling.relocation v true f in
         let eight : x.width ≡ 8 = ap (λ (y : Filling). y.width) e in
@@ -160,13 +160,13 @@ filling_there l w block s x laws kind numbers legal laid h = by_decision h.by.de
     moved v false has e f =
         let eight : x.width ≡ 8 = ap (λ (y : Filling). y.width) e in
         let held = subst (λ (a : ℕ). Holds (image_memory l w) a (word 8 0)) (place_is (omega (arith, eight))) ((before l w block s laws.stored kind legal laid h.well).addresses h.filling.index h.filling.relocation v false has) in
-        let small : moved_value l h.filling.relocation < 2 ^ 64 = omega arith in
-        let made' = relative_makes l w (place_of s.address h.filling.relocation) (moved_value l h.filling.relocation) laws.relative small in
-        let change : HasChange (image_memory l w).machine w (relative_entry l (place_of s.address h.filling.relocation) (moved_value l h.filling.relocation)) 8 = has_change l w _ _ 8 made' refl in
+        let small : relative_value l h.filling.relocation < 2 ^ 64 = omega arith in
+        let made' = relative_makes l w (place_of s.address h.filling.relocation) (relative_value l h.filling.relocation) laws.relative small in
+        let change : HasChange (image_memory l w).machine w (relative_entry l (place_of s.address h.filling.relocation) (relative_value l h.filling.relocation)) 8 = has_change l w _ _ 8 made' refl in
         let P : Filling → Type 0 = λ y. (1 ≤ y.width → w.base + y.entry.offset + y.width ≤ 2 ^ 64) → Holds (image_memory l w) (loaded_at w y.entry.offset) (word 8 0) → IsKnown w (image_memory l w) y in
         subst P (sym e) (λ below there. record { low = below; old = word 8 0; wide = length-word 8 0; held = there; makes = change }) low held
 
-    left : (z : RelocationSize) (n symbol addend : ℕ) → decided l (item_with block s) h.filling.relocation ≡ Ok (Left z n symbol addend) → HasDecision l (item_with block s) h.filling.index h.filling.relocation (Left z n symbol addend) → x ≡ general_of (entry_for (place_of s.address h.filling.relocation) n symbol addend) (size_width z) → IsKnown w (image_memory l w) x
+    left : (z : RelocationSize) (n symbol addend : ℕ) → decided l (item_with block s) h.filling.relocation ≡ Ok (DynamicField z n symbol addend) → HasDecision l (item_with block s) h.filling.index h.filling.relocation (DynamicField z n symbol addend) → x ≡ general_of (entry_for (place_of s.address h.filling.relocation) n symbol addend) (size_width z) → IsKnown w (image_memory l w) x
     left z n symbol addend made has e =
         let some = width_some l block s x h in
         let b = (before l w block s laws.stored kind legal laid h.well).left h.filling.index h.filling.relocation z n symbol addend has in
@@ -181,8 +181,8 @@ filling_there l w block s x laws kind numbers legal laid h = by_decision h.by.de
     by_decision : (d : Decision) → decided l (item_with block s) h.filling.relocation ≡ Ok d → HasDecision l (item_with block s) h.filling.index h.filling.relocation d → Fills l block s h.filling.relocation x d → IsKnown w (image_memory l w) x
     by_decision Nothing made has f = absurd f
     by_decision (Field z v) made has f = absurd f
-    by_decision (Moved v packed) made has f = moved v packed has f.0 f.1
-    by_decision (Left z n symbol addend) made has f = left z n symbol addend made has f
+    by_decision (RelativeAddress v packed) made has f = moved v packed has f.0 f.1
+    by_decision (DynamicField z n symbol addend) made has f = left z n symbol addend made has f
     by_decision (Rewritten row v) made has f = absurd f
     by_decision Partner made has f = absurd f
 

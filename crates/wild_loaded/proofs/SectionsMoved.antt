@@ -1,5 +1,5 @@
 -- A kept section after a loader applied the tables of an image.
-use Rattle.wild_geometry.proofs.StoodSections.{all_sections, listed_section}
+use Rattle.wild_geometry.proofs.PlacedInputs.{all_sections, listed_section}
 use Rattle.std.proofs.Common.{◌≡◌, ℕ, ◌+◌, ◌%◌, ◌^◌, ◌<◌, ◌≤◌, ◌⊎◌, inl, inr, Bool, true, false, List, [], ◌∷◌, ◌++◌, length, get_or, refl, sym, ap, ◌∙◌, arith, subst}
 use Rattle.std.specs.Prelude.{Option, Some, Ok, Result, All, Contains, option_to_list, if◌then◌else◌, slice_index}
 use Rattle.std.specs.List.{flat_map, range_with_len}
@@ -8,7 +8,7 @@ use Rattle.std.proofs.lemmas.List.Elements.{All-contains, Contains-append_left}
 use Rattle.std.proofs.lemmas.List.FromFn.{get_or-range_with_len, length-range_with_len}
 use Rattle.std.proofs.lemmas.Option.{slice_get_within}
 use Rattle.wild_words.specs.Words.{word}
-use Rattle.wild_words.specs.Overlay.{Piece, Apart}
+use Rattle.wild_words.specs.Overlay.{Piece, Disjoint}
 use Rattle.wild_words.proofs.Basics.{listed_at, All-each}
 use Rattle.wild_words.proofs.ListLemmas.{All-from_flat_map}
 use Rattle.wild_words.proofs.OrderLemmas.{Outside}
@@ -24,18 +24,18 @@ use Rattle.wild_reloc.specs.declared.info.RelocationSize.{RelocationSize}
 use Rattle.wild_reloc.specs.declared.info.RelocationSize.TheVariants.{ByteSize}
 use Rattle.wild_reloc.specs.declared.info.Width.TheVariants.{Eight}
 use Rattle.wild_layout.specs.declared.decision.Decision.{Decision}
-use Rattle.wild_layout.specs.declared.decision.Decision.TheVariants.{Nothing, Field, Moved, Left, Rewritten, Partner}
+use Rattle.wild_layout.specs.declared.decision.Decision.TheVariants.{Nothing, Field, RelativeAddress, DynamicField, Rewritten, Partner}
 use Rattle.wild_relax.specs.declared.row.Row.{Row}
 use Rattle.wild_layout.specs.SymbolValues.{sum}
 use Rattle.wild_layout.specs.Decide.{decide}
-use Rattle.wild_layout.specs.Left.{entry_for}
-use Rattle.wild_layout.specs.Moved.{or_zero, moved_value}
+use Rattle.wild_layout.specs.DynamicRelocations.{entry_for}
+use Rattle.wild_layout.specs.RelativeRelocations.{value_or_0, relative_value}
 use Rattle.wild_layout.specs.Sites.{field_site, template_site, site, sites}
 use Rattle.wild_layout.specs.SectionPlaces.{FieldLies}
 use Rattle.wild_layout.proofs.DecideLemmas.{HasField, IsMoved, moved_has, decided_moved, decided_left, field_has_bytes}
 use Rattle.wild_layout.proofs.DecisionLemmas.{decide_moved, decide_left, IsOfRow}
 use Rattle.wild_layout.proofs.SiteLemmas.{Contains-flat_map, site_written, site_rewritten, field_lies}
-use Rattle.wild_tables.specs.Tables.{relative_entry}
+use Rattle.wild_table_formats.specs.GroupTables.{relative_entry}
 use Rattle.wild_loader.specs.declared.change.Change.{Change}
 use Rattle.wild_loader.specs.declared.change.Change.TheVariants as changes
 use Rattle.wild_loader.specs.declared.memory.Memory.{Memory}
@@ -43,7 +43,7 @@ use Rattle.wild_loader.specs.declared.world.World.{World}
 use Rattle.wild_loader.specs.Changes.{bytes_after}
 use Rattle.wild_loader.specs.Memory.{Holds, byte_in}
 use Rattle.wild_loader.specs.Relocate.{loaded_at}
-use Rattle.wild_geometry.specs.Loaded.{InNoSite, InMemory, HasDecision, ReadsLeft, stored_bytes, HasItem}
+use Rattle.wild_geometry.specs.Loaded.{InNoSite, InMemory, HasDecision, ReadsFilledField, stored_bytes, HasItem}
 use Rattle.wild_loaded.specs.Memory.{image_memory}
 use Rattle.wild_loaded.proofs.Fillings.{Filling, Misses, IsKnown, packed_at, relative_of, general_of, place_loaded}
 use Rattle.wild_loaded.proofs.KeptSections.{IsKeptWell}
@@ -54,7 +54,7 @@ use Rattle.wild_loaded.proofs.TableLists.{sections_filled, slots_filled, blocks_
 use Rattle.wild_loaded.proofs.CopyFillings.{copies_filled}
 use Rattle.wild_loaded.proofs.MadeChanges.{IsMovedImage, kept_at, packed_made, made_over}
 use Rattle.wild_loaded.proofs.OutsideTables.{section_misses}
-use Rattle.wild_meaning.specs.Linked.{processor_of}
+use Rattle.wild_meaning.specs.LinkedImage.{processor_of}
 
 -- ---- bytes that no entry touches
 
@@ -102,8 +102,8 @@ other_there l w m block s k h well lt out =
 still_fills_none : (l : Layout) (block : ℕ) (s : InputSection) (r : InputRelocation) (x : Filling) (d : Decision) → IsOfRow d → Fills l block s r x d → ⊥
 still_fills_none l block s r x Nothing still f = absurd still
 still_fills_none l block s r x (Field z v) still f = f
-still_fills_none l block s r x (Moved v packed) still f = absurd still
-still_fills_none l block s r x (Left z n symbol addend) still f = absurd still
+still_fills_none l block s r x (RelativeAddress v packed) still f = absurd still
+still_fills_none l block s r x (DynamicField z n symbol addend) still f = absurd still
 still_fills_none l block s r x (Rewritten row v) still f = f
 still_fills_none l block s r x Partner still f = absurd still
 
@@ -135,7 +135,7 @@ outside_still l block s i p k x well c lt h =
       ]
     ]
   where
-    back : (p o : Piece) → Apart o p → Apart p o
+    back : (p o : Piece) → Disjoint o p → Disjoint p o
     back p o (inl h) = inr h
     back p o (inr h) = inl h
 
@@ -191,16 +191,16 @@ ends_of l block s r z well c f = field_lies l (item_with block s) r z f (All-con
 
 -- ---- addresses
 
-value_same : (l : Layout) (block : ℕ) (s : InputSection) (r : InputRelocation) (v : ℕ) (packed : Bool) → IsMoved l (item_with block s) r v packed → moved_value l r ≡ v
-value_same l block s r v packed a = ap (λ (o : Result ℕ Fault). sum (or_zero o) r.addend) a.given ∙ a.value
+value_same : (l : Layout) (block : ℕ) (s : InputSection) (r : InputRelocation) (v : ℕ) (packed : Bool) → IsMoved l (item_with block s) r v packed → relative_value l r ≡ v
+value_same l block s r v packed a = ap (λ (o : Result ℕ Fault). sum (value_or_0 o) r.addend) a.given ∙ a.value
 
-address_moved : (l : Layout) (w : World) (m : Memory) (block : ℕ) (s : InputSection) (i : ℕ) (r : InputRelocation) (v : ℕ) (packed : Bool) → IsMovedImage l w m → IsKeptWell l block s → HasDecision l (item_with block s) i r (Moved v packed) → Holds m (w.base + s.address + r.offset) (word 8 ((v + w.base) % 2 ^ 64))
+address_moved : (l : Layout) (w : World) (m : Memory) (block : ℕ) (s : InputSection) (i : ℕ) (r : InputRelocation) (v : ℕ) (packed : Bool) → IsMovedImage l w m → IsKeptWell l block s → HasDecision l (item_with block s) i r (RelativeAddress v packed) → Holds m (w.base + s.address + r.offset) (word 8 ((v + w.base) % 2 ^ 64))
 address_moved l w m block s i r v packed h well has = by_packed packed has (decided_moved l (item_with block s) r v packed (decide_moved l (item_with block s) i r v packed has.listed has.decided).made)
   where
     c : Contains s.relocations r
     c = listed_at s.relocations i r has.listed
 
-    by_packed : (b : Bool) → HasDecision l (item_with block s) i r (Moved v b) → IsMoved l (item_with block s) r v b → Holds m (w.base + s.address + r.offset) (word 8 ((v + w.base) % 2 ^ 64))
+    by_packed : (b : Bool) → HasDecision l (item_with block s) i r (RelativeAddress v b) → IsMoved l (item_with block s) r v b → Holds m (w.base + s.address + r.offset) (word 8 ((v + w.base) % 2 ^ 64))
     by_packed true there f =
         let given = moved_given l block s r v true f in
         let at = place_is l w m block s r (packed_at (place_of s.address r)) h well c given refl (omega arith) (ends_of l block s r (ByteSize Eight) well c (moved_has l (item_with block s) r v true f)) in
@@ -209,15 +209,15 @@ address_moved l w m block s i r v packed h well has = by_packed packed has (deci
         let now = packed_made l w m (place_of s.address r) v h listed (value_low l block s r v true f) (subst (λ (a : ℕ). Holds (image_memory l w) a (word 8 v)) (sym at) held) in
         subst (λ (a : ℕ). Holds m a (word 8 ((v + w.base) % 2 ^ 64))) at now
     by_packed false there f =
-        let e = relative_entry l (place_of s.address r) (moved_value l r) in
+        let e = relative_entry l (place_of s.address r) (relative_value l r) in
         let given = moved_given l block s r v false f in
         let at = place_is l w m block s r (relative_of e) h well c given refl (omega arith) (ends_of l block s r (ByteSize Eight) well c (moved_has l (item_with block s) r v false f)) in
         let listed = (filling_listed l w block s r (relative_of e) well c given).1 in
-        let small : moved_value l r < 2 ^ 64 = omega arith in
-        let makes = relative_makes l w (place_of s.address r) (moved_value l r) h.laws.filled.sections.relative small in
-        let over = made_over l w m (relative_of e) (changes.Word ((w.base + moved_value l r) % 2 ^ 64)) h listed tt makes refl in
+        let small : relative_value l r < 2 ^ 64 = omega arith in
+        let makes = relative_makes l w (place_of s.address r) (relative_value l r) h.laws.filled.sections.relative small in
+        let over = made_over l w m (relative_of e) (changes.Word ((w.base + relative_value l r) % 2 ^ 64)) h listed tt makes refl in
         let same = value_same l block s r v false f in
-        let turn : (w.base + moved_value l r) % 2 ^ 64 ≡ (v + w.base) % 2 ^ 64 = ap (λ (n : ℕ). n % 2 ^ 64) (omega (arith, same)) in
+        let turn : (w.base + relative_value l r) % 2 ^ 64 ≡ (v + w.base) % 2 ^ 64 = ap (λ (n : ℕ). n % 2 ^ 64) (omega (arith, same)) in
         subst (λ (a : ℕ). Holds m a (word 8 ((v + w.base) % 2 ^ 64))) at (subst (λ (n : ℕ). Holds m (loaded_at w (place_of s.address r)) (word 8 n)) turn over.made.held)
 
 -- ---- fields that are left to entries
@@ -229,8 +229,8 @@ after_is (changes.Fill bytes) n old some e = absurd (omega (arith, some, e))
 after_is (changes.Add v) n old some e = absurd (omega (arith, some, e))
 after_is (changes.Descriptor o) n old some e = absurd (omega (arith, some, e))
 
-left_filled : (l : Layout) (w : World) (m : Memory) (block : ℕ) (s : InputSection) (i : ℕ) (r : InputRelocation) (z : RelocationSize) (n symbol addend : ℕ) → IsMovedImage l w m → IsKeptWell l block s → HasDecision l (item_with block s) i r (Left z n symbol addend)
-    → (bs : List ℕ) × Holds m (w.base + s.address + r.offset) bs × ReadsLeft (processor_of l.machine) InMemory w z n symbol addend bs
+left_filled : (l : Layout) (w : World) (m : Memory) (block : ℕ) (s : InputSection) (i : ℕ) (r : InputRelocation) (z : RelocationSize) (n symbol addend : ℕ) → IsMovedImage l w m → IsKeptWell l block s → HasDecision l (item_with block s) i r (DynamicField z n symbol addend)
+    → (bs : List ℕ) × Holds m (w.base + s.address + r.offset) bs × ReadsFilledField (processor_of l.machine) InMemory w z n symbol addend bs
 left_filled l w m block s i r z n symbol addend h well has =
     let c = listed_at s.relocations i r has.listed in
     let made = (decide_left l (item_with block s) i r z n symbol addend has.listed has.decided).made in

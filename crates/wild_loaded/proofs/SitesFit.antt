@@ -5,7 +5,7 @@ use Rattle.std.proofs.lemmas.List.Elements.{All-nil, All-cons, All-head, All-tai
 use Rattle.std.proofs.Math.Nat.{pow-le-pow_right}
 use Rattle.wild_words.proofs.ListLemmas.{All-flat_map}
 use Rattle.wild_relr.specs.Laws.{IsWord}
-use Rattle.wild_relr.specs.Packed.{bitmaps, bitmap_count, block}
+use Rattle.wild_relr.specs.RunWords.{bitmaps, bitmap_count, block}
 use Rattle.wild_types.specs.declared.file.File.{File}
 use Rattle.wild_types.specs.declared.file.Group.{Group}
 use Rattle.wild_slot.specs.declared.slot.SlotWord.{SlotWord}
@@ -13,7 +13,7 @@ use Rattle.wild_types.specs.declared.symbol.Resolution.{Resolution}
 use Rattle.wild_types.specs.declared.symbol.Symbol.{Symbol}
 use Rattle.wild_types.specs.declared.layout.Layout.{Layout}
 use Rattle.wild_slot.specs.SlotParts.{next}
-use Rattle.wild_types.specs.SymbolSlots.{resolved_got, slots_at}
+use Rattle.wild_types.specs.SymbolSlots.{resolved_got, slots_address}
 use Rattle.wild_types.specs.FileSymbols.{own_symbols}
 use Rattle.wild_types.proofs.FileLemmas.{All-own}
 use Rattle.wild_slot.specs.SymbolWords.{slots_of}
@@ -32,7 +32,7 @@ sites_at_fit at [] low a = All-nil SiteFits
 sites_at_fit at (w ∷ ws) low a = All-cons SiteFits (record { at = at; word = w }) (sites_at (next at) ws) (low, All-head WordFits w ws a) (sites_at_fit (next at) ws (omega arith) (All-tail WordFits w ws a))
 
 -- where the slots of a symbol begin
-pub slots_low : (s : Symbol) → SymbolNumbers s → slots_at s < 2 ^ 64
+pub slots_low : (s : Symbol) → SymbolNumbers s → slots_address s < 2 ^ 64
 slots_low s n = by_resolution s.resolution n
   where
     by_place : (o : Option ℕ) → ((a : ℕ) → o ≡ Some a → a < 2 ^ 64) → unwrap_or o 0 < 2 ^ 64
@@ -46,7 +46,7 @@ slots_low s n = by_resolution s.resolution n
 pub sites_fit : (l : Layout) (f : File) → All SymbolNumbers l.symbols → All SiteFits (file_sites l f)
 sites_fit l f numbers =
     let own = All-own SymbolNumbers l f numbers in
-    All-flat_map SiteFits (symbol_sites l) (own_symbols l f) (λ k d b. sites_at_fit (slots_at (get_or (own_symbols l f) k d)) (slots_of l (get_or (own_symbols l f) k d)).words (slots_low (get_or (own_symbols l f) k d) (own k d b)) (words_fit l (get_or (own_symbols l f) k d) (own k d b)))
+    All-flat_map SiteFits (symbol_sites l) (own_symbols l f) (λ k d b. sites_at_fit (slots_address (get_or (own_symbols l f) k d)) (slots_of l (get_or (own_symbols l f) k d)).words (slots_low (get_or (own_symbols l f) k d) (own k d b)) (words_fit l (get_or (own_symbols l f) k d) (own k d b)))
 
 pub group_sites_fit : (l : Layout) (g : Group) → All SymbolNumbers l.symbols → All SiteFits (group_sites l g)
 group_sites_fit l g numbers = All-flat_map SiteFits (file_sites l) g.files (λ k d b. sites_fit l (get_or g.files k d) numbers)

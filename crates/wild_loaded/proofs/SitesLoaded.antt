@@ -8,10 +8,10 @@ use Rattle.wild_records.specs.declared.relocations.Rela.{Rela}
 use Rattle.wild_types.specs.declared.part.Role.TheVariants as role
 use Rattle.wild_slot.specs.declared.slot.SlotEntry.{SlotEntry}
 use Rattle.wild_slot.specs.declared.slot.SlotWord.{SlotWord}
-use Rattle.wild_slot.specs.declared.slot.SlotWord.TheVariants.{Number, Address, InBlock, General, Plt}
+use Rattle.wild_slot.specs.declared.slot.SlotWord.TheVariants.{Number, Address, InRelrGot, General, Plt}
 use Rattle.wild_types.specs.declared.layout.Layout.{Layout}
 use Rattle.wild_slot.specs.SlotParts.{is_packed, entry_at, address_entry}
-use Rattle.wild_clauses.specs.SlotPlaces.{start_of}
+use Rattle.wild_plan_rules.specs.SlotPlaces.{start_of}
 use Rattle.wild_layout.proofs.SiteLemmas.{Contains-flat_map}
 use Rattle.wild_loader.specs.declared.change.Change.{Change}
 use Rattle.wild_loader.specs.declared.change.Change.TheVariants as changes
@@ -20,12 +20,12 @@ use Rattle.wild_loader.specs.declared.world.World.{World}
 use Rattle.wild_loader.specs.Changes.{bytes_after, patch_over, first_value, change_of}
 use Rattle.wild_loader.specs.Memory.{Holds, byte_in}
 use Rattle.wild_loader.specs.Relocate.{loaded_at}
-use Rattle.wild_geometry.specs.Slots.{IsLeft, IsFilledBy, IsLoadedWord}
+use Rattle.wild_geometry.specs.Slots.{IsWordAfterChange, IsFilledBy, IsLoadedWord}
 use Rattle.wild_slots.specs.Order.{end_of}
 use Rattle.wild_slots.specs.Entries.{entry_in}
-use Rattle.wild_slots.specs.Stand.{StandsAt}
+use Rattle.wild_slots.specs.SlotPlaces.{IsLocatedAt}
 use Rattle.wild_loaded.specs.Memory.{image_memory}
-use Rattle.wild_loaded.specs.Stored.{IsWordStored, filled_width, FillsWords, FillsSlot}
+use Rattle.wild_loaded.specs.StoredTables.{IsWordStored, filled_width, FillsWords, FillsSlot}
 use Rattle.wild_loaded.proofs.SlotSites.{SlotSite, of_site, all_sites}
 use Rattle.wild_loaded.proofs.Fillings.{Table, GeneralTable, JumpTable, Filling, Misses, packed_at, relative_of, place_loaded}
 use Rattle.wild_loaded.proofs.SectionsKnown.{relative_makes}
@@ -40,7 +40,7 @@ use Rattle.wild_loaded.proofs.AllTables.{slots_of_well}
 use Rattle.wild_loaded.proofs.MadeChanges.{IsMovedImage, HasEntry, kept_at, packed_made, made_over}
 use Rattle.wild_loaded.proofs.OutsideTables.{got_misses}
 use Rattle.wild_loaded.proofs.NumbersKept.{IsClear, IsSecond, all_kept}
-use Rattle.wild_meaning.specs.Linked.{processor_of}
+use Rattle.wild_meaning.specs.LinkedImage.{processor_of}
 use Rattle.wild_loader.specs.declared.memory.Machine.{Machine as Processor}
 use Rattle.wild_geometry.specs.EntryKinds.{loaded_kind}
 use Rattle.wild_geometry.specs.Loaded.{entry_with}
@@ -63,9 +63,9 @@ slot_listed l w at d x c is =
     let here : Contains (slots_filled l) x = Contains-flat_map (of_site (slot_filling l)) (got_sites l) (site at d) x c one in
     Contains-append_left (stored_fillings l) (copies_filled l w) x (Contains-append_right (sections_filled l) (slots_filled l ++ blocks_filled l) x (Contains-append_left (slots_filled l) (blocks_filled l) x here))
 
-block_listed : (l : Layout) (w : World) (at a : ℕ) → Contains (all_sites l) (site at (InBlock a)) → Contains (all_fillings l w) (packed_at at)
+block_listed : (l : Layout) (w : World) (at a : ℕ) → Contains (all_sites l) (site at (InRelrGot a)) → Contains (all_fillings l w) (packed_at at)
 block_listed l w at a c =
-    let here : Contains (blocks_filled l) (packed_at at) = Contains-flat_map (of_site block_filling) (all_sites l) (site at (InBlock a)) (packed_at at) c (0, omega arith, refl) in
+    let here : Contains (blocks_filled l) (packed_at at) = Contains-flat_map (of_site block_filling) (all_sites l) (site at (InRelrGot a)) (packed_at at) c (0, omega arith, refl) in
     Contains-append_left (stored_fillings l) (copies_filled l w) (packed_at at) (Contains-append_right (sections_filled l) (slots_filled l ++ blocks_filled l) (packed_at at) (Contains-append_right (slots_filled l) (blocks_filled l) (packed_at at) here))
 
 stored_loaded : (l : Layout) (w : World) (at : ℕ) (d : SlotWord) → IsWordStored l w at d → loaded_at w at ≡ w.base + at
@@ -107,10 +107,10 @@ address_after l w m at v h c k = by_test (is_packed l.options.relr at) refl
           is = refl;
         }
 
-block_after : (l : Layout) (w : World) (m : Memory) (at v : ℕ) → IsMovedImage l w m → Contains (all_sites l) (site at (InBlock v)) → IsWordStored l w at (InBlock v) → IsLoadedSite w m at (InBlock v)
+block_after : (l : Layout) (w : World) (m : Memory) (at v : ℕ) → IsMovedImage l w m → Contains (all_sites l) (site at (InRelrGot v)) → IsWordStored l w at (InRelrGot v) → IsLoadedSite w m at (InRelrGot v)
 block_after l w m at v h c s =
     let is : v ≡ s.value = (let e = s.is in cc) in
-    packed_after l w m at v (InBlock v) h (block_listed l w at v c) s (sym is) refl
+    packed_after l w m at v (InRelrGot v) h (block_listed l w at v c) s (sym is) refl
 
 -- ---- words that entries fill
 
@@ -157,7 +157,7 @@ entry_after l w m at e d p s f made = by_change f.change refl f.fills
       value = v;
       fits = h.1;
       held = subst (λ (c : Change). Holds m (w.base + at) (bytes_after c made.old)) k made.after;
-      is = record { change = f.change; makes = makes; leaves = subst (λ (c : Change). IsLeft m (w.base + at) c v) (sym k) refl };
+      is = record { change = f.change; makes = makes; leaves = subst (λ (c : Change). IsWordAfterChange m (w.base + at) c v) (sym k) refl };
     }
     by_change (changes.Descriptor o) k h =
         let wide = made.wide in
@@ -165,7 +165,7 @@ entry_after l w m at e d p s f made = by_change f.change refl f.fills
           value = s.value;
           fits = s.fits;
           held = same_word (image_memory l w) m (w.base + at) s.value made.old (omega (arith, wide, h)) made.before (subst (λ (c : Change). Holds m (w.base + at) (bytes_after c made.old)) k made.after) s.held;
-          is = record { change = f.change; makes = makes; leaves = subst (λ (c : Change). IsLeft m (w.base + at) c s.value) (sym k) (made.noted o k) };
+          is = record { change = f.change; makes = makes; leaves = subst (λ (c : Change). IsWordAfterChange m (w.base + at) c s.value) (sym k) (made.noted o k) };
         }
     by_change (changes.Half v) k h = absurd h
     by_change (changes.Fill bytes) k h = absurd h
@@ -174,7 +174,7 @@ entry_after l w m at e d p s f made = by_change f.change refl f.fills
 -- ---- numbers
 
 -- bytes of the table of slots that no filling there has
-kept_word : (l : Layout) (w : World) (m : Memory) (at v : ℕ) → IsMovedImage l w m → StandsAt l role.Got at (word 8 v) → Holds (image_memory l w) (w.base + at) (word 8 v) → ((k : ℕ) → k < 8 → All (Misses (at + k)) (slots_filled l)) → Holds m (w.base + at) (word 8 v)
+kept_word : (l : Layout) (w : World) (m : Memory) (at v : ℕ) → IsMovedImage l w m → IsLocatedAt l role.Got at (word 8 v) → Holds (image_memory l w) (w.base + at) (word 8 v) → ((k : ℕ) → k < 8 → All (Misses (at + k)) (slots_filled l)) → Holds m (w.base + at) (word 8 v)
 kept_word l w m at v h stands held out = λ k lt.
     let n = length-word 8 v in
     let i = stands_inside l role.Got at (word 8 v) refl h.well.laid stands in
@@ -223,7 +223,7 @@ number_after l w m at n h c s =
         by_word : (first : ℕ) (d : SlotWord) (e : SlotEntry) → Contains (got_sites l) (site first d) → entry_in d ≡ Some e → filled_width e ≡ 16 → at ≡ first + 8 → SiteIsKnown l w (site first d) → Holds m (w.base + at) (word 8 s.value)
         by_word first (Number k) e c is wide place known = cc
         by_word first (Address v) e c is wide place known = cc
-        by_word first (InBlock v) e c is wide place known = cc
+        by_word first (InRelrGot v) e c is wide place known = cc
         by_word first (General x) e c is wide place known =
             let same : x ≡ e = cc in
             let wide' = subst (λ (y : SlotEntry). filled_width y ≡ 16) (sym same) wide in
@@ -239,13 +239,13 @@ number_after l w m at n h c s =
 
 -- ---- any word
 
-pub site_after : (l : Layout) (w : World) (m : Memory) (at : ℕ) (d : SlotWord) → IsMovedImage l w m → Contains (got_sites l) (site at d) → ((a : ℕ) → d ≡ InBlock a → Contains (all_sites l) (site at d)) → IsLoadedSite w m at d
+pub site_after : (l : Layout) (w : World) (m : Memory) (at : ℕ) (d : SlotWord) → IsMovedImage l w m → Contains (got_sites l) (site at d) → ((a : ℕ) → d ≡ InRelrGot a → Contains (all_sites l) (site at d)) → IsLoadedSite w m at d
 site_after l w m at d h c own = by_word d c own (All-contains (SiteIsKnown l w) (got_sites l) (site at d) (sites_known l w h.laws.filled.slots (slots_of_well l w h.well)) c)
   where
-    by_word : (d : SlotWord) → Contains (got_sites l) (site at d) → ((a : ℕ) → d ≡ InBlock a → Contains (all_sites l) (site at d)) → SiteIsKnown l w (site at d) → IsLoadedSite w m at d
+    by_word : (d : SlotWord) → Contains (got_sites l) (site at d) → ((a : ℕ) → d ≡ InRelrGot a → Contains (all_sites l) (site at d)) → SiteIsKnown l w (site at d) → IsLoadedSite w m at d
     by_word (Number n) c own k = number_after l w m at n h c k.stored
     by_word (Address v) c own k = address_after l w m at v h c k
-    by_word (InBlock v) c own k = block_after l w m at v h (own v refl) k.stored
+    by_word (InRelrGot v) c own k = block_after l w m at v h (own v refl) k.stored
     by_word (General e) c own k =
         let x = entry_after l w m at e (General e) h.applied.machine k.stored k.fills (slot_made l w m at GeneralTable e (General e) h c tt refl k.stored k.fills) in
         record { value = x.value; fits = x.fits; held = x.held; is = x.is }

@@ -7,7 +7,7 @@ use Rattle.wild_words.proofs.ListLemmas.{flat_map-same, flat_map-flat_map}
 use Rattle.wild_records.specs.declared.relocations.Rela.{Rela}
 use Rattle.wild_reloc.specs.declared.dynamic.DynamicRelocationKind.TheVariants.{DtpMod}
 use Rattle.wild_slot.specs.declared.slot.SlotWord.{SlotWord}
-use Rattle.wild_slot.specs.declared.slot.SlotWord.TheVariants.{Number, Address, InBlock, General, Plt}
+use Rattle.wild_slot.specs.declared.slot.SlotWord.TheVariants.{Number, Address, InRelrGot, General, Plt}
 use Rattle.wild_slot.specs.declared.slot_parts.EntryPart.TheVariants as entries
 use Rattle.wild_slot.specs.declared.slot_parts.WordPart.{WordPart}
 use Rattle.wild_types.specs.declared.symbol.Symbol.{Symbol}
@@ -16,16 +16,16 @@ use Rattle.wild_types.specs.declared.file.Group.{Group}
 use Rattle.wild_types.specs.declared.layout.Layout.{Layout}
 use Rattle.wild_types.specs.Kinds.{is_executable}
 use Rattle.wild_slot.specs.Slots.{setting_of}
-use Rattle.wild_slot.specs.Storage.{less}
-use Rattle.wild_slot.specs.SlotParts.{next, at_places, is_packed, entry_of, entry_at, address_entry, flat_place}
+use Rattle.wild_slot.specs.Storage.{minus}
+use Rattle.wild_slot.specs.SlotParts.{next, at_places, is_packed, entry_of, entry_at, address_entry, relr_slot_place}
 use Rattle.wild_types.specs.FileSymbols.{own_symbols}
 use Rattle.wild_slot.specs.SymbolWords.{slots_of}
-use Rattle.wild_types.specs.SymbolSlots.{slots_at}
-use Rattle.wild_needs.specs.SlotShares.{storage_at, storage_words, block_place}
+use Rattle.wild_types.specs.SymbolSlots.{slots_address}
+use Rattle.wild_needs.specs.SlotShares.{storage_at, storage_words, relr_got_place}
 use Rattle.wild_layout.specs.SlotBytes.{storage_entries}
 use Rattle.wild_slots.specs.Order.{group_symbols, written_symbols}
-use Rattle.wild_slots.specs.Ascend.{place_in, word_places}
-use Rattle.wild_loaded.specs.Stored.{filled_width}
+use Rattle.wild_slots.specs.AscendingPlaces.{place_in, word_places}
+use Rattle.wild_loaded.specs.StoredTables.{filled_width}
 use Rattle.wild_loaded.proofs.SlotSites.{SlotSite, of_site, sites_at, symbol_sites, file_sites, group_sites, all_sites, by_sites}
 use Rattle.wild_loaded.proofs.Fillings.{Filling, JumpTable, packed_at, relative_of, general_of, packed_in, relative_in, general_in, jump_in}
 
@@ -45,7 +45,7 @@ slot_filling l at other = None
 
 -- a word of a block
 abbrev pub block_filling : ℕ → SlotWord → Option Filling
-block_filling at (InBlock a) = Some (packed_at at)
+block_filling at (InRelrGot a) = Some (packed_at at)
 block_filling at other = None
 
 -- the words of the pair of the output's own thread-local data, and all of the table of slots
@@ -64,12 +64,12 @@ made_of f xs = flat_map (of_site f) xs
 of_fillings : {Y : Type 0} (g : Filling → List Y) (f : ℕ → SlotWord → Option Filling) (h : ℕ → SlotWord → Option Y) (xs : List SlotSite) → ((at : ℕ) (d : SlotWord) → flat_map g (option_to_list (f at d)) ≡ option_to_list (h at d)) → flat_map g (made_of f xs) ≡ made_of h xs
 of_fillings g f h xs each = flat_map-flat_map g (of_site f) xs ∙ flat_map-same (λ (x : SlotSite). flat_map g (of_site f x)) (of_site h) xs (λ x. each x.at x.word)
 
-pub slots_packed : (l : Layout) (xs : List SlotSite) → flat_map packed_in (made_of (slot_filling l) xs) ≡ made_of (flat_place l.options.relr) xs
-slots_packed l xs = of_fillings packed_in (slot_filling l) (flat_place l.options.relr) xs one
+pub slots_packed : (l : Layout) (xs : List SlotSite) → flat_map packed_in (made_of (slot_filling l) xs) ≡ made_of (relr_slot_place l.options.relr) xs
+slots_packed l xs = of_fillings packed_in (slot_filling l) (relr_slot_place l.options.relr) xs one
   where
-    one : (at : ℕ) (d : SlotWord) → flat_map packed_in (option_to_list (slot_filling l at d)) ≡ option_to_list (flat_place l.options.relr at d)
+    one : (at : ℕ) (d : SlotWord) → flat_map packed_in (option_to_list (slot_filling l at d)) ≡ option_to_list (relr_slot_place l.options.relr at d)
     one at (Number n) = refl
-    one at (InBlock a) = refl
+    one at (InRelrGot a) = refl
     one at (General e) = refl
     one at (Plt e) = refl
     one at (Address a) = by_test (is_packed l.options.relr at)
@@ -83,7 +83,7 @@ slots_relative l xs = of_fillings relative_in (slot_filling l) (entry_of entries
   where
     one : (at : ℕ) (d : SlotWord) → flat_map relative_in (option_to_list (slot_filling l at d)) ≡ option_to_list (entry_of entries.Relative l.machine l.options.relr at d)
     one at (Number n) = refl
-    one at (InBlock a) = refl
+    one at (InRelrGot a) = refl
     one at (General e) = refl
     one at (Plt e) = refl
     one at (Address a) = by_test (is_packed l.options.relr at)
@@ -97,7 +97,7 @@ slots_general l xs = of_fillings general_in (slot_filling l) (entry_of entries.G
   where
     one : (at : ℕ) (d : SlotWord) → flat_map general_in (option_to_list (slot_filling l at d)) ≡ option_to_list (entry_of entries.General l.machine l.options.relr at d)
     one at (Number n) = refl
-    one at (InBlock a) = refl
+    one at (InRelrGot a) = refl
     one at (General e) = refl
     one at (Plt e) = refl
     one at (Address a) = by_test (is_packed l.options.relr at)
@@ -111,7 +111,7 @@ slots_jump l xs = of_fillings jump_in (slot_filling l) (entry_of entries.Plt l.m
   where
     one : (at : ℕ) (d : SlotWord) → flat_map jump_in (option_to_list (slot_filling l at d)) ≡ option_to_list (entry_of entries.Plt l.machine l.options.relr at d)
     one at (Number n) = refl
-    one at (InBlock a) = refl
+    one at (InRelrGot a) = refl
     one at (General e) = refl
     one at (Plt e) = refl
     one at (Address a) = by_test (is_packed l.options.relr at)
@@ -120,13 +120,13 @@ slots_jump l xs = of_fillings jump_in (slot_filling l) (entry_of entries.Plt l.m
         by_test true = refl
         by_test false = refl
 
-pub blocks_packed : (xs : List SlotSite) → flat_map packed_in (made_of block_filling xs) ≡ made_of block_place xs
-blocks_packed xs = of_fillings packed_in block_filling block_place xs one
+pub blocks_packed : (xs : List SlotSite) → flat_map packed_in (made_of block_filling xs) ≡ made_of relr_got_place xs
+blocks_packed xs = of_fillings packed_in block_filling relr_got_place xs one
   where
-    one : (at : ℕ) (d : SlotWord) → flat_map packed_in (option_to_list (block_filling at d)) ≡ option_to_list (block_place at d)
+    one : (at : ℕ) (d : SlotWord) → flat_map packed_in (option_to_list (block_filling at d)) ≡ option_to_list (relr_got_place at d)
     one at (Number n) = refl
     one at (Address a) = refl
-    one at (InBlock a) = refl
+    one at (InRelrGot a) = refl
     one at (General e) = refl
     one at (Plt e) = refl
 
@@ -144,7 +144,7 @@ blocks_relative xs = of_fillings relative_in block_filling no_entry xs one ∙ n
     one : (at : ℕ) (d : SlotWord) → flat_map relative_in (option_to_list (block_filling at d)) ≡ []
     one at (Number n) = refl
     one at (Address a) = refl
-    one at (InBlock a) = refl
+    one at (InRelrGot a) = refl
     one at (General e) = refl
     one at (Plt e) = refl
 
@@ -154,7 +154,7 @@ blocks_general xs = of_fillings general_in block_filling no_entry xs one ∙ not
     one : (at : ℕ) (d : SlotWord) → flat_map general_in (option_to_list (block_filling at d)) ≡ []
     one at (Number n) = refl
     one at (Address a) = refl
-    one at (InBlock a) = refl
+    one at (InRelrGot a) = refl
     one at (General e) = refl
     one at (Plt e) = refl
 
@@ -164,7 +164,7 @@ blocks_jump xs = of_fillings jump_in block_filling no_entry xs one ∙ nothing_m
     one : (at : ℕ) (d : SlotWord) → flat_map jump_in (option_to_list (block_filling at d)) ≡ []
     one at (Number n) = refl
     one at (Address a) = refl
-    one at (InBlock a) = refl
+    one at (InRelrGot a) = refl
     one at (General e) = refl
     one at (Plt e) = refl
 
@@ -188,21 +188,21 @@ pair_words l = by_place l.tlsld
 
     by_place : (o : Option ℕ) → All IsPairWord (storage_at (setting_of l) o)
     by_place None = All-nil IsPairWord
-    by_place (Some at) = by_kind (is_executable l.kind) 1 (less (setting_of l).thread_pointer l.tls.start)
+    by_place (Some at) = by_kind (is_executable l.kind) 1 (minus (setting_of l).thread_pointer l.tls.start)
 
 -- none of them moves with the base, nor is one gone through by a stub
 sites_of_pair : {X : Type 0} (f : ℕ → SlotWord → Option X) (at : ℕ) (ws : List SlotWord) → All IsPairWord ws → ((at : ℕ) (d : SlotWord) → IsPairWord d → f at d ≡ None) → made_of f (sites_at at ws) ≡ []
 sites_of_pair f at [] h none = refl
 sites_of_pair {X} f at (w ∷ ws) h none = ap (λ (o : Option X). option_to_list o ++ made_of f (sites_at (next at) ws)) (none at w (All-head IsPairWord w ws h)) ∙ sites_of_pair f (next at) ws (All-tail IsPairWord w ws h) none
 
-pub pair_packed : (l : Layout) → made_of (flat_place l.options.relr) (pair_sites l) ≡ []
-pair_packed l = sites_of_pair (flat_place l.options.relr) (unwrap_or l.tlsld 0) (storage_words l) (pair_words l) one
+pub pair_packed : (l : Layout) → made_of (relr_slot_place l.options.relr) (pair_sites l) ≡ []
+pair_packed l = sites_of_pair (relr_slot_place l.options.relr) (unwrap_or l.tlsld 0) (storage_words l) (pair_words l) one
   where
-    one : (at : ℕ) (d : SlotWord) → IsPairWord d → flat_place l.options.relr at d ≡ None
+    one : (at : ℕ) (d : SlotWord) → IsPairWord d → relr_slot_place l.options.relr at d ≡ None
     one at (Number n) h = refl
     one at (General e) h = refl
     one at (Address a) h = absurd h
-    one at (InBlock a) h = absurd h
+    one at (InRelrGot a) h = absurd h
     one at (Plt e) h = absurd h
 
 pub pair_relative : (l : Layout) → made_of (entry_of entries.Relative l.machine l.options.relr) (pair_sites l) ≡ []
@@ -212,7 +212,7 @@ pair_relative l = sites_of_pair (entry_of entries.Relative l.machine l.options.r
     one at (Number n) h = refl
     one at (General e) h = refl
     one at (Address a) h = absurd h
-    one at (InBlock a) h = absurd h
+    one at (InRelrGot a) h = absurd h
     one at (Plt e) h = absurd h
 
 pub pair_jump : (l : Layout) → made_of (entry_of entries.Plt l.machine l.options.relr) (pair_sites l) ≡ []
@@ -222,7 +222,7 @@ pair_jump l = sites_of_pair (entry_of entries.Plt l.machine l.options.relr) (unw
     one at (Number n) h = refl
     one at (General e) h = refl
     one at (Address a) h = absurd h
-    one at (InBlock a) h = absurd h
+    one at (InRelrGot a) h = absurd h
     one at (Plt e) h = absurd h
 
 -- its entry
@@ -232,9 +232,9 @@ pair_general l = sym (by_sites (entry_of entries.General l.machine l.options.rel
 -- ---- the places of all words
 
 -- what is made of symbols in their order is made of sites
-pub by_symbols : {X : Type 0} (f : ℕ → SlotWord → Option X) (of : Symbol → List X) (l : Layout) → ((s : Symbol) → of s ≡ at_places f (slots_at s) (slots_of l s).words) → flat_map of (written_symbols l) ≡ made_of f (all_sites l)
+pub by_symbols : {X : Type 0} (f : ℕ → SlotWord → Option X) (of : Symbol → List X) (l : Layout) → ((s : Symbol) → of s ≡ at_places f (slots_address s) (slots_of l s).words) → flat_map of (written_symbols l) ≡ made_of f (all_sites l)
 by_symbols f of l each =
-    flat_map-same of (λ (s : Symbol). flat_map (of_site f) (symbol_sites l s)) (written_symbols l) (λ s. each s ∙ by_sites f (slots_at s) (slots_of l s).words)
+    flat_map-same of (λ (s : Symbol). flat_map (of_site f) (symbol_sites l s)) (written_symbols l) (λ s. each s ∙ by_sites f (slots_address s) (slots_of l s).words)
     ∙ flat_map-flat_map (λ (s : Symbol). flat_map (of_site f) (symbol_sites l s)) (group_symbols l) l.groups
     ∙ flat_map-same (λ (g : Group). flat_map (λ (s : Symbol). flat_map (of_site f) (symbol_sites l s)) (group_symbols l g)) (λ (g : Group). flat_map (of_site f) (group_sites l g)) l.groups
     (λ g.

@@ -5,19 +5,19 @@ use Rattle.std.proofs.lemmas.List.Elements.{All-nil, All-cons, All-append}
 use Rattle.wild_words.proofs.Basics.{of_if}
 use Rattle.wild_reloc.specs.declared.dynamic.DynamicRelocationKind.TheVariants.{DtpMod}
 use Rattle.wild_slot.specs.declared.slot.SlotWord.{SlotWord}
-use Rattle.wild_slot.specs.declared.slot.SlotWord.TheVariants.{Number, Address, InBlock, General, Plt}
+use Rattle.wild_slot.specs.declared.slot.SlotWord.TheVariants.{Number, Address, InRelrGot, General, Plt}
 use Rattle.wild_slot.specs.declared.slot.Setting.{Setting}
 use Rattle.wild_types.specs.declared.symbol.Resolution.{Resolution}
 use Rattle.wild_types.specs.declared.symbol.Symbol.{Symbol}
 use Rattle.wild_types.specs.declared.layout.Layout.{Layout}
 use Rattle.wild_types.specs.Flags.{has_flag, interposable, has_link_time_address, dynamic, ifunc, got_tls_offset, got_tls_module, got_tls_descriptor, canonical_plt, ifunc_got_for_address, canonical_plt_got_for_address}
 use Rattle.wild_types.specs.Kinds.{is_executable, is_static_executable, is_position_independent}
-use Rattle.wild_slot.specs.Storage.{less, is_outside}
+use Rattle.wild_slot.specs.Storage.{minus, is_outside}
 use Rattle.wild_types.specs.SymbolSlots.{has_dynamic_symbol, has_thread_slot}
 use Rattle.wild_slot.specs.Slots.{slot, setting_of, slot_items, items_at, number, offset_item, module_item, module_offset, module_offset_item, described, descriptor_item, offset_items, module_items, descriptor_items, plain_item, stub_items, stub_address, ifunc_address_items, canonical_address_items, thread_items, address_items, is_replaceable, storage_pair}
 use Rattle.wild_slot.specs.SymbolWords.{slots_of, resolved_slots}
 use Rattle.wild_needs.specs.SlotShares.{storage_at, storage_words}
-use Rattle.wild_slot.specs.MachineStub.{far_of}
+use Rattle.wild_slot.specs.MachineStub.{distance_if_too_far}
 use Rattle.wild_layout.specs.Numbers.{ResolutionNumbers, SymbolNumbers}
 use Rattle.wild_slots.proofs.ItemLemmas.{ItemHas, All-words, of_named, of_where, of_one, of_stub}
 
@@ -25,7 +25,7 @@ use Rattle.wild_slots.proofs.ItemLemmas.{ItemHas, All-words, of_named, of_where,
 abbrev pub WordFits : SlotWord → Type 0
 WordFits (Number n) = n < 2 ^ 64
 WordFits (Address a) = a < 2 ^ 64
-WordFits (InBlock a) = a < 2 ^ 64
+WordFits (InRelrGot a) = a < 2 ^ 64
 WordFits (General e) = e.addend < 2 ^ 64
 WordFits (Plt e) = e.addend < 2 ^ 64
 
@@ -115,7 +115,7 @@ words_fit l s n = by_resolution s.resolution n
   where
     by_resolution : (o : Option Resolution) → ((r : Resolution) → o ≡ Some r → ResolutionNumbers r) → All WordFits (resolved_slots l o).words
     by_resolution None h = All-nil WordFits
-    by_resolution (Some r) h = slot_fits (setting_of l) (far_of l r) r (h r refl)
+    by_resolution (Some r) h = slot_fits (setting_of l) (distance_if_too_far l r) r (h r refl)
 
 abbrev pub own_module : SlotWord
 own_module = General (record { kind = DtpMod; symbol = 0; addend = 0 })
@@ -126,8 +126,8 @@ storage_fits l = by_place l.tlsld
   where
     pair : (s : Setting) → All WordFits (storage_pair s)
     pair s =
-        of_if (All WordFits) (is_executable s.kind) (Number 1 ∷ Number (less s.thread_pointer s.tls.start) ∷ []) (own_module ∷ Number 0 ∷ [])
-        (λ t. All-cons WordFits (Number 1) (Number (less s.thread_pointer s.tls.start) ∷ []) (omega arith) (All-cons WordFits (Number (less s.thread_pointer s.tls.start)) [] (omega arith) (All-nil WordFits)))
+        of_if (All WordFits) (is_executable s.kind) (Number 1 ∷ Number (minus s.thread_pointer s.tls.start) ∷ []) (own_module ∷ Number 0 ∷ [])
+        (λ t. All-cons WordFits (Number 1) (Number (minus s.thread_pointer s.tls.start) ∷ []) (omega arith) (All-cons WordFits (Number (minus s.thread_pointer s.tls.start)) [] (omega arith) (All-nil WordFits)))
         (λ f. All-cons WordFits own_module (Number 0 ∷ []) (omega arith) (All-cons WordFits (Number 0) [] (omega arith) (All-nil WordFits)))
 
     by_place : (o : Option ℕ) → All WordFits (storage_at (setting_of l) o)

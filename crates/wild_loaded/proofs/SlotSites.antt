@@ -9,12 +9,12 @@ use Rattle.wild_types.specs.declared.symbol.Symbol.{Symbol}
 use Rattle.wild_types.specs.declared.layout.Layout.{Layout}
 use Rattle.wild_slot.specs.declared.slot.SlotWord.{SlotWord}
 use Rattle.wild_slot.specs.declared.slot_parts.EntryPart.{EntryPart}
-use Rattle.wild_slot.specs.SlotParts.{next, at_places, entry_of, flat_place}
+use Rattle.wild_slot.specs.SlotParts.{next, at_places, entry_of, relr_slot_place}
 use Rattle.wild_types.specs.FileSymbols.{own_symbols}
 use Rattle.wild_slot.specs.SymbolWords.{slots_of}
-use Rattle.wild_types.specs.SymbolSlots.{slots_at}
-use Rattle.wild_needs.specs.SlotShares.{block_place, block_places, group_block}
-use Rattle.wild_layout.specs.SlotBytes.{symbol_entries, flat_in, slot_entries_of, flat_places_of}
+use Rattle.wild_types.specs.SymbolSlots.{slots_address}
+use Rattle.wild_needs.specs.SlotShares.{relr_got_place, relr_got_places, group_relr_got}
+use Rattle.wild_layout.specs.SlotBytes.{symbol_entries, relr_slots_in, slot_entries_of, flat_places_of}
 
 -- ---- sites
 
@@ -28,7 +28,7 @@ sites_at at [] = []
 sites_at at (w ∷ ws) = record { at = at; word = w } ∷ sites_at (next at) ws
 
 abbrev pub symbol_sites : Layout → Symbol → List SlotSite
-symbol_sites l s = sites_at (slots_at s) (slots_of l s).words
+symbol_sites l s = sites_at (slots_address s) (slots_of l s).words
 
 -- those of a file, of a group, and all
 abbrev pub file_sites : Layout → File → List SlotSite
@@ -49,24 +49,24 @@ pub by_sites : {X : Type 0} (f : ℕ → SlotWord → Option X) (at : ℕ) (ws :
 by_sites f at [] = refl
 by_sites f at (w ∷ ws) = ap (λ xs. option_to_list (f at w) ++ xs) (by_sites f (next at) ws)
 
-by_file : {X : Type 0} (f : ℕ → SlotWord → Option X) (of : Symbol → List X) (l : Layout) (file : File) → ((s : Symbol) → of s ≡ at_places f (slots_at s) (slots_of l s).words) → flat_map of (own_symbols l file) ≡ flat_map (of_site f) (file_sites l file)
+by_file : {X : Type 0} (f : ℕ → SlotWord → Option X) (of : Symbol → List X) (l : Layout) (file : File) → ((s : Symbol) → of s ≡ at_places f (slots_address s) (slots_of l s).words) → flat_map of (own_symbols l file) ≡ flat_map (of_site f) (file_sites l file)
 by_file f of l file each =
-    flat_map-same of (λ (s : Symbol). flat_map (of_site f) (symbol_sites l s)) (own_symbols l file) (λ s. each s ∙ by_sites f (slots_at s) (slots_of l s).words)
+    flat_map-same of (λ (s : Symbol). flat_map (of_site f) (symbol_sites l s)) (own_symbols l file) (λ s. each s ∙ by_sites f (slots_address s) (slots_of l s).words)
     ∙ sym (flat_map-flat_map (of_site f) (symbol_sites l) (own_symbols l file))
 
 pub entries_by_sites : (part : EntryPart) (l : Layout) (f : File) → slot_entries_of part l f ≡ flat_map (of_site (entry_of part l.machine l.options.relr)) (file_sites l f)
 unfolding slot_entries_of
 entries_by_sites part l f = by_file (entry_of part l.machine l.options.relr) (symbol_entries part l) l f (λ s. refl)
 
-pub flat_by_sites : (l : Layout) (f : File) → flat_places_of l f ≡ flat_map (of_site (flat_place l.options.relr)) (file_sites l f)
+pub flat_by_sites : (l : Layout) (f : File) → flat_places_of l f ≡ flat_map (of_site (relr_slot_place l.options.relr)) (file_sites l f)
 unfolding flat_places_of
-flat_by_sites l f = by_file (flat_place l.options.relr) (flat_in l) l f (λ s. refl)
+flat_by_sites l f = by_file (relr_slot_place l.options.relr) (relr_slots_in l) l f (λ s. refl)
 
-pub block_by_sites : (l : Layout) (g : Group) → group_block l g ≡ flat_map (of_site block_place) (group_sites l g)
-unfolding group_block
+pub block_by_sites : (l : Layout) (g : Group) → group_relr_got l g ≡ flat_map (of_site relr_got_place) (group_sites l g)
+unfolding group_relr_got
 block_by_sites l g =
-    flat_map-same (λ f. flat_map (block_places l) (own_symbols l f)) (λ (f : File). flat_map (of_site block_place) (file_sites l f)) g.files (λ f. by_file block_place (block_places l) l f (λ s. refl))
-    ∙ sym (flat_map-flat_map (of_site block_place) (file_sites l) g.files)
+    flat_map-same (λ f. flat_map (relr_got_places l) (own_symbols l f)) (λ (f : File). flat_map (of_site relr_got_place) (file_sites l f)) g.files (λ f. by_file relr_got_place (relr_got_places l) l f (λ s. refl))
+    ∙ sym (flat_map-flat_map (of_site relr_got_place) (file_sites l) g.files)
 
 -- of all files
 pub all_by_sites : {X : Type 0} (f : SlotSite → List X) (of : File → List X) (l : Layout) → ((file : File) → of file ≡ flat_map f (file_sites l file)) → flat_map (λ (g : Group). flat_map of g.files) l.groups ≡ flat_map f (all_sites l)

@@ -4,12 +4,12 @@ use Rattle.std.specs.Prelude.{Option, All, Some, None, unwrap_or, if◌then◌el
 use Rattle.std.proofs.lemmas.List.Elements.{All-contains}
 use Rattle.wild_words.specs.Words.{word}
 use Rattle.wild_words.proofs.WordLemmas.{length-word}
-use Rattle.wild_words.proofs.RecordLemmas.{Stands-left, Stands-right}
+use Rattle.wild_words.proofs.RecordLemmas.{HasBytesAt-left, HasBytesAt-right}
 use Rattle.wild_words.proofs.Basics.{of_if, listed_at}
-use Rattle.wild_relr.specs.Written.{word_bytes}
+use Rattle.wild_relr.specs.WriterState.{word_bytes}
 use Rattle.wild_slot.specs.declared.slot.Setting.{Setting}
 use Rattle.wild_slot.specs.declared.slot.SlotWord.{SlotWord}
-use Rattle.wild_slot.specs.declared.slot.SlotWord.TheVariants.{Number, Address, InBlock, General, Plt}
+use Rattle.wild_slot.specs.declared.slot.SlotWord.TheVariants.{Number, Address, InRelrGot, General, Plt}
 use Rattle.wild_slot.specs.declared.slot_parts.WordPart.{WordPart}
 use Rattle.wild_slot.specs.declared.slot_parts.WordPart.TheVariants as words
 use Rattle.wild_types.specs.declared.part.Role.TheVariants as role
@@ -17,14 +17,14 @@ use Rattle.wild_types.specs.declared.file.File.{File}
 use Rattle.wild_types.specs.declared.file.Group.{Group}
 use Rattle.wild_types.specs.declared.symbol.Symbol.{Symbol}
 use Rattle.wild_types.specs.declared.layout.Layout.{Layout}
-use Rattle.wild_types.specs.Hollow.{KeepsAll}
+use Rattle.wild_types.specs.HeaderOnly.{KeepsAll}
 use Rattle.wild_types.specs.Kinds.{is_executable}
 use Rattle.wild_types.specs.Parts.{is_loaded_role}
 use Rattle.wild_types.proofs.LookupLemmas.{not_hollow_role}
-use Rattle.wild_slot.specs.Storage.{less}
+use Rattle.wild_slot.specs.Storage.{minus}
 use Rattle.wild_slot.specs.Slots.{setting_of, storage_pair}
 use Rattle.wild_slot.specs.SlotParts.{is_packed, word_of, slot_words}
-use Rattle.wild_types.specs.SymbolSlots.{got_of, plt_of, slots_at}
+use Rattle.wild_types.specs.SymbolSlots.{got_of, plt_of, slots_address}
 use Rattle.wild_needs.specs.SlotShares.{word_size, storage_at, storage_words}
 use Rattle.wild_types.specs.FileSymbols.{own_symbols}
 use Rattle.wild_slot.specs.SymbolWords.{slots_of}
@@ -33,9 +33,9 @@ use Rattle.wild_layout.specs.Geometry.{IsLaidOut}
 use Rattle.wild_layout.specs.SlotBytes.{stub_bytes}
 use Rattle.wild_loader.specs.declared.world.World.{World}
 use Rattle.wild_meaning.specs.World.{IsLoadable, IsLegal}
-use Rattle.wild_slots.specs.Stand.{part_of_word, role_of_words, StandsAt, WordStands, SlotsStand, EachWordStands, StubsAreThere, PairStands}
+use Rattle.wild_slots.specs.SlotPlaces.{part_of_word, role_of_words, IsLocatedAt, WordIsPlaced, SlotsArePlaced, EachWordIsPlaced, StubsAreThere, PairIsPlaced}
 use Rattle.wild_loaded.specs.WholeSlots.{HasWholeSlots}
-use Rattle.wild_loaded.specs.Stored.{IsWordStored, IsStubStored}
+use Rattle.wild_loaded.specs.StoredTables.{IsWordStored, IsStubStored}
 use Rattle.wild_loaded.specs.Laws.{PartsAreStored, SlotsAreStored}
 use Rattle.wild_loaded.proofs.PartsHeld.{stands_held, stands_inner}
 use Rattle.wild_loaded.proofs.SlotNumbers.{WordFits, own_module, words_fit, storage_fits}
@@ -44,17 +44,17 @@ use Rattle.wild_slot.proofs.StubLemmas.{length-stub_of}
 
 -- what the crate below owes of slots
 pub record SlotLaws : Type 0 where
-  pub stand : SlotsStand
-  pub words : EachWordStands
+  pub stand : SlotsArePlaced
+  pub words : EachWordIsPlaced
   pub stubs : StubsAreThere
-  pub pair : PairStands
+  pub pair : PairIsPlaced
 
 -- ---- words
 
 -- the number in the file is one of 64 bits
 value_fits : (relr : Bool) (at v : ℕ) (d : SlotWord) → WordFits d → word_of (part_of_word d) relr at d ≡ Some v → v < 2 ^ 64
 value_fits relr at v (Number n) fits e = (let is : n ≡ v = cc in subst (λ (k : ℕ). k < 2 ^ 64) is fits)
-value_fits relr at v (InBlock a) fits e = (let is : a ≡ v = cc in subst (λ (k : ℕ). k < 2 ^ 64) is fits)
+value_fits relr at v (InRelrGot a) fits e = (let is : a ≡ v = cc in subst (λ (k : ℕ). k < 2 ^ 64) is fits)
 value_fits relr at v (General x) fits e = (let is : 0 ≡ v = cc in omega (arith, is))
 value_fits relr at v (Plt x) fits e = (let is : 0 ≡ v = cc in omega (arith, is))
 value_fits relr at v (Address a) fits e = by_test (is_packed relr at) e
@@ -65,9 +65,9 @@ value_fits relr at v (Address a) fits e = by_test (is_packed relr at) e
 
 role_loaded : (part : WordPart) → is_loaded_role (role_of_words part) ≡ true
 role_loaded words.Got = refl
-role_loaded words.Block = refl
+role_loaded words.RelrGot = refl
 
-word_held : (l : Layout) (w : World) (at : ℕ) (d : SlotWord) → PartsAreStored → KeepsAll l → IsLoadable l.kind → IsLegal l w → IsLaidOut l → WordFits d → WordStands l at d → IsWordStored l w at d
+word_held : (l : Layout) (w : World) (at : ℕ) (d : SlotWord) → PartsAreStored → KeepsAll l → IsLoadable l.kind → IsLegal l w → IsLaidOut l → WordFits d → WordIsPlaced l at d → IsWordStored l w at d
 word_held l w at d law keeps kind legal laid fits h =
     let n = length-word 8 h.value in
     let s = stands_held l w (role_of_words (part_of_word d)) at (word 8 h.value) law (role_loaded (part_of_word d)) (not_hollow_role l (role_of_words (part_of_word d)) keeps) kind legal laid (omega (arith, n)) h.stands in
@@ -82,7 +82,7 @@ symbol_word l w i at k s d laws law keeps kind numbers legal laid slots there go
 -- ---- stubs
 
 -- no symbol with slots has a fault
-pub whole_slots : (l : Layout) (i at : ℕ) (s : Symbol) → SlotsStand → HasWholeSlots l → slice_get l.symbols i ≡ Some s → got_of s ≡ Some at → (slots_of l s).fault ≡ None
+pub whole_slots : (l : Layout) (i at : ℕ) (s : Symbol) → SlotsArePlaced → HasWholeSlots l → slice_get l.symbols i ≡ Some s → got_of s ≡ Some at → (slots_of l s).fault ≡ None
 whole_slots l i at s law slots there got =
     let h = (law l slots.order i at s there got).written in
     let groups = All-contains (λ (g : Group). All (λ (f : File). All (λ (s : Symbol). (slots_of l s).fault ≡ None) (own_symbols l f)) g.files) l.groups h.group slots.whole h.listed in
@@ -91,7 +91,7 @@ whole_slots l i at s law slots there got =
 
 stub_is : (l : Layout) (s : Symbol) (at stub : ℕ) → got_of s ≡ Some at → plt_of s ≡ Some stub → (slots_of l s).has_stub ≡ true → stub_bytes l s ≡ (stub_in l at stub).bytes
 stub_is l s at stub got plt has =
-    ap (λ (b : Bool). if b then (stub_in l (slots_at s) (unwrap_or (plt_of s) 0)).bytes else []) has
+    ap (λ (b : Bool). if b then (stub_in l (slots_address s) (unwrap_or (plt_of s) 0)).bytes else []) has
     ∙ ap (λ (o : Option ℕ). (stub_in l (unwrap_or o 0) (unwrap_or (plt_of s) 0)).bytes) got
     ∙ ap (λ (o : Option ℕ). (stub_in l at (unwrap_or o 0)).bytes) plt
 
@@ -101,31 +101,31 @@ some_stub l at stub = (let e = length-stub_of l.machine l.options.bti at stub in
 stub_held : (l : Layout) (w : World) (i at stub : ℕ) (s : Symbol) → SlotLaws → PartsAreStored → KeepsAll l → IsLoadable l.kind → IsLegal l w → IsLaidOut l → HasWholeSlots l → slice_get l.symbols i ≡ Some s → got_of s ≡ Some at → plt_of s ≡ Some stub → IsStubStored l w at stub
 stub_held l w i at stub s laws law keeps kind legal laid slots there got plt =
     let has = laws.stubs l slots.order i at stub s there got plt (whole_slots l i at s laws.stand slots there got) in
-    let stands = subst (λ (bs : List ℕ). StandsAt l role.PltGot stub bs) (stub_is l s at stub got plt has) ((laws.stand l slots.order i at s there got).stub stub plt) in
+    let stands = subst (λ (bs : List ℕ). IsLocatedAt l role.PltGot stub bs) (stub_is l s at stub got plt has) ((laws.stand l slots.order i at s there got).stub stub plt) in
     record { stands = stands; held = (stands_held l w role.PltGot stub (stub_in l at stub).bytes law refl (not_hollow_role l role.PltGot keeps) kind legal laid (some_stub l at stub) stands).held }
 
 -- ---- the pair of the output's own thread-local data
 
 -- what the file has for the first of its words
 abbrev IsFront : Layout → SlotWord → ℕ → Type 0
-IsFront l v a = (at : ℕ) → StandsAt l role.Got at (word 8 a) → WordStands l at v
+IsFront l v a = (at : ℕ) → IsLocatedAt l role.Got at (word 8 a) → WordIsPlaced l at v
 
 -- two words, one behind the other
-pair_stands : (l : Layout) (v : SlotWord) (at a b k : ℕ) (d : SlotWord) → IsFront l v a → StandsAt l role.Got at (word_bytes (a ∷ b ∷ [])) → slice_get (v ∷ Number b ∷ []) k ≡ Some d → WordStands l (at + word_size * k) d
-pair_stands l v at a b zero d front h e =
-    let here = stands_inner l role.Got at 0 (word_bytes (a ∷ b ∷ [])) (word 8 a) h (Stands-left (word 8 a) (word_bytes (b ∷ []))) in
+pair_is_placed : (l : Layout) (v : SlotWord) (at a b k : ℕ) (d : SlotWord) → IsFront l v a → IsLocatedAt l role.Got at (word_bytes (a ∷ b ∷ [])) → slice_get (v ∷ Number b ∷ []) k ≡ Some d → WordIsPlaced l (at + word_size * k) d
+pair_is_placed l v at a b zero d front h e =
+    let here = stands_inner l role.Got at 0 (word_bytes (a ∷ b ∷ [])) (word 8 a) h (HasBytesAt-left (word 8 a) (word_bytes (b ∷ []))) in
     let same : v ≡ d = cc in
-    let P : SlotWord → Type 0 = λ x. WordStands l (at + word_size * 0) x in
+    let P : SlotWord → Type 0 = λ x. WordIsPlaced l (at + word_size * 0) x in
     subst P same (front (at + word_size * 0) here)
-pair_stands l v at a b (suc zero) d front h e =
+pair_is_placed l v at a b (suc zero) d front h e =
     let n = length-word 8 a in
-    let second = Stands-right (word 8 a) (word_bytes (b ∷ [])) (word 8 b) 0 (Stands-left (word 8 b) []) in
+    let second = HasBytesAt-right (word 8 a) (word_bytes (b ∷ [])) (word 8 b) 0 (HasBytesAt-left (word 8 b) []) in
     let at_is : at + (length (word 8 a) + 0) ≡ at + word_size * 1 = omega (arith, n) in
-    let back = subst (λ (x : ℕ). StandsAt l role.Got x (word 8 b)) at_is (stands_inner l role.Got at (length (word 8 a) + 0) (word_bytes (a ∷ b ∷ [])) (word 8 b) h second) in
+    let back = subst (λ (x : ℕ). IsLocatedAt l role.Got x (word 8 b)) at_is (stands_inner l role.Got at (length (word 8 a) + 0) (word_bytes (a ∷ b ∷ [])) (word 8 b) h second) in
     let same : Number b ≡ d = cc in
-    let P : SlotWord → Type 0 = λ x. WordStands l (at + word_size * 1) x in
+    let P : SlotWord → Type 0 = λ x. WordIsPlaced l (at + word_size * 1) x in
     subst P same (record { value = b; is = refl; stands = back })
-pair_stands l v at a b (suc (suc k)) d front h e = cc
+pair_is_placed l v at a b (suc (suc k)) d front h e = cc
 
 -- the words of the pair: two numbers, or a word that an entry fills and 0
 record IsPair (l : Layout) (at : ℕ) (ws : List SlotWord) : Type 0 where
@@ -139,7 +139,7 @@ record IsPair (l : Layout) (at : ℕ) (ws : List SlotWord) : Type 0 where
 pair_of : (l : Layout) (at : ℕ) (s : Setting) → IsPair l at (storage_pair s)
 pair_of l at s =
     of_if (IsPair l at) (is_executable s.kind) _ _
-    (λ t. record { first = Number 1; value = 1; second = less s.thread_pointer s.tls.start; are = refl; front = λ p h. record { value = 1; is = refl; stands = h }; file = refl })
+    (λ t. record { first = Number 1; value = 1; second = minus s.thread_pointer s.tls.start; are = refl; front = λ p h. record { value = 1; is = refl; stands = h }; file = refl })
     (λ f. record { first = own_module; value = 0; second = 0; are = refl; front = λ p h. record { value = 0; is = refl; stands = h }; file = refl })
 
 storage_pair_of : (l : Layout) (at : ℕ) → l.tlsld ≡ Some at → IsPair l at (storage_words l)
@@ -151,9 +151,9 @@ pair_held : (l : Layout) (w : World) (at k : ℕ) (d : SlotWord) → SlotLaws �
 pair_held l w at k d laws law keeps kind legal laid slots e here =
     let fits = All-contains WordFits (storage_words l) d (storage_fits l) (listed_at (storage_words l) k d here) in
     let pair = storage_pair_of l at e in
-    let stands = subst (λ (xs : List ℕ). StandsAt l role.Got at (word_bytes xs)) pair.file (laws.pair l slots.order laid.some_group at e) in
+    let stands = subst (λ (xs : List ℕ). IsLocatedAt l role.Got at (word_bytes xs)) pair.file (laws.pair l slots.order laid.some_group at e) in
     let there = subst (λ (ws : List SlotWord). slice_get ws k ≡ Some d) pair.are here in
-    word_held l w (at + word_size * k) d law keeps kind legal laid fits (pair_stands l pair.first at pair.value pair.second k d pair.front stands there)
+    word_held l w (at + word_size * k) d law keeps kind legal laid fits (pair_is_placed l pair.first at pair.value pair.second k d pair.front stands there)
 
 pub slots_held : SlotLaws → PartsAreStored → SlotsAreStored
 slots_held laws law = record {

@@ -15,23 +15,23 @@ use Rattle.wild_reloc.specs.declared.dynamic.DynamicRelocationKind.{DynamicReloc
 use Rattle.wild_reloc.specs.declared.dynamic.DynamicRelocationKind.TheVariants as entry_kinds
 use Rattle.wild_slot.specs.declared.slot.SlotEntry.{SlotEntry}
 use Rattle.wild_slot.specs.declared.slot.SlotWord.{SlotWord}
-use Rattle.wild_slot.specs.declared.slot.SlotWord.TheVariants.{Number, Address, InBlock, General, Plt}
+use Rattle.wild_slot.specs.declared.slot.SlotWord.TheVariants.{Number, Address, InRelrGot, General, Plt}
 use Rattle.wild_slot.specs.declared.slot_parts.WordPart.TheVariants as words
 use Rattle.wild_types.specs.declared.symbol.Resolution.{Resolution}
 use Rattle.wild_types.specs.declared.symbol.Symbol.{Symbol}
 use Rattle.wild_types.specs.declared.file.File.{File}
 use Rattle.wild_types.specs.declared.layout.Layout.{Layout}
-use Rattle.wild_types.specs.Hollow.{KeepsAll}
+use Rattle.wild_types.specs.HeaderOnly.{KeepsAll}
 use Rattle.wild_types.specs.Kinds.{is_executable}
-use Rattle.wild_slot.specs.Storage.{less}
+use Rattle.wild_slot.specs.Storage.{minus}
 use Rattle.wild_slot.specs.Slots.{slot, setting_of, with_items, items_at, no_slot}
 use Rattle.wild_slot.specs.SlotParts.{is_packed, entry_at, address_entry, next}
-use Rattle.wild_types.specs.SymbolSlots.{got_of, slots_at}
-use Rattle.wild_needs.specs.SlotShares.{word_size, storage_at, storage_words, block_place}
+use Rattle.wild_types.specs.SymbolSlots.{got_of, slots_address}
+use Rattle.wild_needs.specs.SlotShares.{word_size, storage_at, storage_words, relr_got_place}
 use Rattle.wild_types.specs.FileSymbols.{own_symbols}
 use Rattle.wild_types.proofs.FileLemmas.{All-own}
 use Rattle.wild_slot.specs.SymbolWords.{slots_of, resolved_slots}
-use Rattle.wild_slot.specs.MachineStub.{far_of}
+use Rattle.wild_slot.specs.MachineStub.{distance_if_too_far}
 use Rattle.wild_layout.specs.Numbers.{NumbersFit, SymbolNumbers}
 use Rattle.wild_layout.specs.Geometry.{IsLaidOut}
 use Rattle.wild_loader.specs.declared.change.Change.{Change}
@@ -42,10 +42,10 @@ use Rattle.wild_loader.specs.Changes.{size_of}
 use Rattle.wild_loader.specs.Memory.{Holds, byte_in}
 use Rattle.wild_loader.specs.Relocate.{loaded_at}
 use Rattle.wild_meaning.specs.World.{IsLoadable, IsLegal}
-use Rattle.wild_slots.specs.Ascend.{LiesWithin, Ascend, place_in}
+use Rattle.wild_slots.specs.AscendingPlaces.{LiesWithin, Ascend, place_in}
 use Rattle.wild_loaded.specs.Memory.{image_memory}
 use Rattle.wild_loaded.specs.WholeSlots.{HasWholeSlots}
-use Rattle.wild_loaded.specs.Stored.{IsWordStored, filled_width, FillsWords, FillsSlot}
+use Rattle.wild_loaded.specs.StoredTables.{IsWordStored, filled_width, FillsWords, FillsSlot}
 use Rattle.wild_loaded.specs.Laws.{SlotsAreStored, EntriesHaveChanges}
 use Rattle.wild_loaded.proofs.SitesFit.{slots_low}
 use Rattle.wild_loaded.proofs.SlotNumbers.{WordFits, words_fit, storage_fits}
@@ -55,7 +55,7 @@ use Rattle.wild_loaded.proofs.Fillings.{Table, PackedTable, RelativeTable, Gener
 use Rattle.wild_loaded.proofs.SectionsKnown.{change_elsewhere, MakesThat, has_change, RelativeLaws, relative_makes}
 use Rattle.wild_loaded.proofs.SlotFillings.{address_filling, slot_filling, block_filling, pair_sites, got_sites, made_of}
 use Rattle.wild_loaded.proofs.SlotsSpaced.{IsNarrow, IsNumber, SitesSpaced}
-use Rattle.wild_meaning.specs.Linked.{processor_of}
+use Rattle.wild_meaning.specs.LinkedImage.{processor_of}
 use Rattle.wild_loader.specs.declared.memory.Machine.{Machine as Processor}
 use Rattle.wild_geometry.proofs.MachineLemmas.{facts_of}
 use Rattle.wild_geometry.specs.EntryKinds.{loaded_kind}
@@ -96,29 +96,29 @@ no_site at [] x e c = absurd (omega (arith, c.1))
 no_site at (w ∷ ws) x e c = cc
 
 -- a symbol with words has a place for them
-pub place_there : (l : Layout) (s : Symbol) (x : SlotSite) → Contains (symbol_sites l s) x → got_of s ≡ Some (slots_at s)
+pub place_there : (l : Layout) (s : Symbol) (x : SlotSite) → Contains (symbol_sites l s) x → got_of s ≡ Some (slots_address s)
 unfolding slots_of slot
 place_there l s x c = by_resolution s.resolution refl
   where
-    by_place : (r : Resolution) (o : Option ℕ) → s.resolution ≡ Some r → r.got_address ≡ o → got_of s ≡ Some (slots_at s)
-    by_place r None e g = absurd (no_site (slots_at s) (slots_of l s).words x (ap (λ (o : Option Resolution). (resolved_slots l o).words) e ∙ ap (λ (o : Option ℕ). (with_items no_slot (items_at (setting_of l) (far_of l r) r o)).words) g) c)
+    by_place : (r : Resolution) (o : Option ℕ) → s.resolution ≡ Some r → r.got_address ≡ o → got_of s ≡ Some (slots_address s)
+    by_place r None e g = absurd (no_site (slots_address s) (slots_of l s).words x (ap (λ (o : Option Resolution). (resolved_slots l o).words) e ∙ ap (λ (o : Option ℕ). (with_items no_slot (items_at (setting_of l) (distance_if_too_far l r) r o)).words) g) c)
     by_place r (Some a) e g =
         let got : got_of s ≡ Some a = ap (λ (o : Option Resolution). got_by o) e ∙ g in
-        let at : slots_at s ≡ a = ap (λ (o : Option ℕ). unwrap_or o 0) got in
+        let at : slots_address s ≡ a = ap (λ (o : Option ℕ). unwrap_or o 0) got in
         got ∙ ap (λ (k : ℕ). Some k) (sym at)
       where
         got_by : Option Resolution → Option ℕ
         got_by None = None
         got_by (Some r) = r.got_address
 
-    by_resolution : (o : Option Resolution) → s.resolution ≡ o → got_of s ≡ Some (slots_at s)
-    by_resolution None e = absurd (no_site (slots_at s) (slots_of l s).words x (ap (λ (o : Option Resolution). (resolved_slots l o).words) e) c)
+    by_resolution : (o : Option Resolution) → s.resolution ≡ o → got_of s ≡ Some (slots_address s)
+    by_resolution None e = absurd (no_site (slots_address s) (slots_of l s).words x (ap (λ (o : Option Resolution). (resolved_slots l o).words) e) c)
     by_resolution (Some r) e = by_place r r.got_address e refl
 
 word_fills : (p : Processor) (w : World) (d : SlotWord) → ((e : SlotEntry) → entry_in d ≡ Some e → FillsSlot p w e) → WordFills p w d
 word_fills p w (Number n) h = tt
 word_fills p w (Address a) h = tt
-word_fills p w (InBlock a) h = tt
+word_fills p w (InRelrGot a) h = tt
 word_fills p w (General e) h = h e refl
 word_fills p w (Plt e) h = h e refl
 
@@ -126,12 +126,12 @@ site_known : (l : Layout) (w : World) (s : Symbol) (x : SlotSite) → SlotLaws �
 site_known l w s x laws h listed c =
     let numbers = All-contains SymbolNumbers l.symbols s h.numbers.symbols listed in
     let low = slots_low s numbers in
-    let k = site_of (slots_at s) (slots_of l s).words x low c in
+    let k = site_of (slots_address s) (slots_of l s).words x low c in
     let there : slice_get l.symbols listed.0 ≡ Some s = slice_get-get_or l.symbols listed.0 s listed.1 ∙ ap (λ (y : Symbol). Some y) listed.2 in
-    let b = laws.stored.words l w listed.0 (slots_at s) k.index s x.word h.keeps h.kind h.numbers h.legal h.laid h.whole there (place_there l s x c) k.word in
+    let b = laws.stored.words l w listed.0 (slots_address s) k.index s x.word h.keeps h.kind h.numbers h.legal h.laid h.whole there (place_there l s x c) k.word in
     let ends = b.ends in
     let place = k.place in
-    let is : slots_at s + word_size * k.index ≡ x.at = omega (arith, ends, place) in
+    let is : slots_address s + word_size * k.index ≡ x.at = omega (arith, ends, place) in
     record {
       stored = subst (λ (a : ℕ). IsWordStored l w a x.word) is b;
       low = omega (arith, place);
@@ -145,7 +145,7 @@ storage_first l at e =
     let f = by_kind (is_executable l.kind) in
     (f.0, ap (λ (o : Option ℕ). slice_get (storage_at (setting_of l) o) 0) e ∙ f.1)
   where
-    by_kind : (b : Bool) → (d : SlotWord) × (slice_get (if b then Number 1 ∷ Number (less (setting_of l).thread_pointer l.tls.start) ∷ [] else General (record { kind = entry_kinds.DtpMod; symbol = 0; addend = 0 }) ∷ Number 0 ∷ []) 0 ≡ Some d)
+    by_kind : (b : Bool) → (d : SlotWord) × (slice_get (if b then Number 1 ∷ Number (minus (setting_of l).thread_pointer l.tls.start) ∷ [] else General (record { kind = entry_kinds.DtpMod; symbol = 0; addend = 0 }) ∷ Number 0 ∷ []) 0 ≡ Some d)
     by_kind true = (Number 1, refl)
     by_kind false = (General (record { kind = entry_kinds.DtpMod; symbol = 0; addend = 0 }), refl)
 
@@ -222,7 +222,7 @@ two_widths e = by_kind e.kind e.symbol e.addend
 pub holds_both : (m : Memory) (a : ℕ) (xs ys : List ℕ) → Holds m a xs → Holds m (a + length xs) ys → Holds m a (xs ++ ys)
 holds_both m a xs ys h k = λ i lt.
     elim (cases_lt i (length xs)) [
-      | inl less ↦ h i less ∙ ap Some (sym (get_or_append_left xs ys 0 i less))
+      | inl minus ↦ h i minus ∙ ap Some (sym (get_or_append_left xs ys 0 i minus))
       | inr more ↦
           (let n = length-append xs ys in
           let e = k (i - length xs) (omega (arith, n, lt, more)) in
@@ -256,7 +256,7 @@ filled_place l P x h = by_word x.at x.word h
     by_word : (at : ℕ) (d : SlotWord) → All P (option_to_list (place_in words.Got at d)) → All (FromPlace P) (option_to_list (slot_filling l at d))
     by_word at (Number n) h = All-nil (FromPlace P)
     by_word at (Address a) h = by_test at a (is_packed l.options.relr at) h
-    by_word at (InBlock a) h = All-nil (FromPlace P)
+    by_word at (InRelrGot a) h = All-nil (FromPlace P)
     by_word at (General e) h = one at (general_of (entry_at l.machine at e) (filled_width e)) refl h
     by_word at (Plt e) h = one at (record { table = JumpTable; entry = entry_at l.machine at e; width = filled_width e }) refl h
 
@@ -354,14 +354,14 @@ wide_more l w low high at f y ys is wide next_is none own known h rest =
 pub number_none : (l : Layout) (at : ℕ) (d : SlotWord) → IsNumber d → slot_filling l at d ≡ None
 number_none l at (Number n) h = refl
 number_none l at (Address a) h = absurd h
-number_none l at (InBlock a) h = absurd h
+number_none l at (InRelrGot a) h = absurd h
 number_none l at (General e) h = absurd h
 number_none l at (Plt e) h = absurd h
 
 pub number_own : (at : ℕ) (d : SlotWord) → IsNumber d → place_in words.Got at d ≡ Some at
 number_own at (Number n) h = refl
 number_own at (Address a) h = absurd h
-number_own at (InBlock a) h = absurd h
+number_own at (InRelrGot a) h = absurd h
 number_own at (General e) h = absurd h
 number_own at (Plt e) h = absurd h
 
@@ -380,7 +380,7 @@ second_there l low high at y ys num e h =
 narrow_site : (l : Layout) (w : World) (low high at : ℕ) (d : SlotWord) (xs : List SlotSite) → RelativeLaws → IsWordStored l w at d → WordFits d → WordFills (processor_of l.machine) w d → IsNarrow d → Ascend 8 low high (option_to_list (place_in words.Got at d) ++ got_places xs) → AreFilled w (image_memory l w) low high (made_of (slot_filling l) xs)
     → AreFilled w (image_memory l w) low high (option_to_list (slot_filling l at d) ++ made_of (slot_filling l) xs)
 narrow_site l w low high at (Number n) xs laws s fits fills narrow h rest = rest
-narrow_site l w low high at (InBlock a) xs laws s fits fills narrow h rest = rest
+narrow_site l w low high at (InRelrGot a) xs laws s fits fills narrow h rest = rest
 narrow_site l w low high at (Address a) xs laws s fits fills narrow h rest = by_test (is_packed l.options.relr at)
   where
     by_test : (b : Bool) → AreFilled w (image_memory l w) low high (address_filling l at a b ∷ made_of (slot_filling l) xs)
@@ -395,7 +395,7 @@ narrow_site l w low high at (Plt e) xs laws s fits fills narrow h rest = narrow_
 wide_site : (l : Layout) (w : World) (low high at : ℕ) (d : SlotWord) (y : SlotSite) (ys : List SlotSite) → RelativeLaws → IsWordStored l w at d → WordFits d → WordFills (processor_of l.machine) w d → IsWordStored l w y.at y.word → IsNumber y.word → y.at ≡ next at → Ascend 8 low high (option_to_list (place_in words.Got at d) ++ got_places (y ∷ ys)) → AreFilled w (image_memory l w) low high (made_of (slot_filling l) (y ∷ ys))
     → AreFilled w (image_memory l w) low high (option_to_list (slot_filling l at d) ++ made_of (slot_filling l) (y ∷ ys))
 wide_site l w low high at (Number n) y ys laws s fits fills u num e h rest = rest
-wide_site l w low high at (InBlock a) y ys laws s fits fills u num e h rest = rest
+wide_site l w low high at (InRelrGot a) y ys laws s fits fills u num e h rest = rest
 wide_site l w low high at (Address a) y ys laws s fits fills u num e h rest = narrow_site l w low high at (Address a) (y ∷ ys) laws s fits fills tt h rest
 wide_site l w low high at (General e) y ys laws s fits fills u num n h rest =
     elim (two_widths e) [
@@ -451,22 +451,22 @@ blocks_known l w (x ∷ xs) h =
     one at (Address a) s = All-nil (IsKnown w (image_memory l w))
     one at (General e) s = All-nil (IsKnown w (image_memory l w))
     one at (Plt e) s = All-nil (IsKnown w (image_memory l w))
-    one at (InBlock a) s = All-cons (IsKnown w (image_memory l w)) (packed_at at) [] (word_known l w at (InBlock a) PackedTable (place_entry at) s refl (refl, site_word l w at (InBlock a) s)) (All-nil (IsKnown w (image_memory l w)))
+    one at (InRelrGot a) s = All-cons (IsKnown w (image_memory l w)) (packed_at at) [] (word_known l w at (InRelrGot a) PackedTable (place_entry at) s refl (refl, site_word l w at (InRelrGot a) s)) (All-nil (IsKnown w (image_memory l w)))
 
 -- their fillings are at their places
-pub blocks_placed : (P : ℕ → Type 0) (xs : List SlotSite) → All P (made_of block_place xs) → All (λ (x : Filling). P x.entry.offset) (made_of block_filling xs)
+pub blocks_placed : (P : ℕ → Type 0) (xs : List SlotSite) → All P (made_of relr_got_place xs) → All (λ (x : Filling). P x.entry.offset) (made_of block_filling xs)
 blocks_placed P [] h = All-nil (FromPlace P)
 blocks_placed P (x ∷ xs) h =
     All-append (FromPlace P) (of_site block_filling x) (made_of block_filling xs)
-    (one x.at x.word (All-append-left P (of_site block_place x) (made_of block_place xs) h))
-    (blocks_placed P xs (All-append-right P (of_site block_place x) (made_of block_place xs) h))
+    (one x.at x.word (All-append-left P (of_site relr_got_place x) (made_of relr_got_place xs) h))
+    (blocks_placed P xs (All-append-right P (of_site relr_got_place x) (made_of relr_got_place xs) h))
   where
-    one : (at : ℕ) (d : SlotWord) → All P (option_to_list (block_place at d)) → All (FromPlace P) (option_to_list (block_filling at d))
+    one : (at : ℕ) (d : SlotWord) → All P (option_to_list (relr_got_place at d)) → All (FromPlace P) (option_to_list (block_filling at d))
     one at (Number n) h = All-nil (FromPlace P)
     one at (Address a) h = All-nil (FromPlace P)
     one at (General e) h = All-nil (FromPlace P)
     one at (Plt e) h = All-nil (FromPlace P)
-    one at (InBlock a) h = All-cons (FromPlace P) (packed_at at) [] (All-head P at [] h) (All-nil (FromPlace P))
+    one at (InRelrGot a) h = All-cons (FromPlace P) (packed_at at) [] (All-head P at [] h) (All-nil (FromPlace P))
 
 -- and have a word each
 pub blocks_wide : (xs : List SlotSite) → All (λ (x : Filling). x.width ≡ 8) (made_of block_filling xs)
@@ -478,18 +478,18 @@ blocks_wide (x ∷ xs) = All-append (λ (x : Filling). x.width ≡ 8) (of_site b
     one at (Address a) = All-nil (λ (x : Filling). x.width ≡ 8)
     one at (General e) = All-nil (λ (x : Filling). x.width ≡ 8)
     one at (Plt e) = All-nil (λ (x : Filling). x.width ≡ 8)
-    one at (InBlock a) = All-cons (λ (x : Filling). x.width ≡ 8) (packed_at at) [] refl (All-nil (λ (x : Filling). x.width ≡ 8))
+    one at (InRelrGot a) = All-cons (λ (x : Filling). x.width ≡ 8) (packed_at at) [] refl (All-nil (λ (x : Filling). x.width ≡ 8))
 
-pub blocks_ascend : (low high : ℕ) (xs : List SlotSite) → Ascend 8 low high (made_of block_place xs) → AllPairs (λ (x y : Filling). x.entry.offset + x.width ≤ y.entry.offset) (made_of block_filling xs)
+pub blocks_ascend : (low high : ℕ) (xs : List SlotSite) → Ascend 8 low high (made_of relr_got_place xs) → AllPairs (λ (x y : Filling). x.entry.offset + x.width ≤ y.entry.offset) (made_of block_filling xs)
 blocks_ascend low high [] h = AllPairs-nil (λ (x y : Filling). x.entry.offset + x.width ≤ y.entry.offset)
-blocks_ascend low high (x ∷ xs) h = one x.at x.word h (blocks_ascend low high xs (rest_ascend low high (of_site block_place x) (made_of block_place xs) h))
+blocks_ascend low high (x ∷ xs) h = one x.at x.word h (blocks_ascend low high xs (rest_ascend low high (of_site relr_got_place x) (made_of relr_got_place xs) h))
   where
     R : Filling → Filling → Type 0
     R x y = x.entry.offset + x.width ≤ y.entry.offset
 
-    one : (at : ℕ) (d : SlotWord) → Ascend 8 low high (option_to_list (block_place at d) ++ made_of block_place xs) → AllPairs R (made_of block_filling xs) → AllPairs R (option_to_list (block_filling at d) ++ made_of block_filling xs)
+    one : (at : ℕ) (d : SlotWord) → Ascend 8 low high (option_to_list (relr_got_place at d) ++ made_of relr_got_place xs) → AllPairs R (made_of block_filling xs) → AllPairs R (option_to_list (block_filling at d) ++ made_of block_filling xs)
     one at (Number n) h rest = rest
     one at (Address a) h rest = rest
     one at (General e) h rest = rest
     one at (Plt e) h rest = rest
-    one at (InBlock a) h rest = AllPairs-cons R (packed_at at) (made_of block_filling xs) (blocks_placed (λ (q : ℕ). at + 8 ≤ q) xs (behind_place low high at (made_of block_place xs) h)) rest
+    one at (InRelrGot a) h rest = AllPairs-cons R (packed_at at) (made_of block_filling xs) (blocks_placed (λ (q : ℕ). at + 8 ≤ q) xs (behind_place low high at (made_of relr_got_place xs) h)) rest

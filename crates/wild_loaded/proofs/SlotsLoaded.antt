@@ -13,7 +13,7 @@ use Rattle.wild_slot.specs.declared.slot.SlotWord.{SlotWord}
 use Rattle.wild_types.specs.declared.symbol.Symbol.{Symbol}
 use Rattle.wild_types.specs.declared.layout.Layout.{Layout}
 use Rattle.wild_slot.specs.SlotParts.{next}
-use Rattle.wild_types.specs.SymbolSlots.{got_of, plt_of, slots_at}
+use Rattle.wild_types.specs.SymbolSlots.{got_of, plt_of, slots_address}
 use Rattle.wild_types.specs.FileSymbols.{own_symbols}
 use Rattle.wild_slot.specs.SymbolWords.{slots_of}
 use Rattle.wild_needs.specs.SlotShares.{storage_words}
@@ -64,9 +64,9 @@ word_at w m at a d law is s = subst (λ (b : ℕ). (x : ℕ) × (number_in m b 8
 word_loaded : (l : Layout) (w : World) (m : Memory) (i at k : ℕ) (s : Symbol) (d : SlotWord) → IsMovedImage l w m → slice_get l.symbols i ≡ Some s → got_of s ≡ Some at → slice_get (slots_of l s).words k ≡ Some d
     → (x : ℕ) × (number_in m (w.base + at + 8 * k) 8 ≡ Some x) × IsLoadedWord w m (w.base + at + 8 * k) d x
 word_loaded l w m i at k s d h there got here =
-    let first : slots_at s ≡ at = ap (λ (o : Option ℕ). unwrap_or o 0) got in
+    let first : slots_address s ≡ at = ap (λ (o : Option ℕ). unwrap_or o 0) got in
     let low = slots_low s (All-contains SymbolNumbers l.symbols s h.well.numbers.symbols (listed_at l.symbols i s there)) in
-    let x = site_there (slots_at s) k (slots_of l s).words d low here in
+    let x = site_there (slots_address s) k (slots_of l s).words d low here in
     let written = (h.laws.stand l h.well.whole.order i at s there got).written in
     let y : SlotSite = record { at = x.place; word = d } in
     let file = Contains-flat_map (symbol_sites l) (own_symbols l written.file) s y written.own x.here in

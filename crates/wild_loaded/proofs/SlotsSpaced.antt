@@ -13,19 +13,19 @@ use Rattle.wild_slot.specs.declared.slot.SlotFault.{SlotFault}
 use Rattle.wild_slot.specs.declared.slot.SlotItem.{SlotItem}
 use Rattle.wild_slot.specs.declared.slot.SlotItem.TheVariants.{Word, Stub, Fault}
 use Rattle.wild_slot.specs.declared.slot.SlotWord.{SlotWord}
-use Rattle.wild_slot.specs.declared.slot.SlotWord.TheVariants.{Number, Address, InBlock, General, Plt}
+use Rattle.wild_slot.specs.declared.slot.SlotWord.TheVariants.{Number, Address, InRelrGot, General, Plt}
 use Rattle.wild_types.specs.Flags.{has_flag, interposable, has_link_time_address, dynamic, ifunc, got_tls_offset, got_tls_module, got_tls_descriptor, canonical_plt, ifunc_got_for_address, canonical_plt_got_for_address}
 use Rattle.wild_types.specs.Kinds.{is_executable, is_position_independent}
 use Rattle.wild_slot.specs.Storage.{is_outside}
-use Rattle.wild_types.specs.SymbolSlots.{has_dynamic_symbol, has_thread_slot, slots_at}
-use Rattle.wild_slot.specs.Slots.{SlotContent, no_slot, add_item, with_item, with_items, setting_of, number, general, plt, named, where_so, offset_item, module_item, module_offset, module_offset_item, descriptor_item, offset_items, module_items, descriptor_items, stub_item, stub_items, stub_address, ifunc_address_items, canonical_address_items, thread_items, address_items, items_at, slot}
+use Rattle.wild_types.specs.SymbolSlots.{has_dynamic_symbol, has_thread_slot, slots_address}
+use Rattle.wild_slot.specs.Slots.{SlotContent, no_slot, add_item, with_item, with_items, setting_of, number, general, plt, named, items_if, offset_item, module_item, module_offset, module_offset_item, descriptor_item, offset_items, module_items, descriptor_items, stub_item, stub_items, stub_address, ifunc_address_items, canonical_address_items, thread_items, address_items, items_at, slot}
 use Rattle.wild_slot.specs.SlotParts.{next}
 use Rattle.wild_types.specs.FileSymbols.{own_symbols}
 use Rattle.wild_slot.specs.SymbolWords.{slots_of, resolved_slots}
 use Rattle.wild_needs.specs.SlotShares.{storage_words}
-use Rattle.wild_slot.specs.MachineStub.{far_of}
+use Rattle.wild_slot.specs.MachineStub.{distance_if_too_far}
 use Rattle.wild_slot.proofs.SlotLemmas.{items_joined}
-use Rattle.wild_loaded.specs.Stored.{filled_width}
+use Rattle.wild_loaded.specs.StoredTables.{filled_width}
 use Rattle.wild_loaded.proofs.SlotSites.{SlotSite, sites_at, symbol_sites, file_sites, group_sites, all_sites}
 use Rattle.wild_loaded.proofs.SlotFillings.{IsPairWord, pair_words, pair_sites, got_sites}
 
@@ -67,7 +67,7 @@ plain_join : (xs ys : List SlotItem) → AllPlain xs → AllPlain ys → AllPlai
 plain_join [] ys h k = k
 plain_join (x ∷ xs) ys h k = (h.0, plain_join xs ys h.1 k)
 
-plain_where : (b : Bool) (xs : List SlotItem) → AllPlain xs → AllPlain (where_so b xs)
+plain_where : (b : Bool) (xs : List SlotItem) → AllPlain xs → AllPlain (items_if b xs)
 plain_where true xs h = h
 plain_where false xs h = tt
 
@@ -143,7 +143,7 @@ thread_spaced s r =
     let e : with_items no_slot (a ++ (b ++ c)) ≡ with_items (with_items (with_items no_slot a) b) c = items_joined no_slot a (b ++ c) ∙ items_joined (with_items no_slot a) b c in
     subst (λ (x : SlotContent). Spaced x.words) (sym e) third
   where
-    described : (c : SlotContent) (b : Bool) → Spaced c.words → Spaced (with_items c (where_so b (descriptor_item s r ∷ number 0 ∷ []))).words
+    described : (c : SlotContent) (b : Bool) → Spaced c.words → Spaced (with_items c (items_if b (descriptor_item s r ∷ number 0 ∷ []))).words
     described c true h = pair_spaced c (descriptor_item s r) 0 h
     described c false h = h
 
@@ -159,7 +159,7 @@ address_plain s far r = (
       (plain_where (has_flag r.flags canonical_plt_got_for_address) _ (plain_named r.dynamic_symbol_index (λ d. general GotEntry d 0) (λ d. refl), tt))),
 )
   where
-    moving : (b : Bool) → IsNarrow (if b then InBlock r.raw_value else Address r.raw_value)
+    moving : (b : Bool) → IsNarrow (if b then InRelrGot r.raw_value else Address r.raw_value)
     moving true = tt
     moving false = tt
 
@@ -179,11 +179,11 @@ pub words_spaced : (l : Layout) (s : Symbol) → Spaced (slots_of l s).words
 unfolding slots_of slot
 words_spaced l s = by_resolution s.resolution
   where
-    by_kind : (r : Resolution) (b : Bool) → Spaced (with_items no_slot (if b then thread_items (setting_of l) r else address_items (setting_of l) (far_of l r) r)).words
+    by_kind : (r : Resolution) (b : Bool) → Spaced (with_items no_slot (if b then thread_items (setting_of l) r else address_items (setting_of l) (distance_if_too_far l r) r)).words
     by_kind r true = thread_spaced (setting_of l) r
-    by_kind r false = all_plain no_slot (address_items (setting_of l) (far_of l r) r) (address_plain (setting_of l) (far_of l r) r) tt
+    by_kind r false = all_plain no_slot (address_items (setting_of l) (distance_if_too_far l r) r) (address_plain (setting_of l) (distance_if_too_far l r) r) tt
 
-    by_place : (r : Resolution) (o : Option ℕ) → Spaced (with_items no_slot (items_at (setting_of l) (far_of l r) r o)).words
+    by_place : (r : Resolution) (o : Option ℕ) → Spaced (with_items no_slot (items_at (setting_of l) (distance_if_too_far l r) r o)).words
     by_place r None = tt
     by_place r (Some a) = by_kind r (has_thread_slot r.flags)
 
@@ -220,7 +220,7 @@ module_width k i a e = ap (λ (x : DynamicRelocationKind). filled_width (record 
 pair_narrow : (w : SlotWord) → IsPairWord w → IsNarrow w
 pair_narrow (Number n) h = tt
 pair_narrow (Address a) h = tt
-pair_narrow (InBlock a) h = tt
+pair_narrow (InRelrGot a) h = tt
 pair_narrow (Plt e) h = absurd h
 pair_narrow (General e) h = module_width e.kind e.symbol e.addend h
 
@@ -234,4 +234,4 @@ pub all_spaced : (l : Layout) → SitesSpaced (got_sites l)
 all_spaced l =
     sites_join (pair_sites l) (all_sites l)
     (sites_spaced (unwrap_or l.tlsld 0) (storage_words l) (words_of_pair (storage_words l) (pair_words l)))
-    (sites_made (group_sites l) l.groups (λ g. sites_made (file_sites l) g.files (λ f. sites_made (symbol_sites l) (own_symbols l f) (λ s. sites_spaced (slots_at s) (slots_of l s).words (words_spaced l s)))))
+    (sites_made (group_sites l) l.groups (λ g. sites_made (file_sites l) g.files (λ f. sites_made (symbol_sites l) (own_symbols l f) (λ s. sites_spaced (slots_address s) (slots_of l s).words (words_spaced l s)))))

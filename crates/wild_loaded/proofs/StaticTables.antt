@@ -1,7 +1,7 @@
 -- The tables of an output at its own addresses: nothing moves, and its sections have all entries.
 use Rattle.wild_meaning.proofs.OutputLemmas.{not_partial}
 use Rattle.wild_needs.specs.Needs.{has_last}
-use Rattle.wild_laid.specs.Laid.{laid_files, processed, sorted_sections}
+use Rattle.wild_placement.specs.PlacedSections.{placed_files, processed_sections, sorted_sections}
 use Rattle.std.proofs.Common.{◌≡◌, ℕ, zero, suc, ◌+◌, ◌<◌, ◌≤◌, inl, inr, false, List, [], ◌∷◌, ◌++◌, length, get_or, refl, sym, ap, ◌∙◌, arith, subst, Bool, true}
 use Rattle.std.specs.Prelude.{AllPairs, IsPermutation, slice_index, if◌then◌else◌}
 use Rattle.std.specs.List.{flat_map}
@@ -10,8 +10,8 @@ use Rattle.std.proofs.lemmas.List.{length-append, get_or_append_left}
 use Rattle.std.proofs.lemmas.List.Elements.{All-map}
 use Rattle.wild_words.specs.Words.{word}
 use Rattle.wild_words.specs.Record.{spell}
-use Rattle.wild_words.specs.Overlay.{Piece, Apart}
-use Rattle.wild_words.proofs.RecordLemmas.{Stands-field}
+use Rattle.wild_words.specs.Overlay.{Piece, Disjoint}
+use Rattle.wild_words.proofs.RecordLemmas.{HasBytesAt-field}
 use Rattle.wild_words.proofs.WordLemmas.{length-word}
 use Rattle.wild_words.proofs.Basics.{flat_map-none}
 use Rattle.wild_records.specs.Abi.Header.{elfmag}
@@ -19,7 +19,7 @@ use Rattle.wild_records.specs.FileHeader.{file_header_fields}
 use Rattle.wild_records.specs.SectionHeader.{section_header_fields}
 use Rattle.wild_records.specs.declared.relocations.Rela.{Rela}
 use Rattle.wild_records.specs.declared.section_header.SectionHeader.{SectionHeader}
-use Rattle.wild_relr.specs.Packed.{packed_on, packed, block}
+use Rattle.wild_relr.specs.RunWords.{packed_on, packed, block}
 use Rattle.wild_records.proofs.FileHeaderLemmas.{length-file_header}
 use Rattle.wild_types.specs.declared.part.Role.TheVariants as role
 use Rattle.wild_types.specs.declared.input.InputSection.{InputSection}
@@ -27,23 +27,23 @@ use Rattle.wild_types.specs.declared.section.Section.{Section}
 use Rattle.wild_slot.specs.declared.slot_parts.EntryPart.TheVariants as entries
 use Rattle.wild_types.specs.declared.file.Group.{Group}
 use Rattle.wild_types.specs.declared.layout.Layout.{Layout}
-use Rattle.wild_needs.specs.Entries.{packed_place, packed_places, words_of, sorted_words}
+use Rattle.wild_needs.specs.Entries.{relr_place, relr_places, words_of, sorted_words}
 use Rattle.wild_types.specs.Kinds.{is_position_independent}
 use Rattle.wild_types.proofs.LookupLemmas.{plain_still}
-use Rattle.wild_needs.specs.SlotShares.{group_block, block_of, words_of_block, block_words}
+use Rattle.wild_needs.specs.SlotShares.{group_relr_got, block_of, words_of_relr_got, block_words}
 use Rattle.wild_needs.proofs.ShareLemmas.{no_moved}
-use Rattle.wild_headers.proofs.HeaderLemmas.{length-section_header}
-use Rattle.wild_headers.specs.Headers.{file_header, null_header, headers_from, told_of, program_header, section_headers_of, offset_of_role, file_header_bytes, section_header_bytes}
+use Rattle.wild_table_formats.proofs.HeaderLemmas.{length-section_header}
+use Rattle.wild_table_formats.specs.Headers.{file_header, null_header, headers_from, computed_infos, program_header, section_headers_of, offset_of_role, file_header_bytes, section_header_bytes}
 use Rattle.wild_layout.specs.Image.{pieces}
-use Rattle.wild_layout.specs.Moved.{listed_entry, section_entries}
+use Rattle.wild_layout.specs.RelativeRelocations.{listed_entry, section_entries}
 use Rattle.wild_layout.specs.SlotBytes.{slot_entries_of, flat_places_of}
 use Rattle.wild_layout.specs.Geometry.{IsLaidOut, TablesStand}
 use Rattle.wild_loader.specs.SegmentLaws.{rela_bytes}
 use Rattle.wild_loader.specs.Laws.{IsStatic, section_relas}
-use Rattle.wild_tables.specs.Laws.{LengthsOfEntries, EntriesAreRead}
+use Rattle.wild_table_formats.specs.EntryLaws.{LengthsOfEntries, EntriesAreRead}
 use Rattle.wild_slots.specs.Entries.{MovesNothing, FixedOutputsMoveNothing}
-use Rattle.wild_slots.specs.Stand.{PairStands}
-use Rattle.wild_loaded.specs.Tables.{file_packed, group_words, relatives, tables_of, words_of_last}
+use Rattle.wild_slots.specs.SlotPlaces.{PairIsPlaced}
+use Rattle.wild_loaded.specs.Tables.{packed_words_of_file, group_words, relative_entries, tables_of, words_of_last}
 use Rattle.wild_loaded.specs.Laws.{SectionTablesAreFound}
 use Rattle.wild_loaded.proofs.FileType.{plain_fixed}
 use Rattle.wild_loaded.proofs.Loads.{segment_static}
@@ -55,21 +55,21 @@ use Rattle.wild_loaded.proofs.SectionTable.{IsFixedTable, relas_of, section_tabl
 -- ---- nothing moves
 
 no_words : (l : Layout) (s : InputSection) → is_position_independent l.kind ≡ false → words_of l s ≡ []
-unfolding packed_places packed packed_on
-no_words l s still = ap packed (no_moved l s (packed_place l s) still)
+unfolding relr_places packed packed_on
+no_words l s still = ap packed (no_moved l s (relr_place l s) still)
 
 no_entries : (l : Layout) (s : InputSection) → is_position_independent l.kind ≡ false → section_entries l s ≡ []
 unfolding section_entries
 no_entries l s still = no_moved l s (listed_entry l s) still
 
-no_block : (l : Layout) (g : Group) → group_block l g ≡ [] → block_words l g ≡ []
+no_block : (l : Layout) (g : Group) → group_relr_got l g ≡ [] → block_words l g ≡ []
 unfolding block
-no_block l g h = ap (λ (ps : List ℕ). words_of_block (block_of ps)) h
+no_block l g h = ap (λ (ps : List ℕ). words_of_relr_got (block_of ps)) h
 
 words_none : (l : Layout) → MovesNothing l → is_position_independent l.kind ≡ false → (tables_of l).words ≡ []
 words_none l h still =
     flat_map-none (group_words l) l.groups (λ g.
-    ap (λ (ws : List ℕ). ws ++ (block_words l g ++ words_of_last l g)) (flat_map-none (file_packed l) (laid_files l g) (λ f. ap (λ (ws : List ℕ). ws ++ flat_places_of l f) (flat_map-none (words_of l) f.sections (λ s. no_words l s still)) ∙ h.flat f))
+    ap (λ (ws : List ℕ). ws ++ (block_words l g ++ words_of_last l g)) (flat_map-none (packed_words_of_file l) (placed_files l g) (λ f. ap (λ (ws : List ℕ). ws ++ flat_places_of l f) (flat_map-none (words_of l) f.sections (λ s. no_words l s still)) ∙ h.flat f))
     ∙ ap (λ (ws : List ℕ). ws ++ words_of_last l g) (no_block l g (h.groups g))
     ∙ by_last (has_last g))
   where
@@ -79,22 +79,22 @@ words_none l h still =
 
 relatives_none : (l : Layout) → MovesNothing l → is_position_independent l.kind ≡ false → all_relatives l ≡ []
 relatives_none l h still =
-    flat_map-none (λ (g : Group). flat_map (relatives l) (laid_files l g)) l.groups (λ g.
-    flat_map-none (relatives l) (laid_files l g) (λ f. ap (λ (es : List Rela). es ++ slot_entries_of entries.Relative l f) (flat_map-none (section_entries l) (processed l f) (λ s. no_entries l s still)) ∙ h.relative f))
+    flat_map-none (λ (g : Group). flat_map (relative_entries l) (placed_files l g)) l.groups (λ g.
+    flat_map-none (relative_entries l) (placed_files l g) (λ f. ap (λ (es : List Rela). es ++ slot_entries_of entries.Relative l f) (flat_map-none (section_entries l) (processed_sections l f) (λ s. no_entries l s still)) ∙ h.relative f))
 
 -- ---- where the section headers stand
 
 -- the first byte of the file header, and that of the headers of sections
 front_byte : (l : Layout) → slice_index (file_header_bytes l) 0 ≡ 0x7f
 unfolding file_header_fields file_header word
-front_byte l = (let n = length-word 4 elfmag in (Stands-field (file_header_fields (file_header l)) 0 (0, 0) (omega arith)).same 0 (omega (arith, n)))
+front_byte l = (let n = length-word 4 elfmag in (HasBytesAt-field (file_header_fields (file_header l)) 0 (0, 0) (omega arith)).same 0 (omega (arith, n)))
 
 null_byte : (l : Layout) (rest : List ℕ) → slice_index (spell (section_header_fields (null_header l)) ++ rest) 0 ≡ 0
 unfolding section_header_fields null_header word
 null_byte l rest =
     let n = length-section_header (null_header l) in
     get_or_append_left (spell (section_header_fields (null_header l))) rest 0 0 (omega (arith, n))
-    ∙ (let m = length-word 4 0 in (Stands-field (section_header_fields (null_header l)) 0 (0, 0) (omega arith)).same 0 (omega (arith, m)))
+    ∙ (let m = length-word 4 0 in (HasBytesAt-field (section_header_fields (null_header l)) 0 (0, 0) (omega arith)).same 0 (omega (arith, m)))
 
 -- of headers that are there
 record IsLong (l : Layout) (ss : List Section) : Type 0 where
@@ -104,7 +104,7 @@ record IsLong (l : Layout) (ss : List Section) : Type 0 where
 long : (l : Layout) (ss : List Section) → 1 ≤ length ss → IsLong l ss
 long l [] h = absurd (omega (arith, h))
 long l (s ∷ ss) h =
-    let rest = flat_map (λ (h : SectionHeader). spell (section_header_fields h)) (headers_from l (told_of l) 1 (length s.name + 1) ss) in
+    let rest = flat_map (λ (h : SectionHeader). spell (section_header_fields h)) (headers_from l (computed_infos l) 1 (length s.name + 1) ss) in
     let a = length-append (spell (section_header_fields (null_header l))) rest in
     let b = length-section_header (null_header l) in
     record { some = omega (arith, a, b); first = null_byte l rest }
@@ -122,14 +122,14 @@ table_offset l laid =
     within_any (x ∷ xs) zero d e h = refl
     within_any (x ∷ xs) (suc k) d e h = within_any xs k d e (omega arith)
 
-    two_at : (ps : List Piece) (i j : ℕ) (p q : Piece) → AllPairs Apart ps → i < j → j < length ps → get_or ps i p ≡ p → get_or ps j q ≡ q → Apart p q
-    two_at ps i j p q apart lt n x y = subst (λ (r : Piece). Apart r q) x (subst (λ (r : Piece). Apart (get_or ps i p) r) (within_any ps j p q n ∙ y) (apart i j p lt n))
+    two_at : (ps : List Piece) (i j : ℕ) (p q : Piece) → AllPairs Disjoint ps → i < j → j < length ps → get_or ps i p ≡ p → get_or ps j q ≡ q → Disjoint p q
+    two_at ps i j p q apart lt n x y = subst (λ (r : Piece). Disjoint r q) x (subst (λ (r : Piece). Disjoint (get_or ps i p) r) (within_any ps j p q n ∙ y) (apart i j p lt n))
 
-    overlap : (p q : Piece) → Apart p q → p.at ≡ 0 → q.at ≡ 0 → 1 ≤ length p.bytes → 1 ≤ length q.bytes → ⊥
+    overlap : (p q : Piece) → Disjoint p q → p.at ≡ 0 → q.at ≡ 0 → 1 ≤ length p.bytes → 1 ≤ length q.bytes → ⊥
     overlap p q (inl h) zp zq some more = omega (arith, h, zp, zq, some)
     overlap p q (inr h) zp zq some more = omega (arith, h, zp, zq, more)
 
-    whole : (p q : Piece) (i j : ℕ) (ps : List Piece) → AllPairs Apart ps → i < length ps → j < length ps → get_or ps i p ≡ p → get_or ps j q ≡ q → p.at ≡ 0 → q.at ≡ 0 → 1 ≤ length p.bytes → 1 ≤ length q.bytes → (p ≡ q → ⊥) → ⊥
+    whole : (p q : Piece) (i j : ℕ) (ps : List Piece) → AllPairs Disjoint ps → i < length ps → j < length ps → get_or ps i p ≡ p → get_or ps j q ≡ q → p.at ≡ 0 → q.at ≡ 0 → 1 ≤ length p.bytes → 1 ≤ length q.bytes → (p ≡ q → ⊥) → ⊥
     whole p q i j ps apart m n x y zp zq some more differ =
         elim (cases_lt i j) [
           | inl lt ↦ overlap p q (two_at ps i j p q apart lt n x y) zp zq some more
@@ -154,7 +154,7 @@ header_offset l = refl
 
 -- ---- the tables
 
-pub sections_found : TablesStand → LengthsOfEntries → EntriesAreRead → PairStands → FixedOutputsMoveNothing → SectionTablesAreFound
+pub sections_found : TablesStand → LengthsOfEntries → EntriesAreRead → PairIsPlaced → FixedOutputsMoveNothing → SectionTablesAreFound
 sections_found stand lengths read pair fixed = λ l keeps kind plain numbers laid slots.
     let still = plain_still l.kind plain in
     let moves = fixed l still in

@@ -2,13 +2,13 @@
 use Rattle.wild_loaded.proofs.KindLemmas.{dynamic_whole}
 use Rattle.wild_needs.specs.Entries.{sorted_words}
 use Rattle.wild_needs.specs.Needs.{has_last}
-use Rattle.wild_laid.specs.Laid.{laid_files}
+use Rattle.wild_placement.specs.PlacedSections.{placed_files}
 use Rattle.std.proofs.Common.{◌≡◌, ℕ, zero, suc, ◌+◌, ◌-◌, ◌^◌, ◌<◌, ◌≤◌, inl, inr, Bool, true, false, List, [], ◌∷◌, ◌++◌, length, map, min, refl, sym, ap, ◌∙◌, arith, subst}
 use Rattle.std.specs.Prelude.{Option, Some, None, Contains, slice_index, if◌then◌else◌, ◌==◌}
 use Rattle.std.specs.List.{flat_map}
 use Rattle.std.specs.Option.{option_or}
 use Rattle.std.proofs.lemmas.Bool.{cases_lt, eqb-true}
-use Rattle.wild_words.specs.Words.{Stands}
+use Rattle.wild_words.specs.Words.{HasBytesAt}
 use Rattle.wild_needs.specs.declared.dynamic.DynamicTag.TheVariants as tags
 use Rattle.wild_types.specs.declared.part.Part.{Part}
 use Rattle.wild_types.specs.declared.part.Role.{Role}
@@ -22,15 +22,15 @@ use Rattle.wild_needs.specs.DynamicPlaces as dynamic_places
 use Rattle.wild_types.specs.Kinds.{needs_dynamic}
 use Rattle.wild_types.specs.FileRoles.{is_prelude}
 use Rattle.wild_types.specs.Lookups.{image_size}
-use Rattle.wild_types.specs.Hollow.{KeepsAll}
+use Rattle.wild_types.specs.HeaderOnly.{KeepsAll}
 use Rattle.wild_types.specs.Parts.{role_place, part_with, is_table_role}
 use Rattle.wild_types.proofs.LookupLemmas.{not_hollow_at}
-use Rattle.wild_headers.specs.Headers.{program_header}
+use Rattle.wild_table_formats.specs.Headers.{program_header}
 use Rattle.wild_slot.specs.declared.slot_parts.EntryPart.TheVariants as entries
 use Rattle.wild_needs.specs.SlotShares.{block_words}
 use Rattle.wild_records.specs.declared.relocations.Rela.{Rela}
-use Rattle.wild_layout.specs.Left.{file_generals}
-use Rattle.wild_layout.specs.Moved.{file_entries, file_words}
+use Rattle.wild_layout.specs.DynamicRelocations.{file_generals}
+use Rattle.wild_layout.specs.RelativeRelocations.{file_entries, file_words}
 use Rattle.wild_layout.specs.SlotBytes.{slot_entries_of, flat_places_of, storage_entries}
 use Rattle.wild_layout.specs.Content.{file_content, content, last_words}
 use Rattle.wild_layout.specs.Image.{bytes}
@@ -38,14 +38,14 @@ use Rattle.wild_layout.specs.Loadable.{SegmentLoads}
 use Rattle.wild_layout.specs.TablePlaces.{table_bytes}
 use Rattle.wild_layout.specs.Geometry.{IsLaidOut, TablesStand}
 use Rattle.wild_loader.specs.SegmentLaws.{word_bytes, rela_bytes}
-use Rattle.wild_loader.specs.Laws.{StandsAt, IsTableOf}
+use Rattle.wild_loader.specs.Laws.{IsLocatedAt, IsTableOf}
 use Rattle.wild_loader.specs.Tables.{offset_in}
 use Rattle.std.proofs.lemmas.List.Elements.{All-contains}
 use Rattle.std.proofs.lemmas.List.{append-nil, append_assoc, length-append, get_or_append_left, get_or-append_right, nil_from_length}
 use Rattle.std.proofs.lemmas.List.Concat.{flat_map-append}
 use Rattle.wild_words.proofs.Basics.{Contains-map}
 use Rattle.wild_words.proofs.ListLemmas.{flat_map-same, flat_map-flat_map}
-use Rattle.wild_loaded.specs.Tables.{file_packed, group_words, relatives, generals, tables_of, words_of_last}
+use Rattle.wild_loaded.specs.Tables.{packed_words_of_file, group_words, relative_entries, other_entries, tables_of, words_of_last}
 use Rattle.wild_loaded.proofs.Loads.{kind_is, header_from, header_to}
 
 -- ---- bytes
@@ -55,8 +55,8 @@ by_group : {X : Type 0} (h : X → List ℕ) (of : Group → List X) (r : Role) 
 by_group h of r l each = flat_map-same (content l r) (λ (g : Group). flat_map h (of g)) l.groups each ∙ sym (flat_map-flat_map h of l.groups)
 
 -- of their files
-by_files : {X : Type 0} (h : X → List ℕ) (of : File → List X) (r : Role) (l : Layout) (g : Group) → ((f : File) → file_content l r f ≡ flat_map h (of f)) → flat_map (file_content l r) (laid_files l g) ≡ flat_map h (flat_map of (laid_files l g))
-by_files h of r l g each = flat_map-same (file_content l r) (λ (f : File). flat_map h (of f)) (laid_files l g) each ∙ sym (flat_map-flat_map h of (laid_files l g))
+by_files : {X : Type 0} (h : X → List ℕ) (of : File → List X) (r : Role) (l : Layout) (g : Group) → ((f : File) → file_content l r f ≡ flat_map h (of f)) → flat_map (file_content l r) (placed_files l g) ≡ flat_map h (flat_map of (placed_files l g))
+by_files h of r l g each = flat_map-same (file_content l r) (λ (f : File). flat_map h (of f)) (placed_files l g) each ∙ sym (flat_map-flat_map h of (placed_files l g))
 
 no_front : (b : Bool) (xs : List ℕ) → (if b then [] else []) ++ xs ≡ xs
 no_front true xs = refl
@@ -71,25 +71,25 @@ words_of_end l g = ap (λ (bs : List ℕ). flat_map word_bytes (block_words l g)
 
 pub words_are : (l : Layout) → table_bytes l role.RelrDyn ≡ flat_map word_bytes (tables_of l).words
 words_are l = by_group word_bytes (group_words l) role.RelrDyn l (λ g.
-    ap (λ (bs : List ℕ). bs ++ (flat_map word_bytes (block_words l g) ++ last_words l g)) (by_files word_bytes (file_packed l) role.RelrDyn l g (λ f. ap (λ (bs : List ℕ). bs ++ flat_map word_bytes (flat_places_of l f)) (no_front (is_prelude f.role) (flat_map word_bytes (file_words l f))) ∙ sym (flat_map-append word_bytes (file_words l f) (flat_places_of l f))))
-    ∙ ap (λ (bs : List ℕ). flat_map word_bytes (flat_map (file_packed l) (laid_files l g)) ++ bs) (words_of_end l g)
-    ∙ sym (flat_map-append word_bytes (flat_map (file_packed l) (laid_files l g)) (block_words l g ++ words_of_last l g)))
+    ap (λ (bs : List ℕ). bs ++ (flat_map word_bytes (block_words l g) ++ last_words l g)) (by_files word_bytes (packed_words_of_file l) role.RelrDyn l g (λ f. ap (λ (bs : List ℕ). bs ++ flat_map word_bytes (flat_places_of l f)) (no_front (is_prelude f.role) (flat_map word_bytes (file_words l f))) ∙ sym (flat_map-append word_bytes (file_words l f) (flat_places_of l f))))
+    ∙ ap (λ (bs : List ℕ). flat_map word_bytes (flat_map (packed_words_of_file l) (placed_files l g)) ++ bs) (words_of_end l g)
+    ∙ sym (flat_map-append word_bytes (flat_map (packed_words_of_file l) (placed_files l g)) (block_words l g ++ words_of_last l g)))
 
 -- all relative entries, and all others
 abbrev pub all_relatives : Layout → List Rela
-all_relatives l = flat_map (λ (g : Group). flat_map (relatives l) (laid_files l g)) l.groups
+all_relatives l = flat_map (λ (g : Group). flat_map (relative_entries l) (placed_files l g)) l.groups
 
 abbrev pub all_generals : Layout → List Rela
-all_generals l = flat_map (λ (g : Group). flat_map (generals l) (laid_files l g)) l.groups
+all_generals l = flat_map (λ (g : Group). flat_map (other_entries l) (placed_files l g)) l.groups
 
 pub relatives_are : (l : Layout) → table_bytes l role.RelaDynRelative ≡ flat_map rela_bytes (all_relatives l)
-relatives_are l = by_group rela_bytes (λ (g : Group). flat_map (relatives l) (laid_files l g)) role.RelaDynRelative l (λ g.
-    append-nil (flat_map (file_content l role.RelaDynRelative) (laid_files l g))
-    ∙ by_files rela_bytes (relatives l) role.RelaDynRelative l g (λ f. ap (λ (bs : List ℕ). bs ++ flat_map rela_bytes (slot_entries_of entries.Relative l f)) (no_front (is_prelude f.role) (flat_map rela_bytes (file_entries l f))) ∙ sym (flat_map-append rela_bytes (file_entries l f) (slot_entries_of entries.Relative l f))))
+relatives_are l = by_group rela_bytes (λ (g : Group). flat_map (relative_entries l) (placed_files l g)) role.RelaDynRelative l (λ g.
+    append-nil (flat_map (file_content l role.RelaDynRelative) (placed_files l g))
+    ∙ by_files rela_bytes (relative_entries l) role.RelaDynRelative l g (λ f. ap (λ (bs : List ℕ). bs ++ flat_map rela_bytes (slot_entries_of entries.Relative l f)) (no_front (is_prelude f.role) (flat_map rela_bytes (file_entries l f))) ∙ sym (flat_map-append rela_bytes (file_entries l f) (slot_entries_of entries.Relative l f))))
 
 pub jumps_are : (l : Layout) → table_bytes l role.RelaPlt ≡ flat_map rela_bytes (tables_of l).jumps
-jumps_are l = by_group rela_bytes (λ (g : Group). flat_map (slot_entries_of entries.Plt l) (laid_files l g)) role.RelaPlt l (λ g.
-    append-nil (flat_map (file_content l role.RelaPlt) (laid_files l g))
+jumps_are l = by_group rela_bytes (λ (g : Group). flat_map (slot_entries_of entries.Plt l) (placed_files l g)) role.RelaPlt l (λ g.
+    append-nil (flat_map (file_content l role.RelaPlt) (placed_files l g))
     ∙ by_files rela_bytes (slot_entries_of entries.Plt l) role.RelaPlt l g (λ f. ap (λ (bs : List ℕ). bs ++ flat_map rela_bytes (slot_entries_of entries.Plt l f)) (no_front (is_prelude f.role) [])))
 
 -- what stands once, what is the file's own, and what its slots have
@@ -105,9 +105,9 @@ general_content b xs ys zs =
     front false = refl
 
 pub generals_are : (l : Layout) → table_bytes l role.RelaDynGeneral ≡ flat_map rela_bytes (all_generals l)
-generals_are l = by_group rela_bytes (λ (g : Group). flat_map (generals l) (laid_files l g)) role.RelaDynGeneral l (λ g.
-    append-nil (flat_map (file_content l role.RelaDynGeneral) (laid_files l g))
-    ∙ by_files rela_bytes (generals l) role.RelaDynGeneral l g (λ f. general_content (is_prelude f.role) (storage_entries l) (file_generals l f) (slot_entries_of entries.General l f)))
+generals_are l = by_group rela_bytes (λ (g : Group). flat_map (other_entries l) (placed_files l g)) role.RelaDynGeneral l (λ g.
+    append-nil (flat_map (file_content l role.RelaDynGeneral) (placed_files l g))
+    ∙ by_files rela_bytes (other_entries l) role.RelaDynGeneral l g (λ f. general_content (is_prelude f.role) (storage_entries l) (file_generals l f) (slot_entries_of entries.General l f)))
 
 pub entries_are : (l : Layout) → table_bytes l role.RelaDynRelative ++ table_bytes l role.RelaDynGeneral ≡ flat_map rela_bytes (tables_of l).entries
 entries_are l =
@@ -126,7 +126,7 @@ unfolding program_header
 segment_offset l g a = refl
 
 -- the bytes of a table stand in a loaded segment, at its address
-table_at : (l : Layout) (r : Role) (p : Part) → TablesStand → KeepsAll l → IsLaidOut l → (role_place r ≡ 0 → ⊥) → needs_dynamic l.kind ≡ true → is_table_role r ≡ true → part_with r l.parts ≡ Some p → 1 ≤ p.size → length (table_bytes l r) ≡ p.size → StandsAt (bytes l) (map (program_header l) l.segments) p.address (table_bytes l r)
+table_at : (l : Layout) (r : Role) (p : Part) → TablesStand → KeepsAll l → IsLaidOut l → (role_place r ≡ 0 → ⊥) → needs_dynamic l.kind ≡ true → is_table_role r ≡ true → part_with r l.parts ≡ Some p → 1 ≤ p.size → length (table_bytes l r) ≡ p.size → IsLocatedAt (bytes l) (map (program_header l) l.segments) p.address (table_bytes l r)
 table_at l r p stands keeps laid place needs relative there some full =
     let written = not_hollow_at l p.section keeps in
     let c = (laid.loadable (dynamic_whole l.kind needs)).tables needs r p relative there written some in
@@ -140,7 +140,7 @@ table_at l r p stands keeps laid place needs relative there some full =
       low = header_from l c.segment p.address c.from;
       inner = segment_memory l c.segment p.address (omega (arith, some, to, sizes));
       high = header_to l c.segment (p.address + length (table_bytes l r)) (omega (arith, to, full));
-      stands = subst (λ (n : ℕ). Stands (bytes l) n (table_bytes l r)) (c.distance ∙ sym (segment_offset l c.segment p.address)) here;
+      stands = subst (λ (n : ℕ). HasBytesAt (bytes l) n (table_bytes l r)) (c.distance ∙ sym (segment_offset l c.segment p.address)) here;
     }
 
 -- a part that is there
@@ -161,7 +161,7 @@ part_low : (l : Layout) (p : Part) → IsLaidOut l → Contains l.parts p → p.
 part_low l p laid c = subst (λ (q : Part). q.offset + q.size ≤ 2 ^ 62) c.2 (laid.parts c.0 p c.1).low
 
 -- bytes that stand behind others
-pub stands_joined : (whole xs ys : List ℕ) (a b : ℕ) → b ≡ a + length xs → Stands whole a xs → Stands whole b ys → Stands whole a (xs ++ ys)
+pub stands_joined : (whole xs ys : List ℕ) (a b : ℕ) → b ≡ a + length xs → HasBytesAt whole a xs → HasBytesAt whole b ys → HasBytesAt whole a (xs ++ ys)
 stands_joined whole xs ys a b e s t = record {
   fits = (let n = length-append xs ys in let f = t.fits in omega (arith, n, f, e));
   same = λ k lt. elim (cases_lt k (length xs)) [
@@ -179,7 +179,7 @@ stands_joined whole xs ys a b e s t = record {
 
 -- both parts have bytes: one segment has them
 both_at : (l : Layout) (p q : Part) → TablesStand → KeepsAll l → IsLaidOut l → needs_dynamic l.kind ≡ true → part_with role.RelaDynRelative l.parts ≡ Some p → part_with role.RelaDynGeneral l.parts ≡ Some q → 1 ≤ p.size → 1 ≤ q.size
-    → StandsAt (bytes l) (map (program_header l) l.segments) p.address (table_bytes l role.RelaDynRelative ++ table_bytes l role.RelaDynGeneral)
+    → IsLocatedAt (bytes l) (map (program_header l) l.segments) p.address (table_bytes l role.RelaDynRelative ++ table_bytes l role.RelaDynGeneral)
 both_at l p q stands keeps laid needs first second some more =
     let c = (laid.loadable (dynamic_whole l.kind needs)).together needs p q first second (not_hollow_at l p.section keeps) (not_hollow_at l q.section keeps) some more in
     let b = (laid.loadable (dynamic_whole l.kind needs)).behind p q first second in
@@ -200,7 +200,7 @@ both_at l p q stands keeps laid needs first second some more =
       low = header_from l c.segment p.address c.from;
       inner = segment_memory l c.segment p.address (omega (arith, some, to, at, sizes));
       high = header_to l c.segment (p.address + length (table_bytes l role.RelaDynRelative ++ table_bytes l role.RelaDynGeneral)) (omega (arith, to, at, n, m, x));
-      stands = subst (λ (k : ℕ). Stands (bytes l) k (table_bytes l role.RelaDynRelative ++ table_bytes l role.RelaDynGeneral)) (c.distance ∙ sym (segment_offset l c.segment p.address)) whole;
+      stands = subst (λ (k : ℕ). HasBytesAt (bytes l) k (table_bytes l role.RelaDynRelative ++ table_bytes l role.RelaDynGeneral)) (c.distance ∙ sym (segment_offset l c.segment p.address)) whole;
     }
 
 -- what a part that has no bytes, or is not there, gives
@@ -247,7 +247,7 @@ entries_by l o q None (Some b) stands keeps laid needs e f g h =
     let size = t.size in
     let ends = part_low l b laid t.listed in
     let bytes_are : dynamic_places.bytes_of q ≡ b.size = ap (λ (p : Option Part). dynamic_places.bytes_of p) full.0 in
-    let P : List ℕ → Type 0 = λ bs. (min (2 ^ 64 - 1) (dynamic_places.bytes_of o + dynamic_places.bytes_of q) ≡ length (bs ++ table_bytes l role.RelaDynGeneral)) × (0 < length (bs ++ table_bytes l role.RelaDynGeneral) → StandsAt (bytes l) (map (program_header l) l.segments) b.address (bs ++ table_bytes l role.RelaDynGeneral)) in
+    let P : List ℕ → Type 0 = λ bs. (min (2 ^ 64 - 1) (dynamic_places.bytes_of o + dynamic_places.bytes_of q) ≡ length (bs ++ table_bytes l role.RelaDynGeneral)) × (0 < length (bs ++ table_bytes l role.RelaDynGeneral) → IsLocatedAt (bytes l) (map (program_header l) l.segments) b.address (bs ++ table_bytes l role.RelaDynGeneral)) in
     subst P (sym none) (omega (arith, zero_size, bytes_are, size, ends), λ some. table_at l role.RelaDynGeneral b stands keeps laid (λ z. cc) needs refl there full.1 size)
 entries_by l o q (Some a) None stands keeps laid needs e f g h =
     let none = empty_table l role.RelaDynGeneral q laid (λ z. cc) f h in
@@ -259,7 +259,7 @@ entries_by l o q (Some a) None stands keeps laid needs e f g h =
     let ends = part_low l a laid t.listed in
     let bytes_are : dynamic_places.bytes_of o ≡ a.size = ap (λ (p : Option Part). dynamic_places.bytes_of p) full.0 in
     let alone : table_bytes l role.RelaDynRelative ++ table_bytes l role.RelaDynGeneral ≡ table_bytes l role.RelaDynRelative = ap (λ (bs : List ℕ). table_bytes l role.RelaDynRelative ++ bs) none ∙ append-nil (table_bytes l role.RelaDynRelative) in
-    let P : List ℕ → Type 0 = λ bs. (min (2 ^ 64 - 1) (dynamic_places.bytes_of o + dynamic_places.bytes_of q) ≡ length bs) × (0 < length bs → StandsAt (bytes l) (map (program_header l) l.segments) a.address bs) in
+    let P : List ℕ → Type 0 = λ bs. (min (2 ^ 64 - 1) (dynamic_places.bytes_of o + dynamic_places.bytes_of q) ≡ length bs) × (0 < length bs → IsLocatedAt (bytes l) (map (program_header l) l.segments) a.address bs) in
     subst P (sym alone) (omega (arith, zero_size, bytes_are, size, ends), λ some. table_at l role.RelaDynRelative a stands keeps laid (λ z. cc) needs refl there full.1 size)
 entries_by l o q (Some a) (Some b) stands keeps laid needs e f g h =
     let first = full_part o a g in

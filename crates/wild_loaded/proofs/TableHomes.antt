@@ -9,20 +9,20 @@ use Rattle.wild_types.specs.declared.part.Role.{Role}
 use Rattle.wild_types.specs.declared.part.Role.TheVariants as role
 use Rattle.wild_types.specs.declared.input.InputSection.{InputSection}
 use Rattle.wild_types.specs.declared.layout.Layout.{Layout}
-use Rattle.wild_types.specs.Hollow.{is_hollow_role, KeepsAll}
-use Rattle.wild_types.specs.Lookups.{has_data, is_hollow_at, takes_file_bytes, is_filled}
+use Rattle.wild_types.specs.HeaderOnly.{is_header_only_role, KeepsAll}
+use Rattle.wild_types.specs.Lookups.{has_data, is_header_only_at, takes_file_bytes, is_filled}
 use Rattle.wild_types.proofs.LookupLemmas.{not_hollow_at}
 use Rattle.wild_types.specs.Parts.{role_place, has_role, is_loaded_role, part_with}
-use Rattle.wild_clauses.specs.SlotPlaces.{address_of_part, start_of}
+use Rattle.wild_plan_rules.specs.SlotPlaces.{address_of_part, start_of}
 use Rattle.wild_layout.specs.Image.{offset_in}
 use Rattle.wild_layout.specs.SectionPlaces.{SectionLies, HasRoom, RangesApart}
 use Rattle.wild_layout.specs.Geometry.{IsLaidOut}
 use Rattle.wild_meaning.specs.World.{IsLoadable}
 use Rattle.wild_slots.specs.Order.{end_of}
-use Rattle.wild_slots.specs.Stand.{StandsAt}
+use Rattle.wild_slots.specs.SlotPlaces.{IsLocatedAt}
 use Rattle.wild_loaded.specs.Memory.{IsStored}
 use Rattle.wild_loaded.proofs.PartsHeld.{placed, written_part, part_carried}
-use Rattle.wild_loaded.proofs.Fillings.{Filling, AreBeside}
+use Rattle.wild_loaded.proofs.Fillings.{Filling, DoNotOverlap}
 use Rattle.wild_loaded.proofs.Homes.{Home, HasHome, HomesApart, LiesIn}
 use Rattle.wild_loaded.proofs.SectionsApart.{section_home, filled_place}
 
@@ -36,7 +36,7 @@ home_of (Some p) = record { address = p.address; offset = p.offset; size = p.siz
 abbrev pub role_home : Layout → Role → Home
 role_home l r = home_of (part_with r l.parts)
 
-pub role_there : (l : Layout) (r : Role) → is_loaded_role r ≡ true → is_hollow_role l r ≡ false → IsLoadable l.kind → IsLaidOut l → HasHome l (role_home l r)
+pub role_there : (l : Layout) (r : Role) → is_loaded_role r ≡ true → is_header_only_role l r ≡ false → IsLoadable l.kind → IsLaidOut l → HasHome l (role_home l r)
 role_there l r loaded written kind laid = by_part (part_with r l.parts) refl
   where
     by_part : (o : Option Part) → part_with r l.parts ≡ o → HasHome l (home_of o)
@@ -71,11 +71,11 @@ part_of l r p loaded keeps laid e =
       index = c.0;
       there = slice_get-get_or l.parts c.0 p c.1 ∙ ap (λ (q : Part). Some q) c.2;
       has = t.has;
-      takes = both (has_data l p.section) (is_hollow_at l p.section) (All-contains (λ (q : Part). has_role role.Raw q ≡ false → has_data l q.section ≡ true) l.parts p laid.room c raw) (not_hollow_at l p.section keeps);
+      takes = both (has_data l p.section) (is_header_only_at l p.section) (All-contains (λ (q : Part). has_role role.Raw q ≡ false → has_data l q.section ≡ true) l.parts p laid.room c raw) (not_hollow_at l p.section keeps);
     }
   where
-    both : (holds hollow : Bool) → holds ≡ true → hollow ≡ false → (holds && not hollow) ≡ true
-    both holds hollow d h = rw (d, h) refl
+    both : (holds header_only : Bool) → holds ≡ true → header_only ≡ false → (holds && not header_only) ≡ true
+    both holds header_only d h = rw (d, h) refl
 
 one_part : (l : Layout) (i j : ℕ) (p q : Part) → slice_get l.parts i ≡ Some p → slice_get l.parts j ≡ Some q → i ≡ j → p ≡ q
 one_part l i j p q a b e = (let both : Some p ≡ Some q = sym a ∙ ap (λ (k : ℕ). slice_get l.parts k) e ∙ b in cc)
@@ -146,7 +146,7 @@ table_ends l r loaded laid = by_part (part_with r l.parts) refl
 -- fillings in the table of a role
 pub record InTable (l : Layout) (r : Role) (xs : List Filling) : Type 0 where
   pub within : All (LiesIn (role_home l r)) xs
-  pub beside : AllPairs AreBeside xs
+  pub beside : AllPairs DoNotOverlap xs
 
 abbrev pub EndsBefore : Filling → Filling → Type 0
 EndsBefore x y = x.entry.offset + x.width ≤ y.entry.offset
@@ -162,7 +162,7 @@ in_table l r low xs loaded laid start from to ascend =
     }
 
 -- a byte of what stands there
-pub stands_inside : (l : Layout) (r : Role) (at : ℕ) (bs : List ℕ) → is_loaded_role r ≡ true → IsLaidOut l → StandsAt l r at bs → ((role_home l r).address ≤ at) × (at + length bs ≤ (role_home l r).address + (role_home l r).size)
+pub stands_inside : (l : Layout) (r : Role) (at : ℕ) (bs : List ℕ) → is_loaded_role r ≡ true → IsLaidOut l → IsLocatedAt l r at bs → ((role_home l r).address ≤ at) × (at + length bs ≤ (role_home l r).address + (role_home l r).size)
 stands_inside l r at bs loaded laid h =
     let e = table_ends l r loaded laid in
     let s = e.0.0 in

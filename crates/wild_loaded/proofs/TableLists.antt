@@ -1,6 +1,6 @@
 -- What the tables of a layout fill, as one list, and that it has what each table has.
-use Rattle.wild_laid.specs.Laid.{laid_file, laid_files, processed}
-use Rattle.wild_geometry.proofs.StoodSections.{all_sections, by_files, laid_same_all}
+use Rattle.wild_placement.specs.PlacedSections.{placed_file, placed_files, processed_sections}
+use Rattle.wild_geometry.proofs.PlacedInputs.{all_sections, by_files, laid_same_all}
 use Rattle.std.proofs.Common.{◌≡◌, ℕ, List, [], ◌∷◌, ◌++◌, map, refl, sym, ap, ◌∙◌, subst, append_assoc}
 use Rattle.std.specs.Prelude.{IsPermutation}
 use Rattle.std.specs.List.{flat_map}
@@ -17,16 +17,16 @@ use Rattle.wild_slot.specs.declared.slot_parts.EntryPart.TheVariants as entries
 use Rattle.wild_types.specs.declared.file.File.{File}
 use Rattle.wild_types.specs.declared.file.Group.{Group}
 use Rattle.wild_types.specs.declared.layout.Layout.{Layout}
-use Rattle.wild_needs.specs.Entries.{packed_places}
+use Rattle.wild_needs.specs.Entries.{relr_places}
 use Rattle.wild_types.specs.FileSymbols.{copies_of}
-use Rattle.wild_slot.specs.SlotParts.{entry_of, flat_place}
-use Rattle.wild_needs.specs.SlotShares.{block_place}
+use Rattle.wild_slot.specs.SlotParts.{entry_of, relr_slot_place}
+use Rattle.wild_needs.specs.SlotShares.{relr_got_place}
 use Rattle.wild_layout.specs.Geometry.{IsLaidOut}
-use Rattle.wild_layout.specs.Moved.{section_entries, file_entries}
-use Rattle.wild_layout.specs.Left.{section_generals, copy_entry, file_generals}
+use Rattle.wild_layout.specs.RelativeRelocations.{section_entries, file_entries}
+use Rattle.wild_layout.specs.DynamicRelocations.{section_generals, copy_entry, file_generals}
 use Rattle.wild_layout.specs.SlotBytes.{slot_entries_of, storage_entries}
 use Rattle.wild_loader.specs.declared.world.World.{World}
-use Rattle.wild_loaded.specs.Tables.{relatives, first_generals, generals, tables_of}
+use Rattle.wild_loaded.specs.Tables.{relative_entries, entries_of_first_file, other_entries, tables_of}
 use Rattle.wild_loaded.proofs.SlotSites.{of_site, entries_by_sites, all_sites, all_by_sites}
 use Rattle.wild_loaded.proofs.Permuted.{nested-parts}
 use Rattle.wild_loaded.proofs.Fillings.{Filling, packed_in, relative_in, general_in, jump_in}
@@ -81,13 +81,13 @@ no_copies {Y} g l w none = flat_map-map g (copy_filling l w) (all_copies l) ∙ 
 
 -- the places that are packed, by source
 abbrev pub packed_list : Layout → List ℕ
-packed_list l = flat_map (packed_places l) (all_sections l) ++ (made_of (flat_place l.options.relr) (all_sites l) ++ made_of block_place (all_sites l))
+packed_list l = flat_map (relr_places l) (all_sections l) ++ (made_of (relr_slot_place l.options.relr) (all_sites l) ++ made_of relr_got_place (all_sites l))
 
 pub all_packed : (l : Layout) (w : World) → flat_map packed_in (all_fillings l w) ≡ packed_list l
 all_packed l w =
-    in_all packed_in l w (flat_map (packed_places l) (all_sections l)) (made_of (flat_place l.options.relr) (all_sites l)) (made_of block_place (all_sites l)) []
-    (in_sections packed_in l (packed_places l) (packed_are l))
-    (slots_packed l (got_sites l) ∙ flat_map-append (of_site (flat_place l.options.relr)) (pair_sites l) (all_sites l) ∙ ap (λ (ys : List ℕ). ys ++ made_of (flat_place l.options.relr) (all_sites l)) (pair_packed l))
+    in_all packed_in l w (flat_map (relr_places l) (all_sections l)) (made_of (relr_slot_place l.options.relr) (all_sites l)) (made_of relr_got_place (all_sites l)) []
+    (in_sections packed_in l (relr_places l) (packed_are l))
+    (slots_packed l (got_sites l) ∙ flat_map-append (of_site (relr_slot_place l.options.relr)) (pair_sites l) (all_sites l) ∙ ap (λ (ys : List ℕ). ys ++ made_of (relr_slot_place l.options.relr) (all_sites l)) (pair_packed l))
     (blocks_packed (all_sites l))
     (no_copies packed_in l w (λ i. refl))
     ∙ append-nil (packed_list l)
@@ -108,20 +108,20 @@ all_relative l w =
     ∙ ap (λ (ys : List Rela). flat_map (section_entries l) (all_sections l) ++ ys) (append-nil (made_of (entry_of entries.Relative l.machine l.options.relr) (all_sites l)))
 
 -- the entries of slots in a table
-entries_laid : (part : EntryPart) (l : Layout) (at : ℕ) (f : File) → slot_entries_of part l (laid_file l at f) ≡ slot_entries_of part l f
+entries_laid : (part : EntryPart) (l : Layout) (at : ℕ) (f : File) → slot_entries_of part l (placed_file l at f) ≡ slot_entries_of part l f
 unfolding slot_entries_of
 entries_laid part l at f = refl
 
-slots_listed : (l : Layout) (part : EntryPart) → flat_map (λ (g : Group). flat_map (slot_entries_of part l) (laid_files l g)) l.groups ≡ made_of (entry_of part l.machine l.options.relr) (all_sites l)
+slots_listed : (l : Layout) (part : EntryPart) → flat_map (λ (g : Group). flat_map (slot_entries_of part l) (placed_files l g)) l.groups ≡ made_of (entry_of part l.machine l.options.relr) (all_sites l)
 slots_listed l part = laid_same_all (slot_entries_of part l) l (entries_laid part l) ∙ all_by_sites (of_site (entry_of part l.machine l.options.relr)) (slot_entries_of part l) l (entries_by_sites part l)
 
-relative_sorted : (l : Layout) → IsPermutation (relative_list l) (flat_map (λ (g : Group). flat_map (relatives l) (laid_files l g)) l.groups)
+relative_sorted : (l : Layout) → IsPermutation (relative_list l) (flat_map (λ (g : Group). flat_map (relative_entries l) (placed_files l g)) l.groups)
 relative_sorted l =
-    let parts = nested-parts (laid_files l) (file_entries l) (slot_entries_of entries.Relative l) l.groups in
-    let a : flat_map (λ (g : Group). flat_map (file_entries l) (laid_files l g)) l.groups ≡ flat_map (section_entries l) (all_sections l) = sym (by_files (section_entries l) l) in
-    let same : flat_map (λ (g : Group). flat_map (file_entries l) (laid_files l g)) l.groups ++ flat_map (λ (g : Group). flat_map (slot_entries_of entries.Relative l) (laid_files l g)) l.groups ≡ relative_list l =
-    ap (λ (ys : List Rela). ys ++ flat_map (λ (g : Group). flat_map (slot_entries_of entries.Relative l) (laid_files l g)) l.groups) a ∙ ap (λ (ys : List Rela). flat_map (section_entries l) (all_sections l) ++ ys) (slots_listed l entries.Relative) in
-    let whole = flat_map (λ (g : Group). flat_map (relatives l) (laid_files l g)) l.groups in
+    let parts = nested-parts (placed_files l) (file_entries l) (slot_entries_of entries.Relative l) l.groups in
+    let a : flat_map (λ (g : Group). flat_map (file_entries l) (placed_files l g)) l.groups ≡ flat_map (section_entries l) (all_sections l) = sym (by_files (section_entries l) l) in
+    let same : flat_map (λ (g : Group). flat_map (file_entries l) (placed_files l g)) l.groups ++ flat_map (λ (g : Group). flat_map (slot_entries_of entries.Relative l) (placed_files l g)) l.groups ≡ relative_list l =
+    ap (λ (ys : List Rela). ys ++ flat_map (λ (g : Group). flat_map (slot_entries_of entries.Relative l) (placed_files l g)) l.groups) a ∙ ap (λ (ys : List Rela). flat_map (section_entries l) (all_sections l) ++ ys) (slots_listed l entries.Relative) in
+    let whole = flat_map (λ (g : Group). flat_map (relative_entries l) (placed_files l g)) l.groups in
     IsPermutation-sym whole (relative_list l) (subst (λ (ys : List Rela). IsPermutation whole ys) same parts)
 
 -- ---- other entries
@@ -139,12 +139,12 @@ all_general l w =
     ∙ ap (λ (ys : List Rela). (flat_map (section_generals l) (all_sections l) ++ ys) ++ map (copy_entry l) (all_copies l)) (append-nil (storage_entries l ++ made_of (entry_of entries.General l.machine l.options.relr) (all_sites l)))
 
 -- the entries of files for copies and fields
-file_parts : (l : Layout) (f : File) → file_generals l f ≡ map (copy_entry l) (copies_of f) ++ flat_map (section_generals l) (processed l f)
+file_parts : (l : Layout) (f : File) → file_generals l f ≡ map (copy_entry l) (copies_of f) ++ flat_map (section_generals l) (processed_sections l f)
 unfolding file_generals
 file_parts l f = refl
 
-turned : {X : Type 0} (a b c d : List X) → IsPermutation (b ++ ((d ++ a) ++ c)) ((a ++ (b ++ c)) ++ d)
-turned a b c d =
+reversed_section : {X : Type 0} (a b c d : List X) → IsPermutation (b ++ ((d ++ a) ++ c)) ((a ++ (b ++ c)) ++ d)
+reversed_section a b c d =
     let one = IsPermutation-append_right b ((d ++ a) ++ c) (d ++ (a ++ c)) (subst (λ xs. IsPermutation ((d ++ a) ++ c) xs) (append_assoc d a c) (IsPermutation-refl ((d ++ a) ++ c))) in
     let two = IsPermutation-append_right b (d ++ (a ++ c)) ((a ++ c) ++ d) (IsPermutation-append_comm d (a ++ c)) in
     let three : b ++ ((a ++ c) ++ d) ≡ ((b ++ a) ++ c) ++ d = sym (append_assoc b (a ++ c) d) ∙ ap (λ xs. xs ++ d) (sym (append_assoc b a c)) in
@@ -154,26 +154,26 @@ turned a b c d =
     let second = subst (λ xs. IsPermutation (b ++ ((d ++ a) ++ c)) xs) three first in
     subst (λ xs. IsPermutation (b ++ ((d ++ a) ++ c)) xs) five (IsPermutation-trans (b ++ ((d ++ a) ++ c)) (((b ++ a) ++ c) ++ d) (((a ++ b) ++ c) ++ d) second four)
 
-general_sorted : (l : Layout) → IsLaidOut l → IsPermutation (general_list l) (flat_map (λ (g : Group). flat_map (generals l) (laid_files l g)) l.groups)
+general_sorted : (l : Layout) → IsLaidOut l → IsPermutation (general_list l) (flat_map (λ (g : Group). flat_map (other_entries l) (placed_files l g)) l.groups)
 general_sorted l laid =
-    let whole = flat_map (λ (g : Group). flat_map (generals l) (laid_files l g)) l.groups in
-    let first = flat_map (λ (g : Group). flat_map (first_generals l) (laid_files l g)) l.groups in
-    let files = flat_map (λ (g : Group). flat_map (file_generals l) (laid_files l g)) l.groups in
-    let slots = flat_map (λ (g : Group). flat_map (slot_entries_of entries.General l) (laid_files l g)) l.groups in
-    let rest = flat_map (λ (g : Group). flat_map (λ (f : File). file_generals l f ++ slot_entries_of entries.General l f) (laid_files l g)) l.groups in
-    let copies = flat_map (λ (g : Group). flat_map (λ (f : File). map (copy_entry l) (copies_of f)) (laid_files l g)) l.groups in
-    let fields = flat_map (λ (g : Group). flat_map (λ (f : File). flat_map (section_generals l) (processed l f)) (laid_files l g)) l.groups in
-    let one = nested-parts (laid_files l) (first_generals l) (λ (f : File). file_generals l f ++ slot_entries_of entries.General l f) l.groups in
-    let two = nested-parts (laid_files l) (file_generals l) (slot_entries_of entries.General l) l.groups in
-    let cut : files ≡ flat_map (λ (g : Group). flat_map (λ (f : File). map (copy_entry l) (copies_of f) ++ flat_map (section_generals l) (processed l f)) (laid_files l g)) l.groups =
-    flat_map-same (λ (g : Group). flat_map (file_generals l) (laid_files l g)) (λ (g : Group). flat_map (λ (f : File). map (copy_entry l) (copies_of f) ++ flat_map (section_generals l) (processed l f)) (laid_files l g)) l.groups (λ g. flat_map-same (file_generals l) (λ (f : File). map (copy_entry l) (copies_of f) ++ flat_map (section_generals l) (processed l f)) (laid_files l g) (file_parts l)) in
-    let three = nested-parts (laid_files l) (λ (f : File). map (copy_entry l) (copies_of f)) (λ (f : File). flat_map (section_generals l) (processed l f)) l.groups in
+    let whole = flat_map (λ (g : Group). flat_map (other_entries l) (placed_files l g)) l.groups in
+    let first = flat_map (λ (g : Group). flat_map (entries_of_first_file l) (placed_files l g)) l.groups in
+    let files = flat_map (λ (g : Group). flat_map (file_generals l) (placed_files l g)) l.groups in
+    let slots = flat_map (λ (g : Group). flat_map (slot_entries_of entries.General l) (placed_files l g)) l.groups in
+    let rest = flat_map (λ (g : Group). flat_map (λ (f : File). file_generals l f ++ slot_entries_of entries.General l f) (placed_files l g)) l.groups in
+    let copies = flat_map (λ (g : Group). flat_map (λ (f : File). map (copy_entry l) (copies_of f)) (placed_files l g)) l.groups in
+    let fields = flat_map (λ (g : Group). flat_map (λ (f : File). flat_map (section_generals l) (processed_sections l f)) (placed_files l g)) l.groups in
+    let one = nested-parts (placed_files l) (entries_of_first_file l) (λ (f : File). file_generals l f ++ slot_entries_of entries.General l f) l.groups in
+    let two = nested-parts (placed_files l) (file_generals l) (slot_entries_of entries.General l) l.groups in
+    let cut : files ≡ flat_map (λ (g : Group). flat_map (λ (f : File). map (copy_entry l) (copies_of f) ++ flat_map (section_generals l) (processed_sections l f)) (placed_files l g)) l.groups =
+    flat_map-same (λ (g : Group). flat_map (file_generals l) (placed_files l g)) (λ (g : Group). flat_map (λ (f : File). map (copy_entry l) (copies_of f) ++ flat_map (section_generals l) (processed_sections l f)) (placed_files l g)) l.groups (λ g. flat_map-same (file_generals l) (λ (f : File). map (copy_entry l) (copies_of f) ++ flat_map (section_generals l) (processed_sections l f)) (placed_files l g) (file_parts l)) in
+    let three = nested-parts (placed_files l) (λ (f : File). map (copy_entry l) (copies_of f)) (λ (f : File). flat_map (section_generals l) (processed_sections l f)) l.groups in
     let three' = subst (λ (ys : List Rela). IsPermutation ys (copies ++ fields)) (sym cut) three in
     let two' = IsPermutation-trans rest (files ++ slots) ((copies ++ fields) ++ slots) two (IsPermutation-append_left slots files (copies ++ fields) three') in
     let one' = IsPermutation-trans whole (first ++ rest) (first ++ ((copies ++ fields) ++ slots)) one (IsPermutation-append_right first rest ((copies ++ fields) ++ slots) two') in
-    let all = IsPermutation-trans whole (first ++ ((copies ++ fields) ++ slots)) ((fields ++ (first ++ slots)) ++ copies) one' (turned fields first slots copies) in
+    let all = IsPermutation-trans whole (first ++ ((copies ++ fields) ++ slots)) ((fields ++ (first ++ slots)) ++ copies) one' (reversed_section fields first slots copies) in
     let ef : fields ≡ flat_map (section_generals l) (all_sections l) = sym (by_files (section_generals l) l) in
-    let eo : first ≡ storage_entries l = laid_same_all (first_generals l) l (λ at f. refl) ∙ stands_once (storage_entries l) l.groups laid.some_group laid.files in
+    let eo : first ≡ storage_entries l = laid_same_all (entries_of_first_file l) l (λ at f. refl) ∙ stands_once (storage_entries l) l.groups laid.some_group laid.files in
     let es : slots ≡ made_of (entry_of entries.General l.machine l.options.relr) (all_sites l) = slots_listed l entries.General in
     let ec : copies ≡ map (copy_entry l) (all_copies l) = laid_same_all (λ (f : File). map (copy_entry l) (copies_of f)) l (λ at f. refl) ∙ sym (map-nested (copy_entry l) l.groups) in
     let same : (fields ++ (first ++ slots)) ++ copies ≡ general_list l =
@@ -191,7 +191,7 @@ general_sorted l laid =
 pub entries_sorted : (l : Layout) (w : World) → IsLaidOut l → IsPermutation (flat_map relative_in (all_fillings l w) ++ flat_map general_in (all_fillings l w)) (tables_of l).entries
 entries_sorted l w laid =
     let target = (tables_of l).entries in
-    let both = IsPermutation-append (relative_list l) (flat_map (λ (g : Group). flat_map (relatives l) (laid_files l g)) l.groups) (general_list l) (flat_map (λ (g : Group). flat_map (generals l) (laid_files l g)) l.groups) (relative_sorted l) (general_sorted l laid) in
+    let both = IsPermutation-append (relative_list l) (flat_map (λ (g : Group). flat_map (relative_entries l) (placed_files l g)) l.groups) (general_list l) (flat_map (λ (g : Group). flat_map (other_entries l) (placed_files l g)) l.groups) (relative_sorted l) (general_sorted l laid) in
     let same : flat_map relative_in (all_fillings l w) ++ flat_map general_in (all_fillings l w) ≡ relative_list l ++ general_list l = ap (λ (ys : List Rela). ys ++ flat_map general_in (all_fillings l w)) (all_relative l w) ∙ ap (λ (ys : List Rela). relative_list l ++ ys) (all_general l w) in
     subst (λ (ys : List Rela). IsPermutation ys target) (sym same) both
 

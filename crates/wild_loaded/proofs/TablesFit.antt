@@ -1,6 +1,6 @@
 -- The numbers of the tables: each entry and each word has its range.
 use Rattle.wild_needs.specs.Needs.{has_last}
-use Rattle.wild_laid.specs.Laid.{laid_files, processed, sorted_sections}
+use Rattle.wild_placement.specs.PlacedSections.{placed_files, processed_sections, sorted_sections}
 use Rattle.std.proofs.Common.{◌≡◌, ℕ, ◌+◌, ◌%◌, ◌^◌, ◌<◌, ◌≤◌, inl, inr, Bool, true, false, not, List, [], ◌∷◌, ◌++◌, map, get_or, refl, sym, arith, subst}
 use Rattle.std.specs.Prelude.{Option, Some, None, All, unwrap_or, option_to_list, option_map, option_and_then, if◌then◌else◌, ◌&&◌, slice_get}
 use Rattle.std.specs.List.{flat_map}
@@ -27,29 +27,29 @@ use Rattle.wild_types.specs.declared.symbol.Symbol.{Symbol}
 use Rattle.wild_types.specs.declared.layout.Layout.{Layout}
 use Rattle.wild_slot.specs.declared.slot.SlotEntry.{SlotEntry}
 use Rattle.wild_slot.specs.declared.slot.SlotWord.{SlotWord}
-use Rattle.wild_slot.specs.declared.slot.SlotWord.TheVariants.{Number, Address, InBlock, General, Plt}
+use Rattle.wild_slot.specs.declared.slot.SlotWord.TheVariants.{Number, Address, InRelrGot, General, Plt}
 use Rattle.wild_slot.specs.declared.slot_parts.EntryPart.{EntryPart}
 use Rattle.wild_slot.specs.declared.slot_parts.EntryPart.TheVariants as entries
 use Rattle.wild_slot.specs.declared.treatment.Treatment.{Treatment}
 use Rattle.wild_slot.specs.declared.treatment.Treatment.TheVariants as treatments
-use Rattle.wild_types.specs.Lookups.{place_of, packs, has_moved, canonical, has_address, files_of, file_of}
-use Rattle.wild_needs.specs.Entries.{is_moved, packed_place, packed_places, words_of, left_relocations, sorted_words}
+use Rattle.wild_types.specs.Lookups.{place_of, packs, may_have_relative, canonical, has_address, files_of, file_of}
+use Rattle.wild_needs.specs.Entries.{is_relative, relr_place, relr_places, words_of, dynamic_relocations, sorted_words}
 use Rattle.wild_types.specs.FileSymbols.{copies_of}
 use Rattle.wild_types.specs.FileRoles.{is_prelude}
-use Rattle.wild_slot.specs.SlotParts.{next, is_packed, type_of, entry_at, entry_of, slot_entries, address_entry, flat_place}
-use Rattle.wild_needs.specs.SlotShares.{block_place, first_place, block_of, group_block, block_words, storage_words}
+use Rattle.wild_slot.specs.SlotParts.{next, is_packed, type_of, entry_at, entry_of, slot_entries, address_entry, relr_slot_place}
+use Rattle.wild_needs.specs.SlotShares.{relr_got_place, first_place, block_of, group_relr_got, block_words, storage_words}
 use Rattle.wild_slot.specs.Treatment.{treatment}
 use Rattle.wild_relr.specs.Laws.{IsWord, WordsFit}
-use Rattle.wild_layout.specs.Decide.{added}
-use Rattle.wild_layout.specs.Left.{entry_for, index_or_zero, left_by, left_entry, section_generals, copy_entry, file_generals}
-use Rattle.wild_layout.specs.Moved.{or_zero, moved_value, listed_entry, section_entries, file_entries, file_words}
+use Rattle.wild_layout.specs.Decide.{addend_bits}
+use Rattle.wild_layout.specs.DynamicRelocations.{entry_for, index_or_zero, dynamic_relocation_by, dynamic_relocation, section_generals, copy_entry, file_generals}
+use Rattle.wild_layout.specs.RelativeRelocations.{value_or_0, relative_value, listed_entry, section_entries, file_entries, file_words}
 use Rattle.wild_layout.specs.Numbers.{SymbolNumbers}
 use Rattle.wild_layout.specs.SlotBytes.{slot_entries_of, flat_places_of, storage_entries}
-use Rattle.wild_layout.specs.SymbolValues.{address_or, raw_address}
+use Rattle.wild_layout.specs.SymbolValues.{resolved_address, raw_address}
 use Rattle.wild_layout.specs.SlotValues.{decided_address}
 use Rattle.wild_types.specs.Addresses.{address_in_section, address_in_file, address_at, placed_value, resolved_or, raw_value}
-use Rattle.wild_tables.specs.Tables.{relative_entry}
-use Rattle.wild_loaded.specs.Tables.{file_packed, group_words, relatives, first_generals, generals, tables_of, words_of_last}
+use Rattle.wild_table_formats.specs.GroupTables.{relative_entry}
+use Rattle.wild_loaded.specs.Tables.{packed_words_of_file, group_words, relative_entries, entries_of_first_file, other_entries, tables_of, words_of_last}
 use Rattle.wild_loaded.proofs.SlotNumbers.{WordFits}
 use Rattle.wild_loaded.proofs.SlotSites.{SlotSite, of_site, file_sites, group_sites, entries_by_sites, flat_by_sites, block_by_sites}
 use Rattle.wild_loaded.proofs.SitesFit.{SiteFits, sites_fit, group_sites_fit, block_fits}
@@ -62,15 +62,15 @@ abbrev pub OfEntries : Layout → (Rela → Type 0) → Type 0
 OfEntries l P = (place v : ℕ) → place < 2 ^ 64 → v < 2 ^ 64 → P (relative_entry l place v)
 
 of_relocation : (P : Rela → Type 0) (l : Layout) (s : InputSection) (r : InputRelocation) → OfEntries l P → All P (option_to_list (listed_entry l s r))
-of_relocation P l s r h = by_test (is_moved l s r && not (packs l (place_of s.address r)))
+of_relocation P l s r h = by_test (is_relative l s r && not (packs l (place_of s.address r)))
   where
-    by_test : (b : Bool) → All P (option_to_list (option_map (λ (place : ℕ). relative_entry l place (moved_value l r)) (if b then Some (place_of s.address r) else None)))
+    by_test : (b : Bool) → All P (option_to_list (option_map (λ (place : ℕ). relative_entry l place (relative_value l r)) (if b then Some (place_of s.address r) else None)))
     by_test false = All-nil P
-    by_test true = All-cons P (relative_entry l (place_of s.address r) (moved_value l r)) [] (h (place_of s.address r) (moved_value l r) (omega arith) (omega arith)) (All-nil P)
+    by_test true = All-cons P (relative_entry l (place_of s.address r) (relative_value l r)) [] (h (place_of s.address r) (relative_value l r) (omega arith) (omega arith)) (All-nil P)
 
 of_section : (P : Rela → Type 0) (l : Layout) (s : InputSection) → OfEntries l P → All P (section_entries l s)
 unfolding section_entries
-of_section P l s h = by_test (has_moved l s)
+of_section P l s h = by_test (may_have_relative l s)
   where
     by_test : (b : Bool) → All P (if b then flat_map (λ (r : InputRelocation). option_to_list (listed_entry l s r)) s.relocations else [])
     by_test false = All-nil P
@@ -90,14 +90,14 @@ of_slots P l (x ∷ xs) h a =
     one : (at : ℕ) (d : SlotWord) → (at < 2 ^ 64) × WordFits d → All P (option_to_list (entry_of entries.Relative l.machine l.options.relr at d))
     one at (Address v) f = listed at v (is_packed l.options.relr at) f.0 f.1
     one at (Number n) f = All-nil P
-    one at (InBlock v) f = All-nil P
+    one at (InRelrGot v) f = All-nil P
     one at (General e) f = All-nil P
     one at (Plt e) f = All-nil P
 
-pub of_file : (P : Rela → Type 0) (l : Layout) (f : File) → OfEntries l P → All SymbolNumbers l.symbols → All P (relatives l f)
+pub of_file : (P : Rela → Type 0) (l : Layout) (f : File) → OfEntries l P → All SymbolNumbers l.symbols → All P (relative_entries l f)
 of_file P l f h numbers =
     All-append P (file_entries l f) (slot_entries_of entries.Relative l f)
-    (All-flat_map P (section_entries l) (processed l f) (λ k d b. of_section P l (get_or (processed l f) k d) h))
+    (All-flat_map P (section_entries l) (processed_sections l f) (λ k d b. of_section P l (get_or (processed_sections l f) k d) h))
     (subst (All P) (sym (entries_by_sites entries.Relative l f)) (of_slots P l (file_sites l f) h (sites_fit l f numbers)))
 
 -- any number, seen as one with a sign, has 64 bits
@@ -110,7 +110,7 @@ signed_fits n = elim (cases_lt n (2 ^ 64)) [ inl low ↦ low_fits n low | inr hi
     high_fits : (k : ℕ) → 2 ^ 64 ≤ k → FitsSigned w64 (cast_signed w64 k)
     high_fits k h = grind (arith, ints)
 
-relatives_fit : (l : Layout) (f : File) → All SymbolNumbers l.symbols → All RelaFits (relatives l f)
+relatives_fit : (l : Layout) (f : File) → All SymbolNumbers l.symbols → All RelaFits (relative_entries l f)
 relatives_fit l f numbers = of_file RelaFits l f (λ place v low small. record { offset = low; number = (facts_of l.machine).types entry_kinds.Relative; symbol = omega arith; addend = signed_fits v }) numbers
 
 -- ---- entries of slots
@@ -130,16 +130,16 @@ site_entry_fits : (part : EntryPart) (m : Machine) (relr : Bool) (at : ℕ) (d :
 site_entry_fits entries.Plt m relr at (Plt e) low = one_fits m at e low
 site_entry_fits entries.Plt m relr at (Number n) low = All-nil RelaFits
 site_entry_fits entries.Plt m relr at (Address a) low = All-nil RelaFits
-site_entry_fits entries.Plt m relr at (InBlock a) low = All-nil RelaFits
+site_entry_fits entries.Plt m relr at (InRelrGot a) low = All-nil RelaFits
 site_entry_fits entries.Plt m relr at (General e) low = All-nil RelaFits
 site_entry_fits entries.General m relr at (General e) low = one_fits m at e low
 site_entry_fits entries.General m relr at (Number n) low = All-nil RelaFits
 site_entry_fits entries.General m relr at (Address a) low = All-nil RelaFits
-site_entry_fits entries.General m relr at (InBlock a) low = All-nil RelaFits
+site_entry_fits entries.General m relr at (InRelrGot a) low = All-nil RelaFits
 site_entry_fits entries.General m relr at (Plt e) low = All-nil RelaFits
 site_entry_fits entries.Relative m relr at (Address a) low = moved_fits m (is_packed relr at) at a low
 site_entry_fits entries.Relative m relr at (Number n) low = All-nil RelaFits
-site_entry_fits entries.Relative m relr at (InBlock a) low = All-nil RelaFits
+site_entry_fits entries.Relative m relr at (InRelrGot a) low = All-nil RelaFits
 site_entry_fits entries.Relative m relr at (General e) low = All-nil RelaFits
 site_entry_fits entries.Relative m relr at (Plt e) low = All-nil RelaFits
 
@@ -159,10 +159,10 @@ places_entries_fit part m relr at (w ∷ ws) low =
 named_fits : (place number symbol addend : ℕ) → place < 2 ^ 64 → RelaFits (entry_for place number symbol addend)
 named_fits place number symbol addend low = record { offset = low; number = omega arith; symbol = omega arith; addend = signed_fits addend }
 
-left_fits : (l : Layout) (s : InputSection) (r : InputRelocation) (t : Treatment) → RelaFits (left_by l s.address r t)
-left_fits l s r (treatments.Symbolic i) = named_fits (place_of s.address r) (type_of l.machine entry_kinds.Absolute) (index_or_zero l i) (added r) (omega arith)
-left_fits l s r (treatments.Indirect i) = named_fits (place_of s.address r) (type_of l.machine entry_kinds.Irelative) 0 (or_zero (decided_address l i)) (omega arith)
-left_fits l s r (treatments.Extent row i) = named_fits (place_of s.address r) r.number (index_or_zero l i) (added r) (omega arith)
+left_fits : (l : Layout) (s : InputSection) (r : InputRelocation) (t : Treatment) → RelaFits (dynamic_relocation_by l s.address r t)
+left_fits l s r (treatments.Symbolic i) = named_fits (place_of s.address r) (type_of l.machine entry_kinds.Absolute) (index_or_zero l i) (addend_bits r) (omega arith)
+left_fits l s r (treatments.Indirect i) = named_fits (place_of s.address r) (type_of l.machine entry_kinds.Irelative) 0 (value_or_0 (decided_address l i)) (omega arith)
+left_fits l s r (treatments.Extent row i) = named_fits (place_of s.address r) r.number (index_or_zero l i) (addend_bits r) (omega arith)
 left_fits l s r treatments.Nothing = named_fits (place_of s.address r) 0 0 0 (omega arith)
 left_fits l s r (treatments.Value row) = named_fits (place_of s.address r) 0 0 0 (omega arith)
 left_fits l s r treatments.BaseRelative = named_fits (place_of s.address r) 0 0 0 (omega arith)
@@ -197,32 +197,32 @@ placed_low l i v h = by_symbol (slice_get l.symbols i) h
     by_symbol (Some s) e = by_place s.value s.place e
 
 -- and so is the address of a symbol
-raw_low : (l : Layout) (i : ℕ) → All SymbolNumbers l.symbols → or_zero (raw_address l (Some i)) < 2 ^ 64
+raw_low : (l : Layout) (i : ℕ) → All SymbolNumbers l.symbols → value_or_0 (raw_address l (Some i)) < 2 ^ 64
 unfolding raw_value
 raw_low l i numbers = by_symbol (slice_get l.symbols (canonical l i)) refl
   where
-    placed : (o : Option ℕ) → placed_value l i ≡ o → or_zero (address_or missing.Address i (resolved_or None o)) < 2 ^ 64
+    placed : (o : Option ℕ) → placed_value l i ≡ o → value_or_0 (resolved_address missing.Address i (resolved_or None o)) < 2 ^ 64
     placed None e = omega arith
     placed (Some v) e = placed_low l i v e
 
-    by_resolution : (s : Symbol) → slice_get l.symbols (canonical l i) ≡ Some s → (o : Option Resolution) → s.resolution ≡ o → or_zero (address_or missing.Address i (resolved_or (option_map (λ (r : Resolution). r.raw_value) o) (placed_value l i))) < 2 ^ 64
+    by_resolution : (s : Symbol) → slice_get l.symbols (canonical l i) ≡ Some s → (o : Option Resolution) → s.resolution ≡ o → value_or_0 (resolved_address missing.Address i (resolved_or (option_map (λ (r : Resolution). r.raw_value) o) (placed_value l i))) < 2 ^ 64
     by_resolution s there None e = placed (placed_value l i) refl
     by_resolution s there (Some r) e = (All-contains SymbolNumbers l.symbols s numbers (listed_at l.symbols (canonical l i) s there) r e).value
 
-    by_symbol : (o : Option Symbol) → slice_get l.symbols (canonical l i) ≡ o → or_zero (address_or missing.Address i (resolved_or (option_and_then (λ (s : Symbol). option_map (λ (r : Resolution). r.raw_value) s.resolution) o) (placed_value l i))) < 2 ^ 64
+    by_symbol : (o : Option Symbol) → slice_get l.symbols (canonical l i) ≡ o → value_or_0 (resolved_address missing.Address i (resolved_or (option_and_then (λ (s : Symbol). option_map (λ (r : Resolution). r.raw_value) s.resolution) o) (placed_value l i))) < 2 ^ 64
     by_symbol None e = placed (placed_value l i) refl
     by_symbol (Some s) e = by_resolution s e s.resolution refl
 
 left_entries_fit : (l : Layout) (s : InputSection) → All RelaFits (section_generals l s)
 unfolding section_generals
-left_entries_fit l s = All-map RelaFits (left_entry l s.address s.flags) (left_relocations l s) (λ k d b. left_fits l s (get_or (left_relocations l s) k d) (treatment l s.flags (get_or (left_relocations l s) k d)))
+left_entries_fit l s = All-map RelaFits (dynamic_relocation l s.address s.flags) (dynamic_relocations l s) (λ k d b. left_fits l s (get_or (dynamic_relocations l s) k d) (treatment l s.flags (get_or (dynamic_relocations l s) k d)))
 
 file_entries_fit : (l : Layout) (f : File) → All SymbolNumbers l.symbols → All RelaFits (file_generals l f)
 unfolding file_generals
 file_entries_fit l f numbers =
-    All-append RelaFits (map (copy_entry l) (copies_of f)) (flat_map (section_generals l) (processed l f))
-    (All-map RelaFits (copy_entry l) (copies_of f) (λ k d b. named_fits (or_zero (raw_address l (Some (get_or (copies_of f) k d)))) (type_of l.machine entry_kinds.Copy) (index_or_zero l (get_or (copies_of f) k d)) 0 (raw_low l (get_or (copies_of f) k d) numbers)))
-    (All-flat_map RelaFits (section_generals l) (processed l f) (λ k d b. left_entries_fit l (get_or (processed l f) k d)))
+    All-append RelaFits (map (copy_entry l) (copies_of f)) (flat_map (section_generals l) (processed_sections l f))
+    (All-map RelaFits (copy_entry l) (copies_of f) (λ k d b. named_fits (value_or_0 (raw_address l (Some (get_or (copies_of f) k d)))) (type_of l.machine entry_kinds.Copy) (index_or_zero l (get_or (copies_of f) k d)) 0 (raw_low l (get_or (copies_of f) k d) numbers)))
+    (All-flat_map RelaFits (section_generals l) (processed_sections l f) (λ k d b. left_entries_fit l (get_or (processed_sections l f) k d)))
 
 -- ---- all entries
 
@@ -237,23 +237,23 @@ storage_fits l low = places_entries_fit entries.General l.machine l.options.relr
     by_place None h = omega arith
     by_place (Some at) h = h at refl
 
-generals_fit : (l : Layout) (f : File) → PairIsLow l → All SymbolNumbers l.symbols → All RelaFits (generals l f)
+generals_fit : (l : Layout) (f : File) → PairIsLow l → All SymbolNumbers l.symbols → All RelaFits (other_entries l f)
 generals_fit l f low numbers =
-    All-append RelaFits (first_generals l f) (file_generals l f ++ slot_entries_of entries.General l f)
+    All-append RelaFits (entries_of_first_file l f) (file_generals l f ++ slot_entries_of entries.General l f)
     (of_if (All RelaFits) (is_prelude f.role) (storage_entries l) [] (λ t. storage_fits l low) (λ n. All-nil RelaFits))
     (All-append RelaFits (file_generals l f) (slot_entries_of entries.General l f) (file_entries_fit l f numbers) (slot_entries_fit entries.General l f numbers))
 
 -- what holds of the entries of each file holds of all
-of_all_files : (P : Rela → Type 0) (l : Layout) (of : File → List Rela) → ((f : File) → All P (of f)) → All P (flat_map (λ (g : Group). flat_map of (laid_files l g)) l.groups)
-of_all_files P l of h = All-flat_map P (λ (g : Group). flat_map of (laid_files l g)) l.groups (λ i d b. All-flat_map P of (laid_files l (get_or l.groups i d)) (λ j f c. h (get_or (laid_files l (get_or l.groups i d)) j f)))
+of_all_files : (P : Rela → Type 0) (l : Layout) (of : File → List Rela) → ((f : File) → All P (of f)) → All P (flat_map (λ (g : Group). flat_map of (placed_files l g)) l.groups)
+of_all_files P l of h = All-flat_map P (λ (g : Group). flat_map of (placed_files l g)) l.groups (λ i d b. All-flat_map P of (placed_files l (get_or l.groups i d)) (λ j f c. h (get_or (placed_files l (get_or l.groups i d)) j f)))
 
-pub all_generals_fit : (l : Layout) → PairIsLow l → All SymbolNumbers l.symbols → All RelaFits (flat_map (λ (g : Group). flat_map (generals l) (laid_files l g)) l.groups)
-all_generals_fit l low numbers = of_all_files RelaFits l (generals l) (λ f. generals_fit l f low numbers)
+pub all_generals_fit : (l : Layout) → PairIsLow l → All SymbolNumbers l.symbols → All RelaFits (flat_map (λ (g : Group). flat_map (other_entries l) (placed_files l g)) l.groups)
+all_generals_fit l low numbers = of_all_files RelaFits l (other_entries l) (λ f. generals_fit l f low numbers)
 
 pub entries_fit : (l : Layout) → PairIsLow l → All SymbolNumbers l.symbols → All RelaFits (tables_of l).entries
 entries_fit l low numbers =
-    All-append RelaFits (flat_map (λ (g : Group). flat_map (relatives l) (laid_files l g)) l.groups) (flat_map (λ (g : Group). flat_map (generals l) (laid_files l g)) l.groups)
-    (of_all_files RelaFits l (relatives l) (λ f. relatives_fit l f numbers))
+    All-append RelaFits (flat_map (λ (g : Group). flat_map (relative_entries l) (placed_files l g)) l.groups) (flat_map (λ (g : Group). flat_map (other_entries l) (placed_files l g)) l.groups)
+    (of_all_files RelaFits l (relative_entries l) (λ f. relatives_fit l f numbers))
     (all_generals_fit l low numbers)
 
 pub jumps_fit : (l : Layout) → All SymbolNumbers l.symbols → All RelaFits (tables_of l).jumps
@@ -262,56 +262,56 @@ jumps_fit l numbers = of_all_files RelaFits l (slot_entries_of entries.Plt l) (�
 -- ---- each word
 
 -- each place is a number of 64 bits
-places_fit : (l : Layout) (s : InputSection) → All IsWord (packed_places l s)
-unfolding packed_places
-places_fit l s = by_test (has_moved l s)
+places_fit : (l : Layout) (s : InputSection) → All IsWord (relr_places l s)
+unfolding relr_places
+places_fit l s = by_test (may_have_relative l s)
   where
     one : (b : Bool) (r : InputRelocation) → All IsWord (option_to_list (if b then Some (place_of s.address r) else None))
     one false r = All-nil IsWord
     one true r = All-cons IsWord (place_of s.address r) [] (omega arith) (All-nil IsWord)
 
-    one_of : (r : InputRelocation) → All IsWord (option_to_list (packed_place l s r))
-    one_of r = one (is_moved l s r && packs l (place_of s.address r)) r
+    one_of : (r : InputRelocation) → All IsWord (option_to_list (relr_place l s r))
+    one_of r = one (is_relative l s r && packs l (place_of s.address r)) r
 
-    by_test : (b : Bool) → All IsWord (if b then flat_map (λ (r : InputRelocation). option_to_list (packed_place l s r)) s.relocations else [])
+    by_test : (b : Bool) → All IsWord (if b then flat_map (λ (r : InputRelocation). option_to_list (relr_place l s r)) s.relocations else [])
     by_test false = All-nil IsWord
-    by_test true = All-flat_map IsWord (λ (r : InputRelocation). option_to_list (packed_place l s r)) s.relocations (λ k d b. one_of (get_or s.relocations k d))
+    by_test true = All-flat_map IsWord (λ (r : InputRelocation). option_to_list (relr_place l s r)) s.relocations (λ k d b. one_of (get_or s.relocations k d))
 
 words_of_sections : (l : Layout) (f : File) → WordsFit → All IsWord (file_words l f)
-words_of_sections l f law = All-flat_map IsWord (words_of l) f.sections (λ k d b. law (packed_places l (get_or f.sections k d)) (places_fit l (get_or f.sections k d)))
+words_of_sections l f law = All-flat_map IsWord (words_of l) f.sections (λ k d b. law (relr_places l (get_or f.sections k d)) (places_fit l (get_or f.sections k d)))
 
 -- each place of a slot is one
-flat_of : (l : Layout) (xs : List SlotSite) → All SiteFits xs → All IsWord (flat_map (of_site (flat_place l.options.relr)) xs)
+flat_of : (l : Layout) (xs : List SlotSite) → All SiteFits xs → All IsWord (flat_map (of_site (relr_slot_place l.options.relr)) xs)
 flat_of l [] a = All-nil IsWord
 flat_of l (x ∷ xs) a =
-    All-append IsWord (of_site (flat_place l.options.relr) x) (flat_map (of_site (flat_place l.options.relr)) xs)
+    All-append IsWord (of_site (relr_slot_place l.options.relr) x) (flat_map (of_site (relr_slot_place l.options.relr)) xs)
     (one x.at x.word (All-head SiteFits x xs a).0) (flat_of l xs (All-tail SiteFits x xs a))
   where
     packed_at : (at : ℕ) (b : Bool) → at < 2 ^ 64 → All IsWord (option_to_list (if b then Some at else None))
     packed_at at true low = All-cons IsWord at [] low (All-nil IsWord)
     packed_at at false low = All-nil IsWord
 
-    one : (at : ℕ) (d : SlotWord) → at < 2 ^ 64 → All IsWord (option_to_list (flat_place l.options.relr at d))
+    one : (at : ℕ) (d : SlotWord) → at < 2 ^ 64 → All IsWord (option_to_list (relr_slot_place l.options.relr at d))
     one at (Address v) low = packed_at at (is_packed l.options.relr at) low
     one at (Number n) low = All-nil IsWord
-    one at (InBlock v) low = All-nil IsWord
+    one at (InRelrGot v) low = All-nil IsWord
     one at (General e) low = All-nil IsWord
     one at (Plt e) low = All-nil IsWord
 
-words_of_file : (l : Layout) (f : File) → WordsFit → All SymbolNumbers l.symbols → All IsWord (file_packed l f)
+words_of_file : (l : Layout) (f : File) → WordsFit → All SymbolNumbers l.symbols → All IsWord (packed_words_of_file l f)
 words_of_file l f law numbers =
     All-append IsWord (file_words l f) (flat_places_of l f) (words_of_sections l f law)
     (subst (All IsWord) (sym (flat_by_sites l f)) (flat_of l (file_sites l f) (sites_fit l f numbers)))
 
-block_low : (l : Layout) (g : Group) → All SymbolNumbers l.symbols → first_place (group_block l g) < 2 ^ 64
+block_low : (l : Layout) (g : Group) → All SymbolNumbers l.symbols → first_place (group_relr_got l g) < 2 ^ 64
 block_low l g numbers = subst (λ (ps : List ℕ). first_place ps < 2 ^ 64) (sym (block_by_sites l g)) (first_of (group_sites l g) (group_sites_fit l g numbers))
   where
-    first_of : (xs : List SlotSite) → All SiteFits xs → first_place (flat_map (of_site block_place) xs) < 2 ^ 64
+    first_of : (xs : List SlotSite) → All SiteFits xs → first_place (flat_map (of_site relr_got_place) xs) < 2 ^ 64
     first_of [] a = omega arith
     first_of (x ∷ xs) a = one x.at x.word (All-head SiteFits x xs a).0 (first_of xs (All-tail SiteFits x xs a))
       where
-        one : (at : ℕ) (d : SlotWord) → at < 2 ^ 64 → first_place (flat_map (of_site block_place) xs) < 2 ^ 64 → first_place (option_to_list (block_place at d) ++ flat_map (of_site block_place) xs) < 2 ^ 64
-        one at (InBlock v) low rest = low
+        one : (at : ℕ) (d : SlotWord) → at < 2 ^ 64 → first_place (flat_map (of_site relr_got_place) xs) < 2 ^ 64 → first_place (option_to_list (relr_got_place at d) ++ flat_map (of_site relr_got_place) xs) < 2 ^ 64
+        one at (InRelrGot v) low rest = low
         one at (Number n) low rest = rest
         one at (Address v) low rest = rest
         one at (General e) low rest = rest
@@ -319,13 +319,13 @@ block_low l g numbers = subst (λ (ps : List ℕ). first_place ps < 2 ^ 64) (sym
 
 words_of_group : (l : Layout) (g : Group) → WordsFit → All SymbolNumbers l.symbols → All IsWord (group_words l g)
 words_of_group l g law numbers =
-    All-append IsWord (flat_map (file_packed l) (laid_files l g)) (block_words l g ++ words_of_last l g)
-    (All-flat_map IsWord (file_packed l) (laid_files l g) (λ k d b. words_of_file l (get_or (laid_files l g) k d) law numbers))
-    (All-append IsWord (block_words l g) (words_of_last l g) (block_fits (block_of (group_block l g)).base (block_of (group_block l g)).count (block_low l g numbers)) (by_last (has_last g)))
+    All-append IsWord (flat_map (packed_words_of_file l) (placed_files l g)) (block_words l g ++ words_of_last l g)
+    (All-flat_map IsWord (packed_words_of_file l) (placed_files l g) (λ k d b. words_of_file l (get_or (placed_files l g) k d) law numbers))
+    (All-append IsWord (block_words l g) (words_of_last l g) (block_fits (block_of (group_relr_got l g)).base (block_of (group_relr_got l g)).count (block_low l g numbers)) (by_last (has_last g)))
   where
     by_last : (b : Bool) → All IsWord (if b then sorted_words l else [])
     by_last false = All-nil IsWord
-    by_last true = All-flat_map IsWord (words_of l) (sorted_sections l) (λ k d b. law (packed_places l (get_or (sorted_sections l) k d)) (places_fit l (get_or (sorted_sections l) k d)))
+    by_last true = All-flat_map IsWord (words_of l) (sorted_sections l) (λ k d b. law (relr_places l (get_or (sorted_sections l) k d)) (places_fit l (get_or (sorted_sections l) k d)))
 
 pub words_fit : (l : Layout) → WordsFit → All SymbolNumbers l.symbols → All IsWord (tables_of l).words
 words_fit l law numbers = All-flat_map IsWord (group_words l) l.groups (λ k d b. words_of_group l (get_or l.groups k d) law numbers)

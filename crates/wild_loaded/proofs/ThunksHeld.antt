@@ -1,16 +1,16 @@
 -- Thunks in the memory of an image: as the file has them, whatever its tables fill.
 use Rattle.wild_words.proofs.ListLemmas.{flat_map-flat_map}
-use Rattle.wild_laid.specs.Laid.{laid_file, laid_files, processed, of_last_file, sorted_inputs}
-use Rattle.wild_geometry.specs.Laid.{file_place}
-use Rattle.wild_loaded.proofs.SectionsAside.{inside_apart, frame_inside}
-use Rattle.wild_geometry.proofs.StoodSections.{all_sections, input_of, in_processed, laid_of, laid_same_all}
+use Rattle.wild_placement.specs.PlacedSections.{placed_file, placed_files, processed_sections, of_last_file, sorted_inputs}
+use Rattle.wild_geometry.specs.PlacedSections.{file_place}
+use Rattle.wild_loaded.proofs.SectionsDisjoint.{inside_apart, frame_inside}
+use Rattle.wild_geometry.proofs.PlacedInputs.{all_sections, input_of, in_processed, laid_of, laid_same_all}
 use Rattle.wild_geometry.proofs.Rooms.{room_of, length-room, section_room}
 use Rattle.wild_loaded.proofs.Rooms.{rooms_in, stood_files}
 use Rattle.std.proofs.Common.{◌≡◌, ℕ, ◌+◌, ◌<◌, inl, inr, Bool, true, if◌then◌else◌, List, [], ◌∷◌, length, Some, flat_map, refl, sym, ap, ◌∙◌, arith, subst, ◌++◌}
 use Rattle.std.specs.Prelude.{All, Contains, Result, slice_index, slice_get}
 use Rattle.std.proofs.lemmas.List.Elements.{All-contains, Contains-append_right}
-use Rattle.wild_words.specs.Words.{Stands}
-use Rattle.wild_words.specs.Overlay.{Piece, Apart}
+use Rattle.wild_words.specs.Words.{HasBytesAt}
+use Rattle.wild_words.specs.Overlay.{Piece, Disjoint}
 use Rattle.wild_types.specs.declared.fault.Fault.{Fault}
 use Rattle.wild_types.specs.declared.part.Role.{Role}
 use Rattle.wild_types.specs.declared.part.Role.TheVariants as role
@@ -20,13 +20,13 @@ use Rattle.wild_types.specs.declared.file.Group.{Group}
 use Rattle.wild_types.specs.declared.layout.Thunk.{Thunk}
 use Rattle.wild_types.specs.declared.layout.Layout.{Layout}
 use Rattle.wild_types.specs.FileThunks.{thunk_size, thunks_of}
-use Rattle.wild_types.specs.Hollow.{KeepsAll}
+use Rattle.wild_types.specs.HeaderOnly.{KeepsAll}
 use Rattle.wild_types.proofs.LookupLemmas.{not_hollow_part}
 use Rattle.wild_types.specs.Lookups.{is_filled, files_of}
 use Rattle.wild_types.specs.Parts.{is_loaded_role}
 use Rattle.wild_relax.specs.ThunkAArch64.{thunk_aarch64}
 use Rattle.wild_layout.specs.Thunks.{thunk_target, target_or_zero, thunk_bytes}
-use Rattle.wild_layout.specs.Image.{bytes, pieces, section_pieces, thunk_offset, thunk_piece, thunk_pieces, file_pieces, table_pieces, owned_pieces, group_pieces, sorted_piece, of_first_file, once_pieces, offset_in}
+use Rattle.wild_layout.specs.Image.{bytes, pieces, section_pieces, thunk_offset, thunk_piece, thunk_pieces, file_pieces, table_pieces, owned_pieces, group_pieces, sorted_piece, of_first_file, merged_and_identity_pieces, offset_in}
 use Rattle.wild_layout.specs.ThunkPlaces.{ThunkLies}
 use Rattle.wild_layout.specs.Geometry.{IsLaidOut}
 use Rattle.wild_layout.proofs.FaultLemmas.{CanGoOn, thunks_of_groups}
@@ -40,7 +40,7 @@ use Rattle.wild_meaning.specs.World.{IsLegal, IsLoadable}
 use Rattle.wild_geometry.specs.Thunks.{HasThunks}
 use Rattle.wild_loaded.specs.Memory.{IsStored, image_memory, HasPlace, Filled, Framed}
 use Rattle.wild_loaded.specs.Laws.{ThunksAreThere}
-use Rattle.wild_loaded.proofs.Carried.{Contains-flat_map_from}
+use Rattle.wild_loaded.proofs.SectionBytesInMemory.{Contains-flat_map_from}
 use Rattle.wild_loaded.proofs.PartsHeld.{byte_stands, byte_carried}
 use Rattle.wild_loaded.proofs.Loads.{piece_stands}
 use Rattle.wild_loaded.proofs.Homes.{Home, HasHome, HomesApart, homes_back}
@@ -81,14 +81,14 @@ thunk_listed : (l : Layout) (t : Thunk) → KeepsAll l → IsOfFile l t → Cont
 unfolding pieces
 thunk_listed l t keeps k =
     let a = laid_of l k.group k.file k.filed in
-    let f = laid_file l a.0 k.file in
+    let f = placed_file l a.0 k.file in
     let sorted = of_last_file f (flat_map (sorted_piece l) (sorted_inputs l)) in
-    let once = of_first_file f (once_pieces l) in
+    let once = of_first_file f (merged_and_identity_pieces l) in
     let owned = Contains-append_right (section_pieces l f) (sorted ++ (once ++ thunk_pieces l f)) (thunk_at l t) (Contains-append_right sorted (once ++ thunk_pieces l f) (thunk_at l t) (Contains-append_right once (thunk_pieces l f) (thunk_at l t) (of_thunks l t keeps k))) in
-    let in_group = Contains-flat_map (file_pieces l) (laid_files l k.group) f (thunk_at l t) a.1 owned in
+    let in_group = Contains-flat_map (file_pieces l) (placed_files l k.group) f (thunk_at l t) a.1 owned in
     Contains-flat_map_from (group_pieces l) 0 l.groups k.group (thunk_at l t) k.grouped (λ n. Contains-append_right (table_pieces l n k.group) (owned_pieces l k.group) (thunk_at l t) in_group)
 
-thunk_stands : (l : Layout) (t : Thunk) → KeepsAll l → IsLaidOut l → IsOfFile l t → Stands (bytes l) (thunk_offset l t) (thunk_bytes l t)
+thunk_stands : (l : Layout) (t : Thunk) → KeepsAll l → IsLaidOut l → IsOfFile l t → HasBytesAt (bytes l) (thunk_offset l t) (thunk_bytes l t)
 thunk_stands l t keeps laid k = piece_stands l (thunk_at l t) laid (thunk_listed l t keeps k)
 
 -- ---- in memory
@@ -120,24 +120,24 @@ home_there : (l : Layout) (t : Thunk) → ThunkLies l t → HasHome l (thunk_hom
 home_there l t h k lt = h.carried k lt
 
 thunks_stood : (l : Layout) → flat_map (thunk_pieces l) (stood_files l) ≡ flat_map (thunk_pieces l) (files_of l.groups)
-thunks_stood l = flat_map-flat_map (thunk_pieces l) (laid_files l) l.groups ∙ laid_same_all (thunk_pieces l) l (λ at f. refl) ∙ sym (flat_map-flat_map (thunk_pieces l) (λ (g : Group). g.files) l.groups)
+thunks_stood l = flat_map-flat_map (thunk_pieces l) (placed_files l) l.groups ∙ laid_same_all (thunk_pieces l) l (λ at f. refl) ∙ sym (flat_map-flat_map (thunk_pieces l) (λ (g : Group). g.files) l.groups)
 
 -- a thunk shares no byte with a section that owns bytes
 filled_apart : (l : Layout) (t : Thunk) (s : InputSection) → KeepsAll l → IsLaidOut l → IsOfFile l t → Contains (all_sections l) s → is_filled l s ≡ true → HomesApart (thunk_home l t) (section_home l s)
 filled_apart l t s keeps laid k c filled =
     let i = input_of l s c in
     let own : Contains (section_room l s) (room_of l s) = subst (λ (ps : List Piece). Contains ps (room_of l s)) (sym (one l s filled)) (0, omega arith, refl) in
-    let in_file = Contains-flat_map (section_room l) (processed l i.file) s (room_of l s) (in_processed l i.file i.owner s i.listed) own in
-    let file = Contains-flat_map (laid_files l) l.groups i.group i.file i.grouped i.filed in
+    let in_file = Contains-flat_map (section_room l) (processed_sections l i.file) s (room_of l s) (in_processed l i.file i.owner s i.listed) own in
+    let file = Contains-flat_map (placed_files l) l.groups i.group i.file i.grouped i.filed in
     let section = Contains-flat_map (rooms_in l) (stood_files l) i.file (room_of l s) file in_file in
     let thunk = subst (λ (ps : List Piece). Contains ps (thunk_at l t)) (sym (thunks_stood l)) (Contains-flat_map (thunk_pieces l) (files_of l.groups) k.file (thunk_at l t) (Contains-flat_map (λ (g : Group). g.files) l.groups k.group k.file k.grouped k.filed) (of_thunks l t keeps k)) in
-    let all = All-contains (λ a. All (Apart a) (flat_map (thunk_pieces l) (stood_files l))) (flat_map (rooms_in l) (stood_files l)) (room_of l s) (thunk_pieces_apart l laid) section in
-    sides (All-contains (Apart (room_of l s)) (flat_map (thunk_pieces l) (stood_files l)) (thunk_at l t) all thunk) (length-room l s) (length-thunk_bytes l t) (filled_place l s filled)
+    let all = All-contains (λ a. All (Disjoint a) (flat_map (thunk_pieces l) (stood_files l))) (flat_map (rooms_in l) (stood_files l)) (room_of l s) (thunk_pieces_apart l laid) section in
+    sides (All-contains (Disjoint (room_of l s)) (flat_map (thunk_pieces l) (stood_files l)) (thunk_at l t) all thunk) (length-room l s) (length-thunk_bytes l t) (filled_place l s filled)
   where
     one : (l : Layout) (s : InputSection) → is_filled l s ≡ true → section_room l s ≡ room_of l s ∷ []
     one l s filled = rw filled refl
 
-    sides : Apart (room_of l s) (thunk_at l t) → length (room_of l s).bytes ≡ s.size → length (thunk_bytes l t) ≡ thunk_size → file_place l s ≡ offset_in (slice_get l.parts s.part) s.address → HomesApart (thunk_home l t) (section_home l s)
+    sides : Disjoint (room_of l s) (thunk_at l t) → length (room_of l s).bytes ≡ s.size → length (thunk_bytes l t) ≡ thunk_size → file_place l s ≡ offset_in (slice_get l.parts s.part) s.address → HomesApart (thunk_home l t) (section_home l s)
     sides (inl le) fs ft e = inr (omega (arith, le, fs, e))
     sides (inr le) fs ft e = inl (omega (arith, le, ft, e))
 

@@ -1,9 +1,9 @@
 -- The memory that a loader makes of the image of a laid out layout, before any entry is applied.
 --   OwnersAreKnown         each byte of the image has one owner, or is padding
---   HeadersStand           a reader finds the headers, and a loader accepts them
---   HeadersTell            the file header has the output's type and entry
+--   HeadersAreThere           a reader finds the headers, and a loader accepts them
+--   HeadersDescribeOutput            the file header has the output's type and entry
 --   SegmentsAreLoadable    the segments can be loaded in a legal world
---   SectionsAreCarried     a kept section with bytes has them in the file, and each is loaded at its address
+--   SectionsAreInSegments     a kept section with bytes has them in the file, and each is loaded at its address
 --   SectionsAreStored      memory has each kept section as the file has it
 --   ZerosAreStored         memory is zero after the file bytes of segments
 --   BlanksAreStored        memory is zero in sections without data that are in a section with file bytes
@@ -11,8 +11,8 @@
 --   PartsAreStored         memory has the tables of slots and stubs
 --   SlotsAreStored         memory has each word, each stub and the pair of the output's own thread-local data
 --   ThunksAreThere         memory has each thunk, if there are no faults
---   DynamicSectionsStand   the dynamic section is where its segment is
---   DynamicSectionsTell    it has the information that a dynamic linker needs
+--   DynamicSectionsAreThere   the dynamic section is where its segment is
+--   DynamicSectionsInformLinker    it has the information that a dynamic linker needs
 --   TablesAreFound         a loader finds the tables that fill addresses and slots through the dynamic section
 --   SectionTablesAreFound  without a dynamic section it finds them through their sections
 --   EntriesHaveChanges     the changes of entries of slots, fields and copies in a legal world
@@ -27,15 +27,15 @@ use Rattle.wild_types.specs.declared.symbol.Symbol.{Symbol}
 use Rattle.wild_types.specs.declared.layout.Layout.{Layout}
 use Rattle.wild_types.specs.declared.input.InputRelocation.{InputRelocation}
 use Rattle.wild_slot.specs.declared.slot.SlotEntry.{SlotEntry}
-use Rattle.wild_types.specs.Hollow.{KeepsAll}
+use Rattle.wild_types.specs.HeaderOnly.{KeepsAll}
 use Rattle.wild_types.specs.Kinds.{needs_dynamic}
-use Rattle.wild_types.specs.Lookups.{is_hollow_at}
+use Rattle.wild_types.specs.Lookups.{is_header_only_at}
 use Rattle.wild_types.specs.ResolvedFlags.{HaveTheirFlags}
 use Rattle.wild_types.specs.Parts.{is_loaded_role, part_with}
 use Rattle.wild_needs.specs.SlotShares.{word_size, storage_words}
 use Rattle.wild_slot.specs.SymbolWords.{slots_of}
 use Rattle.wild_types.specs.SymbolSlots.{got_of, plt_of}
-use Rattle.wild_headers.specs.Headers.{file_header, section_headers_of}
+use Rattle.wild_table_formats.specs.Headers.{file_header, section_headers_of}
 use Rattle.wild_layout.specs.Image.{bytes}
 use Rattle.wild_layout.specs.Numbers.{NumbersFit}
 use Rattle.wild_layout.specs.Faults.{flat_map_from, group_errors}
@@ -44,9 +44,9 @@ use Rattle.wild_layout.specs.Geometry.{IsLaidOut}
 use Rattle.wild_geometry.specs.Loaded.{IsDecided, HasItem, InFile}
 use Rattle.wild_geometry.specs.Thunks.{HasThunks}
 use Rattle.wild_reloc.specs.declared.info.RelocationSize.{RelocationSize}
-use Rattle.wild_layout.specs.declared.decision.Decision.TheVariants.{Left}
+use Rattle.wild_layout.specs.declared.decision.Decision.TheVariants.{DynamicField}
 use Rattle.wild_layout.specs.Decide.{decided}
-use Rattle.wild_layout.specs.Left.{copy_entry}
+use Rattle.wild_layout.specs.DynamicRelocations.{copy_entry}
 use Rattle.wild_slots.specs.Entries.{entry_in}
 use Rattle.wild_loader.specs.declared.world.Answer.{Answer}
 use Rattle.wild_loader.specs.declared.world.World.{World}
@@ -54,16 +54,16 @@ use Rattle.wild_loader.specs.Headers.{is_loadable_header}
 use Rattle.wild_loader.specs.Memory.{byte_in}
 use Rattle.wild_loader.specs.SegmentLaws.{HasHeaders, AreLoadable}
 use Rattle.wild_loader.specs.Laws.{HasDynamic}
-use Rattle.wild_tables.specs.Dynamic.{dynamic_records}
+use Rattle.wild_table_formats.specs.DynamicSection.{dynamic_records}
 use Rattle.wild_meaning.specs.Section.{HasFileBytes}
-use Rattle.wild_meaning.specs.World.{IsLoadable, IsLegal, IsBehind, IsCopied, HasCopy}
-use Rattle.wild_geometry.specs.Laid.{IsKeptLaid}
-use Rattle.wild_meaning.specs.DynamicSection.{TellsLinker}
-use Rattle.wild_meaning.specs.Linked.{HasHeader, IsBlank, processor_of}
+use Rattle.wild_meaning.specs.World.{IsLoadable, IsLegal, IsPastFileBytes, IsCopied, HasCopy}
+use Rattle.wild_geometry.specs.PlacedSections.{IsKeptPlacedSection}
+use Rattle.wild_meaning.specs.DynamicSection.{InformsLinker}
+use Rattle.wild_meaning.specs.LinkedImage.{HasHeader, IsSectionWithoutData, processor_of}
 use Rattle.wild_loaded.specs.Owners.{HasOneOwnerEach}
 use Rattle.wild_loaded.specs.Memory.{IsStored, headers_of, image_memory}
 use Rattle.wild_loaded.specs.WholeSlots.{HasWholeSlots}
-use Rattle.wild_loaded.specs.Stored.{IsPartStored, IsWordStored, IsStubStored, FillsSlot, FillsField, Copies}
+use Rattle.wild_loaded.specs.StoredTables.{IsPartStored, IsWordStored, IsStubStored, FillsSlot, FillsField, Copies}
 use Rattle.wild_loaded.specs.Tables.{HasTablesIn, HasSectionsIn}
 
 -- no byte of the image belongs to two pieces, each piece is in the image, and every other byte is padding
@@ -71,13 +71,13 @@ abbrev pub OwnersAreKnown : Type 0
 OwnersAreKnown = (l : Layout) → IsLaidOut l → HasOneOwnerEach l
 
 -- the headers are in the image at their offsets, each number is in its field's range, and the loader accepts the file header
-pub record HeadersStand : Type 0 where
+pub record HeadersAreThere : Type 0 where
   pub stand : (l : Layout) → IsLoadable l.kind → NumbersFit l → IsLaidOut l → HasHeaders (bytes l) (file_header l) (headers_of l) (section_headers_of l l.sections)
   pub taken : (l : Layout) → IsLoadable l.kind → is_loadable_header (file_header l) ≡ true
 
 -- the file header has what the layout requires
-abbrev pub HeadersTell : Type 0
-HeadersTell = (l : Layout) → IsLoadable l.kind → NumbersFit l → IsLaidOut l → HasHeader l (bytes l)
+abbrev pub HeadersDescribeOutput : Type 0
+HeadersDescribeOutput = (l : Layout) → IsLoadable l.kind → NumbersFit l → IsLaidOut l → HasHeader l (bytes l)
 
 -- in a legal world the segments are in ascending order and do not wrap, and their memory is for the layout's machine
 pub record SegmentsAreLoadable : Type 0 where
@@ -85,21 +85,21 @@ pub record SegmentsAreLoadable : Type 0 where
   pub machine : (l : Layout) (w : World) → (image_memory l w).machine ≡ processor_of l.machine
 
 -- a kept section with bytes, as placed, has them in the file, and loaded segments have each at its address
-abbrev pub SectionsAreCarried : Type 0
-SectionsAreCarried = (l : Layout) (s : InputSection) → IsLoadable l.kind → IsLaidOut l → IsKeptLaid l s → 1 ≤ length s.bytes → IsStored l s
+abbrev pub SectionsAreInSegments : Type 0
+SectionsAreInSegments = (l : Layout) (s : InputSection) → IsLoadable l.kind → IsLaidOut l → IsKeptPlacedSection l s → 1 ≤ length s.bytes → IsStored l s
 
 -- memory has a kept section as the file has it; for an address that moves with the base, memory has the file's content of its
 -- place
 abbrev pub SectionsAreStored : Type 0
-SectionsAreStored = (l : Layout) (w : World) (s : InputSection) → IsLoadable l.kind → IsLegal l w → IsLaidOut l → (k : IsKeptLaid l s) → IsDecided l (item_of l k.input.owner s) → HasItem l w (image_memory l w) (item_of l k.input.owner s) InFile
+SectionsAreStored = (l : Layout) (w : World) (s : InputSection) → IsLoadable l.kind → IsLegal l w → IsLaidOut l → (k : IsKeptPlacedSection l s) → IsDecided l (item_of l k.input.owner s) → HasItem l w (image_memory l w) (item_of l k.input.owner s) InFile
 
 -- the memory after the file bytes of a loaded segment is zero
 abbrev pub ZerosAreStored : Type 0
-ZerosAreStored = (l : Layout) (w : World) (a : ℕ) → IsLoadable l.kind → IsLegal l w → IsLaidOut l → IsBehind l a → byte_in (image_memory l w) (w.base + a) ≡ Some 0
+ZerosAreStored = (l : Layout) (w : World) (a : ℕ) → IsLoadable l.kind → IsLegal l w → IsLaidOut l → IsPastFileBytes l a → byte_in (image_memory l w) (w.base + a) ≡ Some 0
 
 -- the memory of an input section without data is zero, if its output section has bytes in the file
 abbrev pub BlanksAreStored : Type 0
-BlanksAreStored = (l : Layout) (w : World) (s : InputSection) (k : ℕ) → IsLoadable l.kind → IsLegal l w → IsLaidOut l → IsBlank l s → HasFileBytes l s.part → k < s.size → byte_in (image_memory l w) (w.base + (s.address + k)) ≡ Some 0
+BlanksAreStored = (l : Layout) (w : World) (s : InputSection) (k : ℕ) → IsLoadable l.kind → IsLegal l w → IsLaidOut l → IsSectionWithoutData l s → HasFileBytes l s.part → k < s.size → byte_in (image_memory l w) (w.base + (s.address + k)) ≡ Some 0
 
 -- slots are complete if no group has a fault and all tables are written
 abbrev pub SlotsAreThere : Type 0
@@ -107,7 +107,7 @@ SlotsAreThere = (l : Layout) → KeepsAll l → HaveTheirFlags l → IsLaidOut l
 
 -- memory has the table of each role that a program reads, unless only the header of its section is written
 abbrev pub PartsAreStored : Type 0
-PartsAreStored = (l : Layout) (w : World) (r : Role) (p : Part) → is_loaded_role r ≡ true → IsLoadable l.kind → IsLegal l w → IsLaidOut l → part_with r l.parts ≡ Some p → is_hollow_at l p.section ≡ false → IsPartStored l w r p
+PartsAreStored = (l : Layout) (w : World) (r : Role) (p : Part) → is_loaded_role r ≡ true → IsLoadable l.kind → IsLegal l w → IsLaidOut l → part_with r l.parts ≡ Some p → is_header_only_at l p.section ≡ false → IsPartStored l w r p
 
 -- if all tables are written, memory has each word of the symbols' slots, 8 bytes after the word before it, their stubs, and the
 -- pair
@@ -127,12 +127,12 @@ pub record HasEntries (l : Layout) : Type 0 where
   pub dynamic : HasDynamic (bytes l) (headers_of l) (all_needed l ++ dynamic_records l room)
 
 -- this is so if the output needs one and all tables are written
-abbrev pub DynamicSectionsStand : Type 0
-DynamicSectionsStand = (l : Layout) → KeepsAll l → needs_dynamic l.kind ≡ true → NumbersFit l → IsLaidOut l → HasEntries l
+abbrev pub DynamicSectionsAreThere : Type 0
+DynamicSectionsAreThere = (l : Layout) → KeepsAll l → needs_dynamic l.kind ≡ true → NumbersFit l → IsLaidOut l → HasEntries l
 
 -- in every legal world its entries have the information that a dynamic linker needs
-abbrev pub DynamicSectionsTell : Type 0
-DynamicSectionsTell = (l : Layout) (w : World) → KeepsAll l → IsLoadable l.kind → needs_dynamic l.kind ≡ true → NumbersFit l → IsLegal l w → IsLaidOut l → HasWholeSlots l → TellsLinker (processor_of l.machine) (bytes l)
+abbrev pub DynamicSectionsInformLinker : Type 0
+DynamicSectionsInformLinker = (l : Layout) (w : World) → KeepsAll l → IsLoadable l.kind → needs_dynamic l.kind ≡ true → NumbersFit l → IsLegal l w → IsLaidOut l → HasWholeSlots l → InformsLinker (processor_of l.machine) (bytes l)
 
 -- the image of an output that needs a dynamic section has one, and through it a loader finds the tables that the groups write
 abbrev pub TablesAreFound : Type 0
@@ -151,7 +151,7 @@ pub record EntriesHaveChanges : Type 0 where
       → slice_get l.symbols i ≡ Some s → slice_get (slots_of l s).words k ≡ Some d → entry_in d ≡ Some e → FillsSlot (processor_of l.machine) w e
   pub pair : (l : Layout) (w : World) (d : SlotWord) (e : SlotEntry) → IsLegal l w → Contains (storage_words l) d → entry_in d ≡ Some e → FillsSlot (processor_of l.machine) w e
   pub left : (l : Layout) (w : World) (s : Item) (r : InputRelocation) (z : RelocationSize) (number symbol addend : ℕ) → NumbersFit l → IsLegal l w → IsLaidOut l
-      → decided l s r ≡ Ok (Left z number symbol addend) → FillsField (processor_of l.machine) w z number symbol addend
+      → decided l s r ≡ Ok (DynamicField z number symbol addend) → FillsField (processor_of l.machine) w z number symbol addend
   pub copies : (l : Layout) (w : World) (i raw : ℕ) (x : Answer) → NumbersFit l → IsLegal l w → IsLaidOut l → HasCopy l w i raw x → Copies (processor_of l.machine) w (copy_entry l i) raw x.bytes
 
 -- if no group has a fault, each copied symbol has an address and an answer

@@ -2,9 +2,9 @@ pub mod Owners
 pub mod Memory
 pub mod WholeSlots
 pub mod Tables
-pub mod Stored
+pub mod StoredTables
 pub mod Laws
 pub mod Words
 pub mod FilledLaws
-pub mod Moved
-pub mod MovedLaws
+pub mod LoadedMemory
+pub mod LoadedMemoryLaws

@@ -4,16 +4,16 @@
 --   IsStored l s       the section, as placed, has its bytes in the file, and loaded segments have each at its address
 --   EachDecided l      each section that is read and written has decisions
 --   HasMemory l w      the loader accepts the image, and memory has each kept item as decided, the slots and the thunks
---   HasBareMemory l w  the loader accepts the image without tables, and memory has each kept item as the file has it
+--   HasMemoryWithoutTables l w  the loader accepts the image without tables, and memory has each kept item as the file has it
 use Rattle.std.specs.Prelude.{◌≡◌, ℕ, ◌+◌, ◌<◌, ◌≤◌, true, false, List, length, map, Some, Ok}
 use Rattle.wild_records.specs.declared.program_header.ProgramHeader.{ProgramHeader}
 use Rattle.wild_types.specs.declared.input.InputSection.{InputSection}
 use Rattle.wild_types.specs.Item.{Item, item_of}
 use Rattle.wild_types.specs.declared.layout.Layout.{Layout}
 use Rattle.wild_types.specs.declared.section.Segment.{Segment}
-use Rattle.wild_types.specs.Hollow.{is_dropped}
+use Rattle.wild_types.specs.HeaderOnly.{is_omitted}
 use Rattle.wild_types.specs.Lookups.{is_read, is_frame, is_filled}
-use Rattle.wild_headers.specs.Headers.{file_header, program_header}
+use Rattle.wild_table_formats.specs.Headers.{file_header, program_header}
 use Rattle.wild_layout.specs.Image.{bytes}
 use Rattle.wild_layout.specs.Loadable.{CarriesByte}
 use Rattle.wild_geometry.specs.Slots.{HasSlots}
@@ -28,9 +28,9 @@ use Rattle.wild_loader.specs.Memory.{byte_in, Holds}
 use Rattle.wild_loader.specs.SegmentLaws.{loaded_memory}
 use Rattle.wild_meaning.specs.Item.{IsKept}
 use Rattle.wild_meaning.specs.Section.{HasFileBytes}
-use Rattle.wild_meaning.specs.World.{IsBehind, HasCopy}
-use Rattle.wild_meaning.specs.Linked.{IsBlank, IsNotCopied, processor_of}
-use Rattle.wild_geometry.specs.Laid.{IsLaid, file_place}
+use Rattle.wild_meaning.specs.World.{IsPastFileBytes, HasCopy}
+use Rattle.wild_meaning.specs.LinkedImage.{IsSectionWithoutData, IsNotCopied, processor_of}
+use Rattle.wild_geometry.specs.PlacedSections.{IsPlacedSection, file_place}
 
 -- the section has bytes in the file, or in the part of frames
 pub data HasPlace (l : Layout) (s : InputSection) : Type 0 where
@@ -53,7 +53,7 @@ image_memory l w = loaded_memory (machine_of (file_header l)) w.base (bytes l) (
 
 -- each section that is written and whose relocations are read has decisions whose fields do not overlap
 abbrev pub EachDecided : Layout → Type 0
-EachDecided l = (s : InputSection) (k : IsLaid l s) → is_read s ≡ true → is_dropped l s ≡ false → IsDecided l (item_of l k.owner s)
+EachDecided l = (s : InputSection) (k : IsPlacedSection l s) → is_read s ≡ true → is_omitted l s ≡ false → IsDecided l (item_of l k.owner s)
 
 -- The loader accepts the image. Memory has each kept item as decided, with the base added to addresses that move; the slots,
 -- stubs and thunks; and copies of symbols. Otherwise it is zero after the file bytes of segments, and in sections without data.
@@ -64,16 +64,16 @@ pub record HasMemory (l : Layout) (w : World) : Type 0 where
   pub items : (item : Item) → IsKept l item → HasItem l w memory item InMemory
   pub slots : HasSlots l w memory
   pub thunks : HasThunks l w memory
-  pub zeros : (a : ℕ) → IsBehind l a → IsNotCopied l w a → byte_in memory (w.base + a) ≡ Some 0
-  pub blanks : (s : InputSection) (k : ℕ) → IsBlank l s → HasFileBytes l s.part → k < s.size → byte_in memory (w.base + (s.address + k)) ≡ Some 0
+  pub zeros : (a : ℕ) → IsPastFileBytes l a → IsNotCopied l w a → byte_in memory (w.base + a) ≡ Some 0
+  pub blanks : (s : InputSection) (k : ℕ) → IsSectionWithoutData l s → HasFileBytes l s.part → k < s.size → byte_in memory (w.base + (s.address + k)) ≡ Some 0
   pub copies : (i raw : ℕ) (x : Answer) → HasCopy l w i raw x → Holds memory (w.base + raw) x.bytes
 
 -- The loader accepts the image, which has no table for it to apply. Memory has each kept item as the file has it. It is zero
 -- after the file bytes of segments, and in sections without data.
-pub record HasBareMemory (l : Layout) (w : World) : Type 0 where
+pub record HasMemoryWithoutTables (l : Layout) (w : World) : Type 0 where
   pub memory : Memory
   pub accepted : load w (bytes l) ≡ Ok memory
   pub machine : memory.machine ≡ processor_of l.machine
   pub items : (item : Item) → IsKept l item → HasItem l w memory item InFile
-  pub zeros : (a : ℕ) → IsBehind l a → byte_in memory (w.base + a) ≡ Some 0
-  pub blanks : (s : InputSection) (k : ℕ) → IsBlank l s → HasFileBytes l s.part → k < s.size → byte_in memory (w.base + (s.address + k)) ≡ Some 0
+  pub zeros : (a : ℕ) → IsPastFileBytes l a → byte_in memory (w.base + a) ≡ Some 0
+  pub blanks : (s : InputSection) (k : ℕ) → IsSectionWithoutData l s → HasFileBytes l s.part → k < s.size → byte_in memory (w.base + (s.address + k)) ≡ Some 0

@@ -1,11 +1,11 @@
 //! The memory that a loader makes of the image of a laid out layout, before and after its entries are applied.
 #![tactic(auto)]
 
-ghost use Rattle.wild_loaded.specs.Laws.{BlanksAreStored, CopiesAreThere, DynamicSectionsStand, DynamicSectionsTell, EntriesHaveChanges, HeadersStand, HeadersTell, OwnersAreKnown, PartsAreStored, SectionTablesAreFound, SectionsAreCarried, SectionsAreStored, SegmentsAreLoadable, SlotsAreStored, SlotsAreThere, TablesAreFound, ThunksAreThere, ZerosAreStored};
+ghost use Rattle.wild_loaded.specs.Laws.{BlanksAreStored, CopiesAreThere, DynamicSectionsAreThere, DynamicSectionsInformLinker, EntriesHaveChanges, HeadersAreThere, HeadersDescribeOutput, OwnersAreKnown, PartsAreStored, SectionTablesAreFound, SectionsAreInSegments, SectionsAreStored, SegmentsAreLoadable, SlotsAreStored, SlotsAreThere, TablesAreFound, ThunksAreThere, ZerosAreStored};
 ghost use Rattle.wild_loaded.specs.FilledLaws.{TablesAreMade};
-ghost use Rattle.wild_loaded.specs.MovedLaws.{BareImagesAreLoaded, ImagesAreLoaded, MemoryIsMoved};
+ghost use Rattle.wild_loaded.specs.LoadedMemoryLaws.{DebugImagesAreLoaded, ImagesAreLoaded, MemoryHasChanges};
 
-use wild_geometry::tables_stand;
+use wild_geometry::tables_are_placed;
 use wild_loader::{
     bytes_are_loaded, dynamic_images_are_loaded, entries_make_changes, entries_store_words,
     numbers_are_read, static_images_are_loaded, tables_are_applied,
@@ -13,12 +13,12 @@ use wild_loader::{
 use wild_records::{
     dynamic_entry_is_read, file_header_is_read, program_header_is_read, rela_is_read, relr_is_read,
 };
-use wild_relr::{flat_is_a_run, words_fit};
+use wild_relr::{relr_slot_is_a_run, words_fit};
 use wild_slots::{
-    blocks_are_whole, each_word_stands, entries_are_known, fixed_outputs_move_nothing, pair_stands,
-    places_ascend, slots_stand, stubs_are_there,
+    blocks_are_whole, each_word_is_placed, entries_are_known, fixed_outputs_move_nothing,
+    pair_is_placed, places_ascend, slots_are_placed, stubs_are_there,
 };
-use wild_tables::{dynamic_sections_are_read, entries_are_read, places_are_loaded};
+use wild_table_formats::{dynamic_sections_are_read, entries_are_read, places_are_loaded};
 
 /// Each piece is in the image, no byte belongs to two pieces, and a byte outside all pieces is padding.
 pub fn owners_are_known()
@@ -27,9 +27,9 @@ pub fn owners_are_known()
 
 /// A reader finds each header at its offset in the file header, and a loader accepts them. They have the output's type and entry,
 /// and describe the layout's segments.
-pub fn headers_stand()
-    ensures stand { HeadersStand }
-    ensures tell { HeadersTell }
+pub fn headers_are_present()
+    ensures stand { HeadersAreThere }
+    ensures tell { HeadersDescribeOutput }
 {
     file_header_is_read();
     program_header_is_read();
@@ -41,8 +41,8 @@ pub fn segments_are_loadable()
 {}
 
 /// A kept section with bytes, as placed, has them in the file, and loaded segments have each at its address.
-pub fn sections_are_carried()
-    ensures { SectionsAreCarried }
+pub fn sections_are_in_segments()
+    ensures { SectionsAreInSegments }
 {}
 
 /// The memory of the loaded segments has each kept section as the file has it. It is zero after the file bytes and in sections
@@ -66,7 +66,7 @@ pub fn parts_are_stored()
     ensures { PartsAreStored }
 {
     bytes_are_loaded();
-    tables_stand();
+    tables_are_placed();
 }
 
 /// It has each word of a slot as the file has it, and each stub.
@@ -74,10 +74,10 @@ pub fn slots_are_stored()
     ensures { SlotsAreStored }
 {
     parts_are_stored();
-    slots_stand();
-    each_word_stands();
+    slots_are_placed();
+    each_word_is_placed();
     stubs_are_there();
-    pair_stands();
+    pair_is_placed();
 }
 
 /// In a layout without faults it has each thunk.
@@ -88,10 +88,10 @@ pub fn thunks_are_there()
 }
 
 /// The image of an output with a dynamic section has it: the entries of libraries, those of the last file, and zeros after them.
-pub fn dynamic_sections_stand()
-    ensures { DynamicSectionsStand }
+pub fn dynamic_sections_are_there()
+    ensures { DynamicSectionsAreThere }
 {
-    tables_stand();
+    tables_are_placed();
     dynamic_sections_are_read();
 }
 
@@ -100,17 +100,17 @@ pub fn tables_are_found()
     ensures found { TablesAreFound }
     ensures sections { SectionTablesAreFound }
 {
-    tables_stand();
+    tables_are_placed();
     dynamic_sections_are_read();
     entries_are_read();
     words_fit();
-    pair_stands();
+    pair_is_placed();
     fixed_outputs_move_nothing();
 }
 
 /// The dynamic section requires a dynamic linker to bind each symbol at load time, and describes the entries of the tables.
-pub fn dynamic_sections_tell()
-    ensures { DynamicSectionsTell }
+pub fn dynamic_sections_inform_linker()
+    ensures { DynamicSectionsInformLinker }
 {
     file_header_is_read();
     program_header_is_read();
@@ -118,7 +118,7 @@ pub fn dynamic_sections_tell()
     rela_is_read();
     relr_is_read();
     dynamic_sections_are_read();
-    dynamic_sections_stand();
+    dynamic_sections_are_there();
     tables_are_found();
 }
 
@@ -139,7 +139,7 @@ pub fn copies_are_there()
 pub fn tables_are_made()
     ensures { TablesAreMade }
 {
-    sections_are_carried();
+    sections_are_in_segments();
     sections_are_stored();
     segments_are_loadable();
     slots_are_stored();
@@ -149,7 +149,7 @@ pub fn tables_are_made()
     entries_make_changes();
     tables_are_applied();
     entries_store_words();
-    flat_is_a_run();
+    relr_slot_is_a_run();
     places_are_loaded();
     places_ascend();
     blocks_are_whole();
@@ -158,10 +158,10 @@ pub fn tables_are_made()
 /// After the tables were applied, the base is added to each address, whether its place is packed or has an entry. Each field that
 /// is left to an entry and each slot has the value that the entry gives it. Each copy has the bytes of its answer, and every
 /// other byte is as before.
-pub fn memory_is_moved()
-    ensures { MemoryIsMoved }
+pub fn memory_has_changes()
+    ensures { MemoryHasChanges }
 {
-    sections_are_carried();
+    sections_are_in_segments();
     sections_are_stored();
     segments_are_loadable();
     slots_are_stored();
@@ -172,11 +172,11 @@ pub fn memory_is_moved()
     entries_make_changes();
     tables_are_applied();
     entries_store_words();
-    flat_is_a_run();
+    relr_slot_is_a_run();
     places_are_loaded();
     places_ascend();
     blocks_are_whole();
-    slots_stand();
+    slots_are_placed();
 }
 
 /// The loader accepts the image of an output in every legal world, and memory has each kept section as decided, the slots, and
@@ -184,22 +184,22 @@ pub fn memory_is_moved()
 pub fn images_are_loaded()
     ensures { ImagesAreLoaded }
 {
-    headers_stand();
+    headers_are_present();
     segments_are_loadable();
     tables_are_found();
     tables_are_made();
     tables_are_applied();
-    memory_is_moved();
+    memory_has_changes();
     dynamic_images_are_loaded();
     static_images_are_loaded();
 }
 
 /// The loader accepts an image only for debuggers in every legal world, without tables to apply, and memory has each kept section
 /// as the file has it.
-pub fn bare_images_are_loaded()
-    ensures { BareImagesAreLoaded }
+pub fn debug_images_are_loaded()
+    ensures { DebugImagesAreLoaded }
 {
-    headers_stand();
+    headers_are_present();
     sections_are_stored();
     segments_are_loadable();
     dynamic_images_are_loaded();

@@ -7,7 +7,7 @@ use Rattle.wild_loader.specs.declared.fault.LoadFault.{LoadFault}
 use Rattle.wild_loader.specs.declared.fault.LoadFault.TheVariants as faults
 use Rattle.wild_loader.specs.declared.memory.Memory.{Memory}
 use Rattle.wild_loader.specs.Memory.{byte_in}
-use Rattle.wild_loader.specs.Given.{◌>>=◌}
+use Rattle.wild_loader.specs.Outcome.{◌>>=◌}
 use Rattle.wild_loader.specs.Runs.{read_bytes}
 
 -- bytes behind those that were read

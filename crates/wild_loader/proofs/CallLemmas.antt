@@ -16,9 +16,9 @@ use Rattle.wild_loader.specs.declared.instruction.Deed.TheVariants.{Call, Jump}
 use Rattle.wild_loader.specs.Instruction.{Template, stands, signed_32}
 use Rattle.wild_loader.specs.CodeX86_64.{branch, bare, rex, rex2, with_prefix}
 use Rattle.wild_loader.specs.InstructionX86_64.{whole_sequences, short}
-use Rattle.wild_loader.specs.Effect.{window, first_standing, narrowed, value_in, effect_of, step, step_of, step_x86_64}
+use Rattle.wild_loader.specs.Effect.{window, first_match, narrowed_value, operand_value, effect_of, step, step_of, step_x86_64}
 use Rattle.wild_loader.specs.StepLawsX86_64.{CallsAreNear}
-use Rattle.wild_loader.proofs.Held.{held-first, held-rest, number-front}
+use Rattle.wild_loader.proofs.HeldBytes.{held-first, held-rest, number-front}
 use Rattle.wild_loader.proofs.StandLemmas.{standing-append, standing_passes}
 use Rattle.wild_loader.proofs.Windows.{held-window}
 
@@ -38,14 +38,14 @@ before = whole_sequences ++ (with_prefix rex2 ++ (with_prefix rex ++ (with_prefi
 -- ---- effects
 
 -- the length and the deed of an effect are the code's
-sized : (m : Memory) (size : ℕ) (act : Action) (o : Option Value) (e : Effect) → option_map (λ (v : Value). record { length = size; width = act.width; deed = act.deed; value = narrowed act.width v }) o ≡ Some e → (e.length ≡ size) × (e.deed ≡ act.deed)
+sized : (m : Memory) (size : ℕ) (act : Action) (o : Option Value) (e : Effect) → option_map (λ (v : Value). record { length = size; width = act.width; deed = act.deed; value = narrowed_value act.width v }) o ≡ Some e → (e.length ≡ size) × (e.deed ≡ act.deed)
 sized m size act None e h = cc
 sized m size act (Some v) e h =
-    let same : record { length = size; width = act.width; deed = act.deed; value = narrowed act.width v } ≡ e = cc in
+    let same : record { length = size; width = act.width; deed = act.deed; value = narrowed_value act.width v } ≡ e = cc in
     (ap (λ (x : Effect). x.length) (sym same), ap (λ (x : Effect). x.deed) (sym same))
 
 pub of_size : (m : Memory) (a : ℕ) (bs : List ℕ) (t : Template) (e : Effect) → effect_of m a bs t ≡ Some e → (e.length ≡ length t.cells) × (e.deed ≡ (t.action a (take (length t.cells) bs)).deed)
-of_size m a bs t e h = sized m (length t.cells) (t.action a (take (length t.cells) bs)) (value_in m (t.action a (take (length t.cells) bs)).operand) e h
+of_size m a bs t e h = sized m (length t.cells) (t.action a (take (length t.cells) bs)) (operand_value m (t.action a (take (length t.cells) bs)).operand) e h
 
 -- ---- the template
 
@@ -63,27 +63,27 @@ abbrev Found : Memory → ℕ → ℕ → List ℕ → Option Template → Type 
 Found m a t bs found = option_and_then (effect_of m a bs) found ≡ Some (call_to t)
 
 -- behind the call
-after : (m : Memory) (a t : ℕ) (bs : List ℕ) → Found m a t bs (first_standing (jump_near ∷ short) bs) → ⊥
-unfolding first_standing
+after : (m : Memory) (a t : ℕ) (bs : List ℕ) → Found m a t bs (first_match (jump_near ∷ short) bs) → ⊥
+unfolding first_match
 after m a t bs h =
     elim (cases_Bool (stands jump_near.cells bs)) [
       | inl y ↦ not_jump m a t bs (rw y at h)
-      | inr n ↦ last (first_standing short bs) (rw n at h) (λ x e. standing_passes (λ (t : Template). not (length t.cells == 5)) short bs x refl e)
+      | inr n ↦ last (first_match short bs) (rw n at h) (λ x e. standing_passes (λ (t : Template). not (length t.cells == 5)) short bs x refl e)
     ]
   where
     last : (found : Option Template) → Found m a t bs found → ((x : Template) → found ≡ Some x → not (length x.cells == 5) ≡ true) → ⊥
     last None h other = cc
     last (Some x) h other = not_other m a t bs x (other x refl) h
 
-stands_call : (m : Memory) (a t : ℕ) (bs : List ℕ) → Found m a t bs (first_standing (call_near ∷ (jump_near ∷ short)) bs) → (stands call_near.cells bs ≡ true) × (effect_of m a bs call_near ≡ Some (call_to t))
-unfolding first_standing
+stands_call : (m : Memory) (a t : ℕ) (bs : List ℕ) → Found m a t bs (first_match (call_near ∷ (jump_near ∷ short)) bs) → (stands call_near.cells bs ≡ true) × (effect_of m a bs call_near ≡ Some (call_to t))
+unfolding first_match
 stands_call m a t bs h =
     elim (cases_Bool (stands call_near.cells bs)) [
       | inl y ↦ (y, rw y at h)
       | inr n ↦ absurd (after m a t bs (rw n at h))
     ]
 
-by_call : (m : Memory) (a t : ℕ) (bs : List ℕ) (found : Option Template) → found ≡ first_standing before bs → Found m a t bs (option_or found (first_standing (call_near ∷ (jump_near ∷ short)) bs)) → (stands call_near.cells bs ≡ true) × (effect_of m a bs call_near ≡ Some (call_to t))
+by_call : (m : Memory) (a t : ℕ) (bs : List ℕ) (found : Option Template) → found ≡ first_match before bs → Found m a t bs (option_or found (first_match (call_near ∷ (jump_near ∷ short)) bs)) → (stands call_near.cells bs ≡ true) × (effect_of m a bs call_near ≡ Some (call_to t))
 by_call m a t bs None e h = stands_call m a t bs h
 by_call m a t bs (Some x) e h = absurd (not_other m a t bs x (standing_passes (λ (t : Template). not (length t.cells == 5)) before bs x refl (sym e)) h)
 
@@ -111,7 +111,7 @@ unfolding step_x86_64
 call-near = λ m a t machine h.
     let bs = window m a 22 in
     let run : step m a ≡ step_x86_64 m a = ap (λ (k : Machine). step_of k m a) machine in
-    let found : Found m a t bs (first_standing (before ++ (call_near ∷ (jump_near ∷ short))) bs) = sym run ∙ h in
-    let turn : Found m a t bs (option_or (first_standing before bs) (first_standing (call_near ∷ (jump_near ∷ short)) bs)) = subst (λ (o : Option Template). Found m a t bs o) (standing-append before (call_near ∷ (jump_near ∷ short)) bs) found in
-    let call = by_call m a t bs (first_standing before bs) refl turn in
+    let found : Found m a t bs (first_match (before ++ (call_near ∷ (jump_near ∷ short))) bs) = sym run ∙ h in
+    let turn : Found m a t bs (option_or (first_match before bs) (first_match (call_near ∷ (jump_near ∷ short)) bs)) = subst (λ (o : Option Template). Found m a t bs o) (standing-append before (call_near ∷ (jump_near ∷ short)) bs) found in
+    let call = by_call m a t bs (first_match before bs) refl turn in
     near m a t bs (held-window m a 22) call.0 call.1

@@ -15,19 +15,19 @@ use Rattle.wild_loader.specs.declared.fault.LoadFault.{LoadFault}
 use Rattle.wild_loader.specs.declared.fault.LoadFault.TheVariants as faults
 use Rattle.wild_loader.specs.declared.change.Change.{Change}
 use Rattle.wild_loader.specs.declared.change.Change.TheVariants as changes
-use Rattle.wild_loader.specs.Given.{◌>>=◌, known}
+use Rattle.wild_loader.specs.Outcome.{◌>>=◌, known}
 use Rattle.wild_loader.specs.Memory.{byte_in, Holds}
 use Rattle.wild_loader.specs.Runs.{least_shared, read_bytes}
 use Rattle.wild_loader.specs.Places.{places}
 use Rattle.wild_loader.specs.Changes.{patch_at, patch_over, bytes_after, size_of, kind_of, change_of}
-use Rattle.wild_loader.specs.Relocate.{rela_patch, place_patch, add_all, runs_of_patches, apart, relocate, patched, loaded_at}
-use Rattle.wild_loader.specs.SegmentLaws.{IsApart, IsLoaded}
-use Rattle.wild_loader.specs.EntryLaws.{ChangesAreMade, PlacesAreMoved, EntriesMakeChanges, HasMade, patches_of, TablesAreApplied, OrderIsFree}
+use Rattle.wild_loader.specs.Relocate.{rela_patch, place_patch, add_all, runs_of_patches, apart, relocate, memory_with_patches, loaded_at}
+use Rattle.wild_loader.specs.SegmentLaws.{DoesNotOverlap, IsLoaded}
+use Rattle.wild_loader.specs.EntryLaws.{ChangesAreMade, PlacesAddBase, EntriesMakeChanges, HasMade, patches_of, TablesAreApplied, OrderDoesNotMatter}
 use Rattle.wild_loader.proofs.SegmentLemmas.{shared_with-none}
-use Rattle.wild_loader.proofs.Overlaid.{apart-rest, parts-held, others-kept}
+use Rattle.wild_loader.proofs.OverlaidBytes.{apart-rest, parts-held, others-kept}
 use Rattle.wild_words.specs.Extents.{least_extent}
 use Rattle.wild_loader.proofs.RunLemmas.{runs-order, runs-apart}
-use Rattle.wild_loader.proofs.Held.{held-first, held-rest}
+use Rattle.wild_loader.proofs.HeldBytes.{held-first, held-rest}
 
 -- ---- one entry
 
@@ -43,7 +43,7 @@ change-made m place c old h n =
     let same = rw n at read in
     rw same refl
 
-pub place-moved : PlacesAreMoved
+pub place-moved : PlacesAddBase
 unfolding place_patch
 place-moved w m place old h n = change-made m (loaded_at w place) _ old h n
 
@@ -63,12 +63,12 @@ all-made make f (x ∷ xs) acc made =
 
 -- ---- apart
 
-pub none-shared : (runs : List Run) → AllPairs IsApart runs → least_shared runs ≡ None
+pub none-shared : (runs : List Run) → AllPairs DoesNotOverlap runs → least_shared runs ≡ None
 unfolding least_extent
 none-shared [] h = refl
 none-shared (r ∷ rs) h = rw (shared_with-none r rs (λ k d l. h 0 (suc k) d (omega arith) (omega arith)), none-shared rs (apart-rest r rs h)) refl
 
-pairs-front : (xs ys : List Run) → AllPairs IsApart (xs ++ ys) → AllPairs IsApart xs
+pairs-front : (xs ys : List Run) → AllPairs DoesNotOverlap (xs ++ ys) → AllPairs DoesNotOverlap xs
 pairs-front xs ys h = λ i j d l m.
     let n = length-append xs ys in
     let a = get_or_append_left xs ys d i (omega arith) in
@@ -76,20 +76,20 @@ pairs-front xs ys h = λ i j d l m.
     let both = h i j d l (omega (arith, n)) in
     rw (a, b) at both
 
-is-apart : (ps qs : List Patch) → AllPairs IsApart (runs_of_patches (ps ++ qs)) → apart ps ≡ Ok ps
+is-apart : (ps qs : List Patch) → AllPairs DoesNotOverlap (runs_of_patches (ps ++ qs)) → apart ps ≡ Ok ps
 unfolding apart
 is-apart ps qs h =
-    let P : List Run → Type 0 = λ runs. AllPairs IsApart runs in
+    let P : List Run → Type 0 = λ runs. AllPairs DoesNotOverlap runs in
     let both = subst P (map-append (λ (p : Patch). p.run) ps qs) h in
     rw (none-shared (runs_of_patches ps) (pairs-front (runs_of_patches ps) (runs_of_patches qs) both)) refl
 
-tables-relocated : (w : World) (before : Memory) (t : Tables) (g : ℕ → Patch) (f : Rela → Patch) → HasMade w before t g f → AllPairs IsApart (runs_of_patches (patches_of t g f)) → relocate w before t ≡ Ok (patched before (patches_of t g f))
+tables-relocated : (w : World) (before : Memory) (t : Tables) (g : ℕ → Patch) (f : Rela → Patch) → HasMade w before t g f → AllPairs DoesNotOverlap (runs_of_patches (patches_of t g f)) → relocate w before t ≡ Ok (memory_with_patches before (patches_of t g f))
 unfolding relocate
 tables-relocated w before t g f made pairs =
     let a = map g (places t.words) in
     let b = map f t.entries in
     let c = map f t.jumps in
-    let P : List Patch → Type 0 = λ ps. AllPairs IsApart (runs_of_patches ps) in
+    let P : List Patch → Type 0 = λ ps. AllPairs DoesNotOverlap (runs_of_patches ps) in
     let one = all-made (place_patch w before) g (places t.words) [] made.words in
     let two = is-apart a (b ++ c) (subst P (append_assoc a b c) pairs) in
     let three = all-made (rela_patch w before) f t.entries a made.entries in
@@ -173,7 +173,7 @@ over-loaded : (before : Memory) (p : Patch) → MadeOver before p → IsLoaded b
 over-loaded before p over = λ k l. let n = over.same in ap is_some (over.held k (omega (arith, n)))
 
 -- the bytes of one of changes that are apart are held
-pub patch-held : (before : Memory) (ps : List Patch) (p : Patch) → AllPairs IsApart (runs_of_patches ps) → Contains ps p → MadeOver before p → Holds (patched before ps) p.run.start p.run.bytes
+pub patch-held : (before : Memory) (ps : List Patch) (p : Patch) → AllPairs DoesNotOverlap (runs_of_patches ps) → Contains ps p → MadeOver before p → Holds (memory_with_patches before ps) p.run.start p.run.bytes
 patch-held before ps p apart c over = parts-held before (runs_of_patches ps) p.run apart (contains-run ps p c) (over-loaded before p over)
   where
     contains-run : (ps : List Patch) (p : Patch) → Contains ps p → Contains (runs_of_patches ps) p.run
@@ -196,5 +196,5 @@ tables-applied w before t g f made pairs =
       descriptors = refl;
     }
 
-pub order-free : OrderIsFree
+pub order-free : OrderDoesNotMatter
 order-free xs ys moved pairs = runs-apart ys (runs-order xs ys moved ∙ none-shared xs pairs)

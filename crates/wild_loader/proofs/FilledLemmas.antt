@@ -17,11 +17,11 @@ use Rattle.wild_loader.specs.declared.world.World.{World}
 use Rattle.wild_loader.specs.Memory.{Holds}
 use Rattle.wild_loader.specs.Places.{places}
 use Rattle.wild_loader.specs.Changes.{change_of}
-use Rattle.wild_loader.specs.Relocate.{rela_patch, place_patch, runs_of_patches, loaded_at, patched, relocate}
-use Rattle.wild_loader.specs.SegmentLaws.{IsApart, IsElsewhere}
+use Rattle.wild_loader.specs.Relocate.{rela_patch, place_patch, runs_of_patches, loaded_at, memory_with_patches, relocate}
+use Rattle.wild_loader.specs.SegmentLaws.{DoesNotOverlap, IsOutsideRun}
 use Rattle.wild_loader.specs.EntryLaws.{HasMade, patches_of}
-use Rattle.wild_loader.specs.FilledLaws.{StoresWord, RelativesStoreWords, ResolvedStoreWords, AreBeside, loaded_places, AreWords, TablesAreFilled}
-use Rattle.wild_loader.proofs.Overlaid.{elsewhere}
+use Rattle.wild_loader.specs.FilledLaws.{StoresWord, RelativesStoreWords, ResolvedStoreWords, DoNotOverlap, loaded_places, AreWords, TablesAreFilled}
+use Rattle.wild_loader.proofs.OverlaidBytes.{elsewhere}
 use Rattle.wild_loader.proofs.SegmentLemmas.{beside-apart}
 use Rattle.wild_loader.proofs.EntryLemmas.{place-moved, entry-changed, tables-applied, order-free}
 
@@ -51,7 +51,7 @@ entry-stored w before u r h = entry-changed w before r h.kind (changes.Word (u r
 abbrev IsWord : Patch → Type 0
 IsWord p = length p.run.bytes ≡ 8
 
-beside-runs : (ps : List Patch) → All IsWord ps → AllPairs AreBeside (map (λ (p : Patch). p.run.start) ps) → AllPairs IsApart (runs_of_patches ps)
+beside-runs : (ps : List Patch) → All IsWord ps → AllPairs DoNotOverlap (map (λ (p : Patch). p.run.start) ps) → AllPairs DoesNotOverlap (runs_of_patches ps)
 beside-runs ps wide h = λ i j d l m.
     let n = length-map ps (λ (p : Patch). p.run) in
     let o = length-map ps (λ (p : Patch). p.run.start) in
@@ -66,7 +66,7 @@ beside-runs ps wide h = λ i j d l m.
     let at = rw (p, q) at both in
     rw (a, b) (beside-apart (get_or ps i e).run (get_or ps j e).run (apart-by (get_or ps i e) (get_or ps j e) x y at))
   where
-    apart-by : (p q : Patch) → IsWord p → IsWord q → AreBeside p.run.start q.run.start → (p.run.start + length p.run.bytes ≤ q.run.start) ⊎ (q.run.start + length q.run.bytes ≤ p.run.start)
+    apart-by : (p q : Patch) → IsWord p → IsWord q → DoNotOverlap p.run.start q.run.start → (p.run.start + length p.run.bytes ≤ q.run.start) ⊎ (q.run.start + length q.run.bytes ≤ p.run.start)
     apart-by p q x y (inl h) = inl (omega (arith, x, h))
     apart-by p q x y (inr h) = inr (omega (arith, y, h))
 
@@ -74,37 +74,37 @@ beside-runs ps wide h = λ i j d l m.
 abbrev word_run : ℕ → Run
 word_run a = record { start = a; bytes = word 8 0 }
 
-beside-words : (a b : ℕ) → AreBeside a b → IsApart (word_run a) (word_run b)
+beside-words : (a b : ℕ) → DoNotOverlap a b → DoesNotOverlap (word_run a) (word_run b)
 beside-words a b h = beside-apart (word_run a) (word_run b) (wide a b h)
   where
-    wide : (a b : ℕ) → AreBeside a b → (a + length (word 8 0) ≤ b) ⊎ (b + length (word 8 0) ≤ a)
+    wide : (a b : ℕ) → DoNotOverlap a b → (a + length (word 8 0) ≤ b) ⊎ (b + length (word 8 0) ≤ a)
     wide a b (inl h) = let n = length-word 8 0 in inl (omega (arith, n, h))
     wide a b (inr h) = let n = length-word 8 0 in inr (omega (arith, n, h))
 
-words-beside : (a b : ℕ) → IsApart (word_run a) (word_run b) → AreBeside a b
+words-beside : (a b : ℕ) → DoesNotOverlap (word_run a) (word_run b) → DoNotOverlap a b
 words-beside a b h =
     let n = length-word 8 0 in
     let one = elsewhere (word_run a) (word_run b) 0 h (omega (arith, n)) in
     let two = elsewhere (word_run a) (word_run b) 7 h (omega (arith, n)) in
     by_sides a b (length (word 8 0)) n one two
   where
-    by_sides : (a b n : ℕ) → n ≡ 8 → (a + 0 < b) ⊎ (b + n ≤ a + 0) → (a + 7 < b) ⊎ (b + n ≤ a + 7) → AreBeside a b
+    by_sides : (a b n : ℕ) → n ≡ 8 → (a + 0 < b) ⊎ (b + n ≤ a + 0) → (a + 7 < b) ⊎ (b + n ≤ a + 7) → DoNotOverlap a b
     by_sides a b n e (inr h) two = inr (omega (arith, e, h))
     by_sides a b n e (inl h) (inl k) = inl (omega (arith, k))
     by_sides a b n e (inl h) (inr k) = absurd (omega (arith, e, h, k))
 
 -- whether places are beside each other does not go by their order
-beside-order : (xs ys : List ℕ) → IsPermutation xs ys → AllPairs AreBeside xs → AllPairs AreBeside ys
+beside-order : (xs ys : List ℕ) → IsPermutation xs ys → AllPairs DoNotOverlap xs → AllPairs DoNotOverlap ys
 beside-order xs ys moved h = back ys (order-free (map word_run xs) (map word_run ys) (IsPermutation-map word_run xs ys moved) (there xs h))
   where
-    there : (xs : List ℕ) → AllPairs AreBeside xs → AllPairs IsApart (map word_run xs)
+    there : (xs : List ℕ) → AllPairs DoNotOverlap xs → AllPairs DoesNotOverlap (map word_run xs)
     there xs h = λ i j d l m.
         let n = length-map xs word_run in
         let a = get_or-map word_run xs i 0 d (omega (arith, n, m)) in
         let b = get_or-map word_run xs j 0 d (omega (arith, n, m)) in
         rw (a, b) (beside-words (get_or xs i 0) (get_or xs j 0) (h i j 0 l (omega (arith, n, m))))
 
-    back : (ys : List ℕ) → AllPairs IsApart (map word_run ys) → AllPairs AreBeside ys
+    back : (ys : List ℕ) → AllPairs DoesNotOverlap (map word_run ys) → AllPairs DoNotOverlap ys
     back ys h = λ i j d l m.
         let n = length-map ys word_run in
         let a = get_or-map word_run ys i d (word_run 0) (omega arith) in
@@ -154,21 +154,21 @@ starts w t v u =
     map-append start (a ++ b) c
     ∙ rw (map-append start a b, map-map (packed_word w v) (λ x. loaded_at w x) (λ x. refl) (places t.words), map-map (entry_word w u) (λ r. loaded_at w r.offset) (λ r. refl) t.entries, map-map (entry_word w u) (λ r. loaded_at w r.offset) (λ r. refl) t.jumps) refl
 
-pairs : (w : World) (before : Memory) (t : Tables) (v : ℕ → ℕ) (u : Rela → ℕ) → AreWords w before t v u → AllPairs IsApart (runs_of_patches (stored w t v u))
-pairs w before t v u are = beside-runs (stored w t v u) (wide w t v u) (subst (AllPairs AreBeside) (sym (starts w t v u)) (beside-order are.order (loaded_places w t) are.ordered are.beside))
+pairs : (w : World) (before : Memory) (t : Tables) (v : ℕ → ℕ) (u : Rela → ℕ) → AreWords w before t v u → AllPairs DoesNotOverlap (runs_of_patches (stored w t v u))
+pairs w before t v u are = beside-runs (stored w t v u) (wide w t v u) (subst (AllPairs DoNotOverlap) (sym (starts w t v u)) (beside-order are.order (loaded_places w t) are.ordered are.beside))
 
-elsewhere-all : (x : ℕ) (ps : List Patch) → All IsWord ps → All (λ y. (x < y) ⊎ (y + 8 ≤ x)) (map (λ (p : Patch). p.run.start) ps) → All (IsElsewhere x) (runs_of_patches ps)
+elsewhere-all : (x : ℕ) (ps : List Patch) → All IsWord ps → All (λ y. (x < y) ⊎ (y + 8 ≤ x)) (map (λ (p : Patch). p.run.start) ps) → All (IsOutsideRun x) (runs_of_patches ps)
 elsewhere-all x [] wide out = All-nil _
-elsewhere-all x (p ∷ ps) wide out = All-cons (IsElsewhere x) p.run (runs_of_patches ps) (one x p (All-head IsWord p ps wide) (out 0 0 (omega arith))) (elsewhere-all x ps (All-tail IsWord p ps wide) (λ k d l. out (suc k) d (omega arith)))
+elsewhere-all x (p ∷ ps) wide out = All-cons (IsOutsideRun x) p.run (runs_of_patches ps) (one x p (All-head IsWord p ps wide) (out 0 0 (omega arith))) (elsewhere-all x ps (All-tail IsWord p ps wide) (λ k d l. out (suc k) d (omega arith)))
   where
-    one : (x : ℕ) (p : Patch) → IsWord p → (x < p.run.start) ⊎ (p.run.start + 8 ≤ x) → IsElsewhere x p.run
+    one : (x : ℕ) (p : Patch) → IsWord p → (x < p.run.start) ⊎ (p.run.start + 8 ≤ x) → IsOutsideRun x p.run
     one x p n (inl h) = inl h
     one x p n (inr h) = inr (omega (arith, n, h))
 
 pub tables-filled : TablesAreFilled
 tables-filled w before t v u are =
     let all = tables-applied w before t (packed_word w v) (entry_word w u) (made w before t v u are) (pairs w before t v u are) in (
-      patched before (stored w t v u),
+      memory_with_patches before (stored w t v u),
       record {
         is = all.is;
         machine = refl;
@@ -199,6 +199,6 @@ joined-relocated w before t v u are =
     let apart = pairs w before t v u are in
     let e = joined-stored w t v u in
     let whole : HasMade w before (joined t) (packed_word w v) f = record { words = each.words; entries = All-append (λ r. rela_patch w before r ≡ Ok (f r)) t.entries t.jumps each.entries each.jumps; jumps = All-nil _ } in
-    let one = tables-applied w before (joined t) (packed_word w v) f whole (subst (λ (ps : List Patch). AllPairs IsApart (runs_of_patches ps)) (sym e) apart) in
+    let one = tables-applied w before (joined t) (packed_word w v) f whole (subst (λ (ps : List Patch). AllPairs DoesNotOverlap (runs_of_patches ps)) (sym e) apart) in
     let other = tables-applied w before t (packed_word w v) f each apart in
-    one.is ∙ ap (λ (ps : List Patch). Ok (patched before ps)) e ∙ sym other.is
+    one.is ∙ ap (λ (ps : List Patch). Ok (memory_with_patches before ps)) e ∙ sym other.is

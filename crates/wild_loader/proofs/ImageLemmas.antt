@@ -8,10 +8,10 @@ use Rattle.wild_loader.specs.declared.memory.Run.{Run}
 use Rattle.wild_loader.specs.Memory.{memory_of}
 use Rattle.wild_loader.specs.Places.{places_from}
 use Rattle.wild_words.specs.Extents.{least_extent}
-use Rattle.wild_loader.specs.Runs.{overlaid}
+use Rattle.wild_loader.specs.Runs.{overlay_runs}
 use Rattle.std.specs.List.{flat_map}
 use Rattle.std.proofs.lemmas.Bool.{cases_Bool, le-leb, ne_eqb, eqb-false}
-use Rattle.wild_words.specs.Words.{Stands}
+use Rattle.wild_words.specs.Words.{HasBytesAt}
 use Rattle.wild_words.proofs.Basics.{length-flat_map_each}
 use Rattle.wild_records.specs.Dynamic.{DynamicEntryIsRead}
 use Rattle.wild_records.specs.FileHeader.{file_header_at, FileHeaderIsRead, file_header_size}
@@ -59,7 +59,7 @@ programs-laid read image e hs ss laid =
     rw count (programs-read read image hs e.program_offset laid.programs_fit laid.programs)
 
 -- section header 0 tells how many there are
-first-told : SectionHeaderIsRead → (image : List ℕ) (ss : List SectionHeader) (at : ℕ) → 0 < length ss → All SectionHeaderFits ss → Stands image at (flat_map section_bytes ss) → (section_header_at image at).size ≡ first_size ss
+first-told : SectionHeaderIsRead → (image : List ℕ) (ss : List SectionHeader) (at : ℕ) → 0 < length ss → All SectionHeaderFits ss → HasBytesAt image at (flat_map section_bytes ss) → (section_header_at image at).size ≡ first_size ss
 first-told read image [] at some fits st = absurd (omega arith)
 first-told read image (s ∷ ss) at some fits st = rw (section-first read image at s ss fits st) refl
 
@@ -145,7 +145,7 @@ listed-loaded file program section rela w image e hs ss rs laid loadable can sta
 -- ---- no tables
 
 nothing-relocated : (w : World) (machine : Machine) (runs : List Run) → relocate w (memory_of machine runs) (record { words = []; entries = []; jumps = [] }) ≡ Ok (memory_of machine runs)
-unfolding relocate places_from add_all apart least_extent overlaid notes
+unfolding relocate places_from add_all apart least_extent overlay_runs notes
 nothing-relocated w machine runs = refl
 
 pub plain-loaded : FileHeaderIsRead → ProgramHeaderIsRead → SectionHeaderIsRead → RelaIsRead → PlainImagesAreLoaded

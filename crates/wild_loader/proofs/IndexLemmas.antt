@@ -12,7 +12,7 @@ use Rattle.wild_words.proofs.ExtentLemmas.{all-apart, apart-beside, Within}
 use Rattle.wild_loader.specs.declared.memory.Run.{Run}
 use Rattle.wild_loader.specs.Memory.{byte_of}
 use Rattle.wild_loader.specs.Runs.{extent_of, has_address, with_byte, put_byte}
-use Rattle.wild_loader.specs.Index.{place_of, located, IsPartedAt, IsIndexOf}
+use Rattle.wild_loader.specs.Index.{place_of, starts_and_indices, SplitsAt, IsIndexOf}
 
 -- ---- the place of an address
 
@@ -102,7 +102,7 @@ has-it r a t =
     let high = ltb-true _ _ parts.1 in
     record { low = low; high = omega (arith, low, high) }
 
-found-by : (index : List (ℕ × ℕ)) (rs : List Run) (a k i : ℕ) (s : ℕ × ℕ) (d : Run) → IsIndexOf index (map extent_of rs) → k ≤ length index → IsPartedAt index a k → i < length rs → has_address (get_or rs i d) a ≡ true → (0 < k) × ((get_or index (k - 1) s).1 ≡ i)
+found-by : (index : List (ℕ × ℕ)) (rs : List Run) (a k i : ℕ) (s : ℕ × ℕ) (d : Run) → IsIndexOf index (map extent_of rs) → k ≤ length index → SplitsAt index a k → i < length rs → has_address (get_or rs i d) a ≡ true → (0 < k) × ((get_or index (k - 1) s).1 ≡ i)
 found-by index rs a k i s d is few parted l t =
     let n = length-map rs extent_of in
     let e = get_or-map extent_of rs i d (extent_of d) l in
@@ -111,13 +111,13 @@ found-by index rs a k i s d is few parted l t =
     let there : Within (get_or (map extent_of rs) i (extent_of d)) a = subst P (sym e) has in
     is.last k i a s (extent_of d) few parted (omega (arith, n, l)) there.low there.high
 
-pub found-none : (index : List (ℕ × ℕ)) (rs : List Run) (a k : ℕ) (d : Run) → IsIndexOf index (map extent_of rs) → k ≤ length index → IsPartedAt index a k → k ≡ 0 → place_of rs a ≡ None
+pub found-none : (index : List (ℕ × ℕ)) (rs : List Run) (a k : ℕ) (d : Run) → IsIndexOf index (map extent_of rs) → k ≤ length index → SplitsAt index a k → k ≡ 0 → place_of rs a ≡ None
 found-none index rs a k d is few parted z = place-none rs a d (λ i l t. let h = found-by index rs a k i (0, 0) d is few parted l t in let some = h.0 in omega (arith, some, z))
 
-pub found-at : (index : List (ℕ × ℕ)) (rs : List Run) (a k p : ℕ) (s : ℕ × ℕ) (d : Run) → IsIndexOf index (map extent_of rs) → k ≤ length index → IsPartedAt index a k → (get_or index (k - 1) s).1 ≡ p → p < length rs → has_address (get_or rs p d) a ≡ true → place_of rs a ≡ Some p
+pub found-at : (index : List (ℕ × ℕ)) (rs : List Run) (a k p : ℕ) (s : ℕ × ℕ) (d : Run) → IsIndexOf index (map extent_of rs) → k ≤ length index → SplitsAt index a k → (get_or index (k - 1) s).1 ≡ p → p < length rs → has_address (get_or rs p d) a ≡ true → place_of rs a ≡ Some p
 found-at index rs a k p s d is few parted e l here = place-only rs p a d l here (λ i m t. let h = found-by index rs a k i s d is few parted m t in sym e ∙ h.1)
 
-pub found-not : (index : List (ℕ × ℕ)) (rs : List Run) (a k p : ℕ) (s : ℕ × ℕ) (d : Run) → IsIndexOf index (map extent_of rs) → k ≤ length index → IsPartedAt index a k → (get_or index (k - 1) s).1 ≡ p → has_address (get_or rs p d) a ≡ false → place_of rs a ≡ None
+pub found-not : (index : List (ℕ × ℕ)) (rs : List Run) (a k p : ℕ) (s : ℕ × ℕ) (d : Run) → IsIndexOf index (map extent_of rs) → k ≤ length index → SplitsAt index a k → (get_or index (k - 1) s).1 ≡ p → has_address (get_or rs p d) a ≡ false → place_of rs a ≡ None
 found-not index rs a k p s d is few parted e out = place-none rs a d (λ i l t.
     let h = found-by index rs a k i s d is few parted l t in
     let same : p ≡ i = sym e ∙ h.1 in
@@ -132,15 +132,15 @@ record IsEntry (es : List Extent) (s : ℕ × ℕ) : Type 0 where
   pub start : (e : Extent) → (get_or es s.1 e).start ≡ s.0
   pub some : (e : Extent) → s.0 < (get_or es s.1 e).end
 
-entries-sound : (front es : List Extent) (n : ℕ) → n ≡ length front → All (IsEntry (front ++ es)) (located n es)
-unfolding located
+entries-sound : (front es : List Extent) (n : ℕ) → n ≡ length front → All (IsEntry (front ++ es)) (starts_and_indices n es)
+unfolding starts_and_indices
 entries-sound front [] n e = All-nil _
 entries-sound front (x ∷ xs) n e =
-    let P : List Extent → Type 0 = λ whole. All (IsEntry whole) (located (n + 1) xs) in
+    let P : List Extent → Type 0 = λ whole. All (IsEntry whole) (starts_and_indices (n + 1) xs) in
     let long = length-append front (x ∷ []) in
-    let more : All (IsEntry (front ++ x ∷ xs)) (located (n + 1) xs) = subst P (append_assoc front (x ∷ []) xs) (entries-sound (front ++ x ∷ []) xs (n + 1) (omega (arith, long, e))) in
+    let more : All (IsEntry (front ++ x ∷ xs)) (starts_and_indices (n + 1) xs) = subst P (append_assoc front (x ∷ []) xs) (entries-sound (front ++ x ∷ []) xs (n + 1) (omega (arith, long, e))) in
     elim (cases_Bool (nat_lt x.start x.end)) [
-      | inl t ↦ rw t (All-cons (IsEntry (front ++ x ∷ xs)) (x.start, n) (located (n + 1) xs) (first front x xs n e (ltb-true _ _ t)) more)
+      | inl t ↦ rw t (All-cons (IsEntry (front ++ x ∷ xs)) (x.start, n) (starts_and_indices (n + 1) xs) (first front x xs n e (ltb-true _ _ t)) more)
       | inr f ↦ rw f more
     ]
   where
@@ -150,8 +150,8 @@ entries-sound front (x ∷ xs) n e =
         let at : (d : Extent) → get_or (front ++ x ∷ xs) n d ≡ x = λ d. get_or-append_right front (x ∷ xs) n n d (sym e) (omega arith) ∙ (let z : n - n ≡ 0 = omega arith in rw z refl) in
         record { within = omega (arith, long, e); start = λ d. ap (λ (y : Extent). y.start) (at d); some = λ d. rw (at d) some }
 
-entries-there : (es : List Extent) (n i : ℕ) (e : Extent) → i < length es → (get_or es i e).start < (get_or es i e).end → Contains (located n es) ((get_or es i e).start, n + i)
-unfolding located
+entries-there : (es : List Extent) (n i : ℕ) (e : Extent) → i < length es → (get_or es i e).start < (get_or es i e).end → Contains (starts_and_indices n es) ((get_or es i e).start, n + i)
+unfolding starts_and_indices
 entries-there [] n i e l some = absurd (omega arith)
 entries-there (x ∷ xs) n zero e l some =
     let z : n + 0 ≡ n = omega arith in
@@ -160,7 +160,7 @@ entries-there (x ∷ xs) n (suc i) e l some =
     let rest = entries-there xs (n + 1) i e (omega arith) some in
     let z : n + suc i ≡ n + 1 + i = omega arith in
     elim (cases_Bool (nat_lt x.start x.end)) [
-      | inl t ↦ rw (t, z) (Contains-append_right ((x.start, n) ∷ []) (located (n + 1) xs) ((get_or xs i e).start, n + 1 + i) rest)
+      | inl t ↦ rw (t, z) (Contains-append_right ((x.start, n) ∷ []) (starts_and_indices (n + 1) xs) ((get_or xs i e).start, n + 1 + i) rest)
       | inr f ↦ rw (f, z) rest
     ]
 
@@ -186,13 +186,13 @@ one-extent es i p a e apart l m one two =
           | inr h ↦ omega (arith, h, a1, a2, b1, b2)
         ]
 
-pub index-made : (rs : List Run) (index : List (ℕ × ℕ)) → least_extent (map extent_of rs) ≡ None → IsPermutation (located 0 (map extent_of rs)) index → IsNonDecreasingBy (λ (s : ℕ × ℕ). s.0) index → IsIndexOf index (map extent_of rs)
+pub index-made : (rs : List Run) (index : List (ℕ × ℕ)) → least_extent (map extent_of rs) ≡ None → IsPermutation (starts_and_indices 0 (map extent_of rs)) index → IsNonDecreasingBy (λ (s : ℕ × ℕ). s.0) index → IsIndexOf index (map extent_of rs)
 index-made rs index none moved sorted = record {
   sorted = sorted;
   sound = λ k s l. let at = entry k s l in at.within;
   last = λ k i a s e few parted l low high.
       let it : Within (get_or es i e) a = record { low = low; high = high } in
-      let c = Contains-permutation (located 0 es) index ((get_or es i e).start, 0 + i) moved (entries-there es 0 i e l (omega (arith, low, high))) in
+      let c = Contains-permutation (starts_and_indices 0 es) index ((get_or es i e).start, 0 + i) moved (entries-there es 0 i e l (omega (arith, low, high))) in
       last-one k i a s e few parted l it c.0 c.1 c.2;
 }
   where
@@ -200,10 +200,10 @@ index-made rs index none moved sorted = record {
     es = map extent_of rs
 
     entry : (k : ℕ) (s : ℕ × ℕ) → k < length index → IsEntry es (get_or index k s)
-    entry k s l = All-permutation (IsEntry es) (located 0 es) index moved (entries-sound [] es 0 refl) k s l
+    entry k s l = All-permutation (IsEntry es) (starts_and_indices 0 es) index moved (entries-sound [] es 0 refl) k s l
 
     -- the entry j of extent i begins at a or below, so the last such entry, k - 1, begins in extent i
-    last-one : (k i a : ℕ) (s : ℕ × ℕ) (e : Extent) → k ≤ length index → IsPartedAt index a k → i < length es → Within (get_or es i e) a → (j : ℕ) → j < length index → get_or index j ((get_or es i e).start, 0 + i) ≡ ((get_or es i e).start, 0 + i) → (0 < k) × ((get_or index (k - 1) s).1 ≡ i)
+    last-one : (k i a : ℕ) (s : ℕ × ℕ) (e : Extent) → k ≤ length index → SplitsAt index a k → i < length es → Within (get_or es i e) a → (j : ℕ) → j < length index → get_or index j ((get_or es i e).start, 0 + i) ≡ ((get_or es i e).start, 0 + i) → (0 < k) × ((get_or index (k - 1) s).1 ≡ i)
     last-one k i a s e few parted l it j m is =
         let low = it.low in
         let high = it.high in
@@ -230,15 +230,15 @@ at-extent rs i r l is =
     let e : get_or (map extent_of rs) i (extent_of r) ≡ extent_of r = get_or-map extent_of rs i r (extent_of r) l ∙ ap extent_of (sym is) in
     drop_more (map extent_of rs) i (extent_of r) (omega (arith, n, l)) ∙ ap (λ (x : Extent). x ∷ drop (i + 1) (map extent_of rs)) e
 
-pub located-more : (rs : List Run) (i : ℕ) (r : Run) (front pushed whole : List (ℕ × ℕ)) → i < length rs → r ≡ get_or rs i r → 0 < length r.bytes → pushed ≡ front ++ (r.start, i) ∷ [] → front ++ located i (drop i (map extent_of rs)) ≡ whole → pushed ++ located (i + 1) (drop (i + 1) (map extent_of rs)) ≡ whole
-unfolding located
-located-more rs i r front pushed whole l is some push inv =
+pub starts_and_indices-more : (rs : List Run) (i : ℕ) (r : Run) (front pushed whole : List (ℕ × ℕ)) → i < length rs → r ≡ get_or rs i r → 0 < length r.bytes → pushed ≡ front ++ (r.start, i) ∷ [] → front ++ starts_and_indices i (drop i (map extent_of rs)) ≡ whole → pushed ++ starts_and_indices (i + 1) (drop (i + 1) (map extent_of rs)) ≡ whole
+unfolding starts_and_indices
+starts_and_indices-more rs i r front pushed whole l is some push inv =
     let t : nat_lt r.start (r.start + length r.bytes) ≡ true = lt-ltb _ _ (omega (arith, some)) in
     let step = rw (at-extent rs i r l is, t) at inv in
-    rw (push, append_assoc front ((r.start, i) ∷ []) (located (i + 1) (drop (i + 1) (map extent_of rs)))) step
+    rw (push, append_assoc front ((r.start, i) ∷ []) (starts_and_indices (i + 1) (drop (i + 1) (map extent_of rs)))) step
 
-pub located-skip : (rs : List Run) (i : ℕ) (r : Run) (front whole : List (ℕ × ℕ)) → i < length rs → r ≡ get_or rs i r → length r.bytes ≤ 0 → front ++ located i (drop i (map extent_of rs)) ≡ whole → front ++ located (i + 1) (drop (i + 1) (map extent_of rs)) ≡ whole
-unfolding located
-located-skip rs i r front whole l is none inv =
+pub starts_and_indices-skip : (rs : List Run) (i : ℕ) (r : Run) (front whole : List (ℕ × ℕ)) → i < length rs → r ≡ get_or rs i r → length r.bytes ≤ 0 → front ++ starts_and_indices i (drop i (map extent_of rs)) ≡ whole → front ++ starts_and_indices (i + 1) (drop (i + 1) (map extent_of rs)) ≡ whole
+unfolding starts_and_indices
+starts_and_indices-skip rs i r front whole l is none inv =
     let f : nat_lt r.start (r.start + length r.bytes) ≡ false = le-ltb _ _ (omega (arith, none)) in
     rw (at-extent rs i r l is, f) at inv

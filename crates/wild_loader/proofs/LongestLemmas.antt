@@ -9,7 +9,7 @@ use Rattle.wild_loader.specs.declared.instruction.Cell.{Cell}
 use Rattle.wild_loader.specs.Memory.{Holds}
 use Rattle.wild_loader.specs.Instruction.{Template, fits, stands}
 use Rattle.wild_loader.specs.InstructionX86_64.{templates_x86_64}
-use Rattle.wild_loader.specs.Effect.{window, first_standing, value_in, effect_of, step_x86_64}
+use Rattle.wild_loader.specs.Effect.{window, first_match, operand_value, effect_of, step_x86_64}
 use Rattle.wild_loader.specs.StepLawsX86_64.{StepsAreLongest}
 use Rattle.wild_loader.proofs.Windows.{window-held}
 use Rattle.wild_loader.proofs.MeantLemmas.{stands-take, stands_long, take_long, held_front, sized}
@@ -39,20 +39,20 @@ listed_passes test (x ∷ xs) t (suc k) all lt e = listed_passes test xs t k (an
 same_length : (x y : Template) → x ≡ y → length x.cells ≡ length y.cells
 same_length x y e = ap (λ (t : Template). length t.cells) e
 
-taken : (x u : Template) (xs : List Template) (bs : List ℕ) → stands x.cells bs ≡ true → first_standing (x ∷ xs) bs ≡ Some u → x ≡ u
-unfolding first_standing
+taken : (x u : Template) (xs : List Template) (bs : List ℕ) → stands x.cells bs ≡ true → first_match (x ∷ xs) bs ≡ Some u → x ≡ u
+unfolding first_match
 taken x u xs bs s h = (let e : Some x ≡ Some u = rw s at h in cc)
 
-passed : (x u : Template) (xs : List Template) (bs : List ℕ) → stands x.cells bs ≡ false → first_standing (x ∷ xs) bs ≡ Some u → first_standing xs bs ≡ Some u
-unfolding first_standing
+passed : (x u : Template) (xs : List Template) (bs : List ℕ) → stands x.cells bs ≡ false → first_match (x ∷ xs) bs ≡ Some u → first_match xs bs ≡ Some u
+unfolding first_match
 passed x u xs bs s h = rw s at h
 
-none_stands : (bs : List ℕ) (u : Template) → first_standing [] bs ≡ Some u → ⊥
-unfolding first_standing
+none_stands : (bs : List ℕ) (u : Template) → first_match [] bs ≡ Some u → ⊥
+unfolding first_match
 none_stands bs u h = cc
 
 -- of those that stand the first is the longest
-longest : (ts : List Template) (bs : List ℕ) (t u : Template) (k : ℕ) → descends ts ≡ true → k < length ts → get_or ts k t ≡ t → stands t.cells bs ≡ true → first_standing ts bs ≡ Some u → length t.cells ≤ length u.cells
+longest : (ts : List Template) (bs : List ℕ) (t u : Template) (k : ℕ) → descends ts ≡ true → k < length ts → get_or ts k t ≡ t → stands t.cells bs ≡ true → first_match ts bs ≡ Some u → length t.cells ≤ length u.cells
 longest [] bs t u k d lt e s h = absurd (none_stands bs u h)
 longest (x ∷ xs) bs t u zero d lt e s h =
     let here : stands x.cells bs ≡ true = subst (λ (y : Template). stands y.cells bs ≡ true) (sym e) s in
@@ -87,16 +87,16 @@ stands_loaded m a t bs short held s =
     let loaded = window-held m a own 22 (omega (arith, long, short)) (held_front m a bs (length t.cells) held) in
     subst (λ (xs : List ℕ). stands t.cells xs ≡ true) (sym loaded.1) (stands_more t.cells own loaded.0 stood)
 
-by_found : (m : Memory) (a : ℕ) (e : running.Effect) (t : Template) (bs : List ℕ) (k : ℕ) (found : Option Template) → first_standing templates_x86_64 bs ≡ found → option_and_then (effect_of m a bs) found ≡ Some e → k < length templates_x86_64 → get_or templates_x86_64 k t ≡ t → stands t.cells bs ≡ true → length t.cells ≤ e.length
+by_found : (m : Memory) (a : ℕ) (e : running.Effect) (t : Template) (bs : List ℕ) (k : ℕ) (found : Option Template) → first_match templates_x86_64 bs ≡ found → option_and_then (effect_of m a bs) found ≡ Some e → k < length templates_x86_64 → get_or templates_x86_64 k t ≡ t → stands t.cells bs ≡ true → length t.cells ≤ e.length
 by_found m a e t bs k None f h lt listed s = cc
 by_found m a e t bs k (Some u) f h lt listed s =
     let own = take (length u.cells) bs in
     let p = longest templates_x86_64 bs t u k table_descends lt listed s f in
-    let q = sized m (length u.cells) (u.action a own) (value_in m (u.action a own).operand) e h in
+    let q = sized m (length u.cells) (u.action a own) (operand_value m (u.action a own).operand) e h in
     omega (arith, p, q)
 
 pub steps-longest : StepsAreLongest
 unfolding step_x86_64
 steps-longest = λ m a e t bs h listed held s.
     let short = leb-true (length t.cells) 22 (listed_passes (is_within 22) templates_x86_64 t listed.0 table_fits listed.1 listed.2) in
-    by_found m a e t (window m a 22) listed.0 (first_standing templates_x86_64 (window m a 22)) refl h listed.1 listed.2 (stands_loaded m a t bs short held s)
+    by_found m a e t (window m a 22) listed.0 (first_match templates_x86_64 (window m a 22)) refl h listed.1 listed.2 (stands_loaded m a t bs short held s)

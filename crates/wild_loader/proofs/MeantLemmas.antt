@@ -14,12 +14,12 @@ use Rattle.wild_loader.specs.declared.instruction.Operand.{Operand}
 use Rattle.wild_loader.specs.declared.instruction.Operand.TheVariants.{Number, Word, Pair, Offset}
 use Rattle.wild_loader.specs.declared.instruction.Action.{Action}
 use Rattle.wild_loader.specs.declared.instruction.Deed.{Deed}
-use Rattle.wild_loader.specs.Instruction.{Template, Reader, fits, stands, fills, first_meaning, effect}
+use Rattle.wild_loader.specs.Instruction.{Template, Reader, fits, stands, template_fills, first_meaning, effect}
 use Rattle.wild_loader.specs.ThreadCodeX86_64.{nop_byte}
 use Rattle.wild_loader.specs.InstructionX86_64.{templates_x86_64, meaning_x86_64}
-use Rattle.wild_loader.specs.Effect.{window, first_standing, narrowed, value_in, effect_in, effect_of, step_x86_64}
-use Rattle.wild_loader.specs.StepLaws.{ReadsMemory, told}
-use Rattle.wild_loader.specs.StepLawsX86_64.{IsMeant, StepsAreMeant}
+use Rattle.wild_loader.specs.Effect.{window, first_match, narrowed_value, operand_value, effect_in, effect_of, step_x86_64}
+use Rattle.wild_loader.specs.StepLaws.{ReadsMemory, effect_read_by}
+use Rattle.wild_loader.specs.StepLawsX86_64.{HasMeaning, StepsAreMeant}
 use Rattle.wild_loader.proofs.Windows.{held-window}
 use Rattle.wild_loader.proofs.StandLemmas.{standing_passes}
 
@@ -54,7 +54,7 @@ drop_take (b ∷ bs) (suc n) = drop_take bs n
 
 -- ---- the meaning of the first bytes
 
-pub first_passes : (u t : Template) (bs : List ℕ) → stands u.cells bs ≡ false → fills nop u (take (length t.cells) bs) ≡ false
+pub first_passes : (u t : Template) (bs : List ℕ) → stands u.cells bs ≡ false → template_fills nop u (take (length t.cells) bs) ≡ false
 first_passes u t bs none =
     elim (cases_Bool (nat_le (length u.cells) (length (take (length t.cells) bs)))) [
       | inl y ↦ rw (y, stands-take u.cells bs (length t.cells) (short y), none) refl
@@ -69,7 +69,7 @@ first_passes u t bs none =
     short : nat_le (length u.cells) (length (take (length t.cells) bs)) ≡ true → length u.cells ≤ length t.cells
     short y = (let l = leb-true _ _ y in let k = taken bs (length t.cells) in omega (arith, l, k))
 
-whole_fills : (t : Template) (bs : List ℕ) → stands t.cells bs ≡ true → fills nop t (take (length t.cells) bs) ≡ true
+whole_fills : (t : Template) (bs : List ℕ) → stands t.cells bs ≡ true → template_fills nop t (take (length t.cells) bs) ≡ true
 whole_fills t bs s =
     let n : length (take (length t.cells) bs) ≡ length t.cells = take_long bs (length t.cells) (stands_long t.cells bs s) in
     let fit : nat_le (length t.cells) (length (take (length t.cells) bs)) ≡ true = rw n (refl_le (length t.cells)) in
@@ -79,8 +79,8 @@ whole_fills t bs s =
     refl_le : (n : ℕ) → nat_le n n ≡ true
     refl_le n = grind (arith, nat_tests)
 
-pub meant : (ts : List Template) (bs : List ℕ) (t : Template) (a : ℕ) → first_standing ts bs ≡ Some t → first_meaning nop ts a (take (length t.cells) bs) ≡ Some (t.action a (take (length t.cells) bs))
-unfolding first_standing
+pub meant : (ts : List Template) (bs : List ℕ) (t : Template) (a : ℕ) → first_match ts bs ≡ Some t → first_meaning nop ts a (take (length t.cells) bs) ≡ Some (t.action a (take (length t.cells) bs))
+unfolding first_match
 meant [] bs t a h = cc
 meant (u ∷ us) bs t a h =
     elim (cases_Bool (stands u.cells bs)) [
@@ -92,8 +92,8 @@ meant (u ∷ us) bs t a h =
     ]
 
 -- it stands there
-pub first_stands : (ts : List Template) (bs : List ℕ) (t : Template) → first_standing ts bs ≡ Some t → stands t.cells bs ≡ true
-unfolding first_standing
+pub first_stands : (ts : List Template) (bs : List ℕ) (t : Template) → first_match ts bs ≡ Some t → stands t.cells bs ≡ true
+unfolding first_match
 first_stands [] bs t h = cc
 first_stands (u ∷ us) bs t h =
     elim (cases_Bool (stands u.cells bs)) [
@@ -132,27 +132,27 @@ no_offset : (m : Memory) (read : Reader) (operand : Operand) → is_told operand
 no_offset m read operand plain = λ x e. absurd (let both : false ≡ true = sym (ap is_told e) ∙ plain in cc)
 
 -- with a reader of that memory
-pub told_by : (m : Memory) (size : ℕ) (act : Action) (e : running.Effect) (read : Reader) → ReadsMemory m read → ReadsOffset m read act.operand → effect_in m size act ≡ Some e → effect read act ≡ told read e
+pub told_by : (m : Memory) (size : ℕ) (act : Action) (e : running.Effect) (read : Reader) → ReadsMemory m read → ReadsOffset m read act.operand → effect_in m size act ≡ Some e → effect read act ≡ effect_read_by read e
 told_by m size act e read reads offset h = by_operand act.deed act.width act.operand offset h
   where
-    worded : (deed : Deed) (width : ℕ) (o : Option ℕ) → option_map (λ (v : Value). record { length = size; width = width; deed = deed; value = narrowed width v }) (option_map values.Number o) ≡ Some e → option_map (λ (v : ℕ). record { deed = deed; width = width; value = v % 2 ^ width }) o ≡ told read e
+    worded : (deed : Deed) (width : ℕ) (o : Option ℕ) → option_map (λ (v : Value). record { length = size; width = width; deed = deed; value = narrowed_value width v }) (option_map values.Number o) ≡ Some e → option_map (λ (v : ℕ). record { deed = deed; width = width; value = v % 2 ^ width }) o ≡ effect_read_by read e
     worded deed width None h = cc
     worded deed width (Some n) h =
-        let same : record { length = size; width = width; deed = deed; value = narrowed width (values.Number n) } ≡ e = cc in
-        subst (λ (x : running.Effect). option_map (λ (v : ℕ). record { deed = deed; width = width; value = v % 2 ^ width }) (Some n) ≡ told read x) same
+        let same : record { length = size; width = width; deed = deed; value = narrowed_value width (values.Number n) } ≡ e = cc in
+        subst (λ (x : running.Effect). option_map (λ (v : ℕ). record { deed = deed; width = width; value = v % 2 ^ width }) (Some n) ≡ effect_read_by read x) same
         (rw (reads.numbers (if width == 32 then n % 2 ^ 32 else n)) (ap (λ (v : ℕ). Some (record { deed = deed; width = width; value = v })) (sym (twice width n))))
 
-    by_operand : (deed : Deed) (width : ℕ) (operand : Operand) → ReadsOffset m read operand → effect_in m size (record { deed = deed; width = width; operand = operand }) ≡ Some e → effect read (record { deed = deed; width = width; operand = operand }) ≡ told read e
+    by_operand : (deed : Deed) (width : ℕ) (operand : Operand) → ReadsOffset m read operand → effect_in m size (record { deed = deed; width = width; operand = operand }) ≡ Some e → effect read (record { deed = deed; width = width; operand = operand }) ≡ effect_read_by read e
     by_operand deed width (Offset x) offset h = rw (offset x refl) (worded deed width (first_value m.descriptors x) h)
     by_operand deed width (Number n) offset h = rw (reads.numbers n) (worded deed width (Some n) h)
     by_operand deed width (Word x) offset h = rw (reads.words x) (worded deed width (number_in m x 8) h)
-    by_operand deed width (Pair x) offset h = (let same : record { length = size; width = width; deed = deed; value = values.Pair x } ≡ e = cc in subst (λ (y : running.Effect). effect read (record { deed = deed; width = width; operand = Pair x }) ≡ told read y) same refl)
+    by_operand deed width (Pair x) offset h = (let same : record { length = size; width = width; deed = deed; value = values.Pair x } ≡ e = cc in subst (λ (y : running.Effect). effect read (record { deed = deed; width = width; operand = Pair x }) ≡ effect_read_by read y) same refl)
 
-pub sized : (m : Memory) (size : ℕ) (act : Action) (o : Option Value) (e : running.Effect) → option_map (λ (v : Value). record { length = size; width = act.width; deed = act.deed; value = narrowed act.width v }) o ≡ Some e → size ≡ e.length
+pub sized : (m : Memory) (size : ℕ) (act : Action) (o : Option Value) (e : running.Effect) → option_map (λ (v : Value). record { length = size; width = act.width; deed = act.deed; value = narrowed_value act.width v }) o ≡ Some e → size ≡ e.length
 sized m size act None e h = cc
-sized m size act (Some v) e h = (let same : record { length = size; width = act.width; deed = act.deed; value = narrowed act.width v } ≡ e = cc in ap (λ (x : running.Effect). x.length) same)
+sized m size act (Some v) e h = (let same : record { length = size; width = act.width; deed = act.deed; value = narrowed_value act.width v } ≡ e = cc in ap (λ (x : running.Effect). x.length) same)
 
-by_standing : (m : Memory) (a : ℕ) (e : running.Effect) (bs : List ℕ) (found : Option Template) → first_standing templates_x86_64 bs ≡ found → Holds m a bs → option_and_then (effect_of m a bs) found ≡ Some e → IsMeant m a e
+by_standing : (m : Memory) (a : ℕ) (e : running.Effect) (bs : List ℕ) (found : Option Template) → first_match templates_x86_64 bs ≡ found → Holds m a bs → option_and_then (effect_of m a bs) found ≡ Some e → HasMeaning m a e
 unfolding meaning_x86_64
 by_standing m a e bs None f held h = cc
 by_standing m a e bs (Some t) f held h =
@@ -163,10 +163,10 @@ by_standing m a e bs (Some t) f held h =
     record {
       bytes = own;
       held = held_front m a bs (length t.cells) held;
-      long = n ∙ sized m (length t.cells) act (value_in m act.operand) e h;
+      long = n ∙ sized m (length t.cells) act (operand_value m act.operand) e h;
       means = λ read reads. ap (λ (o : Option Action). option_and_then (effect read) o) (meant templates_x86_64 bs t a f) ∙ told_by m (length t.cells) act e read reads (no_offset m read act.operand plain) h;
     }
 
 pub steps-meant : StepsAreMeant
 unfolding step_x86_64
-steps-meant = λ m a e h. by_standing m a e (window m a 22) (first_standing templates_x86_64 (window m a 22)) refl (held-window m a 22) h
+steps-meant = λ m a e h. by_standing m a e (window m a 22) (first_match templates_x86_64 (window m a 22)) refl (held-window m a 22) h

@@ -8,13 +8,13 @@ use Rattle.wild_loader.specs.declared.world.World.{World}
 use Rattle.wild_loader.specs.declared.change.Patch.{Patch}
 use Rattle.wild_loader.specs.declared.tables.Tables.{Tables}
 use Rattle.wild_loader.specs.declared.fault.LoadFault.{LoadFault}
-use Rattle.wild_loader.specs.Given.{◌>>=◌}
-use Rattle.wild_loader.specs.Runs.{least_shared, unless_shared}
+use Rattle.wild_loader.specs.Outcome.{◌>>=◌}
+use Rattle.wild_loader.specs.Runs.{least_shared, check_no_overlap}
 use Rattle.wild_loader.specs.Places.{places}
-use Rattle.wild_loader.specs.Relocate.{rela_patch, place_patch, add_all, add_apart, runs_of_patches, apart, relocate, patched}
-use Rattle.wild_loader.specs.SegmentLaws.{IsApart, IsElsewhere}
+use Rattle.wild_loader.specs.Relocate.{rela_patch, place_patch, add_all, add_without_overlap, runs_of_patches, apart, relocate, memory_with_patches}
+use Rattle.wild_loader.specs.SegmentLaws.{DoesNotOverlap, IsOutsideRun}
 use Rattle.wild_loader.specs.EntryLaws.{IsMadeBy, IsRelocated, RelocatedIsApplied}
-use Rattle.wild_loader.proofs.Overlaid.{others-kept}
+use Rattle.wild_loader.proofs.OverlaidBytes.{others-kept}
 use Rattle.wild_loader.proofs.RunLemmas.{runs-apart}
 use Rattle.wild_loader.proofs.EntryLemmas.{stepped, same-ok, place-over, rela-over, patch-held}
 
@@ -39,20 +39,20 @@ added {X} make (x ∷ xs) acc ps h =
       from = All-cons (λ p. (y : X) × Contains (x ∷ xs) y × (make y ≡ Ok p)) q rest.more (x, Contains-get_or (x ∷ xs) 0 x (omega arith), one.was) (All-weaker (λ p. (y : X) × Contains xs y × (make y ≡ Ok p)) (λ p. (y : X) × Contains (x ∷ xs) y × (make y ≡ Ok p)) (λ p e. (e.0, Contains-append_right (x ∷ []) xs e.0 e.1, e.2)) rest.more rest.from);
     }
 
-unshared : (o : Option ℕ) (x : Unit {0}) → unless_shared o ≡ Ok x → o ≡ None
+unshared : (o : Option ℕ) (x : Unit {0}) → check_no_overlap o ≡ Ok x → o ≡ None
 unshared None x h = refl
 unshared (Some a) x h = cc
 
 -- changes that were let through are apart
-through : (ps qs : List Patch) → apart ps ≡ Ok qs → (ps ≡ qs) × AllPairs IsApart (runs_of_patches qs)
+through : (ps qs : List Patch) → apart ps ≡ Ok qs → (ps ≡ qs) × AllPairs DoesNotOverlap (runs_of_patches qs)
 unfolding apart
 through ps qs h =
-    let one = stepped (unless_shared (least_shared (runs_of_patches ps))) (λ none. Ok ps) qs h in
+    let one = stepped (check_no_overlap (least_shared (runs_of_patches ps))) (λ none. Ok ps) qs h in
     let e : ps ≡ qs = same-ok ps qs one.next in
-    let P : List Patch → Type 0 = λ rs. AllPairs IsApart (runs_of_patches rs) in
+    let P : List Patch → Type 0 = λ rs. AllPairs DoesNotOverlap (runs_of_patches rs) in
     (e, subst P e (runs-apart (runs_of_patches ps) (unshared (least_shared (runs_of_patches ps)) one.value one.was)))
 
-added-apart : {X : Type 0} (make : X → Result Patch LoadFault) (xs : List X) (acc ps : List Patch) → add_apart make xs acc ≡ Ok ps → Added make xs acc ps × AllPairs IsApart (runs_of_patches ps)
+added-apart : {X : Type 0} (make : X → Result Patch LoadFault) (xs : List X) (acc ps : List Patch) → add_without_overlap make xs acc ≡ Ok ps → Added make xs acc ps × AllPairs DoesNotOverlap (runs_of_patches ps)
 added-apart make xs acc ps h =
     let one = stepped (add_all make xs acc) apart ps h in
     let two = through one.value ps one.next in
@@ -66,18 +66,18 @@ record Whole (w : World) (before : Memory) (t : Tables) (m : Memory) : Type 0 wh
   pub first : Added (place_patch w before) (places t.words) [] a
   pub second : Added (rela_patch w before) t.entries a b
   pub third : Added (rela_patch w before) t.jumps b c
-  pub pairs : AllPairs IsApart (runs_of_patches c)
-  pub is : patched before c ≡ m
+  pub pairs : AllPairs DoesNotOverlap (runs_of_patches c)
+  pub is : memory_with_patches before c ≡ m
 
 whole : (w : World) (before : Memory) (t : Tables) (m : Memory) → relocate w before t ≡ Ok m → Whole w before t m
 unfolding relocate
 whole w before t m h =
-    let last : List Patch → Result Memory LoadFault = λ c. Ok (patched before c) in
-    let third : List Patch → Result Memory LoadFault = λ b. add_apart (rela_patch w before) t.jumps b >>= last in
-    let second : List Patch → Result Memory LoadFault = λ a. add_apart (rela_patch w before) t.entries a >>= third in
-    let s1 = stepped (add_apart (place_patch w before) (places t.words) []) second m h in
-    let s2 = stepped (add_apart (rela_patch w before) t.entries s1.value) third m s1.next in
-    let s3 = stepped (add_apart (rela_patch w before) t.jumps s2.value) last m s2.next in
+    let last : List Patch → Result Memory LoadFault = λ c. Ok (memory_with_patches before c) in
+    let third : List Patch → Result Memory LoadFault = λ b. add_without_overlap (rela_patch w before) t.jumps b >>= last in
+    let second : List Patch → Result Memory LoadFault = λ a. add_without_overlap (rela_patch w before) t.entries a >>= third in
+    let s1 = stepped (add_without_overlap (place_patch w before) (places t.words) []) second m h in
+    let s2 = stepped (add_without_overlap (rela_patch w before) t.entries s1.value) third m s1.next in
+    let s3 = stepped (add_without_overlap (rela_patch w before) t.jumps s2.value) last m s2.next in
     let one = added-apart (place_patch w before) (places t.words) [] s1.value s1.was in
     let two = added-apart (rela_patch w before) t.entries s1.value s2.value s2.was in
     let three = added-apart (rela_patch w before) t.jumps s2.value s3.value s3.was in
@@ -89,7 +89,7 @@ whole w before t m h =
       second = two.0;
       third = three.0;
       pairs = three.1;
-      is = same-ok (patched before s3.value) m s3.next;
+      is = same-ok (memory_with_patches before s3.value) m s3.next;
     }
 
 contains-in : (front more ps : List Patch) (p : Patch) → ps ≡ front ++ more → Contains more p → Contains ps p
@@ -112,7 +112,7 @@ relocated-applied w before t m h = subst (IsRelocated w before t) all.is (record
   words = λ k d l. (let e = all.first.each k d l in (e.0, e.1, patch-held before all.c e.0 all.pairs (contains-front all.b all.third.more all.c e.0 all.third.is (contains-front all.a all.second.more all.b e.0 all.second.is (contains-in [] all.first.more all.a e.0 all.first.is e.2))) (place-over w before (get_or (places t.words) k d) e.0 e.1)));
   entries = λ k d l. (let e = all.second.each k d l in (e.0, e.1, patch-held before all.c e.0 all.pairs (contains-front all.b all.third.more all.c e.0 all.third.is (contains-in all.a all.second.more all.b e.0 all.second.is e.2)) (rela-over w before (get_or t.entries k d) e.0 e.1)));
   jumps = λ k d l. (let e = all.third.each k d l in (e.0, e.1, patch-held before all.c e.0 all.pairs (contains-in all.b all.third.more all.c e.0 all.third.is e.2) (rela-over w before (get_or t.jumps k d) e.0 e.1)));
-  others = λ x out. others-kept before (runs_of_patches all.c) x (All-map (IsElsewhere x) (λ (p : Patch). p.run) all.c (All-weaker (IsMadeBy w before t) (λ p. IsElsewhere x p.run) out all.c made));
+  others = λ x out. others-kept before (runs_of_patches all.c) x (All-map (IsOutsideRun x) (λ (p : Patch). p.run) all.c (All-weaker (IsMadeBy w before t) (λ p. IsOutsideRun x p.run) out all.c made));
 })
   where
     all : Whole w before t m

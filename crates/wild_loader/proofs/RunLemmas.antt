@@ -7,12 +7,12 @@ use Rattle.std.proofs.lemmas.List.Sorted.{IsPermutation-map}
 use Rattle.wild_words.proofs.ExtentLemmas.{all-apart, order-free}
 use Rattle.wild_loader.specs.declared.memory.Run.{Run}
 use Rattle.wild_loader.specs.Runs.{extent_of, least_shared}
-use Rattle.wild_loader.specs.SegmentLaws.{IsApart}
+use Rattle.wild_loader.specs.SegmentLaws.{DoesNotOverlap}
 
 pub runs-order : (xs ys : List Run) → IsPermutation xs ys → least_shared ys ≡ least_shared xs
 runs-order xs ys moved = order-free (map extent_of xs) (map extent_of ys) (IsPermutation-map extent_of xs ys moved)
 
-pub runs-apart : (rs : List Run) → least_shared rs ≡ None → AllPairs IsApart rs
+pub runs-apart : (rs : List Run) → least_shared rs ≡ None → AllPairs DoesNotOverlap rs
 runs-apart rs none = λ i j d l m.
     let n = length-map rs extent_of in
     let a = get_or-map extent_of rs i d (extent_of d) (omega arith) in

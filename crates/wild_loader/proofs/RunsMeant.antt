@@ -13,7 +13,7 @@ use Rattle.wild_aarch64.specs.Code.{read}
 use Rattle.wild_aarch64.specs.Machine.{meaning}
 use Rattle.wild_aarch64.specs.Effect.{words_of}
 use Rattle.wild_aarch64.specs.Template as longest
-use Rattle.wild_aarch64.specs.Template.{codes_of, size_of, begins, fits, register_in, taking, templates}
+use Rattle.wild_aarch64.specs.Template.{codes_of, size_of, begins, fits, register_in, sized_step, templates}
 use Rattle.wild_loader.specs.declared.memory.Memory.{Memory}
 use Rattle.wild_loader.specs.declared.effect.Effect as running
 use Rattle.wild_loader.specs.declared.instruction.Action.{Action}
@@ -21,8 +21,8 @@ use Rattle.wild_loader.specs.declared.instruction.Operand.{Operand}
 use Rattle.wild_loader.specs.Memory.{byte_in, number_in, Holds}
 use Rattle.wild_loader.specs.Instruction.{Reader, effect}
 use Rattle.wild_loader.specs.InstructionAArch64.{action_of}
-use Rattle.wild_loader.specs.Effect.{with_first, words_at, value_in, effect_in, step_aarch64}
-use Rattle.wild_loader.specs.StepLaws.{ReadsMemory, told}
+use Rattle.wild_loader.specs.Effect.{with_first_loaded, words_at, operand_value, effect_in, step_aarch64}
+use Rattle.wild_loader.specs.StepLaws.{ReadsMemory, effect_read_by}
 use Rattle.wild_loader.specs.StepLawsAArch64.{ReadsDescriptors, IsRun, RunsAreMeant}
 use Rattle.wild_loader.proofs.Windows.{held_more}
 use Rattle.wild_loader.proofs.MeantLemmas.{told_by, sized}
@@ -50,10 +50,10 @@ size_is kinds.OffsetPair r = refl
 size_is kinds.AddressPair r = refl
 size_is kinds.NearAddress r = refl
 
-taken : (n a : ℕ) (ws : List ℕ) (s : run.Step) (o : Option run-action.Action) → n ≤ length ws → meaning a (take n ws) ≡ o → option_map (taking n) o ≡ Some s → Means a ws s
+taken : (n a : ℕ) (ws : List ℕ) (s : run.Step) (o : Option run-action.Action) → n ≤ length ws → meaning a (take n ws) ≡ o → option_map (sized_step n) o ≡ Some s → Means a ws s
 taken n a ws s None short m h = cc
 taken n a ws s (Some act) short m h =
-    let same : taking n act ≡ s = cc in
+    let same : sized_step n act ≡ s = cc in
     subst (λ (t : run.Step). Means a ws t) same (short, m)
 
 by_template : (t : runs.Template) (a : ℕ) (ws : List ℕ) (s : run.Step) → longest.template_step t a ws ≡ Some s → Means a ws s
@@ -155,8 +155,8 @@ words_are m a n zero short = no_words m a
 words_are m a zero (suc k) short = absurd (omega (arith, short))
 words_are m a (suc n) (suc k) short = by (number_in m a 4) refl short (λ l. words_are m (a + 4) n k l)
   where
-    by : (o : Option ℕ) → number_in m a 4 ≡ o → suc k ≤ length (with_first o (words_at m (a + 4) n)) → (k ≤ length (words_at m (a + 4) n) → AreWords m (a + 4) (take k (words_at m (a + 4) n)))
-        → AreWords m a (take (suc k) (with_first o (words_at m (a + 4) n)))
+    by : (o : Option ℕ) → number_in m a 4 ≡ o → suc k ≤ length (with_first_loaded o (words_at m (a + 4) n)) → (k ≤ length (words_at m (a + 4) n) → AreWords m (a + 4) (take k (words_at m (a + 4) n)))
+        → AreWords m a (take (suc k) (with_first_loaded o (words_at m (a + 4) n)))
     by None e l rest = absurd (omega (arith, l))
     by (Some w) e l rest = (let b = bytes_are m a 4 w e in with_word m a w (take k (words_at m (a + 4) n)) b.bytes b.long b.held b.is (rest (omega (arith, l))))
 
@@ -176,7 +176,7 @@ by_action m a e s ws (Some act) f means words h =
     record {
       bytes = words.bytes;
       held = words.held;
-      long = bytes ∙ sized m (4 * s.words) act (value_in m act.operand) e h;
+      long = bytes ∙ sized m (4 * s.words) act (operand_value m act.operand) e h;
       means = λ read reads offsets.
           (let run_is : meaning a (words_of words.bytes) ≡ Some s.action = ap (λ (xs : List ℕ). meaning a xs) words.are ∙ means.1 in
           ap (λ (o : Option run-action.Action). option_and_then (effect read) (option_and_then action_of o)) run_is ∙ ap (λ (o : Option Action). option_and_then (effect read) o) f

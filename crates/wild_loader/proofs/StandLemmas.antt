@@ -5,12 +5,12 @@ use Rattle.std.specs.Option.{option_or}
 use Rattle.std.specs.List.{list_all}
 use Rattle.std.proofs.lemmas.Bool.{cases_Bool, and_parts}
 use Rattle.wild_loader.specs.Instruction.{Template, stands}
-use Rattle.wild_loader.specs.Effect.{first_standing}
+use Rattle.wild_loader.specs.Effect.{first_match}
 
 -- ---- of several lists
 
-pub standing-append : (xs ys : List Template) (bs : List ℕ) → first_standing (xs ++ ys) bs ≡ option_or (first_standing xs bs) (first_standing ys bs)
-unfolding first_standing
+pub standing-append : (xs ys : List Template) (bs : List ℕ) → first_match (xs ++ ys) bs ≡ option_or (first_match xs bs) (first_match ys bs)
+unfolding first_match
 standing-append [] ys bs = refl
 standing-append (t ∷ ts) ys bs =
     elim (cases_Bool (stands t.cells bs)) [
@@ -25,11 +25,11 @@ reordered None None (Some x) d e = refl
 reordered None None None d e = refl
 
 pub standing_in_turn : (a b c d e : List Template) (bs : List ℕ)
-    → first_standing (a ++ (b ++ (c ++ (d ++ e)))) bs ≡ option_or (option_or (option_or (option_or (first_standing a bs) (first_standing b bs)) (first_standing c bs)) (first_standing d bs)) (first_standing e bs)
+    → first_match (a ++ (b ++ (c ++ (d ++ e)))) bs ≡ option_or (option_or (option_or (option_or (first_match a bs) (first_match b bs)) (first_match c bs)) (first_match d bs)) (first_match e bs)
 standing_in_turn a b c d e bs =
     standing-append a (b ++ (c ++ (d ++ e))) bs
-    ∙ ap (λ (o : Option Template). option_or (first_standing a bs) o) (standing-append b (c ++ (d ++ e)) bs ∙ ap (λ (o : Option Template). option_or (first_standing b bs) o) (standing-append c (d ++ e) bs ∙ ap (λ (o : Option Template). option_or (first_standing c bs) o) (standing-append d e bs)))
-    ∙ reordered (first_standing a bs) (first_standing b bs) (first_standing c bs) (first_standing d bs) (first_standing e bs)
+    ∙ ap (λ (o : Option Template). option_or (first_match a bs) o) (standing-append b (c ++ (d ++ e)) bs ∙ ap (λ (o : Option Template). option_or (first_match b bs) o) (standing-append c (d ++ e) bs ∙ ap (λ (o : Option Template). option_or (first_match c bs) o) (standing-append d e bs)))
+    ∙ reordered (first_match a bs) (first_match b bs) (first_match c bs) (first_match d bs) (first_match e bs)
 
 or-map : {X Y : Type 0} (f : X → Y) (a b : Option X) → option_map f (option_or a b) ≡ option_or (option_map f a) (option_map f b)
 or-map f None b = refl
@@ -41,8 +41,8 @@ or_mapped {X} {Y} f a b r x y e p q = ap (λ (o : Option X). option_map f o) e �
 -- ---- tests of templates
 
 -- a test that each passes, the one that stands passes
-pub standing_passes : (test : Template → Bool) (ts : List Template) (bs : List ℕ) (t : Template) → list_all test ts ≡ true → first_standing ts bs ≡ Some t → test t ≡ true
-unfolding first_standing
+pub standing_passes : (test : Template → Bool) (ts : List Template) (bs : List ℕ) (t : Template) → list_all test ts ≡ true → first_match ts bs ≡ Some t → test t ≡ true
+unfolding first_match
 standing_passes test [] bs t all h = cc
 standing_passes test (u ∷ us) bs t all h =
     let two = and_parts (test u) (list_all test us) all in

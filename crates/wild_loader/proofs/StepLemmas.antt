@@ -17,17 +17,17 @@ use Rattle.wild_loader.specs.declared.instruction.Deed.TheVariants.{Call, Jump}
 use Rattle.wild_loader.specs.Instruction.{Template, signed_32}
 use Rattle.wild_loader.specs.CodeX86_64.{branch, stub}
 use Rattle.wild_loader.specs.InstructionX86_64.{templates_x86_64}
-use Rattle.wild_loader.specs.Effect.{window, first_standing, narrowed, effect_of, step, step_of, step_x86_64}
+use Rattle.wild_loader.specs.Effect.{window, first_match, narrowed_value, effect_of, step, step_of, step_x86_64}
 use Rattle.wild_loader.specs.StepLawsX86_64.{stub_bytes, CallsAreRead, CallsOfValuesAreRead, JumpsAreRead, SlotCallsAreRead, SlotJumpsAreRead, StubsAreRead, IsSigned32, StubsOfValuesAreRead}
 use Rattle.wild_loader.proofs.Windows.{window-held}
 
 -- where a template stands at the front of bytes, whatever is behind them, memory that has the bytes does what it does
-stepped : (m : Memory) (a : ℕ) (bs : List ℕ) (t : Template) → m.machine ≡ machines.X86_64 → length bs ≤ 22 → Holds m a bs → ((more : List ℕ) → first_standing templates_x86_64 (bs ++ more) ≡ Some t)
+stepped : (m : Memory) (a : ℕ) (bs : List ℕ) (t : Template) → m.machine ≡ machines.X86_64 → length bs ≤ 22 → Holds m a bs → ((more : List ℕ) → first_match templates_x86_64 (bs ++ more) ≡ Some t)
     → (more : List ℕ) × (step m a ≡ effect_of m a (bs ++ more) t)
 unfolding step_x86_64
 stepped m a bs t machine short h stands =
     let w = window-held m a bs 22 short h in
-    let front : first_standing templates_x86_64 (window m a 22) ≡ Some t = ap (λ (xs : List ℕ). first_standing templates_x86_64 xs) w.1 ∙ stands w.0 in
+    let front : first_match templates_x86_64 (window m a 22) ≡ Some t = ap (λ (xs : List ℕ). first_match templates_x86_64 xs) w.1 ∙ stands w.0 in
     let run : step m a ≡ step_x86_64 m a = ap (λ (k : Machine). step_of k m a) machine in
     let does : step_x86_64 m a ≡ effect_of m a (window m a 22) t = rw front refl in
     (w.0, run ∙ does ∙ ap (λ (xs : List ℕ). effect_of m a xs t) w.1)
@@ -53,26 +53,26 @@ done size deed n = Some (record { length = size; width = 64; deed = deed; value 
 
 -- the same with what memory has
 abbrev done_with : ℕ → Deed → Option ℕ → Option Effect
-done_with size deed o = option_map (λ (v : Value). record { length = size; width = 64; deed = deed; value = narrowed 64 v }) (option_map values.Number o)
+done_with size deed o = option_map (λ (v : Value). record { length = size; width = 64; deed = deed; value = narrowed_value 64 v }) (option_map values.Number o)
 
 call_four : (m : Memory) (x b c d e : ℕ) → m.machine ≡ machines.X86_64 → Holds m x (0xe8 ∷ b ∷ c ∷ d ∷ e ∷ []) → step m x ≡ done 5 Call ((x + 5 + signed_32 (number (b ∷ c ∷ d ∷ e ∷ []))) % 2 ^ 64)
-unfolding first_standing
+unfolding first_match
 call_four m x b c d e machine h = (stepped m x (0xe8 ∷ b ∷ c ∷ d ∷ e ∷ []) (branch (0xe8 ∷ []) Number Call) machine (omega arith) h (λ more. refl)).1
 
 jump_four : (m : Memory) (x b c d e : ℕ) → m.machine ≡ machines.X86_64 → Holds m x (0xe9 ∷ b ∷ c ∷ d ∷ e ∷ []) → step m x ≡ done 5 Jump ((x + 5 + signed_32 (number (b ∷ c ∷ d ∷ e ∷ []))) % 2 ^ 64)
-unfolding first_standing
+unfolding first_match
 jump_four m x b c d e machine h = (stepped m x (0xe9 ∷ b ∷ c ∷ d ∷ e ∷ []) (branch (0xe9 ∷ []) Number Jump) machine (omega arith) h (λ more. refl)).1
 
 slot_call_four : (m : Memory) (x b c d e : ℕ) → m.machine ≡ machines.X86_64 → Holds m x (0xff ∷ 0x15 ∷ b ∷ c ∷ d ∷ e ∷ []) → step m x ≡ done_with 6 Call (number_in m ((x + 6 + signed_32 (number (b ∷ c ∷ d ∷ e ∷ []))) % 2 ^ 64) 8)
-unfolding first_standing
+unfolding first_match
 slot_call_four m x b c d e machine h = (stepped m x (0xff ∷ 0x15 ∷ b ∷ c ∷ d ∷ e ∷ []) (branch (0xff ∷ 0x15 ∷ []) Word Call) machine (omega arith) h (λ more. refl)).1
 
 slot_jump_four : (m : Memory) (x b c d e : ℕ) → m.machine ≡ machines.X86_64 → Holds m x (0xff ∷ 0x25 ∷ b ∷ c ∷ d ∷ e ∷ []) → step m x ≡ done_with 6 Jump (number_in m ((x + 6 + signed_32 (number (b ∷ c ∷ d ∷ e ∷ []))) % 2 ^ 64) 8)
-unfolding first_standing
+unfolding first_match
 slot_jump_four m x b c d e machine h = (stepped m x (0xff ∷ 0x25 ∷ b ∷ c ∷ d ∷ e ∷ []) (branch (0xff ∷ 0x25 ∷ []) Word Jump) machine (omega arith) h (λ more. refl)).1
 
 stub_four : (m : Memory) (x b c d e : ℕ) → m.machine ≡ machines.X86_64 → Holds m x (stub_bytes (b ∷ c ∷ d ∷ e ∷ [])) → step m x ≡ done_with 16 Jump (number_in m ((x + 11 + signed_32 (number (b ∷ c ∷ d ∷ e ∷ []))) % 2 ^ 64) 8)
-unfolding first_standing
+unfolding first_match
 stub_four m x b c d e machine h = (stepped m x (stub_bytes (b ∷ c ∷ d ∷ e ∷ [])) stub machine (omega arith) h (λ more. refl)).1
 
 pub call-held : CallsAreRead

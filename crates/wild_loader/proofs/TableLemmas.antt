@@ -5,7 +5,7 @@ use Rattle.std.specs.List.{flat_map}
 use Rattle.std.proofs.lemmas.List.{append_assoc, append-nil, nil_from_length}
 use Rattle.std.proofs.lemmas.Bool.{cases_Bool, eqb-true, eqb-false, le-leb, lt-ltb, le-ltb, and_right, and_left, and_from}
 use Rattle.wild_records.specs.Abi.Segment.{pt_load}
-use Rattle.wild_words.specs.Words.{Stands}
+use Rattle.wild_words.specs.Words.{HasBytesAt}
 use Rattle.wild_words.proofs.Basics.{length-flat_map_each}
 use Rattle.wild_records.specs.Dynamic.{dynamic_entry_size, DynamicEntryIsRead}
 use Rattle.wild_records.specs.Relocations.{rela_size, relr_size, RelaFits, RelaIsRead, RelrIsRead}
@@ -16,14 +16,14 @@ use Rattle.wild_records.specs.declared.section_header.SectionHeader.{SectionHead
 use Rattle.wild_loader.specs.declared.fault.LoadFault.{LoadFault}
 use Rattle.wild_loader.specs.declared.tables.Tables.{Tables}
 use Rattle.wild_loader.specs.declared.tables.Span.{Span}
-use Rattle.wild_loader.specs.Headers.{table_lies}
-use Rattle.wild_loader.specs.Tables.{relas_at, words_at, dynamic_entries, tagged, has_in_memory, offset_in, span_in, span_at, span_of, no_span, section_of, table_of, named_tables, dynamic_tables, has_entries, section_entries}
+use Rattle.wild_loader.specs.Headers.{table_in_image}
+use Rattle.wild_loader.specs.Tables.{relas_at, words_at, dynamic_entries, value_of_tag, has_in_memory, offset_in, span_in, span_at, span_of, no_span, section_of, table_of, named_tables, dynamic_tables, has_entries, section_entries}
 use Rattle.wild_loader.specs.SegmentLaws.{AreLoadable, Ascends, rela_bytes, word_bytes}
-use Rattle.wild_loader.specs.Laws.{HasDynamic, StandsAt, IsTableOf, IsTable, HasTables, HoldsEntries, HasSectionTables, section_relas, before_null}
+use Rattle.wild_loader.specs.Laws.{HasDynamic, IsLocatedAt, IsTableOf, IsTable, HasTables, HoldsEntries, HasSectionTables, section_relas, entries_before_null}
 use Rattle.wild_loader.proofs.RecordLists.{length-rela, length-word_bytes, relas-read, words-read, dynamics-read}
 use Rattle.wild_loader.proofs.SegmentLemmas.{loadable-rest}
 
-pub lies-table : (image : List ℕ) (at count size : ℕ) → at + size * count ≤ length image → table_lies image at count size ≡ Ok tt
+pub lies-table : (image : List ℕ) (at count size : ℕ) → at + size * count ≤ length image → table_in_image image at count size ≡ Ok tt
 lies-table image at count size h = let t : nat_le (at + size * count) (length image) ≡ true = le-leb _ _ h in rw t refl
 
 -- ---- the file bytes of an address
@@ -53,7 +53,7 @@ span_at-contained base image (suc i) (g ∷ gs) h a n can l e k low inner =
     rw (not_earlier g h a before k low) (span_at-contained base image i gs h a n (loadable-rest base image g gs can) (omega arith) e k low inner)
 
 -- bytes that stand at an address are found there
-found-at : (base : ℕ) (image : List ℕ) (hs : List ProgramHeader) (a : ℕ) (part : List ℕ) → AreLoadable base image hs → (at : StandsAt image hs a part) → span_at image hs a (length part) ≡ Ok (record { offset = offset_in at.segment a; size = length part })
+found-at : (base : ℕ) (image : List ℕ) (hs : List ProgramHeader) (a : ℕ) (part : List ℕ) → AreLoadable base image hs → (at : IsLocatedAt image hs a part) → span_at image hs a (length part) ≡ Ok (record { offset = offset_in at.segment a; size = length part })
 found-at base image hs a part can at =
     let c = at.contained in
     let high = at.high in
@@ -69,15 +69,15 @@ pub record FoundTable (image : List ℕ) (found : Result Span LoadFault) (part :
   pub span : Span
   pub is : found ≡ Ok span
   pub size : span.size ≡ length part
-  pub stands : Stands image span.offset part
+  pub stands : HasBytesAt image span.offset part
 
 -- no bytes stand anywhere in an image
-stands-none : (image part : List ℕ) → part ≡ [] → Stands image 0 part
+stands-none : (image part : List ℕ) → part ≡ [] → HasBytesAt image 0 part
 stands-none image part e =
-    let P : List ℕ → Type 0 = λ p. Stands image 0 p in
+    let P : List ℕ → Type 0 = λ p. HasBytesAt image 0 p in
     subst P (sym e) (record { fits = omega arith; same = λ k l. absurd (omega arith) })
 
-some-table : (base : ℕ) (image : List ℕ) (hs : List ProgramHeader) (tag size_tag a n : ℕ) (part : List ℕ) → AreLoadable base image hs → (n == 0) ≡ false → n ≡ length part → StandsAt image hs a part → FoundTable image (span_of image hs tag size_tag (Some a) (Some n)) part
+some-table : (base : ℕ) (image : List ℕ) (hs : List ProgramHeader) (tag size_tag a n : ℕ) (part : List ℕ) → AreLoadable base image hs → (n == 0) ≡ false → n ≡ length part → IsLocatedAt image hs a part → FoundTable image (span_of image hs tag size_tag (Some a) (Some n)) part
 some-table base image hs tag size_tag a n part can some e at = record {
   span = record { offset = offset_in at.segment a; size = length part };
   is = rw some (rw e (found-at base image hs a part can at));
@@ -107,23 +107,23 @@ table-of base image hs tag size_tag None None part can is = record {
   stands = stands-none image part is;
 }
 
-found-table : (base : ℕ) (image : List ℕ) (hs : List ProgramHeader) (ds : List DynamicEntry) (tag size_tag : ℕ) (part : List ℕ) → AreLoadable base image hs → IsTable image hs ds tag size_tag part → FoundTable image (table_of image hs (before_null ds) tag size_tag) part
+found-table : (base : ℕ) (image : List ℕ) (hs : List ProgramHeader) (ds : List DynamicEntry) (tag size_tag : ℕ) (part : List ℕ) → AreLoadable base image hs → IsTable image hs ds tag size_tag part → FoundTable image (table_of image hs (entries_before_null ds) tag size_tag) part
 unfolding table_of
-found-table base image hs ds tag size_tag part can is = table-of base image hs tag size_tag (tagged tag (before_null ds)) (tagged size_tag (before_null ds)) part can is
+found-table base image hs ds tag size_tag part can is = table-of base image hs tag size_tag (value_of_tag tag (entries_before_null ds)) (value_of_tag size_tag (entries_before_null ds)) part can is
 
-relas-found : RelaIsRead → (image : List ℕ) (s : Span) (rs : List Rela) → All RelaFits rs → s.size ≡ length (flat_map rela_bytes rs) → Stands image s.offset (flat_map rela_bytes rs) → relas_at image (s.size / rela_size) s.offset ≡ rs
+relas-found : RelaIsRead → (image : List ℕ) (s : Span) (rs : List Rela) → All RelaFits rs → s.size ≡ length (flat_map rela_bytes rs) → HasBytesAt image s.offset (flat_map rela_bytes rs) → relas_at image (s.size / rela_size) s.offset ≡ rs
 relas-found read image s rs fits size st =
     let n = length-flat_map_each rela_bytes rela_size length-rela rs in
     let count : s.size / rela_size ≡ length rs = omega (arith, n, size) in
     rw count (relas-read read image rs s.offset fits st)
 
-words-found : RelrIsRead → (image : List ℕ) (s : Span) (xs : List ℕ) → All (λ x. x < 2 ^ 64) xs → s.size ≡ length (flat_map word_bytes xs) → Stands image s.offset (flat_map word_bytes xs) → words_at image (s.size / relr_size) s.offset ≡ xs
+words-found : RelrIsRead → (image : List ℕ) (s : Span) (xs : List ℕ) → All (λ x. x < 2 ^ 64) xs → s.size ≡ length (flat_map word_bytes xs) → HasBytesAt image s.offset (flat_map word_bytes xs) → words_at image (s.size / relr_size) s.offset ≡ xs
 words-found read image s xs fits size st =
     let n = length-flat_map_each word_bytes relr_size length-word_bytes xs in
     let count : s.size / relr_size ≡ length xs = omega (arith, n, size) in
     rw count (words-read read image xs s.offset fits st)
 
-pub named-found : RelaIsRead → RelrIsRead → (base : ℕ) (image : List ℕ) (hs : List ProgramHeader) (ds : List DynamicEntry) (t : Tables) → AreLoadable base image hs → HasTables image hs ds t → named_tables image hs (before_null ds) ≡ Ok t
+pub named-found : RelaIsRead → RelrIsRead → (base : ℕ) (image : List ℕ) (hs : List ProgramHeader) (ds : List DynamicEntry) (t : Tables) → AreLoadable base image hs → HasTables image hs ds t → named_tables image hs (entries_before_null ds) ≡ Ok t
 unfolding named_tables
 named-found rela relr base image hs ds t can has =
     let r = found-table base image hs ds _ _ _ can has.words in
@@ -141,13 +141,13 @@ nothing-read image n at ds e h =
     rw z at h
 
 -- the entries of the dynamic section
-pub section-found : DynamicEntryIsRead → (image : List ℕ) (hs : List ProgramHeader) (ds : List DynamicEntry) → (has : HasDynamic image hs ds) → section_of image has.segment ≡ Ok (before_null ds)
+pub section-found : DynamicEntryIsRead → (image : List ℕ) (hs : List ProgramHeader) (ds : List DynamicEntry) → (has : HasDynamic image hs ds) → section_of image has.segment ≡ Ok (entries_before_null ds)
 section-found dynamic image hs ds has =
     let room = has.room in
     let lies = lies-table image has.segment.offset has.segment.file_size 1 (omega arith) in
-    let read : dynamic_entries image (has.segment.file_size / dynamic_entry_size) has.segment.offset ≡ before_null ds = rw has.count (dynamics-read dynamic image ds has.segment.offset has.fits has.entries) in
+    let read : dynamic_entries image (has.segment.file_size / dynamic_entry_size) has.segment.offset ≡ entries_before_null ds = rw has.count (dynamics-read dynamic image ds has.segment.offset has.fits has.entries) in
     elim (cases_Bool (has.segment.file_size == 0)) [
-      | inl t ↦ rw t (ap Ok (nothing-read image has.segment.file_size has.segment.offset (before_null ds) (eqb-true _ _ t) read))
+      | inl t ↦ rw t (ap Ok (nothing-read image has.segment.file_size has.segment.offset (entries_before_null ds) (eqb-true _ _ t) read))
       | inr f ↦ rw (f, lies, read) refl
     ]
 
@@ -182,6 +182,6 @@ sections-found read image (s ∷ ss) of acc has =
       | inr f ↦ rw f (sections-found read image ss of acc (λ k d l. has (suc k) d (omega arith)))
     ]
 
-pub no_tag : (n : ℕ) → tagged n [] ≡ None
-unfolding tagged
+pub no_tag : (n : ℕ) → value_of_tag n [] ≡ None
+unfolding value_of_tag
 no_tag n = refl

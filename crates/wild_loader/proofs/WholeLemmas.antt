@@ -7,11 +7,11 @@ use Rattle.wild_records.specs.Relocations.{RelaIsRead, RelrIsRead}
 use Rattle.wild_records.specs.SectionHeader.{SectionHeaderIsRead}
 use Rattle.wild_loader.specs.Memory.{Holds}
 use Rattle.wild_loader.specs.Headers.{machine_of}
-use Rattle.wild_loader.specs.Relocate.{patched, relocate}
+use Rattle.wild_loader.specs.Relocate.{memory_with_patches, relocate}
 use Rattle.wild_loader.specs.SegmentLaws.{loaded_memory}
 use Rattle.wild_loader.specs.EntryLaws.{patches_of}
 use Rattle.wild_loader.specs.FilledLaws.{PlacesAreLoaded, ImagesAreApplied, ImagesAreFilled, StaticImagesAreFilled}
-use Rattle.wild_loader.proofs.Mapped.{at-contained, bytes-loaded}
+use Rattle.wild_loader.proofs.MappedSegments.{at-contained, bytes-loaded}
 use Rattle.wild_loader.proofs.ImageLemmas.{dynamic-loaded, listed-loaded}
 use Rattle.wild_loader.proofs.EntryLemmas.{tables-applied}
 use Rattle.wild_loader.proofs.FilledLemmas.{tables-filled, joined-relocated}
@@ -31,7 +31,7 @@ pub images-applied : FileHeaderIsRead → ProgramHeaderIsRead → DynamicEntryIs
 images-applied file program dynamic rela relr w image e hs ss ds t g f has made pairs =
     let loaded = dynamic-loaded file program dynamic rela relr w image e hs ss ds t has.headers has.loadable_header has.loadable has.dynamic has.tables in
     let applied = tables-applied w (loaded_memory (machine_of e) w.base image hs) t g f made pairs in
-    (patched (loaded_memory (machine_of e) w.base image hs) (patches_of t g f), loaded ∙ applied.is, applied)
+    (memory_with_patches (loaded_memory (machine_of e) w.base image hs) (patches_of t g f), loaded ∙ applied.is, applied)
 
 pub images-filled : FileHeaderIsRead → ProgramHeaderIsRead → DynamicEntryIsRead → RelaIsRead → RelrIsRead → ImagesAreFilled
 images-filled file program dynamic rela relr w image e hs ss ds t v u has are =

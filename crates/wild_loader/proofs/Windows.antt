@@ -3,8 +3,8 @@ use Rattle.std.proofs.Common.{◌≡◌, ℕ, zero, suc, ◌+◌, ◌<◌, ◌�
 use Rattle.std.specs.Prelude.{Option, Some, None}
 use Rattle.wild_loader.specs.declared.memory.Memory.{Memory}
 use Rattle.wild_loader.specs.Memory.{byte_in, Holds}
-use Rattle.wild_loader.specs.Effect.{with_first, window}
-use Rattle.wild_loader.proofs.Held.{held-first, held-rest}
+use Rattle.wild_loader.specs.Effect.{with_first_loaded, window}
+use Rattle.wild_loader.proofs.HeldBytes.{held-first, held-rest}
 
 -- bytes that memory has are the first
 pub window-held : (m : Memory) (a : ℕ) (bs : List ℕ) (n : ℕ) → length bs ≤ n → Holds m a bs → (more : List ℕ) × (window m a n ≡ bs ++ more)
@@ -23,7 +23,7 @@ held_more m a b bs first rest = λ k lt. at k lt
     at zero lt = let z : a + 0 ≡ a = omega arith in subst (λ (x : ℕ). byte_in m x ≡ Some b) (sym z) first
     at (suc k) lt = let e : a + 1 + k ≡ a + suc k = omega arith in subst (λ (x : ℕ). byte_in m x ≡ Some (slice_index bs k)) e (rest k (omega (arith, lt)))
 
-with_held : (m : Memory) (a : ℕ) (o : Option ℕ) (bs : List ℕ) → byte_in m a ≡ o → Holds m (a + 1) bs → Holds m a (with_first o bs)
+with_held : (m : Memory) (a : ℕ) (o : Option ℕ) (bs : List ℕ) → byte_in m a ≡ o → Holds m (a + 1) bs → Holds m a (with_first_loaded o bs)
 with_held m a None bs e h = λ k lt. absurd (omega (arith, lt))
 with_held m a (Some b) bs e h = held_more m a b bs e h
 

@@ -20,7 +20,7 @@ use Rattle.wild_loader.specs.declared.kind.DynamicKind.TheVariants as kinds
 use Rattle.wild_loader.specs.declared.change.Change.{Change}
 use Rattle.wild_loader.specs.declared.change.Change.TheVariants as changes
 use Rattle.wild_loader.specs.declared.change.Patch.{Patch}
-use Rattle.wild_loader.specs.Given.{◌>>=◌, known}
+use Rattle.wild_loader.specs.Outcome.{◌>>=◌, known}
 use Rattle.wild_loader.specs.Runs.{read_bytes}
 
 -- ---- what the entries of a number do
@@ -78,8 +78,8 @@ abbrev pub answer_at : World → ℕ → Result ℕ LoadFault
 answer_at w address = known (first_value w.resolvers address) (faults.NoAnswer address)
 
 -- a number plus the entry's addend
-abbrev pub plus : ℕ → Rela → ℕ
-plus n r = (n + cast_unsigned w64 r.addend) % 2 ^ 64
+abbrev pub sum_with_addend : ℕ → Rela → ℕ
+sum_with_addend n r = (n + cast_unsigned w64 r.addend) % 2 ^ 64
 
 -- a module and an offset in its thread-local data
 abbrev pub module_and_offset : World → ℕ → Result (ℕ × ℕ) LoadFault
@@ -91,23 +91,23 @@ distance_of w m = known (first_value w.modules m) (faults.NoAnswer m) >>= λ d. 
 
 -- the offset from the thread pointer
 abbrev pub thread_offset : World → Rela → Result ℕ LoadFault
-thread_offset w r = module_and_offset w r.symbol >>= λ m. distance_of w m.0 >>= λ d. Ok (plus ((d + m.1) % 2 ^ 64) r)
+thread_offset w r = module_and_offset w r.symbol >>= λ m. distance_of w m.0 >>= λ d. Ok (sum_with_addend ((d + m.1) % 2 ^ 64) r)
 
 -- ---- changes
 
 -- the change of an entry of a kind in a world
 unfoldable pub change_of : World → DynamicKind → Rela → Result Change LoadFault
-change_of w kinds.Relative r = Ok (changes.Word (plus w.base r))
+change_of w kinds.Relative r = Ok (changes.Word (sum_with_addend w.base r))
 change_of w kinds.Symbol r = answer_of w r.symbol >>= λ a. Ok (changes.Word a.address)
-change_of w kinds.SymbolPlus r = answer_of w r.symbol >>= λ a. Ok (changes.Word (plus a.address r))
-change_of w kinds.Resolved r = answer_at w (plus w.base r) >>= λ v. Ok (changes.Word v)
+change_of w kinds.SymbolPlus r = answer_of w r.symbol >>= λ a. Ok (changes.Word (sum_with_addend a.address r))
+change_of w kinds.Resolved r = answer_at w (sum_with_addend w.base r) >>= λ v. Ok (changes.Word v)
 change_of w kinds.Module r = module_and_offset w r.symbol >>= λ m. Ok (changes.Word m.0)
-change_of w kinds.ModuleOffset r = answer_of w r.symbol >>= λ a. Ok (changes.Word (plus a.offset r))
+change_of w kinds.ModuleOffset r = answer_of w r.symbol >>= λ a. Ok (changes.Word (sum_with_addend a.offset r))
 change_of w kinds.ThreadOffset r = thread_offset w r >>= λ o. Ok (changes.Word o)
 change_of w kinds.Descriptor r = thread_offset w r >>= λ o. Ok (changes.Descriptor o)
 change_of w kinds.Copy r = answer_of w r.symbol >>= λ a. Ok (changes.Fill a.bytes)
-change_of w kinds.Size32 r = answer_of w r.symbol >>= λ a. Ok (changes.Half (plus a.size r % 2 ^ 32))
-change_of w kinds.Size64 r = answer_of w r.symbol >>= λ a. Ok (changes.Word (plus a.size r))
+change_of w kinds.Size32 r = answer_of w r.symbol >>= λ a. Ok (changes.Half (sum_with_addend a.size r % 2 ^ 32))
+change_of w kinds.Size64 r = answer_of w r.symbol >>= λ a. Ok (changes.Word (sum_with_addend a.size r))
 
 -- how many bytes of memory a change takes
 abbrev pub size_of : Change → ℕ

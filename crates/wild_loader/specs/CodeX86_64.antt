@@ -9,7 +9,7 @@ use Rattle.wild_loader.specs.declared.instruction.Operand.{Operand}
 use Rattle.wild_loader.specs.declared.instruction.Operand.TheVariants.{Number, Word}
 use Rattle.wild_loader.specs.declared.instruction.Deed.{Deed}
 use Rattle.wild_loader.specs.declared.instruction.Deed.TheVariants.{Set, Add, Subtract, Compare}
-use Rattle.wild_loader.specs.Instruction.{Template, exact, field, jump_through, signed_at, sum_64}
+use Rattle.wild_loader.specs.Instruction.{Template, exact_cells, field, jump_through, signed_at, sum_64}
 
 -- ---- one register
 
@@ -93,7 +93,7 @@ abbrev pub branch : List ℕ → (ℕ → Operand) → Deed → Template
 branch opcode operand deed =
     let n = length opcode in
     record {
-      cells = exact opcode ++ field;
+      cells = exact_cells opcode ++ field;
       action = λ a bs. record { deed = deed; width = 64; operand = operand (sum_64 (a + (n + 4)) (signed_at bs n)) };
     }
 
@@ -101,6 +101,6 @@ branch opcode operand deed =
 -- Table"; Intel SDM, "ENDBR64", "JMP", "NOP"). The displacement counts from the jump's end.
 abbrev pub stub : Template
 stub = record {
-  cells = exact (0xf3 ∷ 0x0f ∷ 0x1e ∷ 0xfa ∷ 0xf2 ∷ 0xff ∷ 0x25 ∷ []) ++ (field ++ exact (0x0f ∷ 0x1f ∷ 0x44 ∷ 0 ∷ 0 ∷ []));
+  cells = exact_cells (0xf3 ∷ 0x0f ∷ 0x1e ∷ 0xfa ∷ 0xf2 ∷ 0xff ∷ 0x25 ∷ []) ++ (field ++ exact_cells (0x0f ∷ 0x1f ∷ 0x44 ∷ 0 ∷ 0 ∷ []));
   action = λ a bs. jump_through (sum_64 (a + 11) (signed_at bs 7));
 }

@@ -16,8 +16,8 @@ use Rattle.wild_loader.specs.declared.tables.Tables.{Tables}
 use Rattle.wild_loader.specs.Memory.{byte_in, Holds}
 use Rattle.wild_loader.specs.Places.{places, places_from, marked}
 use Rattle.wild_loader.specs.Changes.{kind_of, size_of, patch_over, patch_at, change_of}
-use Rattle.wild_loader.specs.Relocate.{rela_patch, place_patch, runs_of_patches, patched, relocate, loaded_at, notes}
-use Rattle.wild_loader.specs.SegmentLaws.{IsApart, IsElsewhere}
+use Rattle.wild_loader.specs.Relocate.{rela_patch, place_patch, runs_of_patches, memory_with_patches, relocate, loaded_at, notes}
+use Rattle.wild_loader.specs.SegmentLaws.{DoesNotOverlap, IsOutsideRun}
 
 -- ---- places
 
@@ -30,13 +30,13 @@ abbrev pub PlacesAreBits : Type 0
 PlacesAreBits = (next bits n : ℕ) → next < 2 ^ 64 → All (λ a. (i : ℕ) × (i < n) × (bits / 2 ^ i % 2 ≡ 1) × (a ≡ (next + 8 * i) % 2 ^ 64)) (marked next bits n)
 
 -- the start of the range that a bitmap after these words covers
-abbrev pub next_behind : ℕ → List ℕ → ℕ
-next_behind next [] = next
-next_behind next (w ∷ ws) = if w % 2 == 0 then next_behind ((w + 8) % 2 ^ 64) ws else next_behind ((next + 504) % 2 ^ 64) ws
+abbrev pub next_range_start : ℕ → List ℕ → ℕ
+next_range_start next [] = next
+next_range_start next (w ∷ ws) = if w % 2 == 0 then next_range_start ((w + 8) % 2 ^ 64) ws else next_range_start ((next + 504) % 2 ^ 64) ws
 
 -- further words: their places follow those of the words before
 abbrev pub MoreWords : Type 0
-MoreWords = (next : ℕ) (ws vs : List ℕ) → places_from next (ws ++ vs) ≡ places_from next ws ++ places_from (next_behind next ws) vs
+MoreWords = (next : ℕ) (ws vs : List ℕ) → places_from next (ws ++ vs) ≡ places_from next ws ++ places_from (next_range_start next ws) vs
 
 -- ---- changes
 
@@ -45,8 +45,8 @@ abbrev pub ChangesAreMade : Type 0
 ChangesAreMade = (m : Memory) (place : ℕ) (c : Change) (old : List ℕ) → Holds m place old → length old ≡ size_of c → patch_at m place c ≡ Ok (patch_over place c old)
 
 -- at a place of the packed relative relocations (RELR), the base is added to the word
-abbrev pub PlacesAreMoved : Type 0
-PlacesAreMoved = (w : World) (m : Memory) (place : ℕ) (old : List ℕ) → Holds m (loaded_at w place) old → length old ≡ 8
+abbrev pub PlacesAddBase : Type 0
+PlacesAddBase = (w : World) (m : Memory) (place : ℕ) (old : List ℕ) → Holds m (loaded_at w place) old → length old ≡ 8
     → place_patch w m place ≡ Ok (patch_over (loaded_at w place) (changes.Add w.base) old)
 
 -- the change of an entry is that of its kind
@@ -73,17 +73,17 @@ pub record IsApplied (w : World) (before : Memory) (t : Tables) (g : ℕ → Pat
   pub words : All (λ x. Holds m (g x).run.start (g x).run.bytes) (places t.words)
   pub entries : All (λ r. Holds m (f r).run.start (f r).run.bytes) t.entries
   pub jumps : All (λ r. Holds m (f r).run.start (f r).run.bytes) t.jumps
-  pub others : (a : ℕ) → All (IsElsewhere a) (runs_of_patches (patches_of t g f)) → byte_in m a ≡ byte_in before a
+  pub others : (a : ℕ) → All (IsOutsideRun a) (runs_of_patches (patches_of t g f)) → byte_in m a ≡ byte_in before a
   pub descriptors : m.descriptors ≡ notes (patches_of t g f)
 
 -- tables whose changes are known and share no address can be applied
 abbrev pub TablesAreApplied : Type 0
-TablesAreApplied = (w : World) (before : Memory) (t : Tables) (g : ℕ → Patch) (f : Rela → Patch) → HasMade w before t g f → AllPairs IsApart (runs_of_patches (patches_of t g f))
-    → IsApplied w before t g f (patched before (patches_of t g f))
+TablesAreApplied = (w : World) (before : Memory) (t : Tables) (g : ℕ → Patch) (f : Rela → Patch) → HasMade w before t g f → AllPairs DoesNotOverlap (runs_of_patches (patches_of t g f))
+    → IsApplied w before t g f (memory_with_patches before (patches_of t g f))
 
 -- whether runs share an address does not depend on their order
-abbrev pub OrderIsFree : Type 0
-OrderIsFree = (xs ys : List Run) → IsPermutation xs ys → AllPairs IsApart xs → AllPairs IsApart ys
+abbrev pub OrderDoesNotMatter : Type 0
+OrderDoesNotMatter = (xs ys : List Run) → IsPermutation xs ys → AllPairs DoesNotOverlap xs → AllPairs DoesNotOverlap ys
 
 -- ---- what is relocated
 
@@ -99,7 +99,7 @@ pub record IsRelocated (w : World) (before : Memory) (t : Tables) (m : Memory) :
   pub words : All (λ x. (p : Patch) × (place_patch w before x ≡ Ok p) × Holds m p.run.start p.run.bytes) (places t.words)
   pub entries : All (λ r. (p : Patch) × (rela_patch w before r ≡ Ok p) × Holds m p.run.start p.run.bytes) t.entries
   pub jumps : All (λ r. (p : Patch) × (rela_patch w before r ≡ Ok p) × Holds m p.run.start p.run.bytes) t.jumps
-  pub others : (a : ℕ) → ((p : Patch) → IsMadeBy w before t p → IsElsewhere a p.run) → byte_in m a ≡ byte_in before a
+  pub others : (a : ℕ) → ((p : Patch) → IsMadeBy w before t p → IsOutsideRun a p.run) → byte_in m a ≡ byte_in before a
 
 -- every result of `relocate` has this property
 abbrev pub RelocatedIsApplied : Type 0

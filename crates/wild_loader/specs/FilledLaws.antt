@@ -22,11 +22,11 @@ use Rattle.wild_loader.specs.declared.change.Patch.{Patch}
 use Rattle.wild_loader.specs.declared.tables.Tables.{Tables}
 use Rattle.wild_loader.specs.Memory.{byte_in, Holds}
 use Rattle.wild_loader.specs.Places.{places}
-use Rattle.wild_loader.specs.Changes.{kind_of, change_of, plus, answer_at}
+use Rattle.wild_loader.specs.Changes.{kind_of, change_of, sum_with_addend, answer_at}
 use Rattle.wild_loader.specs.Relocate.{runs_of_patches, relocate, loaded_at}
 use Rattle.wild_loader.specs.Tables.{has_entries}
-use Rattle.wild_loader.specs.SegmentLaws.{IsApart, HasHeaders, AreLoadable, loaded_memory}
-use Rattle.wild_loader.specs.Laws.{HasDynamic, HasTables, HoldsEntries, IsStatic, StandsAt}
+use Rattle.wild_loader.specs.SegmentLaws.{DoesNotOverlap, HasHeaders, AreLoadable, loaded_memory}
+use Rattle.wild_loader.specs.Laws.{HasDynamic, HasTables, HoldsEntries, IsStatic, IsLocatedAt}
 use Rattle.wild_loader.specs.EntryLaws.{HasMade, patches_of, IsApplied}
 
 -- ---- tables whose entries store words
@@ -42,15 +42,15 @@ pub record StoresWord (w : World) (before : Memory) (u : Rela → ℕ) (r : Rela
 
 -- a relative entry stores the base plus its addend
 abbrev pub RelativesStoreWords : Type 0
-RelativesStoreWords = (w : World) (r : Rela) → change_of w kinds.Relative r ≡ Ok (changes.Word (plus w.base r))
+RelativesStoreWords = (w : World) (r : Rela) → change_of w kinds.Relative r ≡ Ok (changes.Word (sum_with_addend w.base r))
 
 -- an entry with a resolver stores the resolver's answer
 abbrev pub ResolvedStoreWords : Type 0
-ResolvedStoreWords = (w : World) (r : Rela) (v : ℕ) → answer_at w (plus w.base r) ≡ Ok v → change_of w kinds.Resolved r ≡ Ok (changes.Word v)
+ResolvedStoreWords = (w : World) (r : Rela) (v : ℕ) → answer_at w (sum_with_addend w.base r) ≡ Ok v → change_of w kinds.Resolved r ≡ Ok (changes.Word v)
 
 -- two places of 8 bytes do not overlap
-abbrev pub AreBeside : ℕ → ℕ → Type 0
-AreBeside a b = (a + 8 ≤ b) ⊎ (b + 8 ≤ a)
+abbrev pub DoNotOverlap : ℕ → ℕ → Type 0
+DoNotOverlap a b = (a + 8 ≤ b) ⊎ (b + 8 ≤ a)
 
 -- the loaded places of the tables, in the order in which they are applied
 abbrev pub loaded_places : World → Tables → List ℕ
@@ -64,7 +64,7 @@ pub record AreWords (w : World) (before : Memory) (t : Tables) (v : ℕ → ℕ)
   pub jumps : All (StoresWord w before u) t.jumps
   pub order : List ℕ
   pub ordered : IsPermutation order (loaded_places w t)
-  pub beside : AllPairs AreBeside order
+  pub beside : AllPairs DoNotOverlap order
 
 -- in memory m each packed place holds its number plus the base, and each entry's place holds the number that the entry stores;
 -- every other byte is as before
@@ -84,7 +84,7 @@ TablesAreFilled = (w : World) (before : Memory) (t : Tables) (v : ℕ → ℕ) (
 
 -- bytes in the file bytes of a segment are in memory at their loaded address
 abbrev pub PlacesAreLoaded : Type 0
-PlacesAreLoaded = (machine : Machine) (w : World) (image : List ℕ) (hs : List ProgramHeader) (a : ℕ) (part : List ℕ) → AreLoadable w.base image hs → StandsAt image hs a part → Holds (loaded_memory machine w.base image hs) (loaded_at w a) part
+PlacesAreLoaded = (machine : Machine) (w : World) (image : List ℕ) (hs : List ProgramHeader) (a : ℕ) (part : List ℕ) → AreLoadable w.base image hs → IsLocatedAt image hs a part → Holds (loaded_memory machine w.base image hs) (loaded_at w a) part
 
 -- the image contains the headers and the tables that its dynamic section names, and its segments can be loaded
 pub record HasImage (w : World) (image : List ℕ) (e : FileHeader) (hs : List ProgramHeader) (ss : List SectionHeader) (ds : List DynamicEntry) (t : Tables) : Type 0 where
@@ -97,7 +97,7 @@ pub record HasImage (w : World) (image : List ℕ) (e : FileHeader) (hs : List P
 -- an image whose tables make known changes that share no address can be loaded, and has these changes
 abbrev pub ImagesAreApplied : Type 0
 ImagesAreApplied = (w : World) (image : List ℕ) (e : FileHeader) (hs : List ProgramHeader) (ss : List SectionHeader) (ds : List DynamicEntry) (t : Tables) (g : ℕ → Patch) (f : Rela → Patch) → HasImage w image e hs ss ds t
-    → HasMade w (loaded_memory (machine_of e) w.base image hs) t g f → AllPairs IsApart (runs_of_patches (patches_of t g f))
+    → HasMade w (loaded_memory (machine_of e) w.base image hs) t g f → AllPairs DoesNotOverlap (runs_of_patches (patches_of t g f))
     → (m : Memory) × (load w image ≡ Ok m) × IsApplied w (loaded_memory (machine_of e) w.base image hs) t g f m
 
 -- an image whose tables' entries store words can be loaded, and holds these words

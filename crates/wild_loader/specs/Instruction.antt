@@ -34,9 +34,9 @@ stands (c ∷ cs) [] = false
 stands (c ∷ cs) (b ∷ bs) = fits c b && stands cs bs
 
 -- exactly these bytes
-abbrev pub exact : List ℕ → List Cell
-exact [] = []
-exact (b ∷ bs) = Is b ∷ exact bs
+abbrev pub exact_cells : List ℕ → List Cell
+exact_cells [] = []
+exact_cells (b ∷ bs) = Is b ∷ exact_cells bs
 
 -- the four bytes of a field
 abbrev pub field : List Cell
@@ -77,26 +77,26 @@ are_idle [] [] (b ∷ bs) = false
 are_idle (n ∷ rest) [] (b ∷ bs) = b == n && are_idle (n ∷ rest) rest bs
 
 -- the template matches the start of the bytes, and only instructions that do nothing follow it
-abbrev pub fills : List ℕ → Template → List ℕ → Bool
-fills nop t bs = nat_le (length t.cells) (length bs) && (stands t.cells bs && are_idle nop [] (drop (length t.cells) bs))
+abbrev pub template_fills : List ℕ → Template → List ℕ → Bool
+template_fills nop t bs = nat_le (length t.cells) (length bs) && (stands t.cells bs && are_idle nop [] (drop (length t.cells) bs))
 
 -- the action of the first template that matches all of the bytes in this way
 abbrev pub first_meaning : List ℕ → List Template → ℕ → List ℕ → Option Action
 first_meaning nop [] a bs = None
-first_meaning nop (t ∷ ts) a bs = if fills nop t bs then Some (t.action a bs) else first_meaning nop ts a bs
+first_meaning nop (t ∷ ts) a bs = if template_fills nop t bs then Some (t.action a bs) else first_meaning nop ts a bs
 
 abbrev pub or_else : Option Action → Option Action → Option Action
 or_else None other = other
 or_else (Some act) other = Some act
 
 -- the same after up to n instructions that do nothing
-abbrev pub meaning_behind : ℕ → List ℕ → List Template → ℕ → List ℕ → Option Action
-meaning_behind zero nop ts a bs = first_meaning nop ts a bs
-meaning_behind (suc n) nop ts a bs = or_else (first_meaning nop ts a bs) (if stands (exact nop) bs then meaning_behind n nop ts (a + length nop) (drop (length nop) bs) else None)
+abbrev pub meaning_after_nops : ℕ → List ℕ → List Template → ℕ → List ℕ → Option Action
+meaning_after_nops zero nop ts a bs = first_meaning nop ts a bs
+meaning_after_nops (suc n) nop ts a bs = or_else (first_meaning nop ts a bs) (if stands (exact_cells nop) bs then meaning_after_nops n nop ts (a + length nop) (drop (length nop) bs) else None)
 
 -- the action of these bytes of code at an address
 abbrev pub meaning : Idle → List Template → ℕ → List ℕ → Option Action
-meaning idle ts a bs = meaning_behind idle.in_front idle.nop ts a bs
+meaning idle ts a bs = meaning_after_nops idle.in_front idle.nop ts a bs
 
 -- the value of each operand
 abbrev pub Reader : Type 0

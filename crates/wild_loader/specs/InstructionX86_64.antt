@@ -14,24 +14,24 @@ use Rattle.wild_loader.specs.declared.instruction.Cell.{Cell}
 use Rattle.wild_loader.specs.declared.instruction.Operand.TheVariants.{Number, Word}
 use Rattle.wild_loader.specs.declared.instruction.Action.{Action}
 use Rattle.wild_loader.specs.declared.instruction.Deed.TheVariants.{Call, Jump, CallDescriptor, Nothing}
-use Rattle.wild_loader.specs.Instruction.{Template, Reader, Effect, exact, Idle, meaning, effect, as_value}
+use Rattle.wild_loader.specs.Instruction.{Template, Reader, Effect, exact_cells, Idle, meaning, effect, as_value}
 use Rattle.wild_loader.specs.CodeX86_64.{bare, rex, rex2, with_prefix, branch, stub}
-use Rattle.wild_loader.specs.ThreadCodeX86_64.{nop_byte, nops, mov_pointer, lea_number, add_slot, of_number, of_slot, of_pointer, general_call, general_slot_call, far_pair_call, local_call, local_slot_call}
+use Rattle.wild_loader.specs.ThreadCodeX86_64.{nop_byte, nops, mov_pointer, lea_number, add_slot, number_template, slot_template, pointer_template, general_call, general_slot_call, far_pair_call, local_call, local_slot_call}
 
 abbrev pub whole_sequences : List Template
 whole_sequences =
     far_pair_call
-    ∷ of_number (mov_pointer ++ (lea_number ++ nops 6))
-    ∷ of_pointer (mov_pointer ++ nops 13)
+    ∷ number_template (mov_pointer ++ (lea_number ++ nops 6))
+    ∷ pointer_template (mov_pointer ++ nops 13)
     ∷ general_call
     ∷ general_slot_call
-    ∷ of_number (mov_pointer ++ lea_number)
-    ∷ of_slot (mov_pointer ++ add_slot)
+    ∷ number_template (mov_pointer ++ lea_number)
+    ∷ slot_template (mov_pointer ++ add_slot)
     ∷ stub
     ∷ local_slot_call
-    ∷ of_pointer (mov_pointer ++ nops 4)
+    ∷ pointer_template (mov_pointer ++ nops 4)
     ∷ local_call
-    ∷ of_pointer (exact (0x66 ∷ 0x66 ∷ 0x66 ∷ []) ++ mov_pointer)
+    ∷ pointer_template (exact_cells (0x66 ∷ 0x66 ∷ 0x66 ∷ []) ++ mov_pointer)
     ∷ []
 
 abbrev pub branches : List Template
@@ -48,14 +48,14 @@ does_nothing cells = record { cells = cells; action = λ a bs. record { deed = N
 
 -- `call [rax]`, with the address of a descriptor in rax ("ELF Handling For Thread-Local Storage", "TLS Descriptors")
 abbrev pub descriptor_call : Template
-descriptor_call = record { cells = exact (0xff ∷ 0x10 ∷ []); action = λ a bs. record { deed = CallDescriptor 0; width = 64; operand = Number 0 } }
+descriptor_call = record { cells = exact_cells (0xff ∷ 0x10 ∷ []); action = λ a bs. record { deed = CallDescriptor 0; width = 64; operand = Number 0 } }
 
 -- the descriptor call, and the instructions that do nothing
 abbrev pub short : List Template
 short =
     descriptor_call
-    ∷ does_nothing (exact (0x66 ∷ nop_byte ∷ []))
-    ∷ does_nothing (exact (nop_byte ∷ []))
+    ∷ does_nothing (exact_cells (0x66 ∷ nop_byte ∷ []))
+    ∷ does_nothing (exact_cells (nop_byte ∷ []))
     ∷ []
 
 -- the longest first

@@ -1,5 +1,5 @@
 -- Where execution continues.
---   jumped e          where execution continues after an effect; none if it is no jump
+--   jump_target e          where execution continues after an effect; none if it is no jump
 --   Reaches m a v     execution that starts at a reaches v
 use Rattle.std.specs.Prelude.{◌≡◌, ℕ, zero, suc, ◌⊎◌, Option, Some, None}
 use Rattle.wild_loader.specs.declared.memory.Memory.{Memory}
@@ -15,14 +15,14 @@ goal_of Jump (values.Number b) = Some b
 goal_of other v = None
 
 -- where execution continues after an effect
-abbrev pub jumped : Effect → Option ℕ
-jumped e = goal_of e.deed e.value
+abbrev pub jump_target : Effect → Option ℕ
+jump_target e = goal_of e.deed e.value
 
 -- one jump leads from a to b
 pub record JumpsTo (m : Memory) (a b : ℕ) : Type 0 where
   pub effect : Effect
   pub known : step m a ≡ Some effect
-  pub jump : jumped effect ≡ Some b
+  pub jump : jump_target effect ≡ Some b
 
 -- at most n jumps lead from a to v
 abbrev pub ReachesWithin : ℕ → Memory → ℕ → ℕ → Type 0

@@ -1,7 +1,7 @@
 -- The tables of an image applied to the bytes of its segments.
 --   rela_patch w m r          the change of an entry with an addend
 --   place_patch w m place     the change at a place of the packed relative relocations
---   patched m ps              memory with these changes
+--   memory_with_patches m ps              memory with these changes
 --   relocate w m t            memory with the changes of all entries; no two may share a byte
 use Rattle.std.specs.Prelude.{ℕ, ◌+◌, ◌%◌, ◌^◌, List, [], ◌∷◌, ◌++◌, map, Option, Some, None, Result, Ok}
 use Rattle.wild_records.specs.declared.relocations.Rela.{Rela}
@@ -13,8 +13,8 @@ use Rattle.wild_loader.specs.declared.world.World.{World}
 use Rattle.wild_loader.specs.declared.change.Change.TheVariants as changes
 use Rattle.wild_loader.specs.declared.change.Patch.{Patch}
 use Rattle.wild_loader.specs.declared.tables.Tables.{Tables}
-use Rattle.wild_loader.specs.Given.{◌>>=◌, known}
-use Rattle.wild_loader.specs.Runs.{least_shared, unless_shared, overlaid}
+use Rattle.wild_loader.specs.Outcome.{◌>>=◌, known}
+use Rattle.wild_loader.specs.Runs.{least_shared, check_no_overlap, overlay_runs}
 use Rattle.wild_loader.specs.Places.{places}
 use Rattle.wild_loader.specs.Changes.{kind_of, change_of, patch_at}
 
@@ -49,7 +49,7 @@ runs_of_patches ps = map (λ p. p.run) ps
 
 -- the changes, if no two of them share a byte; otherwise Overlap
 unfoldable pub apart : List Patch → Result (List Patch) LoadFault
-apart ps = unless_shared (least_shared (runs_of_patches ps)) >>= λ none. Ok ps
+apart ps = check_no_overlap (least_shared (runs_of_patches ps)) >>= λ none. Ok ps
 
 -- the pair that a change notes
 abbrev pub note : ℕ → Option ℕ → List (ℕ × ℕ)
@@ -62,17 +62,17 @@ notes [] = []
 notes (p ∷ ps) = note p.run.start p.offset ++ notes ps
 
 -- memory with these changes
-abbrev pub patched : Memory → List Patch → Memory
-patched m ps = record { machine = m.machine; runs = overlaid (runs_of_patches ps) m.runs; descriptors = notes ps }
+abbrev pub memory_with_patches : Memory → List Patch → Memory
+memory_with_patches m ps = record { machine = m.machine; runs = overlay_runs (runs_of_patches ps) m.runs; descriptors = notes ps }
 
 -- the changes, followed by one for each item of a list; no two may share a byte
-abbrev pub add_apart : {X : Type 0} → (X → Result Patch LoadFault) → List X → List Patch → Result (List Patch) LoadFault
-add_apart make xs patches = add_all make xs patches >>= λ more. apart more
+abbrev pub add_without_overlap : {X : Type 0} → (X → Result Patch LoadFault) → List X → List Patch → Result (List Patch) LoadFault
+add_without_overlap make xs patches = add_all make xs patches >>= λ more. apart more
 
 -- memory with the changes of all entries: the packed ones, then the tables in order
 unfoldable pub relocate : World → Memory → Tables → Result Memory LoadFault
 relocate w m t =
-    add_apart (place_patch w m) (places t.words) []
-    >>= λ a. add_apart (rela_patch w m) t.entries a
-    >>= λ b. add_apart (rela_patch w m) t.jumps b
-    >>= λ c. Ok (patched m c)
+    add_without_overlap (place_patch w m) (places t.words) []
+    >>= λ a. add_without_overlap (rela_patch w m) t.entries a
+    >>= λ b. add_without_overlap (rela_patch w m) t.jumps b
+    >>= λ c. Ok (memory_with_patches m c)

@@ -22,7 +22,7 @@ use Rattle.wild_loader.specs.Instruction.{Template, signed_at, sum_64}
 use Rattle.wild_loader.specs.CodeX86_64.{Prefix, bare, rex, rex2}
 
 abbrev pub prefix_of : declared-prefix.Prefix → Prefix
-prefix_of prefixes.Bare = bare
+prefix_of prefixes.NoPrefix = bare
 prefix_of prefixes.Rex = rex
 prefix_of prefixes.Rex2 = rex2
 

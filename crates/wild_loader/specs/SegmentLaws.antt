@@ -1,5 +1,5 @@
 -- Statements about the definitions of loaded segments.
---   IsApart p q                  the runs have no address in common
+--   DoesNotOverlap p q                  the runs have no address in common
 --   IsLoaded m a n               memory has a byte at each of n addresses
 --   HasHeaders image e hs ss     e, hs and ss are the headers in the image
 --   AreLoadable base image hs    the segments of these headers can be loaded at a base
@@ -7,7 +7,7 @@
 --   loaded_memory machine ..     memory of these runs, before any entry changes it
 use Rattle.std.specs.Prelude.{◌≡◌, ℕ, ◌+◌, ◌-◌, ◌^◌, ◌<◌, ◌≤◌, true, ◌==◌, if◌then◌else◌, List, [], ◌∷◌, ◌++◌, length, replicate, None, is_some, ◌⊎◌, All, AllPairs, Contains}
 use Rattle.std.specs.List.{flat_map}
-use Rattle.wild_words.specs.Words.{word, Stands}
+use Rattle.wild_words.specs.Words.{word, HasBytesAt}
 use Rattle.wild_words.specs.Record.{spell}
 use Rattle.wild_records.specs.Abi.Section.{shn_undef}
 use Rattle.wild_records.specs.Abi.Segment.{pt_load}
@@ -25,38 +25,38 @@ use Rattle.wild_loader.specs.declared.memory.Machine.{Machine}
 use Rattle.wild_loader.specs.declared.memory.Memory.{Memory}
 use Rattle.wild_loader.specs.declared.memory.Run.{Run}
 use Rattle.wild_loader.specs.Memory.{memory_of, byte_in, Holds}
-use Rattle.wild_loader.specs.Runs.{shared, overlaid}
+use Rattle.wild_loader.specs.Runs.{shared_address, overlay_runs}
 use Rattle.wild_loader.specs.Segments.{runs_of}
 
 -- ---- bytes written over memory
 
 -- the runs have no address in common
-abbrev pub IsApart : Run → Run → Type 0
-IsApart p q = shared p q ≡ None
+abbrev pub DoesNotOverlap : Run → Run → Type 0
+DoesNotOverlap p q = shared_address p q ≡ None
 
 -- of two consecutive ranges none contains an address of the other
-abbrev pub BesideIsApart : Type 0
-BesideIsApart = (p q : Run) → (p.start + length p.bytes ≤ q.start) ⊎ (q.start + length q.bytes ≤ p.start) → IsApart p q
+abbrev pub ConsecutiveDoNotOverlap : Type 0
+ConsecutiveDoNotOverlap = (p q : Run) → (p.start + length p.bytes ≤ q.start) ⊎ (q.start + length q.bytes ≤ p.start) → DoesNotOverlap p q
 
 -- memory has a byte at each of n addresses
 abbrev pub IsLoaded : Memory → ℕ → ℕ → Type 0
 IsLoaded m a n = (k : ℕ) → k < n → is_some (byte_in m (a + k)) ≡ true
 
 -- a run has no byte at an address
-abbrev pub IsElsewhere : ℕ → Run → Type 0
-IsElsewhere a p = (a < p.start) ⊎ (p.start + length p.bytes ≤ a)
+abbrev pub IsOutsideRun : ℕ → Run → Type 0
+IsOutsideRun a p = (a < p.start) ⊎ (p.start + length p.bytes ≤ a)
 
 -- memory with parts written over it
-abbrev pub put_over : List Run → Memory → Memory
-put_over parts m = record m { runs = overlaid parts m.runs }
+abbrev pub write_parts : List Run → Memory → Memory
+write_parts parts m = record m { runs = overlay_runs parts m.runs }
 
 -- each part written over memory is there, if no two share an address and all are on loaded bytes
 abbrev pub PartsAreHeld : Type 0
-PartsAreHeld = (m : Memory) (parts : List Run) (p : Run) → AllPairs IsApart parts → Contains parts p → IsLoaded m p.start (length p.bytes) → Holds (put_over parts m) p.start p.bytes
+PartsAreHeld = (m : Memory) (parts : List Run) (p : Run) → AllPairs DoesNotOverlap parts → Contains parts p → IsLoaded m p.start (length p.bytes) → Holds (write_parts parts m) p.start p.bytes
 
 -- a byte outside every part is as before
 abbrev pub OthersAreKept : Type 0
-OthersAreKept = (m : Memory) (parts : List Run) (a : ℕ) → All (IsElsewhere a) parts → byte_in (put_over parts m) a ≡ byte_in m a
+OthersAreKept = (m : Memory) (parts : List Run) (a : ℕ) → All (IsOutsideRun a) parts → byte_in (write_parts parts m) a ≡ byte_in m a
 
 -- ---- headers
 
@@ -65,8 +65,8 @@ first_size [] = 0
 first_size (s ∷ ss) = s.size
 
 -- the number of section headers of an image: e_shnum or, if that is 0, the size of section header 0 (gABI, "ELF Header")
-abbrev pub told_sections : FileHeader → List SectionHeader → ℕ
-told_sections e ss = if e.section_count == shn_undef then first_size ss else e.section_count
+abbrev pub section_header_count : FileHeader → List SectionHeader → ℕ
+section_header_count e ss = if e.section_count == shn_undef then first_size ss else e.section_count
 
 -- the bytes of each record
 abbrev pub program_bytes : ProgramHeader → List ℕ
@@ -87,13 +87,13 @@ word_bytes x = word 8 x
 -- the headers are in the image at the offsets in the file header, and each number is in its field's range
 pub record HasHeaders (image : List ℕ) (e : FileHeader) (hs : List ProgramHeader) (ss : List SectionHeader) : Type 0 where
   pub fits : FileHeaderFits e
-  pub file_header : Stands image 0 (spell (file_header_fields e))
+  pub file_header : HasBytesAt image 0 (spell (file_header_fields e))
   pub programs_fit : All ProgramHeaderFits hs
-  pub programs : Stands image e.program_offset (flat_map program_bytes hs)
+  pub programs : HasBytesAt image e.program_offset (flat_map program_bytes hs)
   pub program_count : e.program_count ≡ length hs
   pub sections_fit : All SectionHeaderFits ss
-  pub sections : Stands image e.section_offset (flat_map section_bytes ss)
-  pub section_count : told_sections e ss ≡ length ss
+  pub sections : HasBytesAt image e.section_offset (flat_map section_bytes ss)
+  pub section_count : section_header_count e ss ≡ length ss
   pub some_section : 0 < length ss
 
 -- ---- segments
@@ -125,7 +125,7 @@ loaded_memory machine base image hs = memory_of machine (loaded_runs base image 
 -- the file bytes of a segment are in memory at the same distance from the segment's address
 abbrev pub BytesAreLoaded : Type 0
 BytesAreLoaded = (machine : Machine) (base : ℕ) (image : List ℕ) (hs : List ProgramHeader) (h : ProgramHeader) (part : List ℕ) (place a : ℕ) → AreLoadable base image hs → Contains hs h → h.kind ≡ pt_load
-    → h.address ≤ a → a + length part ≤ h.address + h.file_size → place ≡ h.offset + (a - h.address) → Stands image place part
+    → h.address ≤ a → a + length part ≤ h.address + h.file_size → place ≡ h.offset + (a - h.address) → HasBytesAt image place part
     → Holds (loaded_memory machine base image hs) (base + a) part
 
 -- the memory after the file bytes of a segment is zero

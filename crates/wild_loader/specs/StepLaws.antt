@@ -1,6 +1,6 @@
 -- Statements about the definition of steps, for any reader of operands.
 --   ReadsMemory m read   operands have the values that memory gives them
---   told read e          the effect of a step; a pair has the value that the reader gives it
+--   effect_read_by read e          the effect of a step; a pair has the value that the reader gives it
 use Rattle.std.specs.Prelude.{◌≡◌, ℕ, ◌%◌, ◌^◌, Option, Some, option_map}
 use Rattle.wild_loader.specs.declared.memory.Memory.{Memory}
 use Rattle.wild_loader.specs.declared.effect.Value.TheVariants as values
@@ -21,5 +21,5 @@ operand_of (values.Number n) = Number n
 operand_of (values.Pair a) = Pair a
 
 -- an effect; a pair has the value that the reader gives it
-abbrev pub told : Reader → running.Effect → Option Effect
-told read e = option_map (λ v. record { deed = e.deed; width = e.width; value = v % 2 ^ e.width }) (read (operand_of e.value))
+abbrev pub effect_read_by : Reader → running.Effect → Option Effect
+effect_read_by read e = option_map (λ v. record { deed = e.deed; width = e.width; value = v % 2 ^ e.width }) (read (operand_of e.value))

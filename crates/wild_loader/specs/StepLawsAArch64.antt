@@ -7,7 +7,7 @@ use Rattle.std.specs.List.{flat_map}
 use Rattle.wild_words.specs.Words.{word}
 use Rattle.wild_aarch64.specs.Machine.{page}
 use Rattle.wild_aarch64.specs.Row.{Within}
-use Rattle.wild_aarch64.specs.Stub.{stub, marked_stub, thunk, HasSlot, StandsAt}
+use Rattle.wild_aarch64.specs.Stub.{stub, marked_stub, thunk, HasSlot, IsLocatedAt}
 use Rattle.wild_loader.specs.declared.memory.Machine.TheVariants as machines
 use Rattle.wild_loader.specs.declared.memory.Memory.{Memory}
 use Rattle.wild_loader.specs.declared.effect.Effect.{Effect}
@@ -19,12 +19,12 @@ use Rattle.wild_loader.specs.Changes.{first_value}
 use Rattle.wild_loader.specs.Instruction.{Reader}
 use Rattle.wild_loader.specs.InstructionAArch64.{effect_aarch64}
 use Rattle.wild_loader.specs.Effect.{step, step_aarch64}
-use Rattle.wild_loader.specs.Reach.{Reaches, jumped}
-use Rattle.wild_loader.specs.StepLaws.{ReadsMemory, told}
+use Rattle.wild_loader.specs.Reach.{Reaches, jump_target}
+use Rattle.wild_loader.specs.StepLaws.{ReadsMemory, effect_read_by}
 
 -- the bytes of words of code
-abbrev pub spelled : List ℕ → List ℕ
-spelled ws = flat_map (word 4) ws
+abbrev pub bytes_of_words : List ℕ → List ℕ
+bytes_of_words ws = flat_map (word 4) ws
 
 -- code of n bytes that jumps to an address
 abbrev pub jumps : ℕ → ℕ → Effect
@@ -32,17 +32,17 @@ jumps size v = record { length = size; width = 64; deed = Jump; value = values.N
 
 -- at every page-aligned base a stub is a jump to the address in its slot
 abbrev pub StubsAreRead : Type 0
-StubsAreRead = (m : Memory) (base p g v : ℕ) → m.machine ≡ machines.AArch64 → HasSlot p g → StandsAt base p g → Holds m (base + p) (spelled (stub p g)) → number_in m (base + g) 8 ≡ Some v
+StubsAreRead = (m : Memory) (base p g v : ℕ) → m.machine ≡ machines.AArch64 → HasSlot p g → IsLocatedAt base p g → Holds m (base + p) (bytes_of_words (stub p g)) → number_in m (base + g) 8 ≡ Some v
     → step m (base + p) ≡ Some (jumps 16 v)
 
 -- the same after a landing pad
 abbrev pub MarkedStubsAreRead : Type 0
-MarkedStubsAreRead = (m : Memory) (base p g v : ℕ) → m.machine ≡ machines.AArch64 → HasSlot (p + 4) g → StandsAt base p g → Holds m (base + p) (spelled (marked_stub p g)) → number_in m (base + g) 8 ≡ Some v
+MarkedStubsAreRead = (m : Memory) (base p g v : ℕ) → m.machine ≡ machines.AArch64 → HasSlot (p + 4) g → IsLocatedAt base p g → Holds m (base + p) (bytes_of_words (marked_stub p g)) → number_in m (base + g) 8 ≡ Some v
     → step m (base + p) ≡ Some (jumps 16 v)
 
 -- a thunk is a jump to its target, which is computed modulo 2^64
 abbrev pub ThunksAreRead : Type 0
-ThunksAreRead = (m : Memory) (base p t : ℕ) → m.machine ≡ machines.AArch64 → Within (2 ^ 32) (page p) (page t) → base % 4096 ≡ 0 → base + p + 12 ≤ 2 ^ 64 → Holds m (base + p) (spelled (thunk p t))
+ThunksAreRead = (m : Memory) (base p t : ℕ) → m.machine ≡ machines.AArch64 → Within (2 ^ 32) (page p) (page t) → base % 4096 ≡ 0 → base + p + 12 ≤ 2 ^ 64 → Holds m (base + p) (bytes_of_words (thunk p t))
     → step m (base + p) ≡ Some (jumps 12 ((base + t) % 2 ^ 64))
 
 -- a descriptor reads as the offset that was noted for it
@@ -54,7 +54,7 @@ pub record IsRun (m : Memory) (a : ℕ) (e : Effect) : Type 0 where
   pub bytes : List ℕ
   pub held : Holds m a bytes
   pub long : length bytes ≡ e.length
-  pub means : (read : Reader) → ReadsMemory m read → ReadsDescriptors m read → effect_aarch64 read a bytes ≡ told read e
+  pub means : (read : Reader) → ReadsMemory m read → ReadsDescriptors m read → effect_aarch64 read a bytes ≡ effect_read_by read e
 
 -- every effect at an address has this property
 abbrev pub RunsAreMeant : Type 0
@@ -62,4 +62,4 @@ RunsAreMeant = (m : Memory) (a : ℕ) (e : Effect) → step_aarch64 m a ≡ Some
 
 -- code that jumps to an address reaches it
 abbrev pub JumpsReach : Type 0
-JumpsReach = (m : Memory) (a v : ℕ) (e : Effect) → step m a ≡ Some e → jumped e ≡ Some v → Reaches m a v
+JumpsReach = (m : Memory) (a v : ℕ) (e : Effect) → step m a ≡ Some e → jump_target e ≡ Some v → Reaches m a v

@@ -15,7 +15,7 @@ use Rattle.wild_loader.specs.declared.instruction.Deed.TheVariants.{Call, Jump}
 use Rattle.wild_loader.specs.Instruction.{Template, Reader, stands, signed_32}
 use Rattle.wild_loader.specs.InstructionX86_64.{templates_x86_64, effect_x86_64}
 use Rattle.wild_loader.specs.Effect.{step, step_x86_64}
-use Rattle.wild_loader.specs.StepLaws.{ReadsMemory, told}
+use Rattle.wild_loader.specs.StepLaws.{ReadsMemory, effect_read_by}
 
 -- `e8 rel32` in memory of an x86-64 image is a call
 abbrev pub CallsAreRead : Type 0
@@ -72,15 +72,15 @@ StubsOfValuesAreRead = (m : Memory) (a displacement v : ℕ) → m.machine ≡ m
 -- ---- any code
 
 -- an effect at an address is the meaning of the bytes there, as many as its length says
-pub record IsMeant (m : Memory) (a : ℕ) (e : running.Effect) : Type 0 where
+pub record HasMeaning (m : Memory) (a : ℕ) (e : running.Effect) : Type 0 where
   pub bytes : List ℕ
   pub held : Holds m a bytes
   pub long : length bytes ≡ e.length
-  pub means : (read : Reader) → ReadsMemory m read → effect_x86_64 read a bytes ≡ told read e
+  pub means : (read : Reader) → ReadsMemory m read → effect_x86_64 read a bytes ≡ effect_read_by read e
 
 -- every effect at an address has this property
 abbrev pub StepsAreMeant : Type 0
-StepsAreMeant = (m : Memory) (a : ℕ) (e : running.Effect) → step_x86_64 m a ≡ Some e → IsMeant m a e
+StepsAreMeant = (m : Memory) (a : ℕ) (e : running.Effect) → step_x86_64 m a ≡ Some e → HasMeaning m a e
 
 -- no template that matches the bytes there is longer
 abbrev pub StepsAreLongest : Type 0

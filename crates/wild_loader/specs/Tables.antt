@@ -15,8 +15,8 @@ use Rattle.wild_loader.specs.declared.fault.LoadFault.{LoadFault}
 use Rattle.wild_loader.specs.declared.fault.LoadFault.TheVariants as faults
 use Rattle.wild_loader.specs.declared.tables.Tables.{Tables}
 use Rattle.wild_loader.specs.declared.tables.Span.{Span}
-use Rattle.wild_loader.specs.Given.{◌>>=◌}
-use Rattle.wild_loader.specs.Headers.{table_lies, sections}
+use Rattle.wild_loader.specs.Outcome.{◌>>=◌}
+use Rattle.wild_loader.specs.Headers.{table_in_image, sections}
 
 -- ---- entries in the image
 
@@ -43,9 +43,9 @@ first_dynamic [] = None
 first_dynamic (h ∷ hs) = if h.kind == pt_dynamic then Some h else first_dynamic hs
 
 -- the value of the first entry with a tag
-unfoldable pub tagged : ℕ → List DynamicEntry → Option ℕ
-tagged tag [] = None
-tagged tag (d ∷ ds) = if d.tag == tag then Some d.value else tagged tag ds
+unfoldable pub value_of_tag : ℕ → List DynamicEntry → Option ℕ
+value_of_tag tag [] = None
+value_of_tag tag (d ∷ ds) = if d.tag == tag then Some d.value else value_of_tag tag ds
 
 -- the segment is loaded and contains an address
 abbrev pub has_in_memory : ProgramHeader → ℕ → Bool
@@ -77,7 +77,7 @@ span_of image hs tag size_tag None None = Ok no_span
 
 -- the file bytes of the table that two tags name
 unfoldable pub table_of : List ℕ → List ProgramHeader → List DynamicEntry → ℕ → ℕ → Result Span LoadFault
-table_of image hs ds tag size_tag = span_of image hs tag size_tag (tagged tag ds) (tagged size_tag ds)
+table_of image hs ds tag size_tag = span_of image hs tag size_tag (value_of_tag tag ds) (value_of_tag size_tag ds)
 
 -- the tables that dynamic entries name; a remainder shorter than an entry is not read
 unfoldable pub named_tables : List ℕ → List ProgramHeader → List DynamicEntry → Result Tables LoadFault
@@ -89,7 +89,7 @@ named_tables image hs ds =
 
 -- the entries of the dynamic section of a segment, which is in the image; an empty one has none, whatever its offset
 abbrev pub section_of : List ℕ → ProgramHeader → Result (List DynamicEntry) LoadFault
-section_of image d = if d.file_size == 0 then Ok [] else (table_lies image d.offset d.file_size 1 >>= λ lies. Ok (dynamic_entries image (d.file_size / dynamic_entry_size) d.offset))
+section_of image d = if d.file_size == 0 then Ok [] else (table_in_image image d.offset d.file_size 1 >>= λ lies. Ok (dynamic_entries image (d.file_size / dynamic_entry_size) d.offset))
 
 -- the tables that the dynamic section of a segment names
 unfoldable pub dynamic_tables : List ℕ → List ProgramHeader → ProgramHeader → Result Tables LoadFault
@@ -103,7 +103,7 @@ has_entries s = s.kind == sht_rela && s.flags / shf_alloc % 2 == 1 && not (s.siz
 
 -- the entries, followed by those of a section, which is in the image
 abbrev pub with_section : List ℕ → SectionHeader → List Rela → Result (List Rela) LoadFault
-with_section image s entries = table_lies image s.offset s.size 1 >>= λ lies. Ok (entries ++ relas_at image (s.size / rela_size) s.offset)
+with_section image s entries = table_in_image image s.offset s.size 1 >>= λ lies. Ok (entries ++ relas_at image (s.size / rela_size) s.offset)
 
 -- the entries, followed by those of sections
 unfoldable pub section_entries : List ℕ → List SectionHeader → List Rela → Result (List Rela) LoadFault
@@ -119,10 +119,10 @@ section_tables image e = sections image e >>= λ ss. section_entries image ss []
 
 -- ---- the whole
 
-abbrev pub tables_by : List ℕ → FileHeader → List ProgramHeader → Option ProgramHeader → Result Tables LoadFault
-tables_by image e hs (Some d) = dynamic_tables image hs d
-tables_by image e hs None = section_tables image e
+abbrev pub tables_of_image : List ℕ → FileHeader → List ProgramHeader → Option ProgramHeader → Result Tables LoadFault
+tables_of_image image e hs (Some d) = dynamic_tables image hs d
+tables_of_image image e hs None = section_tables image e
 
 -- the tables that are applied
 unfoldable pub tables : List ℕ → FileHeader → List ProgramHeader → Result Tables LoadFault
-tables image e hs = tables_by image e hs (first_dynamic hs)
+tables image e hs = tables_of_image image e hs (first_dynamic hs)

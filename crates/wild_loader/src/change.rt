@@ -1,7 +1,7 @@
 //! The changes that a relocation entry makes in memory.
 ghost use Rattle.std.specs.Prelude.{◌≡◌, Ok, IfOk, length};
 ghost use Rattle.wild_words.specs.Words.{word, number};
-ghost use Rattle.wild_loader.specs.Given.{Gives};
+ghost use Rattle.wild_loader.specs.Outcome.{Gives};
 ghost use Rattle.wild_loader.specs.Runs.{read_bytes};
 ghost use Rattle.wild_loader.specs.Changes.{change_of, size_of, bytes_after, offset_noted, patch_at};
 ghost use Rattle.wild_loader.specs.Relocate.{rela_patch, place_patch};
@@ -41,7 +41,7 @@ pub struct Patch {
 }
 
 /// A copy of bytes.
-fn copied(alloc: Global, bytes: &[u8]) -> Result<Bytes, LoadFault>
+fn copy_bytes(alloc: Global, bytes: &[u8]) -> Result<Bytes, LoadFault>
     ensures { Gives result (Ok bytes.now) }
 {
     let mut copy = Vec::new(alloc);
@@ -54,7 +54,7 @@ fn copied(alloc: Global, bytes: &[u8]) -> Result<Bytes, LoadFault>
 fn word_bytes(alloc: Global, number: u64) -> Result<Bytes, LoadFault>
     ensures { Gives result (Ok (word 8 number)) }
 {
-    copied(alloc, &number.to_le_bytes())
+    copy_bytes(alloc, &number.to_le_bytes())
 }
 
 /// The 4 bytes of a number.
@@ -62,7 +62,7 @@ fn word_bytes(alloc: Global, number: u64) -> Result<Bytes, LoadFault>
 fn half_bytes(alloc: Global, number: u32) -> Result<Bytes, LoadFault>
     ensures { Gives result (Ok (word 4 number)) }
 {
-    copied(alloc, &number.to_le_bytes())
+    copy_bytes(alloc, &number.to_le_bytes())
 }
 
 /// The change of an entry of a kind.
@@ -98,7 +98,7 @@ fn entry_change(
         DynamicKind::Descriptor => Ok(Change::Descriptor(thread_number(world, entry)?)),
         DynamicKind::Copy => {
             let answer = answer(world, entry.symbol)?;
-            Ok(Change::Fill(copied(alloc, answer.bytes.as_slice())?))
+            Ok(Change::Fill(copy_bytes(alloc, answer.bytes.as_slice())?))
         }
         DynamicKind::Size32 => {
             let answer = answer(world, entry.symbol)?;
@@ -157,7 +157,7 @@ fn word_of(bytes: &Bytes) -> u64
 }
 
 /// The bytes after a change, given those before.
-fn changed_bytes(alloc: Global, change: Change, old: Bytes) -> Result<Bytes, LoadFault>
+fn apply_change(alloc: Global, change: Change, old: Bytes) -> Result<Bytes, LoadFault>
     requires { length old ≡ size_of change }
     ensures { Gives result (Ok (bytes_after change old)) }
 {
@@ -171,7 +171,7 @@ fn changed_bytes(alloc: Global, change: Change, old: Bytes) -> Result<Bytes, Loa
 }
 
 /// The thread offset that a change notes.
-fn noted(change: &Change) -> Option<u64>
+fn noted_offset(change: &Change) -> Option<u64>
     ensures { result ≡ offset_noted change.now }
 {
     match change {
@@ -191,8 +191,8 @@ fn make_patch(
     ensures { Gives result (patch_at before.now place change) }
 {
     let old = read_loaded(alloc, before, place, size(&change))?;
-    let offset = noted(&change);
-    let bytes = changed_bytes(alloc, change, old)?;
+    let offset = noted_offset(&change);
+    let bytes = apply_change(alloc, change, old)?;
     Ok(Patch {
         run: Run {
             start: place,

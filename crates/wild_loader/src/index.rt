@@ -2,8 +2,8 @@
 //! search.
 ghost use Rattle.std.specs.Prelude.{◌≡◌, map, None, Some, Ok, MatchResult};
 ghost use Rattle.wild_loader.specs.declared.fault.LoadFault.TheVariants.{OutOfMemory};
-ghost use Rattle.wild_loader.specs.Given.{Gives, GivesBy};
-ghost use Rattle.wild_loader.specs.Index.{place_of, located, IsIndexOf};
+ghost use Rattle.wild_loader.specs.Outcome.{Gives, GivesBy};
+ghost use Rattle.wild_loader.specs.Index.{place_of, starts_and_indices, IsIndexOf};
 ghost use Rattle.wild_loader.specs.Memory.{memory_of, byte_of, byte_in};
 ghost use Rattle.wild_loader.specs.Runs.{extent_of, least_shared, has_address, put_byte};
 
@@ -45,9 +45,9 @@ fn has(run: &Run, address: u128) -> bool
 }
 
 /// The start and the list index of each run that is not empty.
-#[tactic(auto, unfolding(crate::specs::Index::located))]
+#[tactic(auto, unfolding(crate::specs::Index::starts_and_indices))]
 fn locate(alloc: Global, runs: &[Run]) -> Result<Vec<(u64, usize)>, LoadFault>
-    ensures { GivesBy (λ v. v.items) result (Ok (located 0 (map extent_of runs.now))) }
+    ensures { GivesBy (λ v. v.items) result (Ok (starts_and_indices 0 (map extent_of runs.now))) }
 {
     let mut index = Vec::new(alloc);
     for i in 0..runs.len() {

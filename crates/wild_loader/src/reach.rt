@@ -1,7 +1,7 @@
 //! Where execution continues.
 ghost use Rattle.std.specs.Prelude.{◌≡◌, ◌↔◌, option_and_then, IsTrue};
 ghost use Rattle.wild_loader.specs.Effect.{step};
-ghost use Rattle.wild_loader.specs.Reach.{jumped, Reaches};
+ghost use Rattle.wild_loader.specs.Reach.{jump_target, Reaches};
 
 use crate::effect::{Value, step};
 use crate::instruction::Deed;
@@ -9,7 +9,7 @@ use crate::memory::Memory;
 
 /// Where execution continues after a jump at an address.
 fn next(memory: &Memory, address: u64) -> Option<u64>
-    ensures { result ≡ option_and_then jumped (step memory.now address) }
+    ensures { result ≡ option_and_then jump_target (step memory.now address) }
 {
     let effect = step(memory, address)?;
     match (effect.deed, effect.value) {

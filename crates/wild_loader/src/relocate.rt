@@ -1,7 +1,7 @@
 //! The tables of an image applied to the bytes of its segments.
 ghost use Rattle.std.specs.Prelude.{◌≡◌, [], ◌++◌, Ok};
-ghost use Rattle.wild_loader.specs.Given.{Gives};
-ghost use Rattle.wild_loader.specs.Relocate.{add_relas, add_places, apart, notes, patched, relocate};
+ghost use Rattle.wild_loader.specs.Outcome.{Gives};
+ghost use Rattle.wild_loader.specs.Relocate.{add_relas, add_places, apart, notes, memory_with_patches, relocate};
 
 use crate::change::{Patch, entry_patch, packed_patch};
 use crate::fault::LoadFault;
@@ -74,7 +74,7 @@ fn noted_pairs(alloc: Global, patches: &[Patch]) -> Result<Items<(u64, u64)>, Lo
 
 /// Memory with changes.
 fn changed(alloc: Global, mut before: IndexedMemory, patches: &[Patch]) -> Result<Memory, LoadFault>
-    ensures { Gives result (Ok (patched before patches.now)) }
+    ensures { Gives result (Ok (memory_with_patches before patches.now)) }
 {
     let descriptors = noted_pairs(alloc, patches)?;
     put_patches(&mut before, patches);

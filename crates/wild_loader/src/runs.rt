@@ -1,8 +1,8 @@
 //! Bytes at addresses: whether two parts share one, and writing parts over others.
 ghost use Rattle.std.specs.Prelude.{◌≡◌, map, None, IfOk, Ok};
-ghost use Rattle.wild_loader.specs.Given.{Gives, GivesBy};
+ghost use Rattle.wild_loader.specs.Outcome.{Gives, GivesBy};
 ghost use Rattle.wild_loader.specs.Relocate.{runs_of_patches};
-ghost use Rattle.wild_loader.specs.Runs.{extent_of, least_shared, unless_shared, put_bytes, overlaid};
+ghost use Rattle.wild_loader.specs.Runs.{extent_of, least_shared, check_no_overlap, put_bytes, overlay_runs};
 
 use crate::change::Patch;
 use crate::fault::LoadFault;
@@ -45,7 +45,7 @@ fn extents_of_patches(alloc: Global, patches: &[Patch]) -> Result<Vec<Extent>, L
 
 /// Whether no two of the runs share an address.
 pub(crate) fn check_runs(alloc: Global, runs: &[Run]) -> Result<(), LoadFault>
-    ensures gives { Gives result (unless_shared (least_shared runs.now)) }
+    ensures gives { Gives result (check_no_overlap (least_shared runs.now)) }
     ensures apart { IfOk result (λ x. least_shared runs.now ≡ None) }
 {
     let mut extents = extents_of_runs(alloc, runs)?;
@@ -57,7 +57,7 @@ pub(crate) fn check_runs(alloc: Global, runs: &[Run]) -> Result<(), LoadFault>
 
 /// Whether no two changes share an address.
 pub(crate) fn check_patches(alloc: Global, patches: &[Patch]) -> Result<(), LoadFault>
-    ensures { Gives result (unless_shared (least_shared (runs_of_patches patches.now))) }
+    ensures { Gives result (check_no_overlap (least_shared (runs_of_patches patches.now))) }
 {
     let mut extents = extents_of_patches(alloc, patches)?;
     if let Some(address) = least_shared(&mut extents) {
@@ -78,10 +78,10 @@ fn put_all(memory: &mut IndexedMemory, start: u64, bytes: &[u8])
 }
 
 /// Writes the bytes of changes over memory.
-#[tactic(auto, unfolding(crate::specs::Runs::overlaid))]
+#[tactic(auto, unfolding(crate::specs::Runs::overlay_runs))]
 pub(crate) fn put_patches(memory: &mut IndexedMemory, patches: &[Patch])
     ensures machine { memory.new.machine ≡ memory.old.machine }
-    ensures runs { memory.new.runs ≡ overlaid (runs_of_patches patches.now) memory.old.runs }
+    ensures runs { memory.new.runs ≡ overlay_runs (runs_of_patches patches.now) memory.old.runs }
 {
     for patch in patches {
         put_all(memory, patch.run.start, patch.run.bytes.as_slice());

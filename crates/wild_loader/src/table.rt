@@ -10,7 +10,7 @@
 ghost use Rattle.std.specs.Prelude.{◌≡◌, ◌++◌, map, option_map};
 ghost use Rattle.wild_loader.specs.CodeX86_64.{bare, rex, rex2, with_prefix};
 ghost use Rattle.wild_loader.specs.InstructionX86_64.{whole_sequences, branches, short, templates_x86_64};
-ghost use Rattle.wild_loader.specs.Effect.{first_standing};
+ghost use Rattle.wild_loader.specs.Effect.{first_match};
 ghost use Rattle.wild_loader.specs.Rows.{template_of};
 
 use crate::instruction::Cell::{self, Any, Digit, Is, Slot};
@@ -18,7 +18,7 @@ use crate::template::Operation::{
     Add, Call, CallDescriptor, Compare, Jump, Nothing, Set, SetThreadAddress, Subtract,
 };
 use crate::template::Place::{Absent, Immediate, Relative};
-use crate::template::Prefix::{Bare, Rex, Rex2};
+use crate::template::Prefix::{NoPrefix, Rex, Rex2};
 use crate::template::Register::{Accumulator, Reg, Rm};
 use crate::template::{Sort, Template};
 
@@ -55,7 +55,7 @@ macro_rules! row {
 
 /// A prefix, an opcode, and a register with either `[rip + displacement]` or, with a digit, an immediate.
 macro_rules! one_register {
-    (Bare $($form:tt)*) => { one_register!(@ 6 [] 2 Bare $($form)*) };
+    (NoPrefix $($form:tt)*) => { one_register!(@ 6 [] 2 NoPrefix $($form)*) };
     (Rex $($form:tt)*) => { one_register!(@ 7 [(Cell::From(0x48, 0x4f))] 3 Rex $($form)*) };
     (Rex2 $($form:tt)*) => { one_register!(@ 8 [0xd5 (Cell::From(0, 0x7f))] 4 Rex2 $($form)*) };
     (@ $length:literal [$($prefix:tt)*] $field:literal $name:ident $opcode:literal $sort:ident $operation:ident) => {
@@ -128,15 +128,15 @@ const IN_REX: [Template; 9] = [
 ];
 
 const IN_BARE: [Template; 9] = [
-    one_register!(Bare 0x8b Word Set),
-    one_register!(Bare 0x03 Word Add),
-    one_register!(Bare 0x2b Word Subtract),
-    one_register!(Bare 0x3b Word Compare),
-    one_register!(Bare 0x8d Address Set),
-    one_register!(Bare 0xc7 / 0 Set),
-    one_register!(Bare 0x81 / 0 Add),
-    one_register!(Bare 0x81 / 5 Subtract),
-    one_register!(Bare 0x81 / 7 Compare),
+    one_register!(NoPrefix 0x8b Word Set),
+    one_register!(NoPrefix 0x03 Word Add),
+    one_register!(NoPrefix 0x2b Word Subtract),
+    one_register!(NoPrefix 0x3b Word Compare),
+    one_register!(NoPrefix 0x8d Address Set),
+    one_register!(NoPrefix 0xc7 / 0 Set),
+    one_register!(NoPrefix 0x81 / 0 Add),
+    one_register!(NoPrefix 0x81 / 5 Subtract),
+    one_register!(NoPrefix 0x81 / 7 Compare),
 ];
 
 // Branches, and instructions without a field.
@@ -152,12 +152,12 @@ const OTHERS: [Template; 8] = [
 ];
 
 /// The first template that matches the start of the bytes.
-#[tactic(auto, unfolding(crate::specs::Effect::first_standing))]
+#[tactic(auto, unfolding(crate::specs::Effect::first_match))]
 fn first_of(templates: &[Template], bytes: &[u8]) -> Option<Template>
-    ensures { option_map template_of result ≡ first_standing (map template_of templates.now) bytes.now }
+    ensures { option_map template_of result ≡ first_match (map template_of templates.now) bytes.now }
 {
     for template in templates {
-        if template.is_standing(bytes) {
+        if template.is_match(bytes) {
             return Some(*template);
         }
     }
@@ -165,38 +165,38 @@ fn first_of(templates: &[Template], bytes: &[u8]) -> Option<Template>
 }
 
 fn sequence(bytes: &[u8]) -> Option<Template>
-    ensures { option_map template_of result ≡ first_standing whole_sequences bytes.now }
+    ensures { option_map template_of result ≡ first_match whole_sequences bytes.now }
 {
     first_of(&SEQUENCES, bytes)
 }
 
 fn behind_rex2(bytes: &[u8]) -> Option<Template>
-    ensures { option_map template_of result ≡ first_standing (with_prefix rex2) bytes.now }
+    ensures { option_map template_of result ≡ first_match (with_prefix rex2) bytes.now }
 {
     first_of(&IN_REX2, bytes)
 }
 
 fn behind_rex(bytes: &[u8]) -> Option<Template>
-    ensures { option_map template_of result ≡ first_standing (with_prefix rex) bytes.now }
+    ensures { option_map template_of result ≡ first_match (with_prefix rex) bytes.now }
 {
     first_of(&IN_REX, bytes)
 }
 
 fn bare(bytes: &[u8]) -> Option<Template>
-    ensures { option_map template_of result ≡ first_standing (with_prefix bare) bytes.now }
+    ensures { option_map template_of result ≡ first_match (with_prefix bare) bytes.now }
 {
     first_of(&IN_BARE, bytes)
 }
 
 fn other(bytes: &[u8]) -> Option<Template>
-    ensures { option_map template_of result ≡ first_standing (branches ++ short) bytes.now }
+    ensures { option_map template_of result ≡ first_match (branches ++ short) bytes.now }
 {
     first_of(&OTHERS, bytes)
 }
 
 /// The longest x86-64 template that matches the start of the bytes.
 pub fn template_x86_64(bytes: &[u8]) -> Option<Template>
-    ensures { option_map template_of result ≡ first_standing templates_x86_64 bytes.now }
+    ensures { option_map template_of result ≡ first_match templates_x86_64 bytes.now }
 {
     sequence(bytes)
         .or(behind_rex2(bytes))

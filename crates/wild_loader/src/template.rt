@@ -13,7 +13,7 @@ pub const LONGEST: usize = 22;
 #[derive(Clone, Copy)]
 pub enum Prefix {
     /// No prefix: 32 bits.
-    Bare,
+    NoPrefix,
     /// One byte, for 16 registers (Intel SDM, "REX Prefixes").
     Rex,
     /// Two bytes, for 32 registers (Intel APX, "REX2").
@@ -94,7 +94,7 @@ pub(crate) fn front<T>(items: &[T], count: usize) -> &[T]
     }
 }
 
-fn is_fit(cell: Cell, byte: u8) -> bool
+fn is_cell_match(cell: Cell, byte: u8) -> bool
     ensures { result ≡ fits cell byte }
 {
     match cell {
@@ -107,14 +107,14 @@ fn is_fit(cell: Cell, byte: u8) -> bool
 }
 
 /// Whether the bytes start with values that the cells allow.
-fn is_standing(cells: &[Cell], bytes: &[u8]) -> bool
+fn is_match(cells: &[Cell], bytes: &[u8]) -> bool
     ensures { result ≡ stands cells.now bytes.now }
 {
     match cells.split_first() {
         None => true,
         Some((cell, cells)) => match bytes.split_first() {
             None => false,
-            Some((byte, bytes)) => is_fit(*cell, *byte) && is_standing(cells, bytes),
+            Some((byte, bytes)) => is_cell_match(*cell, *byte) && is_match(cells, bytes),
         },
     }
 }
@@ -157,7 +157,7 @@ impl Prefix {
         ensures { result ≡ prefix_length self }
     {
         match self {
-            Prefix::Bare => 0,
+            Prefix::NoPrefix => 0,
             Prefix::Rex => 1,
             Prefix::Rex2 => 2,
         }
@@ -169,7 +169,7 @@ impl Prefix {
         ensures low { result < 32 }
     {
         match self {
-            Prefix::Bare => 0,
+            Prefix::NoPrefix => 0,
             Prefix::Rex => 8 * (byte_at(bytes, 0) / 4 % 2),
             Prefix::Rex2 => 8 * (byte_at(bytes, 1) / 4 % 2) + 16 * (byte_at(bytes, 1) / 64 % 2),
         }
@@ -181,7 +181,7 @@ impl Prefix {
         ensures low { result < 32 }
     {
         match self {
-            Prefix::Bare => 0,
+            Prefix::NoPrefix => 0,
             Prefix::Rex => 8 * (byte_at(bytes, 0) % 2),
             Prefix::Rex2 => 8 * (byte_at(bytes, 1) % 2) + 16 * (byte_at(bytes, 1) / 16 % 2),
         }
@@ -207,7 +207,7 @@ impl Register {
         ensures { result ≡ width_of self bytes.now }
     {
         match self {
-            Register::Reg(Prefix::Bare) | Register::Rm(Prefix::Bare) => 32,
+            Register::Reg(Prefix::NoPrefix) | Register::Rm(Prefix::NoPrefix) => 32,
             Register::Reg(Prefix::Rex2) | Register::Rm(Prefix::Rex2) => {
                 32 + 32 * (byte_at(bytes, 1) as u64 / 8 % 2)
             }
@@ -263,10 +263,10 @@ impl Template {
     }
 
     /// Whether it matches the start of the bytes.
-    pub fn is_standing(&self, bytes: &[u8]) -> bool
+    pub fn is_match(&self, bytes: &[u8]) -> bool
         ensures { result ≡ stands (template_of self.now).cells bytes.now }
     {
-        is_standing(self.cells(), bytes)
+        is_match(self.cells(), bytes)
     }
 
     /// The action of its bytes at an address.

@@ -3,12 +3,12 @@
 
 use std::process::ExitCode;
 use std::{env, io};
-use wild_program::{Reading, Writing, run, status_of, words_of};
+use wild_program::{ReaderSource, WriterSink, run, status_of, words_of};
 
 fn main(rt: HostRuntime) -> ExitCode {
     let alloc = rt.alloc();
-    let mut source = Reading::new(rt.reader());
-    let mut sink = Writing::new(io::writer(&rt));
+    let mut source = ReaderSource::new(rt.reader());
+    let mut sink = WriterSink::new(io::writer(&rt));
     let outcome = match words_of(alloc, env::args(&rt)) {
         Ok(words) => run(&rt, alloc, &words, &mut source, &mut sink),
         Err(e) => Err(e),

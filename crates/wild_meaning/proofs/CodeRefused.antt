@@ -18,11 +18,11 @@ use Rattle.wild_meaning.specs.Item.{IsKept, OfSection}
 use Rattle.wild_meaning.specs.Field.{InNoField}
 use Rattle.wild_meaning.specs.Sequence.{Instruction, Target, AddressInSlot, Described, size_of, of_field, instructions_of}
 use Rattle.wild_meaning.specs.Template.{IsDescribed, IsInstruction, IsTemplate, DoesDemanded}
-use Rattle.wild_meaning.specs.Worked.{Refuses}
-use Rattle.wild_meaning.specs.WorkedStatic.{static_pie, static_pie_world, branch_code, branch_item, branch_reference, load_code, load_item, load_reference, described_code, described_item, described_reference}
-use Rattle.wild_meaning.specs.StaticRefusals.{Has, another_branch, load_past, descriptor_load}
-use Rattle.wild_meaning.proofs.Told.{denoted}
-use Rattle.wild_meaning.proofs.Meant.{meant}
+use Rattle.wild_meaning.specs.Worked.Builders.{Refuses}
+use Rattle.wild_meaning.specs.Worked.Static.{static_pie, static_pie_world, branch_code, branch_item, branch_reference, load_code, load_item, load_reference, described_code, described_item, described_reference}
+use Rattle.wild_meaning.specs.Worked.StaticRefusals.{MemoryHas, another_branch, load_one_byte_off, descriptor_load}
+use Rattle.wild_meaning.proofs.SymbolUnique.{denoted}
+use Rattle.wild_meaning.proofs.EffectLemmas.{meant}
 use Rattle.wild_meaning.proofs.AmongLemmas.{Among}
 use Rattle.wild_meaning.proofs.OneReference.{beside, effect_with, value_in, ReadsNumbers, IsNotDone, fills, same_bytes, single_refused, template_there}
 use Rattle.wild_meaning.proofs.StaticRefused.{first_is, thread_is, thread_offset, holds_there, no_string}
@@ -87,7 +87,7 @@ no_call m read numbers held = (
   ((λ start f s d. let at : start ≡ 0 = omega (arith, f) in let none : false ≡ true = subst (λ (k : ℕ). stands (branch (0xe9 ∷ []) Number Jump).cells (slice_range branch_item.bytes k (k + 5)) ≡ true) at s in absurd (cc)), tt),
 )
 
-pub wrong_branch : Refuses static_pie static_pie_world (Has 0x41000 another_branch)
+pub wrong_branch : Refuses static_pie static_pie_world (MemoryHas 0x41000 another_branch)
 wrong_branch image h x =
     single_refused static_pie static_pie_world h.memory branch_item branch_reference call refl refl call_template (λ read numbers. no_call h.memory read numbers x)
     (holds_there h.memory branch_item branch_reference _ 0 0x1200 (h.kept branch_item branch_kept) (0, omega arith, refl) (omega arith) plt_formula refl first_is)
@@ -123,14 +123,14 @@ pub load_demanded : (v : ℕ) → effect_x86_64 (as_value v) 0x41010 (0x48 ∷ 0
 unfolding meaning_x86_64
 load_demanded v = refl
 
-load_done : (read : Reader) → ReadsNumbers read → effect_x86_64 read 0x41010 load_past ≡ Some (effect_with (Set 0) 64 0x41201)
+load_done : (read : Reader) → ReadsNumbers read → effect_x86_64 read 0x41010 load_one_byte_off ≡ Some (effect_with (Set 0) 64 0x41201)
 unfolding meaning_x86_64 number
 load_done read h = ap (λ (o : Option ℕ). option_map (with_value (record { deed = Set 0; width = 64; operand = Number 0x41201 })) o) (h 0x41201)
 
-load_refused : (read : Reader) (m : Memory) → ReadsNumbers read → Holds m 0x41010 load_past → DoesDemanded read static_pie static_pie_world m load_item load_reference 0 load → ⊥
+load_refused : (read : Reader) (m : Memory) → ReadsNumbers read → Holds m 0x41010 load_one_byte_off → DoesDemanded read static_pie static_pie_world m load_item load_reference 0 load → ⊥
 load_refused read m numbers held d =
     let h = meant read static_pie static_pie_world m load_item load_reference 0 load d in
-    let bytes : h.bytes ≡ load_past = same_bytes m 0x41010 h.bytes load_past h.whole h.held held in
+    let bytes : h.bytes ≡ load_one_byte_off = same_bytes m 0x41010 h.bytes load_one_byte_off h.whole h.held held in
     let done : Some (effect_with (Set 0) 64 0x41201) ≡ Some h.effect = sym (load_done read numbers) ∙ subst (λ (bs : List ℕ). effect_x86_64 read 0x41010 bs ≡ Some h.effect) bytes h.does in
     let demanded : Some (effect_with (Set 0) 64 (h.value % 2 ^ 64)) ≡ Some h.effect = sym (load_demanded h.value) ∙ h.demanded in
     let same : 0x41201 ≡ h.value % 2 ^ 64 = value_in (Set 0) 64 0x41201 h.effect done ∙ sym (value_in (Set 0) 64 (h.value % 2 ^ 64) h.effect demanded) in
@@ -144,7 +144,7 @@ no_opcode start o at never s =
     let none : false ≡ true = sym never ∙ there in
     cc
 
-no_load : (m : Memory) (read : Reader) → ReadsNumbers read → Holds m 0x41010 load_past → Among (fills load_reference.number) (IsNotDone read static_pie static_pie_world m load_item load_reference) (instructions_of machine.X86_64)
+no_load : (m : Memory) (read : Reader) → ReadsNumbers read → Holds m 0x41010 load_one_byte_off → Among (fills load_reference.number) (IsNotDone read static_pie static_pie_world m load_item load_reference) (instructions_of machine.X86_64)
 no_load m read numbers held = (
   (λ start f s d. let at : start ≡ 0 = omega (arith, f) in load_refused read m numbers held (subst (λ (k : ℕ). DoesDemanded read static_pie static_pie_world m load_item load_reference k load) at d)),
   (
@@ -153,7 +153,7 @@ no_load m read numbers held = (
   ),
 )
 
-pub wrong_load : Refuses static_pie static_pie_world (Has 0x41010 load_past)
+pub wrong_load : Refuses static_pie static_pie_world (MemoryHas 0x41010 load_one_byte_off)
 wrong_load image h x =
     single_refused static_pie static_pie_world h.memory load_item load_reference load refl refl load_template (λ read numbers. no_load h.memory read numbers x)
     (holds_there h.memory load_item load_reference _ 0 0x1200 (h.kept load_item load_kept) (0, omega arith, refl) (omega arith) load_formula refl first_is)
@@ -212,7 +212,7 @@ described_refused read m numbers held d =
 no_described : (m : Memory) (read : Reader) → ReadsNumbers read → Holds m 0x41040 descriptor_load → Among (fills described_reference.number) (IsNotDone read static_pie static_pie_world m described_item described_reference) (instructions_of machine.X86_64)
 no_described m read numbers held = ((λ start f s d. let at : start ≡ 0 = omega (arith, f) in described_refused read m numbers held (subst (λ (k : ℕ). DoesDemanded read static_pie static_pie_world m described_item described_reference k described) at d)), tt)
 
-pub wrong_descriptor : Refuses static_pie static_pie_world (Has 0x41040 descriptor_load)
+pub wrong_descriptor : Refuses static_pie static_pie_world (MemoryHas 0x41040 descriptor_load)
 wrong_descriptor image h x =
     single_refused static_pie static_pie_world h.memory described_item described_reference described refl refl described_template (λ read numbers. no_described h.memory read numbers x)
     (holds_there h.memory described_item described_reference _ 2 0x3008 (h.kept described_item described_kept) (0, omega arith, refl) (omega arith) descriptor_formula refl thread_is)

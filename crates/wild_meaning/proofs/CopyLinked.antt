@@ -7,7 +7,7 @@ use Rattle.std.proofs.lemmas.List.Elements.{All-from_recursion, All-contains}
 use lib.IntN.{pos}
 use Rattle.wild_words.specs.Words.{number}
 use Rattle.wild_words.specs.Record.{spell}
-use Rattle.wild_words.proofs.RecordLemmas.{Stands-left}
+use Rattle.wild_words.proofs.RecordLemmas.{HasBytesAt-left}
 use Rattle.wild_records.specs.Abi.Relocation.{r_x86_64_64}
 use Rattle.wild_records.specs.Abi.Segment.{pt_gnu_stack}
 use Rattle.wild_records.specs.FileHeader.{file_header_fields}
@@ -25,30 +25,30 @@ use Rattle.wild_loader.specs.Memory.{byte_in, Holds}
 use Rattle.wild_loader.specs.Tables.{first_dynamic}
 use Rattle.wild_meaning.specs.Value.{HasValue}
 use Rattle.wild_meaning.specs.Section.{HasFileBytes}
-use Rattle.wild_meaning.specs.World.{HasCopy, IsBehind}
+use Rattle.wild_meaning.specs.World.{HasCopy, IsPastFileBytes}
 use Rattle.wild_types.specs.Item.{Item, item_of, item_with}
 use Rattle.wild_meaning.specs.Item.{IsInput, IsKept, OfSection, OfFrames}
-use Rattle.wild_meaning.specs.Reference.{IsLinkedAlone, ReferenceHolds, ItemHolds}
-use Rattle.wild_meaning.specs.Segments.{headers_in, AreTold}
-use Rattle.wild_meaning.specs.DynamicSection.{TellsLinker}
-use Rattle.wild_meaning.specs.Linked.{IsBlank, IsNotCopied, IsDecidedPlace}
-use Rattle.wild_meaning.specs.Worked.{reference, group_of}
-use Rattle.wild_meaning.specs.WorkedCopy.{copying, copying_data, copying_item, copying_blank, copying_object, copying_library, copying_world, copied_symbol, start_symbol, copied_answer, copied_bytes}
-use Rattle.wild_meaning.specs.WorkedCopyImage.{copying_image, copying_rest, copying_memory, copying_header, copying_third, copying_words}
-use Rattle.wild_meaning.specs.CopyRefusals.{CopyingImageIsLinked}
-use Rattle.wild_meaning.proofs.Told.{only, raw_of}
+use Rattle.wild_meaning.specs.Reference.{UsesOwnSymbolOnly, ReferenceHolds, ItemHolds}
+use Rattle.wild_meaning.specs.Segments.{headers_in, DescribeSegments}
+use Rattle.wild_meaning.specs.DynamicSection.{InformsLinker}
+use Rattle.wild_meaning.specs.LinkedImage.{IsSectionWithoutData, IsNotCopied, HasResolvedAddress}
+use Rattle.wild_meaning.specs.Worked.Builders.{reference, group_of}
+use Rattle.wild_meaning.specs.Worked.Copy.{copying_layout, copying_data, copying_item, copying_blank, copying_object, copying_library, copying_world, copied_symbol, start_symbol, copied_answer, copied_bytes}
+use Rattle.wild_meaning.specs.Worked.CopyImage.{copying_image, copying_rest, copying_memory, copying_header, copying_third, copying_words}
+use Rattle.wild_meaning.specs.Worked.CopyRefusals.{CopyingImageIsLinked}
+use Rattle.wild_meaning.proofs.SymbolUnique.{only, raw_of}
 use Rattle.wild_meaning.proofs.Read.{held_from}
 use Rattle.wild_meaning.proofs.Refused.{not_alone, no_template}
 use Rattle.wild_meaning.proofs.CopyLegal.{copied_own, has_copy, copy_is}
 use Rattle.wild_meaning.proofs.CopyLoaded.{copying_loaded, copying_programs, copying_dynamic, copying_entries, copying_read, copying_tags}
 use Rattle.wild_meaning.proofs.CopyRefused.{address_formula, copied_is_own, no_code, no_string}
-use Rattle.wild_meaning.proofs.StoodLemmas.{stood_plain, frame_input}
+use Rattle.wild_meaning.proofs.PlacedLemmas.{stood_plain, frame_input}
 use Rattle.wild_types.specs.declared.input.Slot.TheVariants as slot
 
 abbrev copied_reference : InputRelocation
 copied_reference = reference 0 r_x86_64_64 0 (pos 0)
 
-copied_value : HasValue copying copying_world 0 0x23100
+copied_value : HasValue copying_layout copying_world 0 0x23100
 unfolding has_flag
 copied_value = inr (record { definition = 0; defined = record { symbol = copied_symbol; listed = refl; defined = inr (refl, refl) }; symbol = copied_symbol; listed = refl; told = refl }, copied_own.address)
 
@@ -56,28 +56,28 @@ words_number : number copying_words ≡ 0x23100
 unfolding number
 words_number = refl
 
-copied_holds : ReferenceHolds copying copying_world copying_memory copying_item copied_reference
+copied_holds : ReferenceHolds copying_layout copying_world copying_memory copying_item copied_reference
 copied_holds = inl (record {
   formula = formula SymbolAddress Full;
   known = address_formula;
   value = 0x23100;
   gives = record { symbol = 0x23100; denoted = inr (no_string SymbolAddress copied_reference, inl copied_value); sum = refl };
   field = record { bytes = copying_words; wide = refl; held = held_from copying_memory 0x21000 copying_words refl; reads = words_number; keeps = tt };
-  kept = λ start o first t. absurd (no_template copying copying_item copied_reference start o first no_code t);
-  does = λ start o first t. absurd (no_template copying copying_item copied_reference start o first no_code t);
+  kept = λ start o first t. absurd (no_template copying_layout copying_item copied_reference start o first no_code t);
+  does = λ start o first t. absurd (no_template copying_layout copying_item copied_reference start o first no_code t);
 })
 
 abbrev Both : InputRelocation → Type 0
-Both r = ReferenceHolds copying copying_world copying_memory copying_item r × (IsLinkedAlone copying copying_item r → ⊥)
+Both r = ReferenceHolds copying_layout copying_world copying_memory copying_item r × (UsesOwnSymbolOnly copying_layout copying_item r → ⊥)
 
 each : All Both copying_item.relocations
-each = All-from_recursion Both copying_item.relocations ((copied_holds, (λ x. not_alone copying copying_item copied_reference _ 0 copied_is_own.symbol address_formula refl copied_is_own.is (λ e. absurd (let both : true ≡ false = sym e ∙ copied_is_own.own in cc)) x)), tt)
+each = All-from_recursion Both copying_item.relocations ((copied_holds, (λ x. not_alone copying_layout copying_item copied_reference _ 0 copied_is_own.symbol address_formula refl copied_is_own.is (λ e. absurd (let both : true ≡ false = sym e ∙ copied_is_own.own in cc)) x)), tt)
 
 no_other : (k : ℕ) → k < 8 → (k < 0) ⊎ (8 ≤ k) → ⊥
 no_other k lt (inl h) = omega (arith, h)
 no_other k lt (inr h) = omega (arith, lt, h)
 
-item_holds : ItemHolds copying copying_world copying_memory copying_item
+item_holds : ItemHolds copying_layout copying_world copying_memory copying_item
 item_holds = record {
   references = λ r ref present asked alone. (All-contains Both copying_item.relocations r each ref.listed).0;
   linked = λ r ref present alone base. absurd ((All-contains Both copying_item.relocations r each ref.listed).1 alone);
@@ -88,7 +88,7 @@ item_holds = record {
 abbrev sections : List InputSection
 sections = copying_data ∷ copying_blank ∷ []
 
-listed_in : (s : InputSection) → IsInput copying s → Contains sections s
+listed_in : (s : InputSection) → IsInput copying_layout s → Contains sections s
 listed_in s h =
     let group : group_of (copying_object ∷ copying_library ∷ []) ≡ h.group = only _ h.group h.grouped in
     let filed : Contains (copying_object ∷ copying_library ∷ []) h.file = subst (λ (g : Group). Contains g.files h.file) (sym group) h.filed in
@@ -100,35 +100,35 @@ listed_in s h =
     by s f (suc (suc k)) lt e listed = absurd (omega (arith, lt))
 
 -- whose branches go by block 0
-in_block : (s : InputSection) (h : IsInput copying s) → item_of copying h.file s ≡ item_with 0 s
+in_block : (s : InputSection) (h : IsInput copying_layout s) → item_of copying_layout h.file s ≡ item_with 0 s
 in_block s h =
     let group : group_of (copying_object ∷ copying_library ∷ []) ≡ h.group = only _ h.group h.grouped in
     let filed : Contains (copying_object ∷ copying_library ∷ []) h.file = subst (λ (g : Group). Contains g.files h.file) (sym group) h.filed in
     let first : h.file.thunk_block ≡ 0 = All-contains (λ (f : File). f.thunk_block ≡ 0) (copying_object ∷ copying_library ∷ []) h.file (All-from_recursion (λ (f : File). f.thunk_block ≡ 0) (copying_object ∷ copying_library ∷ []) (refl, (refl, tt))) filed in
-    ap (λ (k : ℕ). item_with k s) (by (s.part == copying.primary_part) h.file.thunk_block first)
+    ap (λ (k : ℕ). item_with k s) (by (s.part == copying_layout.primary_part) h.file.thunk_block first)
   where
     by : (b : Bool) (n : ℕ) → n ≡ 0 → (if b then n else 0) ≡ 0
     by true n e = e
     by false n e = refl
 
-abbrev StandsAsItIs : InputSection → Type 0
-StandsAsItIs s = s.reversed ≡ false
+abbrev IsPlacedUnchanged : InputSection → Type 0
+IsPlacedUnchanged s = s.reversed ≡ false
 
-stands_so : (s : InputSection) → IsInput copying s → s.reversed ≡ false
-stands_so s h = All-contains StandsAsItIs sections s (All-from_recursion StandsAsItIs sections (refl, (refl, tt))) (listed_in s h)
+stands_so : (s : InputSection) → IsInput copying_layout s → s.reversed ≡ false
+stands_so s h = All-contains IsPlacedUnchanged sections s (All-from_recursion IsPlacedUnchanged sections (refl, (refl, tt))) (listed_in s h)
 
 abbrev IsLoaded : InputSection → Type 0
 IsLoaded s = s.slot ≡ slot.Loaded
 
 abbrev SectionHolds : InputSection → Type 0
-SectionHolds s = s.nobits ≡ false → ItemHolds copying copying_world copying_memory (item_with 0 s)
+SectionHolds s = s.nobits ≡ false → ItemHolds copying_layout copying_world copying_memory (item_with 0 s)
 
-items_hold : (item : Item) → IsKept copying item → ItemHolds copying copying_world copying_memory item
+items_hold : (item : Item) → IsKept copying_layout item → ItemHolds copying_layout copying_world copying_memory item
 items_hold item (OfSection s kept is) =
     let there : SectionHolds s = All-contains SectionHolds sections s (All-from_recursion SectionHolds sections ((λ e. item_holds), ((λ e. absurd (let both : true ≡ false = e in cc)), tt))) (listed_in s kept.input) in
-    subst (λ (i : Item). ItemHolds copying copying_world copying_memory i) (sym (is ∙ (stood_plain copying kept.input.file s (stands_so s kept.input) ∙ in_block s kept.input))) (there kept.has_data)
+    subst (λ (i : Item). ItemHolds copying_layout copying_world copying_memory i) (sym (is ∙ (stood_plain copying_layout kept.input.file s (stands_so s kept.input) ∙ in_block s kept.input))) (there kept.has_data)
 items_hold item (OfFrames s kept is) =
-    let there : IsLoaded s = All-contains IsLoaded sections s (All-from_recursion IsLoaded sections (refl, (refl, tt))) (listed_in s (frame_input copying s kept)) in
+    let there : IsLoaded s = All-contains IsLoaded sections s (All-from_recursion IsLoaded sections (refl, (refl, tt))) (listed_in s (frame_input copying_layout s kept)) in
     let both : slot.Loaded ≡ slot.Frame = sym there ∙ kept.frame in
     cc
 
@@ -150,14 +150,14 @@ zero_at k lt (inr h) = behind k lt h ((k - 264)) (omega (arith, h))
         subst (λ (a : ℕ). byte_in copying_memory a ≡ Some 0) at (zeros_last j (omega (arith, e, lt)) ∙ ap Some (get_or-replicate 248 j 0 0 (omega (arith, e, lt))))
 
 abbrev IsZero : InputSection → Type 0
-IsZero s = s.nobits ≡ true → (k : ℕ) → k < s.size → IsNotCopied copying copying_world (s.address + k) → byte_in copying_memory (copying_world.base + s.address + k) ≡ Some 0
+IsZero s = s.nobits ≡ true → (k : ℕ) → k < s.size → IsNotCopied copying_layout copying_world (s.address + k) → byte_in copying_memory (copying_world.base + s.address + k) ≡ Some 0
 
-zeros : (s : InputSection) (k : ℕ) → IsBlank copying s → k < s.size → IsBehind copying (s.address + k) ⊎ HasFileBytes copying s.part → IsNotCopied copying copying_world (s.address + k) → byte_in copying_memory (copying_world.base + s.address + k) ≡ Some 0
+zeros : (s : InputSection) (k : ℕ) → IsSectionWithoutData copying_layout s → k < s.size → IsPastFileBytes copying_layout (s.address + k) ⊎ HasFileBytes copying_layout s.part → IsNotCopied copying_layout copying_world (s.address + k) → byte_in copying_memory (copying_world.base + s.address + k) ≡ Some 0
 zeros s k h lt behind beside =
     let there : IsZero s = All-contains IsZero sections s (All-from_recursion IsZero sections ((λ e. absurd (let both : false ≡ true = e in cc)), ((λ e k lt beside. zero_at k lt (beside 0 0x3100 copied_answer has_copy)), tt))) (listed_in s h.input) in
     there h.blank k lt beside
 
-copies : (i raw : ℕ) (x : Answer) → HasCopy copying copying_world i raw x → Holds copying_memory (copying_world.base + raw) x.bytes
+copies : (i raw : ℕ) (x : Answer) → HasCopy copying_layout copying_world i raw x → Holds copying_memory (copying_world.base + raw) x.bytes
 copies i raw x h =
     let is = copy_is i raw x h in
     subst (λ (y : Answer). Holds copying_memory (copying_world.base + raw) y.bytes) (sym is.2) (subst (λ (a : ℕ). Holds copying_memory (copying_world.base + a) copied_bytes) (sym is.1) (held_from copying_memory 0x23100 copied_bytes refl))
@@ -167,8 +167,8 @@ copies i raw x h =
 no_load : (n : ℕ) → (n == pt_gnu_stack) ≡ false → n ≡ pt_gnu_stack → ⊥
 no_load n f = eqb-false n pt_gnu_stack f
 
-copying_segments : AreTold copying copying.segments (headers_in copying_image)
-copying_segments = subst (λ (hs : List ProgramHeader). AreTold copying copying.segments hs) (sym copying_programs) (
+copying_segments : DescribeSegments copying_layout copying_layout.segments (headers_in copying_image)
+copying_segments = subst (λ (hs : List ProgramHeader). DescribeSegments copying_layout copying_layout.segments hs) (sym copying_programs) (
   record { kind = refl; flags = λ k. refl; stack = λ k. absurd (no_load 1 refl k); offset = refl; address = refl; physical = refl; file_size = refl; mem_size = refl; align = λ k. absurd (k refl); pages = λ k. refl; congruent = λ k. refl },
   (
     record { kind = refl; flags = λ k. refl; stack = λ k. absurd (no_load 1 refl k); offset = refl; address = refl; physical = refl; file_size = refl; mem_size = refl; align = λ k. absurd (k refl); pages = λ k. refl; congruent = λ k. refl },
@@ -180,7 +180,7 @@ copying_segments = subst (λ (hs : List ProgramHeader). AreTold copying copying.
 )
 
 -- what the dynamic section tells: no entry is said to be relative
-copying_told : TellsLinker processors.X86_64 copying_image
+copying_told : InformsLinker processors.X86_64 copying_image
 copying_told = record {
   segment = copying_third;
   first = ap first_dynamic copying_programs ∙ copying_dynamic;
@@ -197,12 +197,12 @@ copying_told = record {
   };
 }
 
-begins : (i a : ℕ) → copying.entry ≡ Some (entry.Symbol i) → IsDecidedPlace copying i a → 0x1100 ≡ a
+begins : (i a : ℕ) → copying_layout.entry ≡ Some (entry.Symbol i) → HasResolvedAddress copying_layout i a → 0x1100 ≡ a
 begins i a e h =
     let one : Some (entry.Symbol 1) ≡ Some (entry.Symbol i) = e in
     let same : 1 ≡ i = cc in
-    let there : IsDecidedPlace copying 1 a = subst (λ (k : ℕ). IsDecidedPlace copying k a) (sym same) h in
-    sym (raw_of copying 1 a start_symbol _ refl refl (record { definition = there.definition; defined = there.defined; given = inl there.given }))
+    let there : HasResolvedAddress copying_layout 1 a = subst (λ (k : ℕ). HasResolvedAddress copying_layout k a) (sym same) h in
+    sym (raw_of copying_layout 1 a start_symbol _ refl refl (record { definition = there.definition; defined = there.defined; given = inl there.given }))
 
 pub copying_linked : CopyingImageIsLinked
 copying_linked = record {
@@ -219,7 +219,7 @@ copying_linked = record {
       middle = record { machine = omega arith; version = omega arith; entry = omega arith; program_offset = omega arith; section_offset = omega arith; flags = omega arith; header_size = omega arith };
       back = record { program_entry_size = omega arith; program_count = omega arith; section_entry_size = omega arith; section_count = omega arith; name_table = omega arith };
     };
-    stands = Stands-left (spell (file_header_fields copying_header)) copying_rest;
+    stands = HasBytesAt-left (spell (file_header_fields copying_header)) copying_rest;
     fixed = λ f. absurd f;
     movable = λ _. refl;
     address = λ a e. absurd (let one : Some (entry.Symbol 1) ≡ Some (entry.Address a) = e in cc);

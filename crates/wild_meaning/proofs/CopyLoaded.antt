@@ -11,18 +11,18 @@ use Rattle.wild_records.specs.Relocations.{rela_at, rela_size}
 use Rattle.wild_records.specs.declared.dynamic.DynamicEntry.{DynamicEntry}
 use Rattle.wild_loader.specs.Headers.{header, program_headers}
 use Rattle.wild_loader.specs.Segments.{load_segment, load_segments, segments}
-use Rattle.wild_loader.specs.Tables.{first_dynamic, dynamic_entries, tagged, span_at, table_of, named_tables, dynamic_tables, tables, relas_at, words_at, section_of}
+use Rattle.wild_loader.specs.Tables.{first_dynamic, dynamic_entries, value_of_tag, span_at, table_of, named_tables, dynamic_tables, tables, relas_at, words_at, section_of}
 use Rattle.wild_loader.specs.Places.{places_from}
-use Rattle.wild_loader.specs.Runs.{overlaid, put_byte, put_bytes, read_bytes}
+use Rattle.wild_loader.specs.Runs.{overlay_runs, put_byte, put_bytes, read_bytes}
 use Rattle.wild_loader.specs.Changes.{kind_of, change_of, patch_at}
 use Rattle.wild_loader.specs.Relocate.{rela_patch, add_all, apart, notes, relocate}
 use Rattle.wild_loader.specs.Load.{load, image_at, image_with}
 use Rattle.wild_meaning.specs.Segments.{headers_in}
-use Rattle.wild_meaning.specs.WorkedCopy.{copying_world}
-use Rattle.wild_meaning.specs.WorkedCopyImage.{copying_image, copying_first, copying_second, copying_third, copying_memory}
+use Rattle.wild_meaning.specs.Worked.Copy.{copying_world}
+use Rattle.wild_meaning.specs.Worked.CopyImage.{copying_image, copying_first, copying_second, copying_third, copying_memory}
 
 pub copying_loaded : load copying_world copying_image ≡ Ok copying_memory
-unfolding load image_at image_with header program_headers segments load_segment load_segments tables first_dynamic dynamic_entries tagged span_at table_of named_tables dynamic_tables relas_at words_at relocate add_all apart notes overlaid put_byte put_bytes read_bytes rela_patch change_of patch_at places_from least_extent file_header_at file_header_fields program_header_at program_header_fields dynamic_entry_at rela_at kind_of number word
+unfolding load image_at image_with header program_headers segments load_segment load_segments tables first_dynamic dynamic_entries value_of_tag span_at table_of named_tables dynamic_tables relas_at words_at relocate add_all apart notes overlay_runs put_byte put_bytes read_bytes rela_patch change_of patch_at places_from least_extent file_header_at file_header_fields program_header_at program_header_fields dynamic_entry_at rela_at kind_of number word
 copying_loaded = refl
 
 -- its program headers
@@ -46,14 +46,14 @@ copying_read = refl
 
 -- the values of tags
 pub record CopyingTags : Type 0 where
-  pub flags : tagged dt_flags copying_entries ≡ Some 8
-  pub flags_1 : tagged dt_flags_1 copying_entries ≡ Some 1
-  pub entry_size : tagged dt_relaent copying_entries ≡ Some rela_size
-  pub no_stubs : tagged dt_jmprel copying_entries ≡ None
-  pub no_words : tagged dt_relr copying_entries ≡ None
-  pub no_symbols : tagged dt_symtab copying_entries ≡ None
-  pub no_count : tagged dt_relacount copying_entries ≡ None
+  pub flags : value_of_tag dt_flags copying_entries ≡ Some 8
+  pub flags_1 : value_of_tag dt_flags_1 copying_entries ≡ Some 1
+  pub entry_size : value_of_tag dt_relaent copying_entries ≡ Some rela_size
+  pub no_stubs : value_of_tag dt_jmprel copying_entries ≡ None
+  pub no_words : value_of_tag dt_relr copying_entries ≡ None
+  pub no_symbols : value_of_tag dt_symtab copying_entries ≡ None
+  pub no_count : value_of_tag dt_relacount copying_entries ≡ None
 
 pub copying_tags : CopyingTags
-unfolding tagged
+unfolding value_of_tag
 copying_tags = record { flags = refl; flags_1 = refl; entry_size = refl; no_stubs = refl; no_words = refl; no_symbols = refl; no_count = refl }

@@ -2,10 +2,10 @@ pub mod StringLemmas
 pub mod SymbolLemmas
 pub mod WorldLemmas
 pub mod BitLemmas
-pub mod StoodLemmas
+pub mod PlacedLemmas
 pub mod OutputLemmas
 mod Legal
-mod Told
+mod SymbolUnique
 mod SharedLegal
 mod Read
 mod Refused
@@ -18,7 +18,7 @@ mod CopyRefused
 mod StaticLegal
 mod StaticRefused
 mod StringsRefused
-mod Meant
+mod EffectLemmas
 pub mod AmongLemmas
 pub mod OneReference
 pub mod PairLemmas

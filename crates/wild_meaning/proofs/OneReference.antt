@@ -14,14 +14,14 @@ use Rattle.wild_reloc.specs.Formula.{Formula}
 use Rattle.wild_loader.specs.declared.memory.Memory.{Memory}
 use Rattle.wild_loader.specs.declared.world.World.{World}
 use Rattle.wild_loader.specs.Memory.{Holds}
-use Rattle.wild_loader.proofs.Held.{held-first, held-rest}
+use Rattle.wild_loader.proofs.HeldBytes.{held-first, held-rest}
 use Rattle.wild_loader.specs.declared.instruction.Operand.TheVariants.{Number}
 use Rattle.wild_loader.specs.declared.instruction.Deed.{Deed}
 use Rattle.wild_loader.specs.Instruction.{Reader, Effect, stands}
 use Rattle.wild_types.specs.Item.{Item}
 use Rattle.wild_meaning.specs.Field.{form_width, formula_of, InNoField}
 use Rattle.wild_meaning.specs.Sequence.{Instruction, Partner, size_of, instructions_of}
-use Rattle.wild_meaning.specs.Template.{IsInstruction, IsTemplate, reads, reads_alone, DoesDemanded}
+use Rattle.wild_meaning.specs.Template.{IsInstruction, IsTemplate, reads, reads_without_calls, DoesDemanded}
 use Rattle.wild_meaning.specs.Reference.{ReferenceHolds}
 use Rattle.wild_meaning.proofs.AmongLemmas.{Among, pick}
 use Rattle.wild_meaning.proofs.PairLemmas.{as_pair}
@@ -102,7 +102,7 @@ not_done read l w m item r start o first x one all (inr s) d = let t = (as_pair 
 
 pub single_refused : (l : Layout) (w : World) (m : Memory) (item : Item) (r : InputRelocation) (o : Instruction) → l.machine ≡ machine.X86_64 → item.relocations ≡ r ∷ [] → IsTemplate l item r 0 o r → ((read : Reader) → ReadsNumbers read → Among (fills r.number) (IsNotDone read l w m item r) (instructions_of machine.X86_64)) → ReferenceHolds l w m item r → ⊥
 single_refused l w m item r o x one t all (inl h) = not_done (reads w m) l w m item r 0 o r x one (all (reads w m) (λ n. refl)) t (h.does 0 o r t)
-single_refused l w m item r o x one t all (inr h) = not_done (reads_alone w m) l w m item r h.start h.instruction h.first x one (all (reads_alone w m) (λ n. refl)) h.template h.does
+single_refused l w m item r o x one t all (inr h) = not_done (reads_without_calls w m) l w m item r h.start h.instruction h.first x one (all (reads_without_calls w m) (λ n. refl)) h.template h.does
 
 -- a byte before or behind the one field of four bytes
 pub beside : (l : Layout) (item : Item) (r : InputRelocation) (g : Formula) (k : ℕ) → item.relocations ≡ r ∷ [] → formula_of l.machine r.number ≡ Some g → form_width g.form ≡ 4 → (k < r.offset) ⊎ (r.offset + 4 ≤ k) → InNoField l item k

@@ -18,8 +18,8 @@ use Rattle.wild_meaning.specs.World.{IsExecutable}
 use Rattle.wild_meaning.specs.Value.{HasFlag}
 use Rattle.wild_types.specs.Item.{Item}
 use Rattle.wild_meaning.specs.Sequence.{Sort, Target, TargetInSlot, AddressInSlot, OffsetInSlot, SymbolPair, OwnPair, Described, DescribedCall, Address, FieldBits, Named, Getter, Partner, Condition, Instruction, of_output, of_symbol, by_call, by_slot, by_distance, instructions_of}
-use Rattle.wild_meaning.specs.Partners.{NamesGetter, NamesIt, HasPartner, HasPartners, AreMet}
-use Rattle.wild_meaning.specs.Template.{IsInstruction, IsSequence, IsOfSequence, counts_from}
+use Rattle.wild_meaning.specs.Partners.{NamesGetter, NamesRequiredSymbol, HasPartner, HasPartners, AreMet}
+use Rattle.wild_meaning.specs.Template.{IsInstruction, IsSequence, IsOfSequence, field_origin}
 use Rattle.wild_meaning.specs.Reference.{CountsFromPlace}
 use Rattle.wild_meaning.proofs.AmongLemmas.{Among, pick}
 
@@ -185,7 +185,7 @@ as_pair l item first rest start o x q =
         stands = q.stands;
         partner = t.call;
         calls = t.calls;
-        has = record { index = q.index; listed = q.listed; next = h.has.listed; field = h.has.field; number = h.has.number; getter = subst (λ (n : Named). NamesIt l first h.second n) t.getter h.has.names };
+        has = record { index = q.index; listed = q.listed; next = h.has.listed; field = h.has.field; number = h.has.number; getter = subst (λ (n : Named). NamesRequiredSymbol l first h.second n) t.getter h.has.names };
         symbol = q.symbol;
         named = q.named;
         plain = on.plain;
@@ -204,7 +204,7 @@ sequence_of l item first second start o x q =
       several = several;
       index = q.has.index;
       listed = q.has.listed;
-      has = subst (λ (ps : List Partner). HasPartners l item first start (q.has.index + 1) ps (second ∷ [])) (sym q.calls) (record { listed = q.has.next; field = q.has.field; number = q.has.number; names = subst (λ (n : Named). NamesIt l first second n) (sym names) q.has.getter }, tt);
+      has = subst (λ (ps : List Partner). HasPartners l item first start (q.has.index + 1) ps (second ∷ [])) (sym q.calls) (record { listed = q.has.next; field = q.has.field; number = q.has.number; names = subst (λ (n : Named). NamesRequiredSymbol l first second n) (sym names) q.has.getter }, tt);
       symbol = q.symbol;
       named = q.named;
       met = are_met l q.symbol first.number o t.met q.stands.number (record { executable = q.executable; plain = q.plain; rewritten = q.rewritten });
@@ -232,5 +232,5 @@ as_double l item r start o first x t =
 
 -- ---- fields
 
-pub counts_four : (m : Machine) → m ≡ machine.X86_64 → counts_from m ≡ 4
-counts_four m x = subst (λ (k : Machine). counts_from k ≡ 4) (sym x) refl
+pub counts_four : (m : Machine) → m ≡ machine.X86_64 → field_origin m ≡ 4
+counts_four m x = subst (λ (k : Machine). field_origin k ≡ 4) (sym x) refl

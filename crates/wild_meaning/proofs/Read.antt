@@ -8,7 +8,7 @@ use Rattle.wild_types.specs.declared.input.InputRelocation.{InputRelocation}
 use Rattle.wild_loader.specs.declared.memory.Memory.{Memory}
 use Rattle.wild_loader.specs.declared.world.World.{World}
 use Rattle.wild_loader.specs.Memory.{byte_in, bytes_in, number_in, Holds}
-use Rattle.wild_loader.proofs.Held.{number-held}
+use Rattle.wild_loader.proofs.HeldBytes.{number-held}
 use Rattle.wild_types.specs.Item.{Item}
 use Rattle.wild_meaning.specs.Item.{place_at}
 use Rattle.wild_meaning.specs.Field.{FieldReads}

@@ -6,9 +6,9 @@ use Rattle.wild_types.specs.declared.kind.OutputKind.TheVariants as output
 use Rattle.wild_types.specs.declared.symbol.ValueFlags.{ValueFlags}
 use Rattle.wild_types.specs.Flags.{has_flag, dynamic, copy_relocation, export_dynamic, non_interposable}
 use Rattle.wild_meaning.specs.Value.{may_be_replaced}
-use Rattle.wild_meaning.specs.WorkedShared.{shared, shared_world, open_symbol}
-use Rattle.wild_meaning.specs.Replaced.{DynamicIsReplaceable, ExportedIsReplaceable, AnswersAreTaken}
-use Rattle.wild_meaning.proofs.Told.{other_value}
+use Rattle.wild_meaning.specs.Worked.Shared.{shared_layout, shared_world, open_symbol}
+use Rattle.wild_meaning.specs.Worked.ReplaceableSymbols.{DynamicIsReplaceable, ExportedIsReplaceable, AnswersAreTaken}
+use Rattle.wild_meaning.proofs.SymbolUnique.{other_value}
 use Rattle.wild_meaning.proofs.SharedRefused.{open_is}
 
 by_dynamic : (kind : OutputKind) (f : ValueFlags) → has_flag f dynamic ≡ true → has_flag f copy_relocation ≡ false → may_be_replaced kind f ≡ true
@@ -37,5 +37,5 @@ answers_taken = record {
     record { definition = 1; defined = record { symbol = open_symbol; listed = refl; defined = inr (refl, refl) }; symbol = open_symbol; listed = refl; resolution = _; decided = refl; index = 1; told = refl; given = refl },
     refl,
   );
-  not_own = λ h. let e = other_value shared shared_world 1 0x11110 _ open_is h in omega (arith, e);
+  not_own = λ h. let e = other_value shared_layout shared_world 1 0x11110 _ open_is h in omega (arith, e);
 }

@@ -16,19 +16,19 @@ use Rattle.wild_loader.specs.Changes.{kind_of}
 use Rattle.wild_loader.specs.Headers.{program_headers}
 use Rattle.wild_loader.specs.Tables.{section_of}
 use Rattle.wild_meaning.specs.Section.{IsSet}
-use Rattle.wild_meaning.specs.Segments.{headers_in, TellsSegment, AreTold}
-use Rattle.wild_meaning.specs.DynamicSection.{TellsEntries}
-use Rattle.wild_meaning.specs.Linked.{TellsSizes, IsLinked, processor_of}
-use Rattle.wild_meaning.specs.Worked.{loaded}
-use Rattle.wild_meaning.specs.WorkedStatic.{static_pie, static_pie_world}
-use Rattle.wild_meaning.specs.SegmentRefusals.{unpaged, IsDynamic, WrongSegmentsAreRefused, OtherPlacesAreRefused, WrongSizesAreRefused, NoDynamicIsRefused, WrongEntriesAreRefused}
+use Rattle.wild_meaning.specs.Segments.{headers_in, DescribesSegment, DescribeSegments}
+use Rattle.wild_meaning.specs.DynamicSection.{DescribesTables}
+use Rattle.wild_meaning.specs.LinkedImage.{HasStandardSizes, IsLinked, processor_of}
+use Rattle.wild_meaning.specs.Worked.Builders.{loaded_segment}
+use Rattle.wild_meaning.specs.Worked.Static.{static_pie, static_pie_world}
+use Rattle.wild_meaning.specs.Worked.SegmentRefusals.{unpaged_layout, IsDynamic, WrongSegmentsAreRefused, OtherPlacesAreRefused, WrongSizesAreRefused, NoDynamicIsRefused, WrongEntriesAreRefused}
 
 -- one segment that is told
 record IsOne (l : Layout) (image : List ℕ) (g : Segment) (count at : ℕ) : Type 0 where
-  pub told : TellsSegment l g (program_header_at image at)
+  pub told : DescribesSegment l g (program_header_at image at)
   pub one : count ≡ 1
 
-one_told : (l : Layout) (image : List ℕ) (g : Segment) (count at : ℕ) → AreTold l (g ∷ []) (program_headers image count at) → IsOne l image g count at
+one_told : (l : Layout) (image : List ℕ) (g : Segment) (count at : ℕ) → DescribeSegments l (g ∷ []) (program_headers image count at) → IsOne l image g count at
 unfolding program_headers
 one_told l image g zero at h = absurd h
 one_told l image g (suc zero) at h = record { told = h.0; one = refl }
@@ -36,10 +36,10 @@ one_told l image g (suc (suc n)) at h = absurd h.1
 
 one : (l : Layout) (w : World) (image : List ℕ) (g : Segment) → l.segments ≡ g ∷ [] → IsLinked l w image → IsOne l image g (file_header_at image 0).program_count (file_header_at image 0).program_offset
 one l w image g is h =
-    one_told l image g (file_header_at image 0).program_count (file_header_at image 0).program_offset (subst (λ (gs : List Segment). AreTold l gs (headers_in image)) is h.header.segments)
+    one_told l image g (file_header_at image 0).program_count (file_header_at image 0).program_offset (subst (λ (gs : List Segment). DescribeSegments l gs (headers_in image)) is h.header.segments)
 
-static_one : (image : List ℕ) → IsLinked static_pie static_pie_world image → IsOne static_pie image (loaded 0x1000 0x110 0x110) (file_header_at image 0).program_count (file_header_at image 0).program_offset
-static_one image h = one static_pie static_pie_world image (loaded 0x1000 0x110 0x110) refl h
+static_one : (image : List ℕ) → IsLinked static_pie static_pie_world image → IsOne static_pie image (loaded_segment 0x1000 0x110 0x110) (file_header_at image 0).program_count (file_header_at image 0).program_offset
+static_one image h = one static_pie static_pie_world image (loaded_segment 0x1000 0x110 0x110) refl h
 
 pub wrong_segments : WrongSegmentsAreRefused
 wrong_segments = record {
@@ -55,15 +55,15 @@ wrong_segments = record {
 
 pub other_places : OtherPlacesAreRefused
 other_places image h =
-    let t = (one unpaged static_pie_world image (record (loaded 0x1000 0x110 0x110) { offset = 120 }) refl h).told in
+    let t = (one unpaged_layout static_pie_world image (record (loaded_segment 0x1000 0x110 0x110) { offset = 120 }) refl h).told in
     let same = t.congruent refl in
     let address = t.address in
     let offset = t.offset in
     omega (arith, same, address, offset)
 
 -- the file header is the one that a loader reads
-sizes_read : FileHeaderIsRead → (l : Layout) (w : World) (image : List ℕ) → IsLinked l w image → TellsSizes (file_header_at image 0)
-sizes_read read l w image h = subst (λ (e : FileHeader). TellsSizes e) (sym (read image 0 h.header.header h.header.fits h.header.stands)) h.header.sizes
+sizes_read : FileHeaderIsRead → (l : Layout) (w : World) (image : List ℕ) → IsLinked l w image → HasStandardSizes (file_header_at image 0)
+sizes_read read l w image h = subst (λ (e : FileHeader). HasStandardSizes e) (sym (read image 0 h.header.header h.header.fits h.header.stands)) h.header.sizes
 
 pub wrong_sizes : FileHeaderIsRead → WrongSizesAreRefused
 wrong_sizes read = record {
@@ -82,14 +82,14 @@ no_dynamic l w image whole linker h none =
     cc
 
 -- its entries are those that are read
-told_of : (l : Layout) (image : List ℕ) (ds : List DynamicEntry) → IsDynamic l image ds → TellsEntries (processor_of l.machine) image ds
+told_of : (l : Layout) (image : List ℕ) (ds : List DynamicEntry) → IsDynamic l image ds → DescribesTables (processor_of l.machine) image ds
 told_of l image ds d =
     let told = d.linked.dynamic d.whole d.linker in
     let first : Some told.segment ≡ Some d.segment = sym told.first ∙ d.first in
     let segment : told.segment ≡ d.segment = cc in
     let both : Ok told.entries ≡ Ok ds = sym told.read ∙ ap (λ (h : ProgramHeader). section_of image h) segment ∙ d.read in
     let same : told.entries ≡ ds = cc in
-    subst (λ (xs : List DynamicEntry). TellsEntries (processor_of l.machine) image xs) same told.told
+    subst (λ (xs : List DynamicEntry). DescribesTables (processor_of l.machine) image xs) same told.told
 
 -- one value at most
 one_value : (o : Option ℕ) (m n : ℕ) → o ≡ Some m → o ≡ Some n → m ≡ n

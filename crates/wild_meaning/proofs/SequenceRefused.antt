@@ -17,12 +17,12 @@ use Rattle.wild_meaning.specs.Value.{HasFlag}
 use Rattle.wild_meaning.specs.Item.{IsKept, OfSection}
 use Rattle.wild_meaning.specs.Field.{form_width, InNoField}
 use Rattle.wild_meaning.specs.Sequence.{Instruction, SymbolPair, size_of, of_sequence, of_symbol, by_call, by_slot, by_distance, instructions_of}
-use Rattle.wild_meaning.specs.Template.{IsInstruction, IsSequence, IsTemplate, reads, reads_alone, DoesDemanded}
+use Rattle.wild_meaning.specs.Template.{IsInstruction, IsSequence, IsTemplate, reads, reads_without_calls, DoesDemanded}
 use Rattle.wild_meaning.specs.Reference.{ReferenceHolds}
-use Rattle.wild_meaning.specs.Worked.{Refuses}
-use Rattle.wild_meaning.specs.WorkedStatic.{static_pie, static_pie_world, general_code, general_item, pair_reference, getter_reference, thread_symbol, getter_symbol}
-use Rattle.wild_meaning.specs.StaticRefusals.{Has, half_sequence}
-use Rattle.wild_meaning.proofs.Meant.{meant}
+use Rattle.wild_meaning.specs.Worked.Builders.{Refuses}
+use Rattle.wild_meaning.specs.Worked.Static.{static_pie, static_pie_world, general_code, general_item, pair_reference, getter_reference, thread_symbol, getter_symbol}
+use Rattle.wild_meaning.specs.Worked.StaticRefusals.{MemoryHas, half_sequence}
+use Rattle.wild_meaning.proofs.EffectLemmas.{meant}
 use Rattle.wild_meaning.proofs.AmongLemmas.{Among, pick}
 use Rattle.wild_meaning.proofs.OneReference.{has, has_is, fills, fills_is, same_bytes}
 use Rattle.wild_meaning.proofs.PairLemmas.{as_pair}
@@ -140,7 +140,7 @@ not_done read m held start o first (inr s) d =
 
 refused : (m : Memory) → Holds m 0x41020 half_sequence → ReferenceHolds static_pie static_pie_world m general_item pair_reference → ⊥
 refused m held (inl h) = not_done (reads static_pie_world m) m held 0 general pair_reference general_template (h.does 0 general pair_reference general_template)
-refused m held (inr h) = not_done (reads_alone static_pie_world m) m held h.start h.instruction h.first h.template h.does
+refused m held (inr h) = not_done (reads_without_calls static_pie_world m) m held h.start h.instruction h.first h.template h.does
 
-pub wrong_sequence : Refuses static_pie static_pie_world (Has 0x41020 half_sequence)
+pub wrong_sequence : Refuses static_pie static_pie_world (MemoryHas 0x41020 half_sequence)
 wrong_sequence image h x = refused h.memory x (holds_there h.memory general_item pair_reference _ 2 0x3008 (h.kept general_item general_kept) (0, omega arith, refl) (omega arith) pair_formula refl thread_is)

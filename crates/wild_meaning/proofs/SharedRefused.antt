@@ -17,13 +17,13 @@ use Rattle.wild_loader.specs.Memory.{byte_in}
 use Rattle.wild_meaning.specs.Section.{IsSet}
 use Rattle.wild_meaning.specs.Item.{IsKept, OfSection}
 use Rattle.wild_meaning.specs.Field.{form_width, InNoField}
-use Rattle.wild_meaning.specs.Reference.{ItemHolds, IsOther, TakesItself}
-use Rattle.wild_meaning.specs.Slot.{IsSlot, behind_first}
-use Rattle.wild_meaning.specs.Worked.{reference}
-use Rattle.wild_meaning.specs.WorkedShared.{shared, shared_data, shared_item, shared_references, shared_world, answered, own_symbol, open_symbol, own_thread, other_thread}
-use Rattle.wild_meaning.specs.SharedRefusals.{NamesAnother, NamesElsewhere, WrongSlotsAreRefused, WrongAddressesAreRefused, WrongOffsetsAreRefused, WrongSizeIsRefused, WrongByteIsRefused, Refused, own_offset, other_offset}
-use Rattle.wild_meaning.specs.Refusals.{HasWrongNumber, NamesWrongWord}
-use Rattle.wild_meaning.proofs.Told.{told_is, IsPlainOwn, IsAnsweredAs, denoted, other_denoted, own_offset as own_offset_is, other_offset as other_offset_is, other_size, somewhere}
+use Rattle.wild_meaning.specs.Reference.{ItemHolds, IsOutsideReferences, UsesOwnDefinition}
+use Rattle.wild_meaning.specs.Slot.{IsSlot, offset_from_first}
+use Rattle.wild_meaning.specs.Worked.Builders.{reference}
+use Rattle.wild_meaning.specs.Worked.Shared.{shared_layout, shared_data, shared_item, shared_references, shared_world, answer_of_module, own_symbol, open_symbol, own_thread, other_thread}
+use Rattle.wild_meaning.specs.Worked.SharedRefusals.{NamesAnother, NamesElsewhere, WrongSlotsAreRefused, WrongAddressesAreRefused, WrongOffsetsAreRefused, WrongSizeIsRefused, WrongByteIsRefused, Refused, own_offset, other_offset}
+use Rattle.wild_meaning.specs.Worked.Refusals.{HasWrongNumber, NamesWrongWord}
+use Rattle.wild_meaning.proofs.SymbolUnique.{told_is, IsPlainOwn, IsAnsweredAs, denoted, other_denoted, own_offset as own_offset_is, other_offset as other_offset_is, other_size, somewhere}
 use Rattle.wild_meaning.proofs.Read.{full_of, signed_of, word_below, same_word}
 use Rattle.wild_meaning.proofs.SlotPlaces.{slot_holds}
 use Rattle.wild_meaning.proofs.Refused.{HasValueThere, value_there, no_template}
@@ -32,7 +32,7 @@ use Rattle.wild_meaning.proofs.StringLemmas.{nothing_named}
 use Rattle.wild_meaning.proofs.SymbolLemmas.{referent_stands}
 
 -- its data is kept
-pub kept : IsKept shared shared_item
+pub kept : IsKept shared_layout shared_item
 kept = OfSection shared_data (record { input = record { group = _; grouped = (0, omega arith, refl); file = _; filed = (0, omega arith, refl); listed = (0, omega arith, refl) }; loaded = tt; room = refl; has_data = refl; written = λ p at h. (let off : false ≡ true = h.bare in cc) }) refl
 
 -- ---- formulas
@@ -75,19 +75,19 @@ descriptor_formula = refl
 
 -- ---- symbols
 
-pub own_is : IsPlainOwn shared 0 0x1100
+pub own_is : IsPlainOwn shared_layout 0 0x1100
 unfolding has_flag
 own_is = record { symbol = own_symbol; resolution = _; is = refl; decided = refl; raw_is = refl; own = refl; plain = refl; moves = refl; unstubbed = refl }
 
-pub thread_is : IsPlainOwn shared 2 0x3008
+pub thread_is : IsPlainOwn shared_layout 2 0x3008
 unfolding has_flag
 thread_is = record { symbol = own_thread; resolution = _; is = refl; decided = refl; raw_is = refl; own = refl; plain = refl; moves = refl; unstubbed = refl }
 
-pub open_is : IsAnsweredAs shared shared_world 1 (answered 0x700010 3 0 24)
+pub open_is : IsAnsweredAs shared_layout shared_world 1 (answer_of_module 0x700010 3 0 24)
 unfolding has_flag
 open_is = record { symbol = open_symbol; resolution = _; index = 1; is = refl; decided = refl; replaced = refl; moves = refl; told_so = refl; given = refl; unstubbed = refl }
 
-pub other_is : IsAnsweredAs shared shared_world 3 (answered 0 4 0x20 8)
+pub other_is : IsAnsweredAs shared_layout shared_world 3 (answer_of_module 0 4 0x20 8)
 unfolding has_flag
 other_is = record { symbol = other_thread; resolution = _; index = 2; is = refl; decided = refl; replaced = refl; moves = refl; told_so = refl; given = refl; unstubbed = refl }
 
@@ -100,14 +100,14 @@ pub refers : (n : ℕ) → 0 < n → n ≢ r_x86_64_none
 refers n h e = omega (arith, h, let z : n ≡ 0 = e in z)
 
 -- a reference to an own symbol has its value there
-pub own_there : (m : Memory) (r : InputRelocation) (f : Formula) (i raw : ℕ) → ItemHolds shared shared_world m shared_item → Contains shared_references r → 0 < r.number → x86_64_formula r.number ≡ Some f → r.symbol ≡ Some i → IsPlainOwn shared i raw → HasValueThere shared shared_world m shared_item r f
+pub own_there : (m : Memory) (r : InputRelocation) (f : Formula) (i raw : ℕ) → ItemHolds shared_layout shared_world m shared_item → Contains shared_references r → 0 < r.number → x86_64_formula r.number ≡ Some f → r.symbol ≡ Some i → IsPlainOwn shared_layout i raw → HasValueThere shared_layout shared_world m shared_item r f
 own_there m r f i raw holds listed number known named p =
-    value_there shared shared_world m shared_item r f i p.symbol (λ e. (let off : false ≡ true = e in cc)) holds no_code listed (refers r.number number) known named p.is p.moves (λ e. absurd (let both : true ≡ false = sym e ∙ p.own in cc))
+    value_there shared_layout shared_world m shared_item r f i p.symbol (λ e. (let off : false ≡ true = e in cc)) holds no_code listed (refers r.number number) known named p.is p.moves (λ e. absurd (let both : true ≡ false = sym e ∙ p.own in cc))
 
 -- so does one to a symbol that others may define, where it does not take the own one
-pub other_there : (m : Memory) (r : InputRelocation) (f : Formula) (i : ℕ) (x : Answer) → ItemHolds shared shared_world m shared_item → Contains shared_references r → 0 < r.number → x86_64_formula r.number ≡ Some f → r.symbol ≡ Some i → IsAnsweredAs shared shared_world i x → (TakesItself shared shared_item i f → ⊥) → HasValueThere shared shared_world m shared_item r f
+pub other_there : (m : Memory) (r : InputRelocation) (f : Formula) (i : ℕ) (x : Answer) → ItemHolds shared_layout shared_world m shared_item → Contains shared_references r → 0 < r.number → x86_64_formula r.number ≡ Some f → r.symbol ≡ Some i → IsAnsweredAs shared_layout shared_world i x → (UsesOwnDefinition shared_layout shared_item i f → ⊥) → HasValueThere shared_layout shared_world m shared_item r f
 other_there m r f i x holds listed number known named p takes =
-    value_there shared shared_world m shared_item r f i p.symbol (λ e. (let off : false ≡ true = e in cc)) holds no_code listed (refers r.number number) known named p.is p.moves (λ e. takes)
+    value_there shared_layout shared_world m shared_item r f i p.symbol (λ e. (let off : false ≡ true = e in cc)) holds no_code listed (refers r.number number) known named p.is p.moves (λ e. takes)
 
 -- ---- slots
 
@@ -121,10 +121,10 @@ own_slot image h x =
     let r = reference 0 r_x86_64_gotpcrel64 0 (pos 0) in
     let v = own_there h.memory r _ 0 0x1100 (h.kept shared_item kept) (0, omega arith, refl) (omega arith) slot_formula refl own_is in
     let is : v.value ≡ 0x1000 = full_of shared_world h.memory shared_item r v.value 0x1000 v.field x.field in
-    let slot = slot_holds AddressSlot shared shared_world h.memory 0 v.gives.0 v.gives.1 in
+    let slot = slot_holds AddressSlot shared_layout shared_world h.memory 0 v.gives.0 v.gives.1 in
     let below : v.gives.0 < 2 ^ 64 = word_below h.memory v.gives.0 slot.0 slot.1 in
     let at : v.gives.0 ≡ 0x12000 = omega (arith, is, below, v.gives.2) in
-    let address : slot.0 ≡ 0x11100 = denoted shared shared_world h.memory 0 0x1100 slot.0 own_is slot.2 in
+    let address : slot.0 ≡ 0x11100 = denoted shared_layout shared_world h.memory 0 0x1100 slot.0 own_is slot.2 in
     x.wrong (sym (same_word h.memory v.gives.0 0x12000 slot.0 x.word at slot.1 x.there) ∙ address)
 
 other_slot : Refused (NamesWrongWord 0x11038 8 0xfd0 0x12008 0x700010)
@@ -132,10 +132,10 @@ other_slot image h x =
     let r = reference 56 r_x86_64_gotpcrel64 1 (pos 0) in
     let v = other_there h.memory r _ 1 _ (h.kept shared_item kept) (9, omega arith, refl) (omega arith) slot_formula refl open_is no_address in
     let is : v.value ≡ 0xfd0 = full_of shared_world h.memory shared_item r v.value 0xfd0 v.field x.field in
-    let slot = slot_holds AddressSlot shared shared_world h.memory 1 v.gives.0 v.gives.1 in
+    let slot = slot_holds AddressSlot shared_layout shared_world h.memory 1 v.gives.0 v.gives.1 in
     let below : v.gives.0 < 2 ^ 64 = word_below h.memory v.gives.0 slot.0 slot.1 in
     let at : v.gives.0 ≡ 0x12008 = omega (arith, is, below, v.gives.2) in
-    let address : slot.0 ≡ 0x700010 = other_denoted shared shared_world h.memory 1 slot.0 _ open_is slot.2 in
+    let address : slot.0 ≡ 0x700010 = other_denoted shared_layout shared_world h.memory 1 slot.0 _ open_is slot.2 in
     x.wrong (sym (same_word h.memory v.gives.0 0x12008 slot.0 x.word at slot.1 x.there) ∙ address)
 
 another_slot : Refused NamesAnother
@@ -143,22 +143,22 @@ another_slot image h x =
     let r = reference 0 r_x86_64_gotpcrel64 0 (pos 0) in
     let v = own_there h.memory r _ 0 0x1100 (h.kept shared_item kept) (0, omega arith, refl) (omega arith) slot_formula refl own_is in
     let is : v.value ≡ 0x1008 = full_of shared_world h.memory shared_item r v.value 0x1008 v.field x.field in
-    let slot = slot_holds AddressSlot shared shared_world h.memory 0 v.gives.0 v.gives.1 in
+    let slot = slot_holds AddressSlot shared_layout shared_world h.memory 0 v.gives.0 v.gives.1 in
     let below : v.gives.0 < 2 ^ 64 = word_below h.memory v.gives.0 slot.0 slot.1 in
     let at : v.gives.0 ≡ 0x12008 = omega (arith, is, below, v.gives.2) in
-    let address : slot.0 ≡ 0x11100 = denoted shared shared_world h.memory 0 0x1100 slot.0 own_is slot.2 in
+    let address : slot.0 ≡ 0x11100 = denoted shared_layout shared_world h.memory 0 0x1100 slot.0 own_is slot.2 in
     let word : slot.0 ≡ 0x700010 = same_word h.memory v.gives.0 0x12008 slot.0 0x700010 at slot.1 x.there in
     omega (arith, address, word)
 
 -- the own symbol's slot stands at one place
-own_place : (m : Memory) (g : ℕ) → IsSlot AddressSlot shared shared_world m (Some 0) g → g ≡ 0x12000
+own_place : (m : Memory) (g : ℕ) → IsSlot AddressSlot shared_layout shared_world m (Some 0) g → g ≡ 0x12000
 unfolding has_flag
 own_place m g h =
-    let same : h.given.symbol ≡ own_symbol = told_is shared 0 h.given.definition h.given.symbol own_symbol refl h.given.defined h.given.listed in
+    let same : h.given.symbol ≡ own_symbol = told_is shared_layout 0 h.given.definition h.given.symbol own_symbol refl h.given.defined h.given.listed in
     let decided : own_symbol.resolution ≡ Some h.given.resolution = subst (λ (s : Symbol). s.resolution ≡ Some h.given.resolution) same h.given.decided in
     let first : Some 0x2000 ≡ Some h.given.first = subst (λ (o : Option Resolution). option_and_then (λ (r : Resolution). r.got_address) o ≡ Some h.given.first) (sym decided) h.given.given in
     let at : 0x2000 ≡ h.given.first = cc in
-    let place : h.slot ≡ h.given.first + 0 = subst (λ (s : Symbol). h.slot ≡ h.given.first + behind_first AddressSlot s.flags) same h.given.place in
+    let place : h.slot ≡ h.given.first + 0 = subst (λ (s : Symbol). h.slot ≡ h.given.first + offset_from_first AddressSlot s.flags) same h.given.place in
     omega (arith, at, place, h.moves)
 
 elsewhere_slot : Refused NamesElsewhere
@@ -175,19 +175,19 @@ wrong_slots = record { own = own_slot; other = other_slot; another = another_slo
 -- ---- addresses
 
 -- the library has no merged strings
-no_string : (v : Value) (r : InputRelocation) → TakesString v shared r → ⊥
-no_string v r t = nothing_named shared refl r t.1
+no_string : (v : Value) (r : InputRelocation) → TakesString v shared_layout r → ⊥
+no_string v r t = nothing_named shared_layout refl r t.1
 
 moved_address : Refused (HasWrongNumber 0x11010 8 0x11104)
 moved_address image h x =
     let r = reference 16 r_x86_64_64 0 (pos 4) in
     let v = own_there h.memory r _ 0 0x1100 (h.kept shared_item kept) (2, omega arith, refl) (omega arith) address_formula refl own_is in
     let is : v.value ≡ x.number = full_of shared_world h.memory shared_item r v.value x.number v.field x.there in
-    let address : v.gives.symbol ≡ 0x11100 = denoted shared shared_world h.memory 0 0x1100 v.gives.symbol own_is (referent_stands SymbolAddress shared shared_world h.memory shared_item r v.gives.symbol refl (no_string SymbolAddress r) v.gives.denoted) in
+    let address : v.gives.symbol ≡ 0x11100 = denoted shared_layout shared_world h.memory 0 0x1100 v.gives.symbol own_is (referent_stands SymbolAddress shared_layout shared_world h.memory shared_item r v.gives.symbol refl (no_string SymbolAddress r) v.gives.denoted) in
     x.wrong (omega (arith, is, address, v.gives.sum))
 
 -- the field is filled by a loader
-left : TakesItself shared shared_item 1 (formula SymbolAddress Full) → ⊥
+left : UsesOwnDefinition shared_layout shared_item 1 (formula SymbolAddress Full) → ⊥
 unfolding has_flag
 left (inl h) = h
 left (inr h) = h.1 (record { writable = refl; interposable = record { definition = 1; defined = record { symbol = open_symbol; listed = refl; defined = inr (refl, refl) }; symbol = open_symbol; listed = refl; flagged = refl }; value = refl; wide = refl })
@@ -197,7 +197,7 @@ replaced_address image h x =
     let r = reference 8 r_x86_64_64 1 (pos 0) in
     let v = other_there h.memory r _ 1 _ (h.kept shared_item kept) (1, omega arith, refl) (omega arith) address_formula refl open_is left in
     let is : v.value ≡ x.number = full_of shared_world h.memory shared_item r v.value x.number v.field x.there in
-    let address : v.gives.symbol ≡ 0x700010 = other_denoted shared shared_world h.memory 1 v.gives.symbol _ open_is (referent_stands SymbolAddress shared shared_world h.memory shared_item r v.gives.symbol refl (no_string SymbolAddress r) v.gives.denoted) in
+    let address : v.gives.symbol ≡ 0x700010 = other_denoted shared_layout shared_world h.memory 1 v.gives.symbol _ open_is (referent_stands SymbolAddress shared_layout shared_world h.memory shared_item r v.gives.symbol refl (no_string SymbolAddress r) v.gives.denoted) in
     x.wrong (omega (arith, is, address, v.gives.sum))
 
 pub wrong_addresses : WrongAddressesAreRefused
@@ -210,7 +210,7 @@ own_offset_there image h x =
     let r = reference 24 r_x86_64_tpoff64 2 (pos 0) in
     let v = own_there h.memory r _ 2 0x3008 (h.kept shared_item kept) (3, omega arith, refl) (omega arith) pointer_formula refl thread_is in
     let is : v.value ≡ x.number = full_of shared_world h.memory shared_item r v.value x.number v.field x.there in
-    let offset : v.gives.0 ≡ own_offset = own_offset_is shared shared_world 2 0x3008 (2 ^ 64 - 0x60) v.gives.0 thread_is (omega arith) (somewhere shared 2 0 own_thread refl refl) refl v.gives.1 in
+    let offset : v.gives.0 ≡ own_offset = own_offset_is shared_layout shared_world 2 0x3008 (2 ^ 64 - 0x60) v.gives.0 thread_is (omega arith) (somewhere shared_layout 2 0 own_thread refl refl) refl v.gives.1 in
     x.wrong (omega (arith, is, offset, v.gives.2))
 
 inside_offset : Refused (HasWrongNumber 0x11040 8 8)
@@ -218,7 +218,7 @@ inside_offset image h x =
     let r = reference 64 r_x86_64_dtpoff64 2 (pos 0) in
     let v = own_there h.memory r _ 2 0x3008 (h.kept shared_item kept) (10, omega arith, refl) (omega arith) inner_formula refl thread_is in
     let is : v.value ≡ x.number = full_of shared_world h.memory shared_item r v.value x.number v.field x.there in
-    let offset : v.gives.0 ≡ own_offset = own_offset_is shared shared_world 2 0x3008 (2 ^ 64 - 0x60) v.gives.0 thread_is (omega arith) (somewhere shared 2 0 own_thread refl refl) refl v.gives.2 in
+    let offset : v.gives.0 ≡ own_offset = own_offset_is shared_layout shared_world 2 0x3008 (2 ^ 64 - 0x60) v.gives.0 thread_is (omega arith) (somewhere shared_layout 2 0 own_thread refl refl) refl v.gives.2 in
     let both : Ok (2 ^ 64 - 0x60) ≡ Ok v.gives.1 = v.gives.3 in
     let base : 2 ^ 64 - 0x60 ≡ v.gives.1 = cc in
     x.wrong (omega (arith, is, offset, base, v.gives.4))
@@ -228,10 +228,10 @@ own_offset_slot image h x =
     let r = reference 36 r_x86_64_gottpoff 2 (pos 0) in
     let v = own_there h.memory r _ 2 0x3008 (h.kept shared_item kept) (5, omega arith, refl) (omega arith) thread_slot_formula refl thread_is in
     let is : v.value ≡ 0xfec = signed_of shared_world h.memory shared_item r v.value 0xfec v.field x.field in
-    let slot = slot_holds ThreadOffset shared shared_world h.memory 2 v.gives.0 v.gives.1 in
+    let slot = slot_holds ThreadOffset shared_layout shared_world h.memory 2 v.gives.0 v.gives.1 in
     let below : v.gives.0 < 2 ^ 64 = word_below h.memory v.gives.0 slot.0 slot.1 in
     let at : v.gives.0 ≡ 0x12010 = omega (arith, is, below, v.gives.2) in
-    let offset : slot.0 ≡ own_offset = own_offset_is shared shared_world 2 0x3008 (2 ^ 64 - 0x60) slot.0 thread_is (omega arith) (somewhere shared 2 0 own_thread refl refl) refl slot.2 in
+    let offset : slot.0 ≡ own_offset = own_offset_is shared_layout shared_world 2 0x3008 (2 ^ 64 - 0x60) slot.0 thread_is (omega arith) (somewhere shared_layout 2 0 own_thread refl refl) refl slot.2 in
     x.wrong (sym (same_word h.memory v.gives.0 0x12010 slot.0 x.word at slot.1 x.there) ∙ offset)
 
 other_offset_slot : Refused (NamesWrongWord 0x1104c 4 0xfec 0x12038 other_offset)
@@ -239,10 +239,10 @@ other_offset_slot image h x =
     let r = reference 76 r_x86_64_gottpoff 3 (pos 0) in
     let v = other_there h.memory r _ 3 _ (h.kept shared_item kept) (12, omega arith, refl) (omega arith) thread_slot_formula refl other_is no_address in
     let is : v.value ≡ 0xfec = signed_of shared_world h.memory shared_item r v.value 0xfec v.field x.field in
-    let slot = slot_holds ThreadOffset shared shared_world h.memory 3 v.gives.0 v.gives.1 in
+    let slot = slot_holds ThreadOffset shared_layout shared_world h.memory 3 v.gives.0 v.gives.1 in
     let below : v.gives.0 < 2 ^ 64 = word_below h.memory v.gives.0 slot.0 slot.1 in
     let at : v.gives.0 ≡ 0x12038 = omega (arith, is, below, v.gives.2) in
-    let offset : slot.0 ≡ other_offset = other_offset_is shared shared_world 3 (2 ^ 64 - 0x2000) slot.0 _ other_is refl slot.2 in
+    let offset : slot.0 ≡ other_offset = other_offset_is shared_layout shared_world 3 (2 ^ 64 - 0x2000) slot.0 _ other_is refl slot.2 in
     x.wrong (sym (same_word h.memory v.gives.0 0x12038 slot.0 x.word at slot.1 x.there) ∙ offset)
 
 pub wrong_offsets : WrongOffsetsAreRefused
@@ -255,7 +255,7 @@ wrong_size image h x =
     let r = reference 48 r_x86_64_size64 1 (pos 0) in
     let v = other_there h.memory r _ 1 _ (h.kept shared_item kept) (8, omega arith, refl) (omega arith) size_formula refl open_is no_address in
     let is : v.value ≡ x.number = full_of shared_world h.memory shared_item r v.value x.number v.field x.there in
-    let size : v.gives.0 ≡ 24 = other_size shared shared_world 1 v.gives.0 _ open_is v.gives.1 in
+    let size : v.gives.0 ≡ 24 = other_size shared_layout shared_world 1 v.gives.0 _ open_is v.gives.1 in
     elim v.gives.2 [
       | inl e ↦ x.wrong (omega (arith, is, size, e))
       | inr s ↦ absurd (let n : 33 ≡ 32 = s.0.number in omega (arith, n))
@@ -269,7 +269,7 @@ past n offset k width g is wide low f known =
     let same_width : form_width f.form ≡ width = sym (ap (λ (e : Formula). form_width e.form) same) ∙ wide in
     inr (omega (arith, same_width, low))
 
-in_no_field : InNoField shared shared_item 81
+in_no_field : InNoField shared_layout shared_item 81
 in_no_field =
     All-from_recursion (λ (r : InputRelocation). (f : Formula) → x86_64_formula r.number ≡ Some f → (81 < r.offset) ⊎ (r.offset + form_width f.form ≤ 81)) shared_references (
       past r_x86_64_gotpcrel64 0 81 8 _ slot_formula refl (omega arith),
@@ -311,7 +311,7 @@ in_no_field =
 
 pub wrong_byte : WrongByteIsRefused
 wrong_byte image h x =
-    let other : IsOther shared shared_item 81 = record { fields = in_no_field; templates = λ r start o first _ t. absurd (no_template shared shared_item r start o first no_code t) } in
+    let other : IsOutsideReferences shared_layout shared_item 81 = record { fields = in_no_field; templates = λ r start o first _ t. absurd (no_template shared_layout shared_item r start o first no_code t) } in
     let there : byte_in h.memory 0x11051 ≡ Some 2 = (h.kept shared_item kept).others 81 (omega arith) other in
     let both : Some x.byte ≡ Some 2 = sym x.there ∙ there in
     let same : x.byte ≡ 2 = cc in

@@ -8,12 +8,12 @@ use Rattle.wild_reloc.specs.Formula.{ModulePair, OwnModulePair, Descriptor}
 use Rattle.wild_loader.specs.declared.memory.Memory.{Memory}
 use Rattle.wild_loader.specs.Memory.{number_in}
 use Rattle.wild_loader.specs.Changes.{distance_of, first_value}
-use Rattle.wild_meaning.specs.Worked.{reference}
-use Rattle.wild_meaning.specs.WorkedShared.{shared, shared_item, shared_world, own_thread}
+use Rattle.wild_meaning.specs.Worked.Builders.{reference}
+use Rattle.wild_meaning.specs.Worked.Shared.{shared_layout, shared_item, shared_world, own_thread}
 use Rattle.wild_meaning.specs.Slot.{IsPair}
-use Rattle.wild_meaning.specs.Refusals.{NamesWrongModule, NamesWrongDescriptor}
-use Rattle.wild_meaning.specs.SharedRefusals.{WrongModulesAreRefused, WrongDescriptorsAreRefused, Refused, own_offset}
-use Rattle.wild_meaning.proofs.Told.{own_offset as own_offset_is, other_offset as other_offset_is, somewhere}
+use Rattle.wild_meaning.specs.Worked.Refusals.{NamesWrongModule, NamesWrongDescriptor}
+use Rattle.wild_meaning.specs.Worked.SharedRefusals.{WrongModulesAreRefused, WrongDescriptorsAreRefused, Refused, own_offset}
+use Rattle.wild_meaning.proofs.SymbolUnique.{own_offset as own_offset_is, other_offset as other_offset_is, somewhere}
 use Rattle.wild_meaning.proofs.Read.{signed_of, word_below, same_word}
 use Rattle.wild_meaning.proofs.SlotPlaces.{slot_holds}
 use Rattle.wild_meaning.proofs.SharedRefused.{kept, own_there, other_there, thread_is, other_is, pair_formula, own_pair_formula, descriptor_formula, no_address}
@@ -41,11 +41,11 @@ own_module image h x =
     let r = reference 32 r_x86_64_tlsgd 2 (pos 0) in
     let v = own_there h.memory r _ 2 0x3008 (h.kept shared_item kept) (4, omega arith, refl) (omega arith) pair_formula refl thread_is in
     let is : v.value ≡ 0xff8 = signed_of shared_world h.memory shared_item r v.value 0xff8 v.field x.field in
-    let slot = slot_holds ModulePair shared shared_world h.memory 2 v.gives.0 v.gives.1 in
+    let slot = slot_holds ModulePair shared_layout shared_world h.memory 2 v.gives.0 v.gives.1 in
     let below : v.gives.0 < 2 ^ 64 = word_below h.memory v.gives.0 slot.1.owner slot.1.first in
     let at : v.gives.0 ≡ 0x12018 = omega (arith, is, below, v.gives.2) in
     let words = one_module h.memory v.gives.0 0x12018 x.owner 8 slot.0 2 0 at slot.1 x.first x.second in
-    let offset : slot.0 ≡ own_offset = own_offset_is shared shared_world 2 0x3008 (2 ^ 64 - 0x60) slot.0 thread_is (omega arith) (somewhere shared 2 0 own_thread refl refl) refl slot.2 in
+    let offset : slot.0 ≡ own_offset = own_offset_is shared_layout shared_world 2 0x3008 (2 ^ 64 - 0x60) slot.0 thread_is (omega arith) (somewhere shared_layout 2 0 own_thread refl refl) refl slot.2 in
     elim (which slot.1.owner slot.1.distance slot.1.known) [
       | inl e ↦ x.wrong (sym words.0 ∙ e.0)
       | inr e ↦ elim e [ inl f ↦ omega (arith, words.1, offset, slot.1.sum, f.1) | inr f ↦ omega (arith, words.1, offset, slot.1.sum, f.1) ]
@@ -56,11 +56,11 @@ other_module image h x =
     let r = reference 72 r_x86_64_tlsgd 3 (pos 0) in
     let v = other_there h.memory r _ 3 _ (h.kept shared_item kept) (11, omega arith, refl) (omega arith) pair_formula refl other_is no_address in
     let is : v.value ≡ 0xff8 = signed_of shared_world h.memory shared_item r v.value 0xff8 v.field x.field in
-    let slot = slot_holds ModulePair shared shared_world h.memory 3 v.gives.0 v.gives.1 in
+    let slot = slot_holds ModulePair shared_layout shared_world h.memory 3 v.gives.0 v.gives.1 in
     let below : v.gives.0 < 2 ^ 64 = word_below h.memory v.gives.0 slot.1.owner slot.1.first in
     let at : v.gives.0 ≡ 0x12040 = omega (arith, is, below, v.gives.2) in
     let words = one_module h.memory v.gives.0 0x12040 x.owner 0x20 slot.0 4 0 at slot.1 x.first x.second in
-    let offset : slot.0 ≡ 2 ^ 64 - 0x1fe0 = other_offset_is shared shared_world 3 (2 ^ 64 - 0x2000) slot.0 _ other_is refl slot.2 in
+    let offset : slot.0 ≡ 2 ^ 64 - 0x1fe0 = other_offset_is shared_layout shared_world 3 (2 ^ 64 - 0x2000) slot.0 _ other_is refl slot.2 in
     elim (which slot.1.owner slot.1.distance slot.1.known) [
       | inl e ↦ omega (arith, words.1, offset, slot.1.sum, e.1)
       | inr e ↦ elim e [ inl f ↦ omega (arith, words.1, offset, slot.1.sum, f.1) | inr f ↦ x.wrong (sym words.0 ∙ f.0) ]
@@ -71,7 +71,7 @@ begin_module image h x =
     let r = reference 44 r_x86_64_tlsld 2 (pos 0) in
     let v = own_there h.memory r _ 2 0x3008 (h.kept shared_item kept) (7, omega arith, refl) (omega arith) own_pair_formula refl thread_is in
     let is : v.value ≡ 0x101c = signed_of shared_world h.memory shared_item r v.value 0x101c v.field x.field in
-    let slot = slot_holds OwnModulePair shared shared_world h.memory 2 v.gives.0 v.gives.1 in
+    let slot = slot_holds OwnModulePair shared_layout shared_world h.memory 2 v.gives.0 v.gives.1 in
     let below : v.gives.0 < 2 ^ 64 = word_below h.memory v.gives.0 slot.pair.owner slot.pair.first in
     let at : v.gives.0 ≡ 0x12048 = omega (arith, is, below, v.gives.2) in
     let words = one_module h.memory v.gives.0 0x12048 x.owner 0 slot.begin 2 0 at slot.pair x.first x.second in
@@ -101,15 +101,15 @@ descriptor_there : Refused (NamesWrongDescriptor 0x11028 0x1000 0x12028 own_offs
 descriptor_there image h x =
     let r = reference 40 r_x86_64_gotpc32_tlsdesc 2 (pos 0) in
     let v = own_there h.memory r _ 2 0x3008 (h.kept shared_item kept) (6, omega arith, refl) (omega arith) descriptor_formula refl thread_is in
-    let slot = slot_holds Descriptor shared shared_world h.memory 2 v.gives.0 v.gives.1 in
-    let offset : slot.0 ≡ own_offset = own_offset_is shared shared_world 2 0x3008 (2 ^ 64 - 0x60) slot.0 thread_is (omega arith) (somewhere shared 2 0 own_thread refl refl) refl slot.2 in
+    let slot = slot_holds Descriptor shared_layout shared_world h.memory 2 v.gives.0 v.gives.1 in
+    let offset : slot.0 ≡ own_offset = own_offset_is shared_layout shared_world 2 0x3008 (2 ^ 64 - 0x60) slot.0 thread_is (omega arith) (somewhere shared_layout 2 0 own_thread refl refl) refl slot.2 in
     x.wrong (sym (one_value h.memory.descriptors v.gives.0 0x12028 x.offset slot.0 x.there slot.1) ∙ offset)
 
 no_descriptor : Refused (λ m. m.descriptors ≡ [])
 no_descriptor image h x =
     let r = reference 40 r_x86_64_gotpc32_tlsdesc 2 (pos 0) in
     let v = own_there h.memory r _ 2 0x3008 (h.kept shared_item kept) (6, omega arith, refl) (omega arith) descriptor_formula refl thread_is in
-    let slot = slot_holds Descriptor shared shared_world h.memory 2 v.gives.0 v.gives.1 in
+    let slot = slot_holds Descriptor shared_layout shared_world h.memory 2 v.gives.0 v.gives.1 in
     no_value h.memory.descriptors v.gives.0 slot.0 x slot.1
 
 pub wrong_descriptors : WrongDescriptorsAreRefused

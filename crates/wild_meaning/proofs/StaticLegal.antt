@@ -10,10 +10,10 @@ use Rattle.wild_types.specs.Flags.{has_flag, ifunc}
 use Rattle.wild_loader.specs.declared.world.Answer.{Answer}
 use Rattle.wild_meaning.specs.Value.{HasAnswer}
 use Rattle.wild_meaning.specs.World.{HasResolver, IsAnswer, IsAnswered, IsKnownModule, IsCopied}
-use Rattle.wild_meaning.specs.Worked.{file_of, group_of}
-use Rattle.wild_meaning.specs.WorkedStatic.{static_pie, static_pie_world, branch_code, load_code, general_code, described_code, static_data, first_function, second_function, thread_symbol, getter_symbol}
-use Rattle.wild_meaning.specs.StaticRefusals.{StaticPieWorldIsLegal}
-use Rattle.wild_meaning.proofs.Told.{only}
+use Rattle.wild_meaning.specs.Worked.Builders.{file_of, group_of}
+use Rattle.wild_meaning.specs.Worked.Static.{static_pie, static_pie_world, branch_code, load_code, general_code, described_code, static_data, first_function, second_function, thread_symbol, getter_symbol}
+use Rattle.wild_meaning.specs.Worked.StaticRefusals.{StaticPieWorldIsLegal}
+use Rattle.wild_meaning.proofs.SymbolUnique.{only}
 use Rattle.wild_meaning.proofs.Legal.{not_indirect, no_index}
 
 module_1 : IsKnownModule static_pie_world 1

@@ -5,7 +5,7 @@ use Rattle.std.proofs.lemmas.List.Elements.{All-from_recursion, All-contains}
 use lib.IntN.{pos}
 use Rattle.wild_words.specs.Words.{number}
 use Rattle.wild_words.specs.Record.{spell}
-use Rattle.wild_words.proofs.RecordLemmas.{Stands-left}
+use Rattle.wild_words.proofs.RecordLemmas.{HasBytesAt-left}
 use Rattle.wild_records.specs.Abi.Relocation.{r_x86_64_64, r_x86_64_tpoff64}
 use Rattle.wild_records.specs.Abi.Segment.{pt_gnu_stack}
 use Rattle.wild_records.specs.FileHeader.{file_header_fields}
@@ -28,25 +28,25 @@ use Rattle.wild_meaning.specs.Value.{IsDefinedBy, IsSymbol, HasValue}
 use Rattle.wild_meaning.specs.Thread.{HasThreadOffset}
 use Rattle.wild_types.specs.Item.{Item, item_of, item_with}
 use Rattle.wild_meaning.specs.Item.{IsInput, IsKept, OfSection, OfFrames}
-use Rattle.wild_meaning.specs.Template.{DoesDemanded, reads_alone}
-use Rattle.wild_meaning.specs.Reference.{IsLinkedAlone, IsOther, ReferenceHolds, ItemHolds}
-use Rattle.wild_meaning.specs.Segments.{headers_in, AreTold}
-use Rattle.wild_meaning.specs.Linked.{IsBlank}
-use Rattle.wild_meaning.specs.Worked.{reference, file_of, group_of}
-use Rattle.wild_meaning.specs.WorkedStatic.{static_pie, static_pie_world, branch_code, branch_item, branch_reference, load_code, load_item, load_reference, general_code, general_item, pair_reference, getter_reference, described_code, described_item, described_reference, static_data, static_item, first_function, second_function, thread_symbol, getter_symbol}
-use Rattle.wild_meaning.specs.WorkedImage.{static_image, static_rest, static_memory, static_header}
-use Rattle.wild_meaning.specs.StaticRefusals.{StaticImageIsLinked}
-use Rattle.wild_meaning.proofs.Told.{only, IsPlainOwn}
+use Rattle.wild_meaning.specs.Template.{DoesDemanded, reads_without_calls}
+use Rattle.wild_meaning.specs.Reference.{UsesOwnSymbolOnly, IsOutsideReferences, ReferenceHolds, ItemHolds}
+use Rattle.wild_meaning.specs.Segments.{headers_in, DescribeSegments}
+use Rattle.wild_meaning.specs.LinkedImage.{IsSectionWithoutData}
+use Rattle.wild_meaning.specs.Worked.Builders.{reference, file_of, group_of}
+use Rattle.wild_meaning.specs.Worked.Static.{static_pie, static_pie_world, branch_code, branch_item, branch_reference, load_code, load_item, load_reference, general_code, general_item, pair_reference, getter_reference, described_code, described_item, described_reference, static_data, static_item, first_function, second_function, thread_symbol, getter_symbol}
+use Rattle.wild_meaning.specs.Worked.StaticImage.{static_image, static_rest, static_memory, static_header}
+use Rattle.wild_meaning.specs.Worked.StaticRefusals.{StaticImageIsLinked}
+use Rattle.wild_meaning.proofs.SymbolUnique.{only, IsPlainOwn}
 use Rattle.wild_meaning.proofs.Read.{held_from}
 use Rattle.wild_meaning.proofs.Refused.{not_alone, no_template}
-use Rattle.wild_meaning.proofs.Meant.{done}
+use Rattle.wild_meaning.proofs.EffectLemmas.{done}
 use Rattle.wild_meaning.proofs.OneReference.{effect_with}
 use Rattle.wild_meaning.proofs.StaticLegal.{no_library}
 use Rattle.wild_meaning.proofs.StaticLoaded.{static_loaded, static_programs}
 use Rattle.wild_meaning.proofs.StaticRefused.{first_is, second_is, thread_is, address_formula, pointer_formula, no_code, no_string}
 use Rattle.wild_meaning.proofs.CodeRefused.{plt_formula, load_formula, descriptor_formula, call, call_template, call_demanded, load, load_template, load_demanded, described, described_template, described_demanded}
 use Rattle.wild_meaning.proofs.SequenceRefused.{pair_formula, general, general_template, getter_template}
-use Rattle.wild_meaning.proofs.StoodLemmas.{stood_plain, frame_input}
+use Rattle.wild_meaning.proofs.PlacedLemmas.{stood_plain, frame_input}
 use Rattle.wild_types.specs.declared.input.Slot.TheVariants as slot
 
 -- ---- symbols
@@ -102,14 +102,14 @@ unfolding has_flag
 getter_is = record { symbol = getter_symbol; resolution = _; is = refl; decided = refl; raw_is = refl; own = refl; plain = refl; moves = refl; unstubbed = refl }
 
 -- a reference to an own symbol does not take the output's own alone
-own_alone : (item : Item) (r : InputRelocation) (f : Formula) (i raw : ℕ) → x86_64_formula r.number ≡ Some f → r.symbol ≡ Some i → IsPlainOwn static_pie i raw → IsLinkedAlone static_pie item r → ⊥
+own_alone : (item : Item) (r : InputRelocation) (f : Formula) (i raw : ℕ) → x86_64_formula r.number ≡ Some f → r.symbol ≡ Some i → IsPlainOwn static_pie i raw → UsesOwnSymbolOnly static_pie item r → ⊥
 own_alone item r f i raw known named p x = not_alone static_pie item r f i p.symbol known named p.is (λ e. absurd (let both : true ≡ false = sym e ∙ p.own in cc)) x
 
 -- what holds of an item's references, one by one
 abbrev Both : Item → InputRelocation → Type 0
-Both item r = ReferenceHolds static_pie static_pie_world static_memory item r × (IsLinkedAlone static_pie item r → ⊥)
+Both item r = ReferenceHolds static_pie static_pie_world static_memory item r × (UsesOwnSymbolOnly static_pie item r → ⊥)
 
-all_hold : (item : Item) → All (Both item) item.relocations → ((k : ℕ) → k < length item.bytes → IsOther static_pie item k → byte_in static_memory (static_pie_world.base + item.address + k) ≡ Some (slice_index item.bytes k)) → ItemHolds static_pie static_pie_world static_memory item
+all_hold : (item : Item) → All (Both item) item.relocations → ((k : ℕ) → k < length item.bytes → IsOutsideReferences static_pie item k → byte_in static_memory (static_pie_world.base + item.address + k) ≡ Some (slice_index item.bytes k)) → ItemHolds static_pie static_pie_world static_memory item
 all_hold item all others = record {
   references = λ r ref present asked alone. (All-contains (Both item) item.relocations r all ref.listed).0;
   linked = λ r ref present alone base. absurd ((All-contains (Both item) item.relocations r all ref.listed).1 alone);
@@ -118,7 +118,7 @@ all_hold item all others = record {
 
 -- ---- branch
 
-branch_done : effect_x86_64 (reads_alone static_pie_world static_memory) 0x41000 (0xe8 ∷ 0xfb ∷ 0x01 ∷ 0 ∷ 0 ∷ []) ≡ Some (effect_with Call 64 0x41200)
+branch_done : effect_x86_64 (reads_without_calls static_pie_world static_memory) 0x41000 (0xe8 ∷ 0xfb ∷ 0x01 ∷ 0 ∷ 0 ∷ []) ≡ Some (effect_with Call 64 0x41200)
 unfolding meaning_x86_64 number
 branch_done = refl
 
@@ -132,7 +132,7 @@ branch_holds = inr (record {
   first = branch_reference;
   template = call_template;
   words = tt;
-  does = done (reads_alone static_pie_world static_memory) static_pie static_pie_world static_memory branch_item branch_reference 0 call (record {
+  does = done (reads_without_calls static_pie_world static_memory) static_pie static_pie_world static_memory branch_item branch_reference 0 call (record {
     value = 0x41200;
     demands = record { goal = 0x41200; stands = inr ((λ g. no_string g.formula.value branch_reference g.takes), inr (no_string StubDistance branch_reference, inl first_value)); is = refl };
     effect = effect_with Call 64 0x41200;
@@ -164,7 +164,7 @@ branch_item_holds = all_hold branch_item (All-from_recursion (Both branch_item) 
 
 -- ---- load
 
-load_done : effect_x86_64 (reads_alone static_pie_world static_memory) 0x41010 (0x48 ∷ 0x8d ∷ 0x05 ∷ 0xe9 ∷ 0x01 ∷ 0 ∷ 0 ∷ []) ≡ Some (effect_with (Set 0) 64 0x41200)
+load_done : effect_x86_64 (reads_without_calls static_pie_world static_memory) 0x41010 (0x48 ∷ 0x8d ∷ 0x05 ∷ 0xe9 ∷ 0x01 ∷ 0 ∷ 0 ∷ []) ≡ Some (effect_with (Set 0) 64 0x41200)
 unfolding meaning_x86_64 number
 load_done = refl
 
@@ -178,7 +178,7 @@ load_holds = inr (record {
   first = load_reference;
   template = load_template;
   words = tt;
-  does = done (reads_alone static_pie_world static_memory) static_pie static_pie_world static_memory load_item load_reference 0 load (record {
+  does = done (reads_without_calls static_pie_world static_memory) static_pie static_pie_world static_memory load_item load_reference 0 load (record {
     value = 0x41200;
     demands = inl first_value;
     effect = effect_with (Set 0) 64 0x41200;
@@ -212,7 +212,7 @@ load_item_holds = all_hold load_item (All-from_recursion (Both load_item) load_i
 
 -- ---- described
 
-described_done : effect_x86_64 (reads_alone static_pie_world static_memory) 0x41040 (0x48 ∷ 0xc7 ∷ 0xc0 ∷ 0xf8 ∷ 0xff ∷ 0xff ∷ 0xff ∷ []) ≡ Some (effect_with (Set 0) 64 (2 ^ 64 - 8))
+described_done : effect_x86_64 (reads_without_calls static_pie_world static_memory) 0x41040 (0x48 ∷ 0xc7 ∷ 0xc0 ∷ 0xf8 ∷ 0xff ∷ 0xff ∷ 0xff ∷ []) ≡ Some (effect_with (Set 0) 64 (2 ^ 64 - 8))
 unfolding meaning_x86_64 number
 described_done = refl
 
@@ -226,7 +226,7 @@ described_holds = inr (record {
   first = described_reference;
   template = described_template;
   words = tt;
-  does = done (reads_alone static_pie_world static_memory) static_pie static_pie_world static_memory described_item described_reference 0 described (record {
+  does = done (reads_without_calls static_pie_world static_memory) static_pie static_pie_world static_memory described_item described_reference 0 described (record {
     value = (2 ^ 64 - 8);
     demands = inl ((tt, refl), thread_offset);
     effect = effect_with (Set 0) 64 (2 ^ 64 - 8);
@@ -264,15 +264,15 @@ general_demanded : (v : ℕ) → effect_x86_64 (as_value v) 0x41020 general_item
 unfolding meaning_x86_64
 general_demanded v = refl
 
-general_done : effect_x86_64 (reads_alone static_pie_world static_memory) 0x41020 (0x64 ∷ 0x48 ∷ 0x8b ∷ 0x04 ∷ 0x25 ∷ 0 ∷ 0 ∷ 0 ∷ 0 ∷ 0x48 ∷ 0x8d ∷ 0x80 ∷ 0xf8 ∷ 0xff ∷ 0xff ∷ 0xff ∷ []) ≡ Some (effect_with (SetThreadAddress 0) 64 (2 ^ 64 - 8))
+general_done : effect_x86_64 (reads_without_calls static_pie_world static_memory) 0x41020 (0x64 ∷ 0x48 ∷ 0x8b ∷ 0x04 ∷ 0x25 ∷ 0 ∷ 0 ∷ 0 ∷ 0 ∷ 0x48 ∷ 0x8d ∷ 0x80 ∷ 0xf8 ∷ 0xff ∷ 0xff ∷ 0xff ∷ []) ≡ Some (effect_with (SetThreadAddress 0) 64 (2 ^ 64 - 8))
 unfolding meaning_x86_64 number
 general_done = refl
 
 general_held : Holds static_memory 0x41020 (0x64 ∷ 0x48 ∷ 0x8b ∷ 0x04 ∷ 0x25 ∷ 0 ∷ 0 ∷ 0 ∷ 0 ∷ 0x48 ∷ 0x8d ∷ 0x80 ∷ 0xf8 ∷ 0xff ∷ 0xff ∷ 0xff ∷ [])
 general_held = held_from static_memory 0x41020 (0x64 ∷ 0x48 ∷ 0x8b ∷ 0x04 ∷ 0x25 ∷ 0 ∷ 0 ∷ 0 ∷ 0 ∷ 0x48 ∷ 0x8d ∷ 0x80 ∷ 0xf8 ∷ 0xff ∷ 0xff ∷ 0xff ∷ []) refl
 
-general_does : DoesDemanded (reads_alone static_pie_world static_memory) static_pie static_pie_world static_memory general_item pair_reference 0 general
-general_does = done (reads_alone static_pie_world static_memory) static_pie static_pie_world static_memory general_item pair_reference 0 general (record {
+general_does : DoesDemanded (reads_without_calls static_pie_world static_memory) static_pie static_pie_world static_memory general_item pair_reference 0 general
+general_does = done (reads_without_calls static_pie_world static_memory) static_pie static_pie_world static_memory general_item pair_reference 0 general (record {
   value = 2 ^ 64 - 8;
   demands = thread_offset;
   effect = effect_with (SetThreadAddress 0) 64 (2 ^ 64 - 8);
@@ -369,11 +369,11 @@ in_block s h =
     by true n e = e
     by false n e = refl
 
-abbrev StandsAsItIs : InputSection → Type 0
-StandsAsItIs s = s.reversed ≡ false
+abbrev IsPlacedUnchanged : InputSection → Type 0
+IsPlacedUnchanged s = s.reversed ≡ false
 
 stands_so : (s : InputSection) → IsInput static_pie s → s.reversed ≡ false
-stands_so s h = All-contains StandsAsItIs sections s (All-from_recursion StandsAsItIs sections (refl, (refl, (refl, (refl, (refl, tt)))))) (listed_in s h)
+stands_so s h = All-contains IsPlacedUnchanged sections s (All-from_recursion IsPlacedUnchanged sections (refl, (refl, (refl, (refl, (refl, tt)))))) (listed_in s h)
 
 abbrev IsLoaded : InputSection → Type 0
 IsLoaded s = s.slot ≡ slot.Loaded
@@ -393,14 +393,14 @@ items_hold item (OfFrames s kept is) =
 abbrev HasData : InputSection → Type 0
 HasData s = s.nobits ≡ false
 
-no_blank : (s : InputSection) → IsBlank static_pie s → ⊥
+no_blank : (s : InputSection) → IsSectionWithoutData static_pie s → ⊥
 no_blank s h =
     let has : HasData s = All-contains HasData sections s (All-from_recursion HasData sections (refl, (refl, (refl, (refl, (refl, tt)))))) (listed_in s h.input) in
     let both : true ≡ false = sym h.blank ∙ has in
     cc
 
-static_segments : AreTold static_pie static_pie.segments (headers_in static_image)
-static_segments = subst (λ (hs : List ProgramHeader). AreTold static_pie static_pie.segments hs) (sym static_programs) (
+static_segments : DescribeSegments static_pie static_pie.segments (headers_in static_image)
+static_segments = subst (λ (hs : List ProgramHeader). DescribeSegments static_pie static_pie.segments hs) (sym static_programs) (
   record { kind = refl; flags = λ k. refl; stack = λ k. absurd (let no : 1 ≡ pt_gnu_stack = k in omega (arith, no)); offset = refl; address = refl; physical = refl; file_size = refl; mem_size = refl; align = λ k. absurd (k refl); pages = λ k. refl; congruent = λ k. refl },
   tt,
 )
@@ -420,7 +420,7 @@ static_linked = record {
       middle = record { machine = omega arith; version = omega arith; entry = omega arith; program_offset = omega arith; section_offset = omega arith; flags = omega arith; header_size = omega arith };
       back = record { program_entry_size = omega arith; program_count = omega arith; section_entry_size = omega arith; section_count = omega arith; name_table = omega arith };
     };
-    stands = Stands-left (spell (file_header_fields static_header)) static_rest;
+    stands = HasBytesAt-left (spell (file_header_fields static_header)) static_rest;
     fixed = λ f. absurd f;
     movable = λ _. refl;
     address = λ a e. (let one : Some (entry.Address 0x1000) ≡ Some (entry.Address a) = e in let same : 0x1000 ≡ a = cc in same);

@@ -19,13 +19,13 @@ use Rattle.wild_meaning.specs.World.{IsCopied}
 use Rattle.wild_types.specs.Item.{Item}
 use Rattle.wild_meaning.specs.Item.{IsKept, OfSection}
 use Rattle.wild_meaning.specs.Reference.{ItemHolds, ReferenceHolds}
-use Rattle.wild_meaning.specs.Linked.{IsBlank}
-use Rattle.wild_meaning.specs.Worked.{Refuses, reference, file_of, group_of}
-use Rattle.wild_meaning.specs.WorkedStatic.{static_pie, static_pie_world, static_data, static_item, first_function, second_function, thread_symbol}
-use Rattle.wild_meaning.specs.Refusals.{HasWrongNumber}
-use Rattle.wild_meaning.specs.StaticRefusals.{padded, padded_section, padded_blank, WrongDataAreRefused, WrongBlankIsRefused}
+use Rattle.wild_meaning.specs.LinkedImage.{IsSectionWithoutData}
+use Rattle.wild_meaning.specs.Worked.Builders.{Refuses, reference, file_of, group_of}
+use Rattle.wild_meaning.specs.Worked.Static.{static_pie, static_pie_world, static_data, static_item, first_function, second_function, thread_symbol}
+use Rattle.wild_meaning.specs.Worked.Refusals.{HasWrongNumber}
+use Rattle.wild_meaning.specs.Worked.StaticRefusals.{padded_layout, padded_section, padded_blank, WrongDataAreRefused, WrongBlankIsRefused}
 use Rattle.wild_meaning.specs.Thread.{HasThreadOffset}
-use Rattle.wild_meaning.proofs.Told.{only, IsPlainOwn, denoted, own_offset, somewhere}
+use Rattle.wild_meaning.proofs.SymbolUnique.{only, IsPlainOwn, denoted, own_offset, somewhere}
 use Rattle.wild_meaning.proofs.Read.{full_of}
 use Rattle.wild_meaning.proofs.Refused.{HasValueThere, value_there, not_excepted, not_alone}
 use Rattle.wild_meaning.specs.Formula.{TakesString}
@@ -107,7 +107,7 @@ wrong_data read = record {
 
 -- ---- a section without data
 
-padded_is : IsBlank padded padded_blank
+padded_is : IsSectionWithoutData padded_layout padded_blank
 padded_is = record {
   input = record { group = _; grouped = (0, omega arith, refl); file = _; filed = (0, omega arith, refl); listed = (0, omega arith, refl) };
   loaded = tt;
@@ -116,7 +116,7 @@ padded_is = record {
   blank = refl;
 }
 
-padded_filled : HasFileBytes padded padded_blank.part
+padded_filled : HasFileBytes padded_layout padded_blank.part
 padded_filled = record {
   part = _;
   listed = refl;
@@ -127,7 +127,7 @@ padded_filled = record {
   written = λ h. (let off : false ≡ true = h.bare in cc);
 }
 
-nothing_copied : (i : ℕ) → IsCopied padded i → ⊥
+nothing_copied : (i : ℕ) → IsCopied padded_layout i → ⊥
 nothing_copied i h =
     let group = only (group_of (file_of file_role.Object (padded_blank ∷ []) [] ∷ [])) h.group h.grouped in
     let file = only (file_of file_role.Object (padded_blank ∷ []) []) h.file (rw (← group) at h.filed) in

@@ -13,7 +13,7 @@ use Rattle.wild_loader.specs.declared.memory.Memory.{Memory}
 use Rattle.wild_loader.specs.declared.world.World.{World}
 use Rattle.wild_types.specs.Item.{Item}
 use Rattle.wild_meaning.specs.Strings.{NamesStrings}
-use Rattle.wild_meaning.specs.Formula.{TakesString, IsReferent, IsReferentBy}
+use Rattle.wild_meaning.specs.Formula.{TakesString, IsReferent, IsReferentOnMachine}
 use Rattle.wild_meaning.specs.Template.{GoesToString, IsBranchReferent}
 use Rattle.wild_meaning.specs.Field.{formula_of}
 
@@ -33,10 +33,10 @@ pub nameless : (l : Layout) (r : InputRelocation) → r.symbol ≡ None → Name
 nameless l r none n = (let both : Some n.symbol ≡ None = sym n.named ∙ none in cc)
 
 -- of a reference that takes no string what stands for its symbol is S, or L
-pub plain_referent : (k : Machine) (v : Value) (l : Layout) (w : World) (m : Memory) (item : Item) (r : InputRelocation) (a : ℕ) → (TakesString v l r → ⊥) → IsReferentBy k v l w m item r a → IsReferent k v l w m item r a
+pub plain_referent : (k : Machine) (v : Value) (l : Layout) (w : World) (m : Memory) (item : Item) (r : InputRelocation) (a : ℕ) → (TakesString v l r → ⊥) → IsReferentOnMachine k v l w m item r a → IsReferent k v l w m item r a
 plain_referent k v l w m item r a none h = inr (none, h)
 
-pub referent_by : (k : Machine) (v : Value) (l : Layout) (w : World) (m : Memory) (item : Item) (r : InputRelocation) (a : ℕ) → (TakesString v l r → ⊥) → IsReferent k v l w m item r a → IsReferentBy k v l w m item r a
+pub referent_by : (k : Machine) (v : Value) (l : Layout) (w : World) (m : Memory) (item : Item) (r : InputRelocation) (a : ℕ) → (TakesString v l r → ⊥) → IsReferent k v l w m item r a → IsReferentOnMachine k v l w m item r a
 referent_by k v l w m item r a none (inl h) = absurd (none h.0)
 referent_by k v l w m item r a none (inr h) = h.1
 

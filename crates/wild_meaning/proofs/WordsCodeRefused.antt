@@ -22,22 +22,22 @@ use Rattle.wild_loader.specs.InstructionAArch64.{meaning_aarch64, effect_aarch64
 use Rattle.wild_loader.specs.Effect.{step}
 use Rattle.wild_loader.specs.Reach.{ReachesWithin}
 use Rattle.wild_loader.specs.StepLawsAArch64.{jumps}
-use Rattle.wild_loader.proofs.Held.{held-rest}
+use Rattle.wild_loader.proofs.HeldBytes.{held-rest}
 use Rattle.wild_loader.proofs.StepLemmasAArch64.{thunks-read}
 use Rattle.wild_types.specs.Item.{Item}
 use Rattle.wild_meaning.specs.Item.{IsReference, IsKept, OfSection}
-use Rattle.wild_meaning.specs.Slot.{behind_first, IsDecidedSlot, HasSlot, IsSlot}
+use Rattle.wild_meaning.specs.Slot.{offset_from_first, HasSlotAddress, HasSlot, IsSlot}
 use Rattle.wild_meaning.specs.Formula.{IsReferent, IsReferentOnAArch64, Gives}
 use Rattle.wild_meaning.specs.Sequence.{Instruction, descriptor_call_words}
 use Rattle.wild_meaning.specs.WordsAArch64.{effect_with as asked_of}
-use Rattle.wild_meaning.specs.Template.{IsTemplate, IsFieldBits, bits_of, old_bytes, reads, reads_alone, DoesDemanded}
+use Rattle.wild_meaning.specs.Template.{IsTemplate, IsFieldBits, bits_of, old_bytes, reads, reads_without_calls, DoesDemanded}
 use Rattle.wild_meaning.specs.Reference.{IsOwnSlot, ReadsOwnSlots, ReferenceHolds, ItemHolds}
-use Rattle.wild_meaning.specs.Worked.{Refuses}
-use Rattle.wild_meaning.specs.WorkedAArch64.{words_static, words_world, near_function, local_data, slot_code, slot_item, slot_low_reference, call_code, call_item, call_reference, past_code, past_item, past_reference, descriptor_code, descriptor_item, descriptor_page, descriptor_load}
-use Rattle.wild_meaning.specs.StaticRefusals.{Has}
-use Rattle.wild_meaning.specs.ImageRefusalsAArch64.{HasBoth, slot_behind, call_of_thunk, far_thunk, next_call_of_thunk, right_thunk, half_call, low_half, load_of_word, WrongCodeOfWordsIsRefused}
-use Rattle.wild_meaning.proofs.Told.{denoted, told_is, own_offset, somewhere, IsPlainOwn}
-use Rattle.wild_meaning.proofs.Meant.{meant}
+use Rattle.wild_meaning.specs.Worked.Builders.{Refuses}
+use Rattle.wild_meaning.specs.Worked.AArch64.{words_static, words_world, near_function, local_data, slot_code, slot_item, slot_low_reference, call_code, call_item, call_reference, past_code, past_item, past_reference, descriptor_code, descriptor_item, descriptor_page, descriptor_load}
+use Rattle.wild_meaning.specs.Worked.StaticRefusals.{MemoryHas}
+use Rattle.wild_meaning.specs.Worked.ImageRefusalsAArch64.{HasBoth, slot_behind, call_of_thunk, far_thunk, next_call_of_thunk, right_thunk, half_call, low_half, load_of_word, WrongCodeOfWordsIsRefused}
+use Rattle.wild_meaning.proofs.SymbolUnique.{denoted, told_is, own_offset, somewhere, IsPlainOwn}
+use Rattle.wild_meaning.proofs.EffectLemmas.{meant}
 use Rattle.wild_meaning.proofs.OneReference.{effect_with, value_in, ReadsNumbers, same_bytes}
 use Rattle.wild_meaning.proofs.InstructionsAArch64.{alone_only}
 use Rattle.wild_meaning.proofs.WordsLinked.{own_alone, slot_low_asked, call_demanded, past_demanded}
@@ -56,7 +56,7 @@ NoneDoes m item r = (read : Reader) → ReadsNumbers read → (from : ℕ) (p : 
 
 refused : (m : Memory) (item : Item) (r : InputRelocation) (start : ℕ) (o : Instruction) (first : InputRelocation) → IsTemplate words_static item r start o first → NoneDoes m item r → ReferenceHolds words_static words_world m item r → ⊥
 refused m item r start o first t none (inl h) = none (reads words_world m) (λ n. refl) start o first t (h.does start o first t)
-refused m item r start o first t none (inr h) = none (reads_alone words_world m) (λ n. refl) h.start h.instruction h.first h.template h.does
+refused m item r start o first t none (inr h) = none (reads_without_calls words_world m) (λ n. refl) h.start h.instruction h.first h.template h.does
 
 -- ---- a load from another slot
 
@@ -64,7 +64,7 @@ slot_kept : IsKept words_static slot_item
 slot_kept = OfSection slot_code (record { input = record { group = _; grouped = (0, omega arith, refl); file = _; filed = (0, omega arith, refl); listed = (1, omega arith, refl) }; loaded = tt; room = refl; has_data = refl; written = λ p at h. (let off : false ≡ true = h.bare in cc) }) refl
 
 -- the slot is the symbol's
-slot_place : (s : Symbol) (d : Resolution) (slot first : ℕ) → s ≡ near_function → s.resolution ≡ Some d → d.got_address ≡ Some first → slot ≡ first + behind_first AddressSlot s.flags → slot ≡ 0x11080
+slot_place : (s : Symbol) (d : Resolution) (slot first : ℕ) → s ≡ near_function → s.resolution ≡ Some d → d.got_address ≡ Some first → slot ≡ first + offset_from_first AddressSlot s.flags → slot ≡ 0x11080
 unfolding has_flag
 slot_place s d slot first e decided got place =
     let there : near_function.resolution ≡ Some d = subst (λ (q : Symbol). q.resolution ≡ Some d) e decided in
@@ -72,7 +72,7 @@ slot_place s d slot first e decided got place =
     let one : Some 0x11080 ≡ d.got_address = cc in
     let both : Some 0x11080 ≡ Some first = one ∙ got in
     let same : 0x11080 ≡ first = cc in
-    let behind : slot ≡ first + 0 = subst (λ (q : Symbol). slot ≡ first + behind_first AddressSlot q.flags) e place in
+    let behind : slot ≡ first + 0 = subst (λ (q : Symbol). slot ≡ first + offset_from_first AddressSlot q.flags) e place in
     omega (arith, same, behind)
 
 slot_is : (m : Memory) (g : ℕ) → IsSlot AddressSlot words_static words_world m (Some 0) g → g ≡ 0x11080
@@ -116,7 +116,7 @@ slot_low_does_not m read numbers held d =
 last_four : (m : Memory) → Holds m 0x11010 slot_behind → Holds m 0x11014 low_behind
 last_four m h = held-rest m 0x11013 0x90 low_behind (held-rest m 0x11012 0 (0x90 ∷ low_behind) (held-rest m 0x11011 0 (0 ∷ 0x90 ∷ low_behind) (held-rest m 0x11010 0 (0 ∷ 0 ∷ 0x90 ∷ low_behind) h)))
 
-wrong_slot : Refuses words_static words_world (Has 0x11010 slot_behind)
+wrong_slot : Refuses words_static words_world (MemoryHas 0x11010 slot_behind)
 wrong_slot image h x =
     refused h.memory slot_item slot_low_reference 4 slot_low_word slot_low_reference slot_low_template
     (λ read numbers. alone_only (λ start o first. DoesDemanded read words_static words_world h.memory slot_item first start o → ⊥) words_static slot_item slot_low_reference slot_low_word refl slot_low_alone (slot_low_does_not h.memory read numbers (last_four h.memory x)))
@@ -225,19 +225,19 @@ low_does_not m read numbers held d =
 load_reference : IsReference descriptor_item descriptor_load
 load_reference = record { listed = (1, omega arith, refl); refers = λ e. omega arith }
 
-wrong_half : Refuses words_static words_world (Has 0x11030 half_call)
+wrong_half : Refuses words_static words_world (MemoryHas 0x11030 half_call)
 wrong_half image h x =
     refused h.memory descriptor_item descriptor_load 0 descriptor_call_words descriptor_page (descriptor_template descriptor_load (1, omega arith, refl))
     (λ read numbers. load_only (λ start o first. DoesDemanded read words_static words_world h.memory descriptor_item first start o → ⊥) (half_does_not h.memory read x))
     (holds_there h.memory descriptor_item descriptor_load 1 0x30008 (h.kept descriptor_item descriptor_kept) load_reference refl data_is)
 
-wrong_low : Refuses words_static words_world (Has 0x11030 low_half)
+wrong_low : Refuses words_static words_world (MemoryHas 0x11030 low_half)
 wrong_low image h x =
     refused h.memory descriptor_item descriptor_load 0 descriptor_call_words descriptor_page (descriptor_template descriptor_load (1, omega arith, refl))
     (λ read numbers. load_only (λ start o first. DoesDemanded read words_static words_world h.memory descriptor_item first start o → ⊥) (low_does_not h.memory read numbers x))
     (holds_there h.memory descriptor_item descriptor_load 1 0x30008 (h.kept descriptor_item descriptor_kept) load_reference refl data_is)
 
-not_decided : (sort : Slot) (p : ℕ) → IsDecidedSlot sort words_static 1 p → ⊥
+not_decided : (sort : Slot) (p : ℕ) → HasSlotAddress sort words_static 1 p → ⊥
 not_decided sort p h = by h.symbol h.resolution h.first (told_is words_static 1 h.definition h.symbol local_data refl h.defined h.listed) h.decided h.given
   where
     by : (s : Symbol) (d : Resolution) (first : ℕ) → s ≡ local_data → s.resolution ≡ Some d → d.got_address ≡ Some first → ⊥
@@ -276,7 +276,7 @@ word_refused m held (inr h) =
     let same : words.index ≡ 1 = cc in
     no_slot words.sort words.slot (subst (λ (i : ℕ). HasSlot words.sort words_static i words.slot) same words.given)
 
-wrong_word : Refuses words_static words_world (Has 0x11030 load_of_word)
+wrong_word : Refuses words_static words_world (MemoryHas 0x11030 load_of_word)
 wrong_word image h x = word_refused h.memory x (holds_there h.memory descriptor_item descriptor_load 1 0x30008 (h.kept descriptor_item descriptor_kept) load_reference refl data_is)
 
 pub wrong_words_of_images : WrongCodeOfWordsIsRefused

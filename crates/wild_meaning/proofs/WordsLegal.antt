@@ -10,10 +10,10 @@ use Rattle.wild_types.specs.Flags.{has_flag, ifunc}
 use Rattle.wild_loader.specs.declared.world.Answer.{Answer}
 use Rattle.wild_meaning.specs.Value.{HasAnswer}
 use Rattle.wild_meaning.specs.World.{HasResolver, IsAnswer, IsAnswered, IsKnownModule, IsCopied}
-use Rattle.wild_meaning.specs.Worked.{file_of, group_of}
-use Rattle.wild_meaning.specs.WorkedAArch64.{words_static, words_world, address_code, slot_code, call_code, past_code, descriptor_code, kept_code, near_function, local_data}
-use Rattle.wild_meaning.specs.ImageRefusalsAArch64.{WordsWorldIsLegal}
-use Rattle.wild_meaning.proofs.Told.{only}
+use Rattle.wild_meaning.specs.Worked.Builders.{file_of, group_of}
+use Rattle.wild_meaning.specs.Worked.AArch64.{words_static, words_world, address_code, slot_code, call_code, past_code, descriptor_code, kept_code, near_function, local_data}
+use Rattle.wild_meaning.specs.Worked.ImageRefusalsAArch64.{WordsWorldIsLegal}
+use Rattle.wild_meaning.proofs.SymbolUnique.{only}
 use Rattle.wild_meaning.proofs.Legal.{not_indirect, no_index}
 
 module_1 : IsKnownModule words_world 1

@@ -5,7 +5,7 @@ use Rattle.std.specs.List.{flat_map}
 use Rattle.std.proofs.lemmas.List.Elements.{All-from_recursion, All-contains}
 use Rattle.wild_words.specs.Words.{word, number}
 use Rattle.wild_words.specs.Record.{spell}
-use Rattle.wild_words.proofs.RecordLemmas.{Stands-left}
+use Rattle.wild_words.proofs.RecordLemmas.{HasBytesAt-left}
 use Rattle.wild_records.specs.Abi.Segment.{pt_gnu_stack}
 use Rattle.wild_records.specs.FileHeader.{file_header_fields}
 use Rattle.wild_records.specs.declared.program_header.ProgramHeader.{ProgramHeader}
@@ -30,31 +30,31 @@ use Rattle.wild_loader.specs.StepLawsAArch64.{jumps}
 use Rattle.wild_loader.proofs.StepLemmasAArch64.{thunks-read}
 use Rattle.wild_meaning.specs.Value.{IsDefinedBy, IsSymbol, IsReplaceable, HasValue}
 use Rattle.wild_meaning.specs.Thread.{HasThreadOffset}
-use Rattle.wild_meaning.specs.ReferentAArch64.{IsStandIn}
+use Rattle.wild_meaning.specs.ReferentAArch64.{IsAddressStub}
 use Rattle.wild_meaning.specs.Formula.{IsReferent, IsSum, Gives}
 use Rattle.wild_meaning.specs.Slot.{IsSlot}
 use Rattle.wild_types.specs.Item.{Item, item_of, item_with}
 use Rattle.wild_meaning.specs.Item.{place_at, IsInput, IsKept, OfSection, OfFrames}
 use Rattle.wild_meaning.specs.Sequence.{Instruction, size_of, IsOwnByte, descriptor_call_words, address_pair_words}
-use Rattle.wild_meaning.specs.Template.{DoesDemanded, effect_of, demand_of, old_bytes, reads, reads_alone}
+use Rattle.wild_meaning.specs.Template.{DoesDemanded, effect_of, demand_of, old_bytes, reads, reads_without_calls}
 use Rattle.wild_meaning.specs.WordsAArch64.{effect_with as asked_of}
 use Rattle.wild_meaning.specs.Field.{IsInputByte}
-use Rattle.wild_meaning.specs.Reference.{ReadsOwnSlots, IsLinkedAlone, IsOther, ReferenceHolds, ItemHolds}
-use Rattle.wild_meaning.specs.Segments.{headers_in, AreTold}
-use Rattle.wild_meaning.specs.Linked.{IsBlank}
-use Rattle.wild_meaning.specs.Worked.{file_of, group_of}
-use Rattle.wild_meaning.specs.WorkedAArch64.{words_static, words_world, near_function, local_data, address_code, address_item, page_reference, low_reference, slot_code, slot_item, slot_page_reference, slot_low_reference, call_code, call_item, call_reference, past_code, past_item, past_reference, kept_code, kept_item, descriptor_code, descriptor_item, descriptor_page, descriptor_load, descriptor_low, descriptor_call}
-use Rattle.wild_meaning.specs.WorkedImageAArch64.{words_image, words_rest, words_memory, words_header}
-use Rattle.wild_meaning.specs.ImageRefusalsAArch64.{WordsImageIsLinked}
-use Rattle.wild_meaning.proofs.Told.{only, owner_of, stub_of, IsPlainOwn}
+use Rattle.wild_meaning.specs.Reference.{ReadsOwnSlots, UsesOwnSymbolOnly, IsOutsideReferences, ReferenceHolds, ItemHolds}
+use Rattle.wild_meaning.specs.Segments.{headers_in, DescribeSegments}
+use Rattle.wild_meaning.specs.LinkedImage.{IsSectionWithoutData}
+use Rattle.wild_meaning.specs.Worked.Builders.{file_of, group_of}
+use Rattle.wild_meaning.specs.Worked.AArch64.{words_static, words_world, near_function, local_data, address_code, address_item, page_reference, low_reference, slot_code, slot_item, slot_page_reference, slot_low_reference, call_code, call_item, call_reference, past_code, past_item, past_reference, kept_code, kept_item, descriptor_code, descriptor_item, descriptor_page, descriptor_load, descriptor_low, descriptor_call}
+use Rattle.wild_meaning.specs.Worked.AArch64Image.{words_image, words_rest, words_memory, words_header}
+use Rattle.wild_meaning.specs.Worked.ImageRefusalsAArch64.{WordsImageIsLinked}
+use Rattle.wild_meaning.proofs.SymbolUnique.{only, owner_of, stub_of, IsPlainOwn}
 use Rattle.wild_meaning.proofs.Read.{held_from}
-use Rattle.wild_meaning.proofs.Meant.{done}
+use Rattle.wild_meaning.proofs.EffectLemmas.{done}
 use Rattle.wild_meaning.proofs.OneReference.{effect_with, same_bytes}
 use Rattle.wild_meaning.proofs.InstructionsAArch64.{alone_only}
 use Rattle.wild_meaning.proofs.WordsLegal.{no_library}
 use Rattle.wild_meaning.proofs.WordsLoaded.{words_loaded, words_programs}
 use Rattle.wild_meaning.proofs.WordsTemplates.{function_is, data_is, no_string, not_absent, slot_page_formula, slot_low_formula, call_formula, slot_page_word, slot_low_word, call_word, slot_page_alone, slot_low_alone, call_alone, no_byte, slot_page_template, slot_low_template, call_template, past_template, page_template, low_template, descriptor_template, page_formula, low_formula, page_word, no_byte_of_two, kept_template, kept_page_only, kept_low_only}
-use Rattle.wild_meaning.proofs.StoodLemmas.{stood_plain, frame_input}
+use Rattle.wild_meaning.proofs.PlacedLemmas.{stood_plain, frame_input}
 use Rattle.wild_types.specs.declared.input.Slot.TheVariants as slot
 
 -- ---- symbols
@@ -91,10 +91,10 @@ data_offset = inr (
 )
 
 -- it stands at no stub
-no_stand_in : (p : ℕ) → IsStandIn words_static 0 p → ⊥
+no_stand_in : (p : ℕ) → IsAddressStub words_static 0 p → ⊥
 no_stand_in p h = stub_of words_static 0 p function_is.symbol function_is.resolution function_is.is function_is.decided function_is.unstubbed h.stub
 
-pub own_alone : (item : Item) (r : InputRelocation) (i raw : ℕ) → r.symbol ≡ Some i → IsPlainOwn words_static i raw → IsLinkedAlone words_static item r → ⊥
+pub own_alone : (item : Item) (r : InputRelocation) (i raw : ℕ) → r.symbol ≡ Some i → IsPlainOwn words_static i raw → UsesOwnSymbolOnly words_static item r → ⊥
 own_alone item r i raw named p h =
     let both : Some i ≡ Some h.symbol = sym named ∙ h.named in
     let same : h.symbol ≡ i = cc in
@@ -104,9 +104,9 @@ own_alone item r i raw named p h =
 
 -- what holds of an item's references, one by one
 abbrev Both : Item → InputRelocation → Type 0
-Both item r = ReferenceHolds words_static words_world words_memory item r × (IsLinkedAlone words_static item r → ⊥)
+Both item r = ReferenceHolds words_static words_world words_memory item r × (UsesOwnSymbolOnly words_static item r → ⊥)
 
-all_hold : (item : Item) → All (Both item) item.relocations → ((k : ℕ) → k < length item.bytes → IsOther words_static item k → IsInputByte words_world words_memory item k) → ItemHolds words_static words_world words_memory item
+all_hold : (item : Item) → All (Both item) item.relocations → ((k : ℕ) → k < length item.bytes → IsOutsideReferences words_static item k → IsInputByte words_world words_memory item k) → ItemHolds words_static words_world words_memory item
 all_hold item all others = record {
   references = λ r ref present asked alone. (All-contains (Both item) item.relocations r all ref.listed).0;
   linked = λ r ref present alone base. absurd ((All-contains (Both item) item.relocations r all ref.listed).1 alone);
@@ -132,12 +132,12 @@ address_demanded : demand_of words_static.machine 0x11200 0x11000 (old_bytes add
 unfolding word number read read_address read_access read_vector_access read_literal read_transfer read_condition
 address_demanded = refl
 
-address_done : effect_of words_static.machine (reads_alone words_world words_memory) 0x11000 (0x1f ∷ 0x20 ∷ 0x03 ∷ 0xd5 ∷ 0xe0 ∷ 0x0f ∷ 0 ∷ 0x10 ∷ []) ≡ Some (effect_with (Set 0) 64 0x11200)
+address_done : effect_of words_static.machine (reads_without_calls words_world words_memory) 0x11000 (0x1f ∷ 0x20 ∷ 0x03 ∷ 0xd5 ∷ 0xe0 ∷ 0x0f ∷ 0 ∷ 0x10 ∷ []) ≡ Some (effect_with (Set 0) 64 0x11200)
 unfolding word number read read_address read_access read_vector_access read_literal read_transfer read_condition
 address_done = refl
 
-address_does : DoesDemanded (reads_alone words_world words_memory) words_static words_world words_memory address_item page_reference 0 address_pair_words
-address_does = done (reads_alone words_world words_memory) words_static words_world words_memory address_item page_reference 0 address_pair_words (record {
+address_does : DoesDemanded (reads_without_calls words_world words_memory) words_static words_world words_memory address_item page_reference 0 address_pair_words
+address_does = done (reads_without_calls words_world words_memory) words_static words_world words_memory address_item page_reference 0 address_pair_words (record {
   value = 0x11200;
   demands = function_sum;
   effect = effect_with (Set 0) 64 0x11200;
@@ -388,12 +388,12 @@ descriptor_demanded : demand_of words_static.machine 0x18 0x11030 (old_bytes des
 unfolding word number read read_address read_access read_vector_access read_literal read_transfer read_condition
 descriptor_demanded = refl
 
-descriptor_done : effect_of words_static.machine (reads_alone words_world words_memory) 0x11030 rewritten_call ≡ Some (effect_with (Set 0) 64 0x18)
+descriptor_done : effect_of words_static.machine (reads_without_calls words_world words_memory) 0x11030 rewritten_call ≡ Some (effect_with (Set 0) 64 0x18)
 unfolding word number read read_address read_access read_vector_access read_literal read_transfer read_condition
 descriptor_done = refl
 
-descriptor_does : DoesDemanded (reads_alone words_world words_memory) words_static words_world words_memory descriptor_item descriptor_page 0 descriptor_call_words
-descriptor_does = done (reads_alone words_world words_memory) words_static words_world words_memory descriptor_item descriptor_page 0 descriptor_call_words (record {
+descriptor_does : DoesDemanded (reads_without_calls words_world words_memory) words_static words_world words_memory descriptor_item descriptor_page 0 descriptor_call_words
+descriptor_does = done (reads_without_calls words_world words_memory) words_static words_world words_memory descriptor_item descriptor_page 0 descriptor_call_words (record {
   value = 0x18;
   demands = data_offset;
   effect = effect_with (Set 0) 64 0x18;
@@ -537,11 +537,11 @@ in_block s h =
     by true n e = e
     by false n e = refl
 
-abbrev StandsAsItIs : InputSection → Type 0
-StandsAsItIs s = s.reversed ≡ false
+abbrev IsPlacedUnchanged : InputSection → Type 0
+IsPlacedUnchanged s = s.reversed ≡ false
 
 stands_so : (s : InputSection) → IsInput words_static s → s.reversed ≡ false
-stands_so s h = All-contains StandsAsItIs sections s (All-from_recursion StandsAsItIs sections (refl, (refl, (refl, (refl, (refl, (refl, tt))))))) (listed_in s h)
+stands_so s h = All-contains IsPlacedUnchanged sections s (All-from_recursion IsPlacedUnchanged sections (refl, (refl, (refl, (refl, (refl, (refl, tt))))))) (listed_in s h)
 
 abbrev IsLoaded : InputSection → Type 0
 IsLoaded s = s.slot ≡ slot.Loaded
@@ -561,14 +561,14 @@ items_hold item (OfFrames s kept is) =
 abbrev HasData : InputSection → Type 0
 HasData s = s.nobits ≡ false
 
-no_blank : (s : InputSection) → IsBlank words_static s → ⊥
+no_blank : (s : InputSection) → IsSectionWithoutData words_static s → ⊥
 no_blank s h =
     let has : HasData s = All-contains HasData sections s (All-from_recursion HasData sections (refl, (refl, (refl, (refl, (refl, (refl, tt))))))) (listed_in s h.input) in
     let both : true ≡ false = sym h.blank ∙ has in
     cc
 
-words_segments : AreTold words_static words_static.segments (headers_in words_image)
-words_segments = subst (λ (hs : List ProgramHeader). AreTold words_static words_static.segments hs) (sym words_programs) (
+words_segments : DescribeSegments words_static words_static.segments (headers_in words_image)
+words_segments = subst (λ (hs : List ProgramHeader). DescribeSegments words_static words_static.segments hs) (sym words_programs) (
   record { kind = refl; flags = λ k. refl; stack = λ k. absurd (let no : 1 ≡ pt_gnu_stack = k in omega (arith, no)); offset = refl; address = refl; physical = refl; file_size = refl; mem_size = refl; align = λ k. absurd (k refl); pages = λ k. refl; congruent = λ k. refl },
   tt,
 )
@@ -588,7 +588,7 @@ words_linked = record {
       middle = record { machine = omega arith; version = omega arith; entry = omega arith; program_offset = omega arith; section_offset = omega arith; flags = omega arith; header_size = omega arith };
       back = record { program_entry_size = omega arith; program_count = omega arith; section_entry_size = omega arith; section_count = omega arith; name_table = omega arith };
     };
-    stands = Stands-left (spell (file_header_fields words_header)) words_rest;
+    stands = HasBytesAt-left (spell (file_header_fields words_header)) words_rest;
     fixed = λ _. refl;
     movable = λ f. absurd f;
     address = λ a e. (let one : Some (entry.Address 0x11000) ≡ Some (entry.Address a) = e in let same : 0x11000 ≡ a = cc in same);

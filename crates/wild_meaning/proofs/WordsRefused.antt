@@ -23,7 +23,7 @@ use Rattle.wild_loader.specs.Memory.{number_in, Holds}
 use Rattle.wild_loader.specs.Instruction.{Reader, Effect}
 use Rattle.wild_loader.specs.InstructionAArch64.{effect_aarch64, demand_aarch64}
 use Rattle.wild_loader.specs.Effect.{words_at, step, step_of, step_aarch64}
-use Rattle.wild_loader.specs.Reach.{jumped, Reaches, JumpsTo, ReachesWithin}
+use Rattle.wild_loader.specs.Reach.{jump_target, Reaches, JumpsTo, ReachesWithin}
 use Rattle.wild_loader.specs.StepLawsAArch64.{jumps}
 use Rattle.wild_loader.proofs.StepLemmasAArch64.{thunks-read, jumps-reach}
 use Rattle.wild_types.specs.Item.{Item}
@@ -32,9 +32,9 @@ use Rattle.wild_meaning.specs.Field.{formula_of, FieldReads}
 use Rattle.wild_meaning.specs.Formula.{Gives, IsSum, IsReferent, IsReferentOnAArch64}
 use Rattle.wild_meaning.specs.WordsAArch64.{effect_with as asked_of}
 use Rattle.wild_meaning.specs.Sequence.{FieldBits, Instruction, of_word, size_of, descriptor_call_words, offset_pair_words, address_pair_words}
-use Rattle.wild_meaning.specs.Template.{reads, reads_alone, effect_of, demand_of, CanHave, IsDemanded, old_bytes, DoesWith, DoesDemanded}
+use Rattle.wild_meaning.specs.Template.{reads, reads_without_calls, effect_of, demand_of, CanHave, IsDemanded, old_bytes, DoesWith, DoesDemanded}
 use Rattle.wild_meaning.specs.Reference.{ReferenceHolds}
-use Rattle.wild_meaning.specs.RefusalsAArch64.{Does, DoesNot, call_item, slot_item, pair_item, move_item, move_word, RightWordsDo, WrongWordsAreRefused, CutBitsAreRefused, SlotAddendsAreRefused, PairsAreExcepted, ThunksAreJudged}
+use Rattle.wild_meaning.specs.Worked.RefusalsAArch64.{Does, DoesNot, call_item, slot_item, pair_item, move_item, move_word, RightWordsDo, WrongWordsAreRefused, CutBitsAreRefused, SlotAddendsAreRefused, PairsAreExcepted, ThunksAreJudged}
 use Rattle.wild_meaning.proofs.InstructionsAArch64.{IsAlone, alone_only}
 use Rattle.wild_meaning.proofs.WordsTemplates.{slot_page_formula, slot_low_formula, slot_page_alone, slot_low_alone}
 use Rattle.wild_meaning.proofs.OneReference.{same_bytes, effect_with, value_in}
@@ -86,13 +86,13 @@ call_does : Does call_item descriptor_call_words 0x18 (0xd503201f ∷ 0xd503201f
 unfolding word number read read_address read_access read_vector_access read_literal read_transfer read_condition
 call_does = λ l w m x base held.
     let at : place_at w call_item 0 ≡ 0x10010 = omega (arith, base) in
-    made (reads_alone w m) l w m call_item descriptor_call_words 0x18 0x10010 (flat_map (word 4) (0xd503201f ∷ 0xd503201f ∷ 0xd2a00000 ∷ 0xf2800300 ∷ [])) (effect_with (Set 0) 64 0x18) x at held refl (λ h. h) (call_asked 0x18) refl
+    made (reads_without_calls w m) l w m call_item descriptor_call_words 0x18 0x10010 (flat_map (word 4) (0xd503201f ∷ 0xd503201f ∷ 0xd2a00000 ∷ 0xf2800300 ∷ [])) (effect_with (Set 0) 64 0x18) x at held refl (λ h. h) (call_asked 0x18) refl
 
 pair_does : Does pair_item address_pair_words 0x10104 (0xd503201f ∷ 0x10000800 ∷ [])
 unfolding word number read read_address read_access read_vector_access read_literal read_transfer read_condition
 pair_does = λ l w m x base held.
     let at : place_at w pair_item 0 ≡ 0x10000 = omega (arith, base) in
-    made (reads_alone w m) l w m pair_item address_pair_words 0x10104 0x10000 (flat_map (word 4) (0xd503201f ∷ 0x10000800 ∷ [])) (effect_with (Set 0) 64 0x10104) x at held refl (λ h. h) (pair_asked 0x10104) refl
+    made (reads_without_calls w m) l w m pair_item address_pair_words 0x10104 0x10000 (flat_map (word 4) (0xd503201f ∷ 0x10000800 ∷ [])) (effect_with (Set 0) 64 0x10104) x at held refl (λ h. h) (pair_asked 0x10104) refl
 
 -- a word with bits in its field
 move_asked : asked_of 0x18 0x10000 (old_bytes move_item 0 move_word) ≡ Some (effect_with (Set 0) 64 0x180000)
@@ -109,8 +109,8 @@ move_does = λ l w m x base held.
       bytes = flat_map (word 4) (0xd2a00300 ∷ []);
       whole = refl;
       held = subst (λ (p : ℕ). Holds m p (flat_map (word 4) (0xd2a00300 ∷ []))) (sym at) held;
-      does = subst (λ (k : Machine). effect_of k (reads_alone w m) (place_at w move_item 0) (flat_map (word 4) (0xd2a00300 ∷ [])) ≡ Some (effect_with (Set 0) 64 0x180000)) (sym x)
-          (subst (λ (p : ℕ). effect_of machine.AArch64 (reads_alone w m) p (flat_map (word 4) (0xd2a00300 ∷ [])) ≡ Some (effect_with (Set 0) 64 0x180000)) (sym at) refl);
+      does = subst (λ (k : Machine). effect_of k (reads_without_calls w m) (place_at w move_item 0) (flat_map (word 4) (0xd2a00300 ∷ [])) ≡ Some (effect_with (Set 0) 64 0x180000)) (sym x)
+          (subst (λ (p : ℕ). effect_of machine.AArch64 (reads_without_calls w m) p (flat_map (word 4) (0xd2a00300 ∷ [])) ≡ Some (effect_with (Set 0) 64 0x180000)) (sym at) refl);
     }
 
 pub right_words : RightWordsDo
@@ -129,17 +129,17 @@ negated_does_not = λ l w m x base held h.
     let at : place_at w move_item 0 ≡ 0x10000 = omega (arith, base) in
     let bytes = flat_map (word 4) (0x92a00300 ∷ []) in
     let same : h.bytes ≡ bytes = same_bytes m 0x10000 h.bytes bytes h.whole (subst (λ (p : ℕ). Holds m p h.bytes) at h.held) held in
-    let here : effect_of l.machine (reads_alone w m) (place_at w move_item 0) bytes ≡ Some h.effect = subst (λ (bs : List ℕ). effect_of l.machine (reads_alone w m) (place_at w move_item 0) bs ≡ Some h.effect) same h.does in
-    let does : effect_of machine.AArch64 (reads_alone w m) 0x10000 bytes ≡ Some h.effect =
-    subst (λ (k : Machine). effect_of k (reads_alone w m) 0x10000 bytes ≡ Some h.effect) x (subst (λ (p : ℕ). effect_of l.machine (reads_alone w m) p bytes ≡ Some h.effect) at here) in
-    let none : None ≡ Some h.effect = sym (negated_done (reads_alone w m)) ∙ does in
+    let here : effect_of l.machine (reads_without_calls w m) (place_at w move_item 0) bytes ≡ Some h.effect = subst (λ (bs : List ℕ). effect_of l.machine (reads_without_calls w m) (place_at w move_item 0) bs ≡ Some h.effect) same h.does in
+    let does : effect_of machine.AArch64 (reads_without_calls w m) 0x10000 bytes ≡ Some h.effect =
+    subst (λ (k : Machine). effect_of k (reads_without_calls w m) 0x10000 bytes ≡ Some h.effect) x (subst (λ (p : ℕ). effect_of l.machine (reads_without_calls w m) p bytes ≡ Some h.effect) at here) in
+    let none : None ≡ Some h.effect = sym (negated_done (reads_without_calls w m)) ∙ does in
     cc
 
 half_does_not : DoesNot call_item descriptor_call_words 0x18 (0xd503201f ∷ 0xd503201f ∷ 0xd2800300 ∷ 0xd63f0020 ∷ [])
 unfolding word number read read_address read_access read_vector_access read_literal read_transfer read_condition
 half_does_not = λ l w m x base held h.
     let at : place_at w call_item 0 ≡ 0x10010 = omega (arith, base) in
-    let one = both (reads_alone w m) l w m call_item descriptor_call_words 0x18 0x10010 (flat_map (word 4) (0xd503201f ∷ 0xd503201f ∷ 0xd2800300 ∷ 0xd63f0020 ∷ [])) x at held refl (λ e k. k) h in
+    let one = both (reads_without_calls w m) l w m call_item descriptor_call_words 0x18 0x10010 (flat_map (word 4) (0xd503201f ∷ 0xd503201f ∷ 0xd2800300 ∷ 0xd63f0020 ∷ [])) x at held refl (λ e k. k) h in
     let none : None ≡ Some (effect_with (Set 0) 64 0x18) = one ∙ call_asked 0x18 in
     cc
 
@@ -147,7 +147,7 @@ low_does_not : DoesNot call_item descriptor_call_words 0x18 (0xd503201f ∷ 0xd5
 unfolding word number read read_address read_access read_vector_access read_literal read_transfer read_condition
 low_does_not = λ l w m x base held h.
     let at : place_at w call_item 0 ≡ 0x10010 = omega (arith, base) in
-    let one = both (reads_alone w m) l w m call_item descriptor_call_words 0x18 0x10010 (flat_map (word 4) (0xd503201f ∷ 0xd503201f ∷ 0xd2a00300 ∷ 0xf2800000 ∷ [])) x at held refl (λ e k. k) h in
+    let one = both (reads_without_calls w m) l w m call_item descriptor_call_words 0x18 0x10010 (flat_map (word 4) (0xd503201f ∷ 0xd503201f ∷ 0xd2a00300 ∷ 0xf2800000 ∷ [])) x at held refl (λ e k. k) h in
     let other : Some (effect_with (Set 0) 64 0x180000) ≡ Some (effect_with (Set 0) 64 0x18) = one ∙ call_asked 0x18 in
     let value : 0x180000 ≡ 0x18 = value_in (Set 0) 64 0x180000 (effect_with (Set 0) 64 0x18) other in
     omega (arith, value)
@@ -156,7 +156,7 @@ early_does_not : DoesNot pair_item address_pair_words 0x10104 (0x10000800 ∷ 0x
 unfolding word number read read_address read_access read_vector_access read_literal read_transfer read_condition
 early_does_not = λ l w m x base held h.
     let at : place_at w pair_item 0 ≡ 0x10000 = omega (arith, base) in
-    let one = both (reads_alone w m) l w m pair_item address_pair_words 0x10104 0x10000 (flat_map (word 4) (0x10000800 ∷ 0xd503201f ∷ [])) x at held refl (λ e k. k) h in
+    let one = both (reads_without_calls w m) l w m pair_item address_pair_words 0x10104 0x10000 (flat_map (word 4) (0x10000800 ∷ 0xd503201f ∷ [])) x at held refl (λ e k. k) h in
     let other : Some (effect_with (Set 0) 64 0x10100) ≡ Some (effect_with (Set 0) 64 0x10104) = one ∙ pair_asked 0x10104 in
     let value : 0x10100 ≡ 0x10104 = value_in (Set 0) 64 0x10100 (effect_with (Set 0) 64 0x10104) other in
     omega (arith, value)
@@ -206,7 +206,7 @@ no_value l w m item r v f high low check unit x alone known none = by
     by : ReferenceHolds l w m item r → ⊥
     by (inl h) = in_plain h.formula (same h.formula h.known) h.value h.gives h.field
     by (inr h) =
-        alone_only (λ start o first. DoesDemanded (reads_alone w m) l w m item first start o → ⊥) l item r (of_word FieldBits r.number) x alone (λ d. in_bits d.demands.formula (same d.demands.formula d.demands.known) d.demands.value d.demands.gives d.demands.fits)
+        alone_only (λ start o first. DoesDemanded (reads_without_calls w m) l w m item first start o → ⊥) l item r (of_word FieldBits r.number) x alone (λ d. in_bits d.demands.formula (same d.demands.formula d.demands.known) d.demands.value d.demands.gives d.demands.fits)
         h.start h.instruction h.first h.template h.does
 
 adr_alone : IsAlone r_aarch64_adr_prel_lo21 (of_word FieldBits r_aarch64_adr_prel_lo21)
@@ -277,7 +277,7 @@ pub goes_there : (m : Memory) (a v b : ℕ) → step m a ≡ Some (jumps 12 v) �
 goes_there m a v b known j =
     let one : Some (jumps 12 v) ≡ Some j.effect = sym known ∙ j.known in
     let same : jumps 12 v ≡ j.effect = cc in
-    let target : Some v ≡ Some b = subst (λ (e : running.Effect). jumped e ≡ Some b) (sym same) j.jump in
+    let target : Some v ≡ Some b = subst (λ (e : running.Effect). jump_target e ≡ Some b) (sym same) j.jump in
     cc
 
 goes_nowhere : (m : Memory) (a b : ℕ) → step m a ≡ None → JumpsTo m a b → ⊥

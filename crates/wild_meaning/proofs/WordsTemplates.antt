@@ -9,12 +9,12 @@ use Rattle.wild_reloc.specs.FormulaAArch64.{aarch64_formula}
 use Rattle.wild_types.specs.declared.input.InputRelocation.{InputRelocation}
 use Rattle.wild_types.specs.Flags.{has_flag, undefined_weak}
 use Rattle.wild_aarch64.specs.Code.{read, read_address, read_access, read_vector_access, read_literal, read_transfer, read_condition}
-use Rattle.wild_meaning.specs.ReferentAArch64.{IsAbsent}
+use Rattle.wild_meaning.specs.ReferentAArch64.{IsUndefinedWeak}
 use Rattle.wild_meaning.specs.Field.{form_width, InNoField}
 use Rattle.wild_meaning.specs.Sequence.{Target, FieldBits, Instruction, of_word, descriptor_call_words, address_pair_words}
 use Rattle.wild_meaning.specs.Template.{IsInstruction, IsSequence, IsOfSequence, IsTemplate}
-use Rattle.wild_meaning.specs.WorkedAArch64.{words_static, near_function, local_data, address_item, page_reference, low_reference, slot_item, slot_page_reference, slot_low_reference, call_item, call_reference, past_item, past_reference, kept_item, descriptor_item, descriptor_page, descriptor_load, descriptor_low, descriptor_call}
-use Rattle.wild_meaning.proofs.Told.{flag_of, IsPlainOwn}
+use Rattle.wild_meaning.specs.Worked.AArch64.{words_static, near_function, local_data, address_item, page_reference, low_reference, slot_item, slot_page_reference, slot_low_reference, call_item, call_reference, past_item, past_reference, kept_item, descriptor_item, descriptor_page, descriptor_load, descriptor_low, descriptor_call}
+use Rattle.wild_meaning.proofs.SymbolUnique.{flag_of, IsPlainOwn}
 use Rattle.wild_meaning.proofs.PairLemmas.{only_one}
 use Rattle.wild_meaning.proofs.InstructionsAArch64.{IsAlone, single_is, alone_template, sequence_is}
 use Rattle.wild_meaning.specs.Formula.{TakesString}
@@ -39,7 +39,7 @@ function_there = refl
 pub no_string : (v : Value) (r : InputRelocation) → TakesString v words_static r → ⊥
 no_string v r t = nothing_named words_static refl r t.1
 
-pub not_absent : IsAbsent words_static 0 → ⊥
+pub not_absent : IsUndefinedWeak words_static 0 → ⊥
 not_absent h = let both : true ≡ false = sym (flag_of words_static 0 undefined_weak true near_function refl h.weak) ∙ function_there in cc
 
 -- ---- formulas

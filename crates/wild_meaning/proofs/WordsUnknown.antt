@@ -5,15 +5,15 @@ use Rattle.std.specs.List.{list_all}
 use Rattle.std.proofs.lemmas.Bool.{and_parts}
 use Rattle.wild_aarch64.specs.Slice.{bits, stands}
 use Rattle.wild_aarch64.specs.Forms.{add, add_shifted, movn, adrp}
-use Rattle.wild_aarch64.specs.Filled.{forms_filled}
+use Rattle.wild_aarch64.specs.FilledForms.{forms_filled}
 use Rattle.wild_aarch64.specs.Code.{read}
 use Rattle.wild_aarch64.specs.Machine.{run}
 use Rattle.wild_aarch64.specs.Effect.{shapes}
 use Rattle.wild_aarch64.specs.Template.{codes_of, begins, register_in}
 use Rattle.wild_aarch64.specs.declared.template.Template.TheVariants as kinds
 use Rattle.wild_aarch64.proofs.FieldLemmas.{movn_field, form_is_read}
-use Rattle.wild_meaning.specs.WordsAArch64.{is_of, is_told}
-use Rattle.wild_meaning.specs.RefusalsAArch64.{NegatedMovesAreUnknown, ShiftedAddsAreUnknown}
+use Rattle.wild_meaning.specs.WordsAArch64.{is_of, has_known_meaning}
+use Rattle.wild_meaning.specs.Worked.RefusalsAArch64.{NegatedMovesAreUnknown, ShiftedAddsAreUnknown}
 
 and_false : (a b : Bool) → b ≡ false → (a && b) ≡ false
 and_false true b h = h
@@ -22,8 +22,8 @@ and_false false b h = refl
 pub negated_unknown : NegatedMovesAreUnknown
 negated_unknown = λ n w s.
     let there = form_is_read movn movn_field w s in
-    let none : is_told (run (shapes (w ∷ [])) 0 []) ≡ false = rw there refl in
-    and_false (list_all (is_of (forms_filled n)) (w ∷ [])) (is_told (run (shapes (w ∷ [])) 0 [])) none
+    let none : has_known_meaning (run (shapes (w ∷ [])) 0 []) ≡ false = rw there refl in
+    and_false (list_all (is_of (forms_filled n)) (w ∷ [])) (has_known_meaning (run (shapes (w ∷ [])) 0 [])) none
 
 -- the two have bits that differ
 not_plain : (u : ℕ) → stands add_shifted.fixed u ≡ true → stands add.fixed u ≡ false
@@ -38,6 +38,6 @@ not_plain u s =
 pub shifted_unknown : ShiftedAddsAreUnknown
 shifted_unknown w u s = by (stands adrp.fixed w) (not_plain u s)
   where
-    by : (a : Bool) → stands add.fixed u ≡ false → (((a || false) && ((stands add.fixed u || false) && true)) && (begins (codes_of kinds.AddressPair (register_in (w ∷ u ∷ []))) (map read (w ∷ u ∷ [])) && is_told (run (shapes (w ∷ u ∷ [])) 0 []))) ≡ false
+    by : (a : Bool) → stands add.fixed u ≡ false → (((a || false) && ((stands add.fixed u || false) && true)) && (begins (codes_of kinds.AddressPair (register_in (w ∷ u ∷ []))) (map read (w ∷ u ∷ [])) && has_known_meaning (run (shapes (w ∷ u ∷ [])) 0 []))) ≡ false
     by true plain = rw plain refl
     by false plain = refl

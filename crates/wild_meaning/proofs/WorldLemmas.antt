@@ -8,7 +8,7 @@ use Rattle.wild_loader.specs.Changes.{first_value, distance_of}
 use Rattle.wild_loader.specs.declared.world.World.{World}
 use Rattle.wild_loader.specs.declared.memory.Memory.{Memory}
 use Rattle.wild_loader.specs.Memory.{byte_in, number_in}
-use Rattle.wild_loader.proofs.Mapped.{byte_below}
+use Rattle.wild_loader.proofs.MappedSegments.{byte_below}
 use Rattle.wild_meaning.specs.World.{IsKnownModule}
 use Rattle.wild_meaning.specs.Slot.{HasWord}
 

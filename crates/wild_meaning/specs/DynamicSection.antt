@@ -1,9 +1,9 @@
 -- The information in an image's dynamic section for a dynamic linker.
 --   IsFlagged ds tag flag           the flag is set in the value of a tag
---   IsBeside ds tag other n         if there is a tag, another tag has that value
+--   HasCompanionTag ds tag other n         if there is a tag, another tag has that value
 --   AreRelativeFirst machine n rs   the first n entries add the base
---   TellsEntries ..                 the entries give a dynamic linker the information that it needs
---   TellsLinker machine image       there is a dynamic section with such entries
+--   DescribesTables ..                 the entries give a dynamic linker the information that it needs
+--   InformsLinker machine image       there is a dynamic section with such entries
 use Rattle.std.specs.Prelude.{◌≡◌, ℕ, ◌<◌, List, Some, Ok, slice_get}
 use Rattle.wild_records.specs.Abi.Dynamic.{dt_pltrel, dt_jmprel, dt_symtab, dt_rela, dt_relaent, dt_syment, dt_flags, dt_relr, dt_relrent, dt_relacount, dt_flags_1, df_bind_now, df_1_now}
 use Rattle.wild_records.specs.Relocations.{rela_size, relr_size}
@@ -15,19 +15,19 @@ use Rattle.wild_loader.specs.declared.kind.DynamicKind.TheVariants as kinds
 use Rattle.wild_loader.specs.declared.memory.Machine.{Machine}
 use Rattle.wild_loader.specs.declared.tables.Tables.{Tables}
 use Rattle.wild_loader.specs.Changes.{kind_of}
-use Rattle.wild_loader.specs.Tables.{first_dynamic, tagged, section_of, named_tables}
+use Rattle.wild_loader.specs.Tables.{first_dynamic, value_of_tag, section_of, named_tables}
 use Rattle.wild_meaning.specs.Section.{IsSet}
 use Rattle.wild_meaning.specs.Segments.{headers_in}
 
 -- the flag is set in the value of a tag
 pub record IsFlagged (ds : List DynamicEntry) (tag flag : ℕ) : Type 0 where
   pub value : ℕ
-  pub there : tagged tag ds ≡ Some value
+  pub there : value_of_tag tag ds ≡ Some value
   pub set : IsSet value flag
 
 -- if there is a tag, another tag has that value
-abbrev pub IsBeside : List DynamicEntry → ℕ → ℕ → ℕ → Type 0
-IsBeside ds tag other n = (a : ℕ) → tagged tag ds ≡ Some a → tagged other ds ≡ Some n
+abbrev pub HasCompanionTag : List DynamicEntry → ℕ → ℕ → ℕ → Type 0
+HasCompanionTag ds tag other n = (a : ℕ) → value_of_tag tag ds ≡ Some a → value_of_tag other ds ≡ Some n
 
 -- there is an entry k, and it adds the base
 pub record IsRelativeAt (machine : Machine) (rs : List Rela) (k : ℕ) : Type 0 where
@@ -43,20 +43,20 @@ AreRelativeFirst machine n rs = (k : ℕ) → k < n → IsRelativeAt machine rs 
 -- - all symbols are bound at load time (gABI, DF_BIND_NOW; glibc, `elf.h`: DF_1_NOW);
 -- - the entry size of each table that is named, the type of the stubs' entries, and the number of relative entries (gABI,
 -- "Dynamic Section": DT_PLTREL, DT_RELAENT, DT_RELRENT, DT_SYMENT).
-pub record TellsEntries (machine : Machine) (image : List ℕ) (ds : List DynamicEntry) : Type 0 where
+pub record DescribesTables (machine : Machine) (image : List ℕ) (ds : List DynamicEntry) : Type 0 where
   pub now : IsFlagged ds dt_flags df_bind_now
   pub now_1 : IsFlagged ds dt_flags_1 df_1_now
-  pub stubs : IsBeside ds dt_jmprel dt_pltrel dt_rela
-  pub entry_size : IsBeside ds dt_rela dt_relaent rela_size
-  pub word_size : IsBeside ds dt_relr dt_relrent relr_size
-  pub symbol_size : IsBeside ds dt_symtab dt_syment symtab_entry_size
-  pub relative : (n : ℕ) (t : Tables) → tagged dt_relacount ds ≡ Some n → named_tables image (headers_in image) ds ≡ Ok t → AreRelativeFirst machine n t.entries
+  pub stubs : HasCompanionTag ds dt_jmprel dt_pltrel dt_rela
+  pub entry_size : HasCompanionTag ds dt_rela dt_relaent rela_size
+  pub word_size : HasCompanionTag ds dt_relr dt_relrent relr_size
+  pub symbol_size : HasCompanionTag ds dt_symtab dt_syment symtab_entry_size
+  pub relative : (n : ℕ) (t : Tables) → value_of_tag dt_relacount ds ≡ Some n → named_tables image (headers_in image) ds ≡ Ok t → AreRelativeFirst machine n t.entries
 
 -- a dynamic linker finds a dynamic section (gABI, "Program Header": PT_DYNAMIC), and its entries have the information that it
 -- needs
-pub record TellsLinker (machine : Machine) (image : List ℕ) : Type 0 where
+pub record InformsLinker (machine : Machine) (image : List ℕ) : Type 0 where
   pub segment : ProgramHeader
   pub first : first_dynamic (headers_in image) ≡ Some segment
   pub entries : List DynamicEntry
   pub read : section_of image segment ≡ Ok entries
-  pub told : TellsEntries machine image entries
+  pub told : DescribesTables machine image entries

@@ -29,7 +29,7 @@ use Rattle.wild_meaning.specs.Section.{IsSet}
 use Rattle.wild_meaning.specs.Value.{IsReplaceable, HasValue, HasOwnValue, HasSize}
 use Rattle.wild_loader.specs.Reach.{Reaches}
 use Rattle.wild_meaning.specs.Denotes.{Denotes}
-use Rattle.wild_meaning.specs.ReferentAArch64.{IsAbsent, own_place, StandsOnAArch64}
+use Rattle.wild_meaning.specs.ReferentAArch64.{IsUndefinedWeak, own_place, RepresentsOnAArch64}
 use Rattle.wild_meaning.specs.Thread.{HasThreadOffset, HasOwnOffset, IsOffsetBase}
 use Rattle.wild_meaning.specs.Slot.{IsSlot}
 use Rattle.wild_meaning.specs.Strings.{NamesStrings, IsString}
@@ -68,18 +68,18 @@ TakesAddress other = ⊥
 -- ---- S and L
 
 -- the expression subtracts a place from an undefined weak symbol
-abbrev pub TakesOwnPlace : Value → Layout → ℕ → Type 0
-TakesOwnPlace value l i = IsPlaceRelative value × IsAbsent l i
+abbrev pub UsesOwnPlace : Value → Layout → ℕ → Type 0
+UsesOwnPlace value l i = IsPlaceRelative value × IsUndefinedWeak l i
 
 -- S or L on AArch64; for an undefined weak symbol, the reference's own place
 abbrev pub IsReferentOnAArch64 : Value → Layout → World → Memory → Item → InputRelocation → Option ℕ → ℕ → Type 0
 IsReferentOnAArch64 value l w m item r None a = a ≡ 0
-IsReferentOnAArch64 value l w m item r (Some i) a = (TakesOwnPlace value l i × (a ≡ own_place w item r)) ⊎ ((TakesOwnPlace value l i → ⊥) × StandsOnAArch64 value l w m r i a)
+IsReferentOnAArch64 value l w m item r (Some i) a = (UsesOwnPlace value l i × (a ≡ own_place w item r)) ⊎ ((UsesOwnPlace value l i → ⊥) × RepresentsOnAArch64 value l w m r i a)
 
 -- a represents the symbol; merged strings are treated separately
-abbrev pub IsReferentBy : Machine → Value → Layout → World → Memory → Item → InputRelocation → ℕ → Type 0
-IsReferentBy machine.X86_64 value l w m item r a = IsTarget l w m r.symbol a
-IsReferentBy machine.AArch64 value l w m item r a = IsReferentOnAArch64 value l w m item r r.symbol a
+abbrev pub IsReferentOnMachine : Machine → Value → Layout → World → Memory → Item → InputRelocation → ℕ → Type 0
+IsReferentOnMachine machine.X86_64 value l w m item r a = IsTarget l w m r.symbol a
+IsReferentOnMachine machine.AArch64 value l w m item r a = IsReferentOnAArch64 value l w m item r r.symbol a
 
 -- the expression contains S, and the symbol is that of a section of merged strings: S and A together determine the string
 abbrev pub TakesString : Value → Layout → InputRelocation → Type 0
@@ -87,7 +87,7 @@ TakesString value l r = TakesAddress value × NamesStrings l r
 
 -- a is S or L in a reference with that expression; it may depend on the reference's place and addend
 abbrev pub IsReferent : Machine → Value → Layout → World → Memory → Item → InputRelocation → ℕ → Type 0
-IsReferent machine value l w m item r a = (TakesString value l r × IsString l w r a) ⊎ ((TakesString value l r → ⊥) × IsReferentBy machine value l w m item r a)
+IsReferent machine value l w m item r a = (TakesString value l r × IsString l w r a) ⊎ ((TakesString value l r → ⊥) × IsReferentOnMachine machine value l w m item r a)
 
 -- x is S + A
 pub record IsSum (value : Value) (l : Layout) (w : World) (m : Memory) (item : Item) (r : InputRelocation) (x : ℕ) : Type 0 where
@@ -117,7 +117,7 @@ IsExtent l w (Some i) z = HasSize l w i z
 
 -- The field has four bytes, and a loader stores another module's size there, which may not fit (x86-64 psABI, "Relocation Types":
 -- R_X86_64_SIZE32).
-pub record IsShort (l : Layout) (r : InputRelocation) : Type 0 where
+pub record IsShortSizeField (l : Layout) (r : InputRelocation) : Type 0 where
   pub number : r.number ≡ r_x86_64_size32
   pub symbol : ℕ
   pub named : r.symbol ≡ Some symbol
@@ -125,7 +125,7 @@ pub record IsShort (l : Layout) (r : InputRelocation) : Type 0 where
 
 -- x is the number n, or its low 32 bits if the field is of that kind
 abbrev pub IsWhole : Layout → InputRelocation → (n x : ℕ) → Type 0
-IsWhole l r n x = (x ≡ n) ⊎ (IsShort l r × (x ≡ n % 2 ^ 32))
+IsWhole l r n x = (x ≡ n) ⊎ (IsShortSizeField l r × (x ≡ n % 2 ^ 32))
 
 -- On AArch64 an expression with a slot needs addend 0: the slot of S + A is the symbol's own slot if A is 0, and no layout has
 -- another one (aaelf64, "Relocation operations": GDAT(S + A)).
@@ -177,7 +177,7 @@ IsOwnTarget l w (Some i) a = HasOwnValue l w i a
 -- the same on AArch64; for an undefined weak symbol, the reference's own place
 abbrev pub IsOwnReferentOnAArch64 : Value → Layout → World → Item → InputRelocation → Option ℕ → ℕ → Type 0
 IsOwnReferentOnAArch64 value l w item r None a = ⊥
-IsOwnReferentOnAArch64 value l w item r (Some i) a = (TakesOwnPlace value l i × (a ≡ own_place w item r)) ⊎ ((TakesOwnPlace value l i → ⊥) × HasOwnValue l w i a)
+IsOwnReferentOnAArch64 value l w item r (Some i) a = (UsesOwnPlace value l i × (a ≡ own_place w item r)) ⊎ ((UsesOwnPlace value l i → ⊥) × HasOwnValue l w i a)
 
 -- a is the output's own S in a reference with that expression
 abbrev pub IsOwnReferent : Machine → Value → Layout → World → Item → InputRelocation → ℕ → Type 0

@@ -28,7 +28,7 @@ use Rattle.wild_frames.specs.declared.frames.Target.{Target}
 use Rattle.wild_frames.specs.declared.frames.Target.TheVariants as target
 use Rattle.wild_frames.specs.declared.entry.KeptEntry.{KeptEntry}
 use Rattle.wild_frames.specs.Frames.{Frames, kept_in, frame_bytes, relocations_in}
-use Rattle.wild_meaning.specs.Section.{IsSet, IsHollow}
+use Rattle.wild_meaning.specs.Section.{IsSet, IsHeaderOnly}
 
 -- ---- the code that an FDE describes
 
@@ -65,11 +65,11 @@ frames_in l s = record {
 -- ---- the kept entries
 
 -- a relocation of an entry, moved with its entry
-abbrev pub moved_with : KeptEntry → InputRelocation → InputRelocation
-moved_with k r = record { offset = k.to + (r.offset - k.from); number = r.number; symbol = r.symbol; addend = r.addend; malformed = r.malformed }
+abbrev pub relocation_of_entry : KeptEntry → InputRelocation → InputRelocation
+relocation_of_entry k r = record { offset = k.to + (r.offset - k.from); number = r.number; symbol = r.symbol; addend = r.addend; malformed = r.malformed }
 
 abbrev pub entry_references : Frames → KeptEntry → List InputRelocation
-entry_references fs k = map (moved_with k) (relocations_in k.from (k.from + k.size) fs.relocations)
+entry_references fs k = map (relocation_of_entry k) (relocations_in k.from (k.from + k.size) fs.relocations)
 
 -- the flag is not set
 abbrev pub without : ℕ → ℕ → ℕ
@@ -111,7 +111,7 @@ pub record IsFrameInput (l : Layout) (s : InputSection) : Type 0 where
   pub frame : s.slot ≡ slot.Frame
   pub room : IsSet s.flags shf_alloc
   pub has_data : s.nobits ≡ false
-  pub written : (p : Part) → part_with role.EhFrame l.parts ≡ Some p → IsHollow l p → ⊥
+  pub written : (p : Part) → part_with role.EhFrame l.parts ≡ Some p → IsHeaderOnly l p → ⊥
   pub group : Group
   pub grouped : Contains l.groups group
   pub files : List File

@@ -1,6 +1,6 @@
 -- Items: the parts of the image whose references are checked.
 --   IsLoadedSlot s   sections of that sort are loaded as placed
---   stood_item l f s an input section as placed in the output
+--   placed_item l f s an input section as placed in the output
 --   IsKept l item    the item is one of the layout's: the bytes of an input section that is loaded, allocated, has data and is
 --                    written
 --   IsReference ..   a relocation of an item that refers to something
@@ -19,7 +19,7 @@ use Rattle.wild_types.specs.declared.file.Group.{Group}
 use Rattle.wild_types.specs.declared.layout.Layout.{Layout}
 use Rattle.wild_loader.specs.declared.world.World.{World}
 use Rattle.wild_types.specs.declared.part.Part.{Part}
-use Rattle.wild_meaning.specs.Section.{IsSet, IsHollow}
+use Rattle.wild_meaning.specs.Section.{IsSet, IsHeaderOnly}
 
 -- the loaded address of a byte of an item
 abbrev pub place_at : World → Item → ℕ → ℕ
@@ -47,11 +47,11 @@ IsLoadedSlot other = ⊥
 -- ---- reversed sections: their words of 8 bytes are written in reverse order
 
 -- the input offset of the output byte at k
-abbrev pub byte_from : ℕ → ℕ → ℕ
-byte_from n k = n - 8 - (k - k % 8) + k % 8
+abbrev pub input_offset_of : ℕ → ℕ → ℕ
+input_offset_of n k = n - 8 - (k - k % 8) + k % 8
 
 abbrev pub reversed_bytes : List ℕ → List ℕ
-reversed_bytes bs = map (λ k. slice_index bs (byte_from (length bs) k)) (range_with_len 0 (length bs))
+reversed_bytes bs = map (λ k. slice_index bs (input_offset_of (length bs) k)) (range_with_len 0 (length bs))
 
 -- a relocation in a section of n bytes of words, moved with its word
 abbrev pub reversed_relocation : ℕ → InputRelocation → InputRelocation
@@ -60,8 +60,8 @@ reversed_relocation n r = record { offset = n - 8 - r.offset; number = r.number;
 -- ---- items
 
 -- an input section as placed in the output, with the block of thunks that its file uses for it
-abbrev pub stood_item : Layout → File → InputSection → Item
-stood_item l f s = record {
+abbrev pub placed_item : Layout → File → InputSection → Item
+placed_item l f s = record {
   address = s.address;
   flags = s.flags;
   bytes = if s.reversed then reversed_bytes s.bytes else s.bytes;
@@ -75,11 +75,11 @@ pub record IsKeptSection (l : Layout) (s : InputSection) : Type 0 where
   pub loaded : IsLoadedSlot s.slot
   pub room : IsSet s.flags shf_alloc
   pub has_data : s.nobits ≡ false
-  pub written : (p : Part) → slice_get l.parts s.part ≡ Some p → IsHollow l p → ⊥
+  pub written : (p : Part) → slice_get l.parts s.part ≡ Some p → IsHeaderOnly l p → ⊥
 
 -- an item of the layout that is in memory, by its origin
 pub data IsKept (l : Layout) (item : Item) : Type 0 where
   -- an input section
-  OfSection : (s : InputSection) (k : IsKeptSection l s) → item ≡ stood_item l k.input.file s → IsKept l item
+  OfSection : (s : InputSection) (k : IsKeptSection l s) → item ≡ placed_item l k.input.file s → IsKept l item
   -- the kept entries of a section of frames
   OfFrames : (s : InputSection) (k : IsFrameInput l s) → item ≡ frames_item l k.file s (frames_address l s k) → IsKept l item

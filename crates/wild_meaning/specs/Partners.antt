@@ -12,7 +12,7 @@ use Rattle.wild_meaning.specs.Sequence.{Named, Getter, SameSymbol, Partner, Cond
 use Rattle.wild_meaning.specs.World.{IsExecutable}
 use Rattle.wild_meaning.specs.Value.{IsSymbol, HasFlag}
 use Rattle.wild_types.specs.Item.{Item}
-use Rattle.wild_meaning.specs.ReferentAArch64.{IsAbsent}
+use Rattle.wild_meaning.specs.ReferentAArch64.{IsUndefinedWeak}
 
 -- `__tls_get_addr` ("ELF Handling For Thread-Local Storage", "Run-Time Handling of TLS")
 abbrev pub tls_get_addr : List ℕ
@@ -27,16 +27,16 @@ pub record NamesGetter (l : Layout) (r : InputRelocation) : Type 0 where
   pub getter : symbol.name ≡ tls_get_addr
 
 -- it has the symbol that the relocation of a further field must have
-abbrev pub NamesIt : Layout → InputRelocation → InputRelocation → Named → Type 0
-NamesIt l first r Getter = NamesGetter l r
-NamesIt l first r SameSymbol = (r.symbol ≡ first.symbol) × (r.addend ≡ first.addend)
+abbrev pub NamesRequiredSymbol : Layout → InputRelocation → InputRelocation → Named → Type 0
+NamesRequiredSymbol l first r Getter = NamesGetter l r
+NamesRequiredSymbol l first r SameSymbol = (r.symbol ≡ first.symbol) × (r.addend ≡ first.addend)
 
 -- the relocation at an index fills a further field of a sequence
 pub record HasPartner (l : Layout) (item : Item) (first r : InputRelocation) (start index : ℕ) (p : Partner) : Type 0 where
   pub listed : slice_get item.relocations index ≡ Some r
   pub field : r.offset ≡ start + p.field
   pub number : Contains p.numbers r.number
-  pub names : NamesIt l first r p.names
+  pub names : NamesRequiredSymbol l first r p.names
 
 -- the relocations from an index on fill the further fields, in their order
 abbrev pub HasPartners : Layout → Item → InputRelocation → ℕ → ℕ → List Partner → List InputRelocation → Type 0
@@ -50,7 +50,7 @@ abbrev pub IsMet : Layout → ℕ → Condition → Type 0
 IsMet l i InExecutable = IsExecutable l.kind
 IsMet l i WithoutResolver = HasFlag l i ifunc false
 IsMet l i RewrittenIfReplaceable = HasFlag l i non_interposable false → l.options.relax ≡ true
-IsMet l i UnlessAbsent = IsAbsent l i → ⊥
+IsMet l i UnlessAbsent = IsUndefinedWeak l i → ⊥
 
 abbrev pub AreMet : Layout → ℕ → List Condition → Type 0
 AreMet l i [] = ⊤

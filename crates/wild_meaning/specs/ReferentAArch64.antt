@@ -1,13 +1,13 @@
 -- S and L on AArch64.
---   IsAbsent l i             symbol i is weak and undefined, and has no stub
+--   IsUndefinedWeak l i             symbol i is weak and undefined, and has no stub
 --   own_place w item r       its address in a reference that subtracts a place from it
 --   IsOneAddress l w m i a   a is the one address that represents symbol i
 --   IsBranchedTo ..          a is the target of a branch, before its addend
---   StandsOnAArch64 ..       a represents symbol i in an expression
+--   RepresentsOnAArch64 ..       a represents symbol i in an expression
 use Rattle.std.specs.Prelude.{◌≡◌, ℕ, ◌+◌, ◌%◌, ◌^◌, ◌⊎◌, true, false, if◌then◌else◌, List, [], ◌∷◌}
 use Rattle.std.specs.Int.{w64, cast_unsigned}
 use Rattle.wild_records.specs.Abi.Relocation.{r_aarch64_tstbr14, r_aarch64_condbr19, r_aarch64_jump26, r_aarch64_call26}
-use Rattle.wild_reloc.specs.Barred.{is_listed}
+use Rattle.wild_reloc.specs.BarredTypes.{is_listed}
 use Rattle.wild_reloc.specs.Formula.{Value, SymbolPart, PageDistance, StubDistance}
 use Rattle.wild_types.specs.declared.input.InputRelocation.{InputRelocation}
 use Rattle.wild_types.specs.declared.layout.Layout.{Layout}
@@ -23,7 +23,7 @@ use Rattle.wild_meaning.specs.Item.{place_at}
 -- ---- undefined weak symbols (aaelf64, "Weak references", "Relocations for control-flow instructions")
 
 -- The symbol is weak and undefined, and has no stub that leads to another module's definition (gABI, "Symbol Table": STB_WEAK).
-pub record IsAbsent (l : Layout) (i : ℕ) : Type 0 where
+pub record IsUndefinedWeak (l : Layout) (i : ℕ) : Type 0 where
   pub weak : HasFlag l i undefined_weak true
   pub stubless : HasFlag l i plt_stub false
 
@@ -39,14 +39,14 @@ own_place w item r = (place_at w item r.offset + (if is_listed r.number branch_t
 
 -- The output uses the stub at p as symbol i's address: the symbol is an IFUNC, or the layout places it at its stub; it moves with
 -- the base (x86-64 psABI, "Function Addresses").
-pub record IsStandIn (l : Layout) (i p : ℕ) : Type 0 where
+pub record IsAddressStub (l : Layout) (i p : ℕ) : Type 0 where
   pub stub : HasStub l i p
   pub stands : HasFlag l i ifunc true ⊎ HasRaw l i p
   pub moves : HasFlag l i absolute false
 
 -- a is the one address that represents symbol i: its stub in this case, otherwise its value
 abbrev pub IsOneAddress : Layout → World → Memory → ℕ → ℕ → Type 0
-IsOneAddress l w m i a = ((p : ℕ) × IsStandIn l i p × (a ≡ (w.base + p) % 2 ^ 64) × Denotes l w m i a) ⊎ (((p : ℕ) → IsStandIn l i p → ⊥) × HasValue l w i a)
+IsOneAddress l w m i a = ((p : ℕ) × IsAddressStub l i p × (a ≡ (w.base + p) % 2 ^ 64) × Denotes l w m i a) ⊎ (((p : ℕ) → IsAddressStub l i p → ⊥) × HasValue l w i a)
 
 -- a is L in a branch. Execution that starts at a + A reaches an address that represents the symbol, plus A; or a thunk that leads
 -- there (aaelf64, "Call and Jump relocations").
@@ -57,8 +57,8 @@ pub record IsBranchedTo (l : Layout) (w : World) (m : Memory) (r : InputRelocati
 
 -- On AArch64 several instructions each hold a part of one address, and a branch may go through a thunk (aaelf64, "Relocation
 -- operations", "Call and Jump relocations").
-abbrev pub StandsOnAArch64 : Value → Layout → World → Memory → InputRelocation → ℕ → ℕ → Type 0
-StandsOnAArch64 SymbolPart l w m r i a = IsOneAddress l w m i a
-StandsOnAArch64 PageDistance l w m r i a = IsOneAddress l w m i a
-StandsOnAArch64 StubDistance l w m r i a = IsBranchedTo l w m r i a
-StandsOnAArch64 other l w m r i a = Denotes l w m i a
+abbrev pub RepresentsOnAArch64 : Value → Layout → World → Memory → InputRelocation → ℕ → ℕ → Type 0
+RepresentsOnAArch64 SymbolPart l w m r i a = IsOneAddress l w m i a
+RepresentsOnAArch64 PageDistance l w m r i a = IsOneAddress l w m i a
+RepresentsOnAArch64 StubDistance l w m r i a = IsBranchedTo l w m r i a
+RepresentsOnAArch64 other l w m r i a = Denotes l w m i a

@@ -1,7 +1,7 @@
 -- Whether a section has memory, and whether an input section has an address.
 --   IsSet flags flag       the flag is set
 --   IsAllocatedPart l n    part n is in a section that has memory
---   IsHollow l p           only the header is written of the section that contains part p
+--   IsHeaderOnly l p           only the header is written of the section that contains part p
 --   HasFileBytes l n       part n is in a section with bytes in the file
 --   IsPlaced l s           the input section has an address
 use Rattle.std.specs.Prelude.{◌≡◌, ◌≢◌, ℕ, ◌/◌, ◌%◌, ◌⊎◌, true, Some, slice_get}
@@ -31,7 +31,7 @@ IsForDebuggers l = l.options.only_keep_debug ≡ true
 
 -- Only the header is written of the section that contains the part. The image is only for debuggers; the section has memory and
 -- is not a note, by which debuggers find the image (gABI, "Sections": SHT_NOTE).
-pub record IsHollow (l : Layout) (p : Part) : Type 0 where
+pub record IsHeaderOnly (l : Layout) (p : Part) : Type 0 where
   pub bare : IsForDebuggers l
   pub named : p.section ≢ shn_undef
   pub section : Section
@@ -47,7 +47,7 @@ pub record HasFileBytes (l : Layout) (n : ℕ) : Type 0 where
   pub section : Section
   pub found : slice_get l.sections part.section ≡ Some section
   pub filled : section.kind ≢ sht_nobits
-  pub written : IsHollow l part → ⊥
+  pub written : IsHeaderOnly l part → ⊥
 
 -- the input section is not discarded; its address is not 0, or its part has no memory
 pub record IsPlaced (l : Layout) (s : InputSection) : Type 0 where

@@ -1,7 +1,7 @@
 -- The segments of an image match those of its layout.
 --   headers_in image        the program headers that a loader reads
---   TellsSegment l g h      a program header describes a segment of the layout
---   AreTold l gs hs         one header for each segment, in order
+--   DescribesSegment l g h      a program header describes a segment of the layout
+--   DescribeSegments l gs hs         one header for each segment, in order
 --   HasDynamicLinker kind   a dynamic linker loads the output
 use Rattle.std.specs.Prelude.{◌≡◌, ◌≢◌, ℕ, ◌%◌, ⊤, true, false, max, List, [], ◌∷◌}
 use Rattle.wild_records.specs.Abi.Segment.{pt_load, pt_gnu_stack, pf_x}
@@ -22,7 +22,7 @@ headers_in image = program_headers image (file_header_at image 0).program_count 
 -- A loaded segment is at least page-aligned, and its address and offset are equal modulo the page size (gABI, "Program Header").
 -- That of the stack has only permissions; the stack is executable if the layout requires it (LSB, "Program Header",
 -- PT_GNU_STACK).
-pub record TellsSegment (l : Layout) (g : Segment) (h : ProgramHeader) : Type 0 where
+pub record DescribesSegment (l : Layout) (g : Segment) (h : ProgramHeader) : Type 0 where
   pub kind : h.kind ≡ g.kind
   pub flags : (g.kind ≡ pt_gnu_stack → l.options.execstack ≡ false) → h.flags ≡ g.flags
   pub stack : g.kind ≡ pt_gnu_stack → l.options.execstack ≡ true → IsSet h.flags pf_x
@@ -36,11 +36,11 @@ pub record TellsSegment (l : Layout) (g : Segment) (h : ProgramHeader) : Type 0 
   pub congruent : g.kind ≡ pt_load → h.address % l.page_size ≡ h.offset % l.page_size
 
 -- one header for each segment, in order
-abbrev pub AreTold : Layout → List Segment → List ProgramHeader → Type 0
-AreTold l [] [] = ⊤
-AreTold l [] (h ∷ hs) = ⊥
-AreTold l (g ∷ gs) [] = ⊥
-AreTold l (g ∷ gs) (h ∷ hs) = TellsSegment l g h × AreTold l gs hs
+abbrev pub DescribeSegments : Layout → List Segment → List ProgramHeader → Type 0
+DescribeSegments l [] [] = ⊤
+DescribeSegments l [] (h ∷ hs) = ⊥
+DescribeSegments l (g ∷ gs) [] = ⊥
+DescribeSegments l (g ∷ gs) (h ∷ hs) = DescribesSegment l g h × DescribeSegments l gs hs
 
 -- a dynamic linker loads the output (gABI, "Dynamic Linking")
 abbrev pub HasDynamicLinker : OutputKind → Type 0

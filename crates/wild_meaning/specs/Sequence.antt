@@ -79,15 +79,15 @@ abbrev pub size_of : Instruction → ℕ
 size_of o = length o.template.cells
 
 -- byte k is in no further field
-abbrev pub IsBesidePartners : ℕ → List Partner → Type 0
-IsBesidePartners k [] = ⊤
-IsBesidePartners k (p ∷ ps) = ((k < p.field) ⊎ (p.field + p.width ≤ k)) × IsBesidePartners k ps
+abbrev pub IsOutsidePartners : ℕ → List Partner → Type 0
+IsOutsidePartners k [] = ⊤
+IsOutsidePartners k (p ∷ ps) = ((k < p.field) ⊎ (p.field + p.width ≤ k)) × IsOutsidePartners k ps
 
 -- byte k of the instruction is in none of its fields
 pub record IsOwnByte (o : Instruction) (k : ℕ) : Type 0 where
   pub inside : k < size_of o
   pub beside : (k < o.field) ⊎ (o.field + o.width ≤ k)
-  pub apart : IsBesidePartners k o.partners
+  pub apart : IsOutsidePartners k o.partners
 
 -- ---- x86-64
 

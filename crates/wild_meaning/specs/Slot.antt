@@ -3,7 +3,7 @@
 --   HasWord m g x         the word at an address is x
 --   IsPair w m g t        the module and the offset in the two words at an address represent the thread-pointer offset t
 --   HoldsSlot sort ..     memory at an address holds what a slot of that sort holds for symbol i
---   behind_first sort f   the distance from the first slot of a symbol with these flags to its slot of that sort
+--   offset_from_first sort f   the distance from the first slot of a symbol with these flags to its slot of that sort
 --   HasSlot sort l i p    the layout has the slot of that sort of symbol i at p
 --   IsSlot sort ..        g is the loaded address of that slot of a reference's symbol, and its content is right
 use Rattle.std.specs.Prelude.{◌≡◌, ℕ, ◌+◌, ◌%◌, ◌^◌, ◌||◌, if◌then◌else◌, Option, Some, None, Ok}
@@ -54,14 +54,14 @@ HoldsSlot Descriptor l w m i g = (t : ℕ) × (first_value m.descriptors g ≡ S
 
 -- The distance from a symbol's first slot to the one of that sort. The offset is first, then the pair, then the descriptor. If
 -- there are two words for an address, the first is the stub's, and references use the second.
-abbrev pub behind_first : Slot → ValueFlags → ℕ
-behind_first AddressSlot f = if has_flag f ifunc_got_for_address || has_flag f canonical_plt_got_for_address then 8 else 0
-behind_first ModulePair f = if has_flag f got_tls_offset then 8 else 0
-behind_first Descriptor f = (if has_flag f got_tls_offset then 8 else 0) + (if has_flag f got_tls_module then 16 else 0)
-behind_first other f = 0
+abbrev pub offset_from_first : Slot → ValueFlags → ℕ
+offset_from_first AddressSlot f = if has_flag f ifunc_got_for_address || has_flag f canonical_plt_got_for_address then 8 else 0
+offset_from_first ModulePair f = if has_flag f got_tls_offset then 8 else 0
+offset_from_first Descriptor f = (if has_flag f got_tls_offset then 8 else 0) + (if has_flag f got_tls_module then 16 else 0)
+offset_from_first other f = 0
 
 -- p is the address in the layout of the slot of that sort of symbol i's definition
-pub record IsDecidedSlot (sort : Slot) (l : Layout) (i p : ℕ) : Type 0 where
+pub record HasSlotAddress (sort : Slot) (l : Layout) (i p : ℕ) : Type 0 where
   pub definition : ℕ
   pub defined : IsDefinedBy l i definition
   pub symbol : Symbol
@@ -70,12 +70,12 @@ pub record IsDecidedSlot (sort : Slot) (l : Layout) (i p : ℕ) : Type 0 where
   pub decided : symbol.resolution ≡ Some resolution
   pub first : ℕ
   pub given : resolution.got_address ≡ Some first
-  pub place : p ≡ first + behind_first sort symbol.flags
+  pub place : p ≡ first + offset_from_first sort symbol.flags
 
 -- all symbols share one pair of the output's own module
 abbrev pub HasSlot : Slot → Layout → ℕ → ℕ → Type 0
 HasSlot OwnModulePair l i p = l.tlsld ≡ Some p
-HasSlot sort l i p = IsDecidedSlot sort l i p
+HasSlot sort l i p = HasSlotAddress sort l i p
 
 -- g is the loaded address of symbol i's only slot of that sort, and memory holds there what such a slot holds
 pub record IsSlotOf (sort : Slot) (l : Layout) (w : World) (m : Memory) (i g : ℕ) : Type 0 where

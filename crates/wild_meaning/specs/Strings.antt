@@ -58,8 +58,8 @@ pub record IsStringAt (strings : List MergedString) (x : ℕ) (s : MergedString)
   pub last : All (λ (t : MergedString). x < t.offset) behind
 
 -- the byte of the section given by the symbol's value plus the addend, as an unsigned number
-abbrev pub byte_named : Symbol → InputRelocation → ℕ
-byte_named s r = (s.value + cast_unsigned w64 r.addend) % 2 ^ 64
+abbrev pub byte_of_reference : Symbol → InputRelocation → ℕ
+byte_of_reference s r = (s.value + cast_unsigned w64 r.addend) % 2 ^ 64
 
 -- a plus the addend is the loaded address of that byte, at the same distance from its string's start as in the input
 pub record IsString (l : Layout) (w : World) (r : InputRelocation) (a : ℕ) : Type 0 where
@@ -68,6 +68,6 @@ pub record IsString (l : Layout) (w : World) (r : InputRelocation) (a : ℕ) : T
   pub strings : List MergedString
   pub has : HasStrings l symbol strings
   pub string : MergedString
-  pub found : IsStringAt strings (byte_named has.symbol r) string
-  pub is : (a + cast_unsigned w64 r.addend) % 2 ^ 64 ≡ (w.base + string.address + (byte_named has.symbol r - string.offset)) % 2 ^ 64
+  pub found : IsStringAt strings (byte_of_reference has.symbol r) string
+  pub is : (a + cast_unsigned w64 r.addend) % 2 ^ 64 ≡ (w.base + string.address + (byte_of_reference has.symbol r - string.offset)) % 2 ^ 64
   pub small : a < 2 ^ 64

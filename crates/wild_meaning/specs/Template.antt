@@ -2,7 +2,7 @@
 --   IsInstruction ..     an instruction is in the input's bytes, with a relocation at its field
 --   IsSequence ..        it is a sequence, whose further relocations follow the first
 --   IsTemplate ..        it is the instruction of a reference; `first` is the relocation of its first field
---   reads w m            the values of operands in memory; `reads_alone` for code that calls no function
+--   reads w m            the values of operands in memory; `reads_without_calls` for code that calls no function
 --   Demands ..           v is the value that the instruction's operand must have
 --   IsDemanded ..        e is the effect that the input's bytes require
 --   DoesWith ..          the loaded code has that effect, with a given reader, for the operand value v
@@ -43,18 +43,18 @@ use Rattle.wild_meaning.specs.Strings.{IsString}
 
 -- The origin of a field's distance, relative to the field's start: its end, four bytes later (Intel SDM, "RIP-Relative
 -- Addressing"); or the instruction, whose word contains the field (Arm ARM, "PC-relative address calculation").
-abbrev pub counts_from : Machine → ℕ
-counts_from machine.X86_64 = 4
-counts_from machine.AArch64 = 0
+abbrev pub field_origin : Machine → ℕ
+field_origin machine.X86_64 = 4
+field_origin machine.AArch64 = 0
 
 -- The addend of a field for a slot only compensates for that origin. A branch or an address may have a further offset from its
 -- symbol, and the call through a descriptor has no field.
-abbrev pub AddsNothing : Machine → Sort → InputRelocation → Type 0
-AddsNothing m Target r = ⊤
-AddsNothing m DescribedCall r = ⊤
-AddsNothing m Address r = ⊤
-AddsNothing m FieldBits r = ⊤
-AddsNothing m other r = (cast_unsigned w64 r.addend + counts_from m) % 2 ^ 64 ≡ 0
+abbrev pub HasOriginAddend : Machine → Sort → InputRelocation → Type 0
+HasOriginAddend m Target r = ⊤
+HasOriginAddend m DescribedCall r = ⊤
+HasOriginAddend m Address r = ⊤
+HasOriginAddend m FieldBits r = ⊤
+HasOriginAddend m other r = (cast_unsigned w64 r.addend + field_origin m) % 2 ^ 64 ≡ 0
 
 -- The instruction is in the item's bytes at `start`, in code, with the relocation at its field. No relocation fills its own
 -- bytes, as that would make another instruction of it.
@@ -66,7 +66,7 @@ pub record IsInstruction (l : Layout) (item : Item) (r : InputRelocation) (start
   pub inside : start + size_of o ≤ length item.bytes
   pub stands : stands o.template.cells (slice_range item.bytes start (start + size_of o)) ≡ true
   pub words : o.words (words_of (slice_range item.bytes start (start + size_of o))) ≡ true
-  pub counts : AddsNothing l.machine o.sort r
+  pub counts : HasOriginAddend l.machine o.sort r
   pub alone : (k : ℕ) → IsOwnByte o k → InNoField l item (start + k)
 
 -- a sequence: its first relocation, and those after it
@@ -119,10 +119,10 @@ reads w m (Pair a) = pair_in w m a
 reads w m (Offset a) = first_value m.descriptors a
 
 -- the same for code that calls no function: only such a call reads a pair or a descriptor
-abbrev pub reads_alone : World → Memory → Reader
-reads_alone w m (Pair a) = None
-reads_alone w m (Offset a) = None
-reads_alone w m other = reads w m other
+abbrev pub reads_without_calls : World → Memory → Reader
+reads_without_calls w m (Pair a) = None
+reads_without_calls w m (Offset a) = None
+reads_without_calls w m other = reads w m other
 
 -- the effect of bytes at an address, with the instructions of the machine
 abbrev pub effect_of : Machine → Reader → ℕ → List ℕ → Option Effect
@@ -150,7 +150,7 @@ IsBranchReferent l w m item r a = (GoesToString l r × IsString l w r a) ⊎ ((G
 pub record IsBranchTarget (l : Layout) (w : World) (m : Memory) (item : Item) (r : InputRelocation) (v : ℕ) : Type 0 where
   pub goal : ℕ
   pub stands : IsBranchReferent l w m item r goal
-  pub is : v ≡ (goal + cast_unsigned w64 r.addend + counts_from l.machine) % 2 ^ 64
+  pub is : v ≡ (goal + cast_unsigned w64 r.addend + field_origin l.machine) % 2 ^ 64
 
 -- the value of a reference to a descriptor: the offset itself, or the address of the symbol's descriptor
 abbrev pub IsDescribed : Layout → World → Memory → Item → InputRelocation → ℕ → Type 0
@@ -229,7 +229,7 @@ pub record DoesDemanded (read : Reader) (l : Layout) (w : World) (m : Memory) (i
 pub record IsOwnBranchTarget (l : Layout) (w : World) (item : Item) (r : InputRelocation) (v : ℕ) : Type 0 where
   pub goal : ℕ
   pub stands : IsOwnReferent l.machine Distance l w item r goal
-  pub is : v ≡ (goal + cast_unsigned w64 r.addend + counts_from l.machine) % 2 ^ 64
+  pub is : v ≡ (goal + cast_unsigned w64 r.addend + field_origin l.machine) % 2 ^ 64
 
 -- the value that an operand of that sort must have: only a branch target is S itself; every other operand uses a slot, which a
 -- loader fills
@@ -241,4 +241,4 @@ DemandsLinked other l w item r v = ⊥
 pub record DoesLinked (l : Layout) (w : World) (m : Memory) (item : Item) (r : InputRelocation) (start : ℕ) (o : Instruction) : Type 0 where
   pub value : ℕ
   pub demands : DemandsLinked o.sort l w item r value
-  pub code : DoesWith (reads_alone w m) l w m item start o value
+  pub code : DoesWith (reads_without_calls w m) l w m item start o value

@@ -9,10 +9,10 @@ use Rattle.std.specs.List.{list_all, filter}
 use Rattle.wild_records.specs.Abi.Relocation.{r_aarch64_jump26, r_aarch64_call26}
 use Rattle.wild_aarch64.specs.declared.template.Template.{Template}
 use Rattle.wild_aarch64.specs.declared.operand.Action as run-action
-use Rattle.wild_aarch64.specs.Immediate.{inserted}
+use Rattle.wild_aarch64.specs.Immediate.{word_with_immediate}
 use Rattle.wild_aarch64.specs.Slice.{Form, stands}
 use Rattle.wild_aarch64.specs.Forms.{forms}
-use Rattle.wild_aarch64.specs.Filled.{filled_forms, forms_filled}
+use Rattle.wild_aarch64.specs.FilledForms.{filled_forms, forms_filled}
 use Rattle.wild_aarch64.specs.Code.{read}
 use Rattle.wild_aarch64.specs.Machine.{run, meaning}
 use Rattle.wild_aarch64.specs.Effect.{shapes, words_of}
@@ -26,14 +26,14 @@ abbrev pub is_of : List Form → ℕ → Bool
 is_of [] w = false
 is_of (f ∷ fs) w = stands f.fixed w || is_of fs w
 
-abbrev pub is_told : Option run-action.Action → Bool
-is_told None = false
-is_told (Some act) = true
+abbrev pub has_known_meaning : Option run-action.Action → Bool
+has_known_meaning None = false
+has_known_meaning (Some act) = true
 
 -- the words have a form that the relocation type fills, and their meaning is known for every content of the fields; `movn` has no
 -- meaning here
 abbrev pub is_filled : ℕ → List ℕ → Bool
-is_filled n ws = list_all (is_of (forms_filled n)) ws && is_told (run (shapes ws) 0 [])
+is_filled n ws = list_all (is_of (forms_filled n)) ws && has_known_meaning (run (shapes ws) 0 [])
 
 -- the word has one of the forms, or there are no forms: the call through a descriptor has no field (aaelf64, "Relocations for
 -- thread-local storage": R_AARCH64_TLSDESC_CALL)
@@ -50,7 +50,7 @@ are_filled ns ws = false
 -- the words form a run of that kind, for the register that the second word sets, with those relocation types, and their meaning
 -- is known
 abbrev pub is_run : Template → List ℕ → List ℕ → Bool
-is_run t ns ws = are_filled ns ws && (begins (codes_of t (register_in ws)) (map read ws) && is_told (run (shapes ws) 0 []))
+is_run t ns ws = are_filled ns ws && (begins (codes_of t (register_in ws)) (map read ws) && has_known_meaning (run (shapes ws) 0 []))
 
 -- the relocation types that fill words, except for branches to code, which go to an address that represents a symbol
 abbrev pub filled_numbers : List ℕ
@@ -59,7 +59,7 @@ filled_numbers = filter (λ n. not (n == r_aarch64_jump26 || n == r_aarch64_call
 -- the word with those bits in its field
 abbrev pub with_field_of : List Form → ℕ → ℕ → ℕ
 with_field_of [] v w = w
-with_field_of (f ∷ fs) v w = if stands f.fixed w then inserted f.field v w else with_field_of fs v w
+with_field_of (f ∷ fs) v w = if stands f.fixed w then word_with_immediate f.field v w else with_field_of fs v w
 
 abbrev pub with_field : ℕ → ℕ → ℕ
 with_field v w = with_field_of forms v w

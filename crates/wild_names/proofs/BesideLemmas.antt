@@ -1,8 +1,8 @@
 -- Two lists whose items belong together, one by one; and records that stand one behind the other.
 use Rattle.std.proofs.Common.{◌≡◌, ℕ, zero, suc, ◌+◌, ◌*◌, List, [], ◌∷◌, ◌++◌, length, Some, slice_get, flat_map, refl, ap, arith, subst}
 use Rattle.std.proofs.lemmas.Option.{same_Some}
-use Rattle.wild_words.specs.Words.{Stands}
-use Rattle.wild_words.proofs.RecordLemmas.{Stands-left, Stands-right}
+use Rattle.wild_words.specs.Words.{HasBytesAt}
+use Rattle.wild_words.proofs.RecordLemmas.{HasBytesAt-left, HasBytesAt-right}
 
 -- ---- two lists
 
@@ -48,16 +48,16 @@ belongs_at R (x ∷ xs) (z ∷ zs) (suc k) y h e =
 -- ---- bytes one behind the other
 
 -- record k of records of n bytes
-pub Stands-record : {E : Type 0} (spelled : E → List ℕ) (n : ℕ) → ((e : E) → length (spelled e) ≡ n) → (es : List E) (k : ℕ) (e : E) → slice_get es k ≡ Some e → Stands (flat_map spelled es) (n * k) (spelled e)
-Stands-record spelled n long [] k e h = cc
-Stands-record spelled n long (x ∷ es) zero e h =
+pub HasBytesAt-record : {E : Type 0} (spelled : E → List ℕ) (n : ℕ) → ((e : E) → length (spelled e) ≡ n) → (es : List E) (k : ℕ) (e : E) → slice_get es k ≡ Some e → HasBytesAt (flat_map spelled es) (n * k) (spelled e)
+HasBytesAt-record spelled n long [] k e h = cc
+HasBytesAt-record spelled n long (x ∷ es) zero e h =
     let z : 0 ≡ n * 0 = omega arith in
     let same = same_Some x e h in
-    subst (λ y. Stands (spelled x ++ flat_map spelled es) (n * 0) (spelled y)) same (subst (λ (m : ℕ). Stands (spelled x ++ flat_map spelled es) m (spelled x)) z (Stands-left (spelled x) (flat_map spelled es)))
-Stands-record spelled n long (x ∷ es) (suc k) e h =
+    subst (λ y. HasBytesAt (spelled x ++ flat_map spelled es) (n * 0) (spelled y)) same (subst (λ (m : ℕ). HasBytesAt (spelled x ++ flat_map spelled es) m (spelled x)) z (HasBytesAt-left (spelled x) (flat_map spelled es)))
+HasBytesAt-record spelled n long (x ∷ es) (suc k) e h =
     let w = long x in
     let z : length (spelled x) + n * k ≡ n * suc k = nat_next w in
-    subst (λ (m : ℕ). Stands (spelled x ++ flat_map spelled es) m (spelled e)) z (Stands-right (spelled x) (flat_map spelled es) (spelled e) (n * k) (Stands-record spelled n long es k e h))
+    subst (λ (m : ℕ). HasBytesAt (spelled x ++ flat_map spelled es) m (spelled e)) z (HasBytesAt-right (spelled x) (flat_map spelled es) (spelled e) (n * k) (HasBytesAt-record spelled n long es k e h))
   where
     nat_next : length (spelled x) ≡ n → length (spelled x) + n * k ≡ n * suc k
     nat_next w = rw w (omega arith)

@@ -20,29 +20,29 @@ use Rattle.wild_types.specs.declared.layout.Layout.{Layout}
 use Rattle.wild_needs.specs.Dynamic.{dynamic_number, dynamic_entry, dynamic_count}
 use Rattle.wild_needs.specs.DynamicPlaces.{part_address, part_size, filled_part, unless_empty}
 use Rattle.wild_needs.specs.DynamicSymbols.{first_listed}
-use Rattle.wild_types.specs.Hollow.{KeepsAll}
+use Rattle.wild_types.specs.HeaderOnly.{KeepsAll}
 use Rattle.wild_types.specs.Kinds.{needs_dynamic}
 use Rattle.wild_types.specs.Lookups.{image_size}
 use Rattle.wild_types.specs.Parts.{role_place, part_with, is_hash_role, is_look_up_role, has_hashes}
 use Rattle.wild_types.proofs.LookupLemmas.{not_hollow_at}
-use Rattle.wild_headers.specs.Headers.{file_header, section_headers_of}
-use Rattle.wild_tables.specs.Dynamic.{dynamic_records, null_entry}
+use Rattle.wild_table_formats.specs.Headers.{file_header, section_headers_of}
+use Rattle.wild_table_formats.specs.DynamicSection.{dynamic_records, null_entry}
 use Rattle.wild_layout.specs.Loadable.{SegmentLoads}
 use Rattle.wild_layout.specs.TablePlaces.{all_needed}
 use Rattle.wild_layout.specs.Geometry.{IsLaidOut, TablesStand}
 use Rattle.wild_layout.specs.Image.{bytes}
 use Rattle.wild_loader.specs.Headers.{is_loadable_header}
 use Rattle.wild_loader.specs.SegmentLaws.{HasHeaders}
-use Rattle.wild_loader.specs.Laws.{before_null}
-use Rattle.wild_loader.specs.Tables.{tagged}
+use Rattle.wild_loader.specs.Laws.{entries_before_null}
+use Rattle.wild_loader.specs.Tables.{value_of_tag}
 use Rattle.wild_meaning.specs.World.{IsLoadable}
 use Rattle.wild_hashes.specs.declared.image.Part.{Part as Found}
 use Rattle.wild_hashes.specs.declared.image.Parts.{Parts}
-use Rattle.wild_hashes.specs.Image.{part_of, strings_of, parts_by, tables_of, bytes_if}
+use Rattle.wild_hashes.specs.Image.{part_of, strings_of, parts_by, tables_of, bytes_or_none}
 use Rattle.wild_hashes.specs.Laws.{AreNumbered}
 use Rattle.wild_loaded.specs.Laws.{HasEntries}
 use Rattle.wild_loaded.specs.Memory.{headers_of}
-use Rattle.wild_names.specs.Below.{ImageLaws, NameLaws}
+use Rattle.wild_names.specs.LowerLaws.{ImageLaws, NameLaws}
 use Rattle.wild_names.specs.LookUpLaws.{IsWritten}
 use Rattle.wild_names.proofs.ImageTables.{parts_told}
 use Rattle.wild_names.proofs.NumberedLemmas.{are_numbered}
@@ -84,33 +84,33 @@ is_read l laws w =
 
 -- those that a look-up reads
 abbrev pub entries_read : Layout → ℕ → List DynamicEntry
-entries_read l room = before_null (all_needed l ++ dynamic_records l room)
+entries_read l room = entries_before_null (all_needed l ++ dynamic_records l room)
 
-told : (l : Layout) (room : ℕ) (tag : DynamicTag) → ImageLaws → needs_dynamic l.kind ≡ true → tag ≢ tags.Null → tagged (dynamic_number tag) (entries_read l room) ≡ dynamic_entry l tag
+told : (l : Layout) (room : ℕ) (tag : DynamicTag) → ImageLaws → needs_dynamic l.kind ≡ true → tag ≢ tags.Null → value_of_tag (dynamic_number tag) (entries_read l room) ≡ dynamic_entry l tag
 told l room tag laws needs other = laws.found l (all_needed l) (replicate (room / 16 - dynamic_count l) null_entry) tag (laws.needed.names l l.groups) needs other
 
-pub sysv_told : (l : Layout) (room : ℕ) → ImageLaws → needs_dynamic l.kind ≡ true → tagged dt_hash (entries_read l room) ≡ part_address (filled_part l role.SysvHash)
+pub sysv_told : (l : Layout) (room : ℕ) → ImageLaws → needs_dynamic l.kind ≡ true → value_of_tag dt_hash (entries_read l room) ≡ part_address (filled_part l role.SysvHash)
 unfolding dynamic_number dynamic_entry
 sysv_told l room laws needs = told l room tags.SysvHash laws needs (λ e. cc)
 
-pub gnu_told : (l : Layout) (room : ℕ) → ImageLaws → needs_dynamic l.kind ≡ true → tagged dt_gnu_hash (entries_read l room) ≡ part_address (filled_part l role.GnuHash)
+pub gnu_told : (l : Layout) (room : ℕ) → ImageLaws → needs_dynamic l.kind ≡ true → value_of_tag dt_gnu_hash (entries_read l room) ≡ part_address (filled_part l role.GnuHash)
 unfolding dynamic_number dynamic_entry
 gnu_told l room laws needs = told l room tags.GnuHash laws needs (λ e. cc)
 
-symbols_told : (l : Layout) (room : ℕ) → ImageLaws → needs_dynamic l.kind ≡ true → tagged dt_symtab (entries_read l room) ≡ part_address (part_with role.Dynsym l.parts)
+symbols_told : (l : Layout) (room : ℕ) → ImageLaws → needs_dynamic l.kind ≡ true → value_of_tag dt_symtab (entries_read l room) ≡ part_address (part_with role.Dynsym l.parts)
 unfolding dynamic_number dynamic_entry
 symbols_told l room laws needs = told l room tags.SymbolTable laws needs (λ e. cc)
 
-strings_told : (l : Layout) (room : ℕ) → ImageLaws → needs_dynamic l.kind ≡ true → tagged dt_strtab (entries_read l room) ≡ part_address (part_with role.Dynstr l.parts)
+strings_told : (l : Layout) (room : ℕ) → ImageLaws → needs_dynamic l.kind ≡ true → value_of_tag dt_strtab (entries_read l room) ≡ part_address (part_with role.Dynstr l.parts)
 unfolding dynamic_number dynamic_entry
 strings_told l room laws needs = told l room tags.StringTable laws needs (λ e. cc)
 
-size_told : (l : Layout) (room : ℕ) → ImageLaws → needs_dynamic l.kind ≡ true → tagged dt_strsz (entries_read l room) ≡ part_size (part_with role.Dynstr l.parts)
+size_told : (l : Layout) (room : ℕ) → ImageLaws → needs_dynamic l.kind ≡ true → value_of_tag dt_strsz (entries_read l room) ≡ part_size (part_with role.Dynstr l.parts)
 unfolding dynamic_number dynamic_entry
 size_told l room laws needs = told l room tags.StringSize laws needs (λ e. cc)
 
 -- the parts of a look-up in the table of a tag
-pub parts_read : (l : Layout) (tag : ℕ) → ImageLaws → (r : IsRead l) → tables_of (bytes l) tag ≡ parts_by (bytes l) (headers_of l) (entries_read l r.entries.room) (tagged tag (entries_read l r.entries.room))
+pub parts_read : (l : Layout) (tag : ℕ) → ImageLaws → (r : IsRead l) → tables_of (bytes l) tag ≡ parts_by (bytes l) (headers_of l) (entries_read l r.entries.room) (value_of_tag tag (entries_read l r.entries.room))
 parts_read l tag laws r = parts_told (bytes l) (file_header l) (headers_of l) (section_headers_of l l.sections) (all_needed l ++ dynamic_records l r.entries.room) tag laws.records r.headers r.taken r.entries.dynamic
 
 -- ---- the parts of the layout
@@ -153,7 +153,7 @@ pub record HasParts (l : Layout) (tag : ℕ) (p : Part) : Type 0 where
   pub is : tables_of (bytes l) tag ≡ Ok (Some parts)
   pub start : parts.hashes.start ≡ p.offset
   pub room : p.size ≤ parts.hashes.size
-  pub numbered : AreNumbered (bytes_if (bytes l) parts.symbols) (bytes_if (bytes l) parts.strings) (first_listed l) l.dynsyms
+  pub numbered : AreNumbered (bytes_or_none (bytes l) parts.symbols) (bytes_or_none (bytes l) parts.strings) (first_listed l) l.dynsyms
 
 at_address : (image : List ℕ) (hs : List ProgramHeader) (tag : ℕ) (p : Part) (f : Found) → IsFoundPart image hs p f → part_of image hs tag (Some p.address) ≡ Ok f
 unfolding part_of
@@ -173,7 +173,7 @@ strings_at image hs p f found =
 filled_is : (l : Layout) (r : Role) (p : Part) → part_with r l.parts ≡ Some p → 1 ≤ p.size → filled_part l r ≡ Some p
 filled_is l r p found some = let e : (p.size == 0) ≡ false = ne_eqb p.size 0 (λ z. omega (arith, some, z)) in ap unless_empty found ∙ rw e refl
 
-pub has_parts : (l : Layout) (r : Role) (tag : ℕ) (p : Part) → ImageLaws → NameLaws → (read : IsRead l) → needs_dynamic l.kind ≡ true → is_hash_role r ≡ true → is_look_up_role r ≡ true → (role_place r ≡ 0 → ⊥) → tagged tag (entries_read l read.entries.room) ≡ part_address (filled_part l r) → part_with r l.parts ≡ Some p → 1 ≤ p.size → HasParts l tag p
+pub has_parts : (l : Layout) (r : Role) (tag : ℕ) (p : Part) → ImageLaws → NameLaws → (read : IsRead l) → needs_dynamic l.kind ≡ true → is_hash_role r ≡ true → is_look_up_role r ≡ true → (role_place r ≡ 0 → ⊥) → value_of_tag tag (entries_read l read.entries.room) ≡ part_address (filled_part l r) → part_with r l.parts ≡ Some p → 1 ≤ p.size → HasParts l tag p
 has_parts l r tag p laws names read needs hash asked loaded telling found some =
     let laid = read.laid in
     let keeps = read.keeps in
@@ -185,10 +185,10 @@ has_parts l r tag p laws names read needs hash asked loaded telling found some =
     let size = all.whole in
     let table = found_role l role.Dynsym t.table laws.stand keeps laid needs hashes refl (λ e. cc) t.symbols (omega (arith, size)) in
     let strings = found_role l role.Dynstr t.strings laws.stand keeps laid needs hashes refl (λ e. cc) t.names t.some in
-    let here : tagged tag (entries_read l room) ≡ Some p.address = telling ∙ ap part_address (filled_is l r p found some) in
-    let symbols : tagged dt_symtab (entries_read l room) ≡ Some t.table.address = symbols_told l room laws needs ∙ ap part_address t.symbols in
-    let text : tagged dt_strtab (entries_read l room) ≡ Some t.strings.address = strings_told l room laws needs ∙ ap part_address t.names in
-    let text_size : tagged dt_strsz (entries_read l room) ≡ Some t.strings.size = size_told l room laws needs ∙ ap part_size t.names in
+    let here : value_of_tag tag (entries_read l room) ≡ Some p.address = telling ∙ ap part_address (filled_is l r p found some) in
+    let symbols : value_of_tag dt_symtab (entries_read l room) ≡ Some t.table.address = symbols_told l room laws needs ∙ ap part_address t.symbols in
+    let text : value_of_tag dt_strtab (entries_read l room) ≡ Some t.strings.address = strings_told l room laws needs ∙ ap part_address t.names in
+    let text_size : value_of_tag dt_strsz (entries_read l room) ≡ Some t.strings.size = size_told l room laws needs ∙ ap part_size t.names in
     record {
       parts = record { hashes = own.0; symbols = Ok table.0; strings = Ok (first_of strings.0 t.strings.size) };
       is = parts_read l tag laws read ∙ rw (here, own.1.is, symbols, text, text_size, at_address (bytes l) (headers_of l) dt_symtab t.table table.0 table.1, strings_at (bytes l) (headers_of l) t.strings strings.0 strings.1) refl;
@@ -198,7 +198,7 @@ has_parts l r tag p laws names read needs hash asked loaded telling found some =
     }
 
 -- without the part of a table, or with an empty one, there are none
-pub no_parts : (l : Layout) (r : Role) (tag : ℕ) → ImageLaws → (read : IsRead l) → tagged tag (entries_read l read.entries.room) ≡ part_address (filled_part l r) → filled_part l r ≡ None → tables_of (bytes l) tag ≡ Ok None
+pub no_parts : (l : Layout) (r : Role) (tag : ℕ) → ImageLaws → (read : IsRead l) → value_of_tag tag (entries_read l read.entries.room) ≡ part_address (filled_part l r) → filled_part l r ≡ None → tables_of (bytes l) tag ≡ Ok None
 no_parts l r tag laws read telling missing =
-    let none : tagged tag (entries_read l read.entries.room) ≡ None = telling ∙ ap part_address missing in
+    let none : value_of_tag tag (entries_read l read.entries.room) ≡ None = telling ∙ ap part_address missing in
     parts_read l tag laws read ∙ rw none refl

@@ -13,12 +13,12 @@ use Rattle.wild_records.specs.declared.section_header.SectionHeader.{SectionHead
 use Rattle.wild_records.proofs.FileHeaderLemmas.{length-file_header}
 use Rattle.wild_loader.specs.Headers.{is_loadable_header, program_headers}
 use Rattle.wild_loader.specs.SegmentLaws.{HasHeaders, program_bytes}
-use Rattle.wild_loader.specs.Laws.{HasDynamic, before_null}
-use Rattle.wild_loader.specs.Tables.{dynamic_entries, first_dynamic, tagged}
+use Rattle.wild_loader.specs.Laws.{HasDynamic, entries_before_null}
+use Rattle.wild_loader.specs.Tables.{dynamic_entries, first_dynamic, value_of_tag}
 use Rattle.wild_loader.proofs.RecordLists.{length-program, programs-read, dynamics-read}
 use Rattle.wild_loader.proofs.TableLemmas.{nothing-read}
 use Rattle.wild_hashes.specs.Image.{image_header, dynamic_in, parts_by, tables_of}
-use Rattle.wild_names.specs.Below.{RecordLaws}
+use Rattle.wild_names.specs.LowerLaws.{RecordLaws}
 
 -- ---- headers
 
@@ -40,14 +40,14 @@ headers_found image e hs ss laws has = let count = has.program_count in rw count
 
 -- ---- the dynamic section
 
-dynamic_found : (image : List ℕ) (hs : List ProgramHeader) (ds : List DynamicEntry) → RecordLaws → HasDynamic image hs ds → dynamic_in image (first_dynamic hs) ≡ Ok (before_null ds)
+dynamic_found : (image : List ℕ) (hs : List ProgramHeader) (ds : List DynamicEntry) → RecordLaws → HasDynamic image hs ds → dynamic_in image (first_dynamic hs) ≡ Ok (entries_before_null ds)
 dynamic_found image hs ds laws has =
     let d = has.segment in
     let room = has.room in
     let lies : nat_le (d.offset + d.file_size) (length image) ≡ true = le-leb _ _ room in
-    let read : dynamic_entries image (d.file_size / dynamic_entry_size) d.offset ≡ before_null ds = rw has.count (dynamics-read laws.dynamics image ds d.offset has.fits has.entries) in
+    let read : dynamic_entries image (d.file_size / dynamic_entry_size) d.offset ≡ entries_before_null ds = rw has.count (dynamics-read laws.dynamics image ds d.offset has.fits has.entries) in
     elim (cases_Bool (d.file_size == 0)) [
-      | inl t ↦ rw (has.first, t) (ap Ok (nothing-read image d.file_size d.offset (before_null ds) (eqb-true _ _ t) read))
+      | inl t ↦ rw (has.first, t) (ap Ok (nothing-read image d.file_size d.offset (entries_before_null ds) (eqb-true _ _ t) read))
       | inr f ↦ rw (has.first, f, lies, read) refl
     ]
 
@@ -55,7 +55,7 @@ dynamic_found image hs ds laws has =
 
 -- the parts are those that the entries before DT_NULL tell
 pub parts_told : (image : List ℕ) (e : FileHeader) (hs : List ProgramHeader) (ss : List SectionHeader) (ds : List DynamicEntry) (tag : ℕ) → RecordLaws → HasHeaders image e hs ss → is_loadable_header e ≡ true → HasDynamic image hs ds
-    → tables_of image tag ≡ parts_by image hs (before_null ds) (tagged tag (before_null ds))
+    → tables_of image tag ≡ parts_by image hs (entries_before_null ds) (value_of_tag tag (entries_before_null ds))
 unfolding tables_of
 parts_told image e hs ss ds tag laws headers taken dynamic =
     let found = header_found image e hs ss laws headers taken in

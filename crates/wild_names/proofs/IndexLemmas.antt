@@ -1,8 +1,8 @@
 -- The longer section indexes: each entry of the table of all symbols has its own, in order.
 use Rattle.wild_types.specs.Kinds.{is_partial_link}
-use Rattle.wild_needs.specs.declared.table.Named.{Named}
-use Rattle.wild_needs.specs.declared.table.Named.TheVariants as named
-use Rattle.wild_symbols.specs.declared.table.TableFields.{TableFields}
+use Rattle.wild_needs.specs.declared.table.SymtabName.{SymtabName}
+use Rattle.wild_needs.specs.declared.table.SymtabName.TheVariants as named
+use Rattle.wild_table_formats.specs.declared.symbols.TableFields.{TableFields}
 use Rattle.std.specs.Prelude.{Result, Some}
 use Rattle.wild_types.specs.declared.symbol.Place.{Place}
 use Rattle.wild_types.specs.declared.symbol.Place.TheVariants as places
@@ -11,17 +11,17 @@ use Rattle.wild_types.specs.declared.input.Slot.TheVariants as slot
 use Rattle.wild_types.specs.declared.input.InputSection.{InputSection}
 use Rattle.wild_types.specs.declared.fault.Fault.{Fault}
 use Rattle.wild_needs.specs.DynamicSymbols.{output_section, section_of_input}
-use Rattle.wild_laid.specs.FrameInputs.{kept_size}
-use Rattle.wild_laid.specs.Turned.{turned, as_turned}
-use Rattle.wild_laid.specs.Laid.{without_relocations, unread, laid_files, laid_file, laid_section, laid_sections, laid_by, behind}
-use Rattle.wild_geometry.proofs.StoodSections.{laid_same}
+use Rattle.wild_placement.specs.FrameInputs.{kept_size}
+use Rattle.wild_placement.specs.ReversedWords.{reversed_section, with_word_order}
+use Rattle.wild_placement.specs.PlacedSections.{without_relocations, unread, placed_files, placed_file, placed_section, placed_sections, placed_by, behind}
+use Rattle.wild_geometry.proofs.PlacedInputs.{laid_same}
 use Rattle.std.proofs.Common.{◌≡◌, ℕ, ◌*◌, inl, inr, Bool, true, false, if◌then◌else◌, List, [], ◌∷◌, length, map, filter, find, flat_map, option_map, Some, slice_get, refl, sym, ap, ◌∙◌, arith, subst, ◌++◌, zero, suc}
 use Rattle.std.specs.List.{list_any}
 use Rattle.std.proofs.lemmas.Bool.{cases_Bool, or_left}
 use Rattle.std.proofs.lemmas.List.{append-nil, length-map}
 use Rattle.std.proofs.lemmas.List.Folds.{flat_map-map}
 use Rattle.std.proofs.lemmas.Option.{slice_get-map}
-use Rattle.wild_words.specs.Words.{Stands, word}
+use Rattle.wild_words.specs.Words.{HasBytesAt, word}
 use Rattle.wild_words.proofs.ListLemmas.{filter-flat_map, flat_map-flat_map, flat_map-same, holds_at}
 use Rattle.wild_words.proofs.WordLemmas.{length-word}
 use Rattle.wild_words.proofs.Basics.{nil_if, map-flat_map}
@@ -35,14 +35,14 @@ use Rattle.wild_types.specs.FileRoles.{is_prelude}
 use Rattle.wild_types.specs.Parts.{has_role, role_place, part_with}
 use Rattle.wild_needs.specs.TableSymbols.{has_long, file_items, TableSymbol, item_name, is_local}
 use Rattle.wild_types.specs.Lookups.{has_many_sections, section_of}
-use Rattle.wild_symbols.specs.TableEntries.{NamedEntry, file_table, group_table, index_bytes, is_side, long_indexes, table_fields, named_entry, null_entries, fields_of, table_by, or_none_in_table}
-use Rattle.wild_symbols.specs.TableLaws.{IndexesHave4Bytes}
+use Rattle.wild_table_formats.specs.TableEntries.{NamedEntry, file_table, group_table, index_bytes, is_side, long_indexes, table_fields, named_entry, null_entries, fields_of, table_by, table_fields_or_null}
+use Rattle.wild_table_formats.specs.TableLaws.{IndexesHave4Bytes}
 use Rattle.wild_layout.specs.Content.{content, file_content, indexes_of}
 use Rattle.wild_layout.specs.TablePlaces.{table_bytes}
 use Rattle.wild_layout.specs.Geometry.{TablesStand}
-use Rattle.wild_names.specs.Laws.{SaidFields, said, side_symbols}
-use Rattle.wild_names.specs.IndexLaws.{HasIndex, LongIndexesStand, index_role, side_table}
-use Rattle.wild_names.proofs.BesideLemmas.{Stands-record}
+use Rattle.wild_names.specs.Laws.{EntryFields, fields_of_entry, side_symbols}
+use Rattle.wild_names.specs.IndexLaws.{HasIndex, LongIndexesAreWritten, index_role, side_table}
+use Rattle.wild_names.proofs.BesideLemmas.{HasBytesAt-record}
 use Rattle.wild_names.proofs.ImageLemmas.{in_image}
 use Rattle.wild_names.proofs.ShortEntries.{EntryIsShort, short_side}
 
@@ -89,16 +89,16 @@ file_indexes l false f has =
     rw (nil_if (is_prelude f.role)) (append-nil (indexes_of l role.SymtabShndxGlobal false f) ∙ given (has_long l role.SymtabShndxGlobal) all has ∙ by_entry (filter (is_side false) (file_table l f)))
 
 -- a group gives what its files give
-by_files : (l : Layout) (local : Bool) (g : Group) → content l (index_role local) g ≡ flat_map (file_content l (index_role local)) (laid_files l g)
-by_files l true g = append-nil (flat_map (file_content l role.SymtabShndxLocal) (laid_files l g))
-by_files l false g = append-nil (flat_map (file_content l role.SymtabShndxGlobal) (laid_files l g))
+by_files : (l : Layout) (local : Bool) (g : Group) → content l (index_role local) g ≡ flat_map (file_content l (index_role local)) (placed_files l g)
+by_files l true g = append-nil (flat_map (file_content l role.SymtabShndxLocal) (placed_files l g))
+by_files l false g = append-nil (flat_map (file_content l role.SymtabShndxGlobal) (placed_files l g))
 
 -- a section stands in its part, however it stands
-turned_part : (s : InputSection) → (as_turned s).part ≡ s.part
-unfolding as_turned
+turned_part : (s : InputSection) → (with_word_order s).part ≡ s.part
+unfolding with_word_order
 turned_part s = by s.reversed
   where
-    by : (b : Bool) → (if b then turned s else s).part ≡ s.part
+    by : (b : Bool) → (if b then reversed_section s else s).part ≡ s.part
     by true = refl
     by false = refl
 
@@ -109,39 +109,39 @@ unread_part l s = by (is_partial_link l.kind)
     by true = refl
     by false = refl
 
-part_laid : (l : Layout) (f : File) (at : ℕ) (s : InputSection) → (laid_section l f at s).part ≡ s.part
-unfolding laid_section
+part_laid : (l : Layout) (f : File) (at : ℕ) (s : InputSection) → (placed_section l f at s).part ≡ s.part
+unfolding placed_section
 part_laid l f at s = by_slot s.slot
   where
-    by_slot : (k : Slot) → (laid_by k l f at s).part ≡ s.part
+    by_slot : (k : Slot) → (placed_by k l f at s).part ≡ s.part
     by_slot slot.Loaded = turned_part (unread l s) ∙ unread_part l s
     by_slot slot.Debug = turned_part s
     by_slot slot.Frame = refl
     by_slot slot.Rela = refl
     by_slot other = refl
 
-section_laid : (l : Layout) (f : File) (at : ℕ) (ss : List InputSection) (k : ℕ) → section_of_input l (slice_get (laid_sections l f at ss) k) ≡ section_of_input l (slice_get ss k)
+section_laid : (l : Layout) (f : File) (at : ℕ) (ss : List InputSection) (k : ℕ) → section_of_input l (slice_get (placed_sections l f at ss) k) ≡ section_of_input l (slice_get ss k)
 section_laid l f at [] k = refl
 section_laid l f at (s ∷ ss) zero = ap (section_of l) (part_laid l f at s)
 section_laid l f at (s ∷ ss) (suc k) = section_laid l f (behind at (kept_size l f s)) ss k
 
-output_laid : (l : Layout) (at : ℕ) (f : File) (p : Place) → output_section l (Some (laid_file l at f)) p ≡ output_section l (Some f) p
+output_laid : (l : Layout) (at : ℕ) (f : File) (p : Place) → output_section l (Some (placed_file l at f)) p ≡ output_section l (Some f) p
 output_laid l at f (places.Section k) = section_laid l f at f.sections k
 output_laid l at f other = refl
 
-entry_laid : (l : Layout) (at : ℕ) (f : File) (x : TableSymbol) → named_entry l (laid_file l at f) x ≡ named_entry l f x
+entry_laid : (l : Layout) (at : ℕ) (f : File) (x : TableSymbol) → named_entry l (placed_file l at f) x ≡ named_entry l f x
 unfolding table_fields
-entry_laid l at f x = ap (λ (r : Result TableFields Fault). record { name = Some (item_name x); local = is_local x; fields = or_none_in_table r }) (by_named x.named)
+entry_laid l at f x = ap (λ (r : Result TableFields Fault). record { name = Some (item_name x); local = is_local x; fields = table_fields_or_null r }) (by_named x.named)
   where
-    by_named : (n : Named) → fields_of l (laid_file l at f) n x.index x.symbol ≡ fields_of l f n x.index x.symbol
+    by_named : (n : SymtabName) → fields_of l (placed_file l at f) n x.index x.symbol ≡ fields_of l f n x.index x.symbol
     by_named named.Itself = ap (table_by l x.index f.role x.symbol) (output_laid l at f x.symbol.place)
     by_named other = refl
 
-entries_laid : (l : Layout) (at : ℕ) (f : File) (xs : List TableSymbol) → map (named_entry l (laid_file l at f)) xs ≡ map (named_entry l f) xs
+entries_laid : (l : Layout) (at : ℕ) (f : File) (xs : List TableSymbol) → map (named_entry l (placed_file l at f)) xs ≡ map (named_entry l f) xs
 entries_laid l at f [] = refl
-entries_laid l at f (x ∷ xs) = ap (λ (n : NamedEntry). n ∷ map (named_entry l (laid_file l at f)) xs) (entry_laid l at f x) ∙ ap (λ (ns : List NamedEntry). named_entry l f x ∷ ns) (entries_laid l at f xs)
+entries_laid l at f (x ∷ xs) = ap (λ (n : NamedEntry). n ∷ map (named_entry l (placed_file l at f)) xs) (entry_laid l at f x) ∙ ap (λ (ns : List NamedEntry). named_entry l f x ∷ ns) (entries_laid l at f xs)
 
-indexes_laid : (l : Layout) (local : Bool) (at : ℕ) (f : File) → spelled_of local (file_table l (laid_file l at f)) ≡ spelled_of local (file_table l f)
+indexes_laid : (l : Layout) (local : Bool) (at : ℕ) (f : File) → spelled_of local (file_table l (placed_file l at f)) ≡ spelled_of local (file_table l f)
 unfolding file_items
 indexes_laid l local at f = ap (λ (ns : List NamedEntry). spelled_of local (null_entries l f ++ ns)) (entries_laid l at f (file_items l f))
 
@@ -149,7 +149,7 @@ group_indexes : (l : Layout) (local : Bool) (g : Group) → has_long l (index_ro
 unfolding group_table
 group_indexes l local g has =
     by_files l local g
-    ∙ flat_map-same (file_content l (index_role local)) (λ (f : File). spelled_of local (file_table l f)) (laid_files l g) (λ f. file_indexes l local f has)
+    ∙ flat_map-same (file_content l (index_role local)) (λ (f : File). spelled_of local (file_table l f)) (placed_files l g) (λ f. file_indexes l local f has)
     ∙ laid_same (λ (f : File). spelled_of local (file_table l f)) l g (indexes_laid l local)
     ∙ sym (flat_map-flat_map spelled (λ (f : File). filter (is_side local) (file_table l f)) g.files)
     ∙ ap (flat_map spelled) (sym (filter-flat_map (is_side local) (file_table l) g.files))
@@ -166,12 +166,12 @@ has_place false e = absurd (omega arith)
 
 -- ---- the same entries
 
-same_symbols : (l : Layout) (local : Bool) → map said (side_table l local) ≡ side_symbols l local
-same_symbols l local = map-flat_map said (λ (g : Group). filter (is_side local) (group_table l g)) l.groups
+same_symbols : (l : Layout) (local : Bool) → map fields_of_entry (side_table l local) ≡ side_symbols l local
+same_symbols l local = map-flat_map fields_of_entry (λ (g : Group). filter (is_side local) (group_table l g)) l.groups
 
 -- ---- the image
 
-pub indexes_stand : TablesStand → IndexesHave4Bytes → LongIndexesStand
+pub indexes_stand : TablesStand → IndexesHave4Bytes → LongIndexesAreWritten
 indexes_stand stand four l laid local indexes found written =
     let table = index_table l local (asked l (index_role local) indexes found) in
     record { whole = whole_table table; each = λ k n h. one table k n h }
@@ -181,16 +181,16 @@ indexes_stand stand four l laid local indexes found written =
         let size = ((laid.roles (index_role local) (has_place local)).there indexes found).size in
         let own : length (table_bytes l (index_role local)) ≡ 4 * length (map long_of (side_table l local)) = subst (λ (bs : List ℕ). length bs ≡ 4 * length (map long_of (side_table l local))) (by_entry (side_table l local) ∙ table) (four (map long_of (side_table l local))) in
         let indexed = length-map (side_table l local) long_of in
-        let symbols = length-map (side_table l local) said in
+        let symbols = length-map (side_table l local) fields_of_entry in
         let same = ap length (same_symbols l local) in
         omega arith
 
     one : flat_map spelled (side_table l local) ≡ table_bytes l (index_role local) → (k : ℕ) (n : NamedEntry) → slice_get (side_table l local) k ≡ Some n → HasIndex l local indexes k n
     one table k n h =
         let long = length-word 4 n.fields.long in
-        let here = Stands-record spelled 4 (λ (e : NamedEntry). length-word 4 e.fields.long) (side_table l local) k n h in
+        let here = HasBytesAt-record spelled 4 (λ (e : NamedEntry). length-word 4 e.fields.long) (side_table l local) k n h in
         record {
-          entry = sym (ap (λ (ns : List SaidFields). slice_get ns k) (same_symbols l local)) ∙ slice_get-map said (side_table l local) k ∙ ap (option_map said) h;
-          index = in_image stand l laid (index_role local) (has_place local) indexes found written (4 * k) (spelled n) (omega arith) (subst (λ (bs : List ℕ). Stands bs (4 * k) (spelled n)) table here);
+          entry = sym (ap (λ (ns : List EntryFields). slice_get ns k) (same_symbols l local)) ∙ slice_get-map fields_of_entry (side_table l local) k ∙ ap (option_map fields_of_entry) h;
+          index = in_image stand l laid (index_role local) (has_place local) indexes found written (4 * k) (spelled n) (omega arith) (subst (λ (bs : List ℕ). HasBytesAt bs (4 * k) (spelled n)) table here);
           else_zero = holds_at EntryIsShort (side_table l local) k n h (short_side l local);
         }

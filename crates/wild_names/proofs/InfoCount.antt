@@ -1,18 +1,18 @@
 -- How many local symbols the table of all symbols has: as many as its part has room for, and fewer than 2^32.
 use Rattle.wild_layout.specs.Geometry.{IsLaidOut}
-use Rattle.wild_types.specs.Lookups.{has_table}
+use Rattle.wild_types.specs.Lookups.{has_symtab}
 use Rattle.wild_types.specs.Kinds.{is_partial_link}
 use Rattle.wild_words.proofs.ListLemmas.{All-flat_map}
 use Rattle.std.proofs.lemmas.Bool.{cases_Bool}
 use Rattle.std.specs.Prelude.{All, Option, Some, None, is_some, option_to_list, if◌then◌else◌, ◌&&◌}
-use Rattle.wild_geometry.proofs.StoodSections.{laid_same}
-use Rattle.wild_laid.specs.Laid.{laid_files, laid_file}
+use Rattle.wild_geometry.proofs.PlacedInputs.{laid_same}
+use Rattle.wild_placement.specs.PlacedSections.{placed_files, placed_file}
 use Rattle.std.proofs.Common.{◌≡◌, ℕ, suc, ◌+◌, ◌*◌, ◌/◌, ◌%◌, ◌^◌, ◌<◌, ◌≤◌, inl, inr, Bool, not, true, false, get_or, ◌++◌, List, [], ◌∷◌, length, map, filter, flat_map, refl, sym, ap, ◌∙◌, arith, subst}
 use Rattle.std.proofs.lemmas.List.{length-append, length-map}
 use Rattle.std.proofs.lemmas.List.Elements.{All-contains, All-nil, All-cons, All-head, All-tail, All-append, All-map}
 use Rattle.std.proofs.lemmas.List.Filters.{length-filter_both}
 use Rattle.wild_words.specs.Record.{spell, FieldsAreRead}
-use Rattle.wild_words.specs.Words.{Stands}
+use Rattle.wild_words.specs.Words.{HasBytesAt}
 use Rattle.wild_words.proofs.Basics.{nil_if}
 use Rattle.wild_records.specs.SectionHeader.{section_header_fields}
 use Rattle.wild_types.specs.declared.part.Part.{Part}
@@ -25,15 +25,15 @@ use Rattle.wild_types.specs.FileRoles.{is_prelude}
 use Rattle.wild_types.specs.Lists.{total}
 use Rattle.wild_needs.specs.Needs.{share, group_share}
 use Rattle.wild_needs.specs.TableSymbols.{table_strings, file_items, section_symbols}
-use Rattle.wild_symbols.specs.Symbols.{symbol_bytes}
-use Rattle.wild_symbols.specs.TableEntries.{NamedEntry, is_side, group_table, table_entries, null_entry, null_entries, section_entry, named_entry, file_table}
-use Rattle.wild_symbols.specs.TableLaws.{LengthsOfSides, NamesOfGroups, names_of}
-use Rattle.wild_symbols.proofs.SymbolLemmas.{length-symbol_bytes}
-use Rattle.wild_headers.specs.Headers.{null_header, local_symbols}
-use Rattle.wild_headers.specs.Laws.{SectionHeadersStand}
+use Rattle.wild_table_formats.specs.Symbols.{symbol_bytes}
+use Rattle.wild_table_formats.specs.TableEntries.{NamedEntry, is_side, group_table, table_entries, null_entry, null_entries, section_entry, named_entry, file_table}
+use Rattle.wild_table_formats.specs.TableLaws.{LengthsOfSides, NamesOfGroups, names_of}
+use Rattle.wild_table_formats.proofs.SymbolLemmas.{length-symbol_bytes}
+use Rattle.wild_table_formats.specs.Headers.{null_header, local_symbols}
+use Rattle.wild_table_formats.specs.HeaderLaws.{SectionHeadersAreRead}
 use Rattle.wild_layout.specs.Content.{file_content, content}
 use Rattle.wild_layout.specs.Image.{bytes}
-use Rattle.wild_names.specs.Laws.{said, side_symbols}
+use Rattle.wild_names.specs.Laws.{fields_of_entry, side_symbols}
 use Rattle.wild_names.specs.FieldLaws.{LocalSymbolsAreCounted}
 use Rattle.wild_names.proofs.ImageLemmas.{none_joined}
 use Rattle.wild_names.proofs.InfoLemmas.{section_is, size_is, offset_is, elsewhere, locals_told, info_of, header_at, header_in_image, info_read}
@@ -44,7 +44,7 @@ no_file_bytes : (l : Layout) (f : File) → file_content l role.SymtabLocal f �
 no_file_bytes l f = rw (nil_if (is_prelude f.role)) refl
 
 group_bytes_are : (l : Layout) (g : Group) → content l role.SymtabLocal g ≡ symbol_bytes (table_entries l true g)
-group_bytes_are l g = rw (none_joined (file_content l role.SymtabLocal) (laid_files l g) (no_file_bytes l)) refl
+group_bytes_are l g = rw (none_joined (file_content l role.SymtabLocal) (placed_files l g) (no_file_bytes l)) refl
 
 as_many_entries : LengthsOfSides → (l : Layout) (g : Group) → length (table_entries l true g) ≡ length (filter (is_side true) (group_table l g))
 unfolding table_entries
@@ -54,19 +54,19 @@ as_many_entries sides l g = sides true g.strtab_start (group_table l g)
 abbrev locals : Layout → Group → List NamedEntry
 locals l g = filter (is_side true) (group_table l g)
 
-group_room : LengthsOfSides → (l : Layout) (g : Group) → length (content l role.SymtabLocal g) ≡ 24 * length (map said (locals l g))
+group_room : LengthsOfSides → (l : Layout) (g : Group) → length (content l role.SymtabLocal g) ≡ 24 * length (map fields_of_entry (locals l g))
 group_room sides l g =
     let a = ap (λ (bs : List ℕ). length bs) (group_bytes_are l g) in
     let b = length-symbol_bytes (table_entries l true g) in
     let c = as_many_entries sides l g in
-    let d = length-map (locals l g) said in
+    let d = length-map (locals l g) fields_of_entry in
     omega (arith, a, b, c, d)
 
-all_room : LengthsOfSides → (l : Layout) (gs : List Group) → length (flat_map (content l role.SymtabLocal) gs) ≡ 24 * length (flat_map (λ (g : Group). map said (locals l g)) gs)
+all_room : LengthsOfSides → (l : Layout) (gs : List Group) → length (flat_map (content l role.SymtabLocal) gs) ≡ 24 * length (flat_map (λ (g : Group). map fields_of_entry (locals l g)) gs)
 all_room sides l [] = refl
 all_room sides l (g ∷ gs) =
     let a = length-append (content l role.SymtabLocal g) (flat_map (content l role.SymtabLocal) gs) in
-    let b = length-append (map said (locals l g)) (flat_map (λ (x : Group). map said (locals l x)) gs) in
+    let b = length-append (map fields_of_entry (locals l g)) (flat_map (λ (x : Group). map fields_of_entry (locals l x)) gs) in
     let c = group_room sides l g in
     let d = all_room sides l gs in
     omega (arith, a, b, c, d)
@@ -85,7 +85,7 @@ few_of_files l (f ∷ fs) =
     let c = few_of_files l fs in
     omega (arith, a, b, c)
 
-strings_laid : (l : Layout) (at : ℕ) (f : File) → table_strings l (laid_file l at f) ≡ table_strings l f
+strings_laid : (l : Layout) (at : ℕ) (f : File) → table_strings l (placed_file l at f) ≡ table_strings l f
 unfolding table_strings file_items
 strings_laid l at f = refl
 
@@ -108,7 +108,7 @@ no_sections l whole = rw whole refl
 -- outside relocatable objects each has
 file_named : (l : Layout) (f : File) → is_partial_link l.kind ≡ false → All HasName (file_table l f)
 file_named l f whole =
-    All-append HasName (null_entries l f) (map (named_entry l f) (file_items l f)) (front (has_table l && is_prelude f.role) (section_symbols l) (no_sections l whole))
+    All-append HasName (null_entries l f) (map (named_entry l f) (file_items l f)) (front (has_symtab l && is_prelude f.role) (section_symbols l) (no_sections l whole))
     (All-map HasName (named_entry l f) (file_items l f) (λ k d h. refl))
   where
     front : (b : Bool) (ks : List ℕ) → ks ≡ [] → All HasName (if b then null_entry ∷ map section_entry ks else [])
@@ -120,20 +120,20 @@ group_named : (l : Layout) (g : Group) → is_partial_link l.kind ≡ false → 
 unfolding group_table
 group_named l g whole = All-flat_map HasName (file_table l) g.files (λ k d h. file_named l (get_or g.files k d) whole)
 
-few_of_group : NamesOfGroups → (l : Layout) (g : Group) → is_partial_link l.kind ≡ false → length (map said (locals l g)) ≤ group_share l role.Strtab g
+few_of_group : NamesOfGroups → (l : Layout) (g : Group) → is_partial_link l.kind ≡ false → length (map fields_of_entry (locals l g)) ≤ group_share l role.Strtab g
 few_of_group names l g whole =
-    let a = length-map (locals l g) said in
+    let a = length-map (locals l g) fields_of_entry in
     let b = length-filter_both (is_side true) (λ (n : NamedEntry). not (is_side true n)) (λ _. refl) (group_table l g) in
     let c = named_each (group_table l g) (group_named l g whole) in
     let d = ap (λ (ss : List (List ℕ)). length ss) (names l g) in
-    let e = few_of_files l (laid_files l g) in
+    let e = few_of_files l (placed_files l g) in
     let same = ap (λ (ss : List (List ℕ)). length ss) (laid_same (table_strings l) l g (strings_laid l)) in
     omega (arith, a, b, c, d, e, same)
 
-few_of_groups : NamesOfGroups → (l : Layout) (gs : List Group) → is_partial_link l.kind ≡ false → length (flat_map (λ (g : Group). map said (locals l g)) gs) ≤ total (group_share l role.Strtab) gs
+few_of_groups : NamesOfGroups → (l : Layout) (gs : List Group) → is_partial_link l.kind ≡ false → length (flat_map (λ (g : Group). map fields_of_entry (locals l g)) gs) ≤ total (group_share l role.Strtab) gs
 few_of_groups names l [] whole = omega arith
 few_of_groups names l (g ∷ gs) whole =
-    let a = length-append (map said (locals l g)) (flat_map (λ (x : Group). map said (locals l x)) gs) in
+    let a = length-append (map fields_of_entry (locals l g)) (flat_map (λ (x : Group). map fields_of_entry (locals l x)) gs) in
     let b = few_of_group names l g whole in
     let c = few_of_groups names l gs whole in
     omega (arith, a, b, c)
@@ -151,7 +151,7 @@ few_locals names l laid few =
       | inr f ↦ (let a = few_of_groups names l l.groups f in let short = laid.table_strings in omega (arith, a, short))
     ]
 
-pub locals_are_counted : LengthsOfSides → NamesOfGroups → SectionHeadersStand → FieldsAreRead → LocalSymbolsAreCounted
+pub locals_are_counted : LengthsOfSides → NamesOfGroups → SectionHeadersAreRead → FieldsAreRead → LocalSymbolsAreCounted
 locals_are_counted sides names headers read l laid limit table part found there own =
     let lies = (laid.roles role.SymtabLocal (λ e. absurd (omega arith))).there table found in
     let whole : table.size ≡ 24 * length (side_symbols l true) = sym lies.size ∙ all_room sides l l.groups in
@@ -161,5 +161,5 @@ locals_are_counted sides names headers read l laid limit table part found there 
     let counted = locals_told l table.section told.0 (elsewhere role.Dynsym l.parts table.section own.some own.symbols) (elsewhere role.RelaPlt l.parts table.section own.some own.stubs) (section_is role.SymtabLocal l.parts table found) in
     let size : local_symbols l ≡ table.size / 24 = ap (λ (n : ℕ). n / 24) (size_is role.SymtabLocal l.parts table found) in
     let info : (header_at l table.section).info ≡ length (side_symbols l true) = count_told l (length (side_symbols l true)) table.size (header_at l table.section).info whole few (told.1 ∙ counted ∙ ap (λ (n : ℕ). n % 2 ^ 32) size) in
-    let here = subst (λ (n : ℕ). Stands (bytes l) (n + 64 * table.section) (spell (section_header_fields (header_at l table.section)))) (offset_is role.SectionHeaders l.parts part there) (header_in_image headers l laid table.section low) in
+    let here = subst (λ (n : ℕ). HasBytesAt (bytes l) (n + 64 * table.section) (spell (section_header_fields (header_at l table.section)))) (offset_is role.SectionHeaders l.parts part there) (header_in_image headers l laid table.section low) in
     info_read read (bytes l) (part.offset + 64 * table.section) (header_at l table.section) here (omega (arith, info, few)) ∙ info

@@ -2,10 +2,10 @@
 use Rattle.std.proofs.Common.{◌≡◌, ℕ, zero, suc, ◌+◌, ◌*◌, ◌%◌, ◌^◌, ◌<◌, ◌≤◌, inl, inr, ◌==◌, Bool, true, false, if◌then◌else◌, List, [], ◌∷◌, length, get_or, Option, Some, None, refl, sym, ap, ◌∙◌, arith, subst}
 use Rattle.std.proofs.lemmas.Bool.{cases_Bool, eq-eqb, ne_eqb}
 use Rattle.std.proofs.lemmas.Option.{same_Some}
-use Rattle.wild_words.specs.Words.{Stands}
+use Rattle.wild_words.specs.Words.{HasBytesAt}
 use Rattle.wild_words.specs.Record.{spell, FieldsAreRead}
-use Rattle.wild_words.specs.Overlay.{AreApart}
-use Rattle.wild_words.proofs.OverlayLemmas.{Stands-overlay, Stands-inner}
+use Rattle.wild_words.specs.Overlay.{AreDisjoint}
+use Rattle.wild_words.proofs.OverlayLemmas.{HasBytesAt-overlay, HasBytesAt-inner}
 use Rattle.wild_records.specs.SectionHeader.{section_header_fields, section_header_at}
 use Rattle.wild_records.specs.declared.section_header.SectionHeader.{SectionHeader}
 use Rattle.wild_types.specs.declared.part.Part.{Part}
@@ -14,9 +14,9 @@ use Rattle.wild_types.specs.declared.part.Role.TheVariants as role
 use Rattle.wild_types.specs.declared.section.Section.{Section}
 use Rattle.wild_types.specs.declared.layout.Layout.{Layout}
 use Rattle.wild_types.specs.Parts.{has_role, part_with}
-use Rattle.wild_headers.specs.Headers.{offset_of_role, section_of_role, size_of_role, null_header, local_symbols, told_of, info_at, section_header, headers_from, section_headers_of, section_header_bytes}
-use Rattle.wild_headers.specs.Laws.{SectionHeadersStand}
-use Rattle.wild_headers.proofs.HeaderLemmas.{length-section_header}
+use Rattle.wild_table_formats.specs.Headers.{offset_of_role, section_of_role, size_of_role, null_header, local_symbols, computed_infos, info_at, section_header, headers_from, section_headers_of, section_header_bytes}
+use Rattle.wild_table_formats.specs.HeaderLaws.{SectionHeadersAreRead}
+use Rattle.wild_table_formats.proofs.HeaderLemmas.{length-section_header}
 use Rattle.wild_layout.specs.Geometry.{IsLaidOut}
 use Rattle.wild_layout.specs.Image.{bytes, pieces, padding}
 use Rattle.wild_layout.proofs.LayoutLemmas.{length-padding}
@@ -69,52 +69,52 @@ third : (a b c : Bool) (x y z w : ℕ) → a ≡ false → b ≡ false → c ≡
 third a b c x y z w p q r = rw (p, q, r) refl
 
 -- of that of the local symbols how many there are, where it is that of neither the dynamic symbols nor the entries of stubs
-pub locals_told : (l : Layout) (k given : ℕ) → (section_of_role role.Dynsym l.parts ≡ k → ⊥) → (section_of_role role.RelaPlt l.parts ≡ k → ⊥) → section_of_role role.SymtabLocal l.parts ≡ k → info_at (told_of l) k given ≡ local_symbols l % 2 ^ 32
-unfolding told_of
+pub locals_told : (l : Layout) (k given : ℕ) → (section_of_role role.Dynsym l.parts ≡ k → ⊥) → (section_of_role role.RelaPlt l.parts ≡ k → ⊥) → section_of_role role.SymtabLocal l.parts ≡ k → info_at (computed_infos l) k given ≡ local_symbols l % 2 ^ 32
+unfolding computed_infos
 locals_told l k given a b c =
     third (k == section_of_role role.Dynsym l.parts) (k == section_of_role role.RelaPlt l.parts) (k == section_of_role role.SymtabLocal l.parts) 1 (section_of_role role.Got l.parts % 2 ^ 32) (local_symbols l % 2 ^ 32) _
     (ne_eqb k (section_of_role role.Dynsym l.parts) (λ e. a (sym e))) (ne_eqb k (section_of_role role.RelaPlt l.parts) (λ e. b (sym e))) (eq-eqb k (section_of_role role.SymtabLocal l.parts) (sym c))
 
 -- the header of section k tells what is told of it, or what the layout gives
-info_from : (l : Layout) (i name : ℕ) (ss : List Section) (k : ℕ) (h : SectionHeader) → k < length ss → (given : ℕ) × ((get_or (headers_from l (told_of l) i name ss) k h).info ≡ info_at (told_of l) (i + k) given)
+info_from : (l : Layout) (i name : ℕ) (ss : List Section) (k : ℕ) (h : SectionHeader) → k < length ss → (given : ℕ) × ((get_or (headers_from l (computed_infos l) i name ss) k h).info ≡ info_at (computed_infos l) (i + k) given)
 unfolding section_header
 info_from l i name [] k h low = absurd (omega (arith, low))
 info_from l i name (s ∷ ss) zero h low =
     let z : i ≡ i + 0 = omega arith in
-    (s.info, ap (λ (n : ℕ). info_at (told_of l) n s.info) z)
+    (s.info, ap (λ (n : ℕ). info_at (computed_infos l) n s.info) z)
 info_from l i name (s ∷ ss) (suc k) h low =
     let rest = info_from l (i + 1) (name + length s.name + 1) ss k h (omega (arith, low)) in
     let z : i + 1 + k ≡ i + suc k = omega arith in
-    (rest.0, rest.1 ∙ ap (λ (n : ℕ). info_at (told_of l) n rest.0) z)
+    (rest.0, rest.1 ∙ ap (λ (n : ℕ). info_at (computed_infos l) n rest.0) z)
 
-pub info_of : (l : Layout) (ss : List Section) (k : ℕ) (h : SectionHeader) → 1 ≤ k → k < length ss → (given : ℕ) × ((get_or (section_headers_of l ss) k h).info ≡ info_at (told_of l) k given)
+pub info_of : (l : Layout) (ss : List Section) (k : ℕ) (h : SectionHeader) → 1 ≤ k → k < length ss → (given : ℕ) × ((get_or (section_headers_of l ss) k h).info ≡ info_at (computed_infos l) k given)
 info_of l [] k h some low = absurd (omega (arith, low))
 info_of l (s ∷ ss) zero h some low = absurd (omega (arith, some))
 info_of l (s ∷ ss) (suc k) h some low =
     let rest = info_from l 1 (length s.name + 1) ss k h (omega (arith, low)) in
     let z : 1 + k ≡ suc k = omega arith in
-    (rest.0, rest.1 ∙ ap (λ (n : ℕ). info_at (told_of l) n rest.0) z)
+    (rest.0, rest.1 ∙ ap (λ (n : ℕ). info_at (computed_infos l) n rest.0) z)
 
 -- ---- the image
 
-headers_in_image : (l : Layout) → IsLaidOut l → 1 ≤ length (section_header_bytes l) → Stands (bytes l) (offset_of_role role.SectionHeaders l.parts) (section_header_bytes l)
+headers_in_image : (l : Layout) → IsLaidOut l → 1 ≤ length (section_header_bytes l) → HasBytesAt (bytes l) (offset_of_role role.SectionHeaders l.parts) (section_header_bytes l)
 unfolding bytes
 headers_in_image l laid some =
-    let apart = subst (λ (n : ℕ). AreApart n (pieces l)) (sym (length-padding l)) laid.owners in
-    Stands-overlay (record { at = offset_of_role role.SectionHeaders l.parts; bytes = section_header_bytes l }) (pieces l) (padding l) apart (laid.tables.section_headers.listed some)
+    let apart = subst (λ (n : ℕ). AreDisjoint n (pieces l)) (sym (length-padding l)) laid.owners in
+    HasBytesAt-overlay (record { at = offset_of_role role.SectionHeaders l.parts; bytes = section_header_bytes l }) (pieces l) (padding l) apart (laid.tables.section_headers.listed some)
 
 -- section header k
 abbrev pub header_at : Layout → ℕ → SectionHeader
 header_at l k = get_or (section_headers_of l l.sections) k (null_header l)
 
-pub header_in_image : SectionHeadersStand → (l : Layout) → IsLaidOut l → (k : ℕ) → k < length l.sections → Stands (bytes l) (offset_of_role role.SectionHeaders l.parts + 64 * k) (spell (section_header_fields (header_at l k)))
+pub header_in_image : SectionHeadersAreRead → (l : Layout) → IsLaidOut l → (k : ℕ) → k < length l.sections → HasBytesAt (bytes l) (offset_of_role role.SectionHeaders l.parts + 64 * k) (spell (section_header_fields (header_at l k)))
 header_in_image stand l laid k low =
     let here = stand l k (null_header l) low in
     let long = length-section_header (header_at l k) in
     let ends = here.fits in
-    Stands-inner (bytes l) (section_header_bytes l) (spell (section_header_fields (header_at l k))) (offset_of_role role.SectionHeaders l.parts) (64 * k) (headers_in_image l laid (omega (arith, long, ends))) here
+    HasBytesAt-inner (bytes l) (section_header_bytes l) (spell (section_header_fields (header_at l k))) (offset_of_role role.SectionHeaders l.parts) (64 * k) (headers_in_image l laid (omega (arith, long, ends))) here
 
 -- sh_info of a header that stands is read
-pub info_read : FieldsAreRead → (whole : List ℕ) (at : ℕ) (h : SectionHeader) → Stands whole at (spell (section_header_fields h)) → h.info < 2 ^ 32 → (section_header_at whole at).info ≡ h.info
+pub info_read : FieldsAreRead → (whole : List ℕ) (at : ℕ) (h : SectionHeader) → HasBytesAt whole at (spell (section_header_fields h)) → h.info < 2 ^ 32 → (section_header_at whole at).info ≡ h.info
 unfolding section_header_fields section_header_at
 info_read read whole at h st small = read whole at (section_header_fields h) 7 st (omega arith) small

@@ -29,3 +29,11 @@ pub mod NoteBytes
 pub mod NumberedLemmas
 pub mod FoundParts
 pub mod LookUps
+pub mod PlaceLemmas
+pub mod ObjectSymbols
+pub mod OwnSymbols
+pub mod EntryValues
+pub mod Relinked
+pub mod ObjectTables
+pub mod NamedLemmas
+pub mod EntryVersions

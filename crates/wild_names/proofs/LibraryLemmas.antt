@@ -1,8 +1,8 @@
 -- The entries of libraries, and the names that they tell.
 use Rattle.std.proofs.Common.{◌≡◌, ℕ, inl, inr, Bool, true, if◌then◌else◌, List, [], ◌∷◌, ◌++◌, filter, flat_map, refl, sym, ap, ◌∙◌, subst}
 use Rattle.std.proofs.lemmas.Bool.{cases_Bool}
-use Rattle.wild_words.specs.Words.{Stands}
-use Rattle.wild_words.proofs.RecordLemmas.{Stands-front}
+use Rattle.wild_words.specs.Words.{HasBytesAt}
+use Rattle.wild_words.proofs.RecordLemmas.{HasBytesAt-front}
 use Rattle.wild_records.specs.Abi.Dynamic.{dt_needed}
 use Rattle.wild_records.specs.declared.dynamic.DynamicEntry.{DynamicEntry}
 use Rattle.wild_types.specs.declared.part.Role.TheVariants as role
@@ -10,13 +10,13 @@ use Rattle.wild_types.specs.declared.file.FileRole.TheVariants as file_role
 use Rattle.wild_types.specs.declared.file.File.{File}
 use Rattle.wild_types.specs.declared.file.Group.{Group}
 use Rattle.wild_types.specs.declared.layout.Layout.{Layout}
-use Rattle.wild_needs.specs.DynamicStrings.{behind_file, lead_strings, entry_names, file_strings, needed_of, needed_from, needed_entries}
+use Rattle.wild_needs.specs.DynamicStrings.{next_dynstr, dynstr_prefix_strings, entry_names, file_strings, needed_of, needed_from, needed_entries}
 use Rattle.wild_types.specs.FileRoles.{is_library}
 use Rattle.wild_types.specs.Kinds.{needs_dynamic}
 use Rattle.wild_types.specs.Lookups.{files_of}
 use Rattle.wild_types.proofs.FileLemmas.{library_role}
 use Rattle.wild_needs.specs.Versions.{version_names}
-use Rattle.wild_symbols.specs.Strings.{string, string_bytes}
+use Rattle.wild_table_formats.specs.Strings.{string, string_bytes}
 use Rattle.wild_layout.specs.TablePlaces.{table_bytes, all_needed}
 use Rattle.wild_layout.specs.Geometry.{IsLaidOut}
 use Rattle.wild_names.specs.Laws.{libraries}
@@ -27,13 +27,13 @@ use Rattle.wild_names.proofs.RunLemmas.{strings_of, gathered, files_belong, grou
 pub record NamesLibrary (strings : List ℕ) (d : DynamicEntry) (f : File) : Type 0 where
   pub at : ℕ
   pub is : d ≡ record { tag = dt_needed; value = at }
-  pub stands : Stands strings at (string f.lib_name)
+  pub stands : HasBytesAt strings at (string f.lib_name)
 
 -- the file, where it is a library
 abbrev library_of : File → List File
 library_of f = if is_library f.role then f ∷ [] else []
 
-leads : (l : Layout) (f : File) → f.role ≡ file_role.Dynamic → lead_strings l f ≡ f.lib_name ∷ []
+leads : (l : Layout) (f : File) → f.role ≡ file_role.Dynamic → dynstr_prefix_strings l f ≡ f.lib_name ∷ []
 leads l f h = rw h refl
 
 -- the strings behind those in front
@@ -45,14 +45,14 @@ name_first : (l : Layout) (f : File) → needs_dynamic l.kind ≡ true → is_li
 unfolding file_strings
 name_first l f needs h =
     let e = leads l f (library_role f.role h) in
-    let P : Bool → Type 0 = λ b. string_bytes (if b then lead_strings l f ++ behind l f else []) ≡ string f.lib_name ++ string_bytes (behind l f) in
+    let P : Bool → Type 0 = λ b. string_bytes (if b then dynstr_prefix_strings l f ++ behind l f else []) ≡ string f.lib_name ++ string_bytes (behind l f) in
     subst P (sym needs) (ap (λ (ss : List (List ℕ)). string_bytes (ss ++ behind l f)) e)
 
-file_belongs : (l : Layout) (whole : List ℕ) → needs_dynamic l.kind ≡ true → (at : ℕ) (f : File) → Stands whole at (strings_of l f) → Belong (NamesLibrary whole) (needed_of at f) (library_of f)
+file_belongs : (l : Layout) (whole : List ℕ) → needs_dynamic l.kind ≡ true → (at : ℕ) (f : File) → HasBytesAt whole at (strings_of l f) → Belong (NamesLibrary whole) (needed_of at f) (library_of f)
 file_belongs l whole needs at f s =
     elim (cases_Bool (is_library f.role)) [
       | inl t ↦ rw t (record {
-        first = record { at = at; is = refl; stands = Stands-front whole (string f.lib_name) (string_bytes (behind l f)) at (subst (λ (bs : List ℕ). Stands whole at bs) (name_first l f needs t) s) };
+        first = record { at = at; is = refl; stands = HasBytesAt-front whole (string f.lib_name) (string_bytes (behind l f)) at (subst (λ (bs : List ℕ). HasBytesAt whole at bs) (name_first l f needs t) s) };
         rest = tt;
       })
       | inr n ↦ rw n tt
@@ -62,7 +62,7 @@ file_belongs l whole needs at f s =
 
 needed_is_gathered : (l : Layout) (at : ℕ) (fs : List File) → gathered needed_of l at fs ≡ needed_from l at fs
 needed_is_gathered l at [] = refl
-needed_is_gathered l at (f ∷ fs) = ap (λ (ds : List DynamicEntry). needed_of at f ++ ds) (needed_is_gathered l (behind_file l at f) fs)
+needed_is_gathered l at (f ∷ fs) = ap (λ (ds : List DynamicEntry). needed_of at f ++ ds) (needed_is_gathered l (next_dynstr l at f) fs)
 
 needed_of_group : (l : Layout) (g : Group) → needs_dynamic l.kind ≡ true → gathered needed_of l g.dynstr_start g.files ≡ needed_entries l g
 unfolding needed_entries

@@ -1,6 +1,6 @@
 -- Look-ups in the image of a layout without faults.
 use Rattle.std.proofs.Common.{◌≡◌, ℕ, ◌≤◌, false, List, length, map, Some, None, Ok, refl, sym, ap, arith, subst, add-zero}
-use Rattle.wild_words.specs.Words.{Stands, word}
+use Rattle.wild_words.specs.Words.{HasBytesAt, word}
 use Rattle.wild_records.specs.Abi.Dynamic.{dt_hash, dt_gnu_hash}
 use Rattle.wild_records.specs.HashTables.{gnu_hash_header_fields, GnuHashHeaderFits}
 use Rattle.wild_records.specs.declared.hash_tables.GnuHashHeader.{GnuHashHeader}
@@ -9,17 +9,17 @@ use Rattle.wild_types.specs.declared.part.Role.{Role}
 use Rattle.wild_types.specs.declared.part.Role.TheVariants as role
 use Rattle.wild_types.specs.declared.layout.Layout.{Layout}
 use Rattle.wild_needs.specs.DynamicSymbols.{first_listed}
-use Rattle.wild_types.specs.Lookups.{is_hollow_at}
+use Rattle.wild_types.specs.Lookups.{is_header_only_at}
 use Rattle.wild_types.specs.Parts.{role_place, part_with}
 use Rattle.wild_types.proofs.LookupLemmas.{not_hollow_at}
 use Rattle.wild_layout.specs.TablePlaces.{table_bytes}
 use Rattle.wild_layout.specs.Geometry.{IsLaidOut, TablesStand}
 use Rattle.wild_layout.specs.Image.{bytes}
-use Rattle.wild_hashes.specs.Image.{bytes_of, bytes_if, gnu_lookup_in, sysv_lookup_in, tables_of}
+use Rattle.wild_hashes.specs.Image.{bytes_of, bytes_or_none, gnu_lookup_in, sysv_lookup_in, tables_of}
 use Rattle.wild_hashes.specs.Laws.{AreNumbered, first_named, names_of, NeighboursAscend, GnuLookUpInImagesFindsTheFirst, SysvLookUpInImagesFindsTheFirst}
 use Rattle.wild_hashes.specs.Tables.{sysv_hash_of, gnu_hash_of, gnu_header, gnu_table, sysv_table, words}
-use Rattle.wild_names.specs.Below.{ImageLaws, NameLaws}
-use Rattle.wild_names.specs.LookUpLaws.{found, SysvLookUpsFind, GnuLookUpsFind, LookUpsWithoutTable}
+use Rattle.wild_names.specs.LowerLaws.{ImageLaws, NameLaws}
+use Rattle.wild_names.specs.LookUpLaws.{first_with_name, SysvLookUpsFind, GnuLookUpsFind, LookUpsWithoutTable}
 use Rattle.wild_names.proofs.FoundParts.{is_read, HasParts, has_parts, no_parts, sysv_told, gnu_told}
 use Rattle.wild_names.proofs.HashBytes.{sysv_stands, gnu_stands}
 use Rattle.wild_names.proofs.PartBytes.{stands_cut}
@@ -36,18 +36,18 @@ unfolding gnu_table gnu_hash_header_fields word
 some_gnu t hs = omega arith
 
 -- a table that stands in the image stands in the part that a look-up finds
-table_stands : (l : Layout) (r : Role) (tag : ℕ) (p : Part) (table : List ℕ) → TablesStand → IsLaidOut l → (role_place r ≡ 0 → ⊥) → part_with r l.parts ≡ Some p → is_hollow_at l p.section ≡ false → 1 ≤ p.size → table_bytes l r ≡ table → (parts : HasParts l tag p) → Stands (bytes_of (bytes l) parts.parts.hashes) 0 table
-table_stands l r tag p table stand laid loaded found written some is parts =
-    let here = subst (λ (bs : List ℕ). Stands (bytes l) p.offset bs) is (stand l laid r loaded p found written some) in
-    let there = subst (λ (n : ℕ). Stands (bytes l) n table) (sym (add-zero p.offset)) here in
-    let size = ((laid.roles r loaded).there p found).size in
+table_stands : (l : Layout) (r : Role) (tag : ℕ) (p : Part) (table : List ℕ) → TablesStand → IsLaidOut l → (role_place r ≡ 0 → ⊥) → part_with r l.parts ≡ Some p → is_header_only_at l p.section ≡ false → 1 ≤ p.size → table_bytes l r ≡ table → (parts : HasParts l tag p) → HasBytesAt (bytes_of (bytes l) parts.parts.hashes) 0 table
+table_stands l r tag p table stand laid loaded first_with_name written some is parts =
+    let here = subst (λ (bs : List ℕ). HasBytesAt (bytes l) p.offset bs) is (stand l laid r loaded p first_with_name written some) in
+    let there = subst (λ (n : ℕ). HasBytesAt (bytes l) n table) (sym (add-zero p.offset)) here in
+    let size = ((laid.roles r loaded).there p first_with_name).size in
     let same = ap (λ (bs : List ℕ). length bs) is in
     let room = parts.room in
     stands_cut (bytes l) table parts.parts.hashes p.offset 0 parts.start (omega (arith, size, same, room)) there
 
 filled : (l : Layout) (r : Role) (p : Part) (table : List ℕ) → IsLaidOut l → (role_place r ≡ 0 → ⊥) → part_with r l.parts ≡ Some p → table_bytes l r ≡ table → 1 ≤ length table → 1 ≤ p.size
-filled l r p table laid loaded found is some =
-    let size = ((laid.roles r loaded).there p found).size in
+filled l r p table laid loaded first_with_name is some =
+    let size = ((laid.roles r loaded).there p first_with_name).size in
     let same = ap (λ (bs : List ℕ). length bs) is in
     omega (arith, size, same, some)
 
@@ -77,8 +77,8 @@ gnu_found laws names ascend law = λ l h p name w shape there.
     let stands = table_stands l role.GnuHash dt_gnu_hash p table laws.stand laid (λ e. cc) there (not_hollow_at l p.section w.keeps) some is parts in
     let fits = laid.hashes.gnu h shape in
     let base = fits.base in
-    let symbols = bytes_if (bytes l) parts.parts.symbols in
-    let strings = bytes_if (bytes l) parts.parts.strings in
+    let symbols = bytes_or_none (bytes l) parts.parts.symbols in
+    let strings = bytes_or_none (bytes l) parts.parts.strings in
     let numbered = subst (λ (b : ℕ). AreNumbered symbols strings b l.dynsyms) (sym base) parts.numbered in
     let numbers = w.numbers.gnu h shape in
     let header : GnuHashHeaderFits (gnu_header h) = record { bucket_count = numbers.buckets; symbol_base = numbers.base; bloom_count = numbers.bloom_count; bloom_shift = numbers.bloom_shift } in

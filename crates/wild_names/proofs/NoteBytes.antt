@@ -3,7 +3,7 @@ use Rattle.std.proofs.Common.{◌≡◌, ℕ, ◌≤◌, Bool, true, false, if�
 use Rattle.std.specs.Prelude.{Some}
 use Rattle.std.specs.List.{flat_map}
 use Rattle.std.proofs.lemmas.List.{append-nil}
-use Rattle.wild_words.specs.Words.{Stands}
+use Rattle.wild_words.specs.Words.{HasBytesAt}
 use Rattle.wild_words.proofs.ListLemmas.{flat_map-same}
 use Rattle.wild_types.specs.declared.part.Part.{Part}
 use Rattle.wild_types.specs.declared.part.Role.{Role}
@@ -14,16 +14,16 @@ use Rattle.wild_types.specs.declared.layout.Layout.{Layout}
 use Rattle.wild_types.specs.FileRoles.{is_prelude, is_epilogue}
 use Rattle.wild_types.specs.Parts.{part_with, role_place}
 use Rattle.wild_frames.specs.Table.{table_of}
-use Rattle.wild_laid.specs.Laid.{laid_files}
+use Rattle.wild_placement.specs.PlacedSections.{placed_files}
 use Rattle.wild_layout.specs.Content.{content, file_content}
 use Rattle.wild_layout.specs.Image.{bytes}
 use Rattle.wild_layout.specs.Notes.{build_id_note, property_note}
 use Rattle.wild_layout.specs.SearchTable.{address_of_role, layout_fdes, search_table}
 use Rattle.wild_layout.specs.TablePlaces.{table_bytes}
 use Rattle.wild_layout.specs.Geometry.{IsLaidOut, TablesStand}
-use Rattle.wild_geometry.proofs.StoodSections.{laid_same, laid_same_all}
+use Rattle.wild_geometry.proofs.PlacedInputs.{laid_same, laid_same_all}
 use Rattle.wild_loaded.proofs.FirstFile.{once, stands_once}
-use Rattle.wild_names.specs.NoteLaws.{HoldsJust, NotesStand, SearchTablesStand}
+use Rattle.wild_names.specs.NoteLaws.{HoldsJust, NotesAreWritten, SearchTablesAreWritten}
 use Rattle.wild_names.proofs.HashBytes.{GivenByLast, in_groups}
 
 -- ---- what the first file gives
@@ -33,17 +33,17 @@ only_front true xs = append-nil ((xs ++ []) ++ []) ∙ append-nil (xs ++ []) ∙
 only_front false xs = refl
 
 -- the bytes of a table that the first file alone gives
-by_first : (l : Layout) (r : Role) (bs : List ℕ) → IsLaidOut l → ((g : Group) → content l r g ≡ flat_map (file_content l r) (laid_files l g)) → ((f : File) → file_content l r f ≡ once bs f) → table_bytes l r ≡ bs
+by_first : (l : Layout) (r : Role) (bs : List ℕ) → IsLaidOut l → ((g : Group) → content l r g ≡ flat_map (file_content l r) (placed_files l g)) → ((f : File) → file_content l r f ≡ once bs f) → table_bytes l r ≡ bs
 by_first l r bs laid group each =
-    flat_map-same (content l r) (λ (g : Group). flat_map (once bs) (laid_files l g)) l.groups (λ g. group g ∙ flat_map-same (file_content l r) (once bs) (laid_files l g) each)
+    flat_map-same (content l r) (λ (g : Group). flat_map (once bs) (placed_files l g)) l.groups (λ g. group g ∙ flat_map-same (file_content l r) (once bs) (placed_files l g) each)
     ∙ laid_same_all (once bs) l (λ at f. refl)
     ∙ stands_once bs l.groups laid.some_group laid.files
 
 interpreter_bytes : (l : Layout) → IsLaidOut l → table_bytes l role.Interp ≡ l.interp
-interpreter_bytes l laid = by_first l role.Interp l.interp laid (λ g. append-nil (flat_map (file_content l role.Interp) (laid_files l g))) (λ f. only_front (is_prelude f.role) l.interp)
+interpreter_bytes l laid = by_first l role.Interp l.interp laid (λ g. append-nil (flat_map (file_content l role.Interp) (placed_files l g))) (λ f. only_front (is_prelude f.role) l.interp)
 
 search_bytes : (l : Layout) → IsLaidOut l → table_bytes l role.EhFrameHdr ≡ search_table l
-search_bytes l laid = by_first l role.EhFrameHdr (search_table l) laid (λ g. append-nil (flat_map (file_content l role.EhFrameHdr) (laid_files l g))) (λ f. only_front (is_prelude f.role) (search_table l))
+search_bytes l laid = by_first l role.EhFrameHdr (search_table l) laid (λ g. append-nil (flat_map (file_content l role.EhFrameHdr) (placed_files l g))) (λ f. only_front (is_prelude f.role) (search_table l))
 
 -- ---- what the last file gives
 
@@ -57,22 +57,22 @@ by_last l r bs laid group each = in_groups (content l r) (file_content l r) bs t
 build_id_bytes : (l : Layout) → IsLaidOut l → table_bytes l role.BuildId ≡ build_id_note l.build_id
 build_id_bytes l laid =
     by_last l role.BuildId (build_id_note l.build_id) laid
-    (λ g. append-nil (flat_map (file_content l role.BuildId) (laid_files l g)) ∙ laid_same (file_content l role.BuildId) l g (λ at f. refl))
+    (λ g. append-nil (flat_map (file_content l role.BuildId) (placed_files l g)) ∙ laid_same (file_content l role.BuildId) l g (λ at f. refl))
     (λ f. behind_all (is_prelude f.role) (if is_epilogue f.role then build_id_note l.build_id else []))
 
 property_bytes : (l : Layout) → IsLaidOut l → table_bytes l role.Property ≡ property_note l.properties
 property_bytes l laid =
     by_last l role.Property (property_note l.properties) laid
-    (λ g. append-nil (flat_map (file_content l role.Property) (laid_files l g)) ∙ laid_same (file_content l role.Property) l g (λ at f. refl))
+    (λ g. append-nil (flat_map (file_content l role.Property) (placed_files l g)) ∙ laid_same (file_content l role.Property) l g (λ at f. refl))
     (λ f. behind_all (is_prelude f.role) (if is_epilogue f.role then property_note l.properties else []))
 
 -- ---- where they stand
 
 holds_just : TablesStand → (l : Layout) (r : Role) (bs : List ℕ) → IsLaidOut l → (role_place r ≡ 0 → ⊥) → table_bytes l r ≡ bs → HoldsJust l r bs
 holds_just stands l r bs laid placed is = λ p there written some.
-    (ap (λ (xs : List ℕ). length xs) (sym is) ∙ ((laid.roles r placed).there p there).size, subst (λ (xs : List ℕ). Stands (bytes l) p.offset xs) is (stands l laid r placed p there written some))
+    (ap (λ (xs : List ℕ). length xs) (sym is) ∙ ((laid.roles r placed).there p there).size, subst (λ (xs : List ℕ). HasBytesAt (bytes l) p.offset xs) is (stands l laid r placed p there written some))
 
-pub notes_there : TablesStand → NotesStand
+pub notes_there : TablesStand → NotesAreWritten
 notes_there stands = record {
   interpreter = λ l laid. holds_just stands l role.Interp l.interp laid (λ e. cc) (interpreter_bytes l laid);
   build_id = λ l laid. holds_just stands l role.BuildId (build_id_note l.build_id) laid (λ e. cc) (build_id_bytes l laid);
@@ -83,5 +83,5 @@ asked : (l : Layout) → l.options.eh_frame_hdr ≡ true → search_table l ≡ 
 unfolding search_table
 asked l e = rw e refl
 
-pub search_there : TablesStand → SearchTablesStand
+pub search_there : TablesStand → SearchTablesAreWritten
 search_there stands = λ l laid e. holds_just stands l role.EhFrameHdr (table_of (address_of_role l role.EhFrameHdr) (address_of_role l role.EhFrame) (layout_fdes l)) laid (λ z. cc) (search_bytes l laid ∙ asked l e)

@@ -4,9 +4,9 @@ use Rattle.std.specs.Prelude.{slice_index_or}
 use Rattle.std.proofs.lemmas.Bool.{cases_Bool}
 use Rattle.std.proofs.lemmas.List.{length-append, length-map}
 use Rattle.std.proofs.lemmas.List.Elements.{All-head, All-tail}
-use Rattle.wild_words.specs.Words.{Stands, word}
+use Rattle.wild_words.specs.Words.{HasBytesAt, word}
 use Rattle.wild_words.specs.Record.{spell}
-use Rattle.wild_words.proofs.RecordLemmas.{length-spell, number-stands, Stands-field_at}
+use Rattle.wild_words.proofs.RecordLemmas.{length-spell, number-stands, HasBytesAt-field_at}
 use Rattle.wild_records.specs.SymtabEntry.{symtab_entry_fields, symtab_entry_at, symtab_entry_size}
 use Rattle.wild_records.specs.declared.symtab_entry.SymtabEntry.{SymtabEntry}
 use Rattle.wild_types.specs.declared.file.File.{File}
@@ -17,7 +17,7 @@ use Rattle.wild_types.specs.FileSymbols.{range_of}
 use Rattle.wild_needs.specs.DynamicStrings.{undefined_symbols}
 use Rattle.wild_needs.specs.DynamicSymbols.{places_where, is_undefined_entry, undefined_in, undefined_entries, dynamic_symbols, listed as indexes_of, first_listed}
 use Rattle.wild_types.specs.Lookups.{files_of}
-use Rattle.wild_symbols.specs.DynamicEntries.{NamedFields, listed, undefined, entry_at}
+use Rattle.wild_table_formats.specs.DynamicEntries.{NamedFields, listed, undefined, entry_at}
 use Rattle.wild_layout.specs.Image.{bytes}
 use Rattle.wild_hashes.specs.declared.image.Part.{Part as Found}
 use Rattle.wild_hashes.specs.Image.{bytes_of}
@@ -79,11 +79,11 @@ behind (x ∷ xs) ys k = (let z : suc (length xs) + k ≡ suc (length xs + k) = 
 
 -- ---- its entry
 
-told_name : (symbols : List ℕ) (at : ℕ) (e : SymtabEntry) → e.name < 2 ^ 32 → Stands symbols at (spell (symtab_entry_fields e)) → (symtab_entry_at symbols at).name ≡ e.name
+told_name : (symbols : List ℕ) (at : ℕ) (e : SymtabEntry) → e.name < 2 ^ 32 → HasBytesAt symbols at (spell (symtab_entry_fields e)) → (symtab_entry_at symbols at).name ≡ e.name
 unfolding symtab_entry_fields symtab_entry_at
 told_name symbols at e small st =
-    let field : Stands symbols (at + 0) (word 4 e.name) = Stands-field_at symbols at (symtab_entry_fields e) 0 st (omega arith) in
-    number-stands symbols at 4 e.name (subst (λ (n : ℕ). Stands symbols n (word 4 e.name)) (add-zero at) field) small
+    let field : HasBytesAt symbols (at + 0) (word 4 e.name) = HasBytesAt-field_at symbols at (symtab_entry_fields e) 0 st (omega arith) in
+    number-stands symbols at 4 e.name (subst (λ (n : ℕ). HasBytesAt symbols n (word 4 e.name)) (add-zero at) field) small
 
 entry_length : (e : SymtabEntry) → length (spell (symtab_entry_fields e)) ≡ symtab_entry_size
 unfolding symtab_entry_fields
@@ -114,7 +114,7 @@ named_at l table strings f g i n found room h whole =
     let there = stands_cut (bytes l) text g strings.offset h.at found.strings_start (omega (arith, within, holds, long)) h.name.stands in
     record {
       inside = omega (arith, inside, size);
-      named = subst (λ (at : ℕ). Stands (bytes_of (bytes l) g) at text) (sym told) there;
+      named = subst (λ (at : ℕ). HasBytesAt (bytes_of (bytes l) g) at text) (sym told) there;
       no_zero = whole;
     }
 

@@ -3,11 +3,11 @@ use Rattle.std.proofs.Common.{◌≡◌, ◌≤◌, true, List, [], ◌∷◌, �
 use Rattle.std.proofs.lemmas.List.{map-append}
 use Rattle.wild_types.specs.declared.file.File.{File}
 use Rattle.wild_types.specs.declared.layout.Layout.{Layout}
-use Rattle.wild_types.specs.FilePlaces.{file_misplaced}
+use Rattle.wild_types.specs.FilePlaces.{first_misplaced_file}
 use Rattle.wild_needs.specs.DynamicStrings.{undefined_symbols}
 use Rattle.wild_types.specs.FileRoles.{is_epilogue}
 use Rattle.wild_types.specs.Lookups.{files_of}
-use Rattle.wild_symbols.specs.DynamicEntries.{NamedFields, listed, undefined}
+use Rattle.wild_table_formats.specs.DynamicEntries.{NamedFields, listed, undefined}
 use Rattle.wild_names.specs.Laws.{table_symbols}
 use Rattle.wild_names.proofs.ListOrder.{InOrder, all_in_order, last_defines_none}
 use Rattle.wild_names.proofs.SymbolLemmas.{file_items}
@@ -42,7 +42,7 @@ own_joined l [] = refl
 own_joined l (f ∷ fs) = ap (λ (ys : List (Option NamedFields)). map Some (own l f) ++ ys) (own_joined l fs) ∙ sym (map-append Some (own l f) (flat_map (own l) fs))
 
 -- the first entry is of no symbol, and behind it stand the symbols of the table
-pub items_of_all : (l : Layout) → 1 ≤ length l.groups → file_misplaced true 0 l.groups ≡ None → flat_map (file_items l) (files_of l.groups) ≡ None ∷ map Some (table_symbols l)
+pub items_of_all : (l : Layout) → 1 ≤ length l.groups → first_misplaced_file true 0 l.groups ≡ None → flat_map (file_items l) (files_of l.groups) ≡ None ∷ map Some (table_symbols l)
 unfolding in_order
 items_of_all l some h =
     let fs = files_of l.groups in

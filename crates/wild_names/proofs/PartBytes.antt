@@ -3,14 +3,14 @@ use Rattle.std.proofs.Common.{◌≡◌, ℕ, zero, suc, ◌+◌, ◌-◌, ◌<�
 use Rattle.std.specs.Prelude.{AllPairs, ◌&&◌, ◌==◌, nat_lt, nat_le, slice_index, Ok}
 use Rattle.std.proofs.lemmas.Bool.{cases_Bool, eqb-true, le-leb, lt-ltb, le-ltb, and_right, and_left, and_from}
 use Rattle.std.proofs.lemmas.List.{get_or-take, get_or-drop, length-take, length-drop}
-use Rattle.wild_words.specs.Words.{Stands}
+use Rattle.wild_words.specs.Words.{HasBytesAt}
 use Rattle.wild_records.specs.Abi.Segment.{pt_load}
 use Rattle.wild_records.specs.declared.program_header.ProgramHeader.{ProgramHeader}
 use Rattle.wild_types.specs.declared.part.Part.{Part}
 use Rattle.wild_types.specs.declared.section.Segment.{Segment}
 use Rattle.wild_types.specs.declared.layout.Layout.{Layout}
 use Rattle.wild_types.specs.Lookups.{image_size}
-use Rattle.wild_headers.specs.Headers.{program_header}
+use Rattle.wild_table_formats.specs.Headers.{program_header}
 use Rattle.wild_layout.specs.Loadable.{Ascends, IsCarriedWhole, SegmentLoads}
 use Rattle.wild_loader.specs.Tables.{has_in_memory}
 use Rattle.wild_hashes.specs.declared.image.Part.{Part as Found}
@@ -81,7 +81,7 @@ found_part l image p order c loads some within =
 -- ---- its bytes
 
 -- what stands in an image stands in a part that has it
-pub stands_cut : (image part : List ℕ) (f : Found) (at k : ℕ) → f.start ≡ at → k + length part ≤ f.size → Stands image (at + k) part → Stands (bytes_of image f) k part
+pub stands_cut : (image part : List ℕ) (f : Found) (at k : ℕ) → f.start ≡ at → k + length part ≤ f.size → HasBytesAt image (at + k) part → HasBytesAt (bytes_of image f) k part
 stands_cut image part f at k e room st =
     let fits = st.fits in
     let rest = length-drop f.start image in

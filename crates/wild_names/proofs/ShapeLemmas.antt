@@ -3,11 +3,11 @@ use Rattle.std.proofs.Common.{◌≡◌, [], ◌++◌, map, Ok}
 use Rattle.wild_words.proofs.ListLemmas.{nil_parts}
 use Rattle.wild_types.specs.declared.layout.GnuHash.{GnuHash}
 use Rattle.wild_types.specs.declared.layout.Layout.{Layout}
-use Rattle.wild_clauses.specs.WellFormed.{first_clause}
+use Rattle.wild_plan_rules.specs.WellFormed.{first_clause}
 use Rattle.wild_records.specs.HashTables.{GnuHashHeaderFits}
 use Rattle.wild_layout.specs.Faults.{errors, part_errors, group_errors, flat_map_from, clause_errors}
 use Rattle.wild_layout.specs.HashShapes.{HasGnuShape}
-use Rattle.wild_hashes.specs.Laws.{NeighboursAscend, IsGnuLaidOut}
+use Rattle.wild_hashes.specs.Laws.{NeighboursAscend, IsValidGnuTable}
 use Rattle.wild_hashes.specs.Tables.{gnu_hash_of, gnu_header}
 use Rattle.wild_layout.proofs.FaultLemmas.{clause_holds}
 
@@ -21,7 +21,7 @@ well_formed l h =
     let b = nil_parts (clause_errors (first_clause l)) shares a.0 in
     (clause_holds (first_clause l) b.0, b.1)
 
-pub gnu_laid_out : (l : Layout) (h : GnuHash) → NeighboursAscend → HasGnuShape l h → GnuHashHeaderFits (gnu_header h) → IsGnuLaidOut (gnu_header h) (map gnu_hash_of l.dynsyms)
+pub gnu_laid_out : (l : Layout) (h : GnuHash) → NeighboursAscend → HasGnuShape l h → GnuHashHeaderFits (gnu_header h) → IsValidGnuTable (gnu_header h) (map gnu_hash_of l.dynsyms)
 gnu_laid_out l h ascend shape fits = record {
   fits = fits;
   some_bucket = shape.some_bucket;

@@ -13,8 +13,8 @@ use Rattle.wild_types.specs.declared.layout.Layout.{Layout}
 use Rattle.wild_types.specs.declared.symbol.Place.{Place}
 use Rattle.wild_types.specs.declared.symbol.Place.TheVariants as at
 use Rattle.wild_types.specs.declared.symbol.Symbol.{Symbol}
-use Rattle.wild_needs.specs.declared.table.Named.{Named}
-use Rattle.wild_needs.specs.declared.table.Named.TheVariants as named
+use Rattle.wild_needs.specs.declared.table.SymtabName.{SymtabName}
+use Rattle.wild_needs.specs.declared.table.SymtabName.TheVariants as named
 use Rattle.wild_types.specs.Addresses.{raw_value}
 use Rattle.wild_needs.specs.DynamicSymbols.{output_section}
 use Rattle.wild_types.specs.FileRoles.{is_library, is_prelude}
@@ -22,11 +22,11 @@ use Rattle.wild_types.specs.Flags.{has_flag, canonical_plt, copy_relocation}
 use Rattle.wild_types.specs.Parts.{part_with}
 use Rattle.wild_types.specs.SymbolSlots.{got_of, plt_of}
 use Rattle.wild_needs.specs.TableSymbols.{TableSymbol, file_items, section_symbols}
-use Rattle.wild_types.specs.Lookups.{has_table}
-use Rattle.wild_symbols.specs.declared.table.TableFields.{TableFields}
-use Rattle.wild_symbols.specs.declared.writer.SymbolAttributes.{SymbolAttributes}
-use Rattle.wild_symbols.specs.DynamicFields.{common_section, part_section, section_named, some_section, stands_as_stub, stub_or_zero}
-use Rattle.wild_symbols.specs.TableEntries.{NamedEntry, at_address, counted_from, fields_of, file_table, first_or, group_table, in_table_section, is_side, named_entry, no_attributes, thunk_attributes, null_entries, null_entry, section_entry, or_none_in_table, slot_role, table_at, table_attributes, table_by, table_canonical, table_fields, table_placed, table_value, with_function}
+use Rattle.wild_types.specs.Lookups.{has_symtab}
+use Rattle.wild_table_formats.specs.declared.symbols.TableFields.{TableFields}
+use Rattle.wild_table_formats.specs.declared.symbols.SymbolAttributes.{SymbolAttributes}
+use Rattle.wild_table_formats.specs.DynamicFields.{common_section, part_section, section_named, some_section, has_stub_address, stub_or_zero}
+use Rattle.wild_table_formats.specs.TableEntries.{NamedEntry, at_address, counted_from, fields_of, file_table, first_or, group_table, in_table_section, is_side, named_entry, no_attributes, thunk_attributes, null_entries, null_entry, section_entry, table_fields_or_null, slot_role, table_at, table_attributes, table_by, table_canonical, table_fields, table_placed, table_value, with_function}
 use Rattle.wild_names.specs.IndexLaws.{side_table}
 
 -- the index is 0 where st_shndx does not send to it
@@ -35,7 +35,7 @@ IsShort t = (t.fields.section ≡ shn_xindex → ⊥) → t.long ≡ 0
 
 -- so it is of what is told of a symbol, and of one that lacks something
 pub record IsTold (r : Result TableFields Fault) : Type 0 where
-  pub short : IsShort (or_none_in_table r)
+  pub short : IsShort (table_fields_or_null r)
 
 abbrev split_by : ℕ → Bool → ℕ × ℕ
 split_by k b = if b then (k, 0) else (shn_xindex, k)
@@ -48,20 +48,20 @@ told_if : (b : Bool) (x y : Result TableFields Fault) → IsTold x → IsTold y 
 told_if true x y h k = h
 told_if false x y h k = k
 
-told_section : (i : ℕ) (section : Option ℕ) (value : ℕ) (a : SymbolAttributes) → IsTold (in_table_section i section value a)
-told_section i None value a = record { short = λ n. refl }
-told_section i (Some k) value a = record { short = short_split k (nat_lt k shn_loreserve) }
+section_of_entry : (i : ℕ) (section : Option ℕ) (value : ℕ) (a : SymbolAttributes) → IsTold (in_table_section i section value a)
+section_of_entry i None value a = record { short = λ n. refl }
+section_of_entry i (Some k) value a = record { short = short_split k (nat_lt k shn_loreserve) }
 
 told_address : (l : Layout) (i : ℕ) (s : Symbol) (section value : Option ℕ) (a : SymbolAttributes) → IsTold (at_address l i s section value a)
 told_address l i s section None a = record { short = λ n. refl }
-told_address l i s section (Some v) a = told_section i section (counted_from l s v) a
+told_address l i s section (Some v) a = section_of_entry i section (counted_from l s v) a
 
 told_placed : (l : Layout) (i : ℕ) (r : FileRole) (s : Symbol) (section : Option ℕ) → IsTold (table_placed l i r s section)
 told_placed l i r s section =
     let stubs = part_section (part_with role.PltGot l.parts) in
     let function = with_function (table_attributes r s) in
     let own = table_attributes r s in
-    told_if (stands_as_stub l s) (in_table_section i stubs (stub_or_zero s) function) (at_address l i s section (table_value l i s) own) (told_section i stubs (stub_or_zero s) function) (told_address l i s section (table_value l i s) own)
+    told_if (has_stub_address l s) (in_table_section i stubs (stub_or_zero s) function) (at_address l i s section (table_value l i s) own) (section_of_entry i stubs (stub_or_zero s) function) (told_address l i s section (table_value l i s) own)
 
 told_at : (l : Layout) (i : ℕ) (r : FileRole) (s : Symbol) (section : ℕ) (p : Place) → IsTold (table_at l i r s section p)
 told_at l i r s section at.Undefined = record { short = λ n. refl }
@@ -84,11 +84,11 @@ told_by l i r s section =
     let other = told_if (is_library r && has_flag s.flags copy_relocation) copied placed copy (told_at l i r s section s.place) in
     told_if (is_library r && has_flag s.flags canonical_plt) stub (if is_library r && has_flag s.flags copy_relocation then copied else placed) (told_canonical i r s s.place (plt_of s)) other
 
-told_of : (l : Layout) (f : File) (x : Named) (i : ℕ) (s : Symbol) → IsTold (fields_of l f x i s)
+told_of : (l : Layout) (f : File) (x : SymtabName) (i : ℕ) (s : Symbol) → IsTold (fields_of l f x i s)
 told_of l f named.Itself i s = told_by l i f.role s (output_section l (Some f) s.place)
-told_of l f named.Slot i s = told_section i (part_section (part_with (slot_role l s) l.parts)) (unwrap_or (got_of s) 0) no_attributes
-told_of l f named.Stub i s = told_section i (part_section (part_with role.PltGot l.parts)) (unwrap_or (plt_of s) 0) no_attributes
-told_of l f (named.Thunk a) i s = told_section i (part_section (slice_get l.parts l.primary_part)) a thunk_attributes
+told_of l f named.Slot i s = section_of_entry i (part_section (part_with (slot_role l s) l.parts)) (unwrap_or (got_of s) 0) no_attributes
+told_of l f named.Stub i s = section_of_entry i (part_section (part_with role.PltGot l.parts)) (unwrap_or (plt_of s) 0) no_attributes
+told_of l f (named.Thunk a) i s = section_of_entry i (part_section (slice_get l.parts l.primary_part)) a thunk_attributes
 
 told : (l : Layout) (f : File) (x : TableSymbol) → IsTold (table_fields l f x)
 unfolding table_fields
@@ -103,7 +103,7 @@ short_front false ks = All-nil EntryIsShort
 
 short_file : (l : Layout) (f : File) → All EntryIsShort (file_table l f)
 short_file l f =
-    let first = short_front (has_table l && is_prelude f.role) (section_symbols l) in
+    let first = short_front (has_symtab l && is_prelude f.role) (section_symbols l) in
     let items = All-map EntryIsShort (named_entry l f) (file_items l f) (λ k d h. (told l f (get_or (file_items l f) k d)).short) in
     All-append EntryIsShort (null_entries l f) (map (named_entry l f) (file_items l f)) first items
 

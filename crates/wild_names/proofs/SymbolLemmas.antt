@@ -3,8 +3,8 @@ use Rattle.std.proofs.Common.{◌≡◌, ℕ, ◌+◌, ◌^◌, ◌<◌, inl, in
 use Rattle.std.proofs.lemmas.Bool.{cases_Bool}
 use Rattle.std.proofs.lemmas.List.{length-append}
 use Rattle.std.proofs.lemmas.Grind.{flat_map-append}
-use Rattle.wild_words.specs.Words.{Stands}
-use Rattle.wild_words.proofs.RecordLemmas.{Stands-front, Stands-behind}
+use Rattle.wild_words.specs.Words.{HasBytesAt}
+use Rattle.wild_words.proofs.RecordLemmas.{HasBytesAt-front, HasBytesAt-behind}
 use Rattle.wild_records.specs.declared.symtab_entry.SymtabEntry.{SymtabEntry}
 use Rattle.wild_types.specs.declared.part.Role.TheVariants as role
 use Rattle.wild_types.specs.declared.file.FileRole.{FileRole}
@@ -13,14 +13,14 @@ use Rattle.wild_types.specs.declared.file.Group.{Group}
 use Rattle.wild_types.specs.declared.symbol.Symbol.{Symbol}
 use Rattle.wild_types.specs.declared.layout.DynamicSymbol.{DynamicSymbol}
 use Rattle.wild_types.specs.declared.layout.Layout.{Layout}
-use Rattle.wild_needs.specs.DynamicStrings.{behind_text, behind_file, lead_strings, entry_names, file_strings, listed_names, symbol_names, undefined_symbols}
+use Rattle.wild_needs.specs.DynamicStrings.{offset_after_string, next_dynstr, dynstr_prefix_strings, entry_names, file_strings, listed_names, symbol_names, undefined_symbols}
 use Rattle.wild_types.specs.FileRoles.{is_prelude, is_epilogue}
 use Rattle.wild_types.specs.Kinds.{needs_dynsym}
 use Rattle.wild_types.specs.Lookups.{files_of}
 use Rattle.wild_needs.specs.Versions.{version_names}
-use Rattle.wild_symbols.specs.Strings.{string, string_bytes}
-use Rattle.wild_symbols.proofs.StringLemmas.{length-string_bytes}
-use Rattle.wild_symbols.specs.DynamicEntries.{NamedFields, listed, undefined, file_symbols, entry_at, no_fields, entries_at, null_entries, behind_lead, file_entries, entries_from, group_symbols}
+use Rattle.wild_table_formats.specs.Strings.{string, string_bytes}
+use Rattle.wild_table_formats.proofs.StringLemmas.{length-string_bytes}
+use Rattle.wild_table_formats.specs.DynamicEntries.{NamedFields, listed, undefined, file_symbols, entry_at, no_fields, entries_at, null_entries, offset_after_lead, file_entries, entries_from, group_symbols}
 use Rattle.wild_layout.specs.TablePlaces.{table_bytes}
 use Rattle.wild_layout.specs.Geometry.{IsLaidOut}
 use Rattle.wild_names.proofs.BesideLemmas.{Belong, belong-append}
@@ -30,7 +30,7 @@ use Rattle.wild_names.proofs.RunLemmas.{strings_of, gathered, files_belong, grou
 pub record Tells (strings : List ℕ) (e : SymtabEntry) (n : NamedFields) : Type 0 where
   pub at : ℕ
   pub is : e ≡ entry_at at n.fields
-  pub stands : Stands strings at (string n.name)
+  pub stands : HasBytesAt strings at (string n.name)
 
 -- the same of an entry of the table: the first one is of no symbol
 abbrev pub IsEntryOf : List ℕ → SymtabEntry → Option NamedFields → Type 0
@@ -40,18 +40,18 @@ IsEntryOf strings e (Some n) = Tells strings e n
 abbrev names_of : List NamedFields → List (List ℕ)
 names_of ns = map (λ (n : NamedFields). n.name) ns
 
-entries_belong : (whole : List ℕ) → length whole < 2 ^ 32 → (at : ℕ) (ns : List NamedFields) → Stands whole at (string_bytes (names_of ns)) → Belong (IsEntryOf whole) (entries_at at ns) (map Some ns)
+entries_belong : (whole : List ℕ) → length whole < 2 ^ 32 → (at : ℕ) (ns : List NamedFields) → HasBytesAt whole at (string_bytes (names_of ns)) → Belong (IsEntryOf whole) (entries_at at ns) (map Some ns)
 unfolding entries_at
 entries_belong whole small at [] s = tt
 entries_belong whole small at (n ∷ ns) s =
-    let here = Stands-front whole (string n.name) (string_bytes (names_of ns)) at s in
-    let later = Stands-behind whole (string n.name) (string_bytes (names_of ns)) at (length (string n.name)) refl s in
+    let here = HasBytesAt-front whole (string n.name) (string_bytes (names_of ns)) at s in
+    let later = HasBytesAt-behind whole (string n.name) (string_bytes (names_of ns)) at (length (string n.name)) refl s in
     let long = length-append n.name (0 ∷ []) in
     let ends = here.fits in
-    let is : at + length (string n.name) ≡ behind_text at n.name = omega arith in
+    let is : at + length (string n.name) ≡ offset_after_string at n.name = omega arith in
     record {
       first = record { at = at; is = refl; stands = here };
-      rest = entries_belong whole small (behind_text at n.name) ns (subst (λ (m : ℕ). Stands whole m (string_bytes (names_of ns))) is later);
+      rest = entries_belong whole small (offset_after_string at n.name) ns (subst (λ (m : ℕ). HasBytesAt whole m (string_bytes (names_of ns))) is later);
     }
 
 -- ---- files
@@ -72,13 +72,13 @@ names_are l f =
     ]
 
 -- a file's strings: those in front, the names of its symbols, and those of its versions
-strings_are : (l : Layout) (f : File) → needs_dynsym l.kind ≡ true → strings_of l f ≡ string_bytes (lead_strings l f) ++ (string_bytes (names_of (file_symbols l f)) ++ string_bytes (version_names l f))
+strings_are : (l : Layout) (f : File) → needs_dynsym l.kind ≡ true → strings_of l f ≡ string_bytes (dynstr_prefix_strings l f) ++ (string_bytes (names_of (file_symbols l f)) ++ string_bytes (version_names l f))
 unfolding file_strings
 strings_are l f needs =
     let behind = entry_names l f ++ version_names l f in
-    let P : Bool → Type 0 = λ b. string_bytes (if b then lead_strings l f ++ behind else []) ≡ string_bytes (lead_strings l f) ++ (string_bytes (names_of (file_symbols l f)) ++ string_bytes (version_names l f)) in
+    let P : Bool → Type 0 = λ b. string_bytes (if b then dynstr_prefix_strings l f ++ behind else []) ≡ string_bytes (dynstr_prefix_strings l f) ++ (string_bytes (names_of (file_symbols l f)) ++ string_bytes (version_names l f)) in
     let names = flat_map-append string (entry_names l f) (version_names l f) ∙ ap (λ (ns : List (List ℕ)). string_bytes ns ++ string_bytes (version_names l f)) (names_are l f) in
-    subst P (sym needs) (flat_map-append string (lead_strings l f) behind ∙ ap (λ (bs : List ℕ). string_bytes (lead_strings l f) ++ bs) names)
+    subst P (sym needs) (flat_map-append string (dynstr_prefix_strings l f) behind ∙ ap (λ (bs : List ℕ). string_bytes (dynstr_prefix_strings l f) ++ bs) names)
 
 -- the table's first entry is of no symbol
 abbrev pub none_of : File → List (Option NamedFields)
@@ -95,23 +95,23 @@ null_belongs strings f = by (is_prelude f.role)
     by true = record { first = refl; rest = tt }
     by false = tt
 
-file_belongs : (l : Layout) (whole : List ℕ) → length whole < 2 ^ 32 → needs_dynsym l.kind ≡ true → (at : ℕ) (f : File) → Stands whole at (strings_of l f) → Belong (IsEntryOf whole) (file_entries l at f) (file_items l f)
+file_belongs : (l : Layout) (whole : List ℕ) → length whole < 2 ^ 32 → needs_dynsym l.kind ≡ true → (at : ℕ) (f : File) → HasBytesAt whole at (strings_of l f) → Belong (IsEntryOf whole) (file_entries l at f) (file_items l f)
 file_belongs l whole small needs at f s =
-    let cut = subst (λ (bs : List ℕ). Stands whole at bs) (strings_are l f needs) s in
+    let cut = subst (λ (bs : List ℕ). HasBytesAt whole at bs) (strings_are l f needs) s in
     let names = string_bytes (names_of (file_symbols l f)) in
     let versions = string_bytes (version_names l f) in
-    let later = Stands-behind whole (string_bytes (lead_strings l f)) (names ++ versions) at (length (string_bytes (lead_strings l f))) refl cut in
-    let long = length-string_bytes (lead_strings l f) in
+    let later = HasBytesAt-behind whole (string_bytes (dynstr_prefix_strings l f)) (names ++ versions) at (length (string_bytes (dynstr_prefix_strings l f))) refl cut in
+    let long = length-string_bytes (dynstr_prefix_strings l f) in
     let ends = later.fits in
-    let is : at + length (string_bytes (lead_strings l f)) ≡ behind_lead l at f = omega arith in
-    let rest = entries_belong whole small (behind_lead l at f) (file_symbols l f) (subst (λ (n : ℕ). Stands whole n names) is (Stands-front whole names versions (at + length (string_bytes (lead_strings l f))) later)) in
-    belong-append (IsEntryOf whole) (null_entries f) (entries_at (behind_lead l at f) (file_symbols l f)) (none_of f) (map Some (file_symbols l f)) (null_belongs whole f) rest
+    let is : at + length (string_bytes (dynstr_prefix_strings l f)) ≡ offset_after_lead l at f = omega arith in
+    let rest = entries_belong whole small (offset_after_lead l at f) (file_symbols l f) (subst (λ (n : ℕ). HasBytesAt whole n names) is (HasBytesAt-front whole names versions (at + length (string_bytes (dynstr_prefix_strings l f))) later)) in
+    belong-append (IsEntryOf whole) (null_entries f) (entries_at (offset_after_lead l at f) (file_symbols l f)) (none_of f) (map Some (file_symbols l f)) (null_belongs whole f) rest
 
 -- ---- groups
 
 entries_are_gathered : (l : Layout) (at : ℕ) (fs : List File) → gathered (file_entries l) l at fs ≡ entries_from l at fs
 entries_are_gathered l at [] = refl
-entries_are_gathered l at (f ∷ fs) = ap (λ (es : List SymtabEntry). file_entries l at f ++ es) (entries_are_gathered l (behind_file l at f) fs)
+entries_are_gathered l at (f ∷ fs) = ap (λ (es : List SymtabEntry). file_entries l at f ++ es) (entries_are_gathered l (next_dynstr l at f) fs)
 
 symbols_of_group : (l : Layout) (g : Group) → needs_dynsym l.kind ≡ true → gathered (file_entries l) l g.dynstr_start g.files ≡ group_symbols l g
 unfolding group_symbols

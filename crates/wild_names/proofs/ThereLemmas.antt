@@ -10,15 +10,15 @@ use Rattle.wild_types.specs.declared.file.FileRole.TheVariants as file_role
 use Rattle.wild_types.specs.declared.file.File.{File}
 use Rattle.wild_types.specs.declared.file.Group.{Group}
 use Rattle.wild_types.specs.declared.layout.Layout.{Layout}
-use Rattle.wild_types.specs.FilePlaces.{bool_eq, file_placed, later_placed, files_placed, file_misplaced}
-use Rattle.wild_needs.specs.DynamicStrings.{lead_strings, entry_names, file_strings}
+use Rattle.wild_types.specs.FilePlaces.{bool_eq, file_position_fits, later_positions_fit, group_positions_fit, first_misplaced_file}
+use Rattle.wild_needs.specs.DynamicStrings.{dynstr_prefix_strings, entry_names, file_strings}
 use Rattle.wild_types.specs.FileRoles.{is_prelude, is_epilogue}
 use Rattle.wild_types.specs.Kinds.{needs_dynsym}
 use Rattle.wild_types.specs.Parts.{role_place, part_with}
 use Rattle.wild_types.proofs.FileLemmas.{same_bool}
 use Rattle.wild_needs.specs.Versions.{version_names}
-use Rattle.wild_symbols.specs.Strings.{string_bytes}
-use Rattle.wild_symbols.proofs.SymbolLemmas.{length-symbol_bytes}
+use Rattle.wild_table_formats.specs.Strings.{string_bytes}
+use Rattle.wild_table_formats.proofs.SymbolLemmas.{length-symbol_bytes}
 use Rattle.wild_layout.specs.Content.{content}
 use Rattle.wild_layout.specs.TablePlaces.{table_bytes}
 use Rattle.wild_layout.specs.Geometry.{IsLaidOut}
@@ -35,30 +35,30 @@ prelude_role : (r : FileRole) → is_prelude r ≡ true → r ≡ file_role.Prel
 prelude_role file_role.Prelude h = refl
 prelude_role r h = cc
 
-leads : (l : Layout) (f : File) → f.role ≡ file_role.Prelude → lead_strings l f ≡ [] ∷ []
+leads : (l : Layout) (f : File) → f.role ≡ file_role.Prelude → dynstr_prefix_strings l f ≡ [] ∷ []
 leads l f h = rw h refl
 
 first_string : (l : Layout) (f : File) → needs_dynsym l.kind ≡ true → is_prelude f.role ≡ true → 1 ≤ length (strings_of l f)
 unfolding file_strings
 first_string l f needs h =
     let behind = entry_names l f ++ version_names l f in
-    let P : Bool → Type 0 = λ b. 1 ≤ length (string_bytes (if b then lead_strings l f ++ behind else [])) in
+    let P : Bool → Type 0 = λ b. 1 ≤ length (string_bytes (if b then dynstr_prefix_strings l f ++ behind else [])) in
     let some : 1 ≤ length (string_bytes (([] ∷ []) ++ behind)) = omega arith in
     subst P (sym needs) (subst (λ (ss : List (List ℕ)). 1 ≤ length (string_bytes (ss ++ behind))) (sym (leads l f (prelude_role f.role h))) some)
 
-first_file : (l : Layout) (last : Bool) (fs : List File) → needs_dynsym l.kind ≡ true → files_placed true last fs ≡ true → 1 ≤ length (flat_map (strings_of l) fs)
+first_file : (l : Layout) (last : Bool) (fs : List File) → needs_dynsym l.kind ≡ true → group_positions_fit true last fs ≡ true → 1 ≤ length (flat_map (strings_of l) fs)
 first_file l last [] needs h = cc
 first_file l last (f ∷ fs) needs h =
-    let a = and_parts (file_placed true (last && length fs == 0) f) (later_placed last fs) h in
+    let a = and_parts (file_position_fits true (last && length fs == 0) f) (later_positions_fit last fs) h in
     let b = same_bool (is_prelude f.role) true (and_parts (bool_eq (is_prelude f.role) true) (bool_eq (is_epilogue f.role) (last && length fs == 0)) a.0).0 in
     let own = first_string l f needs b in
     let all = length-append (strings_of l f) (flat_map (strings_of l) fs) in
     omega (arith, own, all)
 
-some_strings : (l : Layout) (gs : List Group) → needs_dynsym l.kind ≡ true → 1 ≤ length gs → file_misplaced true 0 gs ≡ None → 1 ≤ length (flat_map (content l role.Dynstr) gs)
+some_strings : (l : Layout) (gs : List Group) → needs_dynsym l.kind ≡ true → 1 ≤ length gs → first_misplaced_file true 0 gs ≡ None → 1 ≤ length (flat_map (content l role.Dynstr) gs)
 some_strings l [] needs some h = absurd (omega (arith, some))
 some_strings l (g ∷ gs) needs some h =
-    elim (cases_Bool (files_placed true (length gs == 0) g.files)) [
+    elim (cases_Bool (group_positions_fit true (length gs == 0) g.files)) [
       | inl t ↦
           (let own = first_file l (length gs == 0) g.files needs t in
           let given = ap (λ (bs : List ℕ). length bs) (group_gives l g) in

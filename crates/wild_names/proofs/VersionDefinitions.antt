@@ -1,10 +1,10 @@
 -- The versions that the output defines: the last file has their table, and their names stand behind those of its symbols.
-use Rattle.wild_laid.specs.Laid.{laid_files, laid_file}
-use Rattle.wild_geometry.proofs.StoodSections.{laid_same}
+use Rattle.wild_placement.specs.PlacedSections.{placed_files, placed_file}
+use Rattle.wild_geometry.proofs.PlacedInputs.{laid_same}
 use Rattle.std.proofs.Common.{◌≡◌, ℕ, ◌≤◌, true, false, List, [], ◌∷◌, ◌++◌, length, Option, Some, None, flat_map, refl, sym, ap, ◌∙◌, arith, subst}
 use Rattle.std.proofs.lemmas.List.{append-nil}
 use Rattle.std.proofs.lemmas.Option.{get_or_from_slice_get, slice_get_within}
-use Rattle.wild_words.specs.Words.{Stands}
+use Rattle.wild_words.specs.Words.{HasBytesAt}
 use Rattle.wild_words.proofs.ListLemmas.{flat_map-same, flat_map-flat_map}
 use Rattle.wild_words.proofs.Basics.{nil_if}
 use Rattle.wild_types.specs.declared.part.Role.TheVariants as role
@@ -18,17 +18,18 @@ use Rattle.wild_types.specs.Kinds.{needs_dynsym}
 use Rattle.wild_types.specs.Lookups.{files_of}
 use Rattle.wild_types.proofs.FileLemmas.{last_role}
 use Rattle.wild_needs.specs.Versions.{size_with, definitions_size}
-use Rattle.wild_symbols.specs.Strings.{string}
-use Rattle.wild_versions.specs.Chain.{name_at}
-use Rattle.wild_versions.specs.Definitions.{known_as, definition_table}
-use Rattle.wild_versions.specs.Laws.{LengthsOfDefinitions, DefinitionsAreRead, DefinitionsAreNamed}
-use Rattle.wild_versions.specs.Names.{definition_offsets, file_definitions}
+use Rattle.wild_table_formats.specs.Strings.{string}
+use Rattle.wild_table_formats.specs.VersionChain.{name_at}
+use Rattle.wild_table_formats.specs.VersionDefinitions.{version_name, definition_table}
+use Rattle.wild_names.specs.VersionNames.{DefinitionsAreNamed}
+use Rattle.wild_table_formats.specs.VersionLaws.{LengthsOfDefinitions, DefinitionsAreRead}
+use Rattle.wild_table_formats.specs.VersionNames.{definition_offsets, file_definitions}
 use Rattle.wild_layout.specs.Content.{file_content, content}
 use Rattle.wild_layout.specs.Geometry.{IsLaidOut, TablesStand}
 use Rattle.wild_layout.specs.TablePlaces.{table_bytes}
 use Rattle.wild_layout.specs.Image.{bytes}
 use Rattle.wild_layout.proofs.LayoutLemmas.{definitions_fit}
-use Rattle.wild_names.specs.VersionLaws.{DefinitionsAreThere, DefinitionsStand}
+use Rattle.wild_names.specs.VersionLaws.{DefinitionsAreThere, DefinitionsAreWritten}
 use Rattle.wild_names.proofs.ImageLemmas.{named, none_joined}
 use Rattle.wild_names.proofs.RunLemmas.{strings_are_short}
 use Rattle.wild_names.proofs.VersionOffsets.{names_small}
@@ -78,12 +79,12 @@ in_order l e needs h = record {
 file_gives : (l : Layout) (f : File) → file_content l role.GnuVersionD f ≡ file_definitions l f
 file_gives l f = rw (nil_if (is_prelude f.role)) (append-nil (file_definitions l f))
 
-definitions_laid : (l : Layout) (at : ℕ) (f : File) → file_definitions l (laid_file l at f) ≡ file_definitions l f
+definitions_laid : (l : Layout) (at : ℕ) (f : File) → file_definitions l (placed_file l at f) ≡ file_definitions l f
 unfolding file_definitions definition_offsets
 definitions_laid l at f = refl
 
 group_gives : (l : Layout) (g : Group) → content l role.GnuVersionD g ≡ flat_map (file_definitions l) g.files
-group_gives l g = append-nil (flat_map (file_content l role.GnuVersionD) (laid_files l g)) ∙ flat_map-same (file_content l role.GnuVersionD) (file_definitions l) (laid_files l g) (file_gives l) ∙ laid_same (file_definitions l) l g (definitions_laid l)
+group_gives l g = append-nil (flat_map (file_content l role.GnuVersionD) (placed_files l g)) ∙ flat_map-same (file_content l role.GnuVersionD) (file_definitions l) (placed_files l g) (file_gives l) ∙ laid_same (file_definitions l) l g (definitions_laid l)
 
 definitions_given : (l : Layout) (e : File) → IsLaidOut l → needs_dynsym l.kind ≡ true → is_epilogue e.role ≡ true → table_bytes l role.GnuVersionD ≡ table_of l e
 unfolding in_order
@@ -107,7 +108,7 @@ some_bytes (d ∷ ds) h = (let own = some_with d.parent in omega arith)
 
 -- ---- the image
 
-pub definitions_stand : TablesStand → LengthsOfDefinitions → DefinitionsAreRead → DefinitionsAreNamed → DefinitionsStand
+pub definitions_stand : TablesStand → LengthsOfDefinitions → DefinitionsAreRead → DefinitionsAreNamed → DefinitionsAreWritten
 definitions_stand stand lengths read names_stand l laid needs table strings found with_strings written text_written = by (last_stands l laid needs)
   where
     by : LastStands l (table_bytes l role.Dynstr) (string_start l) → DefinitionsAreThere l table strings
@@ -122,7 +123,7 @@ definitions_stand stand lengths read names_stand l laid needs table strings foun
         let total = ap (λ (bs : List ℕ). length bs) given in
         let least = some_bytes l.verdefs some in
         let there = stand l laid role.GnuVersionD (λ z. absurd (omega arith)) table found written (omega arith) in
-        let here = subst (λ (bs : List ℕ). Stands (bytes l) table.offset bs) given there in
+        let here = subst (λ (bs : List ℕ). HasBytesAt (bytes l) table.offset bs) given there in
         record {
           names = names;
           some = some;
@@ -132,6 +133,6 @@ definitions_stand stand lengths read names_stand l laid needs table strings foun
           named = λ k d h.
               let low = slice_get_within l.verdefs k d h in
               let stands = names_stand l e.file (table_bytes l role.Dynstr) needs e.last (record { small = short; stand = e.stands }) k d low in
-              let own = subst (λ (x : VersionDefinition). Stands (table_bytes l role.Dynstr) (name_at names k) (string (known_as l.options.soname k x.name))) (get_or_from_slice_get l.verdefs k d d h) stands in
-              named stand l laid role.Dynstr (λ z. absurd (omega arith)) short strings with_strings text_written (name_at names k) (known_as l.options.soname k d.name) own;
+              let own = subst (λ (x : VersionDefinition). HasBytesAt (table_bytes l role.Dynstr) (name_at names k) (string (version_name l.options.soname k x.name))) (get_or_from_slice_get l.verdefs k d d h) stands in
+              named stand l laid role.Dynstr (λ z. absurd (omega arith)) short strings with_strings text_written (name_at names k) (version_name l.options.soname k d.name) own;
         }

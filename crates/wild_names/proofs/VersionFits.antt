@@ -5,7 +5,7 @@ use Rattle.std.proofs.lemmas.Bool.{and_parts, leb-true}
 use Rattle.std.proofs.lemmas.List.{length-append}
 use Rattle.std.proofs.lemmas.List.Elements.{All-nil, All-cons, All-head, All-tail}
 use Rattle.std.proofs.lemmas.Option.{get_or_from_slice_get, slice_get_within}
-use Rattle.wild_words.specs.Words.{Stands}
+use Rattle.wild_words.specs.Words.{HasBytesAt}
 use Rattle.wild_words.proofs.ListLemmas.{All-flat_map}
 use Rattle.wild_types.specs.declared.part.Role.TheVariants as role
 use Rattle.wild_types.specs.declared.file.File.{File}
@@ -18,15 +18,16 @@ use Rattle.wild_types.specs.Lists.{total}
 use Rattle.wild_types.specs.Lookups.{files_of}
 use Rattle.wild_needs.specs.Versions.{need_size, needs_of, need_count, length_of, file_versions, versions_needed, most_versions}
 use Rattle.wild_types.proofs.ListLemmas.{total-prefix}
-use Rattle.wild_symbols.specs.Strings.{string}
-use Rattle.wild_versions.specs.Chain.{name_at}
-use Rattle.wild_versions.specs.Laws.{LengthsOfNeeds, Need, NeedFits, needs_bytes, NeedsAreRead, NeedsAreNamed}
-use Rattle.wild_versions.specs.Needs.{need_bytes}
+use Rattle.wild_table_formats.specs.Strings.{string}
+use Rattle.wild_table_formats.specs.VersionChain.{name_at}
+use Rattle.wild_names.specs.VersionNames.{NeedsAreNamed}
+use Rattle.wild_table_formats.specs.VersionLaws.{LengthsOfNeeds, Need, NeedFits, needs_bytes, NeedsAreRead}
+use Rattle.wild_table_formats.specs.VersionNeeds.{need_bytes}
 use Rattle.wild_layout.specs.Geometry.{IsLaidOut, TablesStand}
 use Rattle.wild_layout.specs.TablePlaces.{table_bytes}
 use Rattle.wild_layout.specs.Image.{bytes}
 use Rattle.wild_names.specs.Laws.{IsNamed}
-use Rattle.wild_names.specs.VersionLaws.{IndexesFit, VersionNumbersFit, LibraryNeeds, needed_by, with_needs, HasNeeds, NeedsStand}
+use Rattle.wild_names.specs.VersionLaws.{IndexesFit, VersionNumbersFit, LibraryNeeds, needs_of_library, libraries_with_needs, HasNeeds, NeedsAreWritten}
 use Rattle.wild_names.proofs.BesideLemmas.{Belong, HasBeside, belong-length, belongs_at}
 use Rattle.wild_names.proofs.ImageLemmas.{named}
 use Rattle.wild_names.proofs.RunLemmas.{strings_are_short}
@@ -59,23 +60,23 @@ given_by : (b : Bool) (o : Option VersionNeeds) (n : VersionNeeds) → (if b the
 given_by true o n h = h
 given_by false o n h = cc
 
-file_fits : (f : File) → IndexesFit f → file_versions f < 2 ^ 16 → All VersionsFit (needed_by f (needs_of f))
+file_fits : (f : File) → IndexesFit f → file_versions f < 2 ^ 16 → All VersionsFit (needs_of_library f (needs_of f))
 file_fits f fit few = by (needs_of f) refl
   where
-    by : (o : Option VersionNeeds) → needs_of f ≡ o → All VersionsFit (needed_by f o)
+    by : (o : Option VersionNeeds) → needs_of f ≡ o → All VersionsFit (needs_of_library f o)
     by None e = All-nil VersionsFit
     by (Some n) e =
         let long = ap length_of e in
         All-cons VersionsFit (record { file = f; needs = n }) [] (record { indexes = fit n (given_by (is_library f.role) f.verneed n e); few = omega arith }) (All-nil VersionsFit)
 
-needs_fit : (l : Layout) → IsLaidOut l → VersionNumbersFit l → All VersionsFit (with_needs l)
+needs_fit : (l : Layout) → IsLaidOut l → VersionNumbersFit l → All VersionsFit (libraries_with_needs l)
 needs_fit l laid fit =
     let a = and_parts (nat_le (length l.verdefs) most_versions) (nat_le (need_count l) most_versions && nat_le (versions_needed l) most_versions) laid.few_versions in
     let b = and_parts (nat_le (need_count l) most_versions) (nat_le (versions_needed l) most_versions) a.1 in
     let c = leb-true (versions_needed l) most_versions b.1 in
     let fs = files_of l.groups in
     let indexes = All-flat_map IndexesFit (λ (g : Group). g.files) l.groups fit.needed in
-    All-flat_map VersionsFit (λ (f : File). needed_by f (needs_of f)) fs (λ k f low. file_fits (get_or fs k f) (indexes k f low) (let n = total-prefix file_versions fs k f low in omega arith))
+    All-flat_map VersionsFit (λ (f : File). needs_of_library f (needs_of f)) fs (λ k f low. file_fits (get_or fs k f) (indexes k f low) (let n = total-prefix file_versions fs k f low in omega arith))
 
 -- ---- lengths
 
@@ -100,27 +101,27 @@ some_bytes lengths (n ∷ ns) h =
 
 -- ---- the image
 
-pub needs_stand : TablesStand → LengthsOfNeeds → NeedsAreRead → NeedsAreNamed → NeedsStand
+pub needs_stand : TablesStand → LengthsOfNeeds → NeedsAreRead → NeedsAreNamed → NeedsAreWritten
 needs_stand stand lengths read law l laid fit needs some table strings found with_strings written text_written =
     let ns = all_records l in
     let all = records_belong law l laid needs in
-    let count = belong-length (IsRecordOf (table_bytes l role.Dynstr)) ns (with_needs l) all in
+    let count = belong-length (IsRecordOf (table_bytes l role.Dynstr)) ns (libraries_with_needs l) all in
     let given = needs_given l needs in
     let size = ((laid.roles role.GnuVersionR (λ z. absurd (omega arith))).there table found).size in
     let same = ap (λ (bs : List ℕ). length bs) given in
-    let own = records_length lengths (table_bytes l role.Dynstr) ns (with_needs l) all in
+    let own = records_length lengths (table_bytes l role.Dynstr) ns (libraries_with_needs l) all in
     let least = some_bytes lengths ns (omega arith) in
     let there = stand l laid role.GnuVersionR (λ z. absurd (omega arith)) table found written (omega arith) in
-    let here = subst (λ (bs : List ℕ). Stands (bytes l) table.offset bs) (sym given) there in
+    let here = subst (λ (bs : List ℕ). HasBytesAt (bytes l) table.offset bs) (sym given) there in
     record {
       needs = ns;
       count = count;
       whole = omega arith;
-      found = λ n enough. read (bytes l) ns table.offset n (records_fit (table_bytes l role.Dynstr) ns (with_needs l) all (needs_fit l laid fit)) (records_end_once l laid) (omega arith) enough here;
-      each = λ k w h. one k w (belongs_at (IsRecordOf (table_bytes l role.Dynstr)) ns (with_needs l) k w all h);
+      found = λ n enough. read (bytes l) ns table.offset n (records_fit (table_bytes l role.Dynstr) ns (libraries_with_needs l) all (needs_fit l laid fit)) (records_end_once l laid) (omega arith) enough here;
+      each = λ k w h. one k w (belongs_at (IsRecordOf (table_bytes l role.Dynstr)) ns (libraries_with_needs l) k w all h);
     }
   where
-    is_named : (at : ℕ) (name : List ℕ) → Stands (table_bytes l role.Dynstr) at (string name) → IsNamed l strings at name
+    is_named : (at : ℕ) (name : List ℕ) → HasBytesAt (table_bytes l role.Dynstr) at (string name) → IsNamed l strings at name
     is_named = named stand l laid role.Dynstr (λ z. absurd (omega arith)) (strings_are_short l laid) strings with_strings text_written
 
     one : (k : ℕ) (w : LibraryNeeds) → HasBeside (IsRecordOf (table_bytes l role.Dynstr)) (all_records l) k w → HasNeeds l strings (all_records l) k w
@@ -134,7 +135,7 @@ needs_stand stand lengths read law l laid fit needs some table strings found wit
             library = is_named b.item.file w.file.lib_name told.library;
             versions = λ j v h.
                 let low = slice_get_within w.needs.versions j v h in
-                let own = subst (λ (x : NeededVersion). Stands (table_bytes l role.Dynstr) (name_at b.item.names j) (string x.name)) (get_or_from_slice_get w.needs.versions j v v h) (told.versions j v low) in
+                let own = subst (λ (x : NeededVersion). HasBytesAt (table_bytes l role.Dynstr) (name_at b.item.names j) (string x.name)) (get_or_from_slice_get w.needs.versions j v v h) (told.versions j v low) in
                 is_named (name_at b.item.names j) v.name own;
           };
         }

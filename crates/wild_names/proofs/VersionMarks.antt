@@ -8,14 +8,14 @@ use Rattle.wild_types.specs.declared.file.File.{File}
 use Rattle.wild_types.specs.declared.file.Group.{Group}
 use Rattle.wild_types.specs.declared.file.VersionNeeds.{VersionNeeds}
 use Rattle.wild_types.specs.declared.layout.Layout.{Layout}
-use Rattle.wild_needs.specs.DynamicStrings.{behind_file}
+use Rattle.wild_needs.specs.DynamicStrings.{next_dynstr}
 use Rattle.wild_types.specs.Lists.{through}
 use Rattle.wild_types.specs.Lookups.{files_of}
 use Rattle.wild_types.proofs.FileLemmas.{same_bool}
 use Rattle.wild_needs.specs.Versions.{needs_of, has_needs, need_count}
-use Rattle.wild_clauses.specs.VersionTables.{mark_fits, mark_by, mark_step, needs_in, mark_astray}
-use Rattle.wild_versions.specs.Laws.{Need, EndsOnce}
-use Rattle.wild_versions.specs.Names.{library_offset, need_offsets}
+use Rattle.wild_plan_rules.specs.VersionTables.{mark_fits, mark_by, mark_step, needs_in, mark_astray}
+use Rattle.wild_table_formats.specs.VersionLaws.{Need, OnlyLastIsMarked}
+use Rattle.wild_table_formats.specs.VersionNames.{library_offset, need_offsets}
 use Rattle.wild_layout.specs.Geometry.{IsLaidOut}
 use Rattle.wild_names.proofs.RunLemmas.{gathered}
 
@@ -45,7 +45,7 @@ abbrev Marked : ℕ → List Need → Type 0
 Marked left [] = Unit {0}
 Marked left (n ∷ ns) = (n.needs.last ≡ (left == 1)) × Marked (left - 1) ns
 
-marked_once : (left : ℕ) (ns : List Need) → left ≡ length ns → Marked left ns → EndsOnce ns
+marked_once : (left : ℕ) (ns : List Need) → left ≡ length ns → Marked left ns → OnlyLastIsMarked ns
 marked_once left [] e h = tt
 marked_once left (n ∷ []) e h = h.0 ∙ eq-eqb left 1 (omega arith)
 marked_once left (n ∷ m ∷ ns) e h = (h.0 ∙ ne_eqb left 1 (λ z. omega arith), marked_once (left - 1) (m ∷ ns) (omega arith) h.1)
@@ -60,10 +60,10 @@ marked_append left (x ∷ xs) ys h k =
 
 files_marked : (l : Layout) (left at : ℕ) (fs : List File) → is_some (through mark_step left fs) ≡ true → Marked left (gathered (record_of l) l at fs)
 files_marked l left at [] h = tt
-files_marked l left at (f ∷ fs) h = by (needs_of f) h (λ n e. files_marked l n (behind_file l at f) fs e)
+files_marked l left at (f ∷ fs) h = by (needs_of f) h (λ n e. files_marked l n (next_dynstr l at f) fs e)
   where
-    by : (o : Option VersionNeeds) → is_some (option_and_then (λ t. through mark_step t fs) (mark_by left o)) ≡ true → ((n : ℕ) → is_some (through mark_step n fs) ≡ true → Marked n (gathered (record_of l) l (behind_file l at f) fs))
-        → Marked left (record_by l at f o ++ gathered (record_of l) l (behind_file l at f) fs)
+    by : (o : Option VersionNeeds) → is_some (option_and_then (λ t. through mark_step t fs) (mark_by left o)) ≡ true → ((n : ℕ) → is_some (through mark_step n fs) ≡ true → Marked n (gathered (record_of l) l (next_dynstr l at f) fs))
+        → Marked left (record_by l at f o ++ gathered (record_of l) l (next_dynstr l at f) fs)
     by None again rest = rest left again
     by (Some n) again rest =
         elim (cases_Bool (mark_fits left n)) [
@@ -74,9 +74,9 @@ files_marked l left at (f ∷ fs) h = by (needs_of f) h (λ n e. files_marked l 
 -- a record for each file that has versions which are needed
 files_counted : (l : Layout) (at : ℕ) (fs : List File) → length (gathered (record_of l) l at fs) ≡ length (filter has_needs fs)
 files_counted l at [] = refl
-files_counted l at (f ∷ fs) = by (needs_of f) refl (files_counted l (behind_file l at f) fs)
+files_counted l at (f ∷ fs) = by (needs_of f) refl (files_counted l (next_dynstr l at f) fs)
   where
-    by : (o : Option VersionNeeds) → needs_of f ≡ o → length (gathered (record_of l) l (behind_file l at f) fs) ≡ length (filter has_needs fs) → length (record_by l at f o ++ gathered (record_of l) l (behind_file l at f) fs) ≡ length (filter has_needs (f ∷ fs))
+    by : (o : Option VersionNeeds) → needs_of f ≡ o → length (gathered (record_of l) l (next_dynstr l at f) fs) ≡ length (filter has_needs fs) → length (record_by l at f o ++ gathered (record_of l) l (next_dynstr l at f) fs) ≡ length (filter has_needs (f ∷ fs))
     by None e h = rw e h
     by (Some n) e h = rw e (ap suc h)
 
@@ -108,5 +108,5 @@ groups_counted l (g ∷ gs) =
 -- ---- the clause
 
 -- the last record is marked, and no other
-pub records_end_once : (l : Layout) → IsLaidOut l → EndsOnce (all_records l)
+pub records_end_once : (l : Layout) → IsLaidOut l → OnlyLastIsMarked (all_records l)
 records_end_once l laid = marked_once (need_count l) (all_records l) (sym (groups_counted l l.groups)) (groups_marked l (need_count l) 0 l.groups laid.versions.marks)

@@ -1,10 +1,10 @@
 -- The versions that are needed of libraries: their records are what groups give, and names stand where they tell.
-use Rattle.wild_laid.specs.Laid.{laid_files}
+use Rattle.wild_placement.specs.PlacedSections.{placed_files}
 use Rattle.std.proofs.Common.{◌≡◌, ℕ, ◌%◌, ◌^◌, ◌<◌, Bool, true, if◌then◌else◌, List, [], ◌∷◌, ◌++◌, length, All, get_or, refl, sym, ap, ◌∙◌, arith, subst}
 use Rattle.std.specs.Prelude.{Option, Some, None}
 use Rattle.std.proofs.lemmas.List.{append-nil}
 use Rattle.std.proofs.lemmas.Grind.{flat_map-append}
-use Rattle.wild_words.specs.Words.{Stands}
+use Rattle.wild_words.specs.Words.{HasBytesAt}
 use Rattle.wild_words.proofs.ListLemmas.{flat_map-same, flat_map-flat_map}
 use Rattle.wild_words.proofs.Basics.{nil_if}
 use Rattle.wild_types.specs.declared.part.Role.TheVariants as role
@@ -13,19 +13,20 @@ use Rattle.wild_types.specs.declared.file.Group.{Group}
 use Rattle.wild_types.specs.declared.file.NeededVersion.{NeededVersion}
 use Rattle.wild_types.specs.declared.file.VersionNeeds.{VersionNeeds}
 use Rattle.wild_types.specs.declared.layout.Layout.{Layout}
-use Rattle.wild_needs.specs.DynamicStrings.{behind_text, behind_file}
+use Rattle.wild_needs.specs.DynamicStrings.{offset_after_string, next_dynstr}
 use Rattle.wild_types.specs.FileRoles.{is_prelude}
 use Rattle.wild_types.specs.Kinds.{needs_dynsym}
 use Rattle.wild_needs.specs.Versions.{needed_names, needs_of}
-use Rattle.wild_symbols.specs.Strings.{string}
-use Rattle.wild_versions.specs.Chain.{name_at}
-use Rattle.wild_versions.specs.Laws.{Need, needs_bytes, NeedsAreNamed}
-use Rattle.wild_versions.specs.Names.{behind_entries, library_offset, need_offsets, need_at, need_of, needs_from, group_needs}
-use Rattle.wild_versions.specs.Needs.{need_bytes}
+use Rattle.wild_table_formats.specs.Strings.{string}
+use Rattle.wild_table_formats.specs.VersionChain.{name_at}
+use Rattle.wild_names.specs.VersionNames.{NeedsAreNamed}
+use Rattle.wild_table_formats.specs.VersionLaws.{Need, needs_bytes}
+use Rattle.wild_table_formats.specs.VersionNames.{offset_after_entry_names, library_offset, need_offsets, need_at, need_of, needs_from, group_needs}
+use Rattle.wild_table_formats.specs.VersionNeeds.{need_bytes}
 use Rattle.wild_layout.specs.Content.{file_content, content}
 use Rattle.wild_layout.specs.Geometry.{IsLaidOut}
 use Rattle.wild_layout.specs.TablePlaces.{table_bytes}
-use Rattle.wild_names.specs.VersionLaws.{LibraryNeeds, needed_by, with_needs}
+use Rattle.wild_names.specs.VersionLaws.{LibraryNeeds, needs_of_library, libraries_with_needs}
 use Rattle.wild_names.proofs.BesideLemmas.{Belong}
 use Rattle.wild_names.proofs.ImageLemmas.{none_joined}
 use Rattle.wild_names.proofs.RunLemmas.{strings_of, gathered, files_belong, groups_belong, strings_are_short}
@@ -39,28 +40,28 @@ pub record IsRecordOf (strings : List ℕ) (n : Need) (w : LibraryNeeds) : Type 
   pub same : n.needs ≡ w.needs
   pub file : n.file < 2 ^ 32
   pub names : All (λ x. x < 2 ^ 32) n.names
-  pub library : Stands strings n.file (string w.file.lib_name)
-  pub versions : (k : ℕ) (v : NeededVersion) → k < length w.needs.versions → Stands strings (name_at n.names k) (string (get_or w.needs.versions k v).name)
+  pub library : HasBytesAt strings n.file (string w.file.lib_name)
+  pub versions : (k : ℕ) (v : NeededVersion) → k < length w.needs.versions → HasBytesAt strings (name_at n.names k) (string (get_or w.needs.versions k v).name)
 
 told_small : (at : ℕ) → at % 2 ^ 32 < 2 ^ 32
 told_small at = omega arith
 
 -- a file that versions are needed of, with these
 abbrev needed_of : File → List LibraryNeeds
-needed_of f = needed_by f (needs_of f)
+needed_of f = needs_of_library f (needs_of f)
 
-file_belongs : NeedsAreNamed → (l : Layout) (whole : List ℕ) → length whole < 2 ^ 32 → needs_dynsym l.kind ≡ true → (at : ℕ) (f : File) → Stands whole at (strings_of l f) → Belong (IsRecordOf whole) (record_of l at f) (needed_of f)
+file_belongs : NeedsAreNamed → (l : Layout) (whole : List ℕ) → length whole < 2 ^ 32 → needs_dynsym l.kind ≡ true → (at : ℕ) (f : File) → HasBytesAt whole at (strings_of l f) → Belong (IsRecordOf whole) (record_of l at f) (needed_of f)
 file_belongs law l whole small needs at f s = by (needs_of f) refl
   where
-    by : (o : Option VersionNeeds) → needs_of f ≡ o → Belong (IsRecordOf whole) (record_by l at f o) (needed_by f o)
+    by : (o : Option VersionNeeds) → needs_of f ≡ o → Belong (IsRecordOf whole) (record_by l at f o) (needs_of_library f o)
     by None e = tt
     by (Some n) e =
         let told = law l f n whole at needs e (record { small = small; stand = s }) in
         record {
           first = record {
             same = refl;
-            file = told_small (behind_entries l at f);
-            names = offsets_small (behind_text (behind_entries l at f) f.lib_name) (needed_names n.versions);
+            file = told_small (offset_after_entry_names l at f);
+            names = offsets_small (offset_after_string (offset_after_entry_names l at f) f.lib_name) (needed_names n.versions);
             library = told.library;
             versions = told.versions;
           };
@@ -68,7 +69,7 @@ file_belongs law l whole small needs at f s = by (needs_of f) refl
         }
 
 -- each record belongs to its library
-pub records_belong : NeedsAreNamed → (l : Layout) → IsLaidOut l → needs_dynsym l.kind ≡ true → Belong (IsRecordOf (table_bytes l role.Dynstr)) (all_records l) (with_needs l)
+pub records_belong : NeedsAreNamed → (l : Layout) → IsLaidOut l → needs_dynsym l.kind ≡ true → Belong (IsRecordOf (table_bytes l role.Dynstr)) (all_records l) (libraries_with_needs l)
 records_belong law l laid needs =
     let whole = table_bytes l role.Dynstr in
     let small = strings_are_short l laid in
@@ -83,16 +84,16 @@ spelled n = need_bytes n.file n.names n.needs
 file_spelled : (l : Layout) (at : ℕ) (f : File) → needs_bytes (record_of l at f) ≡ need_of l at f
 file_spelled l at f = by (needs_of f)
   where
-    by : (o : Option VersionNeeds) → needs_bytes (record_by l at f o) ≡ need_at (behind_entries l at f) f.lib_name o
+    by : (o : Option VersionNeeds) → needs_bytes (record_by l at f o) ≡ need_at (offset_after_entry_names l at f) f.lib_name o
     by None = refl
     by (Some n) = append-nil (need_bytes (library_offset l at f) (need_offsets l at f n) n)
 
 files_spelled : (l : Layout) (at : ℕ) (fs : List File) → needs_bytes (gathered (record_of l) l at fs) ≡ needs_from l at fs
 files_spelled l at [] = refl
 files_spelled l at (f ∷ fs) =
-    flat_map-append spelled (record_of l at f) (gathered (record_of l) l (behind_file l at f) fs)
-    ∙ ap (λ (bs : List ℕ). bs ++ needs_bytes (gathered (record_of l) l (behind_file l at f) fs)) (file_spelled l at f)
-    ∙ ap (λ (bs : List ℕ). need_of l at f ++ bs) (files_spelled l (behind_file l at f) fs)
+    flat_map-append spelled (record_of l at f) (gathered (record_of l) l (next_dynstr l at f) fs)
+    ∙ ap (λ (bs : List ℕ). bs ++ needs_bytes (gathered (record_of l) l (next_dynstr l at f) fs)) (file_spelled l at f)
+    ∙ ap (λ (bs : List ℕ). need_of l at f ++ bs) (files_spelled l (next_dynstr l at f) fs)
 
 group_spelled : (l : Layout) (g : Group) → needs_dynsym l.kind ≡ true → needs_bytes (group_records l g) ≡ group_needs l g
 unfolding group_needs
@@ -104,7 +105,7 @@ no_needs : (l : Layout) (f : File) → file_content l role.GnuVersionR f ≡ []
 no_needs l f = rw (nil_if (is_prelude f.role)) refl
 
 group_gives : (l : Layout) (g : Group) → content l role.GnuVersionR g ≡ group_needs l g
-group_gives l g = rw (none_joined (file_content l role.GnuVersionR) (laid_files l g) (no_needs l)) refl
+group_gives l g = rw (none_joined (file_content l role.GnuVersionR) (placed_files l g) (no_needs l)) refl
 
 -- the table has just the bytes of all records
 pub needs_given : (l : Layout) → needs_dynsym l.kind ≡ true → needs_bytes (all_records l) ≡ table_bytes l role.GnuVersionR

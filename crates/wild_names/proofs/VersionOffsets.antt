@@ -3,21 +3,21 @@ use Rattle.std.proofs.Common.{ℕ, ◌%◌, ◌^◌, ◌<◌, List, [], ◌∷�
 use Rattle.std.proofs.lemmas.List.Elements.{All-nil, All-cons}
 use Rattle.wild_types.specs.declared.file.File.{File}
 use Rattle.wild_types.specs.declared.layout.Layout.{Layout}
-use Rattle.wild_needs.specs.DynamicStrings.{behind_text, string_start}
+use Rattle.wild_needs.specs.DynamicStrings.{offset_after_string, string_start}
 use Rattle.wild_needs.specs.Versions.{version_names}
-use Rattle.wild_versions.specs.Names.{offsets_from, behind_entries, behind_path, with_own, definition_offsets}
+use Rattle.wild_table_formats.specs.VersionNames.{offsets_from, offset_after_entry_names, offset_after_search_path, with_soname_offset, definition_offsets}
 
 pub offsets_small : (at : ℕ) (ts : List (List ℕ)) → All (λ x. x < 2 ^ 32) (offsets_from at ts)
 unfolding offsets_from
 offsets_small at [] = All-nil (λ x. x < 2 ^ 32)
-offsets_small at (t ∷ ts) = All-cons (λ x. x < 2 ^ 32) (at % 2 ^ 32) (offsets_from (behind_text at t) ts) (omega arith) (offsets_small (behind_text at t) ts)
+offsets_small at (t ∷ ts) = All-cons (λ x. x < 2 ^ 32) (at % 2 ^ 32) (offsets_from (offset_after_string at t) ts) (omega arith) (offsets_small (offset_after_string at t) ts)
 
-own_small : (at : ℕ) (soname : Option (List ℕ)) (offsets : List ℕ) → All (λ x. x < 2 ^ 32) offsets → All (λ x. x < 2 ^ 32) (with_own at soname offsets)
+own_small : (at : ℕ) (soname : Option (List ℕ)) (offsets : List ℕ) → All (λ x. x < 2 ^ 32) offsets → All (λ x. x < 2 ^ 32) (with_soname_offset at soname offsets)
 own_small at None offsets h = h
 own_small at (Some soname) offsets h = All-cons (λ x. x < 2 ^ 32) (at % 2 ^ 32) offsets (omega arith) h
 
 pub names_small : (l : Layout) (f : File) → All (λ x. x < 2 ^ 32) (definition_offsets l f)
 unfolding definition_offsets
 names_small l f =
-    let offsets = offsets_from (behind_entries l (string_start l) f) (version_names l f) in
-    own_small (behind_path (string_start l) l.options.rpath) l.options.soname offsets (offsets_small (behind_entries l (string_start l) f) (version_names l f))
+    let offsets = offsets_from (offset_after_entry_names l (string_start l) f) (version_names l f) in
+    own_small (offset_after_search_path (string_start l) l.options.rpath) l.options.soname offsets (offsets_small (offset_after_entry_names l (string_start l) f) (version_names l f))

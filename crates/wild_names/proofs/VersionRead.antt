@@ -3,7 +3,7 @@ use Rattle.std.proofs.Common.{◌≡◌, ℕ, suc, ◌+◌, ◌*◌, ◌^◌, �
 use Rattle.std.proofs.lemmas.List.{length-append, length-map}
 use Rattle.std.proofs.lemmas.List.Elements.{All-cons, All-append, All-map, All-filter, All-take, All-drop, All-weaker}
 use Rattle.std.proofs.lemmas.Option.{get_or_from_slice_get, slice_get_within}
-use Rattle.wild_words.specs.Words.{Stands}
+use Rattle.wild_words.specs.Words.{HasBytesAt}
 use Rattle.wild_words.proofs.ListLemmas.{All-flat_map}
 use Rattle.wild_records.specs.Versyms.{versym_at}
 use Rattle.wild_types.specs.declared.part.Role.TheVariants as role
@@ -16,13 +16,13 @@ use Rattle.wild_needs.specs.DynamicStrings.{undefined_symbols}
 use Rattle.wild_needs.specs.DynamicSymbols.{is_undefined_entry}
 use Rattle.wild_types.specs.FileRoles.{is_library}
 use Rattle.wild_types.specs.Lookups.{files_of}
-use Rattle.wild_symbols.specs.DynamicEntries.{listed, undefined}
-use Rattle.wild_versions.specs.Laws.{LengthsOfVersions, VersionsAreRead}
-use Rattle.wild_versions.specs.Symbols.{version_bytes, version_of, listed_version}
+use Rattle.wild_table_formats.specs.DynamicEntries.{listed, undefined}
+use Rattle.wild_table_formats.specs.VersionLaws.{LengthsOfVersions, VersionsAreRead}
+use Rattle.wild_table_formats.specs.SymbolVersions.{version_bytes, version_of, exported_version}
 use Rattle.wild_layout.specs.Geometry.{TablesStand}
 use Rattle.wild_layout.specs.Image.{bytes}
 use Rattle.wild_names.specs.Laws.{table_symbols}
-use Rattle.wild_names.specs.VersionLaws.{VersionNumbersFit, VersionsStand, table_versions}
+use Rattle.wild_names.specs.VersionLaws.{VersionNumbersFit, VersionsAreWritten, table_versions}
 use Rattle.wild_names.proofs.VersionSymbols.{own, all_versions, version_table}
 
 -- ---- their numbers
@@ -45,8 +45,8 @@ all_small : (l : Layout) → VersionNumbersFit l → All (λ v. v < 2 ^ 16) (all
 all_small l fit =
     let P : ℕ → Type 0 = λ v. v < 2 ^ 16 in
     let files = All-flat_map P (own l) (files_of l.groups) (λ k f m. own_small l (get_or (files_of l.groups) k f) fit) in
-    let seen = All-map P listed_version l.dynsyms fit.listed in
-    All-cons P 0 (table_versions l) (omega arith) (All-append P (flat_map (own l) (files_of l.groups)) (map listed_version l.dynsyms) files seen)
+    let seen = All-map P exported_version l.dynsyms fit.listed in
+    All-cons P 0 (table_versions l) (omega arith) (All-append P (flat_map (own l) (files_of l.groups)) (map exported_version l.dynsyms) files seen)
 
 -- ---- one for each symbol
 
@@ -64,17 +64,17 @@ own_beside l (f ∷ fs) =
 versions_beside : (l : Layout) → length (table_versions l) ≡ length (table_symbols l)
 versions_beside l =
     let symbols = λ (x : File). map (undefined x.role) (undefined_symbols l.symbols x) in
-    let a = length-append (flat_map (own l) (files_of l.groups)) (map listed_version l.dynsyms) in
+    let a = length-append (flat_map (own l) (files_of l.groups)) (map exported_version l.dynsyms) in
     let b = length-append (flat_map symbols (files_of l.groups)) (map (listed l) l.dynsyms) in
-    let c = length-map l.dynsyms listed_version in
+    let c = length-map l.dynsyms exported_version in
     let d = length-map l.dynsyms (listed l) in
     let e = own_beside l (files_of l.groups) in
     omega arith
 
 -- ---- the image
 
-pub versions_stand : TablesStand → LengthsOfVersions → VersionsAreRead → VersionsStand
-versions_stand stand lengths read l laid fit needs asked table found written =
+pub versions_are_written : TablesStand → LengthsOfVersions → VersionsAreRead → VersionsAreWritten
+versions_are_written stand lengths read l laid fit needs asked table found written =
     let vs = all_versions l in
     let given = version_table l laid needs asked in
     let size = ((laid.roles role.GnuVersion (λ e. absurd (omega arith))).there table found).size in
@@ -82,7 +82,7 @@ versions_stand stand lengths read l laid fit needs asked table found written =
     let total = ap (λ (bs : List ℕ). length bs) given in
     let beside = versions_beside l in
     let there = stand l laid role.GnuVersion (λ e. absurd (omega arith)) table found written (omega arith) in
-    let here = subst (λ (bs : List ℕ). Stands (bytes l) table.offset bs) given there in
+    let here = subst (λ (bs : List ℕ). HasBytesAt (bytes l) table.offset bs) given there in
     let z : table.offset + 2 * 0 ≡ table.offset = omega arith in
     record {
       beside = beside;
@@ -91,7 +91,7 @@ versions_stand stand lengths read l laid fit needs asked table found written =
       each = λ k v h. one k v h here;
     }
   where
-    one : (k v : ℕ) → slice_get (table_versions l) k ≡ Some v → Stands (bytes l) table.offset (version_bytes (all_versions l)) → (versym_at (bytes l) (table.offset + 2 * (k + 1))).version ≡ v
+    one : (k v : ℕ) → slice_get (table_versions l) k ≡ Some v → HasBytesAt (bytes l) table.offset (version_bytes (all_versions l)) → (versym_at (bytes l) (table.offset + 2 * (k + 1))).version ≡ v
     one k v h here =
         let low = slice_get_within (table_versions l) k v h in
         let z : table.offset + 2 * suc k ≡ table.offset + 2 * (k + 1) = omega arith in

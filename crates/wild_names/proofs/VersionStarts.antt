@@ -3,18 +3,18 @@ use Rattle.std.proofs.Common.{◌≡◌, ℕ, zero, suc, ◌+◌, ◌-◌, ◌^�
 use Rattle.std.specs.List.{list_any}
 use Rattle.std.proofs.lemmas.Bool.{cases_Bool, eq-eqb}
 use Rattle.std.proofs.lemmas.Option.{same_Some, slice_get_cases}
-use Rattle.wild_words.specs.Words.{Stands}
-use Rattle.wild_words.proofs.RecordLemmas.{Stands-whole, Stands-front, Stands-behind}
+use Rattle.wild_words.specs.Words.{HasBytesAt}
+use Rattle.wild_words.proofs.RecordLemmas.{HasBytesAt-whole, HasBytesAt-front, HasBytesAt-behind}
 use Rattle.wild_types.specs.declared.part.Role.{Role}
 use Rattle.wild_types.specs.declared.part.Role.TheVariants as role
 use Rattle.wild_types.specs.declared.file.File.{File}
 use Rattle.wild_types.specs.declared.file.Group.{Group}
 use Rattle.wild_types.specs.declared.layout.Layout.{Layout}
-use Rattle.wild_needs.specs.DynamicStrings.{file_strings, behind_file, start_among, start_in, string_start}
+use Rattle.wild_needs.specs.DynamicStrings.{file_strings, next_dynstr, start_among, start_in, string_start}
 use Rattle.wild_types.specs.FileRoles.{is_epilogue}
 use Rattle.wild_types.specs.Kinds.{needs_dynsym}
 use Rattle.wild_types.specs.Lists.{total}
-use Rattle.wild_symbols.proofs.StringLemmas.{length-string_bytes}
+use Rattle.wild_table_formats.proofs.StringLemmas.{length-string_bytes}
 use Rattle.wild_layout.specs.Content.{content}
 use Rattle.wild_layout.specs.Geometry.{IsLaidOut}
 use Rattle.wild_layout.specs.TablePlaces.{table_bytes, bytes_before}
@@ -25,33 +25,33 @@ use Rattle.wild_names.proofs.RunLemmas.{strings_of, group_gives, strings_are_sho
 pub record LastStands (l : Layout) (whole : List ℕ) (at : ℕ) : Type 0 where
   pub file : File
   pub last : is_epilogue file.role ≡ true
-  pub stands : Stands whole at (strings_of l file)
+  pub stands : HasBytesAt whole at (strings_of l file)
 
 -- of groups whose bytes stand one behind the other
-group_stands : (l : Layout) (r : Role) (whole : List ℕ) (at : ℕ) (gs : List Group) (j : ℕ) (g : Group) → slice_get gs j ≡ Some g → Stands whole at (flat_map (content l r) gs) → Stands whole (at + total (λ (x : Group). length (content l r x)) (take j gs)) (content l r g)
+group_stands : (l : Layout) (r : Role) (whole : List ℕ) (at : ℕ) (gs : List Group) (j : ℕ) (g : Group) → slice_get gs j ≡ Some g → HasBytesAt whole at (flat_map (content l r) gs) → HasBytesAt whole (at + total (λ (x : Group). length (content l r x)) (take j gs)) (content l r g)
 group_stands l r whole at [] j g h s = cc
 group_stands l r whole at (x ∷ gs) zero g h s =
     let z : at ≡ at + 0 = omega arith in
-    let here = Stands-front whole (content l r x) (flat_map (content l r) gs) at s in
-    subst (λ (y : Group). Stands whole (at + 0) (content l r y)) (same_Some x g h) (subst (λ (n : ℕ). Stands whole n (content l r x)) z here)
+    let here = HasBytesAt-front whole (content l r x) (flat_map (content l r) gs) at s in
+    subst (λ (y : Group). HasBytesAt whole (at + 0) (content l r y)) (same_Some x g h) (subst (λ (n : ℕ). HasBytesAt whole n (content l r x)) z here)
 group_stands l r whole at (x ∷ gs) (suc j) g h s =
     let before = λ (y : Group). length (content l r y) in
-    let later = Stands-behind whole (content l r x) (flat_map (content l r) gs) at (length (content l r x)) refl s in
+    let later = HasBytesAt-behind whole (content l r x) (flat_map (content l r) gs) at (length (content l r x)) refl s in
     let z : at + before x + total before (take j gs) ≡ at + total before (take (suc j) (x ∷ gs)) = omega arith in
-    subst (λ (n : ℕ). Stands whole n (content l r g)) z (group_stands l r whole (at + before x) gs j g h later)
+    subst (λ (n : ℕ). HasBytesAt whole n (content l r g)) z (group_stands l r whole (at + before x) gs j g h later)
 
 -- of files whose strings stand one behind the other
-file_stands : (l : Layout) (whole : List ℕ) → length whole < 2 ^ 32 → (at : ℕ) (fs : List File) → list_any (λ (f : File). is_epilogue f.role) fs ≡ true → Stands whole at (flat_map (strings_of l) fs) → LastStands l whole (start_among l at fs)
+file_stands : (l : Layout) (whole : List ℕ) → length whole < 2 ^ 32 → (at : ℕ) (fs : List File) → list_any (λ (f : File). is_epilogue f.role) fs ≡ true → HasBytesAt whole at (flat_map (strings_of l) fs) → LastStands l whole (start_among l at fs)
 file_stands l whole small at [] h s = cc
 file_stands l whole small at (f ∷ fs) h s =
     let long = length-string_bytes (file_strings l f) in
-    let here = Stands-front whole (strings_of l f) (flat_map (strings_of l) fs) at s in
-    let later = Stands-behind whole (strings_of l f) (flat_map (strings_of l) fs) at (length (strings_of l f)) refl s in
+    let here = HasBytesAt-front whole (strings_of l f) (flat_map (strings_of l) fs) at s in
+    let later = HasBytesAt-behind whole (strings_of l f) (flat_map (strings_of l) fs) at (length (strings_of l f)) refl s in
     let ends = later.fits in
-    let is : at + length (strings_of l f) ≡ behind_file l at f = omega arith in
+    let is : at + length (strings_of l f) ≡ next_dynstr l at f = omega arith in
     elim (cases_Bool (is_epilogue f.role)) [
       | inl t ↦ rw t (record { file = f; last = t; stands = here })
-      | inr n ↦ rw n (file_stands l whole small (behind_file l at f) fs (rw n at h) (subst (λ (n : ℕ). Stands whole n (flat_map (strings_of l) fs)) is later))
+      | inr n ↦ rw n (file_stands l whole small (next_dynstr l at f) fs (rw n at h) (subst (λ (n : ℕ). HasBytesAt whole n (flat_map (strings_of l) fs)) is later))
     ]
 
 -- of the last group
@@ -62,8 +62,8 @@ in_group l laid needs i g ends found same =
     let has : has_last g ≡ true = subst (λ (x : Group). has_last x ≡ true) same test in
     let start = laid.starts i g found needs in
     let z : 0 + bytes_before l role.Dynstr i ≡ g.dynstr_start = omega arith in
-    let own = subst (λ (n : ℕ). Stands whole n (content l role.Dynstr g)) z (group_stands l role.Dynstr whole 0 l.groups i g found (Stands-whole whole)) in
-    file_stands l whole (strings_are_short l laid) g.dynstr_start g.files has (subst (λ (bs : List ℕ). Stands whole g.dynstr_start bs) (group_gives l g) own)
+    let own = subst (λ (n : ℕ). HasBytesAt whole n (content l role.Dynstr g)) z (group_stands l role.Dynstr whole 0 l.groups i g found (HasBytesAt-whole whole)) in
+    file_stands l whole (strings_are_short l laid) g.dynstr_start g.files has (subst (λ (bs : List ℕ). HasBytesAt whole g.dynstr_start bs) (group_gives l g) own)
 
 -- the last file's strings stand where the layout tells
 pub last_stands : (l : Layout) → IsLaidOut l → needs_dynsym l.kind ≡ true → LastStands l (table_bytes l role.Dynstr) (string_start l)

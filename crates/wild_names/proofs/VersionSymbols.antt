@@ -1,6 +1,6 @@
 -- The table of the versions of dynamic symbols: that of the null one, those of each file, and those of the list.
-use Rattle.wild_laid.specs.Laid.{laid_files}
-use Rattle.wild_geometry.proofs.StoodSections.{laid_same}
+use Rattle.wild_placement.specs.PlacedSections.{placed_files}
+use Rattle.wild_geometry.proofs.PlacedInputs.{laid_same}
 use Rattle.std.proofs.Common.{◌≡◌, ℕ, true, List, [], ◌∷◌, map, flat_map, refl, sym, ap, ◌∙◌}
 use Rattle.std.proofs.lemmas.List.{append-nil}
 use Rattle.wild_words.proofs.ListLemmas.{flat_map-same, flat_map-flat_map}
@@ -13,8 +13,8 @@ use Rattle.wild_needs.specs.DynamicStrings.{undefined_symbols}
 use Rattle.wild_types.specs.FileRoles.{is_prelude, is_epilogue}
 use Rattle.wild_types.specs.Kinds.{needs_dynsym}
 use Rattle.wild_types.specs.Lookups.{files_of}
-use Rattle.wild_versions.specs.Names.{symbol_versions}
-use Rattle.wild_versions.specs.Symbols.{spelled, version_bytes, version_of, listed_version, file_versions}
+use Rattle.wild_table_formats.specs.VersionNames.{symbol_versions}
+use Rattle.wild_table_formats.specs.SymbolVersions.{spelled, version_bytes, version_of, exported_version, file_versions}
 use Rattle.wild_layout.specs.Content.{file_content, content}
 use Rattle.wild_layout.specs.Geometry.{IsLaidOut}
 use Rattle.wild_layout.specs.TablePlaces.{table_bytes}
@@ -41,7 +41,7 @@ in_order l = record {
   items = file_versions l;
   own = own l;
   front = 0 ∷ [];
-  behind = map listed_version l.dynsyms;
+  behind = map exported_version l.dynsyms;
   first = λ f p e. rw (p, e) refl;
   middle = λ f p e. rw (p, e) refl;
   last = λ f p e. (let c = last_has_none l f e in rw (p, e, c) refl);
@@ -61,8 +61,8 @@ file_gives l f needs asked =
 
 group_gives : (l : Layout) (g : Group) → needs_dynsym l.kind ≡ true → l.options.versions ≡ true → content l role.GnuVersion g ≡ version_bytes (flat_map (file_versions l) g.files)
 group_gives l g needs asked =
-    append-nil (flat_map (file_content l role.GnuVersion) (laid_files l g))
-    ∙ flat_map-same (file_content l role.GnuVersion) (λ (f : File). version_bytes (file_versions l f)) (laid_files l g) (λ f. file_gives l f needs asked)
+    append-nil (flat_map (file_content l role.GnuVersion) (placed_files l g))
+    ∙ flat_map-same (file_content l role.GnuVersion) (λ (f : File). version_bytes (file_versions l f)) (placed_files l g) (λ f. file_gives l f needs asked)
     ∙ laid_same (λ (f : File). version_bytes (file_versions l f)) l g (λ at f. refl)
     ∙ sym (flat_map-flat_map spelled (file_versions l) g.files)
 

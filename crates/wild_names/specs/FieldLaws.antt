@@ -16,11 +16,11 @@ use Rattle.wild_types.specs.declared.layout.Layout.{Layout}
 use Rattle.wild_types.specs.Kinds.{needs_dynsym, is_partial_link}
 use Rattle.wild_types.specs.Parts.{part_with}
 use Rattle.wild_needs.specs.TableSymbols.{TableSymbol, file_items, item_name, is_local}
-use Rattle.wild_symbols.specs.declared.dynamic.SymbolFields.{SymbolFields}
-use Rattle.wild_symbols.specs.declared.table.TableFields.{TableFields}
-use Rattle.wild_symbols.specs.DynamicEntries.{NamedFields, listed}
-use Rattle.wild_symbols.specs.DynamicFields.{listed_fields}
-use Rattle.wild_symbols.specs.TableEntries.{NamedEntry, table_fields, named_entry}
+use Rattle.wild_table_formats.specs.declared.symbols.SymbolFields.{SymbolFields}
+use Rattle.wild_table_formats.specs.declared.symbols.TableFields.{TableFields}
+use Rattle.wild_table_formats.specs.DynamicEntries.{NamedFields, listed}
+use Rattle.wild_table_formats.specs.DynamicFields.{exported_symbol_fields}
+use Rattle.wild_table_formats.specs.TableEntries.{NamedEntry, table_fields, named_entry}
 use Rattle.wild_layout.specs.Faults.{errors}
 use Rattle.wild_layout.specs.Geometry.{IsLaidOut}
 use Rattle.wild_layout.specs.Image.{bytes}
@@ -51,7 +51,7 @@ pub record HasListedFields (l : Layout) (d : DynamicSymbol) : Type 0 where
   pub symbol : Symbol
   pub there : slice_get l.symbols d.symbol ≡ Some symbol
   pub fields : SymbolFields
-  pub told : listed_fields l d.symbol symbol ≡ Ok fields
+  pub told : exported_symbol_fields l d.symbol symbol ≡ Ok fields
   pub entry : listed l d ≡ listed_with d fields
 
 -- this holds for each one of a layout without faults, if the output has dynamic symbols

@@ -2,10 +2,10 @@
 -- "Symbol Versioning").
 --   table_versions l       the versions of the symbols of `table_symbols`, in the same order
 --   VersionNumbersFit l    the numbers of versions are in the ranges of their types
---   VersionsStand          the version of each dynamic symbol is read at its position
---   DefinitionsStand       a reader finds exactly the versions that the output defines, and their names
---   with_needs l           the libraries from which versions are needed, in order, each with these versions
---   NeedsStand             a reader finds exactly these libraries and versions, and their names
+--   VersionsAreWritten          the version of each dynamic symbol is read at its position
+--   DefinitionsAreWritten       a reader finds exactly the versions that the output defines, and their names
+--   libraries_with_needs l           the libraries from which versions are needed, in order, each with these versions
+--   NeedsAreWritten             a reader finds exactly these libraries and versions, and their names
 use Rattle.std.specs.Prelude.{◌≡◌, ℕ, ◌+◌, ◌*◌, ◌^◌, ◌<◌, ◌≤◌, true, false, List, [], ◌∷◌, ◌++◌, length, map, Option, Some, None, All, slice_get}
 use Rattle.std.specs.List.{flat_map}
 use Rattle.wild_records.specs.Abi.Version.{ver_ndx_local}
@@ -23,14 +23,14 @@ use Rattle.wild_types.specs.declared.symbol.Symbol.{Symbol}
 use Rattle.wild_needs.specs.DynamicStrings.{undefined_symbols}
 use Rattle.wild_types.specs.Kinds.{needs_dynsym}
 use Rattle.wild_types.specs.Lists.{total}
-use Rattle.wild_types.specs.Lookups.{files_of, is_hollow_at}
+use Rattle.wild_types.specs.Lookups.{files_of, is_header_only_at}
 use Rattle.wild_types.specs.Parts.{part_with}
 use Rattle.wild_needs.specs.Versions.{definitions_size, need_size, needs_of}
-use Rattle.wild_versions.specs.Chain.{name_at}
-use Rattle.wild_versions.specs.Definitions.{known_as}
-use Rattle.wild_versions.specs.Laws.{all_defined, Need, library_of}
-use Rattle.wild_versions.specs.Reading.{definitions_from, needs_from}
-use Rattle.wild_versions.specs.Symbols.{version_of, listed_version}
+use Rattle.wild_table_formats.specs.VersionChain.{name_at}
+use Rattle.wild_table_formats.specs.VersionDefinitions.{version_name}
+use Rattle.wild_table_formats.specs.VersionLaws.{expected_definitions, Need, library_of}
+use Rattle.wild_table_formats.specs.VersionReading.{definitions_from, needs_from}
+use Rattle.wild_table_formats.specs.SymbolVersions.{version_of, exported_version}
 use Rattle.wild_layout.specs.Geometry.{IsLaidOut}
 use Rattle.wild_layout.specs.Image.{bytes}
 use Rattle.wild_names.specs.Laws.{table_symbols, IsNamed}
@@ -51,7 +51,7 @@ pub record VersionNumbersFit (l : Layout) : Type 0 where
 
 -- in file order the versions of the symbols that other modules define, then those of the symbols that other modules see
 abbrev pub table_versions : Layout → List ℕ
-table_versions l = flat_map (λ (f : File). map (version_of f.role) (undefined_symbols l.symbols f)) (files_of l.groups) ++ map listed_version l.dynsyms
+table_versions l = flat_map (λ (f : File). map (version_of f.role) (undefined_symbols l.symbols f)) (files_of l.groups) ++ map exported_version l.dynsyms
 
 -- each dynamic symbol has its version, after that of the null symbol, and there are no others
 pub record VersionsAreThere (l : Layout) (table : Part) : Type 0 where
@@ -61,8 +61,8 @@ pub record VersionsAreThere (l : Layout) (table : Part) : Type 0 where
   pub each : (k v : ℕ) → slice_get (table_versions l) k ≡ Some v → (versym_at (bytes l) (table.offset + versym_size * (k + 1))).version ≡ v
 
 -- this holds in the image of a layout whose clauses and shares hold, if the option requires versions and the table is written
-abbrev pub VersionsStand : Type 0
-VersionsStand = (l : Layout) → IsLaidOut l → VersionNumbersFit l → needs_dynsym l.kind ≡ true → l.options.versions ≡ true → (table : Part) → part_with role.GnuVersion l.parts ≡ Some table → is_hollow_at l table.section ≡ false → VersionsAreThere l table
+abbrev pub VersionsAreWritten : Type 0
+VersionsAreWritten = (l : Layout) → IsLaidOut l → VersionNumbersFit l → needs_dynsym l.kind ≡ true → l.options.versions ≡ true → (table : Part) → part_with role.GnuVersion l.parts ≡ Some table → is_header_only_at l table.section ≡ false → VersionsAreThere l table
 
 -- ---- the versions that the output defines
 
@@ -72,13 +72,13 @@ pub record DefinitionsAreThere (l : Layout) (table strings : Part) : Type 0 wher
   pub names : List ℕ
   pub some : 1 ≤ length l.verdefs
   pub whole : table.size ≡ definitions_size l.verdefs
-  pub found : (n : ℕ) → length l.verdefs ≤ n → definitions_from (bytes l) n table.offset ≡ all_defined names l.options.soname 0 l.verdefs
-  pub named : (k : ℕ) (d : VersionDefinition) → slice_get l.verdefs k ≡ Some d → IsNamed l strings (name_at names k) (known_as l.options.soname k d.name)
+  pub found : (n : ℕ) → length l.verdefs ≤ n → definitions_from (bytes l) n table.offset ≡ expected_definitions names l.options.soname 0 l.verdefs
+  pub named : (k : ℕ) (d : VersionDefinition) → slice_get l.verdefs k ≡ Some d → IsNamed l strings (name_at names k) (version_name l.options.soname k d.name)
   pub parents : (k : ℕ) (d : VersionDefinition) (p : ℕ) → slice_get l.verdefs k ≡ Some d → d.parent ≡ Some p → p < k
 
 -- this holds in the image of a layout whose clauses and shares hold, if both are written
-abbrev pub DefinitionsStand : Type 0
-DefinitionsStand = (l : Layout) → IsLaidOut l → needs_dynsym l.kind ≡ true → (table strings : Part) → part_with role.GnuVersionD l.parts ≡ Some table → part_with role.Dynstr l.parts ≡ Some strings → is_hollow_at l table.section ≡ false → is_hollow_at l strings.section ≡ false → DefinitionsAreThere l table strings
+abbrev pub DefinitionsAreWritten : Type 0
+DefinitionsAreWritten = (l : Layout) → IsLaidOut l → needs_dynsym l.kind ≡ true → (table strings : Part) → part_with role.GnuVersionD l.parts ≡ Some table → part_with role.Dynstr l.parts ≡ Some strings → is_header_only_at l table.section ≡ false → is_header_only_at l strings.section ≡ false → DefinitionsAreThere l table strings
 
 -- ---- the versions that are needed from libraries
 
@@ -88,16 +88,16 @@ pub record LibraryNeeds : Type 0 where
   pub needs : VersionNeeds
 
 -- those of a library, if versions are needed from it
-abbrev pub needed_by : File → Option VersionNeeds → List LibraryNeeds
-needed_by f None = []
-needed_by f (Some n) = record { file = f; needs = n } ∷ []
+abbrev pub needs_of_library : File → Option VersionNeeds → List LibraryNeeds
+needs_of_library f None = []
+needs_of_library f (Some n) = record { file = f; needs = n } ∷ []
 
 -- the libraries from which versions are needed, in order
-abbrev pub with_needs : Layout → List LibraryNeeds
-with_needs l = flat_map (λ (f : File). needed_by f (needs_of f)) (files_of l.groups)
+abbrev pub libraries_with_needs : Layout → List LibraryNeeds
+libraries_with_needs l = flat_map (λ (f : File). needs_of_library f (needs_of f)) (files_of l.groups)
 
 -- the record of a library has the versions that are needed from it, and both names are at their offsets
-pub record TellsNeeds (l : Layout) (strings : Part) (n : Need) (w : LibraryNeeds) : Type 0 where
+pub record RecordsNeeds (l : Layout) (strings : Part) (n : Need) (w : LibraryNeeds) : Type 0 where
   pub same : n.needs ≡ w.needs
   pub library : IsNamed l strings n.file w.file.lib_name
   pub versions : (k : ℕ) (v : NeededVersion) → slice_get w.needs.versions k ≡ Some v → IsNamed l strings (name_at n.names k) v.name
@@ -106,16 +106,16 @@ pub record TellsNeeds (l : Layout) (strings : Part) (n : Need) (w : LibraryNeeds
 pub record HasNeeds (l : Layout) (strings : Part) (ns : List Need) (k : ℕ) (w : LibraryNeeds) : Type 0 where
   pub need : Need
   pub is : slice_get ns k ≡ Some need
-  pub tells : TellsNeeds l strings need w
+  pub tells : RecordsNeeds l strings need w
 
 -- a reader whose limit is that many libraries or more finds exactly these, each with the versions that are needed from it
 pub record NeedsAreThere (l : Layout) (table strings : Part) : Type 0 where
   pub needs : List Need
-  pub count : length needs ≡ length (with_needs l)
-  pub whole : table.size ≡ total (λ (w : LibraryNeeds). need_size w.needs) (with_needs l)
+  pub count : length needs ≡ length (libraries_with_needs l)
+  pub whole : table.size ≡ total (λ (w : LibraryNeeds). need_size w.needs) (libraries_with_needs l)
   pub found : (n : ℕ) → length needs ≤ n → needs_from (bytes l) n table.offset ≡ map library_of needs
-  pub each : (k : ℕ) (w : LibraryNeeds) → slice_get (with_needs l) k ≡ Some w → HasNeeds l strings needs k w
+  pub each : (k : ℕ) (w : LibraryNeeds) → slice_get (libraries_with_needs l) k ≡ Some w → HasNeeds l strings needs k w
 
 -- this holds in the image of a layout whose clauses and shares hold, if both are written
-abbrev pub NeedsStand : Type 0
-NeedsStand = (l : Layout) → IsLaidOut l → VersionNumbersFit l → needs_dynsym l.kind ≡ true → 1 ≤ length (with_needs l) → (table strings : Part) → part_with role.GnuVersionR l.parts ≡ Some table → part_with role.Dynstr l.parts ≡ Some strings → is_hollow_at l table.section ≡ false → is_hollow_at l strings.section ≡ false → NeedsAreThere l table strings
+abbrev pub NeedsAreWritten : Type 0
+NeedsAreWritten = (l : Layout) → IsLaidOut l → VersionNumbersFit l → needs_dynsym l.kind ≡ true → 1 ≤ length (libraries_with_needs l) → (table strings : Part) → part_with role.GnuVersionR l.parts ≡ Some table → part_with role.Dynstr l.parts ≡ Some strings → is_header_only_at l table.section ≡ false → is_header_only_at l strings.section ≡ false → NeedsAreThere l table strings

@@ -16,7 +16,7 @@ use Rattle.wild_types.specs.FileRoles.{is_library}
 use Rattle.wild_types.specs.Lists.{total}
 use Rattle.wild_types.specs.declared.file.Group.{Group}
 use Rattle.wild_needs.specs.Dynamic.{TagFits, all_tags, entry_of, entry_with, tag_entries, dynamic_entries, dynamic_count}
-use Rattle.wild_needs.specs.DynamicStrings.{NamedString, string_start, behind_text, string_entries, named_strings, named, auxiliary_string, path_number, option_strings, needed_of, behind_file, needed_from, needed_count, needed_entries}
+use Rattle.wild_needs.specs.DynamicStrings.{NamedString, string_start, offset_after_string, string_entries, named_strings, named, auxiliary_string, path_number, option_strings, needed_of, next_dynstr, needed_from, needed_count, needed_entries}
 
 -- an entry is one where it has a value
 pub length_entry : (number : ℕ) (value : Option ℕ) (rest : List DynamicEntry) → length (entry_with number value ++ rest) ≡ (if is_some value then 1 else 0) + length rest
@@ -26,7 +26,7 @@ length_entry number (Some value) rest = omega arith
 pub length_string_entries : (at : ℕ) (ss : List NamedString) → length (string_entries at ss) ≡ length ss
 unfolding string_entries
 length_string_entries at [] = refl
-length_string_entries at (s ∷ ss) = let e = length_string_entries (behind_text at s.text) ss in omega (arith, e)
+length_string_entries at (s ∷ ss) = let e = length_string_entries (offset_after_string at s.text) ss in omega (arith, e)
 
 -- an entry for each string, and those with values of their own
 pub length_dynamic_entries : (l : Layout) → dynamic_count l ≡ length (named_strings l) + length (tag_entries l)
@@ -42,9 +42,9 @@ pub strings_fit : (at : ℕ) (ss : List NamedString) → at < 2 ^ 64 → All (λ
 unfolding string_entries
 strings_fit at [] h n = All-nil DynamicEntryFits
 strings_fit at (s ∷ ss) h n =
-    All-cons DynamicEntryFits _ (string_entries (behind_text at s.text) ss)
+    All-cons DynamicEntryFits _ (string_entries (offset_after_string at s.text) ss)
     (record { tag = All-head (λ (s : NamedString). s.number < 2 ^ 64) s ss n; value = h })
-    (strings_fit (behind_text at s.text) ss (omega arith) (All-tail (λ (s : NamedString). s.number < 2 ^ 64) s ss n))
+    (strings_fit (offset_after_string at s.text) ss (omega arith) (All-tail (λ (s : NamedString). s.number < 2 ^ 64) s ss n))
 
 named_numbers : (n : ℕ) (text : Option (List ℕ)) → n < 2 ^ 64 → All (λ (s : NamedString). s.number < 2 ^ 64) (named n text)
 named_numbers n None h = All-nil _
@@ -106,9 +106,9 @@ needed_length at f =
 pub needed_files : (l : Layout) (at : ℕ) (fs : List File) → needs_dynamic l.kind ≡ true → length (needed_from l at fs) ≡ total (needed_count l) fs
 needed_files l at [] needs = refl
 needed_files l at (f ∷ fs) needs =
-    let a = length-append (needed_of at f) (needed_from l (behind_file l at f) fs) in
+    let a = length-append (needed_of at f) (needed_from l (next_dynstr l at f) fs) in
     let b = needed_length at f in
-    let c = needed_files l (behind_file l at f) fs needs in
+    let c = needed_files l (next_dynstr l at f) fs needs in
     let d : needed_count l f ≡ length (needed_of 0 f) = rw needs refl in
     omega arith
 

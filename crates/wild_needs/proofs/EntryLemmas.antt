@@ -7,8 +7,8 @@ use Rattle.std.proofs.lemmas.Bool.{eq-eqb}
 use Rattle.std.proofs.lemmas.List.{drop_all}
 use Rattle.wild_records.specs.Abi.Relocation.{r_aarch64_abs64, r_x86_64_64, r_x86_64_size32, r_x86_64_size64}
 use Rattle.wild_relr.specs.declared.run.Run.{Run}
-use Rattle.wild_relr.specs.Packing.{choice}
-use Rattle.wild_relr.specs.Packed.{counted, new_words, run_after, packed, packed_on}
+use Rattle.wild_relr.specs.Encoding.{choice}
+use Rattle.wild_relr.specs.RunWords.{counted, new_words, run_after, packed, packed_on}
 use Rattle.wild_reloc.specs.Field.{field_width}
 use Rattle.wild_reloc.specs.TableX86_64.{x86_64_rows, x86_64_row}
 use Rattle.wild_reloc.specs.TableAArch64.{static_rows, thread_rows, static_row, thread_row}
@@ -22,12 +22,12 @@ use Rattle.wild_types.specs.declared.kind.Machine.TheVariants as machine
 use Rattle.wild_types.specs.declared.layout.Layout.{Layout}
 use Rattle.wild_slot.specs.declared.treatment.Treatment.{Treatment}
 use Rattle.wild_slot.specs.declared.treatment.Treatment.TheVariants.{Symbolic, Indirect, Extent}
-use Rattle.wild_needs.specs.Entries.{is_left_to_entry, may_be_left, may_have_entry}
+use Rattle.wild_needs.specs.Entries.{has_dynamic_entry, may_have_dynamic_entry, may_have_entry}
 use Rattle.wild_types.specs.Lookups.{allocated, writable}
 use Rattle.wild_types.specs.Rows.{row_of}
 use Rattle.wild_types.specs.Flags.{has_flag, interposable, dynamic, ifunc}
 use Rattle.wild_types.specs.Kinds.{is_position_independent, is_shared_object}
-use Rattle.wild_slot.specs.Treatment.{flags_at, suited, row_treatment, treatment}
+use Rattle.wild_slot.specs.Treatment.{flags_at, row_that_accepts, row_treatment, treatment}
 use Rattle.wild_slot.proofs.TreatmentLemmas.{IsLeftBy, Says, row_said, suited_is}
 
 -- a place more, in front
@@ -58,23 +58,23 @@ never true h = absurd (h refl)
 never false h = refl
 
 -- the section is allocated
-entry_room : (l : Layout) (flags : ℕ) (symbol : Option ℕ) (row : RelocationKindInfo) (t : Treatment) → Says l flags symbol row t → is_left_to_entry t ≡ true → allocated flags ≡ true
+entry_room : (l : Layout) (flags : ℕ) (symbol : Option ℕ) (row : RelocationKindInfo) (t : Treatment) → Says l flags symbol row t → has_dynamic_entry t ≡ true → allocated flags ≡ true
 entry_room l flags symbol row (Symbolic i) h e = h.0.room
 entry_room l flags symbol row (Indirect i) h e = h.0.room
 entry_room l flags symbol row (Extent r i) h e = h.1.room
 entry_room l flags symbol row other h e = cc
 
-row_keeps : (l : Layout) (flags : ℕ) (n : ℕ) (o : Option ℕ) (row : Option RelocationKindInfo) → allocated flags ≡ false → is_left_to_entry (row_treatment l flags n o row) ≡ false
+row_keeps : (l : Layout) (flags : ℕ) (n : ℕ) (o : Option ℕ) (row : Option RelocationKindInfo) → allocated flags ≡ false → has_dynamic_entry (row_treatment l flags n o row) ≡ false
 unfolding row_treatment
 row_keeps l flags n o None h = refl
 row_keeps l flags n o (Some row) h = never _ (λ e. (let both : true ≡ false = sym (entry_room l flags o row (row_treatment l flags n o (Some row)) (row_said l flags n o row) e) ∙ h in cc))
 
-keeps : (l : Layout) (flags : ℕ) (r : InputRelocation) → allocated flags ≡ false → is_left_to_entry (treatment l flags r) ≡ false
+keeps : (l : Layout) (flags : ℕ) (r : InputRelocation) → allocated flags ≡ false → has_dynamic_entry (treatment l flags r) ≡ false
 unfolding treatment
-keeps l flags r h = row_keeps l flags r.number r.symbol (suited l.machine r (row_of l.machine r.number)) h
+keeps l flags r h = row_keeps l flags r.number r.symbol (row_that_accepts l.machine r (row_of l.machine r.number)) h
 
 -- in a section that is not loaded none is
-pub none_left : (l : Layout) (flags : ℕ) (rs : List InputRelocation) → allocated flags ≡ false → length (filter (λ r. is_left_to_entry (treatment l flags r)) rs) ≡ 0
+pub none_left : (l : Layout) (flags : ℕ) (rs : List InputRelocation) → allocated flags ≡ false → length (filter (λ r. has_dynamic_entry (treatment l flags r)) rs) ≡ 0
 none_left l flags [] h = refl
 none_left l flags (r ∷ rs) h = let e = keeps l flags r h in rw e (none_left l flags rs h)
 
@@ -108,18 +108,18 @@ last_left true b h = refl
 last_left false b h = h
 
 -- an address that an entry fills has that number, and stands where the program may write
-address_number : (flags : ℕ) (symbol : Option ℕ) (row : RelocationKindInfo) (i n : ℕ) → has_number row.kind (field_width row) n ≡ true → IsLeftBy flags symbol row i → writable flags ≡ true → may_be_left flags n ≡ true
+address_number : (flags : ℕ) (symbol : Option ℕ) (row : RelocationKindInfo) (i n : ℕ) → has_number row.kind (field_width row) n ≡ true → IsLeftBy flags symbol row i → writable flags ≡ true → may_have_dynamic_entry flags n ≡ true
 address_number flags symbol row i n h by writes =
     let number : has_number kinds.Absolute (field_width row) n ≡ true = subst (λ (k : RelocationKind). has_number k (field_width row) n ≡ true) by.kind h in
     first_left (n == r_x86_64_64 || n == r_aarch64_abs64) (writable flags) (n == r_x86_64_size32 || n == r_x86_64_size64) (number_known (field_width row == 8) (n == r_x86_64_64 || n == r_aarch64_abs64) (eq-eqb (field_width row) 8 by.width) number) writes
 
-entry_number : (l : Layout) (flags : ℕ) (symbol : Option ℕ) (row : RelocationKindInfo) (n : ℕ) (t : Treatment) → has_number row.kind (field_width row) n ≡ true → Says l flags symbol row t → is_left_to_entry t ≡ true → may_be_left flags n ≡ true
+entry_number : (l : Layout) (flags : ℕ) (symbol : Option ℕ) (row : RelocationKindInfo) (n : ℕ) (t : Treatment) → has_number row.kind (field_width row) n ≡ true → Says l flags symbol row t → has_dynamic_entry t ≡ true → may_have_dynamic_entry flags n ≡ true
 entry_number l flags symbol row n (Symbolic i) h says e = address_number flags symbol row i n h says.0 (writes_there (allocated flags) (writable flags) (field_width row == 8) (interposable (flags_at l i)) says.1)
 entry_number l flags symbol row n (Indirect i) h says e = address_number flags symbol row i n h says.0 (writes_there (allocated flags) (writable flags) (is_position_independent l.kind) (has_flag (flags_at l i) ifunc) says.1.chosen)
 entry_number l flags symbol row n (Extent r i) h says e = last_left ((n == r_x86_64_64 || n == r_aarch64_abs64) && writable flags) (n == r_x86_64_size32 || n == r_x86_64_size64) (subst (λ (k : RelocationKind). has_number k (field_width row) n ≡ true) says.1.kind h)
 entry_number l flags symbol row n other h says e = cc
 
-row_stays : (l : Layout) (flags : ℕ) (o : Option ℕ) (n : ℕ) (row : Option RelocationKindInfo) → ((r : RelocationKindInfo) → row ≡ Some r → has_number r.kind (field_width r) n ≡ true) → may_be_left flags n ≡ false → is_left_to_entry (row_treatment l flags n o row) ≡ false
+row_stays : (l : Layout) (flags : ℕ) (o : Option ℕ) (n : ℕ) (row : Option RelocationKindInfo) → ((r : RelocationKindInfo) → row ≡ Some r → has_number r.kind (field_width r) n ≡ true) → may_have_dynamic_entry flags n ≡ false → has_dynamic_entry (row_treatment l flags n o row) ≡ false
 unfolding row_treatment
 row_stays l flags o n None known m = refl
 row_stays l flags o n (Some row) known m =
@@ -131,9 +131,9 @@ number_here machine.X86_64 n row known = entry_passes (λ (k : ℕ) (r : Relocat
 number_here machine.AArch64 n row known = parts_pass (λ (k : ℕ) (r : RelocationKindInfo). has_number r.kind (field_width r) k) static_rows thread_rows refl refl n row known
 
 -- the field of a relocation of another type is left to none
-pub others_stay : (l : Layout) (flags : ℕ) (r : InputRelocation) → may_be_left flags r.number ≡ false → is_left_to_entry (treatment l flags r) ≡ false
+pub others_stay : (l : Layout) (flags : ℕ) (r : InputRelocation) → may_have_dynamic_entry flags r.number ≡ false → has_dynamic_entry (treatment l flags r) ≡ false
 unfolding treatment
-others_stay l flags r m = row_stays l flags r.symbol r.number (suited l.machine r (row_of l.machine r.number)) (λ row h. number_here l.machine r.number row (suited_is l.machine r (row_of l.machine r.number) row h)) m
+others_stay l flags r m = row_stays l flags r.symbol r.number (row_that_accepts l.machine r (row_of l.machine r.number)) (λ row h. number_here l.machine r.number row (suited_is l.machine r (row_of l.machine r.number) row h)) m
 
 -- ---- symbols that entries do not name
 
@@ -153,21 +153,21 @@ open_one true b h = refl
 open_one false b h = cc
 
 -- others may define the symbol, or a resolver chooses it
-entry_symbol : (l : Layout) (flags : ℕ) (symbol : Option ℕ) (row : RelocationKindInfo) (t : Treatment) → Says l flags symbol row t → is_left_to_entry t ≡ true → may_have_entry l symbol ≡ true
+entry_symbol : (l : Layout) (flags : ℕ) (symbol : Option ℕ) (row : RelocationKindInfo) (t : Treatment) → Says l flags symbol row t → has_dynamic_entry t ≡ true → may_have_entry l symbol ≡ true
 entry_symbol l flags symbol row (Symbolic i) h e = rw h.0.named (open_one (interposable (flags_at l i)) (has_flag (flags_at l i) ifunc) (last_true (allocated flags) (writable flags) (field_width row == 8) (interposable (flags_at l i)) h.1))
 entry_symbol l flags symbol row (Indirect i) h e = rw h.0.named (last_left (interposable (flags_at l i)) (has_flag (flags_at l i) ifunc) (last_true (allocated flags) (writable flags) (is_position_independent l.kind) (has_flag (flags_at l i) ifunc) h.1.chosen))
 entry_symbol l flags symbol row (Extent r i) h e = rw h.1.named (open_one (interposable (flags_at l i)) (has_flag (flags_at l i) ifunc) (second_true (allocated flags) (interposable (flags_at l i)) (has_flag (flags_at l i) dynamic || is_shared_object l.kind) h.1.sized))
 entry_symbol l flags symbol row other h e = cc
 
-row_plain : (l : Layout) (flags : ℕ) (n : ℕ) (o : Option ℕ) (row : Option RelocationKindInfo) → may_have_entry l o ≡ false → is_left_to_entry (row_treatment l flags n o row) ≡ false
+row_plain : (l : Layout) (flags : ℕ) (n : ℕ) (o : Option ℕ) (row : Option RelocationKindInfo) → may_have_entry l o ≡ false → has_dynamic_entry (row_treatment l flags n o row) ≡ false
 unfolding row_treatment
 row_plain l flags n o None h = refl
 row_plain l flags n o (Some row) h = never _ (λ e. (let both : true ≡ false = sym (entry_symbol l flags o row (row_treatment l flags n o (Some row)) (row_said l flags n o row) e) ∙ h in cc))
 
 -- the field of a relocation of another symbol is left to none
-pub plain_stay : (l : Layout) (flags : ℕ) (r : InputRelocation) → may_have_entry l r.symbol ≡ false → is_left_to_entry (treatment l flags r) ≡ false
+pub plain_stay : (l : Layout) (flags : ℕ) (r : InputRelocation) → may_have_entry l r.symbol ≡ false → has_dynamic_entry (treatment l flags r) ≡ false
 unfolding treatment
-plain_stay l flags r h = row_plain l flags r.number r.symbol (suited l.machine r (row_of l.machine r.number)) h
+plain_stay l flags r h = row_plain l flags r.number r.symbol (row_that_accepts l.machine r (row_of l.machine r.number)) h
 
 -- ---- fields that the program does not write to
 
@@ -177,21 +177,21 @@ third_true true false c h = cc
 third_true false b c h = cc
 
 -- there an entry names a symbol only for a size: of one that another module defines, or in a library
-untouched : (l : Layout) (flags : ℕ) (symbol : Option ℕ) (row : RelocationKindInfo) (t : Treatment) → writable flags ≡ false → ((i : ℕ) → (has_flag (flags_at l i) dynamic || is_shared_object l.kind) ≡ false) → Says l flags symbol row t → is_left_to_entry t ≡ false
+untouched : (l : Layout) (flags : ℕ) (symbol : Option ℕ) (row : RelocationKindInfo) (t : Treatment) → writable flags ≡ false → ((i : ℕ) → (has_flag (flags_at l i) dynamic || is_shared_object l.kind) ≡ false) → Says l flags symbol row t → has_dynamic_entry t ≡ false
 untouched l flags symbol row (Symbolic i) w own h = sym (writes_there (allocated flags) (writable flags) (field_width row == 8) (interposable (flags_at l i)) h.1) ∙ w
 untouched l flags symbol row (Indirect i) w own h = sym (writes_there (allocated flags) (writable flags) (is_position_independent l.kind) (has_flag (flags_at l i) ifunc) h.1.chosen) ∙ w
 untouched l flags symbol row (Extent r i) w own h = sym (third_true (allocated flags) (interposable (flags_at l i)) (has_flag (flags_at l i) dynamic || is_shared_object l.kind) h.1.sized) ∙ own i
 untouched l flags symbol row other w own h = refl
 
-row_untouched : (l : Layout) (flags : ℕ) (n : ℕ) (o : Option ℕ) (row : Option RelocationKindInfo) → writable flags ≡ false → ((i : ℕ) → (has_flag (flags_at l i) dynamic || is_shared_object l.kind) ≡ false) → is_left_to_entry (row_treatment l flags n o row) ≡ false
+row_untouched : (l : Layout) (flags : ℕ) (n : ℕ) (o : Option ℕ) (row : Option RelocationKindInfo) → writable flags ≡ false → ((i : ℕ) → (has_flag (flags_at l i) dynamic || is_shared_object l.kind) ≡ false) → has_dynamic_entry (row_treatment l flags n o row) ≡ false
 unfolding row_treatment
 row_untouched l flags n o None w own = refl
 row_untouched l flags n o (Some row) w own = untouched l flags o row (row_treatment l flags n o (Some row)) w own (row_said l flags n o row)
 
-fixed_stays : (l : Layout) (flags : ℕ) (r : InputRelocation) → writable flags ≡ false → ((i : ℕ) → (has_flag (flags_at l i) dynamic || is_shared_object l.kind) ≡ false) → is_left_to_entry (treatment l flags r) ≡ false
+fixed_stays : (l : Layout) (flags : ℕ) (r : InputRelocation) → writable flags ≡ false → ((i : ℕ) → (has_flag (flags_at l i) dynamic || is_shared_object l.kind) ≡ false) → has_dynamic_entry (treatment l flags r) ≡ false
 unfolding treatment
-fixed_stays l flags r w own = row_untouched l flags r.number r.symbol (suited l.machine r (row_of l.machine r.number)) w own
+fixed_stays l flags r w own = row_untouched l flags r.number r.symbol (row_that_accepts l.machine r (row_of l.machine r.number)) w own
 
-pub fixed_stay : (l : Layout) (flags : ℕ) (rs : List InputRelocation) → writable flags ≡ false → ((i : ℕ) → (has_flag (flags_at l i) dynamic || is_shared_object l.kind) ≡ false) → length (filter (λ r. is_left_to_entry (treatment l flags r)) rs) ≡ 0
+pub fixed_stay : (l : Layout) (flags : ℕ) (rs : List InputRelocation) → writable flags ≡ false → ((i : ℕ) → (has_flag (flags_at l i) dynamic || is_shared_object l.kind) ≡ false) → length (filter (λ r. has_dynamic_entry (treatment l flags r)) rs) ≡ 0
 fixed_stay l flags [] w own = refl
 fixed_stay l flags (r ∷ rs) w own = let e = fixed_stays l flags r w own in rw e (fixed_stay l flags rs w own)

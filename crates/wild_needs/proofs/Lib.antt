@@ -1,4 +1,4 @@
-pub mod BareLemmas
+pub mod NoTableLemmas
 pub mod DynamicLemmas
 pub mod EntryLemmas
 pub mod RoomLemmas

@@ -9,8 +9,8 @@ use Rattle.wild_types.specs.declared.file.Group.{Group}
 use Rattle.wild_types.specs.declared.layout.Layout.{Layout}
 use Rattle.wild_types.specs.Lists.{total}
 use Rattle.wild_types.specs.Lookups.{files_of}
-use Rattle.wild_needs.specs.TableSymbols.{asked_from, kept_alone}
-use Rattle.wild_needs.specs.SectionSymbols.{alone_in, alone_of, alone_of_group, alone_count}
+use Rattle.wild_needs.specs.TableSymbols.{marked_sections, singleton_sections}
+use Rattle.wild_needs.specs.SectionSymbols.{singletons_in, singletons_of, singletons_of_group, singleton_count}
 
 abbrev alone_names : List InputSection → List ℕ
 alone_names ss = flat_map (λ (s : InputSection). option_to_list s.singleton) ss
@@ -18,14 +18,14 @@ alone_names ss = flat_map (λ (s : InputSection). option_to_list s.singleton) ss
 abbrev alone_names_of : List File → List ℕ
 alone_names_of fs = flat_map (λ (f : File). alone_names f.sections) fs
 
-sections_counted : (ss : List InputSection) → length (alone_names ss) ≡ alone_in ss
+sections_counted : (ss : List InputSection) → length (alone_names ss) ≡ singletons_in ss
 sections_counted [] = refl
 sections_counted (s ∷ ss) =
     let rest = sections_counted ss in
     let long = length-append (option_to_list s.singleton) (alone_names ss) in
     omega (arith, rest, long)
 
-files_counted : (fs : List File) → length (alone_names_of fs) ≡ total alone_of fs
+files_counted : (fs : List File) → length (alone_names_of fs) ≡ total singletons_of fs
 files_counted [] = refl
 files_counted (f ∷ fs) =
     let own = sections_counted f.sections in
@@ -33,7 +33,7 @@ files_counted (f ∷ fs) =
     let long = length-append (alone_names f.sections) (alone_names_of fs) in
     omega (arith, own, rest, long)
 
-groups_counted : (gs : List Group) → length (alone_names_of (files_of gs)) ≡ total alone_of_group gs
+groups_counted : (gs : List Group) → length (alone_names_of (files_of gs)) ≡ total singletons_of_group gs
 groups_counted [] = refl
 groups_counted (g ∷ gs) =
     let cut : alone_names_of (g.files ++ files_of gs) ≡ alone_names_of g.files ++ alone_names_of (files_of gs) = flat_map-append (λ (f : File). alone_names f.sections) g.files (files_of gs) in
@@ -43,8 +43,8 @@ groups_counted (g ∷ gs) =
     rw cut (omega (arith, own, rest, long))
 
 -- how many there are, told by two counts
-pub section_symbols_counted : (l : Layout) → length (asked_from 0 l.sections ++ kept_alone l) ≡ length (asked_from 0 l.sections) + alone_count l
+pub section_symbols_counted : (l : Layout) → length (marked_sections 0 l.sections ++ singleton_sections l) ≡ length (marked_sections 0 l.sections) + singleton_count l
 section_symbols_counted l =
-    let long : length (asked_from 0 l.sections ++ kept_alone l) ≡ length (asked_from 0 l.sections) + length (kept_alone l) = length-append (asked_from 0 l.sections) (kept_alone l) in
-    let alone : length (kept_alone l) ≡ alone_count l = groups_counted l.groups in
+    let long : length (marked_sections 0 l.sections ++ singleton_sections l) ≡ length (marked_sections 0 l.sections) + length (singleton_sections l) = length-append (marked_sections 0 l.sections) (singleton_sections l) in
+    let alone : length (singleton_sections l) ≡ singleton_count l = groups_counted l.groups in
     omega (arith, long, alone)

@@ -10,7 +10,7 @@ use Rattle.wild_types.specs.declared.file.Group.{Group}
 use Rattle.wild_types.specs.declared.layout.Layout.{Layout}
 use Rattle.wild_slot.specs.declared.slot.Setting.{Setting}
 use Rattle.wild_slot.specs.declared.slot.SlotWord.{SlotWord}
-use Rattle.wild_slot.specs.declared.slot.SlotWord.TheVariants.{Address, InBlock}
+use Rattle.wild_slot.specs.declared.slot.SlotWord.TheVariants.{Address, InRelrGot}
 use Rattle.wild_slot.specs.declared.slot.SlotItem.{SlotItem}
 use Rattle.wild_slot.specs.declared.slot.SlotItem.TheVariants.{Word, Stub, Fault}
 use Rattle.wild_slot.specs.declared.slot.SlotFault.{SlotFault}
@@ -18,19 +18,19 @@ use Rattle.wild_types.specs.declared.symbol.Resolution.{Resolution}
 use Rattle.wild_types.specs.declared.symbol.Symbol.{Symbol}
 use Rattle.wild_types.specs.Flags.{has_link_time_address}
 use Rattle.wild_types.specs.Kinds.{is_position_independent}
-use Rattle.wild_slot.specs.Slots.{SlotContent, setting_of, number, general, named, offset_item, module_item, module_offset, module_offset_item, described, descriptor_item, where_so, offset_items, module_items, descriptor_items, plain_item, stub_items, stub_address, ifunc_address_items, canonical_address_items, thread_items, address_items, items_at, with_item_by, with_item, with_items, no_slot, slot}
-use Rattle.wild_slot.specs.SlotParts.{next, at_places, begins_block}
-use Rattle.wild_types.specs.SymbolSlots.{is_without, slots_at, has_thread_slot}
+use Rattle.wild_slot.specs.Slots.{SlotContent, setting_of, number, general, named, offset_item, module_item, module_offset, module_offset_item, described, descriptor_item, items_if, offset_items, module_items, descriptor_items, plain_item, stub_items, stub_address, ifunc_address_items, canonical_address_items, thread_items, address_items, items_at, with_item_by, with_item, with_items, no_slot, slot}
+use Rattle.wild_slot.specs.SlotParts.{next, at_places, begins_relr_got}
+use Rattle.wild_types.specs.SymbolSlots.{lacks_slots, slots_address, has_thread_slot}
 use Rattle.wild_slot.specs.SymbolWords.{resolved_slots, slots_of}
-use Rattle.wild_needs.specs.SlotShares.{block_place, block_places, group_block}
+use Rattle.wild_needs.specs.SlotShares.{relr_got_place, relr_got_places, group_relr_got}
 use Rattle.wild_types.specs.FileSymbols.{own_symbols}
-use Rattle.wild_slot.specs.MachineStub.{far_of}
+use Rattle.wild_slot.specs.MachineStub.{distance_if_too_far}
 use Rattle.wild_needs.proofs.SlotShareLemmas.{no_slots}
 
 -- ---- words that are none of the block
 
 abbrev is_apart : SlotWord → Bool
-is_apart (InBlock a) = false
+is_apart (InRelrGot a) = false
 is_apart other = true
 
 -- all but the first are
@@ -82,14 +82,14 @@ stub_apart (Some d) (Some stub) = refl
 plain_apart : (s : Setting) (r : Resolution) → (s.relr && is_position_independent s.kind) ≡ false → item_apart (plain_item s r) ≡ true
 plain_apart s r h = search (rules, either, named_apart, moved s.relr (is_position_independent s.kind) h)
   where
-    moved : (relr moves : Bool) → (relr && moves) ≡ false → item_apart (if moves && has_link_time_address r.flags then Word (if relr then InBlock r.raw_value else Address r.raw_value) else number r.raw_value) ≡ true
+    moved : (relr moves : Bool) → (relr && moves) ≡ false → item_apart (if moves && has_link_time_address r.flags then Word (if relr then InRelrGot r.raw_value else Address r.raw_value) else number r.raw_value) ≡ true
     moved true true h = cc
     moved true false h = refl
     moved false moves h = search (rules, either)
 
 -- ---- lists of items
 
-where_apart : (b : Bool) (xs : List SlotItem) → items_apart xs ≡ true → items_apart (where_so b xs) ≡ true
+where_apart : (b : Bool) (xs : List SlotItem) → items_apart xs ≡ true → items_apart (items_if b xs) ≡ true
 where_apart true xs h = h
 where_apart false xs h = refl
 
@@ -176,56 +176,56 @@ slot_apart s far r h = by_place r.got_address
 
 -- ---- places
 
-none_of_apart : (at : ℕ) (ws : List SlotWord) → list_all is_apart ws ≡ true → at_places block_place at ws ≡ []
+none_of_apart : (at : ℕ) (ws : List SlotWord) → list_all is_apart ws ≡ true → at_places relr_got_place at ws ≡ []
 none_of_apart at [] h = refl
-none_of_apart at (InBlock a ∷ ws) h = cc
+none_of_apart at (InRelrGot a ∷ ws) h = cc
 none_of_apart at (other ∷ ws) h = none_of_apart (next at) ws h
 
-head_alone : (at : ℕ) (ws : List SlotWord) → tail_apart ws ≡ true → at_places block_place at ws ≡ (if begins_block ws then at ∷ [] else [])
+head_alone : (at : ℕ) (ws : List SlotWord) → tail_apart ws ≡ true → at_places relr_got_place at ws ≡ (if begins_relr_got ws then at ∷ [] else [])
 head_alone at [] h = refl
-head_alone at (InBlock a ∷ ws) h = ap (λ ps. at ∷ ps) (none_of_apart (next at) ws h)
+head_alone at (InRelrGot a ∷ ws) h = ap (λ ps. at ∷ ps) (none_of_apart (next at) ws h)
 head_alone at (other ∷ ws) h = none_of_apart (next at) ws h
 
 -- the first word alone may have a place in the block
-block_places_are : (l : Layout) (s : Symbol) → block_places l s ≡ (if begins_block (slots_of l s).words then slots_at s ∷ [] else [])
+block_places_are : (l : Layout) (s : Symbol) → relr_got_places l s ≡ (if begins_relr_got (slots_of l s).words then slots_address s ∷ [] else [])
 unfolding slots_of
-block_places_are l s = head_alone (slots_at s) (resolved_slots l s.resolution).words (by_resolution s.resolution)
+block_places_are l s = head_alone (slots_address s) (resolved_slots l s.resolution).words (by_resolution s.resolution)
   where
     by_resolution : (o : Option Resolution) → tail_apart (resolved_slots l o).words ≡ true
     by_resolution None = refl
-    by_resolution (Some r) = slot_tail (setting_of l) (far_of l r) r
+    by_resolution (Some r) = slot_tail (setting_of l) (distance_if_too_far l r) r
 
 -- and none has one where addresses are not packed
-no_block_places : (l : Layout) (s : Symbol) → (l.options.relr && is_position_independent l.kind) ≡ false → block_places l s ≡ []
+no_block_places : (l : Layout) (s : Symbol) → (l.options.relr && is_position_independent l.kind) ≡ false → relr_got_places l s ≡ []
 unfolding slots_of
-no_block_places l s h = none_of_apart (slots_at s) (resolved_slots l s.resolution).words (by_resolution s.resolution)
+no_block_places l s h = none_of_apart (slots_address s) (resolved_slots l s.resolution).words (by_resolution s.resolution)
   where
     by_resolution : (o : Option Resolution) → list_all is_apart (resolved_slots l o).words ≡ true
     by_resolution None = refl
-    by_resolution (Some r) = slot_apart (setting_of l) (far_of l r) r h
+    by_resolution (Some r) = slot_apart (setting_of l) (distance_if_too_far l r) r h
 
-pub no_block : (l : Layout) (g : Group) → (l.options.relr && is_position_independent l.kind) ≡ false → group_block l g ≡ []
-unfolding group_block
+pub no_block : (l : Layout) (g : Group) → (l.options.relr && is_position_independent l.kind) ≡ false → group_relr_got l g ≡ []
+unfolding group_relr_got
 no_block l g h = of_files g.files
   where
-    of_symbols : (ss : List Symbol) → flat_map (block_places l) ss ≡ []
+    of_symbols : (ss : List Symbol) → flat_map (relr_got_places l) ss ≡ []
     of_symbols [] = refl
     of_symbols (s ∷ ss) = rw (no_block_places l s h) (of_symbols ss)
 
-    of_files : (fs : List File) → flat_map (λ (f : File). flat_map (block_places l) (own_symbols l f)) fs ≡ []
+    of_files : (fs : List File) → flat_map (λ (f : File). flat_map (relr_got_places l) (own_symbols l f)) fs ≡ []
     of_files [] = refl
     of_files (f ∷ fs) = rw (of_symbols (own_symbols l f)) (of_files fs)
 
 -- ---- symbols without slots, and one with or without a slot in the block
 
-pub places_without : (l : Layout) (ss : List Symbol) → list_all is_without ss ≡ true → flat_map (block_places l) ss ≡ []
+pub places_without : (l : Layout) (ss : List Symbol) → list_all lacks_slots ss ≡ true → flat_map (relr_got_places l) ss ≡ []
 places_without l [] h = refl
 places_without l (s ∷ ss) h =
-    let p = and_parts (is_without s) (list_all is_without ss) h in
+    let p = and_parts (lacks_slots s) (list_all lacks_slots ss) h in
     rw (no_slots l s p.0) (places_without l ss p.1)
 
-pub placed : (l : Layout) (s : Symbol) → begins_block (slots_of l s).words ≡ true → block_places l s ≡ slots_at s ∷ []
+pub placed : (l : Layout) (s : Symbol) → begins_relr_got (slots_of l s).words ≡ true → relr_got_places l s ≡ slots_address s ∷ []
 placed l s h = rw (block_places_are l s, h) refl
 
-pub unplaced : (l : Layout) (s : Symbol) → begins_block (slots_of l s).words ≡ false → block_places l s ≡ []
+pub unplaced : (l : Layout) (s : Symbol) → begins_relr_got (slots_of l s).words ≡ false → relr_got_places l s ≡ []
 unplaced l s h = rw (block_places_are l s, h) refl

@@ -16,12 +16,12 @@ use Rattle.wild_types.specs.Kinds.{is_executable}
 use Rattle.wild_types.specs.FileRoles.{writes_slots}
 use Rattle.wild_types.specs.Lists.{total}
 use Rattle.wild_slot.specs.SlotParts.{slot_words}
-use Rattle.wild_types.specs.SymbolSlots.{is_without, resolved_got}
+use Rattle.wild_types.specs.SymbolSlots.{lacks_slots, resolved_got}
 use Rattle.wild_slot.specs.Slots.{setting_of, slot, no_slot, items_at, with_items, storage_pair}
 use Rattle.wild_slot.specs.SymbolWords.{resolved_slots, slots_of}
 use Rattle.wild_types.specs.FileSymbols.{own_symbols}
-use Rattle.wild_needs.specs.SlotShares.{storage_at, header_words, symbol_share, is_of_slots, slot_share}
-use Rattle.wild_slot.specs.MachineStub.{far_of}
+use Rattle.wild_needs.specs.SlotShares.{storage_at, header_words, symbol_share, is_slot_role, slot_share}
+use Rattle.wild_slot.specs.MachineStub.{distance_if_too_far}
 
 -- ---- a symbol without a slot
 
@@ -32,13 +32,13 @@ no_items c far r (Some at) h = cc
 no_resolved : (l : Layout) (o : Option Resolution) → not (is_some (resolved_got o)) ≡ true → resolved_slots l o ≡ no_slot
 unfolding slot
 no_resolved l None h = refl
-no_resolved l (Some r) h = no_items (setting_of l) (far_of l r) r r.got_address h
+no_resolved l (Some r) h = no_items (setting_of l) (distance_if_too_far l r) r r.got_address h
 
-pub no_slots : (l : Layout) (s : Symbol) → is_without s ≡ true → slots_of l s ≡ no_slot
+pub no_slots : (l : Layout) (s : Symbol) → lacks_slots s ≡ true → slots_of l s ≡ no_slot
 unfolding slots_of
 no_slots l s h = no_resolved l s.resolution h
 
-pub share_without : (l : Layout) (r : Role) (s : Symbol) → is_without s ≡ true → symbol_share l r s ≡ 0
+pub share_without : (l : Layout) (r : Role) (s : Symbol) → lacks_slots s ≡ true → symbol_share l r s ≡ 0
 share_without l role.Got s h = let e = no_slots l s h in rw e refl
 share_without l role.GotRelr s h = let e = no_slots l s h in rw e refl
 share_without l role.PltGot s h = let e = no_slots l s h in rw e refl
@@ -50,28 +50,28 @@ share_without l other s h = refl
 
 -- ---- symbols without slots
 
-pub total_without : (f : Symbol → ℕ) (ss : List Symbol) → ((s : Symbol) → is_without s ≡ true → f s ≡ 0) → list_all is_without ss ≡ true → total f ss ≡ 0
+pub total_without : (f : Symbol → ℕ) (ss : List Symbol) → ((s : Symbol) → lacks_slots s ≡ true → f s ≡ 0) → list_all lacks_slots ss ≡ true → total f ss ≡ 0
 total_without f [] none h = refl
 total_without f (s ∷ ss) none h =
-    let p = and_parts (is_without s) (list_all is_without ss) h in
+    let p = and_parts (lacks_slots s) (list_all lacks_slots ss) h in
     let a = none s p.0 in
     let b = total_without f ss none p.1 in
     omega (arith, a, b)
 
-pub slots_plain : (l : Layout) (r : Role) (f : File) → list_all is_without (own_symbols l f) ≡ true → slot_share l r f ≡ 0
+pub slots_plain : (l : Layout) (r : Role) (f : File) → list_all lacks_slots (own_symbols l f) ≡ true → slot_share l r f ≡ 0
 unfolding slot_share
 slots_plain l r f h = total_without (symbol_share l r) (own_symbols l f) (share_without l r) h
 
 -- ---- other parts
 
-none_of_others : (l : Layout) (r : Role) (ss : List Symbol) → is_of_slots r ≡ false → total (symbol_share l r) ss ≡ 0
+none_of_others : (l : Layout) (r : Role) (ss : List Symbol) → is_slot_role r ≡ false → total (symbol_share l r) ss ≡ 0
 none_of_others l r [] h = refl
 none_of_others l r (s ∷ ss) h =
     let a = here r h in
     let b = none_of_others l r ss h in
     omega (arith, a, b)
   where
-    here : (r : Role) → is_of_slots r ≡ false → symbol_share l r s ≡ 0
+    here : (r : Role) → is_slot_role r ≡ false → symbol_share l r s ≡ 0
     here role.Got h = cc
     here role.GotRelr h = cc
     here role.PltGot h = cc
@@ -81,31 +81,31 @@ none_of_others l r (s ∷ ss) h =
     here role.RelrDyn h = cc
     here other h = refl
 
-pub others_share : (l : Layout) (r : Role) (f : File) → is_of_slots r ≡ false → slot_share l r f ≡ 0
+pub others_share : (l : Layout) (r : Role) (f : File) → is_slot_role r ≡ false → slot_share l r f ≡ 0
 unfolding slot_share
 others_share l r f h = none_of_others l r (own_symbols l f) h
 
 -- ---- no symbol of the layout has a slot
 
-without_taken : (n : ℕ) (ss : List Symbol) → list_all is_without ss ≡ true → list_all is_without (take n ss) ≡ true
+without_taken : (n : ℕ) (ss : List Symbol) → list_all lacks_slots ss ≡ true → list_all lacks_slots (take n ss) ≡ true
 without_taken zero ss h = refl
 without_taken (suc n) [] h = refl
 without_taken (suc n) (s ∷ ss) h =
-    let p = and_parts (is_without s) (list_all is_without ss) h in
-    and_from (is_without s) (list_all is_without (take n ss)) p.0 (without_taken n ss p.1)
+    let p = and_parts (lacks_slots s) (list_all lacks_slots ss) h in
+    and_from (lacks_slots s) (list_all lacks_slots (take n ss)) p.0 (without_taken n ss p.1)
 
-without_left : (n : ℕ) (ss : List Symbol) → list_all is_without ss ≡ true → list_all is_without (drop n ss) ≡ true
+without_left : (n : ℕ) (ss : List Symbol) → list_all lacks_slots ss ≡ true → list_all lacks_slots (drop n ss) ≡ true
 without_left zero ss h = h
 without_left (suc n) [] h = refl
-without_left (suc n) (s ∷ ss) h = let p = and_parts (is_without s) (list_all is_without ss) h in without_left n ss p.1
+without_left (suc n) (s ∷ ss) h = let p = and_parts (lacks_slots s) (list_all lacks_slots ss) h in without_left n ss p.1
 
-without_range : (a b : ℕ) (ss : List Symbol) → list_all is_without ss ≡ true → list_all is_without (slice_range ss a b) ≡ true
+without_range : (a b : ℕ) (ss : List Symbol) → list_all lacks_slots ss ≡ true → list_all lacks_slots (slice_range ss a b) ≡ true
 without_range a b ss h = without_taken (b - a) (drop a ss) (without_left a ss h)
 
-pub own_without : (l : Layout) (f : File) → list_all is_without l.symbols ≡ true → list_all is_without (own_symbols l f) ≡ true
+pub own_without : (l : Layout) (f : File) → list_all lacks_slots l.symbols ≡ true → list_all lacks_slots (own_symbols l f) ≡ true
 own_without l f h = by_role (writes_slots f.role) (without_range f.first_symbol (f.first_symbol + f.symbol_count) l.symbols h)
   where
-    by_role : (b : Bool) → list_all is_without (slice_range l.symbols f.first_symbol (f.first_symbol + f.symbol_count)) ≡ true → list_all is_without (if b then slice_range l.symbols f.first_symbol (f.first_symbol + f.symbol_count) else []) ≡ true
+    by_role : (b : Bool) → list_all lacks_slots (slice_range l.symbols f.first_symbol (f.first_symbol + f.symbol_count)) ≡ true → list_all lacks_slots (if b then slice_range l.symbols f.first_symbol (f.first_symbol + f.symbol_count) else []) ≡ true
     by_role true e = e
     by_role false e = refl
 

@@ -5,28 +5,28 @@ use Rattle.std.proofs.lemmas.Bool.{cases_Bool}
 use Rattle.std.proofs.lemmas.List.{length-append}
 use Rattle.wild_types.specs.declared.symbol.Symbol.{Symbol}
 use Rattle.wild_types.specs.Lists.{total}
-use Rattle.wild_needs.specs.declared.table.Named.{Named}
+use Rattle.wild_needs.specs.declared.table.SymtabName.{SymtabName}
 use Rattle.wild_needs.specs.declared.table.TablePart.{TablePart}
 use Rattle.wild_needs.specs.declared.table.TablePart.TheVariants.{Side, Strings}
 use Rattle.wild_needs.specs.declared.table.Count.{Count}
 use Rattle.wild_needs.specs.DynamicStrings.{text_room}
-use Rattle.wild_needs.specs.TableSymbols.{TableSymbol, item_name, is_on, side, prefix, suffix, full_name}
+use Rattle.wild_needs.specs.TableSymbols.{TableSymbol, item_name, is_on_side, side, prefix, suffix, full_name}
 use Rattle.wild_needs.specs.TableCounts.{taken, Counts}
-use Rattle.wild_walk.specs.Runs.{Ran, none, more}
+use Rattle.wild_words.specs.Runs.{SinkRun, none, more}
 
 -- a name's bytes, with the zero behind it
-pub name_room : (named : Named) (s : Symbol) → text_room (full_name named s.name) ≡ text_room s.name + (length (prefix named) + length (suffix named))
+pub name_room : (named : SymtabName) (s : Symbol) → text_room (full_name named s.name) ≡ text_room s.name + (length (prefix named) + length (suffix named))
 name_room named s =
     let a = length-append (prefix named) (s.name ++ suffix named) in
     let b = length-append s.name (suffix named) in
     omega (arith, a, b)
 
 -- one symbol counted is a run
-pub count_one : {refuses : Count → TableSymbol → Infallible → Count → Type 0} (a b : Count) (x : TableSymbol) → b.sum ≡ min (2 ^ 64 - 1) (a.sum + taken a.part x) → b.part ≡ a.part → Ran Counts refuses a (x ∷ []) (Ok tt) b
+pub count_one : {refuses : Count → TableSymbol → Infallible → Count → Type 0} (a b : Count) (x : TableSymbol) → b.sum ≡ min (2 ^ 64 - 1) (a.sum + taken a.part x) → b.part ≡ a.part → SinkRun Counts refuses a (x ∷ []) (Ok tt) b
 count_one a b x e s = more (record { added = e; same = s }) none
 
 -- what is counted of symbols one after another is the sum of what is taken, at most 2^64 - 1
-pub counted : {refuses : Count → TableSymbol → Infallible → Count → Type 0} {a b : Count} {xs : List TableSymbol} {u : Unit {0}} → Ran Counts refuses a xs (Ok u) b → a.sum < 2 ^ 64 → b.sum ≡ min (2 ^ 64 - 1) (a.sum + total (taken a.part) xs)
+pub counted : {refuses : Count → TableSymbol → Infallible → Count → Type 0} {a b : Count} {xs : List TableSymbol} {u : Unit {0}} → SinkRun Counts refuses a xs (Ok u) b → a.sum < 2 ^ 64 → b.sum ≡ min (2 ^ 64 - 1) (a.sum + total (taken a.part) xs)
 counted {a = a} none low = omega arith
 counted {a = a} {b = c} (more {b = b} {x = x} {xs = xs} h t) low =
     let added = h.added in
@@ -41,7 +41,7 @@ pub sides_taken : (local : Bool) (xs : List TableSymbol) → total (taken (Side 
 sides_taken local [] = refl
 sides_taken local (x ∷ xs) =
     let rest = sides_taken local xs in
-    elim (cases_Bool (is_on local x)) [
+    elim (cases_Bool (is_on_side local x)) [
       | inl t ↦ rw t (omega (arith, rest))
       | inr f ↦ rw f (omega (arith, rest))
     ]

@@ -18,7 +18,7 @@ use Rattle.wild_types.specs.declared.layout.Layout.{Layout}
 use Rattle.wild_types.specs.Kinds.{is_executable, is_shared_object, is_position_independent, needs_dynamic}
 use Rattle.wild_needs.specs.DynamicStrings.{named_strings, string_entries, string_start}
 use Rattle.wild_types.specs.Parts.{part_with}
-use Rattle.wild_needs.specs.DynamicPlaces.{section_address, section_size, part_address, part_size, beside, filled_part, first_entries, entries_bytes, relative_count, need_number, marked_stubs}
+use Rattle.wild_needs.specs.DynamicPlaces.{section_address, section_size, part_address, part_size, if_present, filled_part, first_entries, entries_bytes, relative_count, need_number, bti_stubs}
 
 -- the number of an entry
 unfoldable pub dynamic_number : DynamicTag → ℕ
@@ -92,30 +92,30 @@ dynamic_entry l tags.PreinitArraySize = section_size l (codes ".preinit_array")
 dynamic_entry l tags.StringTable = part_address (part_with role.Dynstr l.parts)
 dynamic_entry l tags.StringSize = part_size (part_with role.Dynstr l.parts)
 dynamic_entry l tags.SymbolTable = part_address (part_with role.Dynsym l.parts)
-dynamic_entry l tags.SymbolSize = beside symtab_entry_size (part_with role.Dynsym l.parts)
-dynamic_entry l tags.PltGot = beside l.got_base (filled_part l role.RelaPlt)
+dynamic_entry l tags.SymbolSize = if_present symtab_entry_size (part_with role.Dynsym l.parts)
+dynamic_entry l tags.PltGot = if_present l.got_base (filled_part l role.RelaPlt)
 dynamic_entry l tags.PltRelSize = part_size (filled_part l role.RelaPlt)
-dynamic_entry l tags.PltRel = beside dt_rela (filled_part l role.RelaPlt)
+dynamic_entry l tags.PltRel = if_present dt_rela (filled_part l role.RelaPlt)
 dynamic_entry l tags.JmpRel = part_address (filled_part l role.RelaPlt)
 dynamic_entry l tags.Rela = part_address (first_entries l)
-dynamic_entry l tags.RelaSize = beside (entries_bytes l) (first_entries l)
-dynamic_entry l tags.RelaEntry = beside rela_size (first_entries l)
+dynamic_entry l tags.RelaSize = if_present (entries_bytes l) (first_entries l)
+dynamic_entry l tags.RelaEntry = if_present rela_size (first_entries l)
 dynamic_entry l tags.RelaCount = relative_count l
 dynamic_entry l tags.Relr = part_address (part_with role.RelrDyn l.parts)
 dynamic_entry l tags.RelrSize = part_size (part_with role.RelrDyn l.parts)
-dynamic_entry l tags.RelrEntry = beside relr_size (part_with role.RelrDyn l.parts)
+dynamic_entry l tags.RelrEntry = if_present relr_size (part_with role.RelrDyn l.parts)
 dynamic_entry l tags.SysvHash = part_address (filled_part l role.SysvHash)
 dynamic_entry l tags.GnuHash = part_address (filled_part l role.GnuHash)
 dynamic_entry l tags.SymbolVersions = part_address (part_with role.GnuVersion l.parts)
 dynamic_entry l tags.VersionDefinitions = part_address (part_with role.GnuVersionD l.parts)
-dynamic_entry l tags.VersionDefinitionCount = beside (length l.verdefs) (part_with role.GnuVersionD l.parts)
+dynamic_entry l tags.VersionDefinitionCount = if_present (length l.verdefs) (part_with role.GnuVersionD l.parts)
 dynamic_entry l tags.VersionNeeds = part_address (part_with role.GnuVersionR l.parts)
-dynamic_entry l tags.VersionNeedCount = beside (need_number l) (part_with role.GnuVersionR l.parts)
+dynamic_entry l tags.VersionNeedCount = if_present (need_number l) (part_with role.GnuVersionR l.parts)
 dynamic_entry l tags.Debug = only (is_executable l.kind) 0
 dynamic_entry l tags.Textrel = only l.options.textrel 0
 dynamic_entry l tags.Flags = Some (dynamic_flags l.kind l.options)
 dynamic_entry l tags.Flags1 = Some (dynamic_flags_1 l.kind l.options)
-dynamic_entry l tags.BtiPlt = beside 0 (marked_stubs l l.machine)
+dynamic_entry l tags.BtiPlt = if_present 0 (bti_stubs l l.machine)
 dynamic_entry l tags.VariantPcs = only l.options.variant_pcs 0
 dynamic_entry l tags.Null = Some 0
 

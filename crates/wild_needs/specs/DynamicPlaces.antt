@@ -3,7 +3,7 @@
 --   part_address l role       the address of the part of a role; part_size its size
 --   relative_count l          the number of relative entries, which are the first ones
 --   need_number l             the number of libraries from which versions are needed
---   marked_stubs l machine    the part of stubs that begin with a landing pad
+--   bti_stubs l machine    the part of stubs that begin with a landing pad
 use Rattle.std.specs.Prelude.{ℕ, ◌+◌, ◌-◌, ◌/◌, ◌^◌, ◌==◌, Bool, not, ◌&&◌, if◌then◌else◌, min, List, find, bytes_eq, Option, Some, None, option_map}
 use Rattle.std.specs.Option.{option_or}
 use Rattle.wild_records.specs.Relocations.{rela_size}
@@ -39,8 +39,8 @@ abbrev pub part_size : Option Part → Option ℕ
 part_size p = option_map (λ (x : Part). x.size) p
 
 -- a number, if the part exists
-abbrev pub beside : ℕ → Option Part → Option ℕ
-beside n p = option_map (λ (x : Part). n) p
+abbrev pub if_present : ℕ → Option Part → Option ℕ
+if_present n p = option_map (λ (x : Part). n) p
 
 abbrev pub unless_empty : Option Part → Option Part
 unless_empty None = None
@@ -72,6 +72,6 @@ need_number l = min (2 ^ 64 - 1) (need_count l)
 
 -- the part of AArch64's stubs, if they begin with a landing pad and there are any ("System V ABI for the Arm 64-bit Architecture",
 -- "Dynamic Section", DT_AARCH64_BTI_PLT)
-abbrev pub marked_stubs : Layout → Machine → Option Part
-marked_stubs l machine.AArch64 = if l.options.bti then filled_part l role.PltGot else None
-marked_stubs l machine.X86_64 = None
+abbrev pub bti_stubs : Layout → Machine → Option Part
+bti_stubs l machine.AArch64 = if l.options.bti then filled_part l role.PltGot else None
+bti_stubs l machine.X86_64 = None

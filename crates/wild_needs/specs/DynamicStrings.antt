@@ -78,13 +78,13 @@ abbrev pub epilogue_string_bytes : Layout → ℕ
 epilogue_string_bytes l = total text_room (dynamic_strings l)
 
 -- the offset after a string and its zero, at most 2^64 - 1
-abbrev pub behind_text : ℕ → List ℕ → ℕ
-behind_text at text = min (2 ^ 64 - 1) (at + text_room text)
+abbrev pub offset_after_string : ℕ → List ℕ → ℕ
+offset_after_string at text = min (2 ^ 64 - 1) (at + text_room text)
 
 -- the entries of consecutive strings from an offset on, each with a terminating zero
 unfoldable pub string_entries : ℕ → List NamedString → List DynamicEntry
 string_entries at [] = []
-string_entries at (s ∷ ss) = record { tag = s.number; value = at } ∷ string_entries (behind_text at s.text) ss
+string_entries at (s ∷ ss) = record { tag = s.number; value = at } ∷ string_entries (offset_after_string at s.text) ss
 
 -- ---- the strings of files
 
@@ -96,8 +96,8 @@ undefined_symbols symbols f = filter (is_undefined_entry f.role) (range_of symbo
 --   the first file: the empty string, with which the table begins (gABI, "String Table")
 --   a library: its name
 --   the last file: the strings to which its entries refer
-abbrev pub lead_strings : Layout → File → List (List ℕ)
-lead_strings l f = leads f.role
+abbrev pub dynstr_prefix_strings : Layout → File → List (List ℕ)
+dynstr_prefix_strings l f = leads f.role
   where
     leads : FileRole → List (List ℕ)
     leads file_role.Prelude = [] ∷ []
@@ -117,7 +117,7 @@ entry_names l f = if is_epilogue f.role then listed_names l.dynsyms else symbol_
 
 -- the strings of a file, in order
 unfoldable pub file_strings : Layout → File → List (List ℕ)
-file_strings l f = if needs_dynsym l.kind then lead_strings l f ++ (entry_names l f ++ version_names l f) else []
+file_strings l f = if needs_dynsym l.kind then dynstr_prefix_strings l f ++ (entry_names l f ++ version_names l f) else []
 
 -- the size of these strings in bytes
 abbrev pub strings_room : Layout → File → ℕ
@@ -126,8 +126,8 @@ strings_room l f = total text_room (file_strings l f)
 -- ---- their offsets
 
 -- the offset in the table after the strings of a file, at most 2^64 - 1
-abbrev pub behind_file : Layout → ℕ → File → ℕ
-behind_file l at f = min (2 ^ 64 - 1) (at + strings_room l f)
+abbrev pub next_dynstr : Layout → ℕ → File → ℕ
+next_dynstr l at f = min (2 ^ 64 - 1) (at + strings_room l f)
 
 -- the entry of a library whose name is at an offset (gABI, "Shared Object Dependencies", DT_NEEDED)
 abbrev pub needed_of : ℕ → File → List DynamicEntry
@@ -135,7 +135,7 @@ needed_of at f = if is_library f.role then record { tag = dt_needed; value = at 
 
 abbrev pub needed_from : Layout → ℕ → List File → List DynamicEntry
 needed_from l at [] = []
-needed_from l at (f ∷ fs) = needed_of at f ++ needed_from l (behind_file l at f) fs
+needed_from l at (f ∷ fs) = needed_of at f ++ needed_from l (next_dynstr l at f) fs
 
 -- the entries of a group's libraries: the layout gives the offset of the group's strings
 unfoldable pub needed_entries : Layout → Group → List DynamicEntry
@@ -148,7 +148,7 @@ needed_count l f = if needs_dynamic l.kind then length (needed_of 0 f) else 0
 -- the offset of the strings of the first epilogue file, if the strings of the files begin at an offset
 abbrev pub start_among : Layout → ℕ → List File → ℕ
 start_among l at [] = at
-start_among l at (f ∷ fs) = if is_epilogue f.role then at else start_among l (behind_file l at f) fs
+start_among l at (f ∷ fs) = if is_epilogue f.role then at else start_among l (next_dynstr l at f) fs
 
 abbrev pub start_in : Layout → Option Group → ℕ
 start_in l None = 0

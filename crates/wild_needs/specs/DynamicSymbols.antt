@@ -5,7 +5,7 @@
 --   dynamic_symbols l         the symbols of the table after the null symbol
 --   has_position table i p    entry p of the table is that of symbol i
 --   misplaced table i ss      the first symbol whose index is not its position
---   misfit l p i ds           the first symbol of `dynsyms` whose index is not the next position, or which is in a section whose
+--   first_misplaced_listed l p i ds           the first symbol of `dynsyms` whose index is not the next position, or which is in a section whose
 --                             header index no symbol can have
 use Rattle.std.specs.Prelude.{ℕ, zero, suc, ◌+◌, ◌==◌, Bool, true, false, not, ◌&&◌, if◌then◌else◌, nat_lt, List, [], ◌∷◌, ◌++◌, length, map, Option, Some, None, slice_get}
 use Rattle.std.specs.List.{flat_map}
@@ -28,10 +28,10 @@ use Rattle.wild_types.specs.Lookups.{section_of, files_of, file_of}
 
 -- a file of this role has an undefined entry for a resolution with these flags: an object for a symbol that another module defines, a
 -- library for one that has neither a copy relocation nor a canonical stub
-abbrev pub gives_entry : FileRole → ValueFlags → Bool
-gives_entry file_role.Object f = has_flag f dynamic
-gives_entry file_role.Dynamic f = not (has_flag f copy_relocation) && not (has_flag f canonical_plt)
-gives_entry other f = false
+abbrev pub writes_undefined_entry : FileRole → ValueFlags → Bool
+writes_undefined_entry file_role.Object f = has_flag f dynamic
+writes_undefined_entry file_role.Dynamic f = not (has_flag f copy_relocation) && not (has_flag f canonical_plt)
+writes_undefined_entry other f = false
 
 abbrev pub is_resolved : Option Resolution → Bool
 is_resolved None = false
@@ -39,7 +39,7 @@ is_resolved (Some r) = true
 
 -- a symbol of a file of this role has an undefined entry
 abbrev pub is_undefined_entry : FileRole → Symbol → Bool
-is_undefined_entry role s = gives_entry role s.flags && is_resolved s.resolution
+is_undefined_entry role s = writes_undefined_entry role s.flags && is_resolved s.resolution
 
 -- the indexes of the items that pass a test, counted from i on
 abbrev pub places_where : {X : Type 0} → (X → Bool) → ℕ → List X → List ℕ
@@ -120,9 +120,9 @@ symbol_listed_fits l p i (Some s) = is_position p (dynsym_of s) && nat_lt (outpu
 abbrev pub listed_fits : Layout → ℕ → DynamicSymbol → Bool
 listed_fits l p d = symbol_listed_fits l p d.symbol (slice_get l.symbols d.symbol)
 
-abbrev pub misfit : Layout → ℕ → ℕ → List DynamicSymbol → Option ℕ
-misfit l p i [] = None
-misfit l p i (d ∷ ds) = if listed_fits l p d then misfit l (p + 1) (i + 1) ds else Some i
+abbrev pub first_misplaced_listed : Layout → ℕ → ℕ → List DynamicSymbol → Option ℕ
+first_misplaced_listed l p i [] = None
+first_misplaced_listed l p i (d ∷ ds) = if listed_fits l p d then first_misplaced_listed l (p + 1) (i + 1) ds else Some i
 
 -- the position of the first symbol of `dynsyms`: after the null symbol and the undefined ones
 abbrev pub first_listed : Layout → ℕ

@@ -28,12 +28,12 @@ unfoldable pub text_start : Layout → Option ℕ
 text_start l = start_of (find (λ (s : Section). bytes_eq s.name (codes ".text")) l.sections)
 
 -- the entry point for symbol i, which has no address
-abbrev pub defaulted : ℕ → Option ℕ → EntryPoint
-defaulted i None = record { address = 0; warning = Some (warning.EmptyText i) }
-defaulted i (Some a) = record { address = a; warning = Some (warning.Defaulted i a) }
+abbrev pub default_entry : ℕ → Option ℕ → EntryPoint
+default_entry i None = record { address = 0; warning = Some (warning.EmptyText i) }
+default_entry i (Some a) = record { address = a; warning = Some (warning.Defaulted i a) }
 
-abbrev pub told : ℕ → EntryPoint
-told a = record { address = a; warning = None }
+abbrev pub without_warning : ℕ → EntryPoint
+without_warning a = record { address = a; warning = None }
 
 -- the address of symbol i as entry point: for an IFUNC that of its stub
 abbrev pub entry_value : Layout → ℕ → Option ℕ
@@ -41,14 +41,14 @@ entry_value l i = if has_flag (flags_at l i) ifunc then option_and_then plt_of (
 
 -- a library does not need an entry point
 abbrev pub entry_at : Layout → ℕ → Option ℕ → EntryPoint
-entry_at l i (Some a) = told a
-entry_at l i None = if is_shared_object l.kind then told 0 else defaulted i (text_start l)
+entry_at l i (Some a) = without_warning a
+entry_at l i None = if is_shared_object l.kind then without_warning 0 else default_entry i (text_start l)
 
 abbrev pub entry_by : Layout → Option Entry → EntryPoint
-entry_by l None = told 0
-entry_by l (Some (entry.Address a)) = told a
+entry_by l None = without_warning 0
+entry_by l (Some (entry.Address a)) = without_warning a
 entry_by l (Some (entry.Symbol i)) = entry_at l i (entry_value l i)
 
 -- a relocatable object does not run
 unfoldable pub entry_point : Layout → EntryPoint
-entry_point l = if is_partial_link l.kind then told 0 else entry_by l l.entry
+entry_point l = if is_partial_link l.kind then without_warning 0 else entry_by l l.entry

@@ -25,11 +25,11 @@ use Rattle.wild_types.specs.declared.symbol.Place.{Place}
 use Rattle.wild_types.specs.declared.symbol.Place.TheVariants as at
 use Rattle.wild_types.specs.declared.symbol.Symbol.{Symbol}
 use Rattle.wild_types.specs.declared.layout.Thunk.{Thunk}
-use Rattle.wild_needs.specs.declared.table.Named.{Named}
-use Rattle.wild_needs.specs.declared.table.Named.TheVariants as named
-use Rattle.wild_needs.specs.declared.table.Pass.{Pass}
-use Rattle.wild_needs.specs.declared.table.Own.{Own}
-use Rattle.wild_needs.specs.declared.table.Own.TheVariants as takes
+use Rattle.wild_needs.specs.declared.table.SymtabName.{SymtabName}
+use Rattle.wild_needs.specs.declared.table.SymtabName.TheVariants as named
+use Rattle.wild_needs.specs.declared.table.SymtabPass.{SymtabPass}
+use Rattle.wild_needs.specs.declared.table.SymtabSymbols.{SymtabSymbols}
+use Rattle.wild_needs.specs.declared.table.SymtabSymbols.TheVariants as takes
 use Rattle.wild_types.specs.declared.layout.Layout.{Layout}
 use Rattle.wild_types.specs.FileRoles.{is_prelude}
 use Rattle.wild_types.specs.Flags.{has_flag, downgrade_to_local}
@@ -38,25 +38,25 @@ use Rattle.wild_types.specs.FileSymbols.{loaded_symbols}
 use Rattle.wild_types.specs.FileThunks.{thunks_of}
 use Rattle.wild_types.specs.SymbolSlots.{names_slot, names_stub}
 use Rattle.wild_types.specs.Kinds.{is_partial_link}
-use Rattle.wild_types.specs.Lookups.{has_table, has_many_sections, files_of}
-use Rattle.wild_walk.specs.Runs.{numbered}
+use Rattle.wild_types.specs.Lookups.{has_symtab, has_many_sections, files_of}
+use Rattle.wild_words.specs.Runs.{numbered_items}
 
 -- ---- symbols
 
 -- a symbol of the layout, its number, and the kind of its name: its own, its slot's, its stub's, or that of a thunk to it
 pub record TableSymbol : Type 0 where
-  pub named : Named
+  pub named : SymtabName
   pub index : ℕ
   pub symbol : Symbol
 
-abbrev pub item : Named → ℕ → Symbol → TableSymbol
+abbrev pub item : SymtabName → ℕ → Symbol → TableSymbol
 item named i s = record { named = named; index = i; symbol = s }
 
-abbrev pub where_asked : Bool → TableSymbol → List TableSymbol
-where_asked b x = if b then x ∷ [] else []
+abbrev pub item_if : Bool → TableSymbol → List TableSymbol
+item_if b x = if b then x ∷ [] else []
 
 abbrev pub slot_items : Layout → ℕ → Symbol → List TableSymbol
-slot_items l i s = where_asked (names_slot l i s) (item named.Slot i s) ++ where_asked (names_stub l i s) (item named.Stub i s)
+slot_items l i s = item_if (names_slot l i s) (item named.Slot i s) ++ item_if (names_stub l i s) (item named.Stub i s)
 
 -- the symbol is undefined
 abbrev pub is_undefined_symbol : Place → Bool
@@ -64,38 +64,38 @@ is_undefined_symbol at.Undefined = true
 is_undefined_symbol other = false
 
 -- the symbol is one of those that a pass takes
-abbrev pub is_of_pass : Own → Symbol → Bool
+abbrev pub is_of_pass : SymtabSymbols → Symbol → Bool
 is_of_pass takes.Every s = true
 is_of_pass takes.Defined s = not (is_undefined_symbol s.place)
 is_of_pass takes.Undefined s = is_undefined_symbol s.place
 is_of_pass takes.Nothing s = false
 
-abbrev pub own_item : Own → ℕ → Symbol → List TableSymbol
-own_item o i s = where_asked (is_of_pass o s && s.emit) (item named.Itself i s)
+abbrev pub own_item : SymtabSymbols → ℕ → Symbol → List TableSymbol
+own_item o i s = item_if (is_of_pass o s && s.emit) (item named.Itself i s)
 
 -- the items for a symbol in a pass: the names of its slot and its stub, then its own
-abbrev pub symbol_items : Layout → Pass → ℕ → Symbol → List TableSymbol
+abbrev pub symbol_items : Layout → SymtabPass → ℕ → Symbol → List TableSymbol
 symbol_items l p i s = (if p.slots then slot_items l i s else []) ++ own_item p.own i s
 
 -- the items for symbols in a pass, from number i on
-abbrev pub pass_items : Layout → Pass → ℕ → List Symbol → List TableSymbol
-pass_items l p i ss = numbered (symbol_items l p) i ss
+abbrev pub pass_items : Layout → SymtabPass → ℕ → List Symbol → List TableSymbol
+pass_items l p i ss = numbered_items (symbol_items l p) i ss
 
 -- an input file has one pass; the linker's own files have their symbols first, and then the names of their slots
-abbrev pub linked_passes : FileRole → List Pass
+abbrev pub linked_passes : FileRole → List SymtabPass
 linked_passes file_role.Object = record { slots = true; own = takes.Every } ∷ []
 linked_passes file_role.Dynamic = record { slots = true; own = takes.Every } ∷ []
 linked_passes other = record { slots = false; own = takes.Every } ∷ record { slots = true; own = takes.Nothing } ∷ []
 
 -- in a relocatable object, which has no slots, a file's undefined symbols follow the others
-abbrev pub passes : OutputKind → FileRole → List Pass
+abbrev pub passes : OutputKind → FileRole → List SymtabPass
 passes kind role =
     if is_partial_link kind
     then record { slots = false; own = takes.Defined } ∷ record { slots = false; own = takes.Undefined } ∷ []
     else linked_passes role
 
-abbrev pub items_of : Layout → List Pass → File → List TableSymbol
-items_of l ps f = flat_map (λ (p : Pass). pass_items l p f.first_symbol (loaded_symbols l f)) ps
+abbrev pub items_of : Layout → List SymtabPass → File → List TableSymbol
+items_of l ps f = flat_map (λ (p : SymtabPass). pass_items l p f.first_symbol (loaded_symbols l f)) ps
 
 abbrev pub named_thunk : Thunk → Option Symbol → List TableSymbol
 named_thunk t None = []
@@ -111,21 +111,21 @@ thunk_items l f = flat_map (thunk_item l) (thunks_of l f)
 
 -- the items for a file: its symbols, then its thunks
 unfoldable pub file_items : Layout → File → List TableSymbol
-file_items l f = if has_table l then items_of l (passes l.kind f.role) f ++ thunk_items l f else []
+file_items l f = if has_symtab l then items_of l (passes l.kind f.role) f ++ thunk_items l f else []
 
 -- ---- names
 
-abbrev pub prefix : Named → List ℕ
+abbrev pub prefix : SymtabName → List ℕ
 prefix (named.Thunk a) = codes "__wild_thunk_"
 prefix other = []
 
-abbrev pub suffix : Named → List ℕ
+abbrev pub suffix : SymtabName → List ℕ
 suffix named.Slot = codes "$got"
 suffix named.Stub = codes "$plt"
 suffix other = []
 
 -- the full name of an item for a symbol with that name
-abbrev pub full_name : Named → List ℕ → List ℕ
+abbrev pub full_name : SymtabName → List ℕ → List ℕ
 full_name n name = prefix n ++ (name ++ suffix n)
 
 abbrev pub item_name : TableSymbol → List ℕ
@@ -137,7 +137,7 @@ item_name x = full_name x.named x.symbol.name
 abbrev pub is_local_symbol : Symbol → Bool
 is_local_symbol s = s.info / 16 == stb_local || has_flag s.flags downgrade_to_local
 
-abbrev pub is_local_by : Named → Symbol → Bool
+abbrev pub is_local_by : SymtabName → Symbol → Bool
 is_local_by named.Itself s = is_local_symbol s
 is_local_by other s = true
 
@@ -145,32 +145,32 @@ is_local_by other s = true
 abbrev pub is_local : TableSymbol → Bool
 is_local x = is_local_by x.named x.symbol
 
-abbrev pub is_on : Bool → TableSymbol → Bool
-is_on true x = is_local x
-is_on false x = not (is_local x)
+abbrev pub is_on_side : Bool → TableSymbol → Bool
+is_on_side true x = is_local x
+is_on_side false x = not (is_local x)
 
 -- the local symbols, or the global ones
 abbrev pub side : Bool → List TableSymbol → List TableSymbol
-side local xs = filter (is_on local) xs
+side local xs = filter (is_on_side local) xs
 
 -- ---- section symbols
 
 -- the header indexes of the sections that have a section symbol by the layout, counted from k on
-abbrev pub asked_from : ℕ → List Section → List ℕ
-asked_from k [] = []
-asked_from k (s ∷ ss) = if s.section_symbol then k ∷ asked_from (k + 1) ss else asked_from (k + 1) ss
+abbrev pub marked_sections : ℕ → List Section → List ℕ
+marked_sections k [] = []
+marked_sections k (s ∷ ss) = if s.section_symbol then k ∷ marked_sections (k + 1) ss else marked_sections (k + 1) ss
 
 -- the header indexes of the input sections that the object keeps as sections of their own, in the order of processing
-abbrev pub kept_alone : Layout → List ℕ
-kept_alone l = flat_map (λ (f : File). flat_map (λ (s : InputSection). option_to_list s.singleton) f.sections) (files_of l.groups)
+abbrev pub singleton_sections : Layout → List ℕ
+singleton_sections l = flat_map (λ (f : File). flat_map (λ (s : InputSection). option_to_list s.singleton) f.sections) (files_of l.groups)
 
 -- a relocatable object has a local symbol for each of these (gABI, "Symbol Table": STT_SECTION)
 unfoldable pub section_symbols : Layout → List ℕ
-section_symbols l = if is_partial_link l.kind then asked_from 0 l.sections ++ kept_alone l else []
+section_symbols l = if is_partial_link l.kind then marked_sections 0 l.sections ++ singleton_sections l else []
 
 -- the table begins with the null symbol, which is local, and the section symbols
 abbrev pub null_count : Layout → File → ℕ
-null_count l f = if has_table l && is_prelude f.role then 1 + length (section_symbols l) else 0
+null_count l f = if has_symtab l && is_prelude f.role then 1 + length (section_symbols l) else 0
 
 -- the number of entries of a file for local symbols, and for global ones
 abbrev pub local_count : Layout → File → ℕ
@@ -183,7 +183,7 @@ global_count l f = length (side false (file_items l f))
 
 -- the empty string, with which the string table begins, belongs to the first file (gABI, "String Table")
 abbrev pub null_strings : Layout → File → List (List ℕ)
-null_strings l f = if has_table l && is_prelude f.role then [] ∷ [] else []
+null_strings l f = if has_symtab l && is_prelude f.role then [] ∷ [] else []
 
 -- the strings of a file
 unfoldable pub table_strings : Layout → File → List (List ℕ)

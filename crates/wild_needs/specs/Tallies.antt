@@ -1,14 +1,14 @@
 -- Counts of dynamic relocations and RELR words, relocation by relocation, in placed sections.
---   standing_of s          the properties of a section on which counts depend: flags, address, and whether its relocations are read
+--   section_facts s          the properties of a section on which counts depend: flags, address, and whether its relocations are read
 --   counted_in kind l s    the number of items of that kind in a section
---   asks kind l standing   a section may have items of that kind
+--   may_have_items kind l standing   a section may have items of that kind
 --   reads_places kind l    the count depends on the addresses of sections
 --   rest_of kind ..        the number of items for relocations, given the state of the RELR run
 --   Tallies a r b          a tally advances by a relocation: its final count, at most 2^64 - 1, does not change
 use Rattle.std.specs.Prelude.{◌≡◌, ℕ, ◌+◌, ◌-◌, ◌^◌, ◌<◌, ◌&&◌, Bool, false, min, List, ◌∷◌, length, option_to_list}
 use Rattle.std.specs.List.{flat_map, filter}
 use Rattle.wild_relr.specs.declared.run.Run.{Run}
-use Rattle.wild_relr.specs.Packed.{counted}
+use Rattle.wild_relr.specs.RunWords.{counted}
 use Rattle.wild_types.specs.declared.input.InputRelocation.{InputRelocation}
 use Rattle.wild_types.specs.declared.input.InputSection.{InputSection}
 use Rattle.wild_types.specs.declared.layout.Layout.{Layout}
@@ -17,25 +17,25 @@ use Rattle.wild_types.specs.Lookups.{is_read, allocated}
 use Rattle.wild_slot.specs.Treatment.{treatment}
 use Rattle.wild_needs.specs.declared.tally.Counted.{Counted}
 use Rattle.wild_needs.specs.declared.tally.Counted.TheVariants.{Listed, Packed, Left}
-use Rattle.wild_needs.specs.declared.tally.Standing.{Standing}
+use Rattle.wild_needs.specs.declared.tally.SectionFacts.{SectionFacts}
 use Rattle.wild_needs.specs.declared.tally.Tally.{Tally}
-use Rattle.wild_needs.specs.Entries.{listed_at, packed_at, listed_places, words_of, is_left_to_entry, left_relocations}
+use Rattle.wild_needs.specs.Entries.{listed_at, relr_place_at, rela_places, words_of, has_dynamic_entry, dynamic_relocations}
 
 -- the properties of a section on which counts depend
-abbrev pub standing_of : InputSection → Standing
-standing_of s = record { flags = s.flags; address = s.address; is_read = is_read s }
+abbrev pub section_facts : InputSection → SectionFacts
+section_facts s = record { flags = s.flags; address = s.address; is_read = is_read s }
 
 -- the number of items of that kind in a section
 abbrev pub counted_in : Counted → Layout → InputSection → ℕ
-counted_in Listed l s = length (listed_places l s)
+counted_in Listed l s = length (rela_places l s)
 counted_in Packed l s = length (words_of l s)
-counted_in Left l s = length (left_relocations l s)
+counted_in Left l s = length (dynamic_relocations l s)
 
 -- a section may have items of that kind
-abbrev pub asks : Counted → Layout → Standing → Bool
-asks Listed l at = is_position_independent l.kind && at.is_read
-asks Packed l at = is_position_independent l.kind && at.is_read
-asks Left l at = at.is_read && allocated at.flags
+abbrev pub may_have_items : Counted → Layout → SectionFacts → Bool
+may_have_items Listed l at = is_position_independent l.kind && at.is_read
+may_have_items Packed l at = is_position_independent l.kind && at.is_read
+may_have_items Left l at = at.is_read && allocated at.flags
 
 -- the count depends on the addresses of sections: with RELR even places are packed, and odd ones have an entry
 abbrev pub reads_places : Counted → Layout → Bool
@@ -43,10 +43,10 @@ reads_places Left l = false
 reads_places other l = is_position_independent l.kind && l.options.relr
 
 -- the number of items for relocations, given the state of the RELR run
-abbrev pub rest_of : Counted → Layout → Standing → Run → List InputRelocation → ℕ
+abbrev pub rest_of : Counted → Layout → SectionFacts → Run → List InputRelocation → ℕ
 rest_of Listed l at run rs = length (flat_map (λ r. option_to_list (listed_at l at.flags at.address r)) rs)
-rest_of Packed l at run rs = counted run (flat_map (λ r. option_to_list (packed_at l at.flags at.address r)) rs)
-rest_of Left l at run rs = length (filter (λ r. is_left_to_entry (treatment l at.flags r)) rs)
+rest_of Packed l at run rs = counted run (flat_map (λ r. option_to_list (relr_place_at l at.flags at.address r)) rs)
+rest_of Left l at run rs = length (filter (λ r. has_dynamic_entry (treatment l at.flags r)) rs)
 
 -- the count after the relocations that follow
 abbrev pub tallied : Tally → List InputRelocation → ℕ

@@ -2,7 +2,7 @@
 ghost use Rattle.std.specs.Prelude.{◌≡◌, ◌<◌, length, option_map, All};
 ghost use Rattle.wild_records.specs.Dynamic.{DynamicEntryFits};
 ghost use Rattle.wild_needs.specs.Dynamic.{dynamic_number, only, flag, dynamic_flags, dynamic_flags_1, dynamic_entry, all_tags, TagFits, tag_entries, dynamic_entries, dynamic_count};
-ghost use Rattle.wild_needs.specs.DynamicPlaces.{section_named, section_address, section_size, part_address, part_size, beside, filled_part, first_entries, bytes_of, entries_bytes, relative_count, marked_stubs};
+ghost use Rattle.wild_needs.specs.DynamicPlaces.{section_named, section_address, section_size, part_address, part_size, if_present, filled_part, first_entries, bytes_of, entries_bytes, relative_count, bti_stubs};
 
 use crate::strings::{string_count, string_start};
 use crate::versions::need_count;
@@ -219,8 +219,8 @@ fn part_size(part: Option<Part>) -> Option<u64>
 }
 
 /// The number, if the part exists.
-fn beside(number: u64, part: Option<Part>) -> Option<u64>
-    ensures { result ≡ beside number part }
+fn if_present(number: u64, part: Option<Part>) -> Option<u64>
+    ensures { result ≡ if_present number part }
 {
     part.and(Some(number))
 }
@@ -270,8 +270,8 @@ fn relative_count(layout: &Layout) -> Option<u64>
 }
 
 /// The part of AArch64's stubs, if they begin with a landing pad and there are any.
-fn marked_stubs(layout: &Layout) -> Option<Part>
-    ensures { result ≡ marked_stubs layout.now layout.now.machine }
+fn bti_stubs(layout: &Layout) -> Option<Part>
+    ensures { result ≡ bti_stubs layout.now layout.now.machine }
 {
     match layout.machine {
         Machine::AArch64 if layout.options.bti => filled_part(layout, Role::PltGot),
@@ -335,22 +335,22 @@ pub fn dynamic_entry(layout: &Layout, tag: DynamicTag) -> Option<u64>
         DynamicTag::StringSize => part_size(part_with(Role::Dynstr, layout.parts.as_slice())),
         DynamicTag::SymbolTable => part_address(part_with(Role::Dynsym, layout.parts.as_slice())),
         DynamicTag::SymbolSize => {
-            beside(
+            if_present(
                 SymtabEntry::SIZE as u64,
                 part_with(Role::Dynsym, layout.parts.as_slice()),
             )
         }
-        DynamicTag::PltGot => beside(layout.got_base, filled_part(layout, Role::RelaPlt)),
+        DynamicTag::PltGot => if_present(layout.got_base, filled_part(layout, Role::RelaPlt)),
         DynamicTag::PltRelSize => part_size(filled_part(layout, Role::RelaPlt)),
-        DynamicTag::PltRel => beside(DT_RELA, filled_part(layout, Role::RelaPlt)),
+        DynamicTag::PltRel => if_present(DT_RELA, filled_part(layout, Role::RelaPlt)),
         DynamicTag::JmpRel => part_address(filled_part(layout, Role::RelaPlt)),
         DynamicTag::Rela => part_address(first_entries(layout)),
-        DynamicTag::RelaSize => beside(entries_bytes(layout), first_entries(layout)),
-        DynamicTag::RelaEntry => beside(Rela::SIZE as u64, first_entries(layout)),
+        DynamicTag::RelaSize => if_present(entries_bytes(layout), first_entries(layout)),
+        DynamicTag::RelaEntry => if_present(Rela::SIZE as u64, first_entries(layout)),
         DynamicTag::RelaCount => relative_count(layout),
         DynamicTag::Relr => part_address(part_with(Role::RelrDyn, layout.parts.as_slice())),
         DynamicTag::RelrSize => part_size(part_with(Role::RelrDyn, layout.parts.as_slice())),
-        DynamicTag::RelrEntry => beside(
+        DynamicTag::RelrEntry => if_present(
             Relr::SIZE as u64,
             part_with(Role::RelrDyn, layout.parts.as_slice()),
         ),
@@ -362,14 +362,14 @@ pub fn dynamic_entry(layout: &Layout, tag: DynamicTag) -> Option<u64>
         DynamicTag::VersionDefinitions => {
             part_address(part_with(Role::GnuVersionD, layout.parts.as_slice()))
         }
-        DynamicTag::VersionDefinitionCount => beside(
+        DynamicTag::VersionDefinitionCount => if_present(
             layout.verdefs.len() as u64,
             part_with(Role::GnuVersionD, layout.parts.as_slice()),
         ),
         DynamicTag::VersionNeeds => {
             part_address(part_with(Role::GnuVersionR, layout.parts.as_slice()))
         }
-        DynamicTag::VersionNeedCount => beside(
+        DynamicTag::VersionNeedCount => if_present(
             need_count(layout),
             part_with(Role::GnuVersionR, layout.parts.as_slice()),
         ),
@@ -377,7 +377,7 @@ pub fn dynamic_entry(layout: &Layout, tag: DynamicTag) -> Option<u64>
         DynamicTag::Textrel => only(layout.options.textrel, 0),
         DynamicTag::Flags => Some(dynamic_flags(layout.kind, &layout.options)),
         DynamicTag::Flags1 => Some(dynamic_flags_1(layout.kind, &layout.options)),
-        DynamicTag::BtiPlt => beside(0, marked_stubs(layout)),
+        DynamicTag::BtiPlt => if_present(0, bti_stubs(layout)),
         DynamicTag::VariantPcs => only(layout.options.variant_pcs, 0),
         DynamicTag::Null => Some(0),
     }

@@ -1,13 +1,13 @@
 //! The undefined entries of the dynamic symbol table, and its length.
 ghost use Rattle.std.specs.Prelude.{◌≡◌, ◌-◌, ◌^◌, ◌≤◌, min, length};
-ghost use Rattle.wild_needs.specs.DynamicSymbols.{gives_entry, is_undefined_entry, dynsym_of, dynamic_symbols};
+ghost use Rattle.wild_needs.specs.DynamicSymbols.{writes_undefined_entry, is_undefined_entry, dynsym_of, dynamic_symbols};
 ghost use Rattle.wild_needs.specs.UndefinedCounts.{count_in, undefined_of, undefined_of_group, undefined_count};
 
-use wild_types::{File, FileRole, Group, Layout, Symbol, ValueFlags, some_from};
+use wild_types::{File, FileRole, Group, Layout, Symbol, ValueFlags, symbols_in_range};
 
 /// Whether a file of that role writes an undefined entry for a resolution with these flags.
-fn gives_entry(role: FileRole, flags: ValueFlags) -> bool
-    ensures { result ≡ gives_entry role flags }
+fn writes_undefined_entry(role: FileRole, flags: ValueFlags) -> bool
+    ensures { result ≡ writes_undefined_entry role flags }
 {
     match role {
         FileRole::Object => flags.is_dynamic(),
@@ -20,7 +20,7 @@ fn gives_entry(role: FileRole, flags: ValueFlags) -> bool
 pub fn is_undefined_entry(role: FileRole, symbol: &Symbol) -> bool
     ensures { result ≡ is_undefined_entry role symbol.now }
 {
-    gives_entry(role, symbol.flags) && symbol.resolution.is_some()
+    writes_undefined_entry(role, symbol.flags) && symbol.resolution.is_some()
 }
 
 /// The symbol's index in the dynamic symbol table.
@@ -50,7 +50,7 @@ fn undefined_of(layout: &Layout, file: &File) -> usize
     let symbols = layout.symbols.as_slice();
     count_in(
         file.role,
-        some_from(symbols, file.first_symbol.0, file.symbol_count),
+        symbols_in_range(symbols, file.first_symbol.0, file.symbol_count),
     )
 }
 

@@ -1,11 +1,11 @@
 //! Counts the dynamic relocations of input sections: relative ones, and those that name a symbol or a resolver.
 ghost use Rattle.std.specs.Prelude.{◌≡◌, ℕ, ◌+◌, ◌-◌, ◌^◌, ◌%◌, ◌≤◌, min, List, length, ◌++◌, is_some, option_to_list, IfSome};
-ghost use Rattle.wild_relr.specs.Packed.{counted};
-ghost use Rattle.wild_laid.specs.Laid.{laid_file};
-ghost use Rattle.wild_needs.specs.Entries.{is_moved_by, is_moved, listed_at, packed_at, packed_place, entry_count, word_count, sorted_words, is_left_to_entry, may_be_left, may_have_entry, general_count};
+ghost use Rattle.wild_relr.specs.RunWords.{counted};
+ghost use Rattle.wild_placement.specs.PlacedSections.{placed_file};
+ghost use Rattle.wild_needs.specs.Entries.{is_relative_by, is_relative, listed_at, relr_place_at, relr_place, entry_count, word_count, sorted_words, has_dynamic_entry, may_have_dynamic_entry, may_have_entry, general_count};
 ghost use Rattle.wild_slot.specs.Treatment.{treatment};
 
-use crate::tally::{Counted, count_processed, count_sections, count_sorted};
+use crate::tally::{Counted, count_of_file, count_sections, count_sorted};
 use wild_records::abi::relocation::{
     R_AARCH64_ABS64, R_X86_64_64, R_X86_64_SIZE32, R_X86_64_SIZE64,
 };
@@ -14,8 +14,8 @@ use wild_slot::{Treatment, flags_at, treatment_of};
 use wild_types::{File, InputRelocation, InputSection, Layout, SymbolIndex, is_writable};
 
 /// Whether a relocation writes an address that changes with the load bias, in a section with such flags.
-pub fn is_moved_by(layout: &Layout, flags: u64, relocation: &InputRelocation) -> bool
-    ensures { result ≡ is_moved_by layout.now flags relocation.now }
+pub fn is_relative_by(layout: &Layout, flags: u64, relocation: &InputRelocation) -> bool
+    ensures { result ≡ is_relative_by layout.now flags relocation.now }
 {
     matches!(
         treatment_of(layout, flags, relocation),
@@ -24,24 +24,24 @@ pub fn is_moved_by(layout: &Layout, flags: u64, relocation: &InputRelocation) ->
 }
 
 /// Whether a relocation of a section writes an address that changes with the load bias.
-pub fn is_moved(layout: &Layout, section: &InputSection, relocation: &InputRelocation) -> bool
-    ensures { result ≡ is_moved layout.now section.now relocation.now }
+pub fn is_relative(layout: &Layout, section: &InputSection, relocation: &InputRelocation) -> bool
+    ensures { result ≡ is_relative layout.now section.now relocation.now }
 {
-    is_moved_by(layout, section.flags, relocation)
+    is_relative_by(layout, section.flags, relocation)
 }
 
 /// The place of a relocation if it is packed as RELR, in a section with such flags at an address.
-pub fn packed_at(
+pub fn relr_place_at(
     layout: &Layout,
     flags: u64,
     address: u64,
     relocation: &InputRelocation,
 ) -> Option<u64>
-    ensures is { result ≡ packed_at layout.now flags address relocation.now }
+    ensures is { result ≡ relr_place_at layout.now flags address relocation.now }
     ensures even { IfSome result (λ place. place % 2 ≡ 0) }
 {
     let place = relocation.place_from(address);
-    if is_moved_by(layout, flags, relocation) && layout.packs(place) {
+    if is_relative_by(layout, flags, relocation) && layout.packs(place) {
         Some(place)
     } else {
         None
@@ -49,19 +49,19 @@ pub fn packed_at(
 }
 
 /// The place of a relocation if it is packed as RELR.
-pub fn packed_place(
+pub fn relr_place(
     layout: &Layout,
     section: &InputSection,
     relocation: &InputRelocation,
 ) -> Option<u64>
-    ensures is { result ≡ packed_place layout.now section.now relocation.now }
+    ensures is { result ≡ relr_place layout.now section.now relocation.now }
     ensures even { IfSome result (λ place. place % 2 ≡ 0) }
 {
-    packed_at(layout, section.flags, section.address, relocation)
+    relr_place_at(layout, section.flags, section.address, relocation)
 }
 
 /// Whether the place of a relocation has a relative entry with an addend, in a section with such flags at an address.
-pub(crate) fn is_listed_at(
+pub(crate) fn is_rela_at(
     layout: &Layout,
     flags: u64,
     address: u64,
@@ -69,7 +69,7 @@ pub(crate) fn is_listed_at(
 ) -> bool
     ensures { result ≡ is_some (listed_at layout.now flags address relocation.now) }
 {
-    is_moved_by(layout, flags, relocation) && !layout.packs(relocation.place_from(address))
+    is_relative_by(layout, flags, relocation) && !layout.packs(relocation.place_from(address))
 }
 
 /// The number of RELR words that a place adds to a run, and the run after it.
@@ -90,8 +90,8 @@ pub(crate) fn count_place(run: Run, place: Option<u64>) -> (usize, Run)
 /// Whether an entry that names a symbol or a resolver can fill the field of a relocation of that type, in a section with such
 /// flags.
 #[inline]
-fn may_be_left(flags: u64, number: u32) -> bool
-    ensures { result ≡ may_be_left flags number }
+fn may_have_dynamic_entry(flags: u64, number: u32) -> bool
+    ensures { result ≡ may_have_dynamic_entry flags number }
 {
     match number {
         R_X86_64_64 | R_AARCH64_ABS64 => is_writable(flags),
@@ -115,8 +115,8 @@ fn may_have_entry(layout: &Layout, symbol: Option<SymbolIndex>) -> bool
 }
 
 /// Whether the treatment of a relocation is such an entry.
-fn is_left_by_treatment(layout: &Layout, flags: u64, relocation: &InputRelocation) -> bool
-    ensures { result ≡ is_left_to_entry (treatment layout.now flags relocation.now) }
+fn has_dynamic_treatment(layout: &Layout, flags: u64, relocation: &InputRelocation) -> bool
+    ensures { result ≡ has_dynamic_entry (treatment layout.now flags relocation.now) }
 {
     matches!(
         treatment_of(layout, flags, relocation),
@@ -128,36 +128,36 @@ fn is_left_by_treatment(layout: &Layout, flags: u64, relocation: &InputRelocatio
 /// computed only if the type and the symbol allow such an entry.
 #[inline]
 #[tactic(auto, using(crate::proofs::EntryLemmas::others_stay, crate::proofs::EntryLemmas::plain_stay))]
-pub fn is_left_by(layout: &Layout, flags: u64, relocation: &InputRelocation) -> bool
-    ensures { result ≡ is_left_to_entry (treatment layout.now flags relocation.now) }
+pub fn has_dynamic_entry_by(layout: &Layout, flags: u64, relocation: &InputRelocation) -> bool
+    ensures { result ≡ has_dynamic_entry (treatment layout.now flags relocation.now) }
 {
-    may_be_left(flags, relocation.number)
+    may_have_dynamic_entry(flags, relocation.number)
         && may_have_entry(layout, relocation.symbol)
-        && is_left_by_treatment(layout, flags, relocation)
+        && has_dynamic_treatment(layout, flags, relocation)
 }
 
 /// Whether an entry that names a symbol or a resolver fills the field of a section's relocation.
 #[inline]
-pub fn is_left_to_entry(
+pub fn has_dynamic_entry(
     layout: &Layout,
     section: &InputSection,
     relocation: &InputRelocation,
 ) -> bool
-    ensures { result ≡ is_left_to_entry (treatment layout.now section.now.flags relocation.now) }
+    ensures { result ≡ has_dynamic_entry (treatment layout.now section.now.flags relocation.now) }
 {
-    is_left_by(layout, section.flags, relocation)
+    has_dynamic_entry_by(layout, section.flags, relocation)
 }
 
 /// The number of relative entries with addends of a file, at most 2^64 - 1. The file's frames begin at address `at`.
 pub fn entry_count(layout: &Layout, at: u64, file: &File) -> u64
-    ensures { result ≡ min (2 ^ 64 - 1) (entry_count layout.now (laid_file layout.now at file.now)) }
+    ensures { result ≡ min (2 ^ 64 - 1) (entry_count layout.now (placed_file layout.now at file.now)) }
 {
-    count_processed(Counted::Listed, layout, at, file)
+    count_of_file(Counted::Listed, layout, at, file)
 }
 
 /// The number of RELR words of a file, at most 2^64 - 1. The file's frames begin at address `at`.
 pub fn word_count(layout: &Layout, at: u64, file: &File) -> u64
-    ensures { result ≡ min (2 ^ 64 - 1) (word_count layout.now (laid_file layout.now at file.now)) }
+    ensures { result ≡ min (2 ^ 64 - 1) (word_count layout.now (placed_file layout.now at file.now)) }
 {
     count_sections(Counted::Packed, layout, at, file)
 }
@@ -174,8 +174,8 @@ pub fn sorted_word_count(layout: &Layout) -> u64
 /// begin at address `at`.
 #[tactic(auto, unfolding(crate::specs::Entries::general_count))]
 pub fn general_count(layout: &Layout, at: u64, file: &File) -> u64
-    ensures { result ≡ min (2 ^ 64 - 1) (general_count layout.now (laid_file layout.now at file.now)) }
+    ensures { result ≡ min (2 ^ 64 - 1) (general_count layout.now (placed_file layout.now at file.now)) }
 {
     let copied = file.copied().len() as u64;
-    copied.saturating_add(count_processed(Counted::Left, layout, at, file))
+    copied.saturating_add(count_of_file(Counted::Left, layout, at, file))
 }

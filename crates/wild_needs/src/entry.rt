@@ -1,7 +1,7 @@
 //! The entry point of the program (gABI, "Symbol Table", "ELF Header").
 ghost use Rattle.std.specs.Prelude.{◌≡◌, Some};
 ghost use Rattle.wild_types.specs.Addresses.{raw_value};
-ghost use Rattle.wild_needs.specs.EntryPoint.{start_of, text_start, defaulted, entry_value, entry_at, entry_point};
+ghost use Rattle.wild_needs.specs.EntryPoint.{start_of, text_start, default_entry, entry_value, entry_at, entry_point};
 ghost use Rattle.wild_types.specs.Lookups.{canonical};
 
 use wild_slot::flags_at;
@@ -34,9 +34,9 @@ fn text_start(layout: &Layout) -> Option<u64>
 }
 
 /// The entry point for a symbol without an address: the start of `.text`, or 0 if there is none, with a warning.
-fn defaulted(symbol: SymbolIndex, text: Option<u64>) -> (u64, Option<EntryWarning>)
-    ensures address { result.0 ≡ (defaulted symbol text).address }
-    ensures warning { result.1 ≡ (defaulted symbol text).warning }
+fn default_entry(symbol: SymbolIndex, text: Option<u64>) -> (u64, Option<EntryWarning>)
+    ensures address { result.0 ≡ (default_entry symbol text).address }
+    ensures warning { result.1 ≡ (default_entry symbol text).warning }
 {
     match text {
         Some(address) => (address, Some(EntryWarning::Defaulted { symbol, address })),
@@ -64,7 +64,7 @@ fn entry_at(layout: &Layout, symbol: SymbolIndex) -> (u64, Option<EntryWarning>)
     match entry_value(layout, symbol) {
         Some(address) => (address, None),
         None if layout.kind.is_shared_object() => (0, None),
-        None => defaulted(symbol, text_start(layout)),
+        None => default_entry(symbol, text_start(layout)),
     }
 }
 

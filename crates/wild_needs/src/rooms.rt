@@ -2,10 +2,10 @@
 //! Section").
 ghost use Rattle.std.specs.Prelude.{◌≡◌, ℕ, ◌+◌, ◌-◌, ◌^◌, ◌≤◌, min, if◌then◌else◌};
 ghost use Rattle.wild_types.specs.Lists.{total};
-ghost use Rattle.wild_laid.specs.Laid.{file_frames, laid_file};
-ghost use Rattle.wild_needs.specs.Needs.{search_table_room, build_id_room, value_room, property_room, properties_room, last_of, frames_room};
+ghost use Rattle.wild_placement.specs.PlacedSections.{file_frames, placed_file};
+ghost use Rattle.wild_needs.specs.Needs.{search_table_room, build_id_room, value_room, property_room, properties_room, bytes_if_last, frames_room};
 
-use wild_laid::{all_fdes, kept_size};
+use wild_placement::{all_fdes, kept_size};
 use wild_records::{EhFrameHdr, EhFrameHdrEntry, NoteHeader};
 use wild_types::{File, Layout, Property, PropertyValue};
 
@@ -41,7 +41,7 @@ fn kept_of(layout: &Layout, file: &File) -> u64
 
 /// The size of the zero length that ends all frames, if the file writes it; else 0.
 fn end_of(layout: &Layout, file: &File) -> u64
-    ensures is { result ≡ (if layout.now.options.terminator then last_of file.now.role 4 else 0) }
+    ensures is { result ≡ (if layout.now.options.terminator then bytes_if_last file.now.role 4 else 0) }
     ensures few { result ≤ 4 }
 {
     if layout.options.terminator && file.role.is_epilogue() {
@@ -54,7 +54,7 @@ fn end_of(layout: &Layout, file: &File) -> u64
 /// The bytes of frames that a file writes, at most 2^64 - 1.
 #[tactic(auto, using(crate::proofs::RoomLemmas::frames_kept))]
 pub(crate) fn frames_room(layout: &Layout, file: &File) -> u64
-    ensures { (at : ℕ) → result ≡ min (2 ^ 64 - 1) (frames_room layout.now (laid_file layout.now at file.now)) }
+    ensures { (at : ℕ) → result ≡ min (2 ^ 64 - 1) (frames_room layout.now (placed_file layout.now at file.now)) }
 {
     kept_of(layout, file).saturating_add(end_of(layout, file))
 }
@@ -71,7 +71,7 @@ fn build_id_room(layout: &Layout) -> u64
 
 /// The bytes of the build id's note that a file writes, at most 2^64 - 1.
 pub(crate) fn build_id_share(layout: &Layout, file: &File) -> u64
-    ensures { result ≡ min (2 ^ 64 - 1) (last_of file.now.role (build_id_room layout.now.build_id)) }
+    ensures { result ≡ min (2 ^ 64 - 1) (bytes_if_last file.now.role (build_id_room layout.now.build_id)) }
 {
     if file.role.is_epilogue() {
         build_id_room(layout)
@@ -107,7 +107,7 @@ fn properties_room(properties: &[Property]) -> u64
 
 /// The bytes of the note of properties that a file writes, at most 2^64 - 1.
 pub(crate) fn property_share(layout: &Layout, file: &File) -> u64
-    ensures { result ≡ min (2 ^ 64 - 1) (last_of file.now.role (properties_room layout.now.properties)) }
+    ensures { result ≡ min (2 ^ 64 - 1) (bytes_if_last file.now.role (properties_room layout.now.properties)) }
 {
     if file.role.is_epilogue() {
         properties_room(layout.properties.as_slice())

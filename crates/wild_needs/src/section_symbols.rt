@@ -1,13 +1,13 @@
 //! Counts the section symbols of a relocatable object (gABI, "Symbol Table": `STT_SECTION`).
 ghost use Rattle.std.specs.Prelude.{◌≡◌, ◌-◌, ◌^◌, ◌≤◌, min, length};
-ghost use Rattle.wild_needs.specs.TableSymbols.{asked_from, section_symbols};
-ghost use Rattle.wild_needs.specs.SectionSymbols.{alone_of, alone_of_group, alone_count};
+ghost use Rattle.wild_needs.specs.TableSymbols.{marked_sections, section_symbols};
+ghost use Rattle.wild_needs.specs.SectionSymbols.{singletons_of, singletons_of_group, singleton_count};
 
 use wild_types::{File, Group, Layout, Section};
 
 /// The number of sections that have a section symbol by the layout.
-fn asked_count(sections: &[Section]) -> usize
-    ensures { result ≡ length (asked_from 0 sections.now) }
+fn marked_section_count(sections: &[Section]) -> usize
+    ensures { result ≡ length (marked_sections 0 sections.now) }
 {
     let mut count = 0;
     for section in sections {
@@ -19,8 +19,8 @@ fn asked_count(sections: &[Section]) -> usize
 }
 
 /// The number of input sections of a file that the object keeps as sections of their own.
-fn alone_of(file: &File) -> usize
-    ensures { result ≡ alone_of file.now }
+fn singletons_of(file: &File) -> usize
+    ensures { result ≡ singletons_of file.now }
 {
     let mut count = 0;
     for section in file.sections.as_slice() {
@@ -32,23 +32,23 @@ fn alone_of(file: &File) -> usize
 }
 
 /// The number of such sections of a group, at most 2^64 - 1.
-fn alone_of_group(group: &Group) -> usize
-    ensures { result ≡ min (2 ^ 64 - 1) (alone_of_group group.now) }
+fn singletons_of_group(group: &Group) -> usize
+    ensures { result ≡ min (2 ^ 64 - 1) (singletons_of_group group.now) }
 {
     let mut count: usize = 0;
     for file in group.files.as_slice() {
-        count = count.saturating_add(alone_of(file));
+        count = count.saturating_add(singletons_of(file));
     }
     count
 }
 
 /// The number of such sections of all files, at most 2^64 - 1.
-fn alone_count(layout: &Layout) -> usize
-    ensures { result ≡ min (2 ^ 64 - 1) (alone_count layout.now) }
+fn singleton_count(layout: &Layout) -> usize
+    ensures { result ≡ min (2 ^ 64 - 1) (singleton_count layout.now) }
 {
     let mut count: usize = 0;
     for group in layout.groups.as_slice() {
-        count = count.saturating_add(alone_of_group(group));
+        count = count.saturating_add(singletons_of_group(group));
     }
     count
 }
@@ -61,5 +61,5 @@ pub fn section_symbol_count(layout: &Layout) -> usize
     if !layout.kind.is_partial_link() {
         return 0;
     }
-    asked_count(layout.sections.as_slice()).saturating_add(alone_count(layout))
+    marked_section_count(layout.sections.as_slice()).saturating_add(singleton_count(layout))
 }

@@ -2,28 +2,28 @@
 ghost use Rattle.std.specs.Prelude.{◌≡◌, ℕ, ◌+◌, ◌-◌, ◌^◌, min, true, false, if◌then◌else◌};
 ghost use Rattle.std.specs.List.{list_all};
 ghost use Rattle.wild_types.specs.declared.part.Role.{Role};
-ghost use Rattle.wild_needs.specs.Needs.{total_share, name_bytes, whole_of, dynsym_count, version_count, last_of, sysv_room, gnu_room, last_dynamic, reads_sections, reads_places, own_of, is_static, first_share, share, has_last, last_share, group_share, needs_of, needs, is_plain, is_bare, is_bare_inside};
-ghost use Rattle.wild_laid.specs.Laid.{behind, file_frames, laid_file, laid_files};
+ghost use Rattle.wild_needs.specs.Needs.{total_share, name_bytes, bytes_per_image, dynsym_count, version_count, bytes_if_last, sysv_room, gnu_room, last_dynamic, reads_sections, reads_places, file_table_bytes, is_static, first_share, share, has_last, last_share, group_share, needs_of, needs, is_plain, has_no_dynamic_tables, inner_groups_need_no_tables};
+ghost use Rattle.wild_placement.specs.PlacedSections.{behind, file_frames, placed_file, placed_files};
 ghost use Rattle.wild_types.specs.Lists.{total};
 ghost use Rattle.wild_needs.specs.Dynamic.{dynamic_count};
 ghost use Rattle.wild_needs.specs.DynamicStrings.{needed_count};
 ghost use Rattle.wild_types.specs.FileRoles.{is_prelude};
 
-use crate::bare::{is_bare, is_bare_group};
 use crate::dynamic::dynamic_count;
 use crate::dynsyms::table_length;
 use crate::entries::{entry_count, general_count, sorted_word_count, word_count};
+use crate::no_tables::{group_needs_no_tables, has_no_dynamic_tables};
 use crate::rooms::{build_id_share, frames_room, property_share, search_table_room};
-use crate::slot_shares::{block_share, header_share, slot_share, takes_none};
+use crate::slot_shares::{header_share, relr_got_share, slot_share, slots_need_nothing};
 use crate::strings::{entry_name_count, needed_count, strings_room};
 use crate::table::{global_count, has_long, local_count, table_room};
 use crate::versions::{definitions_room, needs_room};
-use wild_laid::{file_frames, frames_at};
+use wild_placement::{file_frames, frames_at};
 use wild_records::{
     DynamicEntry, FileHeader, GnuHashHeader, ProgramHeader, Rela, Relr, SectionHeader, SymtabEntry,
     Versym,
 };
-use wild_types::{File, GnuHash, Group, IsWithout, Layout, Role, SysvHash, Test, all_pass};
+use wild_types::{File, GnuHash, Group, LacksSlots, Layout, Role, SysvHash, Test, all_pass};
 
 /// The size of a 32-bit section index in bytes.
 const LONG_INDEX_SIZE: u64 = 4;
@@ -40,8 +40,8 @@ pub fn name_bytes(layout: &Layout) -> u128
 }
 
 /// The bytes of a role that appear once in an image, at most 2^64 - 1.
-pub fn whole_of(layout: &Layout, role: Role) -> u64
-    ensures { result ≡ min (2 ^ 64 - 1) (whole_of layout.now role) }
+pub fn bytes_per_image(layout: &Layout, role: Role) -> u64
+    ensures { result ≡ min (2 ^ 64 - 1) (bytes_per_image layout.now role) }
 {
     let bytes = match role {
         Role::FileHeader => FileHeader::SIZE as u128,
@@ -69,7 +69,7 @@ fn dynsym_count(layout: &Layout, file: &File) -> u64
 
 /// The number of entries of the dynamic section that the last file writes, at most 2^64 - 1; 0 for another file.
 fn last_count(layout: &Layout, file: &File) -> u64
-    ensures { result ≡ min (2 ^ 64 - 1) (last_of file.now.role (dynamic_count layout.now)) }
+    ensures { result ≡ min (2 ^ 64 - 1) (bytes_if_last file.now.role (dynamic_count layout.now)) }
 {
     if file.role.is_epilogue() {
         dynamic_count(layout) as u64
@@ -80,7 +80,7 @@ fn last_count(layout: &Layout, file: &File) -> u64
 
 /// The number of entries of a file in the dynamic section, at most 2^64 - 1.
 fn section_count(layout: &Layout, file: &File) -> u64
-    ensures { result ≡ min (2 ^ 64 - 1) (needed_count layout.now file.now + last_of file.now.role (dynamic_count layout.now)) }
+    ensures { result ≡ min (2 ^ 64 - 1) (needed_count layout.now file.now + bytes_if_last file.now.role (dynamic_count layout.now)) }
 {
     let needed = needed_count(layout, file) as u64;
     needed.saturating_add(last_count(layout, file))
@@ -176,8 +176,8 @@ fn reads_places(layout: &Layout, role: Role) -> bool
 }
 
 /// The share of a file that depends on its sections, at most 2^64 - 1. The file's frames begin at address `at`.
-fn told_by_sections(layout: &Layout, at: u64, role: Role, file: &File) -> u64
-    ensures { reads_sections role ≡ true → result ≡ min (2 ^ 64 - 1) (own_of layout.now role (laid_file layout.now at file.now)) }
+fn share_by_sections(layout: &Layout, at: u64, role: Role, file: &File) -> u64
+    ensures { reads_sections role ≡ true → result ≡ min (2 ^ 64 - 1) (file_table_bytes layout.now role (placed_file layout.now at file.now)) }
 {
     match role {
         Role::RelaDynRelative => entry_count(layout, at, file).saturating_mul(Rela::SIZE as u64),
@@ -189,8 +189,8 @@ fn told_by_sections(layout: &Layout, at: u64, role: Role, file: &File) -> u64
 }
 
 /// The share of a file in tables for a loader and in `.symtab` that does not depend on its sections, at most 2^64 - 1.
-fn told_otherwise(layout: &Layout, role: Role, file: &File) -> u64
-    ensures { reads_sections role ≡ false → result ≡ min (2 ^ 64 - 1) (own_of layout.now role file.now) }
+fn share_without_sections(layout: &Layout, role: Role, file: &File) -> u64
+    ensures { reads_sections role ≡ false → result ≡ min (2 ^ 64 - 1) (file_table_bytes layout.now role file.now) }
 {
     match role {
         Role::Dynsym => dynsym_count(layout, file).saturating_mul(SymtabEntry::SIZE as u64),
@@ -218,13 +218,13 @@ fn told_otherwise(layout: &Layout, role: Role, file: &File) -> u64
 
 /// The share of a file in tables for a loader and other readers, at most 2^64 - 1. The file's frames begin at address `at`.
 #[tactic(auto, using(crate::proofs::StandingShares::own_stands))]
-fn own_of(layout: &Layout, at: u64, role: Role, file: &File) -> u64
-    ensures { result ≡ min (2 ^ 64 - 1) (own_of layout.now role (laid_file layout.now at file.now)) }
+fn file_table_bytes(layout: &Layout, at: u64, role: Role, file: &File) -> u64
+    ensures { result ≡ min (2 ^ 64 - 1) (file_table_bytes layout.now role (placed_file layout.now at file.now)) }
 {
     if reads_sections(role) {
-        told_by_sections(layout, at, role, file)
+        share_by_sections(layout, at, role, file)
     } else {
-        told_otherwise(layout, role, file)
+        share_without_sections(layout, role, file)
     }
 }
 
@@ -240,32 +240,32 @@ struct IsPlain<'a> {
 }
 
 impl Test<File> for IsPlain<'_> {
-    ghost test = { λ t f. is_plain t.layout.now (laid_file t.layout.now 0 f) };
+    ghost test = { λ t f. is_plain t.layout.now (placed_file t.layout.now 0 f) };
 
     fn passes(&self, file: &File) -> bool {
         let layout = self.layout;
         !layout.kind.needs_dynamic()
-            && !layout.has_table()
+            && !layout.has_symtab()
             && !file.role.is_prelude()
             && !file.role.is_epilogue()
-            && all_pass(&IsWithout, layout.own_symbols(file))
+            && all_pass(&LacksSlots, layout.own_symbols(file))
             && general_count(layout, 0, file) == 0
             && frames_room(layout, file) == 0
     }
 }
 
-/// Whether a group is known to need nothing. `bare` is true only if `is_bare` holds for the output; then relocations of files that pass
+/// Whether a group is known to need nothing. `bare` is true only if `has_no_dynamic_tables` holds for the output; then relocations of files that pass
 /// the fast test are not read.
 pub fn needs_nothing_in(layout: &Layout, bare: bool, group: &Group) -> bool
-    requires { bare ≡ true → is_bare layout.now ≡ true }
+    requires { bare ≡ true → has_no_dynamic_tables layout.now ≡ true }
     ensures { result ≡ true → (r : Role) → group_share layout.now r group.now ≡ 0 }
 {
-    bare && is_bare_group(group) || is_plain_group(layout, group)
+    bare && group_needs_no_tables(group) || is_plain_group(layout, group)
 }
 
 /// Whether all files of a group, with their sections as placed, write only input sections. Then the group needs nothing.
 pub fn is_plain_group(layout: &Layout, group: &Group) -> bool
-    ensures plain { result ≡ list_all (is_plain layout.now) (laid_files layout.now group.now) }
+    ensures plain { result ≡ list_all (is_plain layout.now) (placed_files layout.now group.now) }
     ensures none { result ≡ true → (r : Role) → group_share layout.now r group.now ≡ 0 }
 {
     all_pass(&IsPlain { layout }, group.files.as_slice())
@@ -276,24 +276,24 @@ fn first_share(layout: &Layout, role: Role, file: &File) -> u64
     ensures { result ≡ min (2 ^ 64 - 1) (if is_prelude file.now.role then first_share layout.now role else 0) }
 {
     if file.role.is_prelude() {
-        whole_of(layout, role).saturating_add(header_share(layout, role))
+        bytes_per_image(layout, role).saturating_add(header_share(layout, role))
     } else {
         0
     }
 }
 
 /// The share of a file in a part of that role, at most 2^64 - 1. The file's frames begin at address `at`.
-#[tactic(auto, using(crate::proofs::StandingShares::slots_stand))]
+#[tactic(auto, using(crate::proofs::StandingShares::slots_are_placed))]
 fn share(layout: &Layout, at: u64, role: Role, file: &File) -> u64
-    ensures { result ≡ min (2 ^ 64 - 1) (share layout.now role (laid_file layout.now at file.now)) }
+    ensures { result ≡ min (2 ^ 64 - 1) (share layout.now role (placed_file layout.now at file.now)) }
 {
     first_share(layout, role, file)
-        .saturating_add(own_of(layout, at, role, file))
+        .saturating_add(file_table_bytes(layout, at, role, file))
         .saturating_add(slot_share(layout, role, file))
 }
 
 /// The address of the frames after those of a file, if the share in parts of that role depends on it.
-fn behind_frames(layout: &Layout, at: u64, role: Role, file: &File) -> u64
+fn address_after_frames(layout: &Layout, at: u64, role: Role, file: &File) -> u64
     ensures { reads_places layout.now role ≡ true → result ≡ behind at (file_frames layout.now file.now) }
 {
     if reads_places(layout, role) {
@@ -304,15 +304,15 @@ fn behind_frames(layout: &Layout, at: u64, role: Role, file: &File) -> u64
 }
 
 /// The sum of the shares of a group's files, at most 2^64 - 1.
-#[tactic(auto, unfolding(wild_laid::specs::Laid::laid_files), using(crate::proofs::StandingShares::file_loops))]
+#[tactic(auto, unfolding(wild_placement::specs::PlacedSections::placed_files), using(crate::proofs::StandingShares::file_loops))]
 fn total_of(layout: &Layout, role: Role, group: &Group) -> u64
-    ensures { result ≡ min (2 ^ 64 - 1) (total (share layout.now role) (laid_files layout.now group.now)) }
+    ensures { result ≡ min (2 ^ 64 - 1) (total (share layout.now role) (placed_files layout.now group.now)) }
 {
     let mut sum: u64 = 0;
     let mut at = frames_at(layout, group);
     for file in group.files.as_slice() {
         sum = sum.saturating_add(share(layout, at, role, file));
-        at = behind_frames(layout, at, role, file);
+        at = address_after_frames(layout, at, role, file);
     }
     sum
 }
@@ -345,7 +345,7 @@ pub(crate) fn group_share(layout: &Layout, role: Role, group: &Group) -> u64
     ensures { result ≡ min (2 ^ 64 - 1) (group_share layout.now role group.now) }
 {
     total_of(layout, role, group)
-        .saturating_add(block_share(layout, role, group))
+        .saturating_add(relr_got_share(layout, role, group))
         .saturating_add(last_share(layout, role, group))
 }
 
@@ -386,25 +386,25 @@ fn is_static(layout: &Layout, role: Role) -> bool
 }
 
 /// Whether no group has a share in a part of that role, as far as this is known without reading the files. `bare` is true only if
-/// `is_bare` holds for the output.
+/// `has_no_dynamic_tables` holds for the output.
 #[tactic(auto, using(crate::proofs::ShareLemmas::no_share))]
 fn needs_nothing(layout: &Layout, bare: bool, role: Role) -> bool
-    requires { bare ≡ true → is_bare layout.now ≡ true }
+    requires { bare ≡ true → has_no_dynamic_tables layout.now ≡ true }
     ensures { result ≡ true → total_share layout.now role ≡ 0 }
 {
     !layout.kind.needs_dynamic()
-        && !layout.has_table()
+        && !layout.has_symtab()
         && !is_static(layout, role)
-        && takes_none(layout, bare, role)
-        && whole_of(layout, role) == 0
+        && slots_need_nothing(layout, bare, role)
+        && bytes_per_image(layout, role) == 0
 }
 
-/// The share of a group in a part of that role, at most 2^64 - 1. `bare` is true only if `is_bare` holds for the output.
+/// The share of a group in a part of that role, at most 2^64 - 1. `bare` is true only if `has_no_dynamic_tables` holds for the output.
 fn share_of_group(layout: &Layout, bare: bool, role: Role, group: &Group) -> u64
-    requires { bare ≡ true → is_bare layout.now ≡ true }
+    requires { bare ≡ true → has_no_dynamic_tables layout.now ≡ true }
     ensures { result ≡ min (2 ^ 64 - 1) (group_share layout.now role group.now) }
 {
-    if bare && is_bare_group(group) {
+    if bare && group_needs_no_tables(group) {
         0
     } else {
         group_share(layout, role, group)
@@ -413,7 +413,7 @@ fn share_of_group(layout: &Layout, bare: bool, role: Role, group: &Group) -> u64
 
 /// The shares of all groups, if those between the first and the last need nothing.
 fn share_of_ends(layout: &Layout, role: Role) -> u64
-    requires { is_bare_inside layout.now ≡ true }
+    requires { inner_groups_need_no_tables layout.now ≡ true }
     ensures { result ≡ min (2 ^ 64 - 1) (total_share layout.now role) }
 {
     match layout.groups.as_slice() {
@@ -425,11 +425,11 @@ fn share_of_ends(layout: &Layout, role: Role) -> u64
     }
 }
 
-/// The sum of the shares of all groups in a part of that role, at most 2^64 - 1. `inside` is true only if `is_bare_inside` holds for the
+/// The sum of the shares of all groups in a part of that role, at most 2^64 - 1. `inside` is true only if `inner_groups_need_no_tables` holds for the
 /// output.
-#[tactic(auto, using(crate::proofs::BareLemmas::bare_by_inside))]
+#[tactic(auto, using(crate::proofs::NoTableLemmas::bare_by_inside))]
 pub fn total_share_of(layout: &Layout, inside: bool, role: Role) -> u64
-    requires { inside ≡ true → is_bare_inside layout.now ≡ true }
+    requires { inside ≡ true → inner_groups_need_no_tables layout.now ≡ true }
     ensures { result ≡ min (2 ^ 64 - 1) (total_share layout.now role) }
 {
     if needs_nothing(layout, inside, role) {
@@ -438,7 +438,7 @@ pub fn total_share_of(layout: &Layout, inside: bool, role: Role) -> u64
     if inside {
         return share_of_ends(layout, role);
     }
-    let bare = is_bare(layout);
+    let bare = has_no_dynamic_tables(layout);
     let mut sum: u64 = 0;
     for group in layout.groups.as_slice() {
         sum = sum.saturating_add(share_of_group(layout, bare, role, group));

@@ -3,7 +3,7 @@ ghost use Rattle.std.specs.Prelude.{◌≡◌, ◌+◌, ◌-◌, ◌^◌, ◌<�
 ghost use Rattle.std.specs.List.{filter};
 ghost use Rattle.wild_types.specs.declared.layout.Layout.{Layout};
 ghost use Rattle.wild_needs.specs.DynamicSymbols.{is_undefined_entry};
-ghost use Rattle.wild_needs.specs.DynamicStrings.{named_strings, text_room, room_of, epilogue_strings, epilogue_string_bytes, lead_strings, listed_names, symbol_names, entry_names, strings_room, behind_file, needed_count, start_among, string_start};
+ghost use Rattle.wild_needs.specs.DynamicStrings.{named_strings, text_room, room_of, epilogue_strings, epilogue_string_bytes, dynstr_prefix_strings, listed_names, symbol_names, entry_names, strings_room, next_dynstr, needed_count, start_among, string_start};
 ghost use Rattle.wild_types.specs.Lists.{total};
 
 use crate::dynsyms::{count_in as count_undefined, is_undefined_entry};
@@ -99,8 +99,8 @@ fn listed_room(listed: &[DynamicSymbol]) -> u64
 }
 
 /// The size of a file's strings that are not the name of a symbol or version, at most 2^64 - 1.
-pub fn lead_room(layout: &Layout, file: &File) -> u64
-    ensures { result ≡ min (2 ^ 64 - 1) (total text_room (lead_strings layout.now file.now)) }
+pub fn dynstr_prefix(layout: &Layout, file: &File) -> u64
+    ensures { result ≡ min (2 ^ 64 - 1) (total text_room (dynstr_prefix_strings layout.now file.now)) }
 {
     match file.role {
         FileRole::Prelude => 1,
@@ -127,7 +127,7 @@ pub fn strings_room(layout: &Layout, file: &File) -> u64
     ensures { result ≡ min (2 ^ 64 - 1) (strings_room layout.now file.now) }
 {
     if layout.kind.needs_dynsym() {
-        lead_room(layout, file)
+        dynstr_prefix(layout, file)
             .saturating_add(entry_room(layout, file))
             .saturating_add(version_room(layout, file))
     } else {
@@ -148,8 +148,8 @@ pub fn entry_name_count(layout: &Layout, file: &File) -> usize
 }
 
 /// The offset after the strings of a file that begin at `start`, at most 2^64 - 1.
-pub fn behind_file(layout: &Layout, start: u64, file: &File) -> u64
-    ensures { result ≡ behind_file layout.now start file.now }
+pub fn next_dynstr(layout: &Layout, start: u64, file: &File) -> u64
+    ensures { result ≡ next_dynstr layout.now start file.now }
 {
     start.saturating_add(strings_room(layout, file))
 }
@@ -171,7 +171,7 @@ fn start_among(layout: &Layout, start: u64, files: &[File]) -> u64
         if file.role.is_epilogue() {
             return start;
         }
-        start = behind_file(layout, start, file);
+        start = next_dynstr(layout, start, file);
     }
     start
 }

@@ -3,7 +3,7 @@ ghost use Rattle.std.specs.Prelude.{◌≡◌, ℕ, ◌-◌, ◌^◌, ◌≤◌,
 ghost use Rattle.wild_needs.specs.DynamicStrings.{text_room};
 ghost use Rattle.wild_types.specs.Lists.{total};
 ghost use Rattle.wild_needs.specs.TableCounts.{taken};
-ghost use Rattle.wild_needs.specs.TableSymbols.{is_of_pass, passes, file_items, prefix, suffix, is_local_symbol, is_local_by, item, is_on, null_count, local_count, global_count, table_strings, has_long};
+ghost use Rattle.wild_needs.specs.TableSymbols.{is_of_pass, passes, file_items, prefix, suffix, is_local_symbol, is_local_by, item, is_on_side, null_count, local_count, global_count, table_strings, has_long};
 
 use crate::section_symbols::section_symbol_count;
 use crate::strings::text_room;
@@ -15,7 +15,7 @@ use wild_types::{File, FileRole, Layout, OutputKind, Place, Role, Symbol, is_the
 
 /// The kind of a name in `.symtab` that a symbol of the layout has.
 #[derive(Clone, Copy)]
-pub enum Named {
+pub enum SymtabName {
     /// The symbol itself.
     Itself,
     /// Its slot: `NAME$got`.
@@ -28,67 +28,67 @@ pub enum Named {
 
 /// The symbols that a pass takes under their own names.
 #[derive(Clone, Copy)]
-pub enum Own {
+pub enum SymtabSymbols {
     Every,
     Defined,
     Undefined,
     Nothing,
 }
 
-impl Own {
+impl SymtabSymbols {
     /// Whether the pass takes the symbol.
     pub fn takes(self, symbol: &Symbol) -> bool
         ensures { result ≡ is_of_pass self symbol.now }
     {
         match self {
-            Own::Every => true,
-            Own::Defined => !matches!(symbol.place, Place::Undefined),
-            Own::Undefined => matches!(symbol.place, Place::Undefined),
-            Own::Nothing => false,
+            SymtabSymbols::Every => true,
+            SymtabSymbols::Defined => !matches!(symbol.place, Place::Undefined),
+            SymtabSymbols::Undefined => matches!(symbol.place, Place::Undefined),
+            SymtabSymbols::Nothing => false,
         }
     }
 }
 
 /// One pass over the symbols of a file, for `.symtab`.
 #[derive(Clone, Copy)]
-pub struct Pass {
+pub struct SymtabPass {
     /// Whether it takes the names of slots and stubs.
     pub slots: bool,
     /// The symbols that it takes under their own names.
-    pub own: Own,
+    pub own: SymtabSymbols,
 }
 
 /// The passes over the symbols of a file of that role, in order. In a relocatable object undefined symbols follow the others.
-pub fn passes(kind: OutputKind, role: FileRole) -> &'static [Pass]
+pub fn passes(kind: OutputKind, role: FileRole) -> &'static [SymtabPass]
     ensures { result.now ≡ passes kind role }
 {
     if kind.is_partial_link() {
         return &[
-            Pass {
+            SymtabPass {
                 slots: false,
-                own: Own::Defined,
+                own: SymtabSymbols::Defined,
             },
-            Pass {
+            SymtabPass {
                 slots: false,
-                own: Own::Undefined,
+                own: SymtabSymbols::Undefined,
             },
         ];
     }
     match role {
         FileRole::Object | FileRole::Dynamic => {
-            &[Pass {
+            &[SymtabPass {
                 slots: true,
-                own: Own::Every,
+                own: SymtabSymbols::Every,
             }]
         }
         _ => &[
-            Pass {
+            SymtabPass {
                 slots: false,
-                own: Own::Every,
+                own: SymtabSymbols::Every,
             },
-            Pass {
+            SymtabPass {
                 slots: true,
-                own: Own::Nothing,
+                own: SymtabSymbols::Nothing,
             },
         ],
     }
@@ -109,18 +109,18 @@ fn is_local_symbol(symbol: &Symbol) -> bool
 }
 
 /// Whether that name of a symbol is a local symbol of `.symtab`.
-pub fn is_local(named: Named, symbol: &Symbol) -> bool
+pub fn is_local(named: SymtabName, symbol: &Symbol) -> bool
     ensures { result ≡ is_local_by named symbol.now }
 {
     match named {
-        Named::Itself => is_local_symbol(symbol),
-        Named::Slot | Named::Stub | Named::Thunk(_) => true,
+        SymtabName::Itself => is_local_symbol(symbol),
+        SymtabName::Slot | SymtabName::Stub | SymtabName::Thunk(_) => true,
     }
 }
 
 /// Whether that name of a symbol is a local symbol, or with `local` false, a global one.
-pub fn is_on(local: bool, named: Named, symbol: &Symbol) -> bool
-    ensures { (i : ℕ) → result ≡ is_on local (item named i symbol.now) }
+pub fn is_on_side(local: bool, named: SymtabName, symbol: &Symbol) -> bool
+    ensures { (i : ℕ) → result ≡ is_on_side local (item named i symbol.now) }
 {
     if local {
         is_local(named, symbol)
@@ -130,25 +130,25 @@ pub fn is_on(local: bool, named: Named, symbol: &Symbol) -> bool
 }
 
 /// The text before the symbol's name.
-pub fn prefix(named: Named) -> &'static [u8]
+pub fn prefix(named: SymtabName) -> &'static [u8]
     ensures is { result.now ≡ prefix named }
     ensures few { length result.now ≤ 13 }
 {
     match named {
-        Named::Thunk(_) => b"__wild_thunk_",
-        Named::Itself | Named::Slot | Named::Stub => b"",
+        SymtabName::Thunk(_) => b"__wild_thunk_",
+        SymtabName::Itself | SymtabName::Slot | SymtabName::Stub => b"",
     }
 }
 
 /// The text after the symbol's name.
-pub fn suffix(named: Named) -> &'static [u8]
+pub fn suffix(named: SymtabName) -> &'static [u8]
     ensures is { result.now ≡ suffix named }
     ensures few { length result.now ≤ 4 }
 {
     match named {
-        Named::Slot => b"$got",
-        Named::Stub => b"$plt",
-        Named::Itself | Named::Thunk(_) => b"",
+        SymtabName::Slot => b"$got",
+        SymtabName::Stub => b"$plt",
+        SymtabName::Itself | SymtabName::Thunk(_) => b"",
     }
 }
 
@@ -165,12 +165,12 @@ pub enum TablePart {
 
 /// The amount that a part needs for a symbol: 1 entry or index, or the bytes of the name. At most 2^64 - 1.
 #[tactic(auto, using(crate::proofs::TableLemmas::name_room))]
-fn taken(part: TablePart, named: Named, symbol: &Symbol) -> u64
+fn taken(part: TablePart, named: SymtabName, symbol: &Symbol) -> u64
     ensures { (i : ℕ) → result ≡ min (2 ^ 64 - 1) (taken part (item named i symbol.now)) }
 {
     match part {
         TablePart::Side(local) | TablePart::Long(local) => {
-            u64::from(is_on(local, named, symbol))
+            u64::from(is_on_side(local, named, symbol))
         }
         TablePart::Strings => {
             let affixes = prefix(named).len() + suffix(named).len();
@@ -197,7 +197,7 @@ impl TableSink for Count {
 
     #[inline(always)]
     #[tactic(auto, using(crate::proofs::TableLemmas::counts))]
-    fn take(&mut self, named: Named, index: usize, symbol: &Symbol) -> Result<(), Infallible> {
+    fn take(&mut self, named: SymtabName, index: usize, symbol: &Symbol) -> Result<(), Infallible> {
         self.sum = self.sum.saturating_add(taken(self.part, named, symbol));
         Ok(())
     }
@@ -219,7 +219,7 @@ fn count_of(layout: &Layout, part: TablePart, file: &File) -> u64
 fn null_count(layout: &Layout, file: &File) -> u64
     ensures { result ≡ min (2 ^ 64 - 1) (null_count layout.now file.now) }
 {
-    if layout.has_table() && file.role.is_prelude() {
+    if layout.has_symtab() && file.role.is_prelude() {
         (section_symbol_count(layout) as u64).saturating_add(1)
     } else {
         0
@@ -247,6 +247,6 @@ pub fn global_count(layout: &Layout, file: &File) -> u64
 pub fn table_room(layout: &Layout, file: &File) -> u64
     ensures { result ≡ min (2 ^ 64 - 1) (total text_room (table_strings layout.now file.now)) }
 {
-    let null = u64::from(layout.has_table() && file.role.is_prelude());
+    let null = u64::from(layout.has_symtab() && file.role.is_prelude());
     null.saturating_add(count_of(layout, TablePart::Strings, file))
 }

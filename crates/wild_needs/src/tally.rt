@@ -4,18 +4,18 @@ ghost use Rattle.wild_types.specs.declared.file.File.{File};
 ghost use Rattle.wild_types.specs.declared.input.InputRelocation.{InputRelocation};
 ghost use Rattle.wild_types.specs.declared.layout.Layout.{Layout};
 ghost use Rattle.wild_types.specs.Lists.{total};
-ghost use Rattle.wild_laid.specs.Laid.{Input, sorted_input, behind, laid_section, laid_sections, laid_file, sorted_sections, as_loaded, unread, of_last_file, processed};
-ghost use Rattle.wild_laid.specs.FrameInputs.{kept_size};
-ghost use Rattle.wild_laid.specs.Turned.{as_turned};
-ghost use Rattle.wild_needs.specs.Tallies.{standing_of, counted_in, asks, reads_places, rest_of, tallied};
+ghost use Rattle.wild_placement.specs.PlacedSections.{Input, sorted_input, behind, placed_section, placed_sections, placed_file, sorted_sections, as_loaded, unread, of_last_file, processed_sections};
+ghost use Rattle.wild_placement.specs.FrameInputs.{kept_size};
+ghost use Rattle.wild_placement.specs.ReversedWords.{with_word_order};
+ghost use Rattle.wild_needs.specs.Tallies.{section_facts, counted_in, may_have_items, reads_places, rest_of, tallied};
 ghost use Rattle.wild_relr.specs.declared.run.Run.TheVariants.{Closed};
 
-use crate::entries::{count_place, is_left_by, is_listed_at, packed_at};
+use crate::entries::{count_place, has_dynamic_entry_by, is_rela_at, relr_place_at};
 use std::convert::Infallible;
-use wild_laid::{frame_flags, give_relocations, give_turned, kept_size, sorted_input};
+use wild_placement::{frame_flags, give_relocations, give_reversed, kept_size, sorted_input};
 use wild_relr::{Run, runs_are_counted};
 use wild_types::{File, InputRelocation, InputSection, Layout, SortedSection, is_allocated};
-use wild_walk::Sink;
+use wild_words::Sink;
 
 /// The kind of item that is counted.
 #[derive(Clone, Copy)]
@@ -44,26 +44,26 @@ impl Counted {
 
 /// The properties of a placed section on which the count depends.
 #[derive(Clone, Copy)]
-struct Standing {
+struct SectionFacts {
     flags: u64,
     address: u64,
     is_read: bool,
 }
 
-impl Standing {
+impl SectionFacts {
     /// The properties of a section of a file whose next frames begin at an address.
     #[tactic(auto, using(crate::proofs::TallyLemmas::stands))]
-    fn of(at: u64, section: &InputSection) -> Standing
-        ensures { (l : Layout) (f : File) → result ≡ standing_of (laid_section l f at section.now) }
+    fn of(at: u64, section: &InputSection) -> SectionFacts
+        ensures { (l : Layout) (f : File) → result ≡ section_facts (placed_section l f at section.now) }
     {
         if section.slot.is_frame() {
-            Standing {
+            SectionFacts {
                 flags: frame_flags(section.flags),
                 address: at,
                 is_read: true,
             }
         } else {
-            Standing {
+            SectionFacts {
                 flags: section.flags,
                 address: section.address,
                 is_read: section.is_read(),
@@ -73,10 +73,10 @@ impl Standing {
 
     /// The properties of a sorted section.
     #[tactic(auto, using(crate::proofs::TallyLemmas::stands))]
-    fn sorted(section: &InputSection) -> Standing
-        ensures { (l : Layout) → result ≡ standing_of (as_turned (as_loaded (unread l section.now))) }
+    fn sorted(section: &InputSection) -> SectionFacts
+        ensures { (l : Layout) → result ≡ section_facts (with_word_order (as_loaded (unread l section.now))) }
     {
-        Standing {
+        SectionFacts {
             flags: section.flags,
             address: section.address,
             is_read: !section.nobits,
@@ -86,8 +86,8 @@ impl Standing {
 
 /// Whether a section may have items of that kind.
 #[inline(always)]
-fn asks(kind: Counted, layout: &Layout, standing: Standing) -> bool
-    ensures { result ≡ asks kind layout.now standing }
+fn may_have_items(kind: Counted, layout: &Layout, standing: SectionFacts) -> bool
+    ensures { result ≡ may_have_items kind layout.now standing }
 {
     match kind {
         Counted::Listed | Counted::Packed => {
@@ -102,7 +102,7 @@ fn asks(kind: Counted, layout: &Layout, standing: Standing) -> bool
 struct Tally<'a> {
     layout: &'a Layout,
     kind: Counted,
-    standing: Standing,
+    standing: SectionFacts,
     /// The state of the RELR run that packs the section's places.
     run: Run,
     count: u64,
@@ -111,7 +111,7 @@ struct Tally<'a> {
 impl<'a> Tally<'a> {
     /// A count of 0.
     #[inline(always)]
-    fn new(kind: Counted, layout: &'a Layout, standing: Standing) -> Tally<'a>
+    fn new(kind: Counted, layout: &'a Layout, standing: SectionFacts) -> Tally<'a>
         ensures none { result.count ≡ 0 }
         ensures first { (rs : List InputRelocation) → tallied result rs ≡ min (2 ^ 64 - 1) (rest_of kind layout.now standing Closed rs) }
     {
@@ -130,18 +130,21 @@ impl<'a> Tally<'a> {
     fn step(&self, relocation: &InputRelocation) -> (usize, Run)
         ensures { (rs : List InputRelocation) → result.0 + rest_of self.now.kind self.now.layout.now self.now.standing result.1 rs ≡ rest_of self.now.kind self.now.layout.now self.now.standing self.now.run (relocation.now ∷ rs) }
     {
-        let Standing { flags, address, .. } = self.standing;
+        let SectionFacts { flags, address, .. } = self.standing;
         match self.kind {
             Counted::Listed => {
-                let is_listed = is_listed_at(self.layout, flags, address, relocation);
+                let is_listed = is_rela_at(self.layout, flags, address, relocation);
                 (usize::from(is_listed), self.run)
             }
             Counted::Packed => {
-                count_place(self.run, packed_at(self.layout, flags, address, relocation))
+                count_place(
+                    self.run,
+                    relr_place_at(self.layout, flags, address, relocation),
+                )
             }
             Counted::Left => {
-                let is_left = is_left_by(self.layout, flags, relocation);
-                (usize::from(is_left), self.run)
+                let needs_symbolic = has_dynamic_entry_by(self.layout, flags, relocation);
+                (usize::from(needs_symbolic), self.run)
             }
         }
     }
@@ -176,10 +179,10 @@ fn count_section(
     file: &File,
     section: &InputSection,
 ) -> u64
-    ensures { result ≡ min (2 ^ 64 - 1) (counted_in kind layout.now (laid_section layout.now file.now at section.now)) }
+    ensures { result ≡ min (2 ^ 64 - 1) (counted_in kind layout.now (placed_section layout.now file.now at section.now)) }
 {
-    let standing = Standing::of(at, section);
-    if !asks(kind, layout, standing) {
+    let standing = SectionFacts::of(at, section);
+    if !may_have_items(kind, layout, standing) {
         return 0;
     }
     runs_are_counted();
@@ -192,16 +195,16 @@ fn count_section(
 
 /// The number of items of that kind in a sorted section, at most 2^64 - 1.
 #[tactic(auto, using(crate::proofs::TallyLemmas::tallies))]
-fn count_turned(kind: Counted, layout: &Layout, section: &InputSection) -> u64
-    ensures { result ≡ min (2 ^ 64 - 1) (counted_in kind layout.now (as_turned (as_loaded (unread layout.now section.now)))) }
+fn count_sorted_section(kind: Counted, layout: &Layout, section: &InputSection) -> u64
+    ensures { result ≡ min (2 ^ 64 - 1) (counted_in kind layout.now (with_word_order (as_loaded (unread layout.now section.now)))) }
 {
-    let standing = Standing::sorted(section);
-    if !asks(kind, layout, standing) {
+    let standing = SectionFacts::sorted(section);
+    if !may_have_items(kind, layout, standing) {
         return 0;
     }
     runs_are_counted();
     let mut tally = Tally::new(kind, layout, standing);
-    match give_turned(layout, section, &mut tally) {
+    match give_reversed(layout, section, &mut tally) {
         Ok(()) => tally.count,
         Err(never) => match never {},
     }
@@ -209,7 +212,7 @@ fn count_turned(kind: Counted, layout: &Layout, section: &InputSection) -> u64
 
 /// The address of the frames after those of a section, if the count depends on the addresses of sections.
 #[inline(always)]
-fn behind_section(
+fn next_frames_at(
     kind: Counted,
     layout: &Layout,
     at: u64,
@@ -229,23 +232,23 @@ fn behind_section(
 #[inline(always)]
 #[tactic(auto, using(crate::proofs::TallyLemmas::section_loops))]
 pub(crate) fn count_sections(kind: Counted, layout: &Layout, at: u64, file: &File) -> u64
-    ensures { result ≡ min (2 ^ 64 - 1) (total (counted_in kind layout.now) (laid_sections layout.now file.now at file.now.sections)) }
+    ensures { result ≡ min (2 ^ 64 - 1) (total (counted_in kind layout.now) (placed_sections layout.now file.now at file.now.sections)) }
 {
     let mut sum: u64 = 0;
     let mut at = at;
     for section in file.sections.as_slice() {
         sum = sum.saturating_add(count_section(kind, layout, at, file, section));
-        at = behind_section(kind, layout, at, file, section);
+        at = next_frames_at(kind, layout, at, file, section);
     }
     sum
 }
 
 /// The number of items for an entry of the sort order, if it refers to a sorted section.
-fn count_named(kind: Counted, layout: &Layout, entry: SortedSection) -> u64
-    ensures { result ≡ min (2 ^ 64 - 1) (total (counted_in kind layout.now) (map (λ (x : Input). as_turned x.section) (sorted_input layout.now entry))) }
+fn count_sort_entry(kind: Counted, layout: &Layout, entry: SortedSection) -> u64
+    ensures { result ≡ min (2 ^ 64 - 1) (total (counted_in kind layout.now) (map (λ (x : Input). with_word_order x.section) (sorted_input layout.now entry))) }
 {
     match sorted_input(layout, entry) {
-        Some(input) => count_turned(kind, layout, input.section),
+        Some(input) => count_sorted_section(kind, layout, input.section),
         None => 0,
     }
 }
@@ -257,7 +260,7 @@ pub(crate) fn count_sorted(kind: Counted, layout: &Layout) -> u64
 {
     let mut sum: u64 = 0;
     for entry in layout.sorted.as_slice() {
-        sum = sum.saturating_add(count_named(kind, layout, *entry));
+        sum = sum.saturating_add(count_sort_entry(kind, layout, *entry));
     }
     sum
 }
@@ -266,8 +269,8 @@ pub(crate) fn count_sorted(kind: Counted, layout: &Layout) -> u64
 /// the sorted sections.
 #[inline(always)]
 #[tactic(auto, using(crate::proofs::TallyLemmas::sums))]
-pub(crate) fn count_processed(kind: Counted, layout: &Layout, at: u64, file: &File) -> u64
-    ensures { result ≡ min (2 ^ 64 - 1) (total (counted_in kind layout.now) (processed layout.now (laid_file layout.now at file.now))) }
+pub(crate) fn count_of_file(kind: Counted, layout: &Layout, at: u64, file: &File) -> u64
+    ensures { result ≡ min (2 ^ 64 - 1) (total (counted_in kind layout.now) (processed_sections layout.now (placed_file layout.now at file.now))) }
 {
     let own = count_sections(kind, layout, at, file);
     if file.role.is_epilogue() {

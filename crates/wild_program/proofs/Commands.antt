@@ -3,12 +3,12 @@ use Rattle.std.proofs.Common.{◌≡◌, ℕ, List, [], ◌∷◌, length, sym, 
 use Rattle.std.specs.Prelude.{codes}
 use Rattle.std.proofs.lemmas.Fmt.{decimal_injective}
 use Rattle.wild_program.specs.Exit as exit
-use Rattle.wild_program.specs.Program.{IsLinked, IsMake, Answer, usage, read_fault, too_long, of_plan, of_make, status, text, made_text, Turn, Told, IsDue, IsUntouched, IsSaid}
+use Rattle.wild_program.specs.Program.{IsLinkCommand, IsMake, Answer, usage, read_fault, too_long, of_plan, of_make, status, text, made_text, SourceChange, SinkChange, IsRightAnswer, NothingRead, IsWritten}
 use Rattle.wild_program.specs.Clauses.{IsMadeBy}
 use Rattle.wild_program.specs.Steps.{IsAnsweredBy}
 
 -- `link` has two words, `make` three
-pub two_commands : {X : Type 0} (words : List (String Global)) (n : ℕ) → IsLinked words → (w : ℕ) × IsMake words n w → X
+pub two_commands : {X : Type 0} (words : List (String Global)) (n : ℕ) → IsLinkCommand words → (w : ℕ) × IsMake words n w → X
 two_commands words n l m = absurd (clash (ap length l.1.0) (ap length m.1.0))
   where
     clash : {k : ℕ} → k ≡ 2 → k ≡ 3 → ⊥
@@ -22,13 +22,13 @@ one_make words m n v w h k =
     let b = k.2 in
     decimal_injective m n (omega arith) (omega arith) e
 
-of_answer : (words : List (String Global)) (t : Turn) (u : Told) (said : ℕ) (a : Answer) → IsDue words t a → IsSaid u (status a) (text a) said → (n w : ℕ) → IsMake words n w → IsUntouched t × IsSaid u exit.linked (made_text n) said
+of_answer : (words : List (String Global)) (t : SourceChange) (u : SinkChange) (said : ℕ) (a : Answer) → IsRightAnswer words t a → IsWritten u (status a) (text a) said → (n w : ℕ) → IsMake words n w → NothingRead t × IsWritten u exit.linked (made_text n) said
 of_answer words t u said usage due h n w m = absurd (due.0 (inr (n, w, m)))
 of_answer words t u said read_fault due h n w m = two_commands words n due.0 (w, m)
 of_answer words t u said too_long due h n w m = two_commands words n due.0 (w, m)
 of_answer words t u said (of_plan meaning) due h n w m = two_commands words n due.0 (w, m)
 of_answer words t u said (of_make k) due h n w m =
-    (due.1, subst (λ (i : ℕ). IsSaid u exit.linked (made_text i) said) (one_make words k n due.0.0 w due.0.1 m) h)
+    (due.1, subst (λ (i : ℕ). IsWritten u exit.linked (made_text i) said) (one_make words k n due.0.0 w due.0.1 m) h)
 
-pub made_by : (words : List (String Global)) (t : Turn) (u : Told) (said : ℕ) → IsAnsweredBy words t u said → IsMadeBy words t u said
+pub made_by : (words : List (String Global)) (t : SourceChange) (u : SinkChange) (said : ℕ) → IsAnsweredBy words t u said → IsMadeBy words t u said
 made_by words t u said h = of_answer words t u said h.answer h.due h.told_as

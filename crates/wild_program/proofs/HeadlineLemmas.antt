@@ -13,7 +13,7 @@ use Rattle.wild_text.specs.Answer.{image_text}
 use Rattle.wild_text.specs.Laws.{PlansAreRead}
 use Rattle.wild_layout.specs.Numbers.{NumbersFit}
 use Rattle.wild_program.specs.Exit as exit
-use Rattle.wild_program.specs.Program.{Answer, usage, read_fault, too_long, of_plan, of_make, status, text as text_of, errors_status, errors_text, layout_text, Turn, Told, IsDue, IsSaid, IsMeant, IsLinkedText}
+use Rattle.wild_program.specs.Program.{Answer, usage, read_fault, too_long, of_plan, of_make, status, text as text_of, errors_status, errors_text, layout_text, SourceChange, SinkChange, IsRightAnswer, IsWritten, HasMeaning, IsLinkedText}
 use Rattle.wild_program.specs.Clauses.{IsHeadline}
 use Rattle.wild_program.proofs.Statuses.{clash}
 use Rattle.wild_program.proofs.Commands.{two_commands}
@@ -38,7 +38,7 @@ same_layout : (l layout : Layout) → plan l ≡ plan layout → l ≡ layout
 same_layout l layout e = cc
 
 -- the text of a layout without faults
-image_of : (t : Turn) (l layout : Layout) (plan_bytes text : List ℕ) → ImagesAreSound → PlansAreRead → NumbersFit l → t.left_before ≡ Some plan_bytes → IsMeant t (plan l)
+image_of : (t : SourceChange) (l layout : Layout) (plan_bytes text : List ℕ) → ImagesAreSound → PlansAreRead → NumbersFit l → t.left_before ≡ Some plan_bytes → HasMeaning t (plan l)
     → Means plan_bytes (plan layout) → errors l ≡ [] → text ≡ layout_text l → IsLinkedText layout text
 image_of t l layout plan_bytes text sound reads fits left meant means none is =
     let same = all_read t plan_bytes meant.0 left meant.1 in
@@ -48,7 +48,7 @@ image_of t l layout plan_bytes text sound reads fits left meant means none is =
     let shown : text ≡ image_text l (bytes l) (warnings l) (counts l) = is ∙ ap (errors_text l) none in
     subst (λ (k : Layout). IsLinkedText k text) (same_layout l layout one) (bytes l, warnings l, counts l, shown, sound l fits target.own none)
 
-said_image : (t : Turn) (u : Told) (said : ℕ) (a : Answer) (words : List (String Global)) → ImagesAreSound → PlansAreRead → AnswerFits a → IsDue words t a
+said_image : (t : SourceChange) (u : SinkChange) (said : ℕ) (a : Answer) (words : List (String Global)) → ImagesAreSound → PlansAreRead → AnswerFits a → IsRightAnswer words t a
     → said ≡ status a → Appends u.taken_before u.taken_after (text_of a) → IsHeadline words t u said
 said_image t u said usage words sound reads fits due h took plan_bytes before text layout command zero left means loads b a = clash exit.linked exit.usage said refl zero h
 said_image t u said read_fault words sound reads fits due h took plan_bytes before text layout command zero left means loads b a = clash exit.linked exit.read_fault said refl zero h
@@ -60,10 +60,10 @@ said_image t u said (of_plan (plan l)) words sound reads fits due h took plan_by
     (appended u.taken_before u.taken_after before (layout_text l) text b a took)
 said_image t u said (of_make n) words sound reads fits due h took plan_bytes before text layout command zero left means loads b a = two_commands words n command due.0
 
-told_image : (t : Turn) (u : Told) (said : ℕ) (a : Answer) (words : List (String Global)) → ImagesAreSound → PlansAreRead → AnswerFits a → IsDue words t a
-    → IsSaid u (status a) (text_of a) said → IsHeadline words t u said
+told_image : (t : SourceChange) (u : SinkChange) (said : ℕ) (a : Answer) (words : List (String Global)) → ImagesAreSound → PlansAreRead → AnswerFits a → IsRightAnswer words t a
+    → IsWritten u (status a) (text_of a) said → IsHeadline words t u said
 told_image t u said a words sound reads fits due (inl h) = said_image t u said a words sound reads fits due h.0 h.1
 told_image t u said a words sound reads fits due (inr h) = λ plan_bytes before text layout command zero left means loads b c. clash exit.linked exit.cut_short said refl zero h.0
 
-pub headline : (words : List (String Global)) (t : Turn) (u : Told) (said : ℕ) → ImagesAreSound → PlansAreRead → IsAnsweredBy words t u said → IsHeadline words t u said
+pub headline : (words : List (String Global)) (t : SourceChange) (u : SinkChange) (said : ℕ) → ImagesAreSound → PlansAreRead → IsAnsweredBy words t u said → IsHeadline words t u said
 headline words t u said sound reads h = told_image t u said h.answer words sound reads h.fits h.due h.told_as

@@ -1,23 +1,23 @@
 -- What the program answers.
 --   IsLink words n            the words are `link` and the number n of workers
---   IsDue words turn answer   the answer is the right one for these words and this input
---   IsSaid told status text said   how an answer was written: the whole text, or a write failed
+--   IsRightAnswer words turn answer   the answer is the right one for these words and this input
+--   IsWritten told status text said   how an answer was written: the whole text, or a write failed
 --   IsLinkedText layout text  the text is that of a sound image of the layout
 use Rattle.std.specs.Prelude.{◌≡◌, ℕ, ◌+◌, ◌^◌, ◌≤◌, List, [], ◌∷◌, ◌++◌, length, map, codes, decimal, string_bytes, String, Option, ◌⊎◌}
 use Rattle.std.specs.List.{sum}
 use Rattle.std.specs.declared.alloc.Global.{Global}
 use Rattle.wild_program.specs.declared.command.Command.{Command}
 use Rattle.wild_program.specs.declared.command.Command.TheVariants as command
-use Rattle.wild_made.specs.Made.{made}
+use Rattle.wild_sample_layouts.specs.PlanOfGroups.{plan_of_groups}
 use Rattle.std.specs.Io.KnownBytes.{Consumes, Appends, IsAtEnd}
-use Rattle.wild_outside.specs.Causes.{Rose, AppendsFront}
+use Rattle.wild_io.specs.Causes.{CountRose, AppendsPrefix}
 use Rattle.wild_types.specs.declared.fault.Error.{Error}
 use Rattle.wild_types.specs.declared.layout.Layout.{Layout}
 use Rattle.wild_types.specs.declared.warning.EntryWarning.{EntryWarning}
 use Rattle.wild_layout.specs.Image.{bytes, counts}
 use Rattle.wild_layout.specs.Warnings.{warnings}
 use Rattle.wild_layout.specs.Faults.{errors}
-use Rattle.wild_meaning.specs.Linked.{IsSound}
+use Rattle.wild_meaning.specs.LinkedImage.{IsSound}
 use Rattle.wild_text.specs.Means.{Meaning, no_json, no_plan, plan, Means}
 use Rattle.wild_text.specs.Answer.{image_text, image_line, count_lines, refusal_text, no_plan_text}
 use Rattle.wild_program.specs.Exit as exit
@@ -31,16 +31,16 @@ abbrev pub IsMake : List (String Global) → ℕ → ℕ → Type 0
 IsMake words n w = (map string_bytes words ≡ codes "make" ∷ decimal n ∷ decimal w ∷ []) × (1 ≤ n) × (n ≤ 65536) × (1 ≤ w) × (w ≤ 64)
 
 -- the words are `link W`
-abbrev pub IsLinked : List (String Global) → Type 0
-IsLinked words = (n : ℕ) × IsLink words n
+abbrev pub IsLinkCommand : List (String Global) → Type 0
+IsLinkCommand words = (n : ℕ) × IsLink words n
 
 -- the words are `make N W`
-abbrev pub IsMade : List (String Global) → Type 0
-IsMade words = (n : ℕ) × (w : ℕ) × IsMake words n w
+abbrev pub IsMakeCommand : List (String Global) → Type 0
+IsMakeCommand words = (n : ℕ) × (w : ℕ) × IsMake words n w
 
 -- the words are a command
 abbrev pub IsCommand : List (String Global) → Type 0
-IsCommand words = IsLinked words ⊎ IsMade words
+IsCommand words = IsLinkCommand words ⊎ IsMakeCommand words
 
 -- the words are that command
 abbrev pub Asks : List (String Global) → Command → Type 0
@@ -78,7 +78,7 @@ summary_text n image counts = codes "groups " ++ decimal n ++ codes "\n" ++ imag
 
 -- the summary for the made plan of n groups
 abbrev pub made_text : ℕ → List ℕ
-made_text n = summary_text n (bytes (made n)) (counts (made n))
+made_text n = summary_text n (bytes (plan_of_groups n)) (counts (plan_of_groups n))
 
 abbrev pub status : Answer → ℕ
 status usage = exit.usage
@@ -103,64 +103,64 @@ abbrev pub limit : ℕ
 limit = 2 ^ 31
 
 -- the state of the source before and after: the bytes not yet read, and the number of failed reads
-pub record Turn : Type 0 where
+pub record SourceChange : Type 0 where
   pub left_before : Option (List ℕ)
   pub left_after : Option (List ℕ)
   pub faults_before : ℕ
   pub faults_after : ℕ
 
-abbrev pub turn : Option (List ℕ) → Option (List ℕ) → ℕ → ℕ → Turn
-turn left_before left_after faults_before faults_after = record { left_before = left_before; left_after = left_after; faults_before = faults_before; faults_after = faults_after }
+abbrev pub source_change : Option (List ℕ) → Option (List ℕ) → ℕ → ℕ → SourceChange
+source_change left_before left_after faults_before faults_after = record { left_before = left_before; left_after = left_after; faults_before = faults_before; faults_after = faults_after }
 
 -- the bytes were read to the end and do not exceed the limit
-pub record IsRead (t : Turn) (whole : List ℕ) : Type 0 where
+pub record IsRead (t : SourceChange) (whole : List ℕ) : Type 0 where
   pub taken : Consumes t.left_before t.left_after whole
   pub ended : IsAtEnd t.left_after
   pub short : length whole ≤ limit
 
 -- nothing was read
-pub record IsUntouched (t : Turn) : Type 0 where
+pub record NothingRead (t : SourceChange) : Type 0 where
   pub left : t.left_after ≡ t.left_before
   pub faults : t.faults_after ≡ t.faults_before
 
 -- one byte more than the limit was read
-abbrev pub IsTooLong : Turn → Type 0
+abbrev pub IsTooLong : SourceChange → Type 0
 IsTooLong t = (taken : List ℕ) × Consumes t.left_before t.left_after taken × (length taken ≡ limit + 1)
 
 -- bytes that were read to the end have that meaning
-abbrev pub IsMeant : Turn → Meaning → Type 0
-IsMeant t meaning = (whole : List ℕ) × IsRead t whole × Means whole meaning
+abbrev pub HasMeaning : SourceChange → Meaning → Type 0
+HasMeaning t meaning = (whole : List ℕ) × IsRead t whole × Means whole meaning
 
 -- the answer is the right one for these words and this input
-abbrev pub IsDue : List (String Global) → Turn → Answer → Type 0
-IsDue words t usage = (IsCommand words → ⊥) × IsUntouched t
-IsDue words t read_fault = IsLinked words × Rose t.faults_before t.faults_after
-IsDue words t too_long = IsLinked words × IsTooLong t
-IsDue words t (of_plan meaning) = IsLinked words × IsMeant t meaning
-IsDue words t (of_make n) = ((w : ℕ) × IsMake words n w) × IsUntouched t
+abbrev pub IsRightAnswer : List (String Global) → SourceChange → Answer → Type 0
+IsRightAnswer words t usage = (IsCommand words → ⊥) × NothingRead t
+IsRightAnswer words t read_fault = IsLinkCommand words × CountRose t.faults_before t.faults_after
+IsRightAnswer words t too_long = IsLinkCommand words × IsTooLong t
+IsRightAnswer words t (of_plan meaning) = IsLinkCommand words × HasMeaning t meaning
+IsRightAnswer words t (of_make n) = ((w : ℕ) × IsMake words n w) × NothingRead t
 
 -- the state of the sink before and after: the bytes written so far, and the number of failed writes
-pub record Told : Type 0 where
+pub record SinkChange : Type 0 where
   pub taken_before : Option (List ℕ)
   pub taken_after : Option (List ℕ)
   pub faults_before : ℕ
   pub faults_after : ℕ
 
-abbrev pub told : Option (List ℕ) → Option (List ℕ) → ℕ → ℕ → Told
-told taken_before taken_after faults_before faults_after = record { taken_before = taken_before; taken_after = taken_after; faults_before = faults_before; faults_after = faults_after }
+abbrev pub sink_change : Option (List ℕ) → Option (List ℕ) → ℕ → ℕ → SinkChange
+sink_change taken_before taken_after faults_before faults_after = record { taken_before = taken_before; taken_after = taken_after; faults_before = faults_before; faults_after = faults_after }
 
 -- a write failed, and only a prefix of the text was written
-pub record IsCutShort (t : Told) (text : List ℕ) : Type 0 where
-  pub cause : Rose t.faults_before t.faults_after
-  pub front : AppendsFront t.taken_before t.taken_after text
+pub record IsCutShort (t : SinkChange) (text : List ℕ) : Type 0 where
+  pub cause : CountRose t.faults_before t.faults_after
+  pub front : AppendsPrefix t.taken_before t.taken_after text
 
 -- the whole text was written and the status is the answer's; or a write failed and only a prefix was written
-abbrev pub IsSaid : Told → ℕ → List ℕ → ℕ → Type 0
-IsSaid t status text said = ((said ≡ status) × Appends t.taken_before t.taken_after text) ⊎ ((said ≡ exit.cut_short) × IsCutShort t text)
+abbrev pub IsWritten : SinkChange → ℕ → List ℕ → ℕ → Type 0
+IsWritten t status text said = ((said ≡ status) × Appends t.taken_before t.taken_after text) ⊎ ((said ≡ exit.cut_short) × IsCutShort t text)
 
 -- the returned status belongs to an answer that is right for the input, and that was written
-abbrev pub IsAnswered : List (String Global) → Turn → Told → ℕ → Type 0
-IsAnswered words t u said = (a : Answer) × IsDue words t a × IsSaid u (status a) (text a) said
+abbrev pub IsAnswered : List (String Global) → SourceChange → SinkChange → ℕ → Type 0
+IsAnswered words t u said = (a : Answer) × IsRightAnswer words t a × IsWritten u (status a) (text a) said
 
 -- the text is that of an image of the layout; the loader accepts the image in every legal world, and each kept reference has the
 -- value or target that its relocation requires

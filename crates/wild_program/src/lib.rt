@@ -9,12 +9,13 @@ mod status;
 mod words;
 
 pub use command::Command;
-pub use program::{LIMIT, run, run_surely, say};
+pub use program::{LIMIT, run, run_surely, write_answer};
 pub use status::{
     CUT_SHORT, LINKED, NO_MEMORY, NO_PLAN, READ_FAULT, REFUSED, TOO_LONG, USAGE, status_of,
 };
-pub use wild_outside::{
-    Failed, MemSink, MemSource, ReadFault, Reading, Sink, Source, SureSink, SureSource, Writing,
+pub use wild_io::{
+    IoFailure, MemSink, MemSource, ReadFault, ReaderSource, Sink, Source, SureSink, SureSource,
+    WriterSink,
 };
 pub use wild_text::{PlanFault, read_plan};
 pub use words::{command_of, words_of};

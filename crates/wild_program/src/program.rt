@@ -1,9 +1,9 @@
 //! The whole program, over any source and sink.
 ghost use Rattle.std.specs.Prelude.{◌≡◌, ◌≢◌, ◌≤◌, Some, None, IfOk, OnErr};
-ghost use Rattle.wild_outside.specs.Memory.{sure_left};
+ghost use Rattle.wild_io.specs.Memory.{sure_unread};
 ghost use Rattle.wild_program.specs.Exit.{read_fault, cut_short};
-ghost use Rattle.wild_program.specs.Program.{IsLink, layout_status, layout_text, turn, told, IsSaid, IsAnswered};
-ghost use Rattle.wild_program.specs.Clauses.{HasItsCause, IsCalm, IsDetermined, IsComplete, IsHeadline, IsMadeBy};
+ghost use Rattle.wild_program.specs.Program.{IsLink, layout_status, layout_text, source_change, sink_change, IsWritten, IsAnswered};
+ghost use Rattle.wild_program.specs.Clauses.{HasItsCause, NothingFailed, IsDetermined, IsComplete, IsHeadline, IsMadeBy};
 ghost use Rattle.wild_program.specs.Steps.{IsRefusal, IsAnswerOf, IsAnsweredBy};
 
 use crate::command::Command;
@@ -14,9 +14,9 @@ use serde_json::Value;
 use std::alloc::{AllocError, Global};
 use std::thread::Threads;
 use wild_image::write_layout;
+use wild_io::{ReadFault, Sink, Source, SureSink, SureSource, read_whole, write_whole};
 use wild_laws::images_are_sound;
 use wild_layout::numbers_fit;
-use wild_outside::{ReadFault, Sink, Source, SureSink, SureSource, read_whole, write_whole};
 use wild_plan::{Error, Fault, Layout};
 use wild_text::{
     PlanFault, image_answer, no_plan_answer, plans_are_read, read_plan, refusal_answer,
@@ -26,8 +26,8 @@ use wild_text::{
 pub const LIMIT: usize = 1 << 31;
 
 /// Writes the text, and returns the status, or the one for a failed write.
-pub fn say<K: Sink>(sink: &mut K, answer: &[u8], code: u8) -> u8
-    ensures { IsSaid (told (K.taken sink.old) (K.taken sink.new) (K.faults sink.old) (K.faults sink.new))
+pub fn write_answer<K: Sink>(sink: &mut K, answer: &[u8], code: u8) -> u8
+    ensures { IsWritten (sink_change (K.output_bytes sink.old) (K.output_bytes sink.new) (K.faults sink.old) (K.faults sink.new))
         code answer.now result }
 {
     match write_whole(sink, answer) {
@@ -117,22 +117,22 @@ fn linked<S: Source, K: Sink>(
 ) -> Result<u8, AllocError>
     requires { IsLink words.now workers }
     ensures ok { IfOk result (λ said. IsAnsweredBy words.now
-        (turn (S.left source.old) (S.left source.new) (S.faults source.old) (S.faults source.new))
-        (told (K.taken sink.old) (K.taken sink.new) (K.faults sink.old) (K.faults sink.new)) said) }
-    ensures memory { OnErr result (K.taken sink.new ≡ K.taken sink.old) }
+        (source_change (S.unread_bytes source.old) (S.unread_bytes source.new) (S.faults source.old) (S.faults source.new))
+        (sink_change (K.output_bytes sink.old) (K.output_bytes sink.new) (K.faults sink.old) (K.faults sink.new)) said) }
+    ensures memory { OnErr result (K.output_bytes sink.new ≡ K.output_bytes sink.old) }
 {
     let bytes = match read_whole(alloc, source, LIMIT) {
         Ok(bytes) => bytes,
         Err(ReadFault::Memory) => return Err(AllocError),
-        Err(ReadFault::Failed) => return Ok(say(sink, b"read fault\n", READ_FAULT)),
-        Err(ReadFault::TooLong) => return Ok(say(sink, b"plan too long\n", TOO_LONG)),
+        Err(ReadFault::IoFailure) => return Ok(write_answer(sink, b"read fault\n", READ_FAULT)),
+        Err(ReadFault::TooLong) => return Ok(write_answer(sink, b"plan too long\n", TOO_LONG)),
     };
     let (code, answer) = plan_answer(rt, alloc, &bytes, workers)?;
-    Ok(say(sink, &answer, code))
+    Ok(write_answer(sink, &answer, code))
 }
 
 /// Reads the plan if the command needs one, and writes the answer.
-fn answered<S: Source, K: Sink>(
+fn run_command<S: Source, K: Sink>(
     rt: &(impl Threads + Sync),
     alloc: Global,
     words: &[String],
@@ -140,16 +140,16 @@ fn answered<S: Source, K: Sink>(
     sink: &mut K,
 ) -> Result<u8, AllocError>
     ensures ok { IfOk result (λ said. IsAnsweredBy words.now
-        (turn (S.left source.old) (S.left source.new) (S.faults source.old) (S.faults source.new))
-        (told (K.taken sink.old) (K.taken sink.new) (K.faults sink.old) (K.faults sink.new)) said) }
-    ensures memory { OnErr result (K.taken sink.new ≡ K.taken sink.old) }
+        (source_change (S.unread_bytes source.old) (S.unread_bytes source.new) (S.faults source.old) (S.faults source.new))
+        (sink_change (K.output_bytes sink.old) (K.output_bytes sink.new) (K.faults sink.old) (K.faults sink.new)) said) }
+    ensures memory { OnErr result (K.output_bytes sink.new ≡ K.output_bytes sink.old) }
 {
     match command_of(alloc, words)? {
-        None => Ok(say(sink, b"usage: link W | make N W\n", USAGE)),
+        None => Ok(write_answer(sink, b"usage: link W | make N W\n", USAGE)),
         Some(Command::Link { workers }) => linked(rt, alloc, words, workers, source, sink),
         Some(Command::Make { groups, workers }) => {
             let answer = made_answer(rt, alloc, groups, workers)?;
-            Ok(say(sink, &answer, LINKED))
+            Ok(write_answer(sink, &answer, LINKED))
         }
     }
 }
@@ -171,40 +171,40 @@ pub fn run<S: Source, K: Sink>(
 ) -> Result<u8, AllocError>
     // The status and the text belong to an answer that is right for the input.
     ensures answer { IfOk result (λ said. IsAnswered words.now
-        (turn (S.left source.old) (S.left source.new) (S.faults source.old) (S.faults source.new))
-        (told (K.taken sink.old) (K.taken sink.new) (K.faults sink.old) (K.faults sink.new)) said) }
+        (source_change (S.unread_bytes source.old) (S.unread_bytes source.new) (S.faults source.old) (S.faults source.new))
+        (sink_change (K.output_bytes sink.old) (K.output_bytes sink.new) (K.faults sink.old) (K.faults sink.new)) said) }
     // If an image of an executable or a shared object is written, the loader accepts it in every legal world. There each kept
     // reference has the value or target that its relocation requires.
     ensures headline { IfOk result (λ said. IsHeadline words.now
-        (turn (S.left source.old) (S.left source.new) (S.faults source.old) (S.faults source.new))
-        (told (K.taken sink.old) (K.taken sink.new) (K.faults sink.old) (K.faults sink.new)) said) }
+        (source_change (S.unread_bytes source.old) (S.unread_bytes source.new) (S.faults source.old) (S.faults source.new))
+        (sink_change (K.output_bytes sink.old) (K.output_bytes sink.new) (K.faults sink.old) (K.faults sink.new)) said) }
     // Each status is returned only for its cause.
     ensures causes { IfOk result (λ said. HasItsCause words.now
-        (turn (S.left source.old) (S.left source.new) (S.faults source.old) (S.faults source.new))
-        (told (K.taken sink.old) (K.taken sink.new) (K.faults sink.old) (K.faults sink.new)) said) }
+        (source_change (S.unread_bytes source.old) (S.unread_bytes source.new) (S.faults source.old) (S.faults source.new))
+        (sink_change (K.output_bytes sink.old) (K.output_bytes sink.new) (K.faults sink.old) (K.faults sink.new)) said) }
     // If no read or write fails, the words and the plan determine the status and the text.
-    ensures determined { IfOk result (λ said. IsCalm
-        (turn (S.left source.old) (S.left source.new) (S.faults source.old) (S.faults source.new))
-        (told (K.taken sink.old) (K.taken sink.new) (K.faults sink.old) (K.faults sink.new))
+    ensures determined { IfOk result (λ said. NothingFailed
+        (source_change (S.unread_bytes source.old) (S.unread_bytes source.new) (S.faults source.old) (S.faults source.new))
+        (sink_change (K.output_bytes sink.old) (K.output_bytes sink.new) (K.faults sink.old) (K.faults sink.new))
         → IsDetermined words.now
-        (turn (S.left source.old) (S.left source.new) (S.faults source.old) (S.faults source.new))
-        (told (K.taken sink.old) (K.taken sink.new) (K.faults sink.old) (K.faults sink.new)) said) }
+        (source_change (S.unread_bytes source.old) (S.unread_bytes source.new) (S.faults source.old) (S.faults source.new))
+        (sink_change (K.output_bytes sink.old) (K.output_bytes sink.new) (K.faults sink.old) (K.faults sink.new)) said) }
     // If no read or write fails, the image of a plan without faults is written.
-    ensures complete { IfOk result (λ said. IsCalm
-        (turn (S.left source.old) (S.left source.new) (S.faults source.old) (S.faults source.new))
-        (told (K.taken sink.old) (K.taken sink.new) (K.faults sink.old) (K.faults sink.new))
+    ensures complete { IfOk result (λ said. NothingFailed
+        (source_change (S.unread_bytes source.old) (S.unread_bytes source.new) (S.faults source.old) (S.faults source.new))
+        (sink_change (K.output_bytes sink.old) (K.output_bytes sink.new) (K.faults sink.old) (K.faults sink.new))
         → IsComplete words.now
-        (turn (S.left source.old) (S.left source.new) (S.faults source.old) (S.faults source.new)) said) }
+        (source_change (S.unread_bytes source.old) (S.unread_bytes source.new) (S.faults source.old) (S.faults source.new)) said) }
     // `make N W` reads nothing, and writes the summary of the made plan's image.
     ensures made { IfOk result (λ said. IsMadeBy words.now
-        (turn (S.left source.old) (S.left source.new) (S.faults source.old) (S.faults source.new))
-        (told (K.taken sink.old) (K.taken sink.new) (K.faults sink.old) (K.faults sink.new)) said) }
+        (source_change (S.unread_bytes source.old) (S.unread_bytes source.new) (S.faults source.old) (S.faults source.new))
+        (sink_change (K.output_bytes sink.old) (K.output_bytes sink.new) (K.faults sink.old) (K.faults sink.new)) said) }
     // If memory is refused, no byte has been written.
-    ensures memory { OnErr result (K.taken sink.new ≡ K.taken sink.old) }
+    ensures memory { OnErr result (K.output_bytes sink.new ≡ K.output_bytes sink.old) }
 {
     plans_are_read();
     images_are_sound();
-    answered(rt, alloc, words, source, sink)
+    run_command(rt, alloc, words, source, sink)
 }
 
 /// The program over a source and a sink that never fail: no status reports a failed read or write, and the words and
@@ -219,9 +219,9 @@ pub fn run_surely(
     ensures read { IfOk result (λ said. said ≢ read_fault) }
     ensures written { IfOk result (λ said. said ≢ cut_short) }
     ensures determined { IfOk result (λ said. IsDetermined words.now
-        (turn (Some (sure_left source.old)) (Some (sure_left source.new)) 0 0) (told None None 0 0) said) }
+        (source_change (Some (sure_unread source.old)) (Some (sure_unread source.new)) 0 0) (sink_change None None 0 0) said) }
     ensures complete { IfOk result (λ said. IsComplete words.now
-        (turn (Some (sure_left source.old)) (Some (sure_left source.new)) 0 0) said) }
+        (source_change (Some (sure_unread source.old)) (Some (sure_unread source.new)) 0 0) said) }
 {
     run(rt, alloc, words, source, sink)
 }

@@ -3,14 +3,14 @@ ghost use Rattle.std.specs.Prelude.{◌≡◌, ◌≤◌, ◌<◌, ◌^◌, ℕ,
 ghost use Rattle.std.specs.Vec.Iter.{into_iter_items};
 ghost use Rattle.std.specs.IoError.{error_kind};
 ghost use Rattle.std.specs.declared.io.ErrorKind.TheVariants.{OutOfMemory};
-ghost use Rattle.wild_program.specs.Program.{IsLinked, IsMade, IsCommand, Asks, IsLink, IsMake};
+ghost use Rattle.wild_program.specs.Program.{IsLinkCommand, IsMakeCommand, IsCommand, Asks, IsLink, IsMake};
 
 use crate::command::Command;
 use std::alloc::{AllocError, Global};
 use std::{env, io};
 
 /// The words after the first.
-fn behind_first(alloc: Global, args: env::Args<Global>) -> Result<Vec<String>, AllocError>
+fn words_after_first(alloc: Global, args: env::Args<Global>) -> Result<Vec<String>, AllocError>
     ensures { IfOk result (λ words. words.items ≡ drop 1 (into_iter_items args)) }
 {
     let mut rest = args;
@@ -32,7 +32,7 @@ pub fn words_of(
         (λ e. IfOk result (λ words. (words.items ≡ []) × (error_kind e ≡ OutOfMemory → ⊥))) }
 {
     match args {
-        Ok(args) => behind_first(alloc, args),
+        Ok(args) => words_after_first(alloc, args),
         Err(e) if e.kind() == io::ErrorKind::OutOfMemory => Err(AllocError),
         Err(_) => Ok(Vec::new(alloc)),
     }

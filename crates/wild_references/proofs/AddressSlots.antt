@@ -7,15 +7,15 @@ use Rattle.wild_slot.specs.declared.slot.SlotItem.TheVariants.{Word}
 use Rattle.wild_slot.specs.declared.slot.SlotWord.TheVariants.{Number, Address, General}
 use Rattle.wild_types.specs.declared.symbol.Resolution.{Resolution}
 use Rattle.wild_types.specs.declared.layout.Layout.{Layout}
-use Rattle.wild_types.specs.Hollow.{KeepsAll}
+use Rattle.wild_types.specs.HeaderOnly.{KeepsAll}
 use Rattle.wild_types.specs.Flags.{has_flag, ifunc_got_for_address, canonical_plt_got_for_address}
 use Rattle.wild_types.specs.Kinds.{is_position_independent}
-use Rattle.wild_slot.specs.Slots.{setting_of, named, general, stub_items, stub_address, where_so, number, ifunc_address_items, canonical_address_items}
-use Rattle.wild_slot.specs.MachineStub.{far_of}
+use Rattle.wild_slot.specs.Slots.{setting_of, named, general, stub_items, stub_address, items_if, number, ifunc_address_items, canonical_address_items}
+use Rattle.wild_slot.specs.MachineStub.{distance_if_too_far}
 use Rattle.wild_types.specs.SymbolSlots.{has_thread_slot}
 use Rattle.wild_reloc.specs.Formula.{AddressSlot}
 use Rattle.wild_reloc.specs.declared.expression.SlotSort.TheVariants as sorts
-use Rattle.wild_layout.specs.SlotValues.{has_second_slot, behind_word}
+use Rattle.wild_layout.specs.SlotValues.{has_second_slot, after_word}
 use Rattle.wild_geometry.specs.Slots.{IsLoadedWord}
 use Rattle.wild_loader.specs.declared.memory.Memory.{Memory}
 use Rattle.wild_loader.specs.declared.world.World.{World}
@@ -53,10 +53,10 @@ second_held l w m at None (Some stub) more h = by_kind (is_position_independent 
 -- of a symbol whose flag asks for it
 second_asked : (l : Layout) (w : World) (m : Memory) (at : ℕ) (r : Resolution) → has_flag r.flags ifunc_got_for_address ≡ true → ItemsHold w m at (items_behind l r) → HasSecond w m (is_position_independent l.kind) at r.plt_address
 second_asked l w m at r asked h =
-    let far = far_of l r in
+    let far = distance_if_too_far l r in
     let more = canonical_address_items (setting_of l) r in
     let item = stub_address (setting_of l) r.plt_address in
-    let here = subst (λ (b : Bool). ItemsHold w m at (stub_items far r.plt_address ++ (where_so b (item ∷ []) ++ more))) asked h in
+    let here = subst (λ (b : Bool). ItemsHold w m at (stub_items far r.plt_address ++ (items_if b (item ∷ []) ++ more))) asked h in
     second_held l w m at far r.plt_address more here
 
 -- the loaded address of the stub
@@ -88,12 +88,12 @@ behind_stub w m at (Some d) (Some stub) xs h = absurd h
 
 canonical_stands : (l : Layout) (w : World) (m : Memory) (i at : ℕ) (r : Resolution) → IsPlaced l w m → IsResolvedBy l i r → has_flag r.flags ifunc_got_for_address ≡ false → has_flag r.flags canonical_plt_got_for_address ≡ true → ItemsHold w m at (items_behind l r) → SlotStands AddressSlot l w m i at
 canonical_stands l w m i at r p d plain asked h =
-    let far = far_of l r in
+    let far = distance_if_too_far l r in
     let item = stub_address (setting_of l) r.plt_address in
     let own = named r.dynamic_symbol_index (λ d. general GotEntry d 0) in
     let here = behind_stub w m at far r.plt_address (ifunc_address_items (setting_of l) r ++ canonical_address_items (setting_of l) r) h in
-    let here' = subst (λ (b : Bool). ItemsHold w m at (where_so b (item ∷ []) ++ canonical_address_items (setting_of l) r)) plain here in
-    let there = subst (λ (b : Bool). ItemsHold w m at (where_so b (own ∷ []))) asked here' in
+    let here' = subst (λ (b : Bool). ItemsHold w m at (items_if b (item ∷ []) ++ canonical_address_items (setting_of l) r)) plain here in
+    let there = subst (λ (b : Bool). ItemsHold w m at (items_if b (own ∷ []))) asked here' in
     first_stands l w m i at [] (named_held l w m i at r [] GotEntry (λ e. General e) p d refl (λ e x f. f) there)
 
 -- ---- the one that references take
@@ -105,7 +105,7 @@ second_by law l w m i at r p all d e h = by_flag (has_flag r.flags ifunc_got_for
     by_flag true asked e = second_stands law l w m i at r p all d (second_asked l w m at r asked h)
     by_flag false plain e = canonical_stands l w m i at r p d plain e h
 
-behind_by : StubLaws → (l : Layout) (w : World) (m : Memory) (i at : ℕ) (r : Resolution) (b : Bool) → IsPlaced l w m → KeepsAll l → IsResolvedBy l i r → has_second_slot r.flags ≡ b → HasFirst l w m i at (items_behind l r) → SlotStands AddressSlot l w m i (behind_word b at)
+behind_by : StubLaws → (l : Layout) (w : World) (m : Memory) (i at : ℕ) (r : Resolution) (b : Bool) → IsPlaced l w m → KeepsAll l → IsResolvedBy l i r → has_second_slot r.flags ≡ b → HasFirst l w m i at (items_behind l r) → SlotStands AddressSlot l w m i (after_word b at)
 behind_by law l w m i at r false p all d e first = first_stands l w m i at (items_behind l r) first
 behind_by law l w m i at r true p all d e first =
     let there = second_by law l w m i (at + 8) r p all d e first.behind in
@@ -114,11 +114,11 @@ behind_by law l w m i at r true p all d e first =
     subst (λ (n : ℕ). SlotStands AddressSlot l w m i n) (sym same) there
 
 -- where the writer knows of a slot for an address and all is written, memory has it
-pub slots_stand : StubLaws → (l : Layout) (w : World) (m : Memory) → IsPlaced l w m → KeepsAll l → SlotsStand sorts.Address l w m
-slots_stand law l w m p all = λ i slot h. by_slot sorts.Address l i slot (λ (n : ℕ). SlotStands AddressSlot l w m i n) h (λ r at d e among. by_flag i slot r at d e (has_thread_slot r.flags) refl among)
+pub slots_are_placed : StubLaws → (l : Layout) (w : World) (m : Memory) → IsPlaced l w m → KeepsAll l → SlotsStand sorts.Address l w m
+slots_are_placed law l w m p all = λ i slot h. by_slot sorts.Address l i slot (λ (n : ℕ). SlotStands AddressSlot l w m i n) h (λ r at d e among. by_flag i slot r at d e (has_thread_slot r.flags) refl among)
   where
-    by_flag : (i slot : ℕ) (r : Resolution) (at : ℕ) → IsResolvedBy l i r → r.got_address ≡ Some at → (thread : Bool) → has_thread_slot r.flags ≡ thread → (if thread then None else Some (behind_word (has_second_slot r.flags) at)) ≡ Some slot → SlotStands AddressSlot l w m i slot
+    by_flag : (i slot : ℕ) (r : Resolution) (at : ℕ) → IsResolvedBy l i r → r.got_address ≡ Some at → (thread : Bool) → has_thread_slot r.flags ≡ thread → (if thread then None else Some (after_word (has_second_slot r.flags) at)) ≡ Some slot → SlotStands AddressSlot l w m i slot
     by_flag i slot r at d e true plain h = cc
     by_flag i slot r at d e false plain h =
-        let same : behind_word (has_second_slot r.flags) at ≡ slot = cc in
+        let same : after_word (has_second_slot r.flags) at ≡ slot = cc in
         subst (λ (n : ℕ). SlotStands AddressSlot l w m i n) same (behind_by law l w m i at r (has_second_slot r.flags) p all d refl (first_held l w m i at r p all d e plain))

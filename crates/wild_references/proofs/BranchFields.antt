@@ -15,22 +15,22 @@ use Rattle.wild_types.specs.declared.input.InputRelocation.{InputRelocation}
 use Rattle.wild_types.specs.Item.{Item}
 use Rattle.wild_types.specs.declared.layout.Layout.{Layout}
 use Rattle.wild_types.specs.Flags.{has_flag, interposable, ifunc, undefined_weak, plt_stub}
-use Rattle.wild_types.specs.Hollow.{KeepsAll}
+use Rattle.wild_types.specs.HeaderOnly.{KeepsAll}
 use Rattle.wild_types.specs.Kinds.{is_position_independent}
 use Rattle.wild_types.specs.Lookups.{place_of, allocated, executable}
 use Rattle.wild_types.specs.Rows.{row_of}
 use Rattle.wild_slot.specs.declared.treatment.Treatment.TheVariants as treatments
-use Rattle.wild_slot.specs.Treatment.{flags_at, is_barred_type, is_elsewhere, is_barred, kind_treatment, suits}
+use Rattle.wild_slot.specs.Treatment.{flags_at, is_barred_type, has_no_local_address, is_barred, kind_treatment, row_accepts}
 use Rattle.wild_reloc.specs.Expression.{expression_of}
 use Rattle.wild_reloc.specs.Field.{allows, size_width}
 use Rattle.wild_reloc.specs.Formula.{Value, Formula, formula, StubDistance, Distance, Bits, Imm26Field, WithinPower}
 use Rattle.wild_reloc.specs.FormulaAArch64.{aarch64_formula}
 use Rattle.wild_reloc.specs.Range.{contains}
 use Rattle.wild_reloc.specs.TableAArch64.{static_row, signed}
-use Rattle.wild_reloc.specs.declared.expression.Taken.{Taken}
+use Rattle.wild_reloc.specs.declared.expression.Subtrahend.{Subtrahend}
 use Rattle.wild_reloc.specs.declared.range.AllowedRange.{AllowedRange}
 use Rattle.wild_reloc.specs.declared.expression.Term.TheVariants as term
-use Rattle.wild_reloc.specs.declared.expression.Taken.TheVariants as taken
+use Rattle.wild_reloc.specs.declared.expression.Subtrahend.TheVariants as taken
 use Rattle.wild_reloc.specs.declared.info.PageMask.{PageMask}
 use Rattle.wild_reloc.specs.declared.info.RelocationKindInfo.{RelocationKindInfo}
 use Rattle.wild_reloc.specs.declared.info.RelocationSize.{RelocationSize}
@@ -56,7 +56,7 @@ use Rattle.wild_layout.specs.SlotValues.{address_of, stub_of, stub_address}
 use Rattle.wild_layout.specs.Values.{value_less, is_absent, is_place, is_own_place, undefined_weak_target, term_at, value_in}
 use Rattle.wild_layout.proofs.ChoiceLemmas.{IsChosenAArch64}
 use Rattle.wild_layout.proofs.DecideLemmas.{HasField}
-use Rattle.wild_layout.proofs.ReachedLemmas.{IsCarried, ComesTo}
+use Rattle.wild_layout.proofs.ThunkFieldLemmas.{IsCarried, ComesTo}
 use Rattle.wild_layout.proofs.DecisionLemmas.{IsDistance, IsKeptAArch64, goes_far, distance_has_value, distance_row}
 use Rattle.wild_loader.specs.declared.memory.Memory.{Memory}
 use Rattle.wild_loader.specs.declared.world.World.{World}
@@ -67,15 +67,15 @@ use Rattle.wild_meaning.specs.Item.{place_at}
 use Rattle.wild_meaning.specs.Section.{IsForDebuggers}
 use Rattle.wild_meaning.specs.Template.{CanHave}
 use Rattle.wild_meaning.specs.Value.{HasRaw, HasFlag}
-use Rattle.wild_meaning.specs.Reference.{IsAsked, TakesStub, GoesDirectly, IsLeftOut}
+use Rattle.wild_meaning.specs.Reference.{MustHold, TakesStub, BranchesDirectly, IsOmitted}
 use Rattle.wild_meaning.proofs.BitLemmas.{bit_code}
 use Rattle.wild_geometry.proofs.JudgedLemmas.{flag_is}
 use Rattle.wild_references.specs.Laws.{FieldHolds}
 use Rattle.wild_references.specs.Terms.{is_expressed, value_by_row, IsDirect, HasTerm, IsFollowed}
-use Rattle.wild_references.specs.Thunks.{EachThunkGoesOn, Carries}
+use Rattle.wild_references.specs.Thunks.{EachThunkJumps, AllowsThunks}
 use Rattle.wild_references.proofs.Fields.{KindLaws, IsItemLoaded, old_field, old_long, field_within, place_is, place_ends, comes_low, row_reads, row_keeps}
 use Rattle.wild_references.proofs.KnownRows.{RowFits, row_fits}
-use Rattle.wild_references.proofs.LeftOut.{all_or_bare}
+use Rattle.wild_references.proofs.OmittedReferences.{all_or_bare}
 use Rattle.wild_references.proofs.OwnSymbols.{own_symbol}
 use Rattle.wild_references.proofs.Referents.{not_own}
 use Rattle.wild_references.proofs.SymbolStubs.{stub_there}
@@ -83,7 +83,7 @@ use Rattle.wild_references.proofs.Symbols.{flag_at}
 use Rattle.wild_references.proofs.ThunkKinds.{symbol_row, stub_row, not_far, from_place as from_there}
 use Rattle.wild_references.proofs.ValueKinds.{more}
 use Rattle.wild_references.proofs.Values.{has_raw}
-use Rattle.wild_references.proofs.Written.{IsBranchField, address_given, given_some}
+use Rattle.wild_references.proofs.WrittenFields.{IsBranchField, address_given, given_some}
 use Rattle.wild_meaning.proofs.StringLemmas.{referent_by}
 use Rattle.wild_meaning.specs.Strings.{NamesStrings}
 use Rattle.wild_references.proofs.MergedStrings.{names_none, plain_address}
@@ -160,7 +160,7 @@ near_alone distances.CondBr19 goal h = refl
 near_alone distances.TstBr14 goal h = refl
 near_alone other goal h = cc
 
-carries_goal : (d : Branch) (goal : Goal) → (new_row d goal).thunkable ≡ true → Carries (new_row d goal)
+carries_goal : (d : Branch) (goal : Goal) → (new_row d goal).thunkable ≡ true → AllowsThunks (new_row d goal)
 unfolding static_row
 carries_goal distances.Jump26 goals.Symbol h = record { kind = inl refl; whole = refl; here = refl; next = refl }
 carries_goal distances.Jump26 goals.Stub h = record { kind = inr refl; whole = refl; here = refl; next = refl }
@@ -175,9 +175,9 @@ suits_named : (x y : Bool) (o : Option ℕ) (i : ℕ) → o ≡ Some i → ((x |
 suits_named true y o i e = rw e refl
 suits_named false y o i e = rw e refl
 
-pub suits_goal : (l : Layout) (r : InputRelocation) (d : Branch) (goal : Goal) (i : ℕ) → l.machine ≡ machine.AArch64 → r.symbol ≡ Some i → suits l.machine r (new_row d goal) ≡ true
-suits_goal l r d goals.Symbol i on named = subst (λ (m : Machine). suits m r (new_row d goals.Symbol) ≡ true) (sym on) (suits_named _ (not (is_none (new_row d goals.Symbol).mask)) r.symbol i named)
-suits_goal l r d goals.Stub i on named = subst (λ (m : Machine). suits m r (new_row d goals.Stub) ≡ true) (sym on) (suits_named _ (not (is_none (new_row d goals.Stub).mask)) r.symbol i named)
+pub suits_goal : (l : Layout) (r : InputRelocation) (d : Branch) (goal : Goal) (i : ℕ) → l.machine ≡ machine.AArch64 → r.symbol ≡ Some i → row_accepts l.machine r (new_row d goal) ≡ true
+suits_goal l r d goals.Symbol i on named = subst (λ (m : Machine). row_accepts m r (new_row d goals.Symbol) ≡ true) (sym on) (suits_named _ (not (is_none (new_row d goals.Symbol).mask)) r.symbol i named)
+suits_goal l r d goals.Stub i on named = subst (λ (m : Machine). row_accepts m r (new_row d goals.Stub) ≡ true) (sym on) (suits_named _ (not (is_none (new_row d goals.Stub).mask)) r.symbol i named)
 
 pub expressed_goal : (l : Layout) (d : Branch) (goal : Goal) → l.machine ≡ machine.AArch64 → is_expressed l.machine (expression_of (new_row d goal).kind).term (expression_of (new_row d goal).kind).taken (new_row d goal).mask ≡ true
 expressed_goal l d goals.Symbol on = subst (λ (m : Machine). is_expressed m term.Symbol taken.Place (new_row d goals.Symbol).mask ≡ true) (sym on) (subst (λ (o : Option PageMask). is_expressed machine.AArch64 term.Symbol taken.Place o ≡ true) (sym (no_mask d goals.Symbol)) refl)
@@ -185,7 +185,7 @@ expressed_goal l d goals.Stub on = subst (λ (m : Machine). is_expressed m term.
 
 -- a type that bars no symbol
 not_barred : (l : Layout) (flags i : ℕ) → l.machine ≡ machine.AArch64 → is_barred l flags 0 i ≡ false
-not_barred l flags i on = by (allocated flags) (is_position_independent l.kind) (is_barred_type l.machine 0) (is_elsewhere (flags_at l i)) (ap (λ (m : Machine). is_barred_type m 0) on)
+not_barred l flags i on = by (allocated flags) (is_position_independent l.kind) (is_barred_type l.machine 0) (has_no_local_address (flags_at l i)) (ap (λ (m : Machine). is_barred_type m 0) on)
   where
     by : (a b c e : Bool) → c ≡ false → (a && b && c && e) ≡ false
     by false b c e h = refl
@@ -253,7 +253,7 @@ gives_goal l w m s r d goals.Symbol v laws g there =
     subst (λ (q : Value). Gives q l w m s r v) (sym (far_value d (g.own refl).0)) (goes_there l w m s r v g.on (names_none l r g.plain) (subst (λ (q : Value). Gives q l w m s r v) (symbol_value d) (laws.symbol (new_row d goals.Symbol) refl refl l w m s r v there (followed_goal l s r d goals.Symbol g))))
 
 -- or the distance of a thunk
-carried_goal : (l : Layout) (w : World) (m : Memory) (s : Item) (r : InputRelocation) (d : Branch) (goal : Goal) (x v : ℕ) → KindLaws → KeepsAll l → EachThunkGoesOn l w m → GoesWell l s r d goal → HasTerm l w m s r (new_row d goal) x → IsCarried l s r (new_row d goal) x v → Gives (expressed_of d) l w m s r v
+carried_goal : (l : Layout) (w : World) (m : Memory) (s : Item) (r : InputRelocation) (d : Branch) (goal : Goal) (x v : ℕ) → KindLaws → KeepsAll l → EachThunkJumps l w m → GoesWell l s r d goal → HasTerm l w m s r (new_row d goal) x → IsCarried l s r (new_row d goal) x v → Gives (expressed_of d) l w m s r v
 carried_goal l w m s r d goal x v laws all thunks g there t =
     let gives = laws.thunk (new_row d goal) (carries_goal d goal t.thunkable) l w m s r x t.thunk g.on all there thunks (λ k. g.plain) (followed_goal l s r d goal g) t.far t.found t.alone in
     subst (λ (q : Value). Gives q l w m s r v) (sym (far_value d far)) (subst (λ (n : ℕ). Gives StubDistance l w m s r n) t.distance gives)
@@ -291,7 +291,7 @@ both_weak true false e h = cc
 both_weak false stub e h = cc
 
 -- a branch with the stub as its goal goes by it, but to a symbol that is not there
-stub_left : (l : Layout) (s : Item) (r : InputRelocation) (d : Branch) (term : ℕ) → IsForDebuggers l → (IsLeftOut l s r → ⊥) → IsBranch l s r d → (g : GoesWell l s r d goals.Stub) → is_own_place l.machine l r (new_row d goals.Stub) ≡ false → stub_address l (Some g.symbol) ≡ Ok term → ⊥
+stub_left : (l : Layout) (s : Item) (r : InputRelocation) (d : Branch) (term : ℕ) → IsForDebuggers l → (IsOmitted l s r → ⊥) → IsBranch l s r d → (g : GoesWell l s r d goals.Stub) → is_own_place l.machine l r (new_row d goals.Stub) ≡ false → stub_address l (Some g.symbol) ≡ Ok term → ⊥
 stub_left l s r d term bare present b g here given =
     let there = stub_there l g.symbol term (given_some missing.Stub g.symbol (stub_of l g.symbol) term given) in
     elim (cases_Bool (goes_far d)) [
@@ -320,7 +320,7 @@ stub_left l s r d term bare present b g here given =
       )
     ]
   where
-    indirect : goes_far d ≡ true → GoesDirectly l s r g.symbol → ⊥
+    indirect : goes_far d ≡ true → BranchesDirectly l s r g.symbol → ⊥
     indirect far direct = (let plain = flag_is l g.symbol ifunc false direct.plain in let both : true ≡ false = sym (g.chosen refl far) ∙ plain in cc)
 
     present_one : is_absent l (Some g.symbol) ≡ false
@@ -330,7 +330,7 @@ stub_left l s r d term bare present b g here given =
     stubbed near = both_weak (has_flag (flags_at l g.symbol) undefined_weak) (has_flag (flags_at l g.symbol) plt_stub) (g.weak near).weak present_one
 
 -- so that one that is not left out goes by none
-goes_direct : (l : Layout) (s : Item) (r : InputRelocation) (d : Branch) (goal : Goal) (term : ℕ) → IsForDebuggers l → (IsLeftOut l s r → ⊥) → IsBranch l s r d → GoesWell l s r d goal → term_at l r (new_row d goal) (place_of s.address r) ≡ Ok term → IsDirect l r (new_row d goal) (expression_of (new_row d goal).kind).term
+goes_direct : (l : Layout) (s : Item) (r : InputRelocation) (d : Branch) (goal : Goal) (term : ℕ) → IsForDebuggers l → (IsOmitted l s r → ⊥) → IsBranch l s r d → GoesWell l s r d goal → term_at l r (new_row d goal) (place_of s.address r) ≡ Ok term → IsDirect l r (new_row d goal) (expression_of (new_row d goal).kind).term
 goes_direct l s r d goals.Symbol term bare present b g given = λ takes j named stubbed. present (
   bare,
   inr (inr (inl (record {
@@ -380,7 +380,7 @@ distance_same : (t c a o : ℕ) → a + o ≤ 2 ^ 62 → ((t + c) % 2 ^ 64 + (2 
 distance_same t c a o low = omega (arith, low)
 
 -- the symbol is too far for the branch
-symbol_far : (l : Layout) (w : World) (m : Memory) (s : Item) (r : InputRelocation) (d : Branch) (x v : ℕ) → IsForDebuggers l → (IsLeftOut l s r → ⊥) → IsBranch l s r d → GoesWell l s r d goals.Symbol → (h : HasTerm l w m s r (new_row d goals.Symbol) x) → IsCarried l s r (new_row d goals.Symbol) x v → address_of l r.symbol ≡ Ok h.term → ⊥
+symbol_far : (l : Layout) (w : World) (m : Memory) (s : Item) (r : InputRelocation) (d : Branch) (x v : ℕ) → IsForDebuggers l → (IsOmitted l s r → ⊥) → IsBranch l s r d → GoesWell l s r d goals.Symbol → (h : HasTerm l w m s r (new_row d goals.Symbol) x) → IsCarried l s r (new_row d goals.Symbol) x v → address_of l r.symbol ≡ Ok h.term → ⊥
 symbol_far l w m s r d x v bare present b g h t given =
     let k = g.symbol in
     let far = goes_by_thunk l r d goals.Symbol t.thunkable in
@@ -388,7 +388,7 @@ symbol_far l w m s r d x v bare present b g h t given =
     let raw : address_of l (Some k) ≡ Ok h.term = subst (λ (o : Option ℕ). address_of l o ≡ Ok h.term) g.named given in
     let there : HasRaw l k h.term = has_raw l k h.term (address_given l (Some k) h.term (rw plain at raw)) in
     let less = (symbol_row (new_row d goals.Symbol) (no_mask d goals.Symbol) refl).taken in
-    let value : ((h.term + cast_unsigned w64 r.addend) % 2 ^ 64 + (2 ^ 64 - (s.address + r.offset) % 2 ^ 64)) % 2 ^ 64 ≡ x = subst (λ (u : Taken). value_less l u h.term r.addend (place_of s.address r) ≡ x) less h.value in
+    let value : ((h.term + cast_unsigned w64 r.addend) % 2 ^ 64 + (2 ^ 64 - (s.address + r.offset) % 2 ^ 64)) % 2 ^ 64 ≡ x = subst (λ (u : Subtrahend). value_less l u h.term r.addend (place_of s.address r) ≡ x) less h.value in
     let same : b.formula ≡ far_formula =
     (let e : Some b.formula ≡ Some far_formula = sym b.known ∙ (ap (λ (j : Machine). formula_of j r.number) g.on ∙ (ap aarch64_formula b.number ∙ far.formula)) in cc) in
     let at : x ≡ (h.term + cast_unsigned w64 r.addend + (2 ^ 64 - (s.address + r.offset))) % 2 ^ 64 = sym value ∙ distance_same h.term (cast_unsigned w64 r.addend) s.address r.offset b.low in
@@ -414,7 +414,7 @@ own_far : (l : Layout) (w : World) (m : Memory) (s : Item) (r : InputRelocation)
 own_far l w m s r d goal x v h t term = (let c = carries_goal d goal t.thunkable in not_far l w m s r (new_row d goal) x h c (from_there (new_row d goal) c) t.alone term t.far)
 
 -- a branch that is not left out goes by no thunk
-no_thunk : (l : Layout) (w : World) (m : Memory) (s : Item) (r : InputRelocation) (d : Branch) (goal : Goal) (x v : ℕ) → IsForDebuggers l → (IsLeftOut l s r → ⊥) → IsBranch l s r d → GoesWell l s r d goal → HasTerm l w m s r (new_row d goal) x → IsCarried l s r (new_row d goal) x v → ⊥
+no_thunk : (l : Layout) (w : World) (m : Memory) (s : Item) (r : InputRelocation) (d : Branch) (goal : Goal) (x v : ℕ) → IsForDebuggers l → (IsOmitted l s r → ⊥) → IsBranch l s r d → GoesWell l s r d goal → HasTerm l w m s r (new_row d goal) x → IsCarried l s r (new_row d goal) x v → ⊥
 no_thunk l w m s r d goals.Symbol x v bare present b g h t = by_place (is_own_place l.machine l r (new_row d goals.Symbol)) refl h.given
   where
     by_place : (b : Bool) → is_own_place l.machine l r (new_row d goals.Symbol) ≡ b → (if b then Ok (undefined_weak_target r.number (place_of s.address r)) else address_for l r) ≡ Ok h.term → ⊥
@@ -465,7 +465,7 @@ pub record BranchReads (l : Layout) (w : World) (m : Memory) (s : Item) (r : Inp
   pub thunked : IsCarried l s r (new_row distance goal) term value → KeepsAll l
   pub field : FieldReads w m s r formula.form value
 
-pub branch_reads : (l : Layout) (w : World) (m : Memory) (s : Item) (i : ℕ) (r : InputRelocation) → (h : IsItemLoaded l w m s) → (IsLeftOut l s r → ⊥) → IsAsked l w s r → IsBranchField l s i r → BranchReads l w m s r
+pub branch_reads : (l : Layout) (w : World) (m : Memory) (s : Item) (i : ℕ) (r : InputRelocation) → (h : IsItemLoaded l w m s) → (IsOmitted l s r → ⊥) → MustHold l w s r → IsBranchField l s i r → BranchReads l w m s r
 branch_reads l w m s i r h present asked f = record {
   distance = d;
   goal = goal;
@@ -584,7 +584,7 @@ branch_reads l w m s i r h present asked f = record {
       number = 0;
       row = new_row d goal;
       treated = treated_goal l s r d goal c.symbol c.machine c.named;
-      suited = suits_goal l r d goal c.symbol c.machine c.named;
+      row_that_accepts = suits_goal l r d goal c.symbol c.machine c.named;
       expressed = expressed_goal l d goal c.machine;
       term = k.written.term;
       given = given;
@@ -602,7 +602,7 @@ branch_reads l w m s i r h present asked f = record {
     }
 
 -- so it reads as its formula
-pub branch_holds : (l : Layout) (w : World) (m : Memory) (s : Item) (r : InputRelocation) → KindLaws → (KeepsAll l → EachThunkGoesOn l w m) → BranchReads l w m s r → FieldHolds l w m s r
+pub branch_holds : (l : Layout) (w : World) (m : Memory) (s : Item) (r : InputRelocation) → KindLaws → (KeepsAll l → EachThunkJumps l w m) → BranchReads l w m s r → FieldHolds l w m s r
 branch_holds l w m s r laws thunks b = record {
   formula = b.formula;
   known = b.known;

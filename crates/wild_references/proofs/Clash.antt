@@ -10,10 +10,10 @@ use Rattle.wild_types.specs.declared.kind.Machine.TheVariants as machine
 use Rattle.wild_relax.specs.declared.pattern.Cell.{Cell}
 use Rattle.wild_relax.specs.declared.pattern.Cell.TheVariants as its
 use Rattle.wild_relax.specs.declared.row.Row.{Row}
-use Rattle.wild_relax.specs.Pattern.{cells_of}
+use Rattle.wild_relax.specs.Pattern.{pattern_cells}
 use Rattle.wild_relax.specs.Pattern as pattern
 use Rattle.wild_relax.specs.Rows.{rows_x86_64}
-use Rattle.wild_relax.specs.Linked.{pattern_of, keeps_bytes}
+use Rattle.wild_relax.specs.LinkedPattern.{pattern_of, keeps_bytes}
 use Rattle.wild_loader.specs.declared.instruction.Cell as own-cell
 use Rattle.wild_loader.specs.declared.instruction.Cell.TheVariants.{Is, From, Slot, Digit, Any}
 use Rattle.wild_loader.specs.Instruction.{fits, stands}
@@ -142,7 +142,7 @@ abbrev pub pair_ok : List own-cell.Cell → List Cell → Bool
 pair_ok cs ds = are_calls cs ds || (below (length cs) (λ s. ok (drop s cs) ds) && below (length ds) (λ s. ok cs (drop s ds)))
 
 abbrev pub row_ok : Row → Bool
-row_ok row = keeps_bytes row || list_all (λ (o : Instruction). pair_ok o.template.cells (cells_of (pattern_of row))) (instructions_of machine.X86_64)
+row_ok row = keeps_bytes row || list_all (λ (o : Instruction). pair_ok o.template.cells (pattern_cells (pattern_of row))) (instructions_of machine.X86_64)
 
 pub each_row_ok : list_all row_ok rows_x86_64 ≡ true
 unfolding rows_x86_64

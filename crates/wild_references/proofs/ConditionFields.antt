@@ -12,7 +12,7 @@ use Rattle.wild_types.specs.declared.layout.Layout.{Layout}
 use Rattle.wild_types.specs.Flags.{has_flag, interposable, ifunc, undefined_weak, plt_stub}
 use Rattle.wild_types.specs.Lookups.{place_of}
 use Rattle.wild_slot.specs.Treatment.{flags_at}
-use Rattle.wild_reloc.specs.Expression.{taken_of}
+use Rattle.wild_reloc.specs.Expression.{subtrahend_of}
 use Rattle.wild_reloc.specs.Formula.{Value, Distance}
 use Rattle.wild_reloc.specs.declared.info.PageMask.{PageMask}
 use Rattle.wild_reloc.specs.declared.info.RelocationKind.TheVariants as kinds
@@ -23,25 +23,25 @@ use Rattle.wild_relax.specs.declared.row.Distance.{Distance as Branch}
 use Rattle.wild_relax.specs.declared.row.Goal.{Goal}
 use Rattle.wild_relax.specs.declared.row.Goal.TheVariants as goals
 use Rattle.wild_relax.specs.Question.{relocation_of}
-use Rattle.wild_relax.specs.Relaxation.{chosen_of}
+use Rattle.wild_relax.specs.Relaxation.{chosen_row_of}
 use Rattle.wild_relax.proofs.TogetherLemmas.{conditional_chosen}
 use Rattle.wild_layout.specs.declared.decision.Decision.{Decision}
 use Rattle.wild_layout.specs.Choice.{nameless, question_around, choice_on, choice}
 use Rattle.wild_layout.specs.Values.{value_less, is_absent, undefined_weak_target, term_at, value_in}
-use Rattle.wild_layout.proofs.AskedLemmas.{around_choice}
+use Rattle.wild_layout.proofs.QuestionLemmas.{around_choice}
 use Rattle.wild_layout.proofs.ChoiceLemmas.{relocation_around}
 use Rattle.wild_layout.proofs.DecisionLemmas.{IsOwn, goes_far}
-use Rattle.wild_layout.proofs.ReachedLemmas.{comes_alone}
+use Rattle.wild_layout.proofs.ThunkFieldLemmas.{comes_alone}
 use Rattle.wild_loader.specs.declared.memory.Memory.{Memory}
 use Rattle.wild_loader.specs.declared.world.World.{World}
 use Rattle.wild_meaning.specs.Formula.{GivesLinked, TakesAddress, TakesOffset}
-use Rattle.wild_meaning.specs.Reference.{IsStubbed, TakesItself, GoesByStub, IsLinkedAlone}
+use Rattle.wild_meaning.specs.Reference.{HasStubAddress, UsesOwnDefinition, BranchesThroughStub, UsesOwnSymbolOnly}
 use Rattle.wild_meaning.specs.Value.{HasFlag, IsReplaceable}
 use Rattle.wild_meaning.proofs.BitLemmas.{code_bit, bit_code}
 use Rattle.wild_geometry.proofs.JudgedLemmas.{flag_is}
 use Rattle.wild_references.specs.Laws.{FieldIsLinked}
 use Rattle.wild_references.specs.Terms.{SymbolsFit, HasTerm}
-use Rattle.wild_references.proofs.Alone.{taken, takes_none}
+use Rattle.wild_references.proofs.OwnSymbolReferences.{taken, takes_none}
 use Rattle.wild_references.proofs.BranchFields.{near_type, new_row, far_value, near_value, symbol_value, no_mask, near_alone, suits_goal, expressed_goal, treated_goal, BranchReads}
 use Rattle.wild_references.proofs.Fields.{LinkedLaws}
 use Rattle.wild_references.proofs.OwnSymbols.{own_symbol}
@@ -62,7 +62,7 @@ no_two : (c : Result (Option Row) UnknownSequence) (row : Row) → c ≡ Ok None
 no_two c row e h = (let both : Ok None ≡ Ok (Some row) = sym e ∙ h in cc)
 
 -- it goes by no stub to another module's symbol: a row would stand
-pub own_goes : (l : Layout) (s : Item) (i : ℕ) (r : InputRelocation) (d : Decision) (k : ℕ) → IsOwn l s i r d → slice_get s.relocations i ≡ Some r → r.offset ≤ length s.bytes → SymbolsFit l → k < length l.symbols → r.symbol ≡ Some k → IsReplaceable l k true → GoesByStub l s r → ⊥
+pub own_goes : (l : Layout) (s : Item) (i : ℕ) (r : InputRelocation) (d : Decision) (k : ℕ) → IsOwn l s i r d → slice_get s.relocations i ≡ Some r → r.offset ≤ length s.bytes → SymbolsFit l → k < length l.symbols → r.symbol ≡ Some k → IsReplaceable l k true → BranchesThroughStub l s r → ⊥
 own_goes l s i r d k own listed room fit inside named whose g =
     let q = question_around l s i r k in
     let same : relocation_of q ≡ nameless r = relocation_around l s i r k listed in
@@ -80,7 +80,7 @@ own_goes l s i r d k own listed room fit inside named whose g =
       room = omega (arith, room, offset);
     }) in
     let here : choice l s i ≡ choice_on l.machine l s i r = rw listed refl in
-    no_two (chosen_of l.machine q) chosen.0 (sym (around_choice l s i r k g.on listed named (weak_plain l r k named weak)) ∙ here ∙ own.choice) (ap (λ (m : Machine). chosen_of m q) g.on ∙ chosen.1)
+    no_two (chosen_row_of l.machine q) chosen.0 (sym (around_choice l s i r k g.on listed named (weak_plain l r k named weak)) ∙ here ∙ own.choice) (ap (λ (m : Machine). chosen_row_of m q) g.on ∙ chosen.1)
 
 -- ---- a branch to a weak symbol that no module has
 
@@ -96,11 +96,11 @@ own_term l r d goals.Stub p on none =
 value_place : (l : Layout) (r : InputRelocation) (d : Branch) (goal : Goal) (t p : ℕ) → value_in l (new_row d goal) t r.addend p ≡ value_in l (new_row d goals.Symbol) t r.addend p
 value_place l r d goals.Symbol t p = refl
 value_place l r d goals.Stub t p =
-    ap (λ (o : Option PageMask). value_less l (taken_of kinds.PltRelative o) t r.addend p) (no_mask d goals.Stub)
-    ∙ sym (ap (λ (o : Option PageMask). value_less l (taken_of kinds.Relative o) t r.addend p) (no_mask d goals.Symbol))
+    ap (λ (o : Option PageMask). value_less l (subtrahend_of kinds.PltRelative o) t r.addend p) (no_mask d goals.Stub)
+    ∙ sym (ap (λ (o : Option PageMask). value_less l (subtrahend_of kinds.Relative o) t r.addend p) (no_mask d goals.Symbol))
 
 -- what the row writes is what that of the symbol itself would
-as_symbol : (l : Layout) (w : World) (m : Memory) (s : Item) (r : InputRelocation) → (b : BranchReads l w m s r) → is_absent l r.symbol ≡ true → ((i : ℕ) → r.symbol ≡ Some i → IsStubbed l i → ⊥) → w.base ≡ 0 → HasTerm l w m s r (new_row b.distance goals.Symbol) b.term
+as_symbol : (l : Layout) (w : World) (m : Memory) (s : Item) (r : InputRelocation) → (b : BranchReads l w m s r) → is_absent l r.symbol ≡ true → ((i : ℕ) → r.symbol ≡ Some i → HasStubAddress l i → ⊥) → w.base ≡ 0 → HasTerm l w m s r (new_row b.distance goals.Symbol) b.term
 as_symbol l w m s r b none bare zero =
     let t = b.there in
     let g = b.goes in
@@ -112,7 +112,7 @@ as_symbol l w m s r b none bare zero =
       number = 0;
       row = new_row b.distance goals.Symbol;
       treated = treated_goal l s r b.distance goals.Symbol g.symbol g.on g.named;
-      suited = suits_goal l r b.distance goals.Symbol g.symbol g.on g.named;
+      row_that_accepts = suits_goal l r b.distance goals.Symbol g.symbol g.on g.named;
       expressed = expressed_goal l b.distance goals.Symbol g.on;
       term = t.term;
       given = own_term l r b.distance goals.Symbol (place_of s.address r) g.on none ∙ sym (own_term l r b.distance b.goal (place_of s.address r) g.on none) ∙ t.given;
@@ -123,12 +123,12 @@ as_symbol l w m s r b none bare zero =
       asked = λ relative movable j named absolute. zero;
     }
 
-near_links : (l : Layout) (w : World) (m : Memory) (s : Item) (r : InputRelocation) → LinkedLaws → (b : BranchReads l w m s r) → (a : IsLinkedAlone l s r) → w.base ≡ 0 → goes_far b.distance ≡ false → is_absent l r.symbol ≡ true → FieldIsLinked l w m s r
+near_links : (l : Layout) (w : World) (m : Memory) (s : Item) (r : InputRelocation) → LinkedLaws → (b : BranchReads l w m s r) → (a : UsesOwnSymbolOnly l s r) → w.base ≡ 0 → goes_far b.distance ≡ false → is_absent l r.symbol ≡ true → FieldIsLinked l w m s r
 near_links l w m s r laws b a zero near none =
     let same = comes_alone l s r (new_row b.distance b.goal) b.term b.value (near_alone b.distance b.goal near) b.comes in
     let is : b.formula.value ≡ Distance = b.is ∙ near_value b.distance near in
-    let bare : IsStubbed l a.symbol → ⊥ = by (subst (λ (v : Value). TakesItself l s a.symbol (record { value = v; form = b.formula.form })) is (taken l s r b.formula b.known a)) in
-    let free : (i : ℕ) → r.symbol ≡ Some i → IsStubbed l i → ⊥ = λ i named. (let one : a.symbol ≡ i = (let e : Some a.symbol ≡ Some i = sym a.named ∙ named in cc) in subst (λ (k : ℕ). IsStubbed l k → ⊥) one bare) in
+    let bare : HasStubAddress l a.symbol → ⊥ = by (subst (λ (v : Value). UsesOwnDefinition l s a.symbol (record { value = v; form = b.formula.form })) is (taken l s r b.formula b.known a)) in
+    let free : (i : ℕ) → r.symbol ≡ Some i → HasStubAddress l i → ⊥ = λ i named. (let one : a.symbol ≡ i = (let e : Some a.symbol ≡ Some i = sym a.named ∙ named in cc) in subst (λ (k : ℕ). HasStubAddress l k → ⊥) one bare) in
     let there = subst (λ (n : ℕ). HasTerm l w m s r (new_row b.distance goals.Symbol) n) same (as_symbol l w m s r b none free zero) in
     let linked = laws.symbol (new_row b.distance goals.Symbol) refl refl l w m s r b.value a.symbol there zero a.named a.replaceable (inl bare) in
     record {
@@ -139,12 +139,12 @@ near_links l w m s r laws b a zero near none =
       field = b.field;
     }
   where
-    by : TakesItself l s a.symbol (record { value = Distance; form = b.formula.form }) → IsStubbed l a.symbol → ⊥
+    by : UsesOwnDefinition l s a.symbol (record { value = Distance; form = b.formula.form }) → HasStubAddress l a.symbol → ⊥
     by (inl offset) = absurd offset
     by (inr t) = t.2
 
 -- a branch that takes the output's own symbol goes by no stub
-pub branch_links : (l : Layout) (w : World) (m : Memory) (s : Item) (r : InputRelocation) → LinkedLaws → BranchReads l w m s r → IsLinkedAlone l s r → w.base ≡ 0 → FieldIsLinked l w m s r
+pub branch_links : (l : Layout) (w : World) (m : Memory) (s : Item) (r : InputRelocation) → LinkedLaws → BranchReads l w m s r → UsesOwnSymbolOnly l s r → w.base ≡ 0 → FieldIsLinked l w m s r
 branch_links l w m s r laws b a zero =
     elim (cases_Bool (goes_far b.distance)) [
       | inl far ↦ absurd (takes_none l s r b.formula b.known (λ o. subst TakesOffset (b.is ∙ far_value b.distance far) o) (λ t. subst TakesAddress (b.is ∙ far_value b.distance far) t) a)

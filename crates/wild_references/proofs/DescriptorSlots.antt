@@ -10,14 +10,14 @@ use Rattle.wild_slot.specs.declared.slot.SlotItem.TheVariants.{Word, Stub, Fault
 use Rattle.wild_types.specs.declared.symbol.Resolution.{Resolution}
 use Rattle.wild_types.specs.declared.symbol.ValueFlags.{ValueFlags}
 use Rattle.wild_types.specs.declared.layout.Layout.{Layout}
-use Rattle.wild_types.specs.Hollow.{KeepsAll}
+use Rattle.wild_types.specs.HeaderOnly.{KeepsAll}
 use Rattle.wild_types.specs.Flags.{has_flag, interposable, dynamic, copy_relocation, export_dynamic, got_tls_offset, got_tls_module, got_tls_descriptor}
 use Rattle.wild_types.specs.Kinds.{is_executable, is_static_executable}
 use Rattle.wild_slot.specs.declared.slot.Setting.{Setting}
-use Rattle.wild_slot.specs.Slots.{setting_of, number, general, named, is_replaceable, module_item, module_offset, module_offset_item, described, descriptor_item, where_so, offset_item, module_items, descriptor_items, thread_items}
-use Rattle.wild_slot.specs.Storage.{less, is_outside}
+use Rattle.wild_slot.specs.Slots.{setting_of, number, general, named, is_replaceable, module_item, module_offset, module_offset_item, described, descriptor_item, items_if, offset_item, module_items, descriptor_items, thread_items}
+use Rattle.wild_slot.specs.Storage.{minus, is_outside}
 use Rattle.wild_types.specs.SymbolSlots.{has_thread_slot}
-use Rattle.wild_layout.specs.SlotValues.{behind_word, behind_pair}
+use Rattle.wild_layout.specs.SlotValues.{after_word, after_pair}
 use Rattle.wild_loader.specs.Changes.{first_value}
 use Rattle.wild_loader.specs.declared.memory.Memory.{Memory}
 use Rattle.wild_loader.specs.declared.world.World.{World}
@@ -26,7 +26,7 @@ use Rattle.wild_meaning.specs.Thread as judge
 use Rattle.wild_meaning.specs.Value.{may_be_replaced}
 use Rattle.wild_meaning.proofs.WorldLemmas.{word_below}
 use Rattle.wild_references.specs.Terms.{IsPlaced}
-use Rattle.wild_references.proofs.Answered.{has_answer, answered_offset}
+use Rattle.wild_references.proofs.AnsweredValues.{has_answer, answered_offset}
 use Rattle.wild_references.proofs.EntryWords.{descriptor_filled, own_descriptor_filled}
 use Rattle.wild_references.proofs.FirstSlots.{thread_held}
 use Rattle.wild_references.proofs.OutputKinds.{library_is}
@@ -59,11 +59,11 @@ looked_up l w m i at d r rest p by e h =
 own_one : (l : Layout) (f : ValueFlags) → is_replaceable l.kind f ≡ false → may_be_replaced l.kind f ≡ false
 own_one l f h = ap (λ (b : Bool). (has_flag f dynamic && not (has_flag f copy_relocation)) || (b && (has_flag f export_dynamic && interposable f))) (library_is l.kind) ∙ h
 
-own_held : (l : Layout) (w : World) (m : Memory) (i at : ℕ) (r : Resolution) (rest : List SlotItem) → IsPlaced l w m → IsResolvedBy l i r → is_replaceable l.kind r.flags ≡ false → ItemsHold w m at (general TlsDesc 0 (less r.raw_value l.tls.start) ∷ rest) → HasDescriptor l w m i at
+own_held : (l : Layout) (w : World) (m : Memory) (i at : ℕ) (r : Resolution) (rest : List SlotItem) → IsPlaced l w m → IsResolvedBy l i r → is_replaceable l.kind r.flags ≡ false → ItemsHold w m at (general TlsDesc 0 (minus r.raw_value l.tls.start) ∷ rest) → HasDescriptor l w m i at
 own_held l w m i at r rest p d whose h =
     let own = whose_own l w m i r p d (own_one l r.flags whose) in
     let x = h.0 in
-    let o = own_descriptor_filled w m (w.base + at) (less r.raw_value l.tls.start) x.0 (less_below r.raw_value l.tls.start) x.2 in
+    let o = own_descriptor_filled w m (w.base + at) (minus r.raw_value l.tls.start) x.0 (less_below r.raw_value l.tls.start) x.2 in
     let place = placed_thread l w i r.raw_value o.2 o.3 (resolved_raw l i r d) in
     record { word = x.0; there = x.1; offset = o.0; noted = o.1; is = inr (own, inl (subst (λ (n : ℕ). judge.IsThreadPlace l w i n) (sym (library_same o.2 r.raw_value l.tls.start o.0 o.4)) place)) }
 
@@ -75,7 +75,7 @@ descriptor_held l w m i at r rest p d h = by_index r.dynamic_symbol_index refl h
     by_static n e false h = looked_up l w m i at n r rest p d e h
 
     by_tests : (replaced outside static : Bool) → is_replaceable l.kind r.flags ≡ replaced
-        → ItemsHold w m at ((if replaced then Fault NoDynamicSymbol else if outside then Fault (TlsOutOfSegment r.raw_value) else if static then Fault StaticTlsDesc else general TlsDesc 0 (less r.raw_value l.tls.start)) ∷ rest) → HasDescriptor l w m i at
+        → ItemsHold w m at ((if replaced then Fault NoDynamicSymbol else if outside then Fault (TlsOutOfSegment r.raw_value) else if static then Fault StaticTlsDesc else general TlsDesc 0 (minus r.raw_value l.tls.start)) ∷ rest) → HasDescriptor l w m i at
     by_tests true outside static e h = absurd h
     by_tests false true static e h = absurd h
     by_tests false false true e h = absurd h
@@ -114,10 +114,10 @@ offset_no_stub s raw (Some d) = tt
 behind_module : (l : Layout) (w : World) (m : Memory) (at : ℕ) (r : Resolution) (pair : Bool) → has_flag r.flags got_tls_module ≡ pair → ItemsHold w m at (module_items (setting_of l) r ++ descriptor_items (setting_of l) r) → ItemsHold w m (if pair then at + 16 else at) (descriptor_items (setting_of l) r)
 behind_module l w m at r false e h =
     let s = setting_of l in
-    subst (λ (b : Bool). ItemsHold w m at (where_so b (module_item s r ∷ module_offset_item s r ∷ []) ++ descriptor_items s r)) e h
+    subst (λ (b : Bool). ItemsHold w m at (items_if b (module_item s r ∷ module_offset_item s r ∷ []) ++ descriptor_items s r)) e h
 behind_module l w m at r true e h =
     let s = setting_of l in
-    let both = subst (λ (b : Bool). ItemsHold w m at (where_so b (module_item s r ∷ module_offset_item s r ∷ []) ++ descriptor_items s r)) e h in
+    let both = subst (λ (b : Bool). ItemsHold w m at (items_if b (module_item s r ∷ module_offset_item s r ∷ []) ++ descriptor_items s r)) e h in
     let second = behind_item w m at (module_item s r) (module_offset_item s r ∷ descriptor_items s r) (module_no_stub s r) both in
     let third = behind_item w m (at + 8) (module_offset_item s r) (descriptor_items s r) (offset_no_stub s r.raw_value (if interposable r.flags then r.dynamic_symbol_index else None)) second in
     let same : at + 8 + 8 ≡ at + 16 = omega arith in
@@ -129,12 +129,12 @@ behind_offset l w m i at r true p d e h = (offset_first l w m i at r p d e h).be
 behind_offset l w m i at r false p d e h =
     let s = setting_of l in
     let more = module_items s r ++ descriptor_items s r in
-    subst (λ (b : Bool). ItemsHold w m at (where_so b (offset_item s r ∷ []) ++ more)) e h
+    subst (λ (b : Bool). ItemsHold w m at (items_if b (offset_item s r ∷ []) ++ more)) e h
 
 described_at : (l : Layout) (w : World) (m : Memory) (i at : ℕ) (r : Resolution) → IsPlaced l w m → IsResolvedBy l i r → has_flag r.flags got_tls_descriptor ≡ true → ItemsHold w m at (descriptor_items (setting_of l) r) → HasDescriptor l w m i at
 described_at l w m i at r p d asked h =
     let s = setting_of l in
-    descriptor_held l w m i at r (number 0 ∷ []) p d (subst (λ (b : Bool). ItemsHold w m at (where_so b (descriptor_item s r ∷ number 0 ∷ []))) asked h)
+    descriptor_held l w m i at r (number 0 ∷ []) p d (subst (λ (b : Bool). ItemsHold w m at (items_if b (descriptor_item s r ∷ number 0 ∷ []))) asked h)
 
 -- ---- what the writer takes
 
@@ -143,7 +143,7 @@ descriptor_at l w m i at slot h same =
     let low = word_below m (w.base + at) h.word h.there in
     subst (λ (n : ℕ). SlotStands Descriptor l w m i n) (same low) (record { holds = (h.offset, h.noted, h.is); below = low })
 
-place_same : (base at : ℕ) (offset pair : Bool) → base + (if pair then (if offset then at + 8 else at) + 16 else (if offset then at + 8 else at)) < 2 ^ 64 → (if pair then (if offset then at + 8 else at) + 16 else (if offset then at + 8 else at)) ≡ behind_pair pair (behind_word offset at)
+place_same : (base at : ℕ) (offset pair : Bool) → base + (if pair then (if offset then at + 8 else at) + 16 else (if offset then at + 8 else at)) < 2 ^ 64 → (if pair then (if offset then at + 8 else at) + 16 else (if offset then at + 8 else at)) ≡ after_pair pair (after_word offset at)
 place_same base at false false low = refl
 place_same base at true false low = omega (arith, low)
 place_same base at false true low = omega (arith, low)
@@ -158,20 +158,20 @@ thread_of f h = last_of (has_flag f got_tls_offset) (has_flag f got_tls_module) 
     last_of false true c h = refl
     last_of false false c h = h
 
-descriptor_stands : (l : Layout) (w : World) (m : Memory) (i at : ℕ) (r : Resolution) → IsPlaced l w m → KeepsAll l → IsResolvedBy l i r → r.got_address ≡ Some at → has_flag r.flags got_tls_descriptor ≡ true → SlotStands Descriptor l w m i (behind_pair (has_flag r.flags got_tls_module) (behind_word (has_flag r.flags got_tls_offset) at))
+descriptor_stands : (l : Layout) (w : World) (m : Memory) (i at : ℕ) (r : Resolution) → IsPlaced l w m → KeepsAll l → IsResolvedBy l i r → r.got_address ≡ Some at → has_flag r.flags got_tls_descriptor ≡ true → SlotStands Descriptor l w m i (after_pair (has_flag r.flags got_tls_module) (after_word (has_flag r.flags got_tls_offset) at))
 descriptor_stands l w m i at r p all d e asked =
     let offset = has_flag r.flags got_tls_offset in
     let pair = has_flag r.flags got_tls_module in
     let second = behind_offset l w m i at r offset p d refl (thread_held l w m i at r p all d e (thread_of r.flags asked)) in
     let last = behind_module l w m (if offset then at + 8 else at) r pair refl second in
     let there = if pair then (if offset then at + 8 else at) + 16 else (if offset then at + 8 else at) in
-    descriptor_at l w m i there (behind_pair pair (behind_word offset at)) (described_at l w m i there r p d asked last) (λ low. place_same w.base at offset pair low)
+    descriptor_at l w m i there (after_pair pair (after_word offset at)) (described_at l w m i there r p d asked last) (λ low. place_same w.base at offset pair low)
 
 pub descriptors_stand : (l : Layout) (w : World) (m : Memory) → IsPlaced l w m → KeepsAll l → SlotsStand sorts.Descriptor l w m
 descriptors_stand l w m p all = λ i slot h. by_slot sorts.Descriptor l i slot (λ (n : ℕ). SlotStands Descriptor l w m i n) h (λ r at d e among. by_flag i slot r at d e (has_flag r.flags got_tls_descriptor) refl among)
   where
-    by_flag : (i slot : ℕ) (r : Resolution) (at : ℕ) → IsResolvedBy l i r → r.got_address ≡ Some at → (b : Bool) → has_flag r.flags got_tls_descriptor ≡ b → (if b then Some (behind_pair (has_flag r.flags got_tls_module) (behind_word (has_flag r.flags got_tls_offset) at)) else None) ≡ Some slot → SlotStands Descriptor l w m i slot
+    by_flag : (i slot : ℕ) (r : Resolution) (at : ℕ) → IsResolvedBy l i r → r.got_address ≡ Some at → (b : Bool) → has_flag r.flags got_tls_descriptor ≡ b → (if b then Some (after_pair (has_flag r.flags got_tls_module) (after_word (has_flag r.flags got_tls_offset) at)) else None) ≡ Some slot → SlotStands Descriptor l w m i slot
     by_flag i slot r at d e true asked h =
-        let same : behind_pair (has_flag r.flags got_tls_module) (behind_word (has_flag r.flags got_tls_offset) at) ≡ slot = cc in
+        let same : after_pair (has_flag r.flags got_tls_module) (after_word (has_flag r.flags got_tls_offset) at) ≡ slot = cc in
         subst (λ (n : ℕ). SlotStands Descriptor l w m i n) same (descriptor_stands l w m i at r p all d e asked)
     by_flag i slot r at d e false asked h = cc

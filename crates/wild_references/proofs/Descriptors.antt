@@ -23,7 +23,7 @@ use Rattle.wild_relax.specs.declared.row.Row.{Row}
 use Rattle.wild_relax.specs.declared.table.TheConstants.{DESCRIPTOR, DESCRIPTOR_SLOT, DESCRIPTOR_2, DESCRIPTOR_SLOT_2, DESCRIPTOR_CALL}
 use Rattle.wild_relax.specs.Rows.{rows_x86_64, applies}
 use Rattle.wild_layout.specs.Choice.{question_of, choice_of, is_thread_type}
-use Rattle.wild_layout.specs.SlotValues.{slot_of, behind_word, behind_pair}
+use Rattle.wild_layout.specs.SlotValues.{slot_of, after_word, after_pair}
 use Rattle.wild_layout.specs.Values.{term_of}
 use Rattle.wild_meaning.specs.Formula.{KnowsOffsets, HasOffsetMode}
 use Rattle.wild_types.specs.Item.{Item}
@@ -35,7 +35,7 @@ use Rattle.wild_references.proofs.TableRows.{descriptor_at, descriptor_slot_at, 
 use Rattle.wild_references.proofs.SlotFlags.{symbol_fits, thread_not_chosen}
 use Rattle.wild_references.proofs.SlotTerms.{by_slot}
 use Rattle.wild_references.proofs.Symbols.{IsResolvedBy, flags_are}
-use Rattle.wild_references.proofs.Written.{given_some}
+use Rattle.wild_references.proofs.WrittenFields.{given_some}
 
 -- ---- outputs whose references are offsets
 
@@ -83,7 +83,7 @@ lea_kept l s r next own_row open_row i a b none named first second other thread 
 described_plain : (l : Layout) (i slot : ℕ) → SymbolsFit l → slot_of l sorts.Descriptor i ≡ Some slot → has_flag (flags_at l i) ifunc ≡ false
 described_plain l i slot fit h = by_slot sorts.Descriptor l i slot (λ (n : ℕ). has_flag (flags_at l i) ifunc ≡ false) h (λ r at d e among. by_flag r at d (has_flag r.flags got_tls_descriptor) refl among)
   where
-    by_flag : (r : Resolution) (at : ℕ) → IsResolvedBy l i r → (b : Bool) → has_flag r.flags got_tls_descriptor ≡ b → (if b then Some (behind_pair (has_flag r.flags got_tls_module) (behind_word (has_flag r.flags got_tls_offset) at)) else None) ≡ Some slot → has_flag (flags_at l i) ifunc ≡ false
+    by_flag : (r : Resolution) (at : ℕ) → IsResolvedBy l i r → (b : Bool) → has_flag r.flags got_tls_descriptor ≡ b → (if b then Some (after_pair (has_flag r.flags got_tls_module) (after_word (has_flag r.flags got_tls_offset) at)) else None) ≡ Some slot → has_flag (flags_at l i) ifunc ≡ false
     by_flag r at d false asked h = cc
     by_flag r at d true asked h =
         let fits = symbol_fits l i d.symbol fit d.listed in

@@ -3,8 +3,8 @@ use Rattle.std.proofs.Common.{◌≡◌, ℕ, zero, suc, ◌+◌, ◌-◌, ◌%�
 use Rattle.std.specs.Prelude.{nat_le, not, ◌==◌, ◌&&◌, ◌||◌, if◌then◌else◌, Some, Option, unwrap_or, Contains, slice_index, ⊤}
 use Rattle.std.specs.List.{list_all, list_any}
 use Rattle.std.proofs.lemmas.Bool.{cases_lt, leb-true, eqb-true, and_parts, or_cases}
-use Rattle.wild_words.specs.Words.{number, Stands}
-use Rattle.wild_words.proofs.RecordLemmas.{Stands-slice}
+use Rattle.wild_words.specs.Words.{number, HasBytesAt}
+use Rattle.wild_words.proofs.RecordLemmas.{HasBytesAt-slice}
 use Rattle.wild_words.proofs.Basics.{length-range, range_byte, listed_passes, implied, not_both}
 use Rattle.wild_types.specs.declared.kind.Machine.{Machine}
 use Rattle.wild_types.specs.declared.kind.Machine.TheVariants as machine
@@ -19,7 +19,7 @@ use Rattle.wild_records.specs.Abi.Relocation.{r_x86_64_none, r_x86_64_pc32, r_x8
 use Rattle.wild_loader.specs.declared.instruction.Operand.{Operand}
 use Rattle.wild_loader.specs.declared.instruction.Operand.TheVariants.{Number, Word, Pair}
 use Rattle.wild_loader.specs.Instruction.{signed_32, signed_at, sum_64}
-use Rattle.wild_meaning.specs.Sequence.{Sort, Target, TargetInSlot, AddressInSlot, OffsetInSlot, SymbolPair, OwnPair, Described, DescribedCall, Address, FieldBits, Instruction, Partner, size_of, IsBesidePartners, IsOwnByte, instructions_of}
+use Rattle.wild_meaning.specs.Sequence.{Sort, Target, TargetInSlot, AddressInSlot, OffsetInSlot, SymbolPair, OwnPair, Described, DescribedCall, Address, FieldBits, Instruction, Partner, size_of, IsOutsidePartners, IsOwnByte, instructions_of}
 use Rattle.wild_types.specs.Item.{Item}
 use Rattle.wild_meaning.specs.Item.{place_at}
 use Rattle.wild_meaning.specs.Field.{formula_of, form_width, FieldReads, IsInputByte}
@@ -58,10 +58,10 @@ read_holds m a n h k lt =
     let b = h k below in
     b.1 ∙ ap (λ (x : ℕ). Some x) (sym (read_there m a n k b.0 below b.1))
 
-pub read_stands : (m : Memory) (a n f : ℕ) (bs : List ℕ) → f + length bs ≤ n → Holds m (a + f) bs → Stands (read_all m a n) f bs
+pub read_stands : (m : Memory) (a n f : ℕ) (bs : List ℕ) → f + length bs ≤ n → Holds m (a + f) bs → HasBytesAt (read_all m a n) f bs
 read_stands m a n f bs fits h = stands (length_read m n a)
   where
-    stands : length (read_all m a n) ≡ n → Stands (read_all m a n) f bs
+    stands : length (read_all m a n) ≡ n → HasBytesAt (read_all m a n) f bs
     stands l = record {
       fits = omega (arith, fits, l);
       same = λ k lt. (let e : a + f + k ≡ a + (f + k) = omega arith in read_there m a n (f + k) (get_or bs k 0) (omega (arith, fits, lt)) (subst (λ (x : ℕ). byte_in m x ≡ Some (get_or bs k 0)) e (h k lt)));
@@ -273,7 +273,7 @@ field_cases k a b =
       | inr high ↦ elim (cases_lt k b) [ inl inside ↦ inr (omega arith, inside) | inr above ↦ inl (inr (omega arith)) ]
     ]
 
-partner_cases : (k : ℕ) (ps : List Partner) → IsBesidePartners k ps ⊎ IsInPartner k ps
+partner_cases : (k : ℕ) (ps : List Partner) → IsOutsidePartners k ps ⊎ IsInPartner k ps
 partner_cases k [] = inl tt
 partner_cases k (p ∷ ps) =
     elim (field_cases k p.field (p.field + p.width)) [
@@ -371,7 +371,7 @@ same_signs n = refl
 signed_field : (m : Memory) (a n f : ℕ) (bs : List ℕ) → length bs ≡ 4 → f + 4 ≤ n → Holds m (a + f) bs → signed_at (read_all m a n) f ≡ sign_extended 32 (number bs)
 signed_field m a n f bs four fits h =
     let s = read_stands m a n f bs (omega (arith, four, fits)) h in
-    let e : slice_range (read_all m a n) f (f + length bs) ≡ bs = Stands-slice (read_all m a n) bs f s in
+    let e : slice_range (read_all m a n) f (f + length bs) ≡ bs = HasBytesAt-slice (read_all m a n) bs f s in
     let g : slice_range (read_all m a n) f (f + 4) ≡ bs = subst (λ (k : ℕ). slice_range (read_all m a n) f (f + k) ≡ bs) four e in
     ap (λ (xs : List ℕ). signed_32 (number xs)) g ∙ same_signs (number bs)
 

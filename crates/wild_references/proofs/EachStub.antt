@@ -8,7 +8,7 @@ use Rattle.wild_types.specs.declared.layout.Layout.{Layout}
 use Rattle.wild_types.specs.Flags.{has_flag, canonical_plt}
 use Rattle.wild_types.specs.ResolvedFlags.{HasItsFlags}
 use Rattle.wild_types.specs.SymbolSlots.{resolved_got, plt_of, resolved_plt, has_dynamic_symbol, has_thread_slot}
-use Rattle.wild_clauses.proofs.ClauseLemmas.{not_thread}
+use Rattle.wild_plan_rules.proofs.ClauseLemmas.{not_thread}
 use Rattle.wild_slot.specs.declared.slot.SlotItem.{SlotItem}
 use Rattle.wild_slot.specs.declared.slot.SlotItem.TheVariants.{Word}
 use Rattle.wild_slot.specs.declared.slot.SlotWord.{SlotWord}
@@ -17,7 +17,7 @@ use Rattle.wild_slot.specs.Slots.{setting_of, named, general, plt, plain_item}
 use Rattle.wild_loader.specs.declared.memory.Memory.{Memory}
 use Rattle.wild_loader.specs.declared.world.World.{World}
 use Rattle.wild_meaning.specs.Slot.{HasWord}
-use Rattle.wild_references.specs.Stubs.{StubsGoOn}
+use Rattle.wild_references.specs.Stubs.{StubsJumpToSlots}
 use Rattle.wild_references.proofs.SlotContents.{ItemsHold}
 use Rattle.wild_references.proofs.SlotFlags.{slot_of_stub}
 use Rattle.wild_references.proofs.FirstSlots.{own_item, own_is, symbol_held, as_address, items_behind}
@@ -50,7 +50,7 @@ has_resolution : (o : Option Resolution) (r : Resolution) → o ≡ Some r → i
 has_resolution None r h = cc
 has_resolution (Some q) r h = refl
 
-pub each_stub : StubLaws → StubsGoOn
+pub each_stub : StubLaws → StubsJumpToSlots
 each_stub law = λ l w m x machine own agrees slots i p s r listed decided stub.
     let flags = agrees.resolved i s listed (has_resolution s.resolution r decided) in
     let has : plt_of s ≡ Some p = ap resolved_plt decided ∙ stub in

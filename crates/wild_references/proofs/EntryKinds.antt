@@ -21,14 +21,14 @@ use Rattle.wild_types.specs.declared.input.InputRelocation.{InputRelocation}
 use Rattle.wild_types.specs.declared.layout.Layout.{Layout}
 use Rattle.wild_slot.specs.declared.treatment.Treatment.{Treatment}
 use Rattle.wild_slot.specs.declared.treatment.Treatment.TheVariants as treatments
-use Rattle.wild_needs.specs.Entries.{is_left_to_entry}
+use Rattle.wild_needs.specs.Entries.{has_dynamic_entry}
 use Rattle.wild_types.specs.Flags.{has_flag, interposable, dynamic, ifunc, absolute, non_interposable, copy_relocation, export_dynamic}
 use Rattle.wild_types.specs.Kinds.{is_position_independent}
 use Rattle.wild_types.specs.Lookups.{canonical, writable, allocated}
 use Rattle.wild_types.specs.Rows.{row_of}
 use Rattle.wild_slot.specs.SlotParts.{type_of}
 use Rattle.wild_slot.specs.Slots.{is_replaceable}
-use Rattle.wild_slot.specs.Treatment.{flags_at, is_left, is_chosen, address_treatment, kind_treatment, treatment, is_barred, is_narrow, moves}
+use Rattle.wild_slot.specs.Treatment.{flags_at, needs_symbolic, needs_irelative, address_treatment, kind_treatment, treatment, is_barred, is_narrow, moves}
 use Rattle.wild_reloc.specs.Field.{allows, field_width}
 use Rattle.wild_reloc.specs.Formula.{Formula, formula, Form, Value, Full, Plain, Unsigned, Reads, Keeps, SymbolAddress, Size}
 use Rattle.wild_reloc.specs.FormulaX86_64.{x86_64_formula}
@@ -43,15 +43,15 @@ use Rattle.wild_reloc.specs.declared.info.RelocationSize.TheVariants.{ByteSize}
 use Rattle.wild_reloc.specs.declared.info.Width.TheVariants.{Four, Eight}
 use Rattle.wild_reloc.specs.declared.range.Sign.TheVariants as row_sign
 use Rattle.wild_reloc.proofs.TableLemmas.{entry_passes}
-use Rattle.wild_layout.specs.declared.decision.Decision.TheVariants.{Left}
-use Rattle.wild_layout.specs.Decide.{added, left_to, chosen_to, decide_by, decided}
+use Rattle.wild_layout.specs.declared.decision.Decision.TheVariants.{DynamicField}
+use Rattle.wild_layout.specs.Decide.{addend_bits, dynamic_decision, ifunc_decision, decide_by, decided}
 use Rattle.wild_layout.specs.SymbolValues.{sum, symbol_size}
 use Rattle.wild_layout.specs.SlotValues.{resolution_of, index_of, decided_address}
 use Rattle.wild_layout.proofs.DecideLemmas.{sized_parts, decided_left, known_extent, known_indirect, known_symbolic}
 use Rattle.wild_layout.specs.Geometry.{NamesSymbol}
 use Rattle.wild_slot.proofs.TreatmentLemmas.{has_value, IsLeftToResolver}
 use Rattle.wild_geometry.specs.MachineFacts.{RowsAreRead}
-use Rattle.wild_geometry.specs.Loaded.{InMemory, MakesChange, stored_bytes, ReadsLeft}
+use Rattle.wild_geometry.specs.Loaded.{InMemory, MakesChange, stored_bytes, ReadsFilledField}
 use Rattle.wild_loader.specs.Changes.{kind_of, change_of, answer_at}
 use Rattle.wild_loader.specs.declared.change.Change.{Change}
 use Rattle.wild_loader.specs.declared.change.Change.TheVariants as changes
@@ -65,17 +65,17 @@ use Rattle.wild_types.specs.Item.{Item}
 use Rattle.wild_meaning.specs.Value.{HasRaw, HasOwnValue, HasFlag, HasAnswer, IsReplaceable, may_be_replaced, is_library}
 use Rattle.wild_references.specs.Terms.{IsPlaced}
 use Rattle.wild_references.specs.Laws.{EntriesGive}
-use Rattle.wild_references.proofs.Answered.{has_answer, answered_value, answered_size}
+use Rattle.wild_references.proofs.AnsweredValues.{has_answer, answered_value, answered_size}
 use Rattle.wild_references.proofs.EntryWords.{IsAnsweredBy, after_known, after_step, change_by}
 use Rattle.wild_references.proofs.KnownRows.{RowFits, row_fits, size_machine}
 use Rattle.wild_references.proofs.Referents.{address_referent}
 use Rattle.wild_references.proofs.OutputKinds.{library_is}
 use Rattle.wild_references.proofs.SlotFlags.{symbol_fits, resolver_own, listed_at}
 use Rattle.wild_references.proofs.Symbols.{IsResolvedBy, resolved, resolved_raw, flags_are, replaceable_at, flag_at, own_size_is, definition_there}
-use Rattle.wild_references.proofs.Treated.{treated_by, peeled}
+use Rattle.wild_references.proofs.MovingSymbols.{treated_by, peeled}
 use Rattle.wild_references.proofs.ValueKinds.{more}
-use Rattle.wild_references.proofs.Written.{row_here, given_some}
-use Rattle.wild_meaning.specs.Linked.{processor_of}
+use Rattle.wild_references.proofs.WrittenFields.{row_here, given_some}
+use Rattle.wild_meaning.specs.LinkedImage.{processor_of}
 use Rattle.wild_loader.specs.declared.memory.Machine.{Machine as Processor}
 use Rattle.wild_geometry.proofs.MachineLemmas.{facts_of}
 use Rattle.wild_meaning.specs.Strings.{NamesStrings}
@@ -83,22 +83,22 @@ use Rattle.wild_references.proofs.MergedStrings.{open_none, resolver_none}
 
 -- ---- what a decision says of the entry
 
-index_given : (z x : RelocationSize) (number n symbol addend : ℕ) (r : InputRelocation) (i : ℕ) (o : Option ℕ) → left_to z number r i o ≡ Ok (Left x n symbol addend) → (o ≡ Some symbol) × (number ≡ n) × (added r ≡ addend)
+index_given : (z x : RelocationSize) (number n symbol addend : ℕ) (r : InputRelocation) (i : ℕ) (o : Option ℕ) → dynamic_decision z number r i o ≡ Ok (DynamicField x n symbol addend) → (o ≡ Some symbol) × (number ≡ n) × (addend_bits r ≡ addend)
 index_given z x number n symbol addend r i None h = cc
 index_given z x number n symbol addend r i (Some index) h =
     let there : index ≡ symbol = cc in
     let same : number ≡ n = cc in
-    let more : added r ≡ addend = cc in
+    let more : addend_bits r ≡ addend = cc in
     (ap (λ (k : ℕ). Some k) there, same, more)
 
 -- one with a resolver adds nothing to what that answers
-resolver_given : (l : Layout) (x : RelocationSize) (n symbol addend : ℕ) (r : InputRelocation) (a : Result ℕ Fault) → chosen_to l r a ≡ Ok (Left x n symbol addend) → (a ≡ Ok addend) × (type_of l.machine Irelative ≡ n) × (added r ≡ 0) × (0 ≡ symbol)
+resolver_given : (l : Layout) (x : RelocationSize) (n symbol addend : ℕ) (r : InputRelocation) (a : Result ℕ Fault) → ifunc_decision l r a ≡ Ok (DynamicField x n symbol addend) → (a ≡ Ok addend) × (type_of l.machine Irelative ≡ n) × (addend_bits r ≡ 0) × (0 ≡ symbol)
 resolver_given l x n symbol addend r (Err f) h = cc
 resolver_given l x n symbol addend r (Ok resolver) h =
-    elim (cases_Bool (added r == 0)) [
+    elim (cases_Bool (addend_bits r == 0)) [
       | inr f ↦ cc (rw f at h)
       | inl t ↦
-          (let e : Ok (Left (ByteSize Eight) (type_of l.machine Irelative) 0 resolver) ≡ Ok (Left x n symbol addend) = rw t at h in
+          (let e : Ok (DynamicField (ByteSize Eight) (type_of l.machine Irelative) 0 resolver) ≡ Ok (DynamicField x n symbol addend) = rw t at h in
           let same : type_of l.machine Irelative ≡ n = cc in
           let is : resolver ≡ addend = cc in
           let none : 0 ≡ symbol = cc in
@@ -167,7 +167,7 @@ symbol_change p w n d a c is low h =
     (record { answer = x.0; there = x.1 }, sym same ∙ ap (λ (n : ℕ). changes.Word ((x.0.address + n) % 2 ^ 64)) (of_z-to_z w64 a low))
 
 symbolic_given : (l : Layout) (w : World) (m : Memory) (s : Item) (r : InputRelocation) (i number symbol addend : ℕ) (z : RelocationSize) (bs : List ℕ) (f : Formula) → IsPlaced l w m → FitsSigned w64 r.addend → r.symbol ≡ Some i → (NamesStrings l r → ⊥) → f.value ≡ SymbolAddress → f.form ≡ Full
-    → left_to (ByteSize Eight) (type_of l.machine Absolute) r i (index_of l i) ≡ Ok (Left z number symbol addend) → ReadsLeft (processor_of l.machine) InMemory w z number symbol addend bs → IsGiven l w m s r f bs
+    → dynamic_decision (ByteSize Eight) (type_of l.machine Absolute) r i (index_of l i) ≡ Ok (DynamicField z number symbol addend) → ReadsFilledField (processor_of l.machine) InMemory w z number symbol addend bs → IsGiven l w m s r f bs
 symbolic_given l w m s r i number symbol addend z bs f p fits named none value full made reads =
     let d = index_given (ByteSize Eight) z (type_of l.machine Absolute) number symbol addend r i (index_of l i) made in
     let by = index_resolved l i symbol d.0 in
@@ -199,7 +199,7 @@ decided_resolved l i a h = by_resolution (resolution_of l i) refl (given_some mi
     by_resolution (Some r) e h = (r, resolved l i r e, (let same : r.raw_value ≡ a = cc in same))
 
 -- a symbol that none may replace, and that a resolver chooses, is the output's own
-resolver_flags : (l : Layout) (s : Item) (row : RelocationKindInfo) (i : ℕ) → field_width row ≡ 8 → is_left l s.flags row i ≡ false → is_chosen l s.flags i ≡ true → has_flag (flags_at l i) dynamic ≡ false → (may_be_replaced l.kind (flags_at l i) ≡ false) × (has_flag (flags_at l i) ifunc ≡ true)
+resolver_flags : (l : Layout) (s : Item) (row : RelocationKindInfo) (i : ℕ) → field_width row ≡ 8 → needs_symbolic l s.flags row i ≡ false → needs_irelative l s.flags i ≡ true → has_flag (flags_at l i) dynamic ≡ false → (may_be_replaced l.kind (flags_at l i) ≡ false) × (has_flag (flags_at l i) ifunc ≡ true)
 resolver_flags l s row i width own chosen none =
     by_tests (allocated s.flags) (writable s.flags) (field_width row == 8) (has_flag (flags_at l i) non_interposable) (is_position_independent l.kind) (has_flag (flags_at l i) ifunc) (has_flag (flags_at l i) dynamic) (has_flag (flags_at l i) copy_relocation) (is_library l.kind) (has_flag (flags_at l i) export_dynamic) (eq-eqb (field_width row) 8 width) own chosen none
   where
@@ -237,7 +237,7 @@ chosen_own l w m s row i p listed width h =
     last_of false b h = cc
 
 indirect_given : (l : Layout) (w : World) (m : Memory) (s : Item) (r : InputRelocation) (i number symbol addend : ℕ) (z : RelocationSize) (bs : List ℕ) (f : Formula) → IsPlaced l w m → i < length l.symbols → IsChosenOwn l i → r.symbol ≡ Some i → f.value ≡ SymbolAddress → f.form ≡ Full
-    → chosen_to l r (decided_address l i) ≡ Ok (Left z number symbol addend) → ReadsLeft (processor_of l.machine) InMemory w z number symbol addend bs → IsGiven l w m s r f bs
+    → ifunc_decision l r (decided_address l i) ≡ Ok (DynamicField z number symbol addend) → ReadsFilledField (processor_of l.machine) InMemory w z number symbol addend bs → IsGiven l w m s r f bs
 indirect_given l w m s r i number symbol addend z bs f p listed chosen named value full made reads =
     let d = resolver_given l z number symbol addend r (decided_address l i) made in
     let by = decided_resolved l i addend d.0 in
@@ -335,10 +335,10 @@ whose l w m i p listed =
     subst (λ (b : Bool). IsReplaceable l i b) (whose_flags l (flags_at l i)) (replaceable_at l i z.0 p.symbols.named z.1)
 
 extent_given : (l : Layout) (w : World) (m : Memory) (s : Item) (r : InputRelocation) (row : RelocationKindInfo) (i number symbol addend : ℕ) (z : RelocationSize) (bs : List ℕ) (fits : RowFits l.machine r.number row) → IsPlaced l w m → l.machine ≡ machine.X86_64 → FitsSigned w64 r.addend → i < length l.symbols → row_of machine.X86_64 r.number ≡ Some row → (is_replaceable l.kind (flags_at l i) || allows row (sum (symbol_size l i) r.addend)) ≡ true → r.symbol ≡ Some i → (r.number ≡ r_x86_64_size32) ⊎ (r.number ≡ r_x86_64_size64)
-    → left_to row.size r.number r i (index_of l i) ≡ Ok (Left z number symbol addend) → ReadsLeft (processor_of l.machine) InMemory w z number symbol addend bs → IsGiven l w m s r fits.formula bs
+    → dynamic_decision row.size r.number r i (index_of l i) ≡ Ok (DynamicField z number symbol addend) → ReadsFilledField (processor_of l.machine) InMemory w z number symbol addend bs → IsGiven l w m s r fits.formula bs
 extent_given l w m s r row i number symbol addend z bs fits p x86 signed listed here ranged named type made reads = by_type type
   where
-    d : (index_of l i ≡ Some symbol) × (r.number ≡ number) × (added r ≡ addend)
+    d : (index_of l i ≡ Some symbol) × (r.number ≡ number) × (addend_bits r ≡ addend)
     d = index_given row.size z r.number number symbol addend r i (index_of l i) made
 
     low : addend < 2 ^ 64
@@ -407,9 +407,9 @@ left_open : (l : Layout) (flags n : ℕ) (row : RelocationKindInfo) (i : ℕ) �
 left_open l flags n row i h =
     let P : Treatment → Type 0 = λ t. t ≡ treatments.Symbolic i → interposable (flags_at l i) ≡ true in
     of_if P (is_barred l flags n i || is_narrow l flags n) _ _ (λ e. λ g. cc) (λ e.
-    of_if P (is_left l flags row i) _ _
+    of_if P (needs_symbolic l flags row i) _ _
     (λ left. λ g. last_of_four (allocated flags) (writable flags) (field_width row == 8) (interposable (flags_at l i)) left)
-    (λ own. of_if P (is_chosen l flags i) _ _
+    (λ own. of_if P (needs_irelative l flags i) _ _
     (λ chosen. of_if P (field_width row == 8) _ _ (λ w. λ g. cc) (λ w. λ g. cc))
     (λ e. of_if P (allocated flags && moves l i) _ _ (λ m. of_if P (field_width row == 8) _ _ (λ w. λ g. cc) (λ w. λ g. cc)) (λ m. λ g. cc)))) h
   where
@@ -425,12 +425,12 @@ pub record FieldGiven (l : Layout) (w : World) (m : Memory) (s : Item) (r : Inpu
   pub known : formula_of l.machine r.number ≡ Some formula
   pub given : IsGiven l w m s r formula bs
 
-left_given : RowsAreRead → (l : Layout) (w : World) (m : Memory) (s : Item) (r : InputRelocation) (z : RelocationSize) (number symbol addend : ℕ) (bs : List ℕ) → IsPlaced l w m → NamesSymbol l r → FitsSigned w64 r.addend → decided l s r ≡ Ok (Left z number symbol addend) → ReadsLeft (processor_of l.machine) InMemory w z number symbol addend bs → FieldGiven l w m s r bs
+left_given : RowsAreRead → (l : Layout) (w : World) (m : Memory) (s : Item) (r : InputRelocation) (z : RelocationSize) (number symbol addend : ℕ) (bs : List ℕ) → IsPlaced l w m → NamesSymbol l r → FitsSigned w64 r.addend → decided l s r ≡ Ok (DynamicField z number symbol addend) → ReadsFilledField (processor_of l.machine) InMemory w z number symbol addend bs → FieldGiven l w m s r bs
 left_given agrees l w m s r z number symbol addend bs p listed fits made reads =
     let h = decided_left l s r z number symbol addend made in
     by_treatment h.treated h.left h.is h.made
   where
-    by_treatment : (t : Treatment) → is_left_to_entry t ≡ true → treatment l s.flags r ≡ t → decide_by l s r t ≡ Ok (Left z number symbol addend) → FieldGiven l w m s r bs
+    by_treatment : (t : Treatment) → has_dynamic_entry t ≡ true → treatment l s.flags r ≡ t → decide_by l s r t ≡ Ok (DynamicField z number symbol addend) → FieldGiven l w m s r bs
     by_treatment (treatments.Symbolic i) left is h =
         let k = known_symbolic l s.flags r i is in
         let f = row_fits agrees l.machine r.number k.0 k.1 (ap has_value k.2.kind) in
@@ -450,7 +450,7 @@ left_given agrees l w m s r z number symbol addend bs p listed fits made reads =
         let x86 = size_machine l.machine r.number row k.0 k.1.kind in
         let here = row_here l r.number row x86 k.0 in
         let f = row_fits agrees l.machine r.number row k.0 (ap has_value k.1.kind) in
-        let sized = sized_parts l r row i (left_to row.size r.number r i (index_of l i)) (Left z number symbol addend) h in
+        let sized = sized_parts l r row i (dynamic_decision row.size r.number r i (index_of l i)) (DynamicField z number symbol addend) h in
         record { formula = f.formula; known = f.known; given = extent_given l w m s r row i number symbol addend z bs f p x86 fits (listed i k.1.named) here sized.ranged k.1.named (size_types r.number row here k.1.kind) sized.left reads }
     by_treatment other left is h = cc
 

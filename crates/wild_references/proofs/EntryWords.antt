@@ -7,8 +7,8 @@ use Rattle.std.proofs.lemmas.Int.{of_z-to_z}
 use Rattle.wild_reloc.specs.declared.dynamic.DynamicRelocationKind.{DynamicRelocationKind}
 use Rattle.wild_reloc.specs.declared.dynamic.DynamicRelocationKind.TheVariants.{DtpMod, DtpOff, TpOff, TlsDesc, Irelative}
 use Rattle.wild_geometry.specs.Loaded.{MakesChange, entry_with}
-use Rattle.wild_geometry.specs.Slots.{IsLeft, IsFilledBy}
-use Rattle.wild_loader.specs.Given.{◌>>=◌, known}
+use Rattle.wild_geometry.specs.Slots.{IsWordAfterChange, IsFilledBy}
+use Rattle.wild_loader.specs.Outcome.{◌>>=◌, known}
 use Rattle.wild_loader.specs.Changes.{kind_of, change_of, answer_of, answer_at, first_value, module_and_offset, distance_of, thread_offset}
 use Rattle.wild_loader.specs.declared.change.Change.{Change}
 use Rattle.wild_loader.specs.declared.change.Change.TheVariants as changes
@@ -46,10 +46,10 @@ change_by p w n s a c k is h =
 abbrev made : Change → Result Change LoadFault
 made c = Ok c
 
-stored : (m : Memory) (place x v : ℕ) (c : Change) → made (changes.Word v) ≡ made c → IsLeft m place c x → x ≡ v
+stored : (m : Memory) (place x v : ℕ) (c : Change) → made (changes.Word v) ≡ made c → IsWordAfterChange m place c x → x ≡ v
 stored m place x v c e h =
     let same : changes.Word v ≡ c = cc in
-    subst (λ (d : Change). IsLeft m place d x) (sym same) h
+    subst (λ (d : Change). IsWordAfterChange m place d x) (sym same) h
 
 -- ---- entries that name a symbol
 
@@ -157,10 +157,10 @@ pub own_thread_filled : (w : World) (m : Memory) (place a x : ℕ) → a < 2 ^ 6
 own_thread_filled w m place a x low f = own_thread w a x low (thread_word w m place 0 a x f)
 
 -- TLSDESC notes it for a descriptor
-noted : (m : Memory) (place x o : ℕ) (c : Change) → made (changes.Descriptor o) ≡ made c → IsLeft m place c x → first_value m.descriptors place ≡ Some o
+noted : (m : Memory) (place x o : ℕ) (c : Change) → made (changes.Descriptor o) ≡ made c → IsWordAfterChange m place c x → first_value m.descriptors place ≡ Some o
 noted m place x o c e h =
     let same : changes.Descriptor o ≡ c = cc in
-    subst (λ (d : Change). IsLeft m place d x) (sym same) h
+    subst (λ (d : Change). IsWordAfterChange m place d x) (sym same) h
 
 descriptor_word : (w : World) (m : Memory) (place d a x : ℕ) → IsFilledBy w m place (record { kind = TlsDesc; symbol = d; addend = a }) x → (o : ℕ) × (first_value m.descriptors place ≡ Some o) × IsThreadStep w d a o
 unfolding change_of

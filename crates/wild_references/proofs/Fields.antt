@@ -12,7 +12,7 @@ use Rattle.wild_types.specs.declared.kind.Machine.{Machine}
 use Rattle.wild_types.specs.declared.kind.Machine.TheVariants as machine
 use Rattle.wild_types.specs.declared.input.InputRelocation.{InputRelocation}
 use Rattle.wild_types.specs.declared.layout.Layout.{Layout}
-use Rattle.wild_types.specs.Hollow.{KeepsAll}
+use Rattle.wild_types.specs.HeaderOnly.{KeepsAll}
 use Rattle.wild_types.specs.Lookups.{place_of, allocated}
 use Rattle.wild_reloc.specs.Field.{field_width, size_width, written}
 use Rattle.wild_reloc.specs.Formula.{Formula, Form, formula_at, NoField, Plain, Full, Bits, Keeps, Reads}
@@ -21,13 +21,13 @@ use Rattle.wild_reloc.specs.declared.info.RelocationKindInfo.{RelocationKindInfo
 use Rattle.wild_reloc.specs.FormulaX86_64.{x86_64_formula, x86_64_formulas}
 use Rattle.wild_reloc.specs.declared.expression.Term.TheVariants as term
 use Rattle.wild_reloc.specs.declared.info.RelocationSize.{RelocationSize}
-use Rattle.wild_reloc.specs.Expression.{taken_of}
-use Rattle.wild_reloc.specs.declared.expression.Taken.{Taken}
-use Rattle.wild_reloc.specs.declared.expression.Taken.TheVariants as taken
+use Rattle.wild_reloc.specs.Expression.{subtrahend_of}
+use Rattle.wild_reloc.specs.declared.expression.Subtrahend.{Subtrahend}
+use Rattle.wild_reloc.specs.declared.expression.Subtrahend.TheVariants as taken
 use Rattle.wild_layout.specs.Values.{value_less, value_in}
 use Rattle.wild_layout.specs.Sites.{field_site}
 use Rattle.wild_layout.proofs.DecideLemmas.{HasField, field_has_bytes}
-use Rattle.wild_layout.proofs.ReachedLemmas.{ComesTo}
+use Rattle.wild_layout.proofs.ThunkFieldLemmas.{ComesTo}
 use Rattle.wild_layout.proofs.SiteLemmas.{field_lies}
 use Rattle.wild_layout.specs.SectionPlaces.{FieldLies}
 use Rattle.wild_layout.specs.Geometry.{NamesSymbol}
@@ -39,14 +39,14 @@ use Rattle.wild_loader.specs.declared.world.World.{World}
 use Rattle.wild_loader.specs.declared.memory.Memory.{Memory}
 use Rattle.wild_loader.specs.Memory.{Holds}
 use Rattle.wild_geometry.specs.MachineFacts.{RowsAreRead}
-use Rattle.wild_geometry.specs.Loaded.{Stage, InMemory, ReadsLeft, HasItem}
+use Rattle.wild_geometry.specs.Loaded.{Stage, InMemory, ReadsFilledField, HasItem}
 use Rattle.wild_references.specs.Terms.{IsPlaced}
-use Rattle.wild_references.specs.Laws.{TermGives, TermGivesLinked, StubsStand, SlotsGive, PartsGive, PartsGiveLinked, HasBytes, AddressesGive, AddressesGiveLinked, EntriesGive}
-use Rattle.wild_references.specs.Thunks.{EachThunkGoesOn, ThunksGive}
+use Rattle.wild_references.specs.Laws.{TermGives, TermGivesLinked, StubsRepresentSymbols, SlotsGive, PartsGive, PartsGiveLinked, HasBytes, AddressesGive, AddressesGiveLinked, EntriesGive}
+use Rattle.wild_references.specs.Thunks.{EachThunkJumps, ThunksGive}
 use Rattle.wild_references.proofs.KnownRows.{RowFits}
 use Rattle.wild_references.proofs.LowForms.{is_low, reads_low}
-use Rattle.wild_references.proofs.Written.{IsValue, IsAddress, IsLeftField}
-use Rattle.wild_meaning.specs.Linked.{processor_of}
+use Rattle.wild_references.proofs.WrittenFields.{IsValue, IsAddress, IsLeftField}
+use Rattle.wild_meaning.specs.LinkedImage.{processor_of}
 
 -- ---- fields of whole bytes
 
@@ -75,9 +75,9 @@ keeps_at (e ∷ es) n f h known =
     by_test e es n f h false known again = again known
 
 -- the fields of x86-64 are
-pub whole_bytes : (n : ℕ) (f : Formula) → x86_64_formula n ≡ Some f → KeepsOthers f.form
+pub unique_table : (n : ℕ) (f : Formula) → x86_64_formula n ≡ Some f → KeepsOthers f.form
 unfolding x86_64_formula
-whole_bytes n f known = keeps_at x86_64_formulas n f refl known
+unique_table n f known = keeps_at x86_64_formulas n f refl known
 
 -- ---- one section in memory
 
@@ -90,7 +90,7 @@ pub record Tables : Type 0 where
 pub record KindLaws : Type 0 where
   pub symbol : TermGives term.Symbol
   pub stub : TermGives term.Stub
-  pub stands : StubsStand
+  pub stands : StubsRepresentSymbols
   pub thunk : ThunksGive
   pub slot : SlotsGive
   pub part : PartsGive
@@ -115,7 +115,7 @@ pub record IsItemLoaded (l : Layout) (w : World) (m : Memory) (s : Item) : Type 
   pub kinds : KindLaws
   pub linked : LinkedLaws
   pub placed : IsPlaced l w m
-  pub thunks : KeepsAll l → EachThunkGoesOn l w m
+  pub thunks : KeepsAll l → EachThunkJumps l w m
   pub room : allocated s.flags ≡ true
   pub symbols : All (NamesSymbol l) s.relocations
   pub addends : All AddendFits s.relocations
@@ -189,22 +189,22 @@ pub row_keeps : (l : Layout) (s : Item) (r : InputRelocation) (row : RelocationK
 row_keeps l s r row v bytes inside fits = by_machine l.machine refl bytes
   where
     by_machine : (k : Machine) → l.machine ≡ k → HasBytes k s → Keeps fits.formula.form (old_field s r row) (written row v (old_field s r row))
-    by_machine machine.X86_64 e b = whole_bytes r.number fits.formula (subst (λ (k : Machine). formula_of k r.number ≡ Some fits.formula) e fits.known) (old_field s r row) (written row v (old_field s r row))
+    by_machine machine.X86_64 e b = unique_table r.number fits.formula (subst (λ (k : Machine). formula_of k r.number ≡ Some fits.formula) e fits.known) (old_field s r row) (written row v (old_field s r row))
     by_machine machine.AArch64 e b = fits.keeps v (old_field s r row) (small_range s.bytes r.offset (size_width row.size) b inside) (length-range s.bytes r.offset (size_width row.size) inside)
 
-less_below : (l : Layout) (less : Taken) (s p : ℕ) (a : ℤ) → value_less l less s a p < 2 ^ 64
+less_below : (l : Layout) (less : Subtrahend) (s p : ℕ) (a : ℤ) → value_less l less s a p < 2 ^ 64
 less_below l taken.Nothing s p a = omega arith
 less_below l taken.Place s p a = omega arith
 less_below l taken.Table s p a = omega arith
 less_below l taken.PagePlace s p a = omega arith
 less_below l taken.PageTable s p a = omega arith
 
-pub below_all : (l : Layout) (less : Taken) (s p v : ℕ) (a : ℤ) → value_less l less s a p ≡ v → v < 2 ^ 64
+pub below_all : (l : Layout) (less : Subtrahend) (s p v : ℕ) (a : ℤ) → value_less l less s a p ≡ v → v < 2 ^ 64
 below_all l less s p v a e = subst (λ (n : ℕ). n < 2 ^ 64) e (less_below l less s p a)
 
 -- and so is what is written for it
 pub comes_low : (l : Layout) (s : Item) (r : InputRelocation) (row : RelocationKindInfo) (term v : ℕ) → ComesTo l s r row (value_in l row term r.addend (place_of s.address r)) v → v < 2 ^ 64
-comes_low l s r row term v (inl same) = below_all l (taken_of row.kind row.mask) term (place_of s.address r) v r.addend same
+comes_low l s r row term v (inl same) = below_all l (subtrahend_of row.kind row.mask) term (place_of s.address r) v r.addend same
 comes_low l s r row term v (inr c) = (let e = c.distance in omega (arith, e))
 
 -- a field has all of the value, or the bits below the page of a number
@@ -246,7 +246,7 @@ address_reads l w m s i r h all a =
     }
 
 -- the bytes of a field that is left to an entry
-pub left_bytes : (l : Layout) (w : World) (m : Memory) (s : Item) (i : ℕ) (r : InputRelocation) → IsItemLoaded l w m s → KeepsAll l → (f : IsLeftField l s i r) → (bs : List ℕ) × Holds m (place_at w s r.offset) bs × ReadsLeft (processor_of l.machine) InMemory w f.size f.number f.symbol f.addend bs
+pub left_bytes : (l : Layout) (w : World) (m : Memory) (s : Item) (i : ℕ) (r : InputRelocation) → IsItemLoaded l w m s → KeepsAll l → (f : IsLeftField l s i r) → (bs : List ℕ) × Holds m (place_at w s r.offset) bs × ReadsFilledField (processor_of l.machine) InMemory w f.size f.number f.symbol f.addend bs
 left_bytes l w m s i r h all f = (moved_item l w m s h all).left i r f.size f.number f.symbol f.addend f.plain.has
 
 -- what an entry stores fills the field

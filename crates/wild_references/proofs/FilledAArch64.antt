@@ -13,14 +13,14 @@ use Rattle.wild_aarch64.specs.declared.code.Code.TheVariants.{Adr, Adrp, Movz, M
 use Rattle.wild_aarch64.specs.declared.operand.Action as run-action
 use Rattle.wild_aarch64.specs.declared.operand.Operand as run-operand
 use Rattle.wild_aarch64.specs.declared.operand.Deed.TheVariants as runs
-use Rattle.wild_aarch64.specs.Immediate.{Field, inserted, insert_bits, cut, Imm12, Imm14, Imm16, Imm19, Imm21, Imm26}
+use Rattle.wild_aarch64.specs.Immediate.{Field, word_with_immediate, insert_bits, bits_of_field, Imm12, Imm14, Imm16, Imm19, Imm21, Imm26}
 use Rattle.wild_aarch64.specs.Immediate as word
 use Rattle.wild_aarch64.specs.Slice.{bits, signed, Fixed, Form, stands}
 use Rattle.wild_aarch64.specs.Forms.{branch, call, forms, addresses, accesses, vector_accesses, literals, transfers, conditions}
-use Rattle.wild_aarch64.specs.Filled.{filled_forms, forms_at, forms_filled}
+use Rattle.wild_aarch64.specs.FilledForms.{filled_forms, forms_at, forms_filled}
 use Rattle.wild_aarch64.specs.Code.{read, read_by, read_address, read_access, read_vector_access, read_literal, read_transfer, read_condition}
 use Rattle.wild_aarch64.specs.Machine.{does, goes_on, outcome, set, run, meaning}
-use Rattle.wild_aarch64.specs.Effect.{cleared, shapes, words_of}
+use Rattle.wild_aarch64.specs.Effect.{without_immediate, shapes, words_of}
 use Rattle.wild_aarch64.proofs.ListLemmas.{for_each}
 use Rattle.wild_aarch64.proofs.FieldLemmas.{forms_are_read, fields_are_written, b_field, bl_field}
 use Rattle.wild_loader.specs.declared.instruction.Action.{Action}
@@ -28,7 +28,7 @@ use Rattle.wild_loader.specs.declared.instruction.Deed.TheVariants.{Jump, Call}
 use Rattle.wild_loader.specs.declared.instruction.Operand.TheVariants.{Number}
 use Rattle.wild_loader.specs.Instruction.{Reader, Effect, effect, with_value, as_value}
 use Rattle.wild_loader.specs.InstructionAArch64.{action_of, effect_aarch64, demand_aarch64}
-use Rattle.wild_meaning.specs.WordsAArch64.{is_of, is_told, is_filled, with_field, with_field_of, reads_numbers, effect_with}
+use Rattle.wild_meaning.specs.WordsAArch64.{is_of, has_known_meaning, is_filled, with_field, with_field_of, reads_numbers, effect_with}
 use Rattle.wild_meaning.specs.Field.{form_width}
 use Rattle.wild_meaning.specs.Template.{bits_of, CanHave}
 
@@ -112,7 +112,7 @@ pub record HasForm (fs : List Form) (w : ℕ) : Type 0 where
   pub form : Form
   pub known : Contains fs form
   pub there : stands form.fixed w ≡ true
-  pub put : (v : ℕ) → with_field_of fs v w ≡ inserted form.field v w
+  pub put : (v : ℕ) → with_field_of fs v w ≡ word_with_immediate form.field v w
 
 first_form : (fs : List Form) (w : ℕ) → is_of fs w ≡ true → HasForm fs w
 first_form [] w h = absurd (let none : false ≡ true = h in cc)
@@ -150,7 +150,7 @@ three_same : (a b c x y z : ℕ) → a ∷ b ∷ c ∷ [] ≡ x ∷ y ∷ z ∷ 
 three_same a b c x y z h = (let p : a ≡ x = cc in let q : b ≡ y = cc in let r : c ≡ z = cc in (p, q, r))
 
 -- a word with other bits in its field alone is the word with these put there
-pub put_back : (p : Place) (f : Field) (w u v : ℕ) → same_place p f ≡ true → others p w ≡ others p u → immediate p u ≡ v → inserted f v w ≡ u
+pub put_back : (p : Place) (f : Field) (w u v : ℕ) → same_place p f ≡ true → others p w ≡ others p u → immediate p u ≡ v → word_with_immediate f v w ≡ u
 unfolding insert_bits
 put_back AdrField Imm21 w u v h e is =
     let t = three_same (w % 2 ^ 5) (w / 2 ^ 24 % 2 ^ 5) (w / 2 ^ 31) (u % 2 ^ 5) (u / 2 ^ 24 % 2 ^ 5) (u / 2 ^ 31) e in
@@ -221,7 +221,7 @@ pub record IsNumbered (o : Option run-action.Action) : Type 0 where
   pub value : ℕ
   pub operand : action.operand ≡ Number value
 
-set_told : (r : ℕ) (x y : run-operand.Operand) → is_told (goes_on (set r [] x) (λ next. outcome next) true) ≡ true → IsNumbered (Some (does (runs.Sets r) y)) → IsNumbered (goes_on (set r [] y) (λ next. outcome next) true)
+set_told : (r : ℕ) (x y : run-operand.Operand) → has_known_meaning (goes_on (set r [] x) (λ next. outcome next) true) ≡ true → IsNumbered (Some (does (runs.Sets r) y)) → IsNumbered (goes_on (set r [] y) (λ next. outcome next) true)
 set_told r x y h n = by (r == 31) refl
   where
     by : (b : Bool) → (r == 31) ≡ b → IsNumbered (goes_on (set r [] y) (λ next. outcome next) true)
@@ -229,7 +229,7 @@ set_told r x y h n = by (r == 31) refl
     by false e = rw e n
 
 -- an instruction alone, with whatever is in its field
-pub one_told : (c : Code) (a : ℕ) → is_told (run (Some (cleared c) ∷ []) 0 []) ≡ true → IsNumbered (run (Some c ∷ []) a [])
+pub one_told : (c : Code) (a : ℕ) → has_known_meaning (run (Some (without_immediate c) ∷ []) 0 []) ≡ true → IsNumbered (run (Some c ∷ []) a [])
 one_told (Adr r j) a h = set_told r _ _ h (record { action = _; is = refl; value = _; operand = refl })
 one_told (Adrp r j) a h = set_told r _ _ h (record { action = _; is = refl; value = _; operand = refl })
 one_told (Movz r s i) a h = set_told r _ _ h (record { action = _; is = refl; value = _; operand = refl })
@@ -248,7 +248,7 @@ one_told Hint a h = record { action = _; is = refl; value = _; operand = refl }
 
 -- what is in its field plays no part in which instruction a word is
 abbrev IsOneShape : Form → Type 0
-IsOneShape g = (w i j : ℕ) → cleared (g.code w i) ≡ cleared (g.code w j)
+IsOneShape g = (w i j : ℕ) → without_immediate (g.code w i) ≡ without_immediate (g.code w j)
 
 one_shape : (g : Form) → Contains forms g → IsOneShape g
 one_shape g c = for_each IsOneShape forms (λ w i j. refl, (λ w i j. refl, (λ w i j. refl, (λ w i j. refl, (λ w i j. refl, (λ w i j. refl, (λ w i j. refl, (λ w i j. refl, (λ w i j. refl, (λ w i j. refl, (λ w i j. refl, (λ w i j. refl, (λ w i j. refl, (λ w i j. refl, (λ w i j. refl, (λ w i j. refl, (λ w i j. refl, (λ w i j. refl, (λ w i j. refl, (λ w i j. refl, (λ w i j. refl, (λ w i j. refl, (λ w i j. refl, (λ w i j. refl, (λ w i j. refl, (λ w i j. refl, (λ w i j. refl, (λ w i j. refl, (λ w i j. refl, (λ w i j. refl, (λ w i j. refl, (λ w i j. refl, (λ w i j. refl, tt))))))))))))))))))))))))))))))))) g c
@@ -262,12 +262,12 @@ one_word (a ∷ b ∷ c ∷ e ∷ []) h = refl
 one_word (a ∷ b ∷ c ∷ e ∷ x ∷ bs) h = absurd (omega (arith, h))
 
 -- with other bits in its field it does something too
-pub told_with : (w u a : ℕ) (g : Form) (v : ℕ) → Contains forms g → stands g.fixed w ≡ true → inserted g.field v w ≡ u → is_told (run (shapes (w ∷ [])) 0 []) ≡ true → IsNumbered (meaning a (u ∷ []))
+pub told_with : (w u a : ℕ) (g : Form) (v : ℕ) → Contains forms g → stands g.fixed w ≡ true → word_with_immediate g.field v w ≡ u → has_known_meaning (run (shapes (w ∷ [])) 0 []) ≡ true → IsNumbered (meaning a (u ∷ []))
 told_with w u a g v c s e told =
     let old : read w ≡ Some (g.code w (word.immediate g.field w)) = forms_are_read g c w s in
-    let new : read u ≡ Some (g.code w (cut g.field v)) = subst (λ (k : ℕ). read k ≡ Some (g.code w (cut g.field v))) e (fields_are_written g c w v s) in
-    let shape : shapes (w ∷ []) ≡ Some (cleared (g.code w (cut g.field v))) ∷ [] = ap (λ (o : Option Code). option_map cleared o ∷ []) old ∙ ap (λ (k : Code). Some k ∷ []) (one_shape g c w (word.immediate g.field w) (cut g.field v)) in
-    let n = one_told (g.code w (cut g.field v)) a (subst (λ (cs : List (Option Code)). is_told (run cs 0 []) ≡ true) shape told) in
+    let new : read u ≡ Some (g.code w (bits_of_field g.field v)) = subst (λ (k : ℕ). read k ≡ Some (g.code w (bits_of_field g.field v))) e (fields_are_written g c w v s) in
+    let shape : shapes (w ∷ []) ≡ Some (without_immediate (g.code w (bits_of_field g.field v))) ∷ [] = ap (λ (o : Option Code). option_map without_immediate o ∷ []) old ∙ ap (λ (k : Code). Some k ∷ []) (one_shape g c w (word.immediate g.field w) (bits_of_field g.field v)) in
+    let n = one_told (g.code w (bits_of_field g.field v)) a (subst (λ (cs : List (Option Code)). has_known_meaning (run cs 0 []) ≡ true) shape told) in
     subst (λ (o : Option Code). IsNumbered (run (o ∷ []) a [])) (sym new) n
 
 -- ---- bits of a field
@@ -279,7 +279,7 @@ pub record FilledDoes (form : FieldForm) (r : Reader) (a x : ℕ) (old new : Lis
   pub demanded : effect_with (bits_of form x) a old ≡ Some effect
   pub does : effect_aarch64 r a new ≡ Some effect
 
-word_told : (n w : ℕ) (c : Option run-action.Action) → is_told c ≡ true → (act : run-action.Action) × (c ≡ Some act)
+word_told : (n w : ℕ) (c : Option run-action.Action) → has_known_meaning c ≡ true → (act : run-action.Action) × (c ≡ Some act)
 word_told n w None h = cc
 word_told n w (Some act) h = (act, refl)
 
@@ -302,13 +302,13 @@ word_does n a x f old new r known filled long whole reads keeps numbers = by f.f
     words : words_of old ≡ w ∷ []
     words = one_word old long
 
-    parts : ((is_of (forms_filled n) w && true) ≡ true) × (is_told (run (shapes (w ∷ [])) 0 []) ≡ true)
-    parts = and_parts (is_of (forms_filled n) w && true) (is_told (run (shapes (w ∷ [])) 0 [])) (subst (λ (ws : List ℕ). is_filled n ws ≡ true) words filled)
+    parts : ((is_of (forms_filled n) w && true) ≡ true) × (has_known_meaning (run (shapes (w ∷ [])) 0 []) ≡ true)
+    parts = and_parts (is_of (forms_filled n) w && true) (has_known_meaning (run (shapes (w ∷ [])) 0 [])) (subst (λ (ws : List ℕ). is_filled n ws ≡ true) words filled)
 
     of : is_of (forms_filled n) w ≡ true
     of = (and_parts (is_of (forms_filled n) w) true parts.0).0
 
-    told : is_told (run (shapes (w ∷ [])) 0 []) ≡ true
+    told : has_known_meaning (run (shapes (w ∷ [])) 0 []) ≡ true
     told = parts.1
 
     placed : form_placed f.form (forms_filled n) ≡ true
@@ -316,7 +316,7 @@ word_does n a x f old new r known filled long whole reads keeps numbers = by f.f
 
     -- the word is an instruction
     here : (o : Option Code) → read w ≡ o → HasForm forms w
-    here None e = (let none : is_told (run (None ∷ []) 0 []) ≡ true = subst (λ (o : Option Code). is_told (run (option_map cleared o ∷ []) 0 []) ≡ true) e told in cc)
+    here None e = (let none : has_known_meaning (run (None ∷ []) 0 []) ≡ true = subst (λ (o : Option Code). has_known_meaning (run (option_map without_immediate o ∷ []) 0 []) ≡ true) e told in cc)
     here (Some c) e = form_of w c e
 
     by : (form : FieldForm) → form_placed form (forms_filled n) ≡ true → Reads form new x → Keeps form old new → FilledDoes form r a x old new
@@ -324,7 +324,7 @@ word_does n a x f old new r known filled long whole reads keeps numbers = by f.f
         let g = here (read w) refl in
         let v = x / 2 ^ low % 2 ^ (high + 1 - low) in
         let place = same_of p (forms_filled n) w same of g.form g.known g.there in
-        let put : inserted g.form.field v w ≡ u = put_back p g.form.field w u v place keeps reads.bits in
+        let put : word_with_immediate g.form.field v w ≡ u = put_back p g.form.field w u v place keeps reads.bits in
         let numbered = told_with w u a g.form v g.known g.there put told in
         let both = by_numbered r a x (meaning a (u ∷ [])) numbers numbered in
         let filled_word : with_field v w ≡ u = g.put v ∙ put in
@@ -342,21 +342,21 @@ word_does n a x f old new r known filled long whole reads keeps numbers = by f.f
 -- with a distance in its field the word of a branch goes that far
 pub jump_word : (w u x : ℕ) → stands branch.fixed w ≡ true → sign_extended 28 (immediate Imm26Field u * 2 ^ 2) ≡ x → others Imm26Field w ≡ others Imm26Field u → read u ≡ Some (B x)
 jump_word w u x s decodes keeps =
-    let put : inserted Imm26 (immediate Imm26Field u) w ≡ u = put_back Imm26Field Imm26 w u (immediate Imm26Field u) refl keeps refl in
-    let at : cut Imm26 (immediate Imm26Field u) ≡ immediate Imm26Field u = omega arith in
+    let put : word_with_immediate Imm26 (immediate Imm26Field u) w ≡ u = put_back Imm26Field Imm26 w u (immediate Imm26Field u) refl keeps refl in
+    let at : bits_of_field Imm26 (immediate Imm26Field u) ≡ immediate Imm26Field u = omega arith in
     subst (λ (k : ℕ). read k ≡ Some (B x)) put (b_field w (immediate Imm26Field u) s ∙ ap (λ (i : ℕ). Some (B (signed 28 (i * 4)))) at ∙ ap (λ (d : ℕ). Some (B d)) decodes)
 
 pub call_word : (w u x : ℕ) → stands call.fixed w ≡ true → sign_extended 28 (immediate Imm26Field u * 2 ^ 2) ≡ x → others Imm26Field w ≡ others Imm26Field u → read u ≡ Some (Bl x)
 call_word w u x s decodes keeps =
-    let put : inserted Imm26 (immediate Imm26Field u) w ≡ u = put_back Imm26Field Imm26 w u (immediate Imm26Field u) refl keeps refl in
-    let at : cut Imm26 (immediate Imm26Field u) ≡ immediate Imm26Field u = omega arith in
+    let put : word_with_immediate Imm26 (immediate Imm26Field u) w ≡ u = put_back Imm26Field Imm26 w u (immediate Imm26Field u) refl keeps refl in
+    let at : bits_of_field Imm26 (immediate Imm26Field u) ≡ immediate Imm26Field u = omega arith in
     subst (λ (k : ℕ). read k ≡ Some (Bl x)) put (bl_field w (immediate Imm26Field u) s ∙ ap (λ (i : ℕ). Some (Bl (signed 28 (i * 4)))) at ∙ ap (λ (d : ℕ). Some (Bl d)) decodes)
 
 -- a field that is filled is a word
 pub width_four : (n : ℕ) (f : Formula) (bs : List ℕ) → aarch64_formula n ≡ Some f → is_filled n (words_of bs) ≡ true → length bs ≡ 4 → form_width f.form ≡ 4
 width_four n f bs known filled long =
     let w = number bs in
-    let parts = and_parts (is_of (forms_filled n) w && true) (is_told (run (shapes (w ∷ [])) 0 [])) (subst (λ (ws : List ℕ). is_filled n ws ≡ true) (one_word bs long) filled) in
+    let parts = and_parts (is_of (forms_filled n) w && true) (has_known_meaning (run (shapes (w ∷ [])) 0 [])) (subst (λ (ws : List ℕ). is_filled n ws ≡ true) (one_word bs long) filled) in
     let of = (and_parts (is_of (forms_filled n) w) true parts.0).0 in
     by f.form (subst (λ (o : Option Formula). formula_placed o (forms_filled n) ≡ true) known (placed_in filled_forms n w each_is_placed of))
   where
@@ -368,7 +368,7 @@ width_four n f bs known filled long =
 pub first_of : (n : ℕ) (bs : List ℕ) → is_filled n (words_of bs) ≡ true → length bs ≡ 4 → is_of (forms_filled n) (number bs) ≡ true
 first_of n bs filled long =
     let w = number bs in
-    let parts = and_parts (is_of (forms_filled n) w && true) (is_told (run (shapes (w ∷ [])) 0 [])) (subst (λ (ws : List ℕ). is_filled n ws ≡ true) (one_word bs long) filled) in
+    let parts = and_parts (is_of (forms_filled n) w && true) (has_known_meaning (run (shapes (w ∷ [])) 0 [])) (subst (λ (ws : List ℕ). is_filled n ws ≡ true) (one_word bs long) filled) in
     (and_parts (is_of (forms_filled n) w) true parts.0).0
 
 -- what a branch of the input asks for, and what one that goes so far does

@@ -15,7 +15,7 @@ use Rattle.wild_loader.specs.CodeX86_64.{bare, rex, rex2, branch, with_slot}
 use Rattle.wild_loader.specs.ThreadCodeX86_64.{general_call, general_slot_call, far_pair_call, local_call, local_slot_call}
 use Rattle.wild_loader.specs.InstructionX86_64.{descriptor_call}
 use Rattle.wild_records.specs.Abi.Relocation.{r_x86_64_pc32, r_x86_64_plt32, r_x86_64_gotpcrel, r_x86_64_gotpcrelx, r_x86_64_rex_gotpcrelx, r_x86_64_code_4_gotpcrelx, r_x86_64_gottpoff, r_x86_64_code_4_gottpoff, r_x86_64_gotpc32_tlsdesc, r_x86_64_code_4_gotpc32_tlsdesc, r_x86_64_tlsdesc_call, r_x86_64_tlsgd, r_x86_64_tlsld}
-use Rattle.wild_meaning.specs.Sequence.{any_words, Target, TargetInSlot, AddressInSlot, OffsetInSlot, SymbolPair, OwnPair, Described, DescribedCall, Instruction, Partner, size_of, IsBesidePartners, IsOwnByte, of_field, of_sequence, of_output, of_symbol, by_call, by_slot, by_distance, instructions_of}
+use Rattle.wild_meaning.specs.Sequence.{any_words, Target, TargetInSlot, AddressInSlot, OffsetInSlot, SymbolPair, OwnPair, Described, DescribedCall, Instruction, Partner, size_of, IsOutsidePartners, IsOwnByte, of_field, of_sequence, of_output, of_symbol, by_call, by_slot, by_distance, instructions_of}
 use Rattle.wild_references.specs.FilledX86_64.{IsFilled, HasEffect, FilledInstructionsDo}
 use Rattle.wild_references.proofs.Acts as acts
 use Rattle.wild_references.proofs.Acts.{IsMeant}
@@ -32,7 +32,7 @@ is_own o k = (nat_lt k o.field || nat_le (o.field + o.width) k) && beside k o.pa
 outside : (k a b : ℕ) → (nat_lt k a || nat_le b k) ≡ true → (k < a) ⊎ (b ≤ k)
 outside k a b h = elim (or_cases (nat_lt k a) (nat_le b k) h) [ inl x ↦ inl (ltb-true k a x) | inr x ↦ inr (leb-true b k x) ]
 
-beside_is : (k : ℕ) (ps : List Partner) → beside k ps ≡ true → IsBesidePartners k ps
+beside_is : (k : ℕ) (ps : List Partner) → beside k ps ≡ true → IsOutsidePartners k ps
 beside_is k [] h = tt
 beside_is k (p ∷ ps) h = let two = and_parts (nat_lt k p.field || nat_le (p.field + p.width) k) (beside k ps) h in (outside k p.field (p.field + p.width) two.0, beside_is k ps two.1)
 

@@ -9,26 +9,26 @@ use Rattle.wild_slot.specs.declared.slot.Setting.{Setting}
 use Rattle.wild_slot.specs.declared.slot.SlotItem.{SlotItem}
 use Rattle.wild_slot.specs.declared.slot.SlotItem.TheVariants.{Word}
 use Rattle.wild_slot.specs.declared.slot.SlotWord.{SlotWord}
-use Rattle.wild_slot.specs.declared.slot.SlotWord.TheVariants.{Number, Address, InBlock, General, Plt}
+use Rattle.wild_slot.specs.declared.slot.SlotWord.TheVariants.{Number, Address, InRelrGot, General, Plt}
 use Rattle.wild_types.specs.declared.symbol.Resolution.{Resolution}
 use Rattle.wild_types.specs.declared.symbol.Symbol.{Symbol}
 use Rattle.wild_types.specs.declared.symbol.ValueFlags.{ValueFlags}
 use Rattle.wild_types.specs.declared.layout.Layout.{Layout}
 use Rattle.wild_types.specs.Flags.{has_flag, interposable, has_link_time_address, absolute, dynamic, ifunc, non_interposable, copy_relocation, export_dynamic, canonical_plt}
-use Rattle.wild_types.specs.Hollow.{KeepsAll}
+use Rattle.wild_types.specs.HeaderOnly.{KeepsAll}
 use Rattle.wild_types.specs.Kinds.{is_position_independent}
 use Rattle.wild_types.specs.Lookups.{canonical}
 use Rattle.wild_slot.specs.Slots.{setting_of, named, general, plt, number, plain_item, stub_items, ifunc_address_items, canonical_address_items, slot_items, items_at, thread_items, address_items, slot}
 use Rattle.wild_slot.specs.SymbolWords.{resolved_slots, slots_of}
-use Rattle.wild_slot.specs.MachineStub.{far_of}
+use Rattle.wild_slot.specs.MachineStub.{distance_if_too_far}
 use Rattle.wild_types.specs.SymbolSlots.{resolved_got, has_dynamic_symbol, has_thread_slot}
 use Rattle.wild_geometry.specs.Slots.{IsFilledBy, IsLoadedWord, HasWords, HasSymbolSlots}
 use Rattle.wild_loader.specs.declared.memory.Memory.{Memory}
 use Rattle.wild_loader.specs.declared.world.World.{World}
 use Rattle.wild_meaning.specs.Slot.{HasWord}
-use Rattle.wild_meaning.specs.Value.{IsValue, HasValue, IsReplaceable, is_library, may_be_replaced, moved}
+use Rattle.wild_meaning.specs.Value.{IsValue, HasValue, IsReplaceable, is_library, may_be_replaced, with_base}
 use Rattle.wild_references.specs.Terms.{IsPlaced}
-use Rattle.wild_references.proofs.Answered.{has_answer, answered_value}
+use Rattle.wild_references.proofs.AnsweredValues.{has_answer, answered_value}
 use Rattle.wild_references.proofs.EntryWords.{address_filled, chosen_filled}
 use Rattle.wild_references.proofs.Symbols.{IsResolvedBy, replaceable_by, resolved_raw, resolved_flag}
 use Rattle.wild_references.proofs.SlotFlags.{symbol_fits}
@@ -38,31 +38,31 @@ use Rattle.wild_geometry.specs.EntryKinds.{loaded_kind, address_kind}
 -- ---- the slots of a symbol in memory, where all is written
 
 -- its words, item by item
-pub symbol_held : (l : Layout) (w : World) (m : Memory) (at : ℕ) (s : Symbol) (r : Resolution) → HasSymbolSlots l w m s at → s.resolution ≡ Some r → ItemsHold w m at (slot_items (setting_of l) (far_of l r) r)
+pub symbol_held : (l : Layout) (w : World) (m : Memory) (at : ℕ) (s : Symbol) (r : Resolution) → HasSymbolSlots l w m s at → s.resolution ≡ Some r → ItemsHold w m at (slot_items (setting_of l) (distance_if_too_far l r) r)
 unfolding slots_of slot
 symbol_held l w m at s r h e =
-    let same : slots_of l s ≡ slot (setting_of l) (far_of l r) r = ap (resolved_slots l) e in
-    items_hold w m at (slot_items (setting_of l) (far_of l r) r) (sym (ap (λ c. c.fault) same) ∙ h.whole) (subst (λ c. HasWords w m at c.words) same h.words)
+    let same : slots_of l s ≡ slot (setting_of l) (distance_if_too_far l r) r = ap (resolved_slots l) e in
+    items_hold w m at (slot_items (setting_of l) (distance_if_too_far l r) r) (sym (ap (λ c. c.fault) same) ∙ h.whole) (subst (λ c. HasWords w m at c.words) same h.words)
 
-pub slots_held : (l : Layout) (w : World) (m : Memory) (i at : ℕ) (r : Resolution) → IsPlaced l w m → KeepsAll l → IsResolvedBy l i r → r.got_address ≡ Some at → ItemsHold w m at (slot_items (setting_of l) (far_of l r) r)
+pub slots_held : (l : Layout) (w : World) (m : Memory) (i at : ℕ) (r : Resolution) → IsPlaced l w m → KeepsAll l → IsResolvedBy l i r → r.got_address ≡ Some at → ItemsHold w m at (slot_items (setting_of l) (distance_if_too_far l r) r)
 slots_held l w m i at r p all d e = symbol_held l w m at d.symbol r ((p.slots all).symbols (canonical l i) at d.symbol d.listed (ap resolved_got d.decided ∙ e)) d.decided
 
 -- those of a thread-local symbol, or of an address
 items_by : (w : World) (m : Memory) (at : ℕ) (xs ys : List SlotItem) (thread b : Bool) → thread ≡ b → ItemsHold w m at (if thread then xs else ys) → ItemsHold w m at (if b then xs else ys)
 items_by w m at xs ys thread b e h = subst (λ (c : Bool). ItemsHold w m at (if c then xs else ys)) e h
 
-pub as_address : (l : Layout) (w : World) (m : Memory) (at : ℕ) (r : Resolution) → r.got_address ≡ Some at → has_thread_slot r.flags ≡ false → ItemsHold w m at (slot_items (setting_of l) (far_of l r) r) → ItemsHold w m at (address_items (setting_of l) (far_of l r) r)
+pub as_address : (l : Layout) (w : World) (m : Memory) (at : ℕ) (r : Resolution) → r.got_address ≡ Some at → has_thread_slot r.flags ≡ false → ItemsHold w m at (slot_items (setting_of l) (distance_if_too_far l r) r) → ItemsHold w m at (address_items (setting_of l) (distance_if_too_far l r) r)
 as_address l w m at r e plain held =
-    let far = far_of l r in
+    let far = distance_if_too_far l r in
     let h = subst (λ (o : Option ℕ). ItemsHold w m at (items_at (setting_of l) far r o)) e held in
     items_by w m at (thread_items (setting_of l) r) (address_items (setting_of l) far r) (has_thread_slot r.flags) false plain h
 
-pub address_held : (l : Layout) (w : World) (m : Memory) (i at : ℕ) (r : Resolution) → IsPlaced l w m → KeepsAll l → IsResolvedBy l i r → r.got_address ≡ Some at → has_thread_slot r.flags ≡ false → ItemsHold w m at (address_items (setting_of l) (far_of l r) r)
+pub address_held : (l : Layout) (w : World) (m : Memory) (i at : ℕ) (r : Resolution) → IsPlaced l w m → KeepsAll l → IsResolvedBy l i r → r.got_address ≡ Some at → has_thread_slot r.flags ≡ false → ItemsHold w m at (address_items (setting_of l) (distance_if_too_far l r) r)
 address_held l w m i at r p all d e plain = as_address l w m at r e plain (slots_held l w m i at r p all d e)
 
 pub thread_held : (l : Layout) (w : World) (m : Memory) (i at : ℕ) (r : Resolution) → IsPlaced l w m → KeepsAll l → IsResolvedBy l i r → r.got_address ≡ Some at → has_thread_slot r.flags ≡ true → ItemsHold w m at (thread_items (setting_of l) r)
 thread_held l w m i at r p all d e thread =
-    let far = far_of l r in
+    let far = distance_if_too_far l r in
     let h = subst (λ (o : Option ℕ). ItemsHold w m at (items_at (setting_of l) far r o)) e (slots_held l w m i at r p all d e) in
     items_by w m at (thread_items (setting_of l) r) (address_items (setting_of l) far r) (has_thread_slot r.flags) true thread h
 
@@ -87,30 +87,30 @@ not_dynamic f h = by_tests (has_flag f dynamic) (has_flag f export_dynamic && in
 -- by what is asked of the output's own symbol: whether a resolver chooses it, whether it moves, and whether words are packed
 abbrev pub word_by : (chosen moving relr : Bool) → ℕ → SlotWord
 word_by true moving relr raw = Plt (record { kind = Irelative; symbol = 0; addend = raw })
-word_by false true true raw = InBlock raw
+word_by false true true raw = InRelrGot raw
 word_by false true false raw = Address raw
 word_by false false relr raw = Number raw
 
 abbrev pub own_item : Setting → Resolution → SlotItem
 own_item s r =
     if has_flag r.flags ifunc then plt Irelative 0 r.raw_value
-    else if is_position_independent s.kind && has_link_time_address r.flags then Word (if s.relr then InBlock r.raw_value else Address r.raw_value)
+    else if is_position_independent s.kind && has_link_time_address r.flags then Word (if s.relr then InRelrGot r.raw_value else Address r.raw_value)
     else number r.raw_value
 
 pub own_is : (s : Setting) (r : Resolution) → own_item s r ≡ Word (word_by (has_flag r.flags ifunc) (is_position_independent s.kind && has_link_time_address r.flags) s.relr r.raw_value)
 own_is s r = by_tests (has_flag r.flags ifunc) (is_position_independent s.kind && has_link_time_address r.flags) s.relr r.raw_value
   where
-    by_tests : (chosen moving relr : Bool) (raw : ℕ) → (if chosen then plt Irelative 0 raw else if moving then Word (if relr then InBlock raw else Address raw) else number raw) ≡ Word (word_by chosen moving relr raw)
+    by_tests : (chosen moving relr : Bool) (raw : ℕ) → (if chosen then plt Irelative 0 raw else if moving then Word (if relr then InRelrGot raw else Address raw) else number raw) ≡ Word (word_by chosen moving relr raw)
     by_tests true moving relr raw = refl
     by_tests false true true raw = refl
     by_tests false true false raw = refl
     by_tests false false relr raw = refl
 
-address_is : (still : Bool) (base raw x : ℕ) → x ≡ (raw + base) % 2 ^ 64 → still ≡ false → x ≡ moved still base raw
+address_is : (still : Bool) (base raw x : ℕ) → x ≡ (raw + base) % 2 ^ 64 → still ≡ false → x ≡ with_base still base raw
 address_is false base raw x h e = h ∙ omega arith
 address_is true base raw x h e = cc
 
-number_is : (still : Bool) (base raw x : ℕ) → x ≡ raw → (base ≡ 0) ⊎ (still ≡ true) → raw < 2 ^ 64 → x ≡ moved still base raw
+number_is : (still : Bool) (base raw x : ℕ) → x ≡ raw → (base ≡ 0) ⊎ (still ≡ true) → raw < 2 ^ 64 → x ≡ with_base still base raw
 number_is true base raw x h e low = h
 number_is false base raw x h (inl z) low = omega (arith, h, z, low)
 number_is false base raw x h (inr t) low = cc
@@ -151,7 +151,7 @@ tests_still pi still f e d h = by_tests pi (has_flag f absolute) (has_flag f dyn
 
 -- the items behind the first
 abbrev pub items_behind : Layout → Resolution → List SlotItem
-items_behind l r = stub_items (far_of l r) r.plt_address ++ (ifunc_address_items (setting_of l) r ++ canonical_address_items (setting_of l) r)
+items_behind l r = stub_items (distance_if_too_far l r) r.plt_address ++ (ifunc_address_items (setting_of l) r ++ canonical_address_items (setting_of l) r)
 
 -- the word of an entry that names the symbol
 pub named_held : (l : Layout) (w : World) (m : Memory) (i at : ℕ) (r : Resolution) (rest : List SlotItem) (kind : DynamicRelocationKind) (word : SlotEntry → SlotWord) → IsPlaced l w m → IsResolvedBy l i r → loaded_kind m.machine kind ≡ address_kind m.machine

@@ -6,14 +6,14 @@ use Rattle.wild_types.specs.declared.kind.Machine.{Machine}
 use Rattle.wild_types.specs.declared.input.InputRelocation.{InputRelocation}
 use Rattle.wild_types.specs.declared.layout.Layout.{Layout}
 use Rattle.wild_layout.specs.declared.decision.Decision.{Decision}
-use Rattle.wild_layout.specs.declared.decision.Decision.TheVariants.{Nothing, Field, Moved, Left, Rewritten, Partner}
+use Rattle.wild_layout.specs.declared.decision.Decision.TheVariants.{Nothing, Field, RelativeAddress, DynamicField, Rewritten, Partner}
 use Rattle.wild_geometry.specs.Loaded.{HasDecision}
 use Rattle.wild_loader.specs.declared.world.World.{World}
 use Rattle.wild_loader.specs.declared.memory.Memory.{Memory}
 use Rattle.wild_references.specs.Laws.{KeepsInstruction, IsKeptReference, FieldsHold, IsLoadedItem}
 use Rattle.wild_types.specs.Item.{Item}
 use Rattle.wild_meaning.specs.Item.{IsReference}
-use Rattle.wild_meaning.specs.Reference.{IsAsked, IsLinkedAlone, IsLeftOut, IsTakenAlong, HoldsRewritten, LinkedHolds, ReferenceHolds}
+use Rattle.wild_meaning.specs.Reference.{MustHold, UsesOwnSymbolOnly, IsOmitted, HoldsWithSequence, HoldsRewritten, LinkedHolds, ReferenceHolds}
 use Rattle.wild_references.specs.EffectLaws.{RewrittenHold, PartnersHold, RewrittenAreFollowed, InstructionsAreKept, OthersAreKept, KeptInstructionsDo, ItemsHold}
 
 record AreKnown : Type 0 where
@@ -35,7 +35,7 @@ at_index machine l w m s r g h =
     let d = g.decided.each h.0 h.1 in
     record { index = h.0; decision = d.0; has = record { listed = slice_get-get_or s.relocations h.0 r h.1 ∙ ap (λ (x : InputRelocation). Some x) h.2; decided = d.1 } }
 
-plain : (k : AreKnown) (machine : Machine) (l : Layout) (w : World) (m : Memory) (s : Item) → IsLoadedItem machine l w m s → FieldsHold l w m s → (r : InputRelocation) → IsReference s r → (IsLeftOut l s r → ⊥) → IsAsked l w s r → (IsLinkedAlone l s r → ⊥) → (i : ℕ) (d : Decision) → HasDecision l s i r d → KeepsInstruction d → ReferenceHolds l w m s r
+plain : (k : AreKnown) (machine : Machine) (l : Layout) (w : World) (m : Memory) (s : Item) → IsLoadedItem machine l w m s → FieldsHold l w m s → (r : InputRelocation) → IsReference s r → (IsOmitted l s r → ⊥) → MustHold l w s r → (UsesOwnSymbolOnly l s r → ⊥) → (i : ℕ) (d : Decision) → HasDecision l s i r d → KeepsInstruction d → ReferenceHolds l w m s r
 plain k machine l w m s g f r is present asked alone i d has keeps =
     let reference : IsKeptReference l s i r = record { decision = d; has = has; keeps = keeps; refers = is.refers } in
     let field = f.references i r reference present asked alone in
@@ -50,18 +50,18 @@ plain k machine l w m s g f r is present asked alone i d has keeps =
     })
 
 -- the call of a sequence is one of its two references
-partner_holds : (l : Layout) (w : World) (m : Memory) (s : Item) (r : InputRelocation) → IsTakenAlong l w m s r → HoldsRewritten l w m s r
+partner_holds : (l : Layout) (w : World) (m : Memory) (s : Item) (r : InputRelocation) → HoldsWithSequence l w m s r → HoldsRewritten l w m s r
 partner_holds l w m s r t = record { start = t.start; instruction = t.instruction; first = t.first; template = inr (record { rest = t.rest; sequence = t.sequence; one = (let lt = t.one.1 in (suc t.one.0, omega (arith, lt), t.one.2)) }); does = t.does; words = t.words }
 
-by_decision : (k : AreKnown) (machine : Machine) (l : Layout) (w : World) (m : Memory) (s : Item) → IsLoadedItem machine l w m s → FieldsHold l w m s → (r : InputRelocation) → IsReference s r → (IsLeftOut l s r → ⊥) → IsAsked l w s r → (IsLinkedAlone l s r → ⊥) → (i : ℕ) (d : Decision) → HasDecision l s i r d → ReferenceHolds l w m s r
+by_decision : (k : AreKnown) (machine : Machine) (l : Layout) (w : World) (m : Memory) (s : Item) → IsLoadedItem machine l w m s → FieldsHold l w m s → (r : InputRelocation) → IsReference s r → (IsOmitted l s r → ⊥) → MustHold l w s r → (UsesOwnSymbolOnly l s r → ⊥) → (i : ℕ) (d : Decision) → HasDecision l s i r d → ReferenceHolds l w m s r
 by_decision k machine l w m s g f r is present asked alone i Nothing has = plain k machine l w m s g f r is present asked alone i Nothing has tt
 by_decision k machine l w m s g f r is present asked alone i (Field z v) has = plain k machine l w m s g f r is present asked alone i (Field z v) has tt
-by_decision k machine l w m s g f r is present asked alone i (Moved v packed) has = plain k machine l w m s g f r is present asked alone i (Moved v packed) has tt
-by_decision k machine l w m s g f r is present asked alone i (Left z number symbol addend) has = plain k machine l w m s g f r is present asked alone i (Left z number symbol addend) has tt
+by_decision k machine l w m s g f r is present asked alone i (RelativeAddress v packed) has = plain k machine l w m s g f r is present asked alone i (RelativeAddress v packed) has tt
+by_decision k machine l w m s g f r is present asked alone i (DynamicField z number symbol addend) has = plain k machine l w m s g f r is present asked alone i (DynamicField z number symbol addend) has tt
 by_decision k machine l w m s g f r is present asked alone i (Rewritten row v) has = inr (k.rewritten machine l w m s g i r row v has present asked)
 by_decision k machine l w m s g f r is present asked alone i Partner has = inr (partner_holds l w m s r (k.partners machine l w m s g i r has present))
 
-linked_plain : (k : AreKnown) (machine : Machine) (l : Layout) (w : World) (m : Memory) (s : Item) → IsLoadedItem machine l w m s → FieldsHold l w m s → (r : InputRelocation) → IsReference s r → (IsLeftOut l s r → ⊥) → IsLinkedAlone l s r → w.base ≡ 0 → (i : ℕ) (d : Decision) → HasDecision l s i r d → KeepsInstruction d → LinkedHolds l w m s r
+linked_plain : (k : AreKnown) (machine : Machine) (l : Layout) (w : World) (m : Memory) (s : Item) → IsLoadedItem machine l w m s → FieldsHold l w m s → (r : InputRelocation) → IsReference s r → (IsOmitted l s r → ⊥) → UsesOwnSymbolOnly l s r → w.base ≡ 0 → (i : ℕ) (d : Decision) → HasDecision l s i r d → KeepsInstruction d → LinkedHolds l w m s r
 linked_plain k machine l w m s g f r is present alone zero i d has keeps =
     let field = f.linked i r (record { decision = d; has = has; keeps = keeps; refers = is.refers }) present alone zero in
     inl (record {
@@ -73,11 +73,11 @@ linked_plain k machine l w m s g f r is present alone zero i d has keeps =
       kept = k.kept machine l w m s g i r d has keeps;
     })
 
-linked_by : (k : AreKnown) (machine : Machine) (l : Layout) (w : World) (m : Memory) (s : Item) → IsLoadedItem machine l w m s → FieldsHold l w m s → (r : InputRelocation) → IsReference s r → (IsLeftOut l s r → ⊥) → IsLinkedAlone l s r → w.base ≡ 0 → (i : ℕ) (d : Decision) → HasDecision l s i r d → LinkedHolds l w m s r
+linked_by : (k : AreKnown) (machine : Machine) (l : Layout) (w : World) (m : Memory) (s : Item) → IsLoadedItem machine l w m s → FieldsHold l w m s → (r : InputRelocation) → IsReference s r → (IsOmitted l s r → ⊥) → UsesOwnSymbolOnly l s r → w.base ≡ 0 → (i : ℕ) (d : Decision) → HasDecision l s i r d → LinkedHolds l w m s r
 linked_by k machine l w m s g f r is present alone zero i Nothing has = linked_plain k machine l w m s g f r is present alone zero i Nothing has tt
 linked_by k machine l w m s g f r is present alone zero i (Field z v) has = linked_plain k machine l w m s g f r is present alone zero i (Field z v) has tt
-linked_by k machine l w m s g f r is present alone zero i (Moved v packed) has = linked_plain k machine l w m s g f r is present alone zero i (Moved v packed) has tt
-linked_by k machine l w m s g f r is present alone zero i (Left z number symbol addend) has = linked_plain k machine l w m s g f r is present alone zero i (Left z number symbol addend) has tt
+linked_by k machine l w m s g f r is present alone zero i (RelativeAddress v packed) has = linked_plain k machine l w m s g f r is present alone zero i (RelativeAddress v packed) has tt
+linked_by k machine l w m s g f r is present alone zero i (DynamicField z number symbol addend) has = linked_plain k machine l w m s g f r is present alone zero i (DynamicField z number symbol addend) has tt
 linked_by k machine l w m s g f r is present alone zero i (Rewritten row v) has = absurd (k.followed l s i r row v has alone)
 linked_by k machine l w m s g f r is present alone zero i Partner has = inr (inr (k.partners machine l w m s g i r has present))
 

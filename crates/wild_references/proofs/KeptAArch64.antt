@@ -22,15 +22,15 @@ use Rattle.wild_relax.specs.declared.row.Distance.{Distance}
 use Rattle.wild_relax.specs.declared.row.Distance.TheVariants as distances
 use Rattle.wild_relax.specs.declared.row.Row.{Row}
 use Rattle.wild_relax.specs.declared.table_aarch64.TheConstants.{CALL_FOURTH, CALL_FOURTH_SLOT}
-use Rattle.wild_relax.specs.Linked.{pattern_size}
+use Rattle.wild_relax.specs.LinkedPattern.{pattern_size}
 use Rattle.wild_relax.specs.Question.{Question, relocation_of}
 use Rattle.wild_relax.specs.RewriteX86_64.{distance_type}
 use Rattle.wild_relax.specs.Rows.{applies, unknown_sequence}
-use Rattle.wild_relax.specs.RowsAArch64.{rows_aarch64, applies_aarch64, has_its_words, standing_aarch64, chosen_aarch64}
+use Rattle.wild_relax.specs.RowsAArch64.{rows_aarch64, applies_aarch64, has_its_words, first_row_aarch64, chosen_row_aarch64}
 use Rattle.wild_relax.specs.SequenceAArch64.{types_of}
-use Rattle.wild_relax.specs.TogetherAArch64.{RowsStandTogether}
+use Rattle.wild_relax.specs.SequenceRowsAArch64.{RowsApplyTogether}
 use Rattle.wild_layout.specs.declared.decision.Decision.{Decision}
-use Rattle.wild_layout.specs.declared.decision.Decision.TheVariants.{Nothing, Field, Moved, Left, Rewritten, Partner}
+use Rattle.wild_layout.specs.declared.decision.Decision.TheVariants.{Nothing, Field, RelativeAddress, DynamicField, Rewritten, Partner}
 use Rattle.wild_layout.specs.Choice.{question_around, choice_around_by, choice_around, choice_on}
 use Rattle.wild_layout.specs.Sites.{template_start}
 use Rattle.wild_layout.proofs.ChoiceLemmas.{relocation_around, kept_listed, of_two}
@@ -42,7 +42,7 @@ use Rattle.wild_meaning.specs.Partners.{HasPartners}
 use Rattle.wild_meaning.specs.Template.{IsSequence, IsOfSequence}
 use Rattle.wild_meaning.proofs.PairLemmas.{only_one}
 use Rattle.wild_references.specs.Laws.{KeepsInstruction}
-use Rattle.wild_references.specs.EffectLaws.{WindowsAreAlone, IsKeptAt}
+use Rattle.wild_references.specs.EffectLaws.{WindowsHaveNoOtherField, IsKeptAt}
 use Rattle.wild_references.proofs.SequenceParts.{in_sequence}
 use Rattle.wild_references.proofs.WindowRows.{applied, applied_by}
 use Rattle.wild_references.proofs.WordWindows.{word_here, is_of_call, call_or_wide, no_partner_there}
@@ -84,9 +84,9 @@ applies_there l s a b r symbol row which same h = by which
         subst (λ (x : Row). applies_aarch64 (question_around l s b r symbol) x ≡ true) (sym e) (and_from _ _ here refl)
 
 -- so that one is chosen, or it is refused
-none_chosen : (q : Question) (row : Row) → chosen_aarch64 q ≡ Ok None → Contains rows_aarch64 row → applies_aarch64 q row ≡ true → ⊥
-unfolding chosen_aarch64 standing_aarch64
-none_chosen q row none listed here = none_standing (applies_aarch64 q) rows_aarch64 (not_checked (has_its_words q) (unknown_sequence q) (standing_aarch64 q) none) row listed here
+none_chosen : (q : Question) (row : Row) → chosen_row_aarch64 q ≡ Ok None → Contains rows_aarch64 row → applies_aarch64 q row ≡ true → ⊥
+unfolding chosen_row_aarch64 first_row_aarch64
+none_chosen q row none listed here = none_standing (applies_aarch64 q) rows_aarch64 (not_checked (has_its_words q) (unknown_sequence q) (first_row_aarch64 q) none) row listed here
 
 -- ---- two relocations that are the same
 
@@ -106,8 +106,8 @@ no_choice l s i r d on call h k = by d h k
 
     by : (e : Decision) → HasDecision l s i r e → KeepsInstruction e → choice_around l s i r ≡ Ok None
     by Nothing h k = own Nothing (decide_nothing l s i r h.listed h.decided)
-    by (Moved v packed) h k = own (Moved v packed) (decide_moved l s i r v packed h.listed h.decided)
-    by (Left z n symbol addend) h k = own (Left z n symbol addend) (decide_left l s i r z n symbol addend h.listed h.decided)
+    by (RelativeAddress v packed) h k = own (RelativeAddress v packed) (decide_moved l s i r v packed h.listed h.decided)
+    by (DynamicField z n symbol addend) h k = own (DynamicField z n symbol addend) (decide_left l s i r z n symbol addend h.listed h.decided)
     by (Field z v) h k =
         elim (decide_field l s i r z v h.listed h.decided) [
           | inl o ↦ own (Field z v) o
@@ -117,7 +117,7 @@ no_choice l s i r d on call h k = by d h k
     by (Rewritten row v) h k = absurd k
     by Partner h k = absurd k
 
-choice_named : (l : Layout) (s : Item) (i symbol : ℕ) (r : InputRelocation) → r.symbol ≡ Some symbol → names_merged l (Some symbol) ≡ false → choice_around l s i r ≡ Ok None → chosen_aarch64 (question_around l s i r symbol) ≡ Ok None
+choice_named : (l : Layout) (s : Item) (i symbol : ℕ) (r : InputRelocation) → r.symbol ≡ Some symbol → names_merged l (Some symbol) ≡ false → choice_around l s i r ≡ Ok None → chosen_row_aarch64 (question_around l s i r symbol) ≡ Ok None
 unfolding choice_around_by
 choice_named l s i symbol r named plain h = (let here : choice_around_by l s i r (Some symbol) ≡ Ok None = subst (λ (o : Option ℕ). choice_around_by l s i r o ≡ Ok None) named h in rw plain at here)
 
@@ -130,7 +130,7 @@ same_call l s i j r d row v on call h k there =
     none_chosen (question_around l s i r c.symbol) row (choice_named l s i c.symbol r c.named (sym (ap (λ (o : Option ℕ). names_merged l o) c.named) ∙ c.plain) (no_choice l s i r d on call h k)) c.listed (applies_there l s j i r c.symbol row which same c.here)
 
 -- one of two that are the same is not rewritten where the other keeps its instruction
-same_kept : WindowsAreAlone → (l : Layout) (s : Item) (i j : ℕ) (r : InputRelocation) (d : Decision) (row : Row) (v : ℕ) → l.machine ≡ machine.AArch64 → IsDecided l s → HasDecision l s i r d → KeepsInstruction d → HasDecision l s j r (Rewritten row v) → ⊥
+same_kept : WindowsHaveNoOtherField → (l : Layout) (s : Item) (i j : ℕ) (r : InputRelocation) (d : Decision) (row : Row) (v : ℕ) → l.machine ≡ machine.AArch64 → IsDecided l s → HasDecision l s i r d → KeepsInstruction d → HasDecision l s j r (Rewritten row v) → ⊥
 same_kept windows l s i j r d row v on decided h k there =
     elim (cases_eq j i) [
       | inl e ↦ subst KeepsInstruction (one_decision l s i r r d (Rewritten row v) h (subst (λ (n : ℕ). HasDecision l s n r (Rewritten row v)) e there)) k
@@ -201,7 +201,7 @@ run_kind o (inr (inl e)) = (OffsetSlot, e)
 run_kind o (inr (inr e)) = (Address, e)
 
 -- where one is kept, none is rewritten
-none_rewritten : RowsStandTogether → WindowsAreAlone → (l : Layout) (s : Item) (i : ℕ) (r : InputRelocation) (d : Decision) (q : Sequence) (index : ℕ) → l.machine ≡ machine.AArch64 → IsDecided l s → HasDecision l s i r d → KeepsInstruction d → IsPlaced s (types_of q) index r
+none_rewritten : RowsApplyTogether → WindowsHaveNoOtherField → (l : Layout) (s : Item) (i : ℕ) (r : InputRelocation) (d : Decision) (q : Sequence) (index : ℕ) → l.machine ≡ machine.AArch64 → IsDecided l s → HasDecision l s i r d → KeepsInstruction d → IsPlaced s (types_of q) index r
     → (p : InputRelocation) → (h : IsPlaced s (types_of q) index p) → (row : Row) (v : ℕ) → HasDecision l s (index + h.word) p (Rewritten row v) → ⊥
 none_rewritten together windows l s i r d q index on decided has keeps m p h row v there =
     let t = rewritten_word l s (index + h.word) p row v on there in
@@ -219,7 +219,7 @@ none_rewritten together windows l s i r d q index on decided has keeps m p h row
     same_kept windows l s i (index + m.word) r d w.row w.value on decided has keeps (subst (λ (x : InputRelocation). HasDecision l s (index + m.word) x (Rewritten w.row w.value)) is here)
 
 -- so each is kept
-pub run_is_kept : RowsStandTogether → WindowsAreAlone → (l : Layout) (s : Item) (i : ℕ) (r : InputRelocation) (d : Decision) → l.machine ≡ machine.AArch64 → IsDecided l s → HasDecision l s i r d → KeepsInstruction d → (start : ℕ) (o : Instruction) (first : InputRelocation) → (t : IsOfSequence l s r start o first) → (p : InputRelocation) → Contains (first ∷ t.rest) p → IsKeptAt l s p
+pub run_is_kept : RowsApplyTogether → WindowsHaveNoOtherField → (l : Layout) (s : Item) (i : ℕ) (r : InputRelocation) (d : Decision) → l.machine ≡ machine.AArch64 → IsDecided l s → HasDecision l s i r d → KeepsInstruction d → (start : ℕ) (o : Instruction) (first : InputRelocation) → (t : IsOfSequence l s r start o first) → (p : InputRelocation) → Contains (first ∷ t.rest) p → IsKeptAt l s p
 run_is_kept together windows l s i r d on decided has keeps start o first t p c =
     let kind = run_kind o (is_run_of o (subst (λ (m : Machine). Contains (instructions_of m) o) on t.sequence.stands.known) t.sequence.several) in
     let q = kind.0 in
@@ -236,8 +236,8 @@ run_is_kept together windows l s i r d on decided has keeps start o first t p c 
     by : (x : Decision) (j : ℕ) → HasDecision l s j p x → ((row : Row) (v : ℕ) → HasDecision l s j p (Rewritten row v) → ⊥) → KeepsInstruction x
     by Nothing j there none = tt
     by (Field z v) j there none = tt
-    by (Moved v packed) j there none = tt
-    by (Left z n symbol addend) j there none = tt
+    by (RelativeAddress v packed) j there none = tt
+    by (DynamicField z n symbol addend) j there none = tt
     by (Rewritten row v) j there none = none row v there
     by Partner j there none = no_partner_there l s j p Partner on there refl
 
@@ -251,7 +251,7 @@ first_apart : (a b y : ℕ) → (y ≡ a) ⊎ (y ≡ b) → a < b + 4 → b < a 
 first_apart a b y (inl e) x z = (omega (arith, e), omega (arith, e, x))
 first_apart a b y (inr e) x z = (omega (arith, e, z), omega (arith, e))
 
-pub call_is_kept : RowsStandTogether → WindowsAreAlone → (l : Layout) (s : Item) (first : InputRelocation) (start k : ℕ) → l.machine ≡ machine.AArch64 → IsDecided l s → IsKeptAt l s first → first.offset ≡ start → first.number ≡ abi.r_aarch64_tlsdesc_adr_page21 → IsOwnByte descriptor_call_words k → InNoField l s (start + k)
+pub call_is_kept : RowsApplyTogether → WindowsHaveNoOtherField → (l : Layout) (s : Item) (first : InputRelocation) (start k : ℕ) → l.machine ≡ machine.AArch64 → IsDecided l s → IsKeptAt l s first → first.offset ≡ start → first.number ≡ abi.r_aarch64_tlsdesc_adr_page21 → IsOwnByte descriptor_call_words k → InNoField l s (start + k)
     → (j : ℕ) (q : InputRelocation) (row : Row) (v : ℕ) → HasDecision l s j q (Rewritten row v) → (start + k < template_start row q) ⊎ (template_start row q + pattern_size row ≤ start + k)
 call_is_kept together windows l s first start k on decided kept begins number own out j q row v h =
     elim (cases_lt (start + k) (template_start row q)) [

@@ -17,14 +17,14 @@ use Rattle.wild_meaning.specs.Field.{formula_of}
 use Rattle.wild_meaning.specs.Formula.{IsPlaceRelative, TakesAddress, TakesOffset}
 use Rattle.wild_meaning.specs.Template.{IsSingle, IsTemplate, reads, DoesDemanded, IsOfSequence}
 use Rattle.wild_meaning.proofs.PairLemmas.{IsGetterCall, as_pair, as_double, counts_by_slot}
-use Rattle.wild_meaning.specs.Reference.{IsAsked, IsLinkedAlone, IsLeftOut, HasPlace, GoesByPlace, TakesItself, IsSlotValue, HasSlotFormula}
+use Rattle.wild_meaning.specs.Reference.{MustHold, UsesOwnSymbolOnly, IsOmitted, HasPlace, HasRelativeInstruction, UsesOwnDefinition, IsSlotValue, HasSlotFormula}
 use Rattle.wild_references.specs.EffectLaws.{SequencesAreKept, InstructionsAreKept, KeptInstructionsDo}
-use Rattle.wild_references.proofs.LeftOut.{keeps_all}
-use Rattle.wild_references.proofs.LeftAlong.{left_along}
+use Rattle.wild_references.proofs.OmittedReferences.{keeps_all}
+use Rattle.wild_references.proofs.OmittedSequences.{left_along}
 use Rattle.wild_references.proofs.Does.{HasField, PartnersThere, FormulaIs, displaced, formula_is, pair_of, known_formula}
-use Rattle.wild_references.proofs.Right.{does_demanded}
+use Rattle.wild_references.proofs.RightOperands.{does_demanded}
 use Rattle.wild_references.proofs.KeptTables.{partner_width}
-use Rattle.wild_references.proofs.Kept.{bytes_there, known_filled}
+use Rattle.wild_references.proofs.KeptBytes.{bytes_there, known_filled}
 use Rattle.wild_references.proofs.SinglesAArch64.{lone_word_does}
 use Rattle.wild_references.proofs.RunWords.{IsKeptRun}
 use Rattle.wild_references.proofs.SequencesAArch64.{run_does}
@@ -86,7 +86,7 @@ first_known l w m item first start o second x q =
     (h.0, subst (λ (k : Machine). formula_of k first.number ≡ Some h.0) (sym x) h.1)
 
 -- it calls and jumps through no slot
-no_through : (l : Layout) (item : Item) (r : InputRelocation) (f : Formula) → l.machine ≡ machine.X86_64 → formula_of l.machine r.number ≡ Some f → HasPair l r → GoesByPlace l item r → ⊥
+no_through : (l : Layout) (item : Item) (r : InputRelocation) (f : Formula) → l.machine ≡ machine.X86_64 → formula_of l.machine r.number ≡ Some f → HasPair l r → HasRelativeInstruction l item r → ⊥
 no_through l item r f x known p (g) = by g.template
   where
     by : IsTemplate l item r g.start g.instruction g.first → ⊥
@@ -102,17 +102,17 @@ no_through l item r f x known p (g) = by g.template
         no_pair_sort (inl e) h = (let both : SymbolPair ≡ TargetInSlot = sym e ∙ h in cc)
         no_pair_sort (inr e) h = (let both : OwnPair ≡ TargetInSlot = sym e ∙ h in cc)
 
-first_asked : (l : Layout) (w : World) (item : Item) (r : InputRelocation) (f : Formula) → l.machine ≡ machine.X86_64 → formula_of l.machine r.number ≡ Some f → HasPair l r → IsAsked l w item r
+first_asked : (l : Layout) (w : World) (item : Item) (r : InputRelocation) (f : Formula) → l.machine ≡ machine.X86_64 → formula_of l.machine r.number ≡ Some f → HasPair l r → MustHold l w item r
 first_asked l w item r f x known p e = by e.relative
   where
-    by : HasPlace l r ⊎ GoesByPlace l item r → w.base ≡ 0
+    by : HasPlace l r ⊎ HasRelativeInstruction l item r → w.base ≡ 0
     by (inl h) = absurd (no_place h.formula (p.each h.formula h.known) h.relative)
     by (inr h) = absurd (no_through l item r f x known p h)
 
-first_not_alone : (l : Layout) (item : Item) (r : InputRelocation) → HasPair l r → IsLinkedAlone l item r → ⊥
+first_not_alone : (l : Layout) (item : Item) (r : InputRelocation) → HasPair l r → UsesOwnSymbolOnly l item r → ⊥
 first_not_alone l item r p a = by a.takes
   where
-    by : TakesItself l item a.symbol a.formula → ⊥
+    by : UsesOwnDefinition l item a.symbol a.formula → ⊥
     by (inl h) = no_offset a.formula (p.each a.formula a.known) h
     by (inr h) = no_address a.formula (p.each a.formula a.known) h.0
 
@@ -121,7 +121,7 @@ first_not_alone l item r p a = by a.takes
 as_field : (l : Layout) (w : World) (m : Memory) (item : Item) (r : InputRelocation) → FieldHolds l w m item r → HasField l w m item r
 as_field l w m item r f = record { formula = f.formula; known = f.known; value = f.value; gives = f.gives; field = f.field }
 
-single_does : InstructionsAreKept → (l : Layout) (w : World) (m : Memory) (s : Item) → IsLoadedItem machine.X86_64 l w m s → FieldsHold l w m s → (i : ℕ) (r : InputRelocation) → IsKeptReference l s i r → (IsLeftOut l s r → ⊥) → IsAsked l w s r → (IsLinkedAlone l s r → ⊥)
+single_does : InstructionsAreKept → (l : Layout) (w : World) (m : Memory) (s : Item) → IsLoadedItem machine.X86_64 l w m s → FieldsHold l w m s → (i : ℕ) (r : InputRelocation) → IsKeptReference l s i r → (IsOmitted l s r → ⊥) → MustHold l w s r → (UsesOwnSymbolOnly l s r → ⊥)
     → (start : ℕ) (o : Instruction) → IsSingle l s r start o → DoesDemanded (reads w m) l w m s r start o
 single_does kept l w m s g f i r k present asked alone start o t =
     does_demanded l w m s r start o (record {
@@ -132,7 +132,7 @@ single_does kept l w m s g f i r k present asked alone start o t =
       partners = subst (λ (ps : List Partner). PartnersThere w m s start ps) (sym t.single) tt;
     })
 
-double_does : SequencesAreKept → InstructionsAreKept → (l : Layout) (w : World) (m : Memory) (s : Item) → IsLoadedItem machine.X86_64 l w m s → FieldsHold l w m s → (i : ℕ) (r : InputRelocation) → IsKeptReference l s i r → (IsLeftOut l s r → ⊥)
+double_does : SequencesAreKept → InstructionsAreKept → (l : Layout) (w : World) (m : Memory) (s : Item) → IsLoadedItem machine.X86_64 l w m s → FieldsHold l w m s → (i : ℕ) (r : InputRelocation) → IsKeptReference l s i r → (IsOmitted l s r → ⊥)
     → (start : ℕ) (o : Instruction) (first : InputRelocation) → IsOfSequence l s r start o first → DoesDemanded (reads w m) l w m s first start o
 double_does sequences kept l w m s g f i r k present start o first part =
     let pair = as_pair l s first part.rest start o g.on part.sequence in
@@ -156,7 +156,7 @@ double_does sequences kept l w m s g f i r k present start o first part =
     })
 
 -- words of AArch64, alone and in runs
-run_kept : SequencesAreKept → InstructionsAreKept → (l : Layout) (w : World) (m : Memory) (s : Item) → IsLoadedItem machine.AArch64 l w m s → FieldsHold l w m s → (i : ℕ) (r : InputRelocation) → IsKeptReference l s i r → (IsLeftOut l s r → ⊥) → IsAsked l w s r → (IsLinkedAlone l s r → ⊥)
+run_kept : SequencesAreKept → InstructionsAreKept → (l : Layout) (w : World) (m : Memory) (s : Item) → IsLoadedItem machine.AArch64 l w m s → FieldsHold l w m s → (i : ℕ) (r : InputRelocation) → IsKeptReference l s i r → (IsOmitted l s r → ⊥) → MustHold l w s r → (UsesOwnSymbolOnly l s r → ⊥)
     → (start : ℕ) (o : Instruction) (first : InputRelocation) → IsOfSequence l s r start o first → IsKeptRun l w m s r start o first
 run_kept sequences kept l w m s g f i r k present asked alone start o first t = record {
   on = g.on;

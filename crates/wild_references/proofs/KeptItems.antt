@@ -29,11 +29,11 @@ use Rattle.wild_layout.specs.Geometry.{IsLaidOut, NamesSymbol}
 use Rattle.wild_layout.specs.Numbers.{AddendFits, InputNumbers, InputsFit, NumbersFit}
 use Rattle.wild_layout.specs.SectionPlaces.{FieldLies, SectionLies}
 use Rattle.wild_meaning.specs.Section.{IsSet}
-use Rattle.wild_meaning.specs.Frames.{frames_in, entry_references, moved_with, without}
-use Rattle.wild_meaning.specs.Item.{IsInput, IsKept, OfSection, OfFrames, byte_from, reversed_bytes, reversed_relocation}
+use Rattle.wild_meaning.specs.Frames.{frames_in, entry_references, relocation_of_entry, without}
+use Rattle.wild_meaning.specs.Item.{IsInput, IsKept, OfSection, OfFrames, input_offset_of, reversed_bytes, reversed_relocation}
 use Rattle.wild_meaning.proofs.BitLemmas.{alloc_bit}
-use Rattle.wild_meaning.proofs.StoodLemmas.{frame_input}
-use Rattle.wild_geometry.proofs.StoodSections.{each_at}
+use Rattle.wild_meaning.proofs.PlacedLemmas.{frame_input}
+use Rattle.wild_geometry.proofs.PlacedInputs.{each_at}
 use Rattle.wild_geometry.proofs.KeptItems.{kept_laid}
 
 -- ---- where it lies
@@ -98,7 +98,7 @@ addends_fit l s numbers (OfFrames x k e) =
     subst (λ (i : Item). All AddendFits i.relocations) (sym e) (All-flat_map AddendFits (entry_references fs) (kept_in fs) (λ j d lt. entry_fits fs (get_or (kept_in fs) j d) all))
   where
     entry_fits : (fs : Frames) (q : KeptEntry) → All AddendFits fs.relocations → All AddendFits (entry_references fs q)
-    entry_fits fs q all = All-map AddendFits (moved_with q) _ (All-filter (λ (r : InputRelocation). nat_le q.from r.offset && nat_lt r.offset (q.from + q.size)) AddendFits fs.relocations all)
+    entry_fits fs q all = All-map AddendFits (relocation_of_entry q) _ (All-filter (λ (r : InputRelocation). nat_le q.from r.offset && nat_lt r.offset (q.from + q.size)) AddendFits fs.relocations all)
 
 abbrev IsByte : ℕ → Type 0
 IsByte b = b < 2 ^ 8
@@ -132,8 +132,8 @@ index_fits bs j h = by bs j h
 pub bytes_fit : (l : Layout) (s : Item) → NumbersFit l → IsKept l s → All (λ (b : ℕ). b < 2 ^ 8) s.bytes
 bytes_fit l s numbers (OfSection x k e) =
     let fit = (numbers_at l x numbers.inputs k.input).bytes in
-    let turned : All IsByte (reversed_bytes x.bytes) = All-map IsByte (λ (j : ℕ). slice_index x.bytes (byte_from (length x.bytes) j)) (range_with_len 0 (length x.bytes)) (λ j d lt. index_fits x.bytes (byte_from (length x.bytes) (get_or (range_with_len 0 (length x.bytes)) j d)) fit) in
-    subst (λ (i : Item). All IsByte i.bytes) (sym e) (of_if (All IsByte) x.reversed (reversed_bytes x.bytes) x.bytes (λ t. turned) (λ f. fit))
+    let reversed_section : All IsByte (reversed_bytes x.bytes) = All-map IsByte (λ (j : ℕ). slice_index x.bytes (input_offset_of (length x.bytes) j)) (range_with_len 0 (length x.bytes)) (λ j d lt. index_fits x.bytes (input_offset_of (length x.bytes) (get_or (range_with_len 0 (length x.bytes)) j d)) fit) in
+    subst (λ (i : Item). All IsByte i.bytes) (sym e) (of_if (All IsByte) x.reversed (reversed_bytes x.bytes) x.bytes (λ t. reversed_section) (λ f. fit))
 bytes_fit l s numbers (OfFrames x k e) =
     let fs = frames_in l x in
     let fit = (numbers_at l x numbers.inputs (frame_input l x k)).bytes in

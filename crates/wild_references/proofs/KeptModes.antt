@@ -23,7 +23,7 @@ use Rattle.wild_references.proofs.TableRows.{general_there, general_slot_there, 
 use Rattle.wild_references.proofs.RewrittenPlaces.{takes_code, mandatory_static}
 use Rattle.wild_relax.specs.Question.{Question}
 use Rattle.wild_relax.specs.RowSymbols.{is_mandatory}
-use Rattle.wild_relax.specs.Linked.{IsChanging}
+use Rattle.wild_relax.specs.LinkedPattern.{IsChanging}
 use Rattle.wild_layout.specs.declared.decision.Decision.{Decision}
 use Rattle.wild_layout.specs.declared.decision.Decision.TheVariants.{Rewritten}
 use Rattle.wild_layout.specs.Choice.{question_of, is_thread_type}

@@ -3,7 +3,7 @@
 use Rattle.std.proofs.Common.{◌≡◌, ℕ, zero, suc, ◌+◌, ◌<◌, ◌≤◌, ◌⊎◌, inl, inr, Bool, true, false, List, [], ◌∷◌, length, get_or, refl, sym, ap, ◌∙◌, arith, subst}
 use Rattle.std.specs.Prelude.{Contains, Option, Some, None, Ok, Err, ◌==◌, if◌then◌else◌, slice_get}
 use Rattle.std.proofs.lemmas.Bool.{cases_lt}
-use Rattle.wild_words.specs.Overlay.{Piece, Apart}
+use Rattle.wild_words.specs.Overlay.{Piece, Disjoint}
 use Rattle.wild_records.specs.Abi.Relocation.{r_x86_64_pc32}
 use Rattle.wild_types.specs.declared.kind.Machine.TheVariants as machine
 use Rattle.wild_types.specs.declared.input.InputRelocation.{InputRelocation}
@@ -11,15 +11,15 @@ use Rattle.wild_types.specs.Item.{Item}
 use Rattle.wild_types.specs.declared.layout.Layout.{Layout}
 use Rattle.wild_relax.specs.declared.reference.UnknownSequence.{UnknownSequence}
 use Rattle.wild_relax.specs.declared.row.Row.{Row}
-use Rattle.wild_relax.specs.First.{first_standing, checked}
+use Rattle.wild_relax.specs.FirstRow.{first_standing, row_or_fault}
 use Rattle.wild_relax.specs.Question.{Question}
 use Rattle.wild_relax.specs.Rewrite.{is_skip}
 use Rattle.wild_relax.specs.RewriteX86_64.{rewrite_of}
 use Rattle.wild_relax.specs.RowSequences.{has_its_sequence}
-use Rattle.wild_relax.specs.Rows.{rows_x86_64, applies, unknown_sequence, standing_x86_64, chosen_x86_64}
-use Rattle.wild_relax.specs.Linked.{keeps_bytes}
+use Rattle.wild_relax.specs.Rows.{rows_x86_64, applies, unknown_sequence, first_row_x86_64, chosen_row_x86_64}
+use Rattle.wild_relax.specs.LinkedPattern.{keeps_bytes}
 use Rattle.wild_layout.specs.declared.decision.Decision.{Decision}
-use Rattle.wild_layout.specs.declared.decision.Decision.TheVariants.{Nothing, Field, Moved, Left, Rewritten, Partner}
+use Rattle.wild_layout.specs.declared.decision.Decision.TheVariants.{Nothing, Field, RelativeAddress, DynamicField, Rewritten, Partner}
 use Rattle.wild_layout.specs.Choice.{question_of, choice_by, choice_of, choice_at, choice, takes_next, is_thread_type}
 use Rattle.wild_layout.proofs.ChoiceLemmas.{IsChosen, choice_is, chosen_listed, partner_is_taken}
 use Rattle.wild_layout.proofs.DecisionLemmas.{IsOwn, own_choice, decide_nothing, decide_moved, decide_left, decide_field}
@@ -38,7 +38,7 @@ one_decision l s i r q d e h k = let same : Ok d ≡ Ok e = sym h.decided ∙ k.
 
 -- ---- one place
 
-same_site : (p q : Piece) (from width : ℕ) → 0 < width → p.at ≤ from → from + width ≤ p.at + length p.bytes → q.at ≤ from → from + width ≤ q.at + length q.bytes → Apart p q → ⊥
+same_site : (p q : Piece) (from width : ℕ) → 0 < width → p.at ≤ from → from + width ≤ p.at + length p.bytes → q.at ≤ from → from + width ≤ q.at + length q.bytes → Disjoint p q → ⊥
 same_site p q from width some a b c d (inl x) = absurd (omega (arith, some, b, c, x))
 same_site p q from width some a b c d (inr x) = absurd (omega (arith, some, a, d, x))
 
@@ -66,8 +66,8 @@ kept_cases l s i r (Field z v) x86 h k =
       | inr (inl x) ↦ inr (record { row = x.row; chosen = x.chosen; keeps = elim x.keeps [ inl e ↦ rw e refl | inr e ↦ rw e refl ] })
       | inr (inr x) ↦ (let both : machine.AArch64 ≡ machine.X86_64 = sym x.chosen.machine ∙ x86 in cc)
     ]
-kept_cases l s i r (Moved v packed) x86 h k = inl (decide_moved l s i r v packed h.listed h.decided)
-kept_cases l s i r (Left z n symbol addend) x86 h k = inl (decide_left l s i r z n symbol addend h.listed h.decided)
+kept_cases l s i r (RelativeAddress v packed) x86 h k = inl (decide_moved l s i r v packed h.listed h.decided)
+kept_cases l s i r (DynamicField z n symbol addend) x86 h k = inl (decide_left l s i r z n symbol addend h.listed h.decided)
 kept_cases l s i r (Rewritten row v) x86 h k = absurd k
 kept_cases l s i r Partner x86 h k = absurd k
 
@@ -96,7 +96,7 @@ none_standing stands (x ∷ rows) e row c t = by (λ f d. none_standing stands r
     by there false f e zero lt at = let g : stands row ≡ false = subst (λ (y : Row). stands y ≡ false) at f in let h : true ≡ false = sym t ∙ g in cc
     by there false f e (suc k) lt at = there e (k, omega arith, at)
 
-pub not_checked : (has : Row → Bool) (refuse : Row → UnknownSequence) (o : Option Row) → checked has refuse o ≡ Ok None → o ≡ None
+pub not_checked : (has : Row → Bool) (refuse : Row → UnknownSequence) (o : Option Row) → row_or_fault has refuse o ≡ Ok None → o ≡ None
 not_checked has refuse None e = refl
 not_checked has refuse (Some row) e = by (has row) e
   where
@@ -104,9 +104,9 @@ not_checked has refuse (Some row) e = by (has row) e
     by true e = cc
     by false e = cc
 
-pub none_applies : (q : Question) (row : Row) → chosen_x86_64 q ≡ Ok None → Contains rows_x86_64 row → applies q row ≡ true → ⊥
-unfolding chosen_x86_64 standing_x86_64
-none_applies q row e c t = none_standing (applies q) rows_x86_64 (not_checked (has_its_sequence q) (unknown_sequence q) (standing_x86_64 q) e) row c t
+pub none_applies : (q : Question) (row : Row) → chosen_row_x86_64 q ≡ Ok None → Contains rows_x86_64 row → applies q row ≡ true → ⊥
+unfolding chosen_row_x86_64 first_row_x86_64
+none_applies q row e c t = none_standing (applies q) rows_x86_64 (not_checked (has_its_sequence q) (unknown_sequence q) (first_row_x86_64 q) e) row c t
 
 not_pc32 : (n : ℕ) (b : Bool) → (n == r_x86_64_pc32) ≡ b → keeps_all n ≡ false → b ≡ false
 not_pc32 n false f e = refl

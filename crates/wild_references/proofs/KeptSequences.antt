@@ -13,7 +13,7 @@ use Rattle.wild_relax.specs.declared.pattern.GeneralForm.{GeneralForm}
 use Rattle.wild_relax.specs.declared.row.Row.{Row}
 use Rattle.wild_relax.specs.RowSequences.{call_form, is_call_number}
 use Rattle.wild_layout.specs.declared.decision.Decision.{Decision}
-use Rattle.wild_layout.specs.declared.decision.Decision.TheVariants.{Nothing, Field, Moved, Left, Rewritten, Partner}
+use Rattle.wild_layout.specs.declared.decision.Decision.TheVariants.{Nothing, Field, RelativeAddress, DynamicField, Rewritten, Partner}
 use Rattle.wild_layout.specs.Choice.{choice_of, choice, takes_next, is_partner}
 use Rattle.wild_layout.specs.Decide.{decide}
 use Rattle.wild_layout.proofs.ChoiceLemmas.{choice_row, choice_is, chosen_listed, partner_number, IsSequence as Taking}
@@ -72,8 +72,8 @@ next_is_partner l s i takes =
 keeps_or : (d : Decision) → KeepsInstruction d ⊎ ((d ≡ Partner) ⊎ ((row : Row) × (v : ℕ) × (d ≡ Rewritten row v)))
 keeps_or Nothing = inl tt
 keeps_or (Field z v) = inl tt
-keeps_or (Moved v packed) = inl tt
-keeps_or (Left z n symbol addend) = inl tt
+keeps_or (RelativeAddress v packed) = inl tt
+keeps_or (DynamicField z n symbol addend) = inl tt
 keeps_or (Rewritten row v) = inr (inr (row, v, refl))
 keeps_or Partner = inr (inl refl)
 

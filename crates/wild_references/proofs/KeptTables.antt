@@ -15,17 +15,17 @@ use Rattle.wild_relax.specs.declared.pattern.LocalForm.TheVariants as local
 use Rattle.wild_relax.specs.declared.pattern.Pattern.{Pattern}
 use Rattle.wild_relax.specs.declared.pattern.Pattern.TheVariants as pattern
 use Rattle.wild_relax.specs.declared.row.Row.{Row}
-use Rattle.wild_relax.specs.Pattern.{cells_of, field_of}
+use Rattle.wild_relax.specs.Pattern.{pattern_cells, field_of}
 use Rattle.wild_relax.specs.Pattern as pattern_fits
 use Rattle.wild_relax.specs.RowSequences.{partner_distance, call_form}
 use Rattle.wild_relax.specs.Rows.{rows_x86_64}
 use Rattle.wild_relax.specs.Rewrite.{is_skip}
 use Rattle.wild_relax.specs.RewriteX86_64.{rewrite_of}
-use Rattle.wild_relax.specs.Linked.{pattern_of, pattern_size, keeps_bytes}
+use Rattle.wild_relax.specs.LinkedPattern.{pattern_of, pattern_size, keeps_bytes}
 use Rattle.wild_loader.specs.declared.instruction.Cell as own-cell
 use Rattle.wild_loader.specs.declared.instruction.Cell.TheVariants.{Is, From, Slot, Digit, Any}
 use Rattle.wild_loader.specs.Instruction.{fits, stands}
-use Rattle.wild_meaning.specs.Sequence.{Partner, Instruction, size_of, IsBesidePartners, IsOwnByte, instructions_of}
+use Rattle.wild_meaning.specs.Sequence.{Partner, Instruction, size_of, IsOutsidePartners, IsOwnByte, instructions_of}
 use Rattle.wild_meaning.proofs.PairLemmas.{the_one}
 use Rattle.wild_references.proofs.WindowRows.{width_of, call_width}
 use Rattle.wild_references.proofs.Clash.{is_free, below, below_at, stands_more}
@@ -81,7 +81,7 @@ same_front (c ∷ cs) (d ∷ ds) = same_cell c d && same_front cs ds
 
 -- the instruction is what a row asks for at a relocation of that type
 abbrev pub is_asked_for : ℕ → Pattern → Instruction → Bool
-is_asked_for n p o = list_all (λ m. m == n) o.numbers && (o.field == field_of p && same_front o.template.cells (cells_of p))
+is_asked_for n p o = list_all (λ m. m == n) o.numbers && (o.field == field_of p && same_front o.template.cells (pattern_cells p))
 
 -- the call of a sequence is of a type by which no row writes other bytes; or it goes through a slot
 abbrev pub by_slot : Instruction → Bool
@@ -134,7 +134,7 @@ not_in a b k (inr high) = grind (arith, nat_tests, high)
 pub inside : (a b k : ℕ) → (nat_le a k && nat_lt k b) ≡ true → (a ≤ k) × (k < b)
 inside a b k h = let x = and_parts (nat_le a k) (nat_lt k b) h in (leb-true a k x.0, ltb-true k b x.1)
 
-not_in_partners : (ps : List Partner) (k : ℕ) → IsBesidePartners k ps → in_partners ps k ≡ false
+not_in_partners : (ps : List Partner) (k : ℕ) → IsOutsidePartners k ps → in_partners ps k ≡ false
 not_in_partners [] k h = refl
 not_in_partners (p ∷ ps) k h = rw (not_in p.field (p.field + p.width) k h.0) (not_in_partners ps k h.1)
 
@@ -197,7 +197,7 @@ partner_kept o p n f e c =
 pub record IsAskedFor (n : ℕ) (p : Pattern) (o : Instruction) : Type 0 where
   pub number : (m : ℕ) → Contains o.numbers m → m ≡ n
   pub field : o.field ≡ field_of p
-  pub front : same_front o.template.cells (cells_of p) ≡ true
+  pub front : same_front o.template.cells (pattern_cells p) ≡ true
 
 pub asked_for : (n : ℕ) (p : Pattern) (o : Instruction) → is_asked_for n p o ≡ true → IsAskedFor n p o
 asked_for n p o h =
@@ -244,15 +244,15 @@ front_short (c ∷ cs) (d ∷ ds) h = let r = front_short cs ds (and_parts (same
 
 -- it stands before the field
 pub asked_before : (n : ℕ) (p : Pattern) (o : Instruction) (bytes : List ℕ) (start offset : ℕ) → IsAskedFor n p o → offset ≡ start + o.field → start + size_of o ≤ length bytes → stands o.template.cells (slice_range bytes start (start + size_of o)) ≡ true → pattern_fits.stands_before bytes offset p ≡ true
-unfolding pattern_fits.stands_before pattern_fits.stands_at
+unfolding pattern_fits.stands_before pattern_fits.cells_match_at
 asked_before n p o bytes start offset asked at inside h =
     let field = asked.field in
     let from : offset - field_of p ≡ start = omega (arith, at, field) in
-    let short = front_short o.template.cells (cells_of p) asked.front in
+    let short = front_short o.template.cells (pattern_cells p) asked.front in
     let low : nat_le (field_of p) offset ≡ true = le-leb (field_of p) offset (omega (arith, at, field)) in
-    let room : nat_le (start + length (cells_of p)) (length bytes) ≡ true = le-leb (start + length (cells_of p)) (length bytes) (omega (arith, short, inside)) in
-    let n : start + length (cells_of p) - start ≡ length (cells_of p) = omega arith in
-    let there : pattern_fits.stands (cells_of p) (slice_range bytes start (start + length (cells_of p))) ≡ true = rw n (front o.template.cells (cells_of p) (drop start bytes) asked.front (stands_more o.template.cells (start + size_of o - start) (drop start bytes) h)) in
+    let room : nat_le (start + length (pattern_cells p)) (length bytes) ≡ true = le-leb (start + length (pattern_cells p)) (length bytes) (omega (arith, short, inside)) in
+    let n : start + length (pattern_cells p) - start ≡ length (pattern_cells p) = omega arith in
+    let there : pattern_fits.stands (pattern_cells p) (slice_range bytes start (start + length (pattern_cells p))) ≡ true = rw n (front o.template.cells (pattern_cells p) (drop start bytes) asked.front (stands_more o.template.cells (start + size_of o - start) (drop start bytes) h)) in
     rw (low, from, room, there) refl
 
 -- ---- rows
@@ -268,7 +268,7 @@ in_row row t = (nat_le (field_of (pattern_of row)) t && nat_lt t (field_of (patt
 abbrev pub row_fixed : Row → Bool
 row_fixed row =
     if keeps_bytes row then keeps_all row.number && not (is_skip (rewrite_of row).next)
-    else below (pattern_size row) (λ t. not (is_free (get_or (cells_of (pattern_of row)) t its.Any)) || in_row row t)
+    else below (pattern_size row) (λ t. not (is_free (get_or (pattern_cells (pattern_of row)) t its.Any)) || in_row row t)
     && (not (keeps_all row.number)
     && ((if pattern_size row == 2 then is_described_call row.number else true)
     && ((if is_described_call row.number then row.thread_local else true)
@@ -279,7 +279,7 @@ unfolding x86_64_formula rows_x86_64
 each_row_fixed = refl
 
 pub record IsFixed (row : Row) : Type 0 where
-  pub free : (t : ℕ) → t < pattern_size row → is_free (get_or (cells_of (pattern_of row)) t its.Any) ≡ true → in_row row t ≡ true
+  pub free : (t : ℕ) → t < pattern_size row → is_free (get_or (pattern_cells (pattern_of row)) t its.Any) ≡ true → in_row row t ≡ true
   pub writes : keeps_all row.number ≡ false
   pub calls : (pattern_size row == 2) ≡ true → row.number ≡ r_x86_64_tlsdesc_call
   pub thread : is_described_call row.number ≡ true → row.thread_local ≡ true
@@ -292,7 +292,7 @@ is_fixed row h k =
     let c = and_parts _ _ b.1 in
     let d = and_parts _ _ c.1 in
     record {
-      free = λ t lt any. free (is_free (get_or (cells_of (pattern_of row)) t its.Any)) (in_row row t) (below_at (pattern_size row) (λ t. not (is_free (get_or (cells_of (pattern_of row)) t its.Any)) || in_row row t) t lt a.0) any;
+      free = λ t lt any. free (is_free (get_or (pattern_cells (pattern_of row)) t its.Any)) (in_row row t) (below_at (pattern_size row) (λ t. not (is_free (get_or (pattern_cells (pattern_of row)) t its.Any)) || in_row row t) t lt a.0) any;
       writes = not_is (keeps_all row.number) b.0;
       calls = λ two. eqb-true _ _ (so (pattern_size row == 2) (is_described_call row.number) c.0 two);
       thread = λ call. so (is_described_call row.number) row.thread_local d.0 call;

@@ -28,7 +28,7 @@ use Rattle.wild_slot.proofs.TreatmentLemmas.{HasValue}
 use Rattle.wild_geometry.specs.MachineFacts.{RowsAreRead}
 use Rattle.wild_meaning.specs.Field.{formula_of, form_width}
 use Rattle.wild_references.specs.Terms.{is_expressed, value_by_row}
-use Rattle.wild_references.specs.Thunks.{Carries}
+use Rattle.wild_references.specs.Thunks.{AllowsThunks}
 use Rattle.wild_references.proofs.LowForms.{is_low}
 
 -- a field has the bits of an address below its page, on AArch64
@@ -316,7 +316,7 @@ descriptor_is n row is kind =
 pub record IsBranch (m : Machine) (row : RelocationKindInfo) : Type 0 where
   pub on : m ≡ machine.AArch64
   pub kind : row.kind ≡ kinds.PltRelative
-  pub carries : Carries row
+  pub carries : AllowsThunks row
 
 pub branch_is : (m : Machine) (n : ℕ) (row : RelocationKindInfo) → row_of m n ≡ Some row → row.thunkable ≡ true → IsBranch m row
 branch_is m n row is t =

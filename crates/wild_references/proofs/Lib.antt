@@ -2,9 +2,9 @@ pub mod OutputKinds
 mod LowForms
 mod KnownRows
 mod Rows
-mod Written
+mod WrittenFields
 mod KeptItems
-mod Paged
+mod PageBases
 mod Fields
 mod Moves
 mod Values
@@ -13,16 +13,16 @@ mod SlotFlags
 mod SlotContents
 mod StubCode
 mod EntryWords
-mod Answered
+mod AnsweredValues
 mod FirstSlots
 mod SymbolStubs
 mod EachStub
 mod ThunkCode
-pub mod Stubbed
+pub mod StubAddresses
 mod Targets
 mod ThunkTargets
 mod ThreadValues
-mod Treated
+mod MovingSymbols
 mod MergedStrings
 mod Referents
 mod ValueKinds
@@ -38,17 +38,17 @@ mod ThunkKinds
 pub mod OwnSymbols
 mod Descriptors
 mod RowFields
-mod Directly
-mod LeftOut
+mod DirectBranches
+mod OmittedReferences
 mod BranchFields
 mod ConditionFields
 mod AddressKinds
 mod EntryKinds
-mod Alone
+mod OwnSymbolReferences
 mod References
 pub mod WholeSections
 mod Acts
-mod Right
+mod RightOperands
 mod Fills
 mod Does
 mod WindowRows
@@ -63,13 +63,13 @@ mod KeptModes
 mod KeptSequences
 mod SequenceParts
 mod KeptAArch64
-mod Kept
+mod KeptBytes
 mod RewrittenDecisions
 mod TableRows
 mod RewrittenForms
 mod RewrittenPairs
 mod RewrittenPlaces
-mod RewrittenAlone
+mod RewrittenInInput
 mod RewrittenSingles
 mod RewrittenSymbols
 mod RewrittenTerms
@@ -80,7 +80,7 @@ mod RewrittenThreads
 mod RewrittenDoes
 mod RewrittenCalls
 mod RewrittenFree
-mod RewrittenApart
+mod RewrittenSingleInstructions
 mod RewrittenTemplates
 mod RewrittenPrefix
 mod RewrittenShorter
@@ -94,7 +94,7 @@ mod RunsAArch64
 mod WordsAArch64
 mod RunWords
 mod SequencesAArch64
-mod LeftAlong
+mod OmittedSequences
 mod RewrittenRuns
 mod RewrittenSequences
 mod RewrittenCode

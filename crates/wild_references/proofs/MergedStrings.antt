@@ -22,14 +22,14 @@ use Rattle.wild_types.specs.Flags.{has_flag, interposable, absolute, dynamic, if
 use Rattle.wild_types.specs.Lookups.{files_of, file_of}
 use Rattle.wild_slot.specs.Treatment.{flags_at}
 use Rattle.wild_layout.specs.Geometry.{DefinitionNames}
-use Rattle.wild_layout.specs.SymbolValues.{less, sum, address_or}
+use Rattle.wild_layout.specs.SymbolValues.{minus, sum, resolved_address}
 use Rattle.wild_layout.specs.SlotValues.{address_of}
-use Rattle.wild_layout.specs.Merged.{is_section_symbol, strings_by, strings_of, strings_at, strings_in, strings_told, is_plain_own, merged_strings, names_merged, string_before, string_place, symbol_value, merged_byte, without_addend, address_by, address_named, address_for}
+use Rattle.wild_layout.specs.Merged.{is_section_symbol, strings_by, strings_of, strings_at, strings_in, strings_of_symbol, is_plain_own, merged_strings, names_merged, string_before, string_place, symbol_value, merged_byte, without_addend, address_by, address_named, address_for}
 use Rattle.wild_loader.specs.declared.world.World.{World}
 use Rattle.wild_types.specs.declared.kind.OutputKind.{OutputKind}
 use Rattle.wild_meaning.specs.Value.{IsSymbol, HasFlag, IsReplaceable, is_library, may_be_replaced}
-use Rattle.wild_meaning.specs.ReferentAArch64.{IsAbsent}
-use Rattle.wild_meaning.specs.Strings.{IsPlainOwn, HasStrings, NamesStrings, IsStringAt, byte_named, IsString}
+use Rattle.wild_meaning.specs.ReferentAArch64.{IsUndefinedWeak}
+use Rattle.wild_meaning.specs.Strings.{IsPlainOwn, HasStrings, NamesStrings, IsStringAt, byte_of_reference, IsString}
 use Rattle.wild_geometry.proofs.JudgedLemmas.{flag_is}
 use Rattle.wild_references.proofs.Symbols.{flag_at, replaceable_is}
 
@@ -110,11 +110,11 @@ has_strings l i strings named h = by_plain (is_plain_own (flags_at l i)) refl h
           is = x.is;
         }
 
-    by_symbol : (o : Option Symbol) → is_plain_own (flags_at l i) ≡ true → slice_get l.symbols i ≡ o → option_and_then (strings_told (files_of l.groups) i) o ≡ Some strings → HasStrings l i strings
+    by_symbol : (o : Option Symbol) → is_plain_own (flags_at l i) ≡ true → slice_get l.symbols i ≡ o → option_and_then (strings_of_symbol (files_of l.groups) i) o ≡ Some strings → HasStrings l i strings
     by_symbol None p e h = cc
     by_symbol (Some s) p e h = by_file s (file_of (files_of l.groups) i) p e refl h
 
-    by_plain : (b : Bool) → is_plain_own (flags_at l i) ≡ b → (if b then option_and_then (strings_told (files_of l.groups) i) (slice_get l.symbols i) else None) ≡ Some strings → HasStrings l i strings
+    by_plain : (b : Bool) → is_plain_own (flags_at l i) ≡ b → (if b then option_and_then (strings_of_symbol (files_of l.groups) i) (slice_get l.symbols i) else None) ≡ Some strings → HasStrings l i strings
     by_plain false p h = cc
     by_plain true p h = by_symbol (slice_get l.symbols i) p refl h
 
@@ -226,12 +226,12 @@ record IsPlaceOf (l : Layout) (r : InputRelocation) (strings : List MergedString
   found : IsStringAt strings x string
   is : a ≡ ((string.address + (x - string.offset)) % 2 ^ 64 + (2 ^ 64 - cast_unsigned w64 r.addend)) % 2 ^ 64
 
-place_of_string : (l : Layout) (r : InputRelocation) (i : ℕ) (strings : List MergedString) (x a : ℕ) → without_addend r (address_or missing.Address i (string_place strings x)) ≡ Ok a → IsPlaceOf l r strings x a
+place_of_string : (l : Layout) (r : InputRelocation) (i : ℕ) (strings : List MergedString) (x a : ℕ) → without_addend r (resolved_address missing.Address i (string_place strings x)) ≡ Ok a → IsPlaceOf l r strings x a
 place_of_string l r i strings x a h = by_string (string_before strings x) refl h
   where
-    by_string : (o : Option MergedString) → string_before strings x ≡ o → without_addend r (address_or missing.Address i (option_map (λ (s : MergedString). (s.address + (x - s.offset)) % 2 ^ 64) o)) ≡ Ok a → IsPlaceOf l r strings x a
+    by_string : (o : Option MergedString) → string_before strings x ≡ o → without_addend r (resolved_address missing.Address i (option_map (λ (s : MergedString). (s.address + (x - s.offset)) % 2 ^ 64) o)) ≡ Ok a → IsPlaceOf l r strings x a
     by_string None e h = cc
-    by_string (Some s) e h = record { string = s; found = string_at strings x s e; is = (let same : less ((s.address + (x - s.offset)) % 2 ^ 64) (cast_unsigned w64 r.addend) ≡ a = cc in sym same) }
+    by_string (Some s) e h = record { string = s; found = string_at strings x s e; is = (let same : minus ((s.address + (x - s.offset)) % 2 ^ 64) (cast_unsigned w64 r.addend) ≡ a = cc in sym same) }
 
 -- what the writer takes for S finds the string, and moves with the base
 pub string_found : (l : Layout) (w : World) (r : InputRelocation) (i a : ℕ) (strings : List MergedString) → All (DefinitionNames l) l.symbols → r.symbol ≡ Some i → merged_strings l i ≡ Some strings → cast_unsigned w64 r.addend < 2 ^ 64 → address_for l r ≡ Ok a → IsString l w r ((w.base + a) % 2 ^ 64)
@@ -240,10 +240,10 @@ string_found l w r i a strings named symbol is small h =
     let has = has_strings l i strings named is in
     let here : address_named l r (Some i) ≡ Ok a = subst (λ (o : Option ℕ). address_named l r o ≡ Ok a) symbol h in
     let given : address_by l r i (Some strings) ≡ Ok a = subst (λ (o : Option (List MergedString)). address_by l r i o ≡ Ok a) is here in
-    let byte : merged_byte l i r ≡ byte_named has.symbol r = ap (λ (o : Option Symbol). sum (symbol_value o) r.addend) has.listed in
+    let byte : merged_byte l i r ≡ byte_of_reference has.symbol r = ap (λ (o : Option Symbol). sum (symbol_value o) r.addend) has.listed in
     let p = subst (λ (x : ℕ). IsPlaceOf l r strings x a) byte (place_of_string l r i strings (merged_byte l i r) a given) in
     let s = p.string in
-    let d = byte_named has.symbol r - s.offset in
+    let d = byte_of_reference has.symbol r - s.offset in
     record {
       symbol = i;
       named = symbol;
@@ -273,11 +273,11 @@ one_string l w r q a b symbols addends x y =
     let strings : x.strings ≡ y.strings = (let both : Some x.strings ≡ Some y.strings = sym mine ∙ other in cc) in
     let listed : Some x.has.symbol ≡ Some y.has.symbol = sym x.has.listed ∙ ap (λ (k : ℕ). slice_get l.symbols k) same ∙ y.has.listed in
     let one : x.has.symbol ≡ y.has.symbol = cc in
-    let byte : byte_named x.has.symbol r ≡ byte_named y.has.symbol q = ap (λ (s : Symbol). byte_named s r) one ∙ ap (λ (z : ℤ). (y.has.symbol.value + cast_unsigned w64 z) % 2 ^ 64) addends in
-    let here : string_before y.strings (byte_named y.has.symbol q) ≡ Some x.string = ap (λ (ss : List MergedString). string_before ss (byte_named y.has.symbol q)) (sym strings) ∙ ap (λ (n : ℕ). string_before x.strings n) (sym byte) ∙ before_at x.strings (byte_named x.has.symbol r) x.string x.found in
-    let there = before_at y.strings (byte_named y.has.symbol q) y.string y.found in
+    let byte : byte_of_reference x.has.symbol r ≡ byte_of_reference y.has.symbol q = ap (λ (s : Symbol). byte_of_reference s r) one ∙ ap (λ (z : ℤ). (y.has.symbol.value + cast_unsigned w64 z) % 2 ^ 64) addends in
+    let here : string_before y.strings (byte_of_reference y.has.symbol q) ≡ Some x.string = ap (λ (ss : List MergedString). string_before ss (byte_of_reference y.has.symbol q)) (sym strings) ∙ ap (λ (n : ℕ). string_before x.strings n) (sym byte) ∙ before_at x.strings (byte_of_reference x.has.symbol r) x.string x.found in
+    let there = before_at y.strings (byte_of_reference y.has.symbol q) y.string y.found in
     let found : x.string ≡ y.string = (let both : Some x.string ≡ Some y.string = sym here ∙ there in cc) in
-    let place = ap (λ (n : ℕ). (w.base + x.string.address + (n - x.string.offset)) % 2 ^ 64) byte ∙ ap (λ (s : MergedString). (w.base + s.address + (byte_named y.has.symbol q - s.offset)) % 2 ^ 64) found in
+    let place = ap (λ (n : ℕ). (w.base + x.string.address + (n - x.string.offset)) % 2 ^ 64) byte ∙ ap (λ (s : MergedString). (w.base + s.address + (byte_of_reference y.has.symbol q - s.offset)) % 2 ^ 64) found in
     let added = x.is ∙ place ∙ sym y.is in
     let c : cast_unsigned w64 r.addend ≡ cast_unsigned w64 q.addend = ap (λ (z : ℤ). cast_unsigned w64 z) addends in
     let low = x.small in
@@ -297,7 +297,7 @@ own_at l r i named n =
     subst (λ (k : ℕ). IsPlainOwn l k) same n.has.plain
 
 -- one that is not there
-pub absent_none : (l : Layout) (r : InputRelocation) (i : ℕ) → r.symbol ≡ Some i → IsAbsent l i → NamesStrings l r → ⊥
+pub absent_none : (l : Layout) (r : InputRelocation) (i : ℕ) → r.symbol ≡ Some i → IsUndefinedWeak l i → NamesStrings l r → ⊥
 absent_none l r i named a n =
     let defined = (own_at l r i named n).defined in
     let both : true ≡ false = sym (flag_is l i undefined_weak true a.weak) ∙ flag_is l i undefined_weak false defined in

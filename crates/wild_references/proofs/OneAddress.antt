@@ -13,9 +13,9 @@ use Rattle.wild_types.specs.Flags.{has_flag}
 use Rattle.wild_loader.specs.declared.world.World.{World}
 use Rattle.wild_loader.specs.declared.world.Answer.{Answer}
 use Rattle.wild_loader.specs.declared.memory.Memory.{Memory}
-use Rattle.wild_meaning.specs.Value.{IsSymbol, IsDefinedBy, StandsAt, IsResolved, IsUnresolved, HasRaw, HasFlag, IsValue, HasOwnValue, may_be_replaced, IsReplaceable, HasAnswer, HasValue}
+use Rattle.wild_meaning.specs.Value.{IsSymbol, IsDefinedBy, IsLocatedAt, IsResolved, IsUnresolved, HasRaw, HasFlag, IsValue, HasOwnValue, may_be_replaced, IsReplaceable, HasAnswer, HasValue}
 use Rattle.wild_meaning.specs.Denotes.{HasStub}
-use Rattle.wild_meaning.specs.Slot.{behind_first, IsDecidedSlot, HasSlot, IsSlot}
+use Rattle.wild_meaning.specs.Slot.{offset_from_first, HasSlotAddress, HasSlot, IsSlot}
 use Rattle.wild_meaning.specs.ReferentAArch64.{IsOneAddress}
 use Rattle.wild_meaning.proofs.SymbolLemmas.{canonical_is}
 
@@ -44,7 +44,7 @@ one_resolution s t a b same h k =
 
 -- ---- the address
 
-one_place : (l : Layout) (i a b : ℕ) → StandsAt l i a → StandsAt l i b → a ≡ b
+one_place : (l : Layout) (i a b : ℕ) → IsLocatedAt l i a → IsLocatedAt l i b → a ≡ b
 one_place l i a b h k =
     let symbols : Some h.symbol ≡ Some k.symbol = sym h.listed ∙ k.listed in
     let symbol : h.symbol ≡ k.symbol = cc in
@@ -61,9 +61,9 @@ unresolved : (l : Layout) (c a : ℕ) → IsResolved l c a → IsUnresolved l c 
 unresolved l c a h none = (let both : Some h.resolution ≡ None = sym h.decided ∙ none h.symbol h.listed in cc)
 
 one_raw : (l : Layout) (i a b : ℕ) → HasRaw l i a → HasRaw l i b → a ≡ b
-one_raw l i a b h k = by h.given (subst (λ (c : ℕ). IsResolved l c b ⊎ (IsUnresolved l c × StandsAt l i b)) (one_definition l i k.definition h.definition k.defined h.defined) k.given)
+one_raw l i a b h k = by h.given (subst (λ (c : ℕ). IsResolved l c b ⊎ (IsUnresolved l c × IsLocatedAt l i b)) (one_definition l i k.definition h.definition k.defined h.defined) k.given)
   where
-    by : IsResolved l h.definition a ⊎ (IsUnresolved l h.definition × StandsAt l i a) → IsResolved l h.definition b ⊎ (IsUnresolved l h.definition × StandsAt l i b) → a ≡ b
+    by : IsResolved l h.definition a ⊎ (IsUnresolved l h.definition × IsLocatedAt l i a) → IsResolved l h.definition b ⊎ (IsUnresolved l h.definition × IsLocatedAt l i b) → a ≡ b
     by (inl x) (inl y) = x.value ∙ ap (λ (r : Resolution). r.raw_value) (one_resolution x.symbol y.symbol x.resolution y.resolution (one_symbol l i h.definition h.definition x.symbol y.symbol h.defined x.listed h.defined y.listed) x.decided y.decided) ∙ sym y.value
     by (inl x) (inr y) = absurd (unresolved l h.definition a x y.0)
     by (inr x) (inl y) = absurd (unresolved l h.definition b y x.0)
@@ -111,13 +111,13 @@ one_address l w m i a b (inr h) (inr k) = one_value l w i a b h.1 k.1
 
 -- ---- slots
 
-decided_once : (sort : Slot) (l : Layout) (i p q : ℕ) → IsDecidedSlot sort l i p → IsDecidedSlot sort l i q → p ≡ q
+decided_once : (sort : Slot) (l : Layout) (i p q : ℕ) → HasSlotAddress sort l i p → HasSlotAddress sort l i q → p ≡ q
 decided_once sort l i p q h k =
     let symbol = one_symbol l i h.definition k.definition h.symbol k.symbol h.defined h.listed k.defined k.listed in
     let decided = one_resolution h.symbol k.symbol h.resolution k.resolution symbol h.decided k.decided in
     let places : Some h.first ≡ Some k.first = sym h.given ∙ ap (λ (r : Resolution). r.got_address) decided ∙ k.given in
     let first : h.first ≡ k.first = cc in
-    h.place ∙ ap (λ (n : ℕ). n + behind_first sort h.symbol.flags) first ∙ ap (λ (s : Symbol). k.first + behind_first sort s.flags) symbol ∙ sym k.place
+    h.place ∙ ap (λ (n : ℕ). n + offset_from_first sort h.symbol.flags) first ∙ ap (λ (s : Symbol). k.first + offset_from_first sort s.flags) symbol ∙ sym k.place
 
 one_slot_place : (sort : Slot) (l : Layout) (i p q : ℕ) → HasSlot sort l i p → HasSlot sort l i q → p ≡ q
 one_slot_place AddressSlot l i p q h k = decided_once AddressSlot l i p q h k

@@ -6,10 +6,10 @@ use Rattle.wild_types.specs.declared.layout.Layout.{Layout}
 use Rattle.wild_types.specs.Flags.{has_flag, interposable, absolute, dynamic}
 use Rattle.wild_slot.specs.Treatment.{flags_at}
 use Rattle.wild_layout.specs.SymbolValues.{raw_address}
-use Rattle.wild_layout.specs.SlotValues.{is_chosen, address_of}
+use Rattle.wild_layout.specs.SlotValues.{symbol_is_ifunc, address_of}
 use Rattle.wild_loader.specs.declared.memory.Memory.{Memory}
 use Rattle.wild_loader.specs.declared.world.World.{World}
-use Rattle.wild_meaning.specs.Value.{HasValue, IsAbsolute, IsReplaceable, moved}
+use Rattle.wild_meaning.specs.Value.{HasValue, IsAbsolute, IsReplaceable, with_base}
 use Rattle.wild_references.specs.Terms.{SymbolsFit, IsPlaced}
 use Rattle.wild_references.proofs.SlotFlags.{symbol_fits, dynamic_interposable, listed_at}
 use Rattle.wild_references.proofs.Symbols.{replaceable_at, flags_are}
@@ -30,11 +30,11 @@ own_symbol l i fit listed own =
 -- its value: the address that the layout has, moved with the base where it moves
 pub record IsOwnValue (l : Layout) (w : World) (i a : ℕ) : Type 0 where
   pub still : Bool
-  pub value : HasValue l w i (moved still w.base a)
+  pub value : HasValue l w i (with_base still w.base a)
   pub flag : has_flag (flags_at l i) absolute ≡ still
   pub absolute : still ≡ true → IsAbsolute l i
 
-pub own_value : (l : Layout) (w : World) (m : Memory) (i a : ℕ) → IsPlaced l w m → i < length l.symbols → interposable (flags_at l i) ≡ false → is_chosen l i ≡ false → address_of l (Some i) ≡ Ok a → IsOwnValue l w i a
+pub own_value : (l : Layout) (w : World) (m : Memory) (i a : ℕ) → IsPlaced l w m → i < length l.symbols → interposable (flags_at l i) ≡ false → symbol_is_ifunc l i ≡ false → address_of l (Some i) ≡ Ok a → IsOwnValue l w i a
 own_value l w m i a p listed own direct given =
     let raw : raw_address l (Some i) ≡ Ok a = rw direct at given in
     let t = raw_addressed l w m i a p direct raw in

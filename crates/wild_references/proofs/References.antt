@@ -9,19 +9,19 @@ use Rattle.wild_types.specs.declared.kind.OutputKind.TheVariants as output
 use Rattle.wild_types.specs.Lookups.{place_of}
 use Rattle.wild_types.specs.declared.input.InputRelocation.{InputRelocation}
 use Rattle.wild_types.specs.declared.layout.Layout.{Layout}
-use Rattle.wild_types.specs.Hollow.{KeepsAll}
+use Rattle.wild_types.specs.HeaderOnly.{KeepsAll}
 use Rattle.wild_slot.specs.declared.treatment.Treatment.TheVariants as treatments
 use Rattle.wild_slot.specs.Treatment.{kind_treatment}
 use Rattle.wild_reloc.specs.Agreement.{sized}
-use Rattle.wild_reloc.specs.Expression.{expression_of, taken_of, expressed, writes}
+use Rattle.wild_reloc.specs.Expression.{expression_of, subtrahend_of, expressed, writes}
 use Rattle.wild_reloc.specs.declared.info.RelocationKindInfo.{RelocationKindInfo}
 use Rattle.wild_reloc.specs.declared.info.RelocationSize.{RelocationSize}
 use Rattle.wild_reloc.specs.declared.info.RelocationSize.TheVariants.{ByteSize}
 use Rattle.wild_reloc.specs.declared.info.Width.TheVariants.{Eight}
 use Rattle.wild_reloc.specs.declared.expression.SlotSort.{SlotSort}
 use Rattle.wild_reloc.specs.declared.expression.SlotSort.TheVariants as sorts
-use Rattle.wild_reloc.specs.declared.expression.Taken.{Taken}
-use Rattle.wild_reloc.specs.declared.expression.Taken.TheVariants as less
+use Rattle.wild_reloc.specs.declared.expression.Subtrahend.{Subtrahend}
+use Rattle.wild_reloc.specs.declared.expression.Subtrahend.TheVariants as less
 use Rattle.wild_reloc.specs.declared.expression.Term.{Term}
 use Rattle.wild_reloc.specs.declared.expression.Term.TheVariants as term
 use Rattle.wild_reloc.specs.Formula.{Formula, Value, formula, SymbolAddress, StubDistance, NoValue, NoField}
@@ -31,29 +31,29 @@ use Rattle.wild_layout.specs.Geometry.{NamesSymbol}
 use Rattle.wild_layout.specs.Numbers.{AddendFits}
 use Rattle.wild_layout.specs.Values.{term_of, value_in, is_symbol, is_own_place, undefined_weak_target, term_by}
 use Rattle.wild_layout.proofs.DecideLemmas.{HasField, field_has, moved_has}
-use Rattle.wild_layout.proofs.ReachedLemmas.{IsCarried, ComesTo}
+use Rattle.wild_layout.proofs.ThunkFieldLemmas.{IsCarried, ComesTo}
 use Rattle.wild_layout.proofs.DecisionLemmas.{own_choice}
 use Rattle.wild_loader.specs.declared.world.World.{World}
 use Rattle.wild_loader.specs.declared.memory.Memory.{Memory}
 use Rattle.wild_meaning.specs.Field.{FieldReads}
 use Rattle.wild_types.specs.Item.{Item}
 use Rattle.wild_meaning.specs.Formula.{KnowsOffsets, HasOffsetMode, Gives, GivesLinked, IsPlaceRelative, TakesAddress, TakesOffset}
-use Rattle.wild_meaning.specs.Reference.{IsAsked, IsStubbed, TakesItself, IsLinkedAlone, IsLeftOut}
+use Rattle.wild_meaning.specs.Reference.{MustHold, HasStubAddress, UsesOwnDefinition, UsesOwnSymbolOnly, IsOmitted}
 use Rattle.wild_references.specs.Laws.{FieldHolds, FieldIsLinked, IsKeptReference}
 use Rattle.wild_references.specs.Terms.{value_by_row, IsDirect, HasTerm, IsFollowed}
-use Rattle.wild_references.proofs.Alone.{not_left, followed, taken, takes_none, left_follows}
+use Rattle.wild_references.proofs.OwnSymbolReferences.{not_left, followed, taken, takes_none, left_follows}
 use Rattle.wild_references.proofs.Descriptors.{descriptor_kept, call_kept}
 use Rattle.wild_references.proofs.Fields.{KindLaws, LinkedLaws, IsItemLoaded, field_within, place_is, place_ends, value_reads, address_reads, left_bytes, left_reads, SeenAs}
 use Rattle.wild_references.proofs.KnownRows.{IsSeen, branch_is, descriptor_is}
-use Rattle.wild_references.proofs.LeftOut.{keeps_all, moved_taken, left_taken, value_direct}
+use Rattle.wild_references.proofs.OmittedReferences.{keeps_all, moved_taken, left_taken, value_direct}
 use Rattle.wild_references.proofs.Referents.{is_address, sized_is}
 use Rattle.wild_references.proofs.ThunkKinds.{stub_row, not_far, from_place}
 use Rattle.wild_references.proofs.ValueKinds.{plain_given}
 use Rattle.wild_references.proofs.RowFields.{row_holds}
 use Rattle.wild_references.proofs.BranchFields.{branch_reads, branch_holds}
 use Rattle.wild_references.proofs.ConditionFields.{own_goes, branch_links}
-use Rattle.wild_references.proofs.Treated.{treated_by, suits_by, symbol_named}
-use Rattle.wild_references.proofs.Written.{IsValue, IsAddress, IsLeftField, IsCall, Writes, row_here, relocation_written}
+use Rattle.wild_references.proofs.MovingSymbols.{treated_by, suits_by, symbol_named}
+use Rattle.wild_references.proofs.WrittenFields.{IsValue, IsAddress, IsLeftField, IsCall, Writes, row_here, relocation_written}
 use Rattle.wild_meaning.specs.Value.{IsReplaceable}
 use Rattle.wild_records.proofs.FieldLemmas.{signed_fits}
 use Rattle.std.specs.Int.{w64}
@@ -97,7 +97,7 @@ gives_by l w m s r info x laws v h f none = by_term (expression_of info.kind).te
     by_term term.Nothing e = absurd (let both : true ≡ false = no_term info.kind e v in cc)
 
 -- what the writer computes for it, where an excepted one is asked
-term_is : (l : Layout) (w : World) (m : Memory) (s : Item) (i : ℕ) (r : InputRelocation) (x : ℕ) → IsItemLoaded l w m s → (IsLeftOut l s r → ⊥) → IsAsked l w s r → (v : IsValue l s i r) → value_in l v.field.row v.field.term r.addend (place_of s.address r) ≡ x → HasTerm l w m s r v.field.row x
+term_is : (l : Layout) (w : World) (m : Memory) (s : Item) (i : ℕ) (r : InputRelocation) (x : ℕ) → IsItemLoaded l w m s → (IsOmitted l s r → ⊥) → MustHold l w s r → (v : IsValue l s i r) → value_in l v.field.row v.field.term r.addend (place_of s.address r) ≡ x → HasTerm l w m s r v.field.row x
 term_is l w m s i r x h present asked v is =
     let field = field_has l s r v.size v.value v.field in
     record {
@@ -108,7 +108,7 @@ term_is l w m s i r x h present asked v is =
       row = v.field.row;
       number = r.number;
       treated = treated_by l s r v.field.row (treatments.Value v.field.row) v.field.known v.field.treated (λ e. cc);
-      suited = suits_by l s r v.field.row (treatments.Value v.field.row) v.field.known v.field.treated (λ e. cc);
+      row_that_accepts = suits_by l s r v.field.row (treatments.Value v.field.row) v.field.known v.field.treated (λ e. cc);
       expressed = v.fits.expressed;
       term = v.field.term;
       given = v.field.given;
@@ -129,7 +129,7 @@ term_is l w m s i r x h present asked v is =
 within : (l : Layout) (w : World) (m : Memory) (s : Item) (i : ℕ) (r : InputRelocation) (z : RelocationSize) → IsItemLoaded l w m s → slice_get s.relocations i ≡ Some r → HasField l r z → r.offset ≤ length s.bytes
 within l w m s i r z h listed f = (let e = field_within l w m s i r z h listed f in omega (arith, e))
 
-value_followed : (l : Layout) (w : World) (m : Memory) (s : Item) (i : ℕ) (r : InputRelocation) → IsItemLoaded l w m s → (v : IsValue l s i r) → (IsLinkedAlone l s r → ⊥) → IsFollowed l r (value_by_row v.field.row)
+value_followed : (l : Layout) (w : World) (m : Memory) (s : Item) (i : ℕ) (r : InputRelocation) → IsItemLoaded l w m s → (v : IsValue l s i r) → (UsesOwnSymbolOnly l s r → ⊥) → IsFollowed l r (value_by_row v.field.row)
 value_followed l w m s i r h v alone =
     subst (λ (q : Value). IsFollowed l r q) (sym v.fits.value)
     (followed l w m s r v.fits.formula h.placed (holds_at (NamesSymbol l) s.relocations i r v.plain.has.listed h.symbols) v.fits.known (λ k named left. not_left l s r v.field.row k (treatments.Value v.field.row) v.fits h.room v.field.treated (λ e. cc) (λ e. cc) (λ e. cc) v.field.known named left) (λ k named whose. own_goes l s i r _ k v.plain.own v.plain.has.listed (within l w m s i r v.size h v.plain.has.listed (field_has l s r v.size v.value v.field)) h.placed.symbols (holds_at (NamesSymbol l) s.relocations i r v.plain.has.listed h.symbols k named) named whose) alone)
@@ -192,7 +192,7 @@ gives_carried l w m s i r x h v follow there c =
     let g = subst (λ (n : ℕ). Gives StubDistance l w m s r n) c.distance (h.kinds.thunk v.field.row b.carries l w m s r x c.thunk b.on all there (h.thunks all) (λ k. other_kind v.field.row.kind k b.kind) follow c.far c.found c.alone) in
     record { value = v.value; gives = subst (λ (q : Value). Gives q l w m s r v.value) (sym (carried_value l s i r v c.thunkable)) g; seen = inl refl }
 
-gives_value : (l : Layout) (w : World) (m : Memory) (s : Item) (i : ℕ) (r : InputRelocation) → IsItemLoaded l w m s → (IsLeftOut l s r → ⊥) → IsAsked l w s r → (v : IsValue l s i r) → (IsLinkedAlone l s r → ⊥) → IsSeenValue l w m s i r v
+gives_value : (l : Layout) (w : World) (m : Memory) (s : Item) (i : ℕ) (r : InputRelocation) → IsItemLoaded l w m s → (IsOmitted l s r → ⊥) → MustHold l w s r → (v : IsValue l s i r) → (UsesOwnSymbolOnly l s r → ⊥) → IsSeenValue l w m s i r v
 gives_value l w m s i r h present asked v alone = by_what v.field.comes
   where
     x : ℕ
@@ -205,7 +205,7 @@ gives_value l w m s i r h present asked v alone = by_what v.field.comes
     by_what (inl same) = gives_own l w m s i r h v follow (term_is l w m s i r v.value h present asked v same)
     by_what (inr c) = gives_carried l w m s i r x h v follow (term_is l w m s i r x h present asked v refl) c
 
-gives_address : (l : Layout) (w : World) (m : Memory) (s : Item) (i : ℕ) (r : InputRelocation) → IsItemLoaded l w m s → KeepsAll l → (a : IsAddress l s i r) → (IsLinkedAlone l s r → ⊥) → Gives a.fits.formula.value l w m s r ((a.value + w.base) % 2 ^ 64)
+gives_address : (l : Layout) (w : World) (m : Memory) (s : Item) (i : ℕ) (r : InputRelocation) → IsItemLoaded l w m s → KeepsAll l → (a : IsAddress l s i r) → (UsesOwnSymbolOnly l s r → ⊥) → Gives a.fits.formula.value l w m s r ((a.value + w.base) % 2 ^ 64)
 gives_address l w m s i r h all a alone =
     let listed = holds_at (NamesSymbol l) s.relocations i r a.plain.has.listed h.symbols in
     let value : SymbolAddress ≡ a.fits.formula.value = sym (a.fits.full a.moved.by.kind a.moved.by.width).0 in
@@ -214,19 +214,19 @@ gives_address l w m s i r h all a alone =
 
 -- ---- the reference
 
-value_holds : (l : Layout) (w : World) (m : Memory) (s : Item) (i : ℕ) (r : InputRelocation) → IsItemLoaded l w m s → (IsLeftOut l s r → ⊥) → IsAsked l w s r → (IsLinkedAlone l s r → ⊥) → IsValue l s i r → FieldHolds l w m s r
+value_holds : (l : Layout) (w : World) (m : Memory) (s : Item) (i : ℕ) (r : InputRelocation) → IsItemLoaded l w m s → (IsOmitted l s r → ⊥) → MustHold l w s r → (UsesOwnSymbolOnly l s r → ⊥) → IsValue l s i r → FieldHolds l w m s r
 value_holds l w m s i r h present asked alone v =
     let x = gives_value l w m s i r h present asked v alone in
     record { formula = v.fits.formula; known = v.fits.known; value = x.value; gives = x.gives; field = value_reads l w m s i r x.value h v x.seen }
 
 -- a field that a loader fills is written, or its reference is left out
-address_written : (l : Layout) (w : World) (m : Memory) (s : Item) (i : ℕ) (r : InputRelocation) → IsItemLoaded l w m s → (IsLeftOut l s r → ⊥) → IsAddress l s i r → KeepsAll l
+address_written : (l : Layout) (w : World) (m : Memory) (s : Item) (i : ℕ) (r : InputRelocation) → IsItemLoaded l w m s → (IsOmitted l s r → ⊥) → IsAddress l s i r → KeepsAll l
 address_written l w m s i r h present a = keeps_all l (λ bare. present (bare, inl (moved_taken l w m s i r h a)))
 
-left_written : (l : Layout) (w : World) (m : Memory) (s : Item) (i : ℕ) (r : InputRelocation) → IsItemLoaded l w m s → (IsLeftOut l s r → ⊥) → IsLeftField l s i r → KeepsAll l
+left_written : (l : Layout) (w : World) (m : Memory) (s : Item) (i : ℕ) (r : InputRelocation) → IsItemLoaded l w m s → (IsOmitted l s r → ⊥) → IsLeftField l s i r → KeepsAll l
 left_written l w m s i r h present f = keeps_all l (λ bare. present (bare, inl (left_taken l w m s i r h f)))
 
-address_holds : (l : Layout) (w : World) (m : Memory) (s : Item) (i : ℕ) (r : InputRelocation) → IsItemLoaded l w m s → KeepsAll l → (IsLinkedAlone l s r → ⊥) → IsAddress l s i r → FieldHolds l w m s r
+address_holds : (l : Layout) (w : World) (m : Memory) (s : Item) (i : ℕ) (r : InputRelocation) → IsItemLoaded l w m s → KeepsAll l → (UsesOwnSymbolOnly l s r → ⊥) → IsAddress l s i r → FieldHolds l w m s r
 address_holds l w m s i r h all alone a = record {
   formula = a.fits.formula;
   known = a.fits.known;
@@ -265,7 +265,7 @@ call_holds l w m s i r h c = record {
   field = no_bytes w m s r;
 }
 
-written_holds : (l : Layout) (w : World) (m : Memory) (s : Item) (i : ℕ) (r : InputRelocation) → IsItemLoaded l w m s → (IsLeftOut l s r → ⊥) → IsAsked l w s r → (IsLinkedAlone l s r → ⊥) → Writes l s i r → FieldHolds l w m s r
+written_holds : (l : Layout) (w : World) (m : Memory) (s : Item) (i : ℕ) (r : InputRelocation) → IsItemLoaded l w m s → (IsOmitted l s r → ⊥) → MustHold l w s r → (UsesOwnSymbolOnly l s r → ⊥) → Writes l s i r → FieldHolds l w m s r
 written_holds l w m s i r h present asked alone (inl v) = value_holds l w m s i r h present asked alone v
 written_holds l w m s i r h present asked alone (inr (inl a)) = address_holds l w m s i r h (address_written l w m s i r h present a) alone a
 written_holds l w m s i r h present asked alone (inr (inr (inl f))) = left_holds l w m s i r h (left_written l w m s i r h present f) f
@@ -273,7 +273,7 @@ written_holds l w m s i r h present asked alone (inr (inr (inr (inl c)))) = call
 written_holds l w m s i r h present asked alone (inr (inr (inr (inr (inl f))))) = (row_holds l w m s i r h asked f).holds
 written_holds l w m s i r h present asked alone (inr (inr (inr (inr (inr f))))) = branch_holds l w m s r h.kinds h.thunks (branch_reads l w m s i r h present asked f)
 
-pub field_holds : (l : Layout) (w : World) (m : Memory) (s : Item) (i : ℕ) (r : InputRelocation) → IsItemLoaded l w m s → IsKeptReference l s i r → (IsLeftOut l s r → ⊥) → IsAsked l w s r → (IsLinkedAlone l s r → ⊥) → FieldHolds l w m s r
+pub field_holds : (l : Layout) (w : World) (m : Memory) (s : Item) (i : ℕ) (r : InputRelocation) → IsItemLoaded l w m s → IsKeptReference l s i r → (IsOmitted l s r → ⊥) → MustHold l w s r → (UsesOwnSymbolOnly l s r → ⊥) → FieldHolds l w m s r
 field_holds l w m s i r h k present asked alone = written_holds l w m s i r h present asked alone (relocation_written l s i r k.decision h.tables.agree k.has k.keeps k.refers)
 
 -- ---- with the output's own symbol, at base 0
@@ -284,7 +284,7 @@ takes_symbol term.PointerOffset = true
 takes_symbol term.ModuleOffset = true
 takes_symbol other = false
 
-none_taken : (t : Term) (u : Taken) → takes_symbol t ≡ false → TakesOffset (expressed t u) ⊎ TakesAddress (expressed t u) → ⊥
+none_taken : (t : Term) (u : Subtrahend) → takes_symbol t ≡ false → TakesOffset (expressed t u) ⊎ TakesAddress (expressed t u) → ⊥
 none_taken term.Symbol u none h = (let both : true ≡ false = none in cc)
 none_taken term.PointerOffset u none h = (let both : true ≡ false = none in cc)
 none_taken term.ModuleOffset u none h = (let both : true ≡ false = none in cc)
@@ -303,7 +303,7 @@ none_taken term.Size u none h = elim h [ inl o ↦ o | inr a ↦ a ]
 none_taken term.Nothing u none h = elim h [ inl o ↦ o | inr a ↦ a ]
 
 -- which is no address
-no_address : (t : Term) (u : Taken) → takes_symbol t ≡ false → is_address (expressed t u) ≡ false
+no_address : (t : Term) (u : Subtrahend) → takes_symbol t ≡ false → is_address (expressed t u) ≡ false
 no_address term.Symbol u none = cc
 no_address term.PointerOffset u none = refl
 no_address term.ModuleOffset u none = refl
@@ -321,13 +321,13 @@ no_address term.Table u none = refl
 no_address term.Size u none = refl
 no_address term.Nothing u none = refl
 
-links_by : (l : Layout) (w : World) (m : Memory) (s : Item) (r : InputRelocation) (info : RelocationKindInfo) (x i : ℕ) → LinkedLaws → writes (expression_of info.kind).class ≡ true → HasTerm l w m s r info x → w.base ≡ 0 → r.symbol ≡ Some i → IsReplaceable l i true → (IsStubbed l i → ⊥) ⊎ TakesOffset (value_by_row info) → TakesOffset (value_by_row info) ⊎ TakesAddress (value_by_row info) → GivesLinked (value_by_row info) l w s r x
+links_by : (l : Layout) (w : World) (m : Memory) (s : Item) (r : InputRelocation) (info : RelocationKindInfo) (x i : ℕ) → LinkedLaws → writes (expression_of info.kind).class ≡ true → HasTerm l w m s r info x → w.base ≡ 0 → r.symbol ≡ Some i → IsReplaceable l i true → (HasStubAddress l i → ⊥) ⊎ TakesOffset (value_by_row info) → TakesOffset (value_by_row info) ⊎ TakesAddress (value_by_row info) → GivesLinked (value_by_row info) l w s r x
 links_by l w m s r info x i laws v h zero named whose alone t = by_term (expression_of info.kind).term refl
   where
     -- the value of another term takes neither
     none_of : (u : Term) → takes_symbol u ≡ false → (expression_of info.kind).term ≡ u → ⊥
     none_of u none e =
-        let less = taken_of info.kind info.mask in
+        let less = subtrahend_of info.kind info.mask in
         let is : value_by_row info ≡ expressed u less = ap (λ (y : Term). sized info.size (expressed y less)) e ∙ sized_is info.size (expressed u less) (no_address u less none) in
         none_taken u less none (subst (λ (q : Value). TakesOffset q ⊎ TakesAddress q) is t)
 
@@ -342,21 +342,21 @@ links_by l w m s r info x i laws v h zero named whose alone t = by_term (express
     by_term term.Nothing e = absurd (none_of term.Nothing refl e)
 
 -- what it takes
-alone_by : (l : Layout) (s : Item) (i : ℕ) (f : Formula) (v : Value) → v ≡ f.value → TakesItself l s i f → (IsStubbed l i → ⊥) ⊎ TakesOffset v
+alone_by : (l : Layout) (s : Item) (i : ℕ) (f : Formula) (v : Value) → v ≡ f.value → UsesOwnDefinition l s i f → (HasStubAddress l i → ⊥) ⊎ TakesOffset v
 alone_by l s i f v e (inl offset) = inr (subst TakesOffset (sym e) offset)
 alone_by l s i f v e (inr t) = inl t.2
 
-takes_by : (l : Layout) (s : Item) (i : ℕ) (f : Formula) (v : Value) → v ≡ f.value → TakesItself l s i f → TakesOffset v ⊎ TakesAddress v
+takes_by : (l : Layout) (s : Item) (i : ℕ) (f : Formula) (v : Value) → v ≡ f.value → UsesOwnDefinition l s i f → TakesOffset v ⊎ TakesAddress v
 takes_by l s i f v e (inl offset) = inl (subst TakesOffset (sym e) offset)
 takes_by l s i f v e (inr t) = inr (subst TakesAddress (sym e) t.0)
 
-value_links : (l : Layout) (w : World) (m : Memory) (s : Item) (i : ℕ) (r : InputRelocation) → IsItemLoaded l w m s → (IsLeftOut l s r → ⊥) → (a : IsLinkedAlone l s r) → w.base ≡ 0 → IsValue l s i r → FieldIsLinked l w m s r
+value_links : (l : Layout) (w : World) (m : Memory) (s : Item) (i : ℕ) (r : InputRelocation) → IsItemLoaded l w m s → (IsOmitted l s r → ⊥) → (a : UsesOwnSymbolOnly l s r) → w.base ≡ 0 → IsValue l s i r → FieldIsLinked l w m s r
 value_links l w m s i r h present a zero v = by_what v.field.comes
   where
-    t : TakesItself l s a.symbol v.fits.formula
+    t : UsesOwnDefinition l s a.symbol v.fits.formula
     t = taken l s r v.fits.formula v.fits.known a
 
-    alone : (IsStubbed l a.symbol → ⊥) ⊎ TakesOffset (value_by_row v.field.row)
+    alone : (HasStubAddress l a.symbol → ⊥) ⊎ TakesOffset (value_by_row v.field.row)
     alone = alone_by l s a.symbol v.fits.formula (value_by_row v.field.row) v.fits.value t
 
     takes : TakesOffset (value_by_row v.field.row) ⊎ TakesAddress (value_by_row v.field.row)
@@ -379,11 +379,11 @@ value_links l w m s i r h present a zero v = by_what v.field.comes
         absurd (takes_none l s r v.fits.formula v.fits.known (λ o. (let none : TakesOffset StubDistance = subst TakesOffset is o in none)) (λ a. (let none : TakesAddress StubDistance = subst TakesAddress is a in none)) a)
 
 -- an address has no offset, so that it takes the symbol's own
-bare_by : (l : Layout) (s : Item) (i : ℕ) (f : Formula) → SymbolAddress ≡ f.value → TakesItself l s i f → IsStubbed l i → ⊥
+bare_by : (l : Layout) (s : Item) (i : ℕ) (f : Formula) → SymbolAddress ≡ f.value → UsesOwnDefinition l s i f → HasStubAddress l i → ⊥
 bare_by l s i f e (inl offset) = absurd (subst TakesOffset (sym e) offset)
 bare_by l s i f e (inr t) = t.2
 
-address_links : (l : Layout) (w : World) (m : Memory) (s : Item) (i : ℕ) (r : InputRelocation) → IsItemLoaded l w m s → KeepsAll l → (a : IsLinkedAlone l s r) → w.base ≡ 0 → IsAddress l s i r → FieldIsLinked l w m s r
+address_links : (l : Layout) (w : World) (m : Memory) (s : Item) (i : ℕ) (r : InputRelocation) → IsItemLoaded l w m s → KeepsAll l → (a : UsesOwnSymbolOnly l s r) → w.base ≡ 0 → IsAddress l s i r → FieldIsLinked l w m s r
 address_links l w m s i r h all a zero v =
     let known = v.fits.known in
     let value : SymbolAddress ≡ v.fits.formula.value = sym (v.fits.full v.moved.by.kind v.moved.by.width).0 in
@@ -398,7 +398,7 @@ address_links l w m s i r h all a zero v =
       field = address_reads l w m s i r h all v;
     }
 
-written_links : (l : Layout) (w : World) (m : Memory) (s : Item) (i : ℕ) (r : InputRelocation) → IsItemLoaded l w m s → (IsLeftOut l s r → ⊥) → (a : IsLinkedAlone l s r) → w.base ≡ 0 → Writes l s i r → FieldIsLinked l w m s r
+written_links : (l : Layout) (w : World) (m : Memory) (s : Item) (i : ℕ) (r : InputRelocation) → IsItemLoaded l w m s → (IsOmitted l s r → ⊥) → (a : UsesOwnSymbolOnly l s r) → w.base ≡ 0 → Writes l s i r → FieldIsLinked l w m s r
 written_links l w m s i r h present a zero (inl v) = value_links l w m s i r h present a zero v
 written_links l w m s i r h present a zero (inr (inl v)) = address_links l w m s i r h (address_written l w m s i r h present v) a zero v
 written_links l w m s i r h present a zero (inr (inr (inl f))) = absurd (left_follows l w m s i r h.placed (holds_at (NamesSymbol l) s.relocations i r f.plain.has.listed h.symbols) f f.fits.known a)
@@ -406,5 +406,5 @@ written_links l w m s i r h present a zero (inr (inr (inr (inl c)))) = absurd (t
 written_links l w m s i r h present a zero (inr (inr (inr (inr (inl f))))) = (let held = row_holds l w m s i r h (λ e. zero) f in absurd (takes_none l s r held.holds.formula held.holds.known held.offset held.address a))
 written_links l w m s i r h present a zero (inr (inr (inr (inr (inr f))))) = branch_links l w m s r h.linked (branch_reads l w m s i r h present (λ e. zero) f) a zero
 
-pub field_links : (l : Layout) (w : World) (m : Memory) (s : Item) (i : ℕ) (r : InputRelocation) → IsItemLoaded l w m s → IsKeptReference l s i r → (IsLeftOut l s r → ⊥) → IsLinkedAlone l s r → w.base ≡ 0 → FieldIsLinked l w m s r
+pub field_links : (l : Layout) (w : World) (m : Memory) (s : Item) (i : ℕ) (r : InputRelocation) → IsItemLoaded l w m s → IsKeptReference l s i r → (IsOmitted l s r → ⊥) → UsesOwnSymbolOnly l s r → w.base ≡ 0 → FieldIsLinked l w m s r
 field_links l w m s i r h k present a zero = written_links l w m s i r h present a zero (relocation_written l s i r k.decision h.tables.agree k.has k.keeps k.refers)

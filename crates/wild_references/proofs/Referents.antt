@@ -10,14 +10,14 @@ use Rattle.wild_types.specs.declared.layout.Layout.{Layout}
 use Rattle.wild_types.specs.Flags.{has_flag, absolute, undefined_weak, plt_stub}
 use Rattle.wild_types.specs.Lookups.{place_of}
 use Rattle.wild_slot.specs.Treatment.{flags_at}
-use Rattle.wild_reloc.specs.Barred.{is_listed, branches_aarch64}
+use Rattle.wild_reloc.specs.BarredTypes.{is_listed, branches_aarch64}
 use Rattle.wild_reloc.specs.Agreement.{sized}
-use Rattle.wild_reloc.specs.Expression.{expression_of, paged, taken_of, expressed}
+use Rattle.wild_reloc.specs.Expression.{expression_of, paged, subtrahend_of, expressed}
 use Rattle.wild_reloc.specs.Formula.{Value, SymbolAddress, SymbolPart, Distance, PageDistance, FromTable}
 use Rattle.wild_reloc.specs.declared.expression.Term.{Term}
 use Rattle.wild_reloc.specs.declared.expression.Term.TheVariants as term
-use Rattle.wild_reloc.specs.declared.expression.Taken.{Taken}
-use Rattle.wild_reloc.specs.declared.expression.Taken.TheVariants as taken
+use Rattle.wild_reloc.specs.declared.expression.Subtrahend.{Subtrahend}
+use Rattle.wild_reloc.specs.declared.expression.Subtrahend.TheVariants as taken
 use Rattle.wild_reloc.specs.declared.info.PageMask.{PageMask}
 use Rattle.wild_reloc.specs.declared.info.PageMask.TheVariants as masks
 use Rattle.wild_reloc.specs.declared.info.RelocationSize.{RelocationSize}
@@ -30,11 +30,11 @@ use Rattle.wild_loader.specs.declared.world.World.{World}
 use Rattle.wild_loader.specs.declared.memory.Memory.{Memory}
 use Rattle.wild_types.specs.Item.{Item}
 use Rattle.wild_meaning.specs.Item.{place_at}
-use Rattle.wild_meaning.specs.Value.{IsAbsolute, IsReplaceable, HasFlag, HasOwnValue, moved}
+use Rattle.wild_meaning.specs.Value.{IsAbsolute, IsReplaceable, HasFlag, HasOwnValue, with_base}
 use Rattle.wild_meaning.specs.Denotes.{Denotes}
-use Rattle.wild_meaning.specs.ReferentAArch64.{IsAbsent, own_place, IsOneAddress, StandsOnAArch64}
-use Rattle.wild_meaning.specs.Formula.{IsTarget, IsPlaceRelative, TakesOwnPlace, IsReferentOnAArch64, IsReferent, IsOwnTarget, IsOwnReferentOnAArch64, IsOwnReferent, TakesAddress, TakesOffset, TakesString}
-use Rattle.wild_meaning.specs.Reference.{IsStubbed}
+use Rattle.wild_meaning.specs.ReferentAArch64.{IsUndefinedWeak, own_place, IsOneAddress, RepresentsOnAArch64}
+use Rattle.wild_meaning.specs.Formula.{IsTarget, IsPlaceRelative, UsesOwnPlace, IsReferentOnAArch64, IsReferent, IsOwnTarget, IsOwnReferentOnAArch64, IsOwnReferent, TakesAddress, TakesOffset, TakesString}
+use Rattle.wild_meaning.specs.Reference.{HasStubAddress}
 use Rattle.wild_geometry.proofs.JudgedLemmas.{flag_is}
 use Rattle.wild_references.specs.Terms.{IsPlaced, page_mask, is_mask, is_table, is_expressed, value_by_row, IsDirect, HasTerm, IsFollowed}
 use Rattle.wild_references.proofs.StubCode.{StubLaws}
@@ -49,7 +49,7 @@ use Rattle.wild_types.specs.declared.input.MergedString.{MergedString}
 -- ---- masks
 
 -- an expression that no page is taken by has no mask
-pub no_mask : (k : Machine) (t : Term) (less : Taken) (mask : Option PageMask) → is_expressed k t less mask ≡ true → page_mask t less ≡ None → mask ≡ None
+pub no_mask : (k : Machine) (t : Term) (less : Subtrahend) (mask : Option PageMask) → is_expressed k t less mask ≡ true → page_mask t less ≡ None → mask ≡ None
 no_mask machine.X86_64 t less None e none = refl
 no_mask machine.X86_64 t less (Some mask) e none = cc
 no_mask machine.AArch64 t less None e none = refl
@@ -59,7 +59,7 @@ no_mask machine.AArch64 t less (Some mask) e none = (let f : is_mask None mask �
     never mask f = cc
 
 -- a mask is the expression's, and AArch64's
-pub with_mask : (k : Machine) (t : Term) (less : Taken) (mask : PageMask) → is_expressed k t less (Some mask) ≡ true → (k ≡ machine.AArch64) × (is_mask (page_mask t less) mask ≡ true)
+pub with_mask : (k : Machine) (t : Term) (less : Subtrahend) (mask : PageMask) → is_expressed k t less (Some mask) ≡ true → (k ≡ machine.AArch64) × (is_mask (page_mask t less) mask ≡ true)
 with_mask machine.X86_64 t less mask e = cc
 with_mask machine.AArch64 t less mask e = (refl, e)
 
@@ -81,7 +81,7 @@ sized_is (BitMasking bits) other e = refl
 
 -- ---- a symbol that is not there
 
-pub absent : (l : Layout) (w : World) (m : Memory) (r : InputRelocation) (i : ℕ) → IsPlaced l w m → NamesSymbol l r → r.symbol ≡ Some i → is_absent l (Some i) ≡ true → IsAbsent l i
+pub absent : (l : Layout) (w : World) (m : Memory) (r : InputRelocation) (i : ℕ) → IsPlaced l w m → NamesSymbol l r → r.symbol ≡ Some i → is_absent l (Some i) ≡ true → IsUndefinedWeak l i
 absent l w m r i p listed named h =
     let z = slice_get_inside l.symbols i (listed i named) in
     let parts = and_parts (has_flag (flags_at l i) undefined_weak) (not (has_flag (flags_at l i) plt_stub)) h in
@@ -90,7 +90,7 @@ absent l w m r i p listed named h =
       stubless = subst (λ (b : Bool). HasFlag l i plt_stub b) (not-true _ parts.1) (flag_at l i plt_stub z.0 p.symbols.named z.1);
     }
 
-pub present : (l : Layout) (i : ℕ) → is_absent l (Some i) ≡ false → IsAbsent l i → ⊥
+pub present : (l : Layout) (i : ℕ) → is_absent l (Some i) ≡ false → IsUndefinedWeak l i → ⊥
 present l i h a = by_flags (has_flag (flags_at l i) undefined_weak) (has_flag (flags_at l i) plt_stub) (flag_is l i undefined_weak true a.weak) (flag_is l i plt_stub false a.stubless) h
   where
     by_flags : (weak stub : Bool) → weak ≡ true → stub ≡ false → (weak && not stub) ≡ false → ⊥
@@ -102,20 +102,20 @@ present l i h a = by_flags (has_flag (flags_at l i) undefined_weak) (has_flag (f
 pub record IsOwn (k : Machine) (l : Layout) (r : InputRelocation) (info : RelocationKindInfo) : Type 0 where
   pub on : k ≡ machine.AArch64
   pub symbol : is_symbol (expression_of info.kind).term ≡ true
-  pub place : is_place (taken_of info.kind info.mask) ≡ true
+  pub place : is_place (subtrahend_of info.kind info.mask) ≡ true
   pub absent : is_absent l r.symbol ≡ true
 
 pub own_parts : (k : Machine) (l : Layout) (r : InputRelocation) (info : RelocationKindInfo) → is_own_place k l r info ≡ true → IsOwn k l r info
 own_parts machine.X86_64 l r info h = cc
 own_parts machine.AArch64 l r info h =
-    let a = and_parts (is_symbol (expression_of info.kind).term && is_place (taken_of info.kind info.mask)) (is_absent l r.symbol) h in
-    let b = and_parts (is_symbol (expression_of info.kind).term) (is_place (taken_of info.kind info.mask)) a.0 in
+    let a = and_parts (is_symbol (expression_of info.kind).term && is_place (subtrahend_of info.kind info.mask)) (is_absent l r.symbol) h in
+    let b = and_parts (is_symbol (expression_of info.kind).term) (is_place (subtrahend_of info.kind info.mask)) a.0 in
     record { on = refl; symbol = b.0; place = b.1; absent = a.1 }
 
 -- and that it does not, where it takes a place from a symbol
-pub not_own : (k : Machine) (l : Layout) (r : InputRelocation) (info : RelocationKindInfo) → is_own_place k l r info ≡ false → k ≡ machine.AArch64 → is_symbol (expression_of info.kind).term ≡ true → is_place (taken_of info.kind info.mask) ≡ true → is_absent l r.symbol ≡ false
+pub not_own : (k : Machine) (l : Layout) (r : InputRelocation) (info : RelocationKindInfo) → is_own_place k l r info ≡ false → k ≡ machine.AArch64 → is_symbol (expression_of info.kind).term ≡ true → is_place (subtrahend_of info.kind info.mask) ≡ true → is_absent l r.symbol ≡ false
 not_own machine.X86_64 l r info h on symbol place = cc
-not_own machine.AArch64 l r info h on symbol place = by_tests (is_symbol (expression_of info.kind).term) (is_place (taken_of info.kind info.mask)) (is_absent l r.symbol) symbol place h
+not_own machine.AArch64 l r info h on symbol place = by_tests (is_symbol (expression_of info.kind).term) (is_place (subtrahend_of info.kind info.mask)) (is_absent l r.symbol) symbol place h
   where
     by_tests : (a b c : Bool) → a ≡ true → b ≡ true → (a && b && c) ≡ false → c ≡ false
     by_tests true true false e f h = refl
@@ -136,11 +136,11 @@ own_at w s r e = place_sum w.base (place_of s.address r) (if is_listed r.number 
 
 -- ---- by machine
 
-pub own_referent : (v : Value) (l : Layout) (w : World) (m : Memory) (s : Item) (r : InputRelocation) (i : ℕ) → l.machine ≡ machine.AArch64 → r.symbol ≡ Some i → TakesOwnPlace v l i → IsReferent l.machine v l w m s r (own_place w s r)
+pub own_referent : (v : Value) (l : Layout) (w : World) (m : Memory) (s : Item) (r : InputRelocation) (i : ℕ) → l.machine ≡ machine.AArch64 → r.symbol ≡ Some i → UsesOwnPlace v l i → IsReferent l.machine v l w m s r (own_place w s r)
 own_referent v l w m s r i on named takes =
     subst (λ (k : Machine). IsReferent k v l w m s r (own_place w s r)) (sym on) (inr ((λ t. absent_none l r i named takes.1 t.1), subst (λ (o : Option ℕ). IsReferentOnAArch64 v l w m s r o (own_place w s r)) (sym named) (inl (takes, refl))))
 
-pub referent : (v : Value) (l : Layout) (w : World) (m : Memory) (s : Item) (r : InputRelocation) (a : ℕ) → (TakesString v l r → ⊥) → IsTarget l w m r.symbol a → ((i : ℕ) → r.symbol ≡ Some i → l.machine ≡ machine.AArch64 → (TakesOwnPlace v l i → ⊥) × StandsOnAArch64 v l w m r i a) → IsReferent l.machine v l w m s r a
+pub referent : (v : Value) (l : Layout) (w : World) (m : Memory) (s : Item) (r : InputRelocation) (a : ℕ) → (TakesString v l r → ⊥) → IsTarget l w m r.symbol a → ((i : ℕ) → r.symbol ≡ Some i → l.machine ≡ machine.AArch64 → (UsesOwnPlace v l i → ⊥) × RepresentsOnAArch64 v l w m r i a) → IsReferent l.machine v l w m s r a
 referent v l w m s r a none target stands = by_machine l.machine refl
   where
     by_symbol : (o : Option ℕ) → r.symbol ≡ o → l.machine ≡ machine.AArch64 → IsTarget l w m o a → IsReferentOnAArch64 v l w m s r o a
@@ -152,11 +152,11 @@ referent v l w m s r a none target stands = by_machine l.machine refl
     by_machine machine.AArch64 e = inr (none, by_symbol r.symbol refl e target)
 
 -- the same with the output's own symbol
-pub own_place_referent : (v : Value) (l : Layout) (w : World) (s : Item) (r : InputRelocation) (i : ℕ) → l.machine ≡ machine.AArch64 → r.symbol ≡ Some i → TakesOwnPlace v l i → IsOwnReferent l.machine v l w s r (own_place w s r)
+pub own_place_referent : (v : Value) (l : Layout) (w : World) (s : Item) (r : InputRelocation) (i : ℕ) → l.machine ≡ machine.AArch64 → r.symbol ≡ Some i → UsesOwnPlace v l i → IsOwnReferent l.machine v l w s r (own_place w s r)
 own_place_referent v l w s r i on named takes =
     subst (λ (k : Machine). IsOwnReferent k v l w s r (own_place w s r)) (sym on) (subst (λ (o : Option ℕ). IsOwnReferentOnAArch64 v l w s r o (own_place w s r)) (sym named) (inl (takes, refl)))
 
-pub own_symbol_referent : (v : Value) (l : Layout) (w : World) (s : Item) (r : InputRelocation) (i a : ℕ) → r.symbol ≡ Some i → (l.machine ≡ machine.AArch64 → TakesOwnPlace v l i → ⊥) → HasOwnValue l w i a → IsOwnReferent l.machine v l w s r a
+pub own_symbol_referent : (v : Value) (l : Layout) (w : World) (s : Item) (r : InputRelocation) (i a : ℕ) → r.symbol ≡ Some i → (l.machine ≡ machine.AArch64 → UsesOwnPlace v l i → ⊥) → HasOwnValue l w i a → IsOwnReferent l.machine v l w s r a
 own_symbol_referent v l w s r i a named none value = by_machine l.machine refl
   where
     target : IsOwnTarget l w r.symbol a
@@ -172,7 +172,7 @@ denoted_one : (l : Layout) (w : World) (m : Memory) (i a : ℕ) → IsOneAddress
 denoted_one l w m i a (inl h) = h.3
 denoted_one l w m i a (inr h) = inl h.1
 
-stands_as : (v : Value) (l : Layout) (w : World) (m : Memory) (r : InputRelocation) (i a : ℕ) → TakesAddress v → IsOneAddress l w m i a → StandsOnAArch64 v l w m r i a
+stands_as : (v : Value) (l : Layout) (w : World) (m : Memory) (r : InputRelocation) (i a : ℕ) → TakesAddress v → IsOneAddress l w m i a → RepresentsOnAArch64 v l w m r i a
 stands_as SymbolAddress l w m r i a takes h = denoted_one l w m i a h
 stands_as SymbolPart l w m r i a takes h = h
 stands_as Distance l w m r i a takes h = denoted_one l w m i a h
@@ -183,16 +183,16 @@ stands_as other l w m r i a takes h = absurd takes
 -- what A is added to in memory, for the writer's term a: it moves with the base, or is an absolute symbol
 pub record Refers (v : Value) (l : Layout) (w : World) (m : Memory) (s : Item) (r : InputRelocation) (a : ℕ) : Type 0 where
   pub still : Bool
-  pub referent : IsReferent l.machine v l w m s r (moved still w.base a)
+  pub referent : IsReferent l.machine v l w m s r (with_base still w.base a)
   pub flag : (IsPlaceRelative v → ⊥) → (i : ℕ) → r.symbol ≡ Some i → has_flag (flags_at l i) absolute ≡ still
   pub absolute : (i : ℕ) → r.symbol ≡ Some i → still ≡ true → IsAbsolute l i
 
 pub record OwnRefers (v : Value) (l : Layout) (w : World) (s : Item) (r : InputRelocation) (a : ℕ) : Type 0 where
   pub still : Bool
-  pub referent : IsOwnReferent l.machine v l w s r (moved still w.base a)
+  pub referent : IsOwnReferent l.machine v l w s r (with_base still w.base a)
 
 -- an expression of a symbol that takes a place: what it is less
-relative_by : (less : Taken) (z : RelocationSize) → is_place less ≡ true → IsPlaceRelative (sized z (expressed term.Symbol less))
+relative_by : (less : Subtrahend) (z : RelocationSize) → is_place less ≡ true → IsPlaceRelative (sized z (expressed term.Symbol less))
 relative_by taken.Place z e = subst IsPlaceRelative (sym (sized_is z Distance refl)) tt
 relative_by taken.PagePlace z e = subst IsPlaceRelative (sym (sized_is z PageDistance refl)) tt
 relative_by taken.Nothing z e = cc
@@ -205,7 +205,7 @@ no_relative (ByteSize n) h = h
 no_relative (BitMasking bits) h = h
 
 -- of AArch64, where the writer takes no place
-not_place : (less : Taken) (z : RelocationSize) → is_place less ≡ false → is_table less ≡ false → IsPlaceRelative (sized z (expressed term.Symbol less)) → ⊥
+not_place : (less : Subtrahend) (z : RelocationSize) → is_place less ≡ false → is_table less ≡ false → IsPlaceRelative (sized z (expressed term.Symbol less)) → ⊥
 not_place taken.Nothing z e none h = no_relative z h
 not_place taken.PageTable (ByteSize n) e none h = h
 not_place taken.PageTable (BitMasking bits) e none h = h
@@ -214,29 +214,29 @@ not_place taken.Place z e none h = cc
 not_place taken.PagePlace z e none h = cc
 
 -- on AArch64 nothing is less the table itself
-no_table : (k : Machine) (t : Term) (less : Taken) (mask : Option PageMask) → k ≡ machine.AArch64 → is_expressed k t less mask ≡ true → is_table (paged mask less) ≡ false
+no_table : (k : Machine) (t : Term) (less : Subtrahend) (mask : Option PageMask) → k ≡ machine.AArch64 → is_expressed k t less mask ≡ true → is_table (paged mask less) ≡ false
 no_table machine.X86_64 t less mask e h = cc
 no_table machine.AArch64 t less None e h = not-true _ h
 no_table machine.AArch64 t less (Some masks.GotBase) e h = refl
 no_table machine.AArch64 t less (Some masks.SymbolPlusAddendAndPosition) e h = refl
 no_table machine.AArch64 t less (Some masks.GotEntryAndPosition) e h = refl
 
-pub symbol_value : (info : RelocationKindInfo) → (expression_of info.kind).term ≡ term.Symbol → value_by_row info ≡ sized info.size (expressed term.Symbol (taken_of info.kind info.mask))
-symbol_value info e = ap (λ (t : Term). sized info.size (expressed t (taken_of info.kind info.mask))) e
+pub symbol_value : (info : RelocationKindInfo) → (expression_of info.kind).term ≡ term.Symbol → value_by_row info ≡ sized info.size (expressed term.Symbol (subtrahend_of info.kind info.mask))
+symbol_value info e = ap (λ (t : Term). sized info.size (expressed t (subtrahend_of info.kind info.mask))) e
 
 -- where the writer takes no place, the judge takes none
-no_own_place : (l : Layout) (w : World) (m : Memory) (s : Item) (r : InputRelocation) (info : RelocationKindInfo) (x i : ℕ) → HasTerm l w m s r info x → (expression_of info.kind).term ≡ term.Symbol → r.symbol ≡ Some i → is_own_place l.machine l r info ≡ false → l.machine ≡ machine.AArch64 → TakesOwnPlace (value_by_row info) l i → ⊥
+no_own_place : (l : Layout) (w : World) (m : Memory) (s : Item) (r : InputRelocation) (info : RelocationKindInfo) (x i : ℕ) → HasTerm l w m s r info x → (expression_of info.kind).term ≡ term.Symbol → r.symbol ≡ Some i → is_own_place l.machine l r info ≡ false → l.machine ≡ machine.AArch64 → UsesOwnPlace (value_by_row info) l i → ⊥
 no_own_place l w m s r info x i h symbol named e on own =
-    elim (cases_Bool (is_place (taken_of info.kind info.mask))) [
+    elim (cases_Bool (is_place (subtrahend_of info.kind info.mask))) [
       | inl p ↦ present l i (subst (λ (o : Option ℕ). is_absent l o ≡ false) named (not_own l.machine l r info e on (ap is_symbol symbol) p)) own.1
-      | inr n ↦ not_place (taken_of info.kind info.mask) info.size n (no_table l.machine (expression_of info.kind).term (expression_of info.kind).taken info.mask on h.expressed) (subst IsPlaceRelative (symbol_value info symbol) own.0)
+      | inr n ↦ not_place (subtrahend_of info.kind info.mask) info.size n (no_table l.machine (expression_of info.kind).term (expression_of info.kind).taken info.mask on h.expressed) (subst IsPlaceRelative (symbol_value info symbol) own.0)
     ]
 
 -- an expression that takes the symbol's address, and no offset, is right whichever module has it
 pub follows : (l : Layout) (r : InputRelocation) (v : Value) → TakesAddress v → IsFollowed l r v → (i : ℕ) → r.symbol ≡ Some i → Follows l i
 follows l r v takes f i named = by_case (f i named)
   where
-    by_case : IsReplaceable l i false ⊎ (((TakesOffset v → ⊥) × (TakesAddress v → ⊥)) ⊎ ((TakesOffset v → ⊥) × IsStubbed l i)) → Follows l i
+    by_case : IsReplaceable l i false ⊎ (((TakesOffset v → ⊥) × (TakesAddress v → ⊥)) ⊎ ((TakesOffset v → ⊥) × HasStubAddress l i)) → Follows l i
     by_case (inl own) = inl own
     by_case (inr (inl other)) = absurd (other.1 takes)
     by_case (inr (inr stubbed)) = inr stubbed.1
@@ -269,7 +269,7 @@ refers law l w m s r info x h symbol takes f = by_own (is_own_place l.machine l 
     by_for e there (OfStrings i strings named is some) = string_refers v l w m s r i h.term strings h.placed.symbols.named takes named is (h.addend some) there
     by_for e there (OfSymbol none given) =
         let t = addressed law l w m r.symbol h.term h.placed stands (follows l r v takes f) given in
-        let target = moved t.still w.base h.term in
+        let target = with_base t.still w.base h.term in
         let one : (i : ℕ) → r.symbol ≡ Some i → IsOneAddress l w m i target = λ i named.
         one_addressed l w m i h.term t.still h.placed (follows l r v takes f i named) (subst (λ (o : Option ℕ). address_of l o ≡ Ok h.term) named given) (t.flag i named) (subst (λ (o : Option ℕ). IsTarget l w m o target) named t.denoted) in
         record {
@@ -284,7 +284,7 @@ refers law l w m s r info x h symbol takes f = by_own (is_own_place l.machine l 
         let o = own_parts l.machine l r info e in
         let n = named_absent l r.symbol o.absent in
         let a = absent l w m r n.0 h.placed h.listed n.1 n.2 in
-        let relative = subst IsPlaceRelative (sym (symbol_value info symbol)) (relative_by (taken_of info.kind info.mask) info.size o.place) in
+        let relative = subst IsPlaceRelative (sym (symbol_value info symbol)) (relative_by (subtrahend_of info.kind info.mask) info.size o.place) in
         let term : undefined_weak_target r.number (place_of s.address r) ≡ h.term = cc in
         let at = own_at w s r h.place ∙ ap (λ (n : ℕ). (w.base + n) % 2 ^ 64) term in
         record {
@@ -296,7 +296,7 @@ refers law l w m s r info x h symbol takes f = by_own (is_own_place l.machine l 
     by_own false e g = (let given : address_for l r ≡ Ok h.term = sym (symbol_term l r info symbol) ∙ g in by_for e given (address_is_for l r h.term given))
 
 -- with the output's own symbol
-pub own_refers : (l : Layout) (w : World) (m : Memory) (s : Item) (r : InputRelocation) (info : RelocationKindInfo) (x i : ℕ) → (h : HasTerm l w m s r info x) → (expression_of info.kind).term ≡ term.Symbol → r.symbol ≡ Some i → IsReplaceable l i true → (IsStubbed l i → ⊥) → OwnRefers (value_by_row info) l w s r h.term
+pub own_refers : (l : Layout) (w : World) (m : Memory) (s : Item) (r : InputRelocation) (info : RelocationKindInfo) (x i : ℕ) → (h : HasTerm l w m s r info x) → (expression_of info.kind).term ≡ term.Symbol → r.symbol ≡ Some i → IsReplaceable l i true → (HasStubAddress l i → ⊥) → OwnRefers (value_by_row info) l w s r h.term
 own_refers l w m s r info x i h symbol named whose alone = by_own (is_own_place l.machine l r info) refl h.given
   where
     v : Value
@@ -307,14 +307,14 @@ own_refers l w m s r info x i h symbol named whose alone = by_own (is_own_place 
         let o = own_parts l.machine l r info e in
         let n = named_absent l r.symbol o.absent in
         let a = absent l w m r n.0 h.placed h.listed n.1 n.2 in
-        let relative = subst IsPlaceRelative (sym (symbol_value info symbol)) (relative_by (taken_of info.kind info.mask) info.size o.place) in
+        let relative = subst IsPlaceRelative (sym (symbol_value info symbol)) (relative_by (subtrahend_of info.kind info.mask) info.size o.place) in
         let term : undefined_weak_target r.number (place_of s.address r) ≡ h.term = cc in
         let at = own_at w s r h.place ∙ ap (λ (n : ℕ). (w.base + n) % 2 ^ 64) term in
         record { still = false; referent = subst (λ (n : ℕ). IsOwnReferent l.machine v l w s r n) at (own_place_referent v l w s r n.0 o.on n.1 (relative, a)) }
     by_own false e g =
         let given : address_of l (Some i) ≡ Ok h.term = subst (λ (o : Option ℕ). address_of l o ≡ Ok h.term) named (sym (plain_address l r (replaceable_none l r i h.placed.symbols.named named whose)) ∙ (sym (symbol_term l r info symbol) ∙ g)) in
         let t = linked l w m i h.term h.placed alone given in
-        record { still = t.still; referent = own_symbol_referent v l w s r i (moved t.still w.base h.term) named (no_own_place l w m s r info x i h symbol named e) t.value }
+        record { still = t.still; referent = own_symbol_referent v l w s r i (with_base t.still w.base h.term) named (no_own_place l w m s r info x i h symbol named e) t.value }
 
 -- of an expression that is S + A itself no place is taken
 pub address_referent : (l : Layout) (w : World) (m : Memory) (s : Item) (r : InputRelocation) (a : ℕ) → (NamesStrings l r → ⊥) → IsTarget l w m r.symbol a → IsReferent l.machine SymbolAddress l w m s r a

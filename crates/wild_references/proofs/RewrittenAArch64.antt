@@ -9,26 +9,26 @@ use Rattle.wild_types.specs.declared.kind.Machine.{Machine}
 use Rattle.wild_types.specs.declared.kind.Machine.TheVariants as machine
 use Rattle.wild_types.specs.declared.input.InputRelocation.{InputRelocation}
 use Rattle.wild_types.specs.declared.layout.Layout.{Layout}
-use Rattle.wild_types.specs.Hollow.{KeepsAll}
+use Rattle.wild_types.specs.HeaderOnly.{KeepsAll}
 use Rattle.wild_types.specs.Item.{Item}
 use Rattle.wild_relax.specs.declared.pattern.Sequence.{Sequence}
 use Rattle.wild_relax.specs.declared.pattern.Sequence.TheVariants.{DescriptorCall, OffsetSlot, Address}
 use Rattle.wild_relax.specs.declared.row.Row.{Row}
 use Rattle.wild_relax.specs.KeepAArch64.{RowsOfAArch64Keep}
-use Rattle.wild_relax.specs.Linked.{pattern_size}
-use Rattle.wild_relax.specs.TogetherAArch64.{RowsStandTogether}
+use Rattle.wild_relax.specs.LinkedPattern.{pattern_size}
+use Rattle.wild_relax.specs.SequenceRowsAArch64.{RowsApplyTogether}
 use Rattle.wild_layout.specs.declared.decision.Decision.TheVariants.{Rewritten}
 use Rattle.wild_layout.specs.Sites.{template_start}
 use Rattle.wild_geometry.specs.Loaded.{IsDecided, HasDecision}
 use Rattle.wild_loader.specs.declared.memory.Memory.{Memory}
 use Rattle.wild_loader.specs.declared.world.World.{World}
 use Rattle.wild_meaning.specs.Field.{formula_of}
-use Rattle.wild_meaning.specs.Reference.{HoldsRewritten, IsLeftOut}
+use Rattle.wild_meaning.specs.Reference.{HoldsRewritten, IsOmitted}
 use Rattle.wild_meaning.specs.Sequence.{descriptor_call_words}
 use Rattle.wild_references.specs.Laws.{IsLoadedItem, TermGives}
-use Rattle.wild_references.specs.EffectLaws.{StandsAt}
-use Rattle.wild_references.proofs.LeftAlong.{beside_slot}
-use Rattle.wild_references.proofs.LeftOut.{all_or_bare, keeps_all}
+use Rattle.wild_references.specs.EffectLaws.{IsLocatedAt}
+use Rattle.wild_references.proofs.OmittedSequences.{beside_slot}
+use Rattle.wild_references.proofs.OmittedReferences.{all_or_bare, keeps_all}
 use Rattle.wild_references.proofs.SequencesAArch64.{part_of}
 use Rattle.wild_references.proofs.Targets.{Stands}
 use Rattle.wild_references.proofs.WordWindows.{word_here}
@@ -44,7 +44,7 @@ CallsAreAlone = (l : Layout) (s : Item) (i : ℕ) (r : InputRelocation) (row : R
 
 pub record LawsOfWords : Type 0 where
   pub alone : CallsAreAlone
-  pub together : RowsStandTogether
+  pub together : RowsApplyTogether
   pub keeps : RowsOfAArch64Keep
   pub stubs : StubLaws
   pub pointer : TermGives term.PointerOffset
@@ -62,7 +62,7 @@ run_of_word alone l s i r row v on decided has =
     let c = run_there l s i r row t in
     record { word = t; there = c; judged = judged_run l s i r row t c (alone l s i r row decided t c) }
 
-pub word_stands : CallsAreAlone → (l : Layout) (s : Item) (i : ℕ) (r : InputRelocation) (row : Row) (v : ℕ) → l.machine ≡ machine.AArch64 → IsDecided l s → HasDecision l s i r (Rewritten row v) → StandsAt l s r (template_start row r) (pattern_size row)
+pub word_stands : CallsAreAlone → (l : Layout) (s : Item) (i : ℕ) (r : InputRelocation) (row : Row) (v : ℕ) → l.machine ≡ machine.AArch64 → IsDecided l s → HasDecision l s i r (Rewritten row v) → IsLocatedAt l s r (template_start row r) (pattern_size row)
 word_stands alone l s i r row v on decided has =
     let t = run_of_word alone l s i r row v on decided has in
     let q = t.word.sequence in
@@ -75,7 +75,7 @@ word_stands alone l s i r row v on decided has =
     let size = run_size q in
     record { from = c.start; instruction = run_of q; first = t.judged.first; template = inr (of_run l s r q c.start c.index t.judged); before = omega (arith, start, place); behind = omega (arith, start, long, place, few, size) }
 
-pub word_holds : LawsOfWords → (l : Layout) (w : World) (m : Memory) (s : Item) → IsLoadedItem machine.AArch64 l w m s → (i : ℕ) (r : InputRelocation) (row : Row) (v : ℕ) → HasDecision l s i r (Rewritten row v) → (IsLeftOut l s r → ⊥) → HoldsRewritten l w m s r
+pub word_holds : LawsOfWords → (l : Layout) (w : World) (m : Memory) (s : Item) → IsLoadedItem machine.AArch64 l w m s → (i : ℕ) (r : InputRelocation) (row : Row) (v : ℕ) → HasDecision l s i r (Rewritten row v) → (IsOmitted l s r → ⊥) → HoldsRewritten l w m s r
 word_holds laws l w m s g i r row v has present = by t.word.sequence refl t.there t.judged
   where
     t : IsRunOf l s i r row

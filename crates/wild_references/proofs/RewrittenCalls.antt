@@ -22,7 +22,7 @@ use Rattle.wild_relax.specs.declared.pattern.Pattern.{Pattern}
 use Rattle.wild_relax.specs.declared.pattern.Pattern.TheVariants as pattern
 use Rattle.wild_relax.specs.declared.table.TheConstants.{GENERAL_NO_PLT, GENERAL_NO_PLT_SLOT, LOCAL_NO_PLT}
 use Rattle.wild_relax.specs.Pattern as writer
-use Rattle.wild_relax.specs.Pattern.{stands_before, stands_at}
+use Rattle.wild_relax.specs.Pattern.{stands_before, cells_match_at}
 use Rattle.wild_relax.specs.Rows.{applies}
 use Rattle.wild_layout.specs.Choice.{question_of}
 use Rattle.wild_loader.specs.Instruction as judge
@@ -133,20 +133,20 @@ front bs a k n h =
     rw (e, f) (take-take k n (drop a bs) h)
 
 -- a pattern with its field stands where the first cells of an instruction do
-pub stands_so : (cs : List judge-cell.Cell) (p : Pattern) (bs : List ℕ) (offset from : ℕ) → backs_all cs (writer.cells_of p) ≡ true → length (writer.cells_of p) ≤ length cs → offset ≡ from + writer.field_of p → from + length cs ≤ length bs → judge.stands cs (slice_range bs from (from + length cs)) ≡ true → stands_before bs offset p ≡ true
-unfolding stands_before stands_at
+pub stands_so : (cs : List judge-cell.Cell) (p : Pattern) (bs : List ℕ) (offset from : ℕ) → backs_all cs (writer.pattern_cells p) ≡ true → length (writer.pattern_cells p) ≤ length cs → offset ≡ from + writer.field_of p → from + length cs ≤ length bs → judge.stands cs (slice_range bs from (from + length cs)) ≡ true → stands_before bs offset p ≡ true
+unfolding stands_before cells_match_at
 stands_so cs p bs offset from h short place inside e =
-    let n = length (writer.cells_of p) in
+    let n = length (writer.pattern_cells p) in
     let start : offset - writer.field_of p ≡ from = omega (arith, place) in
     let low : nat_le (writer.field_of p) offset ≡ true = le-leb _ _ (omega (arith, place)) in
     let room : nat_le (from + n) (length bs) ≡ true = le-leb _ _ (omega (arith, short, inside)) in
-    let same = subst (λ (xs : List ℕ). writer.stands (writer.cells_of p) xs ≡ true) (front bs from n (length cs) short) (all_backed cs (writer.cells_of p) (slice_range bs from (from + length cs)) h e) in
+    let same = subst (λ (xs : List ℕ). writer.stands (writer.pattern_cells p) xs ≡ true) (front bs from n (length cs) short) (all_backed cs (writer.pattern_cells p) (slice_range bs from (from + length cs)) h e) in
     rw (start, low, room, same) refl
 
-pub general_backed : backs_all general_slot_call.cells (writer.cells_of (pattern.General general.NoPlt)) ≡ true
+pub general_backed : backs_all general_slot_call.cells (writer.pattern_cells (pattern.General general.NoPlt)) ≡ true
 general_backed = refl
 
-pub local_backed : backs_all local_slot_call.cells (writer.cells_of (pattern.LocalStart local.NoPlt)) ≡ true
+pub local_backed : backs_all local_slot_call.cells (writer.pattern_cells (pattern.LocalStart local.NoPlt)) ≡ true
 local_backed = refl
 
 -- ---- a row that stands

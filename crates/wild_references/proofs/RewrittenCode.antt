@@ -16,13 +16,13 @@ use Rattle.wild_aarch64.specs.declared.code.Code.{Code}
 use Rattle.wild_aarch64.specs.declared.code.Code.TheVariants.{Adrp, Add, Ldr, Blr}
 use Rattle.wild_aarch64.specs.Machine.{does, page, sum_64, run, meaning}
 use Rattle.wild_aarch64.specs.Effect as judged
-use Rattle.wild_aarch64.specs.Effect.{ReadsNumbers, shapes, words_of, performed, comes_to}
-use Rattle.wild_aarch64.specs.Row.{Comes}
+use Rattle.wild_aarch64.specs.Effect.{ReadsNumbers, shapes, words_of, effect_of_action, as_effect}
+use Rattle.wild_aarch64.specs.Row.{IsValueOf}
 use Rattle.wild_relax.specs.declared.pattern.Sequence.{Sequence}
 use Rattle.wild_relax.specs.declared.pattern.Sequence.TheVariants.{DescriptorCall, OffsetSlot, Address}
 use Rattle.wild_relax.specs.KeepAArch64.{Rewriting, rewritings, templates_at, AreWords, RowsOfAArch64Keep}
 use Rattle.wild_relax.specs.RewriteX86_64.{register_set}
-use Rattle.wild_relax.specs.SequenceAArch64.{stand_as}
+use Rattle.wild_relax.specs.SequenceAArch64.{words_match}
 use Rattle.wild_relax.proofs.KeepAArch64Lemmas.{adrp_shape, ldr_shape, add_shape, blr_shape}
 use Rattle.wild_loader.specs.declared.instruction.Deed.TheVariants.{Set}
 use Rattle.wild_loader.specs.declared.instruction.Action.{Action}
@@ -40,7 +40,7 @@ use Rattle.wild_types.specs.Item.{Item}
 use Rattle.wild_meaning.specs.WordsAArch64.{reads_numbers}
 use Rattle.wild_meaning.specs.Item.{place_at}
 use Rattle.wild_meaning.specs.Sequence.{Instruction, size_of}
-use Rattle.wild_meaning.specs.Template.{reads_alone, DoesDemanded}
+use Rattle.wild_meaning.specs.Template.{reads_without_calls, DoesDemanded}
 use Rattle.wild_meaning.specs.Reference.{IsOwnSlot, ReadsOwnSlots}
 use Rattle.wild_references.proofs.Does.{read_all}
 use Rattle.wild_references.proofs.WordsAArch64.{fours, AreWordsThere, read_is, words_there}
@@ -59,13 +59,13 @@ lower read (has.WordOf r k) = None
 abbrev pub sets_to : ℕ → ℕ → Effect
 sets_to q v = record { deed = Set q; width = 64; value = v % 2 ^ 64 }
 
-deed_is : (deed : run-deed.Deed) (q y v : ℕ) → Some (comes_to deed y) ≡ Some (comes_to (runs.Sets q) v) → (deed ≡ runs.Sets q) × (y ≡ v)
+deed_is : (deed : run-deed.Deed) (q y v : ℕ) → Some (as_effect deed y) ≡ Some (as_effect (runs.Sets q) v) → (deed ≡ runs.Sets q) × (y ≡ v)
 deed_is deed q y v h =
-    let same : comes_to deed y ≡ comes_to (runs.Sets q) v = cc in
+    let same : as_effect deed y ≡ as_effect (runs.Sets q) v = cc in
     (ap (λ (e : judged.Effect). e.deed) same, ap (λ (e : judged.Effect). e.value) same)
 
 -- what comes to that in the terms of one, comes to it in the other's
-by_reading : (read : Reader) (q v : ℕ) (deed : run-deed.Deed) (x : run-operand.Operand) (y : Operand) (o : Option ℕ) → action_of (does (runs.Sets q) x) ≡ Some (set_to q y) → read y ≡ o → option_map (comes_to deed) o ≡ Some (comes_to (runs.Sets q) v)
+by_reading : (read : Reader) (q v : ℕ) (deed : run-deed.Deed) (x : run-operand.Operand) (y : Operand) (o : Option ℕ) → action_of (does (runs.Sets q) x) ≡ Some (set_to q y) → read y ≡ o → option_map (as_effect deed) o ≡ Some (as_effect (runs.Sets q) v)
     → option_and_then (effect read) (action_of (does deed x)) ≡ Some (sets_to q v)
 by_reading read q v deed x y None told reads h = cc
 by_reading read q v deed x y (Some n) told reads h =
@@ -73,14 +73,14 @@ by_reading read q v deed x y (Some n) told reads h =
     subst (λ (d : run-deed.Deed). option_and_then (effect read) (action_of (does d x)) ≡ Some (sets_to q v)) (sym is.0)
     (ap (λ o. option_and_then (effect read) o) told ∙ (rw reads (ap (λ (i : ℕ). Some (sets_to q i)) is.1)))
 
-performs : (read : Reader) (q v : ℕ) (deed : run-deed.Deed) (x : run-operand.Operand) → option_map (comes_to deed) (lower read x) ≡ Some (comes_to (runs.Sets q) v) → option_and_then (effect read) (action_of (does deed x)) ≡ Some (sets_to q v)
+performs : (read : Reader) (q v : ℕ) (deed : run-deed.Deed) (x : run-operand.Operand) → option_map (as_effect deed) (lower read x) ≡ Some (as_effect (runs.Sets q) v) → option_and_then (effect read) (action_of (does deed x)) ≡ Some (sets_to q v)
 performs read q v deed (has.Number n) h = by_reading read q v deed (has.Number n) (Number n) (read (Number n)) refl refl h
 performs read q v deed (has.Word n) h = by_reading read q v deed (has.Word n) (Word n) (read (Word n)) refl refl h
 performs read q v deed (has.Offset n) h = by_reading read q v deed (has.Offset n) (Offset n) (read (Offset n)) refl refl h
 performs read q v deed (has.Register r k) h = cc
 performs read q v deed (has.WordOf r k) h = cc
 
-told : (read : Reader) (q v : ℕ) (o : Option run-action.Action) → option_and_then (performed (lower read)) o ≡ Some (comes_to (runs.Sets q) v) → option_and_then (effect read) (option_and_then action_of o) ≡ Some (sets_to q v)
+told : (read : Reader) (q v : ℕ) (o : Option run-action.Action) → option_and_then (effect_of_action (lower read)) o ≡ Some (as_effect (runs.Sets q) v) → option_and_then (effect read) (option_and_then action_of o) ≡ Some (sets_to q v)
 told read q v None h = cc
 told read q v (Some act) h = performs read q v act.deed act.operand h
 
@@ -93,7 +93,7 @@ pub record IsSet (ws : List ℕ) (a : ℕ) : Type 0 where
   pub asked : run (shapes ws) a [] ≡ Some (does (runs.Sets register) old)
   pub known : action_of (does (runs.Sets register) old) ≡ Some (set_to register operand)
 
-address_sets : (b c a : ℕ) → stand_as Address (b ∷ c ∷ []) ≡ true → IsSet (b ∷ c ∷ []) a
+address_sets : (b c a : ℕ) → words_match Address (b ∷ c ∷ []) ≡ true → IsSet (b ∷ c ∷ []) a
 address_sets b c a h =
     let both = and_parts _ _ h in
     let r = register_set c in
@@ -105,7 +105,7 @@ address_sets b c a h =
     let shaped : shapes (b ∷ c ∷ []) ≡ Some (Adrp r 0) ∷ Some (Add r r 0) ∷ [] = rw (pb, pc) refl in
     record { register = r; old = has.Number at; operand = Number at; asked = ap (λ (cs : List (Option Code)). run cs a []) shaped ∙ address_run r a 0 0 at (ne_eqb r 31 (λ z. omega (arith, low, z))) refl; known = refl }
 
-slot_sets : (b c a : ℕ) → stand_as OffsetSlot (b ∷ c ∷ []) ≡ true → IsSet (b ∷ c ∷ []) a
+slot_sets : (b c a : ℕ) → words_match OffsetSlot (b ∷ c ∷ []) ≡ true → IsSet (b ∷ c ∷ []) a
 slot_sets b c a h =
     let both = and_parts _ _ h in
     let r = register_set c in
@@ -121,7 +121,7 @@ call_asked : (r a : ℕ) → 1 ≤ r → r < 31 → run (Some (Adrp 0 0) ∷ Som
 call_asked zero a some low = absurd (omega (arith, some))
 call_asked (suc q) a some low = call_run q a 0 0 0 (sum_64 (sum_64 (page a) 0) 0) (ne_eqb (suc q) 31 (λ z. omega (arith, low, z))) refl refl
 
-call_sets : (b c e f a : ℕ) → stand_as DescriptorCall (b ∷ c ∷ e ∷ f ∷ []) ≡ true → IsSet (b ∷ c ∷ e ∷ f ∷ []) a
+call_sets : (b c e f a : ℕ) → words_match DescriptorCall (b ∷ c ∷ e ∷ f ∷ []) ≡ true → IsSet (b ∷ c ∷ e ∷ f ∷ []) a
 call_sets b c e f a h =
     let both = and_parts _ _ h in
     let r = register_set c in
@@ -145,7 +145,7 @@ never : {X : Type 0} (b : Bool) → (b && false) ≡ true → X
 never true h = cc
 never false h = cc
 
-pub run_sets : (q : Sequence) (ws : List ℕ) (a : ℕ) → stand_as q ws ≡ true → IsSet ws a
+pub run_sets : (q : Sequence) (ws : List ℕ) (a : ℕ) → words_match q ws ≡ true → IsSet ws a
 run_sets DescriptorCall (b ∷ c ∷ e ∷ f ∷ []) a h = call_sets b c e f a h
 run_sets DescriptorCall [] a h = no_words h
 run_sets DescriptorCall (b ∷ []) a h = no_words h
@@ -163,16 +163,16 @@ run_sets Address (b ∷ c ∷ w ∷ ws) a h = never _ h
 
 -- ---- by the law of the rows
 
-demand_is : (ws : List ℕ) (a v : ℕ) → (t : IsSet ws a) → judged.demand v a ws ≡ Some (comes_to (runs.Sets t.register) v)
-demand_is ws a v t = ap (λ o. option_and_then (performed (judged.as_value v)) o) t.asked
+demand_is : (ws : List ℕ) (a v : ℕ) → (t : IsSet ws a) → judged.demand v a ws ≡ Some (as_effect (runs.Sets t.register) v)
+demand_is ws a v t = ap (λ o. option_and_then (effect_of_action (judged.as_value v)) o) t.asked
 
 -- what the rows write sets the same register to v
-pub row_sets : RowsOfAArch64Keep → (t : Rewriting) → Contains rewritings t → (ws : List ℕ) (read : Reader) → ((x : ℕ) → read (Number x) ≡ Some x) → (base a x v : ℕ) → AreWords ws → stand_as t.sequence ws ≡ true → Comes t.run.target (lower read) base a x v → (s : IsSet ws (base + a))
+pub row_sets : RowsOfAArch64Keep → (t : Rewriting) → Contains rewritings t → (ws : List ℕ) (read : Reader) → ((x : ℕ) → read (Number x) ≡ Some x) → (base a x v : ℕ) → AreWords ws → words_match t.sequence ws ≡ true → IsValueOf t.run.target (lower read) base a x v → (s : IsSet ws (base + a))
     → option_and_then (effect read) (option_and_then action_of (meaning (base + a) (words_of (templates_at t.rows a x ws)))) ≡ Some (sets_to s.register v)
 row_sets law t known ws read numbers base a x v small stands comes s =
     told read s.register v (meaning (base + a) (words_of (templates_at t.rows a x ws))) (law t known ws (lower read) numbers base a x v small stands comes ∙ demand_is ws (base + a) v s)
 
-pub run_done : RowsOfAArch64Keep → (t : Rewriting) → Contains rewritings t → (ws : List ℕ) (read : Reader) → ((x : ℕ) → read (Number x) ≡ Some x) → (base a x v : ℕ) → AreWords ws → stand_as t.sequence ws ≡ true → Comes t.run.target (lower read) base a x v → RunDoes read (base + a) v ws (words_of (templates_at t.rows a x ws))
+pub run_done : RowsOfAArch64Keep → (t : Rewriting) → Contains rewritings t → (ws : List ℕ) (read : Reader) → ((x : ℕ) → read (Number x) ≡ Some x) → (base a x v : ℕ) → AreWords ws → words_match t.sequence ws ≡ true → IsValueOf t.run.target (lower read) base a x v → RunDoes read (base + a) v ws (words_of (templates_at t.rows a x ws))
 run_done law t known ws read numbers base a x v small stands comes =
     let s = run_sets t.sequence ws (base + a) stands in
     (sets_to s.register v, ap (λ o. option_and_then (effect (as_value v)) (option_and_then action_of o)) s.asked ∙ ap (λ o. option_and_then (effect (as_value v)) o) s.known, row_sets law t known ws read numbers base a x v small stands comes s)
@@ -244,5 +244,5 @@ one_slot_read l w m s first start o v g ws us size there does own = λ bytes act
 
 -- the code in place of a run does what that demands, and reads no word but a slot of the symbol
 pub record IsDone (l : Layout) (w : World) (m : Memory) (s : Item) (first : InputRelocation) (start : ℕ) (o : Instruction) : Type 0 where
-  pub does : DoesDemanded (reads_alone w m) l w m s first start o
+  pub does : DoesDemanded (reads_without_calls w m) l w m s first start o
   pub words : ReadsOwnSlots machine.AArch64 l w m s first start o

@@ -11,7 +11,7 @@ use Rattle.wild_types.specs.declared.layout.Layout.{Layout}
 use Rattle.wild_relax.specs.declared.reference.UnknownSequence.{UnknownSequence}
 use Rattle.wild_relax.specs.declared.row.Row.{Row}
 use Rattle.wild_relax.specs.RewriteX86_64.{rewrite_of, info_by}
-use Rattle.wild_relax.specs.Rows.{chosen_x86_64}
+use Rattle.wild_relax.specs.Rows.{chosen_row_x86_64}
 use Rattle.wild_layout.specs.declared.decision.Decision.{Decision}
 use Rattle.wild_layout.specs.declared.decision.Decision.TheVariants.{Rewritten}
 use Rattle.wild_relax.specs.Rewrite.{is_skip}
@@ -46,7 +46,7 @@ not_refused l s r e d h = refused l s r e d h
 -- ---- the choice
 
 -- the choice of a relocation of another type than R_X86_64_PC32
-pub choice_is : (l : Layout) (s : Item) (r : InputRelocation) (next : Option InputRelocation) (k : ℕ) → r.symbol ≡ Some k → (r.number == r_x86_64_pc32) ≡ false → names_merged l (Some k) ≡ false → choice_of l s r next ≡ chosen_x86_64 (question_of l s r k next)
+pub choice_is : (l : Layout) (s : Item) (r : InputRelocation) (next : Option InputRelocation) (k : ℕ) → r.symbol ≡ Some k → (r.number == r_x86_64_pc32) ≡ false → names_merged l (Some k) ≡ false → choice_of l s r next ≡ chosen_row_x86_64 (question_of l s r k next)
 unfolding choice_by
 choice_is l s r next k named other plain = rw (named, other, plain) refl
 

@@ -20,16 +20,16 @@ use Rattle.wild_relax.specs.declared.table_aarch64.TheConstants.{CALL_FIRST, CAL
 use Rattle.wild_relax.specs.KeepAArch64.{Rewriting, rewriting, templates_at, RowsOfAArch64Keep}
 use Rattle.wild_aarch64.specs.Row as judged
 use Rattle.wild_aarch64.specs.Effect.{words_of}
-use Rattle.wild_relax.specs.Linked.{template_of}
+use Rattle.wild_relax.specs.LinkedPattern.{template_of}
 use Rattle.wild_relax.specs.RewriteX86_64.{info_written}
-use Rattle.wild_relax.specs.SequenceAArch64.{words_at, stand_as}
+use Rattle.wild_relax.specs.SequenceAArch64.{words_at, words_match}
 use Rattle.wild_relax.proofs.KeepAArch64Lemmas.{call_first, call_second}
 use Rattle.wild_loader.specs.declared.memory.Memory.{Memory}
 use Rattle.wild_loader.specs.declared.world.World.{World}
 use Rattle.wild_meaning.specs.Item.{place_at}
 use Rattle.wild_meaning.specs.Formula.{IsOffset}
 use Rattle.wild_meaning.specs.Sequence.{descriptor_call_words}
-use Rattle.wild_meaning.specs.Template.{reads_alone}
+use Rattle.wild_meaning.specs.Template.{reads_without_calls}
 use Rattle.wild_meaning.specs.WordsAArch64.{reads_numbers}
 use Rattle.wild_loader.specs.Instruction.{Reader}
 use Rattle.wild_loader.specs.declared.instruction.Operand.TheVariants.{Number}
@@ -99,7 +99,7 @@ four_words p q t u a b c e =
     ∙ (ap (λ (ws : List ℕ). number p ∷ number q ∷ ws) (words_of-front t (u ++ []) c)
     ∙ ap (λ (ws : List ℕ). number p ∷ number q ∷ number t ∷ ws) (words_of-front u [] e)))
 
-pub call_to_offset : RowsOfAArch64Keep → TermGives term.PointerOffset → (l : Layout) (w : World) (m : Memory) (s : Item) (first : InputRelocation) (start k : ℕ) → IsLoadedItem machine.AArch64 l w m s → start + 16 ≤ length s.bytes → stand_as DescriptorCall (words_at s.bytes start 4) ≡ true
+pub call_to_offset : RowsOfAArch64Keep → TermGives term.PointerOffset → (l : Layout) (w : World) (m : Memory) (s : Item) (first : InputRelocation) (start k : ℕ) → IsLoadedItem machine.AArch64 l w m s → start + 16 ≤ length s.bytes → words_match DescriptorCall (words_at s.bytes start 4) ≡ true
     → first.symbol ≡ Some k → is_executable l.kind ≡ true → interposable (flags_at l k) ≡ false
     → IsWrittenPart l s first start CALL_FIRST → IsWrittenPart l s first (start + 4) CALL_SECOND → IsWrittenPart l s first (start + 4 + 4) CALL_THIRD → IsWrittenPart l s first (start + 4 + 4 + 4) CALL_FOURTH
     → IsDone l w m s first start descriptor_call_words
@@ -150,7 +150,7 @@ call_to_offset keeps law l w m s first start k g inside stands named program own
       does = record {
         value = v;
         demands = subst (λ (o : Option ℕ). IsOffset l w o v) t.symbol offset.offset;
-        code = by_words (reads_alone w m) l w m s start descriptor_call_words v us g.on refl inside (λ e h. h) there (done (reads_alone w m) (λ y. refl));
+        code = by_words (reads_without_calls w m) l w m s start descriptor_call_words v us g.on refl inside (λ e h. h) there (done (reads_without_calls w m) (λ y. refl));
       };
       words = no_slot l w m s first start descriptor_call_words v ws us refl there (done reads_numbers (λ y. refl));
     }

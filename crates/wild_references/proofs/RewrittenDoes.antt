@@ -8,7 +8,7 @@ use Rattle.wild_records.specs.Abi.Relocation.{r_x86_64_none, r_x86_64_pc32, r_x8
 use Rattle.wild_types.specs.declared.kind.Machine.TheVariants as machine
 use Rattle.wild_types.specs.declared.input.InputRelocation.{InputRelocation}
 use Rattle.wild_types.specs.declared.layout.Layout.{Layout}
-use Rattle.wild_types.specs.Hollow.{KeepsAll}
+use Rattle.wild_types.specs.HeaderOnly.{KeepsAll}
 use Rattle.wild_types.specs.Flags.{has_flag, interposable, has_link_time_address, absolute, ifunc}
 use Rattle.wild_types.specs.Kinds.{is_executable, is_static_executable, has_fixed_load_address}
 use Rattle.wild_slot.specs.Treatment.{flags_at}
@@ -27,8 +27,8 @@ use Rattle.wild_relax.specs.RowSymbols.{is_in_32, takes_value, is_mandatory}
 use Rattle.wild_relax.specs.Rewrite.{is_skip}
 use Rattle.wild_relax.specs.RewriteX86_64.{change_of, addend_by, number_written, rewrite_of}
 use Rattle.wild_relax.proofs.RewriteLemmas.{code_high}
-use Rattle.wild_relax.specs.Linked.{keeps_bytes, field_in, template_of}
-use Rattle.wild_relax.specs.KeepX86_64.{distance, Lands, demanded}
+use Rattle.wild_relax.specs.LinkedPattern.{keeps_bytes, field_in, template_of}
+use Rattle.wild_relax.specs.KeepX86_64.{distance, FieldIsRight, demanded}
 use Rattle.wild_layout.specs.Sites.{template_start}
 use Rattle.wild_loader.specs.declared.memory.Memory.{Memory}
 use Rattle.wild_loader.specs.declared.world.World.{World}
@@ -39,7 +39,7 @@ use Rattle.wild_meaning.specs.Item.{place_at}
 use Rattle.wild_loader.specs.Instruction.{Effect, Reader, sum_64}
 use Rattle.wild_loader.specs.InstructionX86_64.{demand_x86_64}
 use Rattle.wild_meaning.specs.Sequence.{Sort, TargetInSlot, AddressInSlot, OffsetInSlot, SymbolPair, OwnPair, Described, DescribedCall}
-use Rattle.wild_meaning.specs.Template.{reads_alone, demand_of, Demands, IsDemanded, no_effect, old_bytes, DoesDemanded}
+use Rattle.wild_meaning.specs.Template.{reads_without_calls, demand_of, Demands, IsDemanded, no_effect, old_bytes, DoesDemanded}
 use Rattle.wild_loader.specs.declared.instruction.Operand.TheVariants.{Word}
 use Rattle.wild_meaning.specs.Formula.{IsOffset, HasOffsetMode}
 use Rattle.wild_layout.specs.Choice.{question_of}
@@ -50,7 +50,7 @@ use Rattle.wild_references.proofs.RewrittenForms.{instruction_of}
 use Rattle.wild_references.proofs.RewrittenPairs.{paired}
 use Rattle.wild_references.proofs.RewrittenPlaces.{LawsBelow, IsPlacedRow, is_code, mandatory_static}
 use Rattle.wild_references.proofs.RewrittenTemplates.{is_plain, plain_taken}
-use Rattle.wild_references.proofs.RewrittenAlone.{called}
+use Rattle.wild_references.proofs.RewrittenInInput.{called}
 use Rattle.wild_references.proofs.RewrittenTerms.{info_is}
 use Rattle.wild_references.proofs.RewrittenValues.{known_still}
 use Rattle.wild_references.proofs.RewrittenOperands.{LandsFar, LandsItself, not_absolute, not_moved, lands_far, lands_itself}
@@ -59,7 +59,7 @@ use Rattle.wild_references.proofs.RewrittenEffects.{old_of, effect_kept, on_mach
 
 -- the row's code does what the instruction demands
 abbrev pub DoesRow : Layout → World → Memory → Item → InputRelocation → Row → Type 0
-DoesRow l w m s r row = DoesDemanded (reads_alone w m) l w m s r (template_start row r) (instruction_of row)
+DoesRow l w m s r row = DoesDemanded (reads_without_calls w m) l w m s r (template_start row r) (instruction_of row)
 
 -- ---- addresses
 
@@ -109,7 +109,7 @@ GoesWithBase l w row k = (instruction_of row).sort ≡ TargetInSlot → IsMovabl
 
 -- ---- how a field lands
 
-lands_far_as : (w : Written) (read : Reader) (place n v : ℕ) → number_written w ≡ r_x86_64_pc32 → v ≡ distance n place → Lands w read place n v
+lands_far_as : (w : Written) (read : Reader) (place n v : ℕ) → number_written w ≡ r_x86_64_pc32 → v ≡ distance n place → FieldIsRight w read place n v
 lands_far_as written.Pc32 read place n v e h = h
 lands_far_as (written.Code d goal) read place n v e h = absurd (let high = code_high d in omega (arith, high, e))
 lands_far_as other read place n v e h = cc
@@ -120,18 +120,18 @@ is_itself written.Unsigned32 = true
 is_itself written.TpOff32 = true
 is_itself other = false
 
-lands_as : (w : Written) (read : Reader) (place n v : ℕ) → is_itself w ≡ true → v ≡ n → Lands w read place n v
+lands_as : (w : Written) (read : Reader) (place n v : ℕ) → is_itself w ≡ true → v ≡ n → FieldIsRight w read place n v
 lands_as written.Signed32 read place n v e h = h
 lands_as written.Unsigned32 read place n v e h = h
 lands_as written.TpOff32 read place n v e h = h
 lands_as other read place n v e h = cc
 
-lands_slot_as : (w : Written) (read : Reader) (place n v : ℕ) → number_written w ≡ r_x86_64_gottpoff → read (Word (sum_64 (place + 4) v)) ≡ Some n → Lands w read place n v
+lands_slot_as : (w : Written) (read : Reader) (place n v : ℕ) → number_written w ≡ r_x86_64_gottpoff → read (Word (sum_64 (place + 4) v)) ≡ Some n → FieldIsRight w read place n v
 lands_slot_as written.GotTpOff read place n v e h = h
 lands_slot_as (written.Code d goal) read place n v e h = absurd (let high = code_high d in omega (arith, high, e))
 lands_slot_as other read place n v e h = cc
 
-lands_start : (w : Written) (read : Reader) (place v : ℕ) → number_written w ≡ r_x86_64_none → Lands w read place 0 v
+lands_start : (w : Written) (read : Reader) (place v : ℕ) → number_written w ≡ r_x86_64_none → FieldIsRight w read place 0 v
 lands_start written.Nothing read place v e = refl
 lands_start (written.Code d goal) read place v e = absurd (let high = code_high d in omega (arith, high, e))
 lands_start other read place v e = cc
@@ -237,13 +237,13 @@ does_row laws l w m s i r row v h whole p asked = by (cases_Bool (is_call (instr
     kept : counts_ends row ≡ true → (rewrite_of row).addend r.addend ≡ r.addend
     kept e = ap (λ (b : Bool). addend_by b r.addend) (and_parts (change_of row.made).keeps_addend ((row.ends || row.needs_end) || is_skip (rewrite_of row).next) e).0
 
-    itself : (n : ℕ) → counts_none row ≡ true → v ≡ n → Lands row.written (reads_alone w m) place n v
-    itself n e h = lands_as row.written (reads_alone w m) place n v (and_parts (not (change_of row.made).keeps_addend) (is_itself row.written) e).1 h
+    itself : (n : ℕ) → counts_none row ≡ true → v ≡ n → FieldIsRight row.written (reads_without_calls w m) place n v
+    itself n e h = lands_as row.written (reads_without_calls w m) place n v (and_parts (not (change_of row.made).keeps_addend) (is_itself row.written) e).1 h
 
     taken : (t : ValueTest) → row.value ≡ t → takes_value t q ≡ true
     taken t e = subst (λ (x : ValueTest). takes_value x q ≡ true) e p.stands.taken.value
 
-    finish : (o : Sort) (n : ℕ) → (instruction_of row).sort ≡ o → is_nop row.made ≡ false → Demands o l w m s r n → n < 2 ^ 64 → Lands row.written (reads_alone w m) place n v
+    finish : (o : Sort) (n : ℕ) → (instruction_of row).sort ≡ o → is_nop row.made ≡ false → Demands o l w m s r n → n < 2 ^ 64 → FieldIsRight row.written (reads_without_calls w m) place n v
         → ((a : ℕ) (old : List ℕ) (e : Effect) → demand_of l.machine n a old ≡ Some e → IsDemanded o l s n a old e) → DoesRow l w m s r row
     finish o n sort acts demands small lands told =
         does_by laws l w m s i r row v n h p (subst (λ (x : Sort). Demands x l w m s r n) (sym sort) demands) small lands (λ a old. demanded_as row.made n a old acts)
@@ -255,7 +255,7 @@ does_row laws l w m s i r row v h whole p asked = by (cases_Bool (is_call (instr
         finish AddressInSlot x.operand sort acts x.is.target x.is.small (itself x.operand counts x.lands) (λ a old e k. k)
 
     far : (o : Sort) (x : LandsFar l w m s r row v) → (rewrite_of row).number ≡ 2 → (instruction_of row).sort ≡ o → is_nop row.made ≡ false → Demands o l w m s r x.operand → ((a : ℕ) (old : List ℕ) (e : Effect) → demand_of l.machine x.operand a old ≡ Some e → IsDemanded o l s x.operand a old e) → DoesRow l w m s r row
-    far o x written sort acts demands told = finish o x.operand sort acts demands x.is.small (lands_far_as row.written (reads_alone w m) place x.operand v written x.lands) told
+    far o x written sort acts demands told = finish o x.operand sort acts demands x.is.small (lands_far_as row.written (reads_without_calls w m) place x.operand v written x.lands) told
 
     own : KeepsAll l → (o : Sort) → (instruction_of row).sort ≡ o → row.value ≡ value.Own → is_nop row.made ≡ false → is_executable l.kind ≡ true → (writes r_x86_64_tpoff32 row && counts_none row) ≡ true → ((n : ℕ) → IsOffset l w r.symbol n → Demands o l w m s r n)
         → ((n a : ℕ) (old : List ℕ) (e : Effect) → demand_of l.machine n a old ≡ Some e → IsDemanded o l s n a old e) → DoesRow l w m s r row
@@ -269,7 +269,7 @@ does_row laws l w m s i r row v h whole p asked = by (cases_Bool (is_call (instr
     slot all o sort acts so demands told =
         let f = and_parts (writes r_x86_64_gottpoff row) (counts_ends row) so in
         let x = lands_slot laws l w m s i r row v h all p (eqb-true (number_written row.written) r_x86_64_gottpoff f.0) (kept f.1) (ends f.1) in
-        finish o x.operand sort acts (demands x.operand x.is.offset) x.is.small (lands_slot_as row.written (reads_alone w m) place x.operand v (eqb-true (number_written row.written) r_x86_64_gottpoff f.0) x.lands) (told x.operand)
+        finish o x.operand sort acts (demands x.operand x.is.offset) x.is.small (lands_slot_as row.written (reads_without_calls w m) place x.operand v (eqb-true (number_written row.written) r_x86_64_gottpoff f.0) x.lands) (told x.operand)
 
     act : KeepsAll l → (o : Sort) (t : ValueTest) → (instruction_of row).sort ≡ o → row.value ≡ t → is_nop row.made ≡ false → not (has_flag q.flags ifunc) ≡ true → (is_thread o ≡ true → is_executable l.kind ≡ true) → does_so o t row ≡ true → DoesRow l w m s r row
     act all AddressInSlot value.OwnSigned sort takes acts plain there so = (let f = and_parts (writes r_x86_64_32s row) (counts_none row) so in number all value.OwnSigned (is_in_32 Signed q.value) refl (inl (eqb-true (number_written row.written) r_x86_64_32s f.0)) takes sort acts plain f.1)
@@ -291,7 +291,7 @@ does_row laws l w m s i r row v h whole p asked = by (cases_Bool (is_call (instr
     act all Described value.Own sort takes acts plain there so = own all Described sort takes acts (there refl) so (λ n k. inl (mode (ap is_thread sort), k)) (λ n a old e k. k)
     act all SymbolPair value.Interposable sort takes acts plain there so = slot all SymbolPair sort acts so (λ n k. k) (λ n a old e k. k)
     act all Described value.Interposable sort takes acts plain there so = slot all Described sort acts so (λ n k. inl (mode (ap is_thread sort), k)) (λ n a old e k. k)
-    act all OwnPair value.Any sort takes acts plain there so = finish OwnPair 0 sort acts (own_base l w h.on (there refl)) (omega arith) (lands_start row.written (reads_alone w m) place v (eqb-true (number_written row.written) r_x86_64_none so)) (λ a old e k. k)
+    act all OwnPair value.Any sort takes acts plain there so = finish OwnPair 0 sort acts (own_base l w h.on (there refl)) (omega arith) (lands_start row.written (reads_without_calls w m) place v (eqb-true (number_written row.written) r_x86_64_none so)) (λ a old e k. k)
     act all o t sort takes acts plain there so = cc
 
     call_sort : (o : Sort) → is_call o ≡ true → o ≡ DescribedCall
@@ -311,7 +311,7 @@ does_row laws l w m s i r row v h whole p asked = by (cases_Bool (is_call (instr
             bytes = template_of row v (old_of s row r);
             whole = whole_is l w m s i r row v h p;
             held = h.item.rewritten i r row v p.has;
-            does = on_machine l.machine (reads_alone w m) (place_at w s (template_start row r)) (template_of row v (old_of s row r)) h.on ∙ (effect_kept laws l w m s i r row v 0 (place_at w s (template_start row r)) h p (omega arith) (lands_start row.written (reads_alone w m) place v (eqb-true (number_written row.written) r_x86_64_none f.1)) ∙ demanded_none row.made 0 (place_at w s (template_start row r)) (old_of s row r) f.0);
+            does = on_machine l.machine (reads_without_calls w m) (place_at w s (template_start row r)) (template_of row v (old_of s row r)) h.on ∙ (effect_kept laws l w m s i r row v 0 (place_at w s (template_start row r)) h p (omega arith) (lands_start row.written (reads_without_calls w m) place v (eqb-true (number_written row.written) r_x86_64_none f.1)) ∙ demanded_none row.made 0 (place_at w s (template_start row r)) (old_of s row r) f.0);
           };
         }
 

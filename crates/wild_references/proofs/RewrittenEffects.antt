@@ -10,9 +10,9 @@ use Rattle.wild_reloc.specs.TableX86_64.{x86_64_row}
 use Rattle.wild_reloc.specs.declared.info.RelocationKindInfo.{RelocationKindInfo}
 use Rattle.wild_relax.specs.declared.row.Row.{Row}
 use Rattle.wild_relax.specs.RewriteX86_64.{rewrite_of}
-use Rattle.wild_relax.specs.Linked.{pattern_size, field_in, linked, template_of}
+use Rattle.wild_relax.specs.LinkedPattern.{pattern_size, field_in, linked_pattern, template_of}
 use Rattle.wild_relax.proofs.TemplateLemmas as templates
-use Rattle.wild_relax.specs.KeepX86_64.{Lands, demanded}
+use Rattle.wild_relax.specs.KeepX86_64.{FieldIsRight, demanded}
 use Rattle.wild_layout.specs.Sites.{template_start}
 use Rattle.wild_layout.proofs.ChoiceLemmas.{length-template}
 use Rattle.wild_loader.specs.declared.memory.Memory.{Memory}
@@ -20,11 +20,11 @@ use Rattle.wild_loader.specs.declared.world.World.{World}
 use Rattle.wild_types.specs.Item.{Item}
 use Rattle.wild_meaning.specs.Item.{place_at}
 use Rattle.wild_loader.specs.declared.instruction.Action.{Action}
-use Rattle.wild_loader.specs.Instruction.{Template, Effect, stands, fills, first_meaning, with_value, Reader}
+use Rattle.wild_loader.specs.Instruction.{Template, Effect, stands, template_fills, first_meaning, with_value, Reader}
 use Rattle.wild_loader.specs.ThreadCodeX86_64.{nop_byte}
 use Rattle.wild_loader.specs.InstructionX86_64.{templates_x86_64, meaning_x86_64, effect_x86_64, demand_x86_64}
 use Rattle.wild_meaning.specs.Sequence.{size_of}
-use Rattle.wild_meaning.specs.Template.{reads_alone, effect_of, demand_of, Demands, IsDemanded, old_bytes, DoesDemanded}
+use Rattle.wild_meaning.specs.Template.{reads_without_calls, effect_of, demand_of, Demands, IsDemanded, old_bytes, DoesDemanded}
 use Rattle.wild_layout.proofs.DecideLemmas.{value_below}
 use Rattle.wild_references.specs.Laws.{IsLoadedItem}
 use Rattle.wild_references.proofs.RewrittenForms.{instruction_of}
@@ -39,15 +39,15 @@ drop_whole [] (suc n) h = absurd (omega (arith, h))
 drop_whole (b ∷ bs) zero h = absurd (omega (arith, h))
 drop_whole (b ∷ bs) (suc n) h = drop_whole bs n (omega (arith, h))
 
-fills_whole : (nop : List ℕ) (t : Template) (bs : List ℕ) → length bs ≡ length t.cells → stands t.cells bs ≡ true → fills nop t bs ≡ true
+fills_whole : (nop : List ℕ) (t : Template) (bs : List ℕ) → length bs ≡ length t.cells → stands t.cells bs ≡ true → template_fills nop t bs ≡ true
 fills_whole nop t bs long same =
     let room : nat_le (length t.cells) (length bs) ≡ true = le-leb (length t.cells) (length bs) (omega (arith, long)) in
     rw (room, same, drop_whole bs (length t.cells) long) refl
 
-means : (nop : List ℕ) (ts : List Template) (t : Template) (k a : ℕ) (bs : List ℕ) → k < length ts → get_or ts k t ≡ t → fills nop t bs ≡ true → (act : Action) × (first_meaning nop ts a bs ≡ Some act)
+means : (nop : List ℕ) (ts : List Template) (t : Template) (k a : ℕ) (bs : List ℕ) → k < length ts → get_or ts k t ≡ t → template_fills nop t bs ≡ true → (act : Action) × (first_meaning nop ts a bs ≡ Some act)
 means nop [] t k a bs lt e h = absurd (omega (arith, lt))
-means nop (x ∷ xs) t zero a bs lt e h = (let here : fills nop x bs ≡ true = subst (λ (y : Template). fills nop y bs ≡ true) (sym e) h in (x.action a bs, rw here refl))
-means nop (x ∷ xs) t (suc k) a bs lt e h = by_first (fills nop x bs) (means nop xs t k a bs (omega (arith, lt)) e h)
+means nop (x ∷ xs) t zero a bs lt e h = (let here : template_fills nop x bs ≡ true = subst (λ (y : Template). template_fills nop y bs ≡ true) (sym e) h in (x.action a bs, rw here refl))
+means nop (x ∷ xs) t (suc k) a bs lt e h = by_first (template_fills nop x bs) (means nop xs t k a bs (omega (arith, lt)) e h)
   where
     by_first : (b : Bool) → (act : Action) × (first_meaning nop xs a bs ≡ Some act) → (act : Action) × ((if b then Some (x.action a bs) else first_meaning nop xs a bs) ≡ Some act)
     by_first true rest = (x.action a bs, refl)
@@ -64,19 +64,19 @@ has_effect v a k t bs lt is long same =
 pub value_small : (l : Layout) (s : Item) (i : ℕ) (r : InputRelocation) (row : Row) (v : ℕ) → IsPlacedRow l s i r row v → v < 2 ^ 64
 value_small l s i r row v p = (let x = p.made.written in subst (λ (n : ℕ). n < 2 ^ 64) x.value (value_below l x.info.kind x.term _ _))
 
-pub template_linked : (row : Row) (info : RelocationKindInfo) (v : ℕ) (old : List ℕ) → x86_64_row (rewrite_of row).number ≡ Some info → template_of row v old ≡ linked row info v old
+pub template_linked : (row : Row) (info : RelocationKindInfo) (v : ℕ) (old : List ℕ) → x86_64_row (rewrite_of row).number ≡ Some info → template_of row v old ≡ linked_pattern row info v old
 template_linked row info v old e = templates.template_linked row info v old (sym e)
 
 abbrev pub old_of : Item → Row → InputRelocation → List ℕ
 old_of s row r = slice_range s.bytes (template_start row r) (template_start row r + pattern_size row)
 
 -- the effect of what is written, at the row's bytes
-pub effect_kept : LawsBelow → (l : Layout) (w : World) (m : Memory) (s : Item) (i : ℕ) (r : InputRelocation) (row : Row) (v n a : ℕ) → IsLoadedItem machine.X86_64 l w m s → IsPlacedRow l s i r row v → n < 2 ^ 64 → Lands row.written (reads_alone w m) (a + field_in row) n v → effect_x86_64 (reads_alone w m) a (template_of row v (old_of s row r)) ≡ demanded row.made n a (old_of s row r)
+pub effect_kept : LawsBelow → (l : Layout) (w : World) (m : Memory) (s : Item) (i : ℕ) (r : InputRelocation) (row : Row) (v n a : ℕ) → IsLoadedItem machine.X86_64 l w m s → IsPlacedRow l s i r row v → n < 2 ^ 64 → FieldIsRight row.written (reads_without_calls w m) (a + field_in row) n v → effect_x86_64 (reads_without_calls w m) a (template_of row v (old_of s row r)) ≡ demanded row.made n a (old_of s row r)
 effect_kept laws l w m s i r row v n a h p small lands =
     let x = p.made.written in
     let known = info_is l w m s i r row v h p in
-    let keeps = laws.keeps row x.info (reads_alone w m) a n v (old_of s row r) p.changing p.whole (record { row_of = sym known; allowed = x.allowed; small = value_small l s i r row v p; operand = small; numbers = λ k. refl; lands = lands }) in
-    ap (λ (bs : List ℕ). effect_x86_64 (reads_alone w m) a bs) (template_linked row x.info v (old_of s row r) known) ∙ keeps
+    let keeps = laws.keeps row x.info (reads_without_calls w m) a n v (old_of s row r) p.changing p.whole (record { row_of = sym known; allowed = x.allowed; small = value_small l s i r row v p; operand = small; numbers = λ k. refl; lands = lands }) in
+    ap (λ (bs : List ℕ). effect_x86_64 (reads_without_calls w m) a bs) (template_linked row x.info v (old_of s row r) known) ∙ keeps
 
 pub on_machine : (k : Machine) (read : Reader) (a : ℕ) (bs : List ℕ) → k ≡ machine.X86_64 → effect_of k read a bs ≡ effect_x86_64 read a bs
 on_machine k read a bs e = rw e refl
@@ -91,8 +91,8 @@ pub whole_is : (l : Layout) (w : World) (m : Memory) (s : Item) (i : ℕ) (r : I
 whole_is l w m s i r row v h p = length-template row v (old_of s row r) (lies_in l s i r row v p) p.whole.long ∙ sym (size_is l s i r row v p)
 
 -- with an operand that lands it does what is demanded, where that is an effect of the input's bytes
-pub does_by : LawsBelow → (l : Layout) (w : World) (m : Memory) (s : Item) (i : ℕ) (r : InputRelocation) (row : Row) (v n : ℕ) → IsLoadedItem machine.X86_64 l w m s → IsPlacedRow l s i r row v → Demands (instruction_of row).sort l w m s r n → n < 2 ^ 64 → Lands row.written (reads_alone w m) (place_at w s (template_start row r) + field_in row) n v
-    → ((a : ℕ) (old : List ℕ) → demanded row.made n a old ≡ demand_x86_64 n a old) → ((a : ℕ) (old : List ℕ) (e : Effect) → demand_of l.machine n a old ≡ Some e → IsDemanded (instruction_of row).sort l s n a old e) → DoesDemanded (reads_alone w m) l w m s r (template_start row r) (instruction_of row)
+pub does_by : LawsBelow → (l : Layout) (w : World) (m : Memory) (s : Item) (i : ℕ) (r : InputRelocation) (row : Row) (v n : ℕ) → IsLoadedItem machine.X86_64 l w m s → IsPlacedRow l s i r row v → Demands (instruction_of row).sort l w m s r n → n < 2 ^ 64 → FieldIsRight row.written (reads_without_calls w m) (place_at w s (template_start row r) + field_in row) n v
+    → ((a : ℕ) (old : List ℕ) → demanded row.made n a old ≡ demand_x86_64 n a old) → ((a : ℕ) (old : List ℕ) (e : Effect) → demand_of l.machine n a old ≡ Some e → IsDemanded (instruction_of row).sort l s n a old e) → DoesDemanded (reads_without_calls w m) l w m s r (template_start row r) (instruction_of row)
 does_by laws l w m s i r row v n h p demands small lands same told =
     let a = place_at w s (template_start row r) in
     let old = old_is l s i r row v p in
@@ -111,6 +111,6 @@ does_by laws l w m s i r row v n h p demands small lands same told =
         bytes = template_of row v (old_of s row r);
         whole = whole_is l w m s i r row v h p;
         held = h.item.rewritten i r row v p.has;
-        does = on_machine l.machine (reads_alone w m) a _ h.on ∙ (effect_kept laws l w m s i r row v n a h p small lands ∙ (same a (old_of s row r) ∙ e.1));
+        does = on_machine l.machine (reads_without_calls w m) a _ h.on ∙ (effect_kept laws l w m s i r row v n a h p small lands ∙ (same a (old_of s row r) ∙ e.1));
       };
     }

@@ -14,7 +14,7 @@ use Rattle.wild_reloc.specs.Formula.{Value, Formula, SymbolAddress, SymbolPart, 
 use Rattle.wild_reloc.specs.FormulaAArch64.{aarch64_formula}
 use Rattle.wild_reloc.specs.FormulaX86_64.{x86_64_formula}
 use Rattle.wild_relax.specs.declared.row.Row.{Row}
-use Rattle.wild_relax.specs.Linked.{keeps_bytes}
+use Rattle.wild_relax.specs.LinkedPattern.{keeps_bytes}
 use Rattle.wild_relax.specs.Rows.{rows_x86_64}
 use Rattle.wild_relax.specs.RowsAArch64.{rows_aarch64}
 use Rattle.wild_relax.proofs.RoomLemmas.{applied}
@@ -26,7 +26,7 @@ use Rattle.wild_meaning.specs.Field.{formula_of}
 use Rattle.wild_meaning.specs.Formula.{TakesAddress, TakesOffset}
 use Rattle.wild_types.specs.Item.{Item}
 use Rattle.wild_meaning.specs.Value.{is_library, IsReplaceable}
-use Rattle.wild_meaning.specs.Reference.{TakesItself, IsLinkedAlone}
+use Rattle.wild_meaning.specs.Reference.{UsesOwnDefinition, UsesOwnSymbolOnly}
 use Rattle.wild_references.specs.EffectLaws.{RewrittenAreFollowed}
 use Rattle.wild_references.proofs.RewrittenRuns.{asks_near, IsNearSymbol, near_symbol}
 
@@ -70,11 +70,11 @@ no_address PageDistance h t = cc
 no_address FromTable h t = cc
 no_address other h t = t
 
-takes_none : (l : Layout) (s : Item) (i : ℕ) (f : Formula) → is_indirect f.value ≡ true → TakesItself l s i f → ⊥
+takes_none : (l : Layout) (s : Item) (i : ℕ) (f : Formula) → is_indirect f.value ≡ true → UsesOwnDefinition l s i f → ⊥
 takes_none l s i f h (inl offset) = no_offset f.value h offset
 takes_none l s i f h (inr address) = no_address f.value h address.0
 
-followed_x86_64 : (l : Layout) (s : Item) (i : ℕ) (r : InputRelocation) (row : Row) → IsChosen l s r (slice_get s.relocations (i + 1)) row → IsLinkedAlone l s r → ⊥
+followed_x86_64 : (l : Layout) (s : Item) (i : ℕ) (r : InputRelocation) (row : Row) → IsChosen l s r (slice_get s.relocations (i + 1)) row → UsesOwnSymbolOnly l s r → ⊥
 followed_x86_64 l s i r row c alone =
     let listed = chosen_listed l s r (slice_get s.relocations (i + 1)) row c row_indirect each_indirect in
     let other : (row.number == r_x86_64_pc32) ≡ false = subst (λ (n : ℕ). (n == r_x86_64_pc32) ≡ false) c.number c.other in
@@ -108,7 +108,7 @@ near_is_own l i near r =
     let fixed = flag_is l i non_interposable (has_flag f non_interposable) (record { definition = r.definition; defined = r.defined; symbol = r.symbol; listed = r.listed; flagged = refl }) in
     stays_own (has_flag f dynamic) (has_flag f copy_relocation) (is_library l.kind) (has_flag f export_dynamic) (has_flag f non_interposable) other (subst (λ (b : Bool). not b ≡ false) fixed near.own) r.told
 
-followed_aarch64 : (l : Layout) (s : Item) (i : ℕ) (r : InputRelocation) (row : Row) (v : ℕ) → IsRewrittenAArch64 l s i r row v → IsLinkedAlone l s r → ⊥
+followed_aarch64 : (l : Layout) (s : Item) (i : ℕ) (r : InputRelocation) (row : Row) (v : ℕ) → IsRewrittenAArch64 l s i r row v → UsesOwnSymbolOnly l s r → ⊥
 followed_aarch64 l s i r row v made alone =
     let c = made.chosen in
     let passes = or_other (keeps_bytes row) _ (listed_passes word_indirect rows_aarch64 row each_word_indirect c.listed) made.changes in

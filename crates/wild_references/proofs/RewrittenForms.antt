@@ -18,7 +18,7 @@ use Rattle.wild_relax.specs.Pattern as writer
 use Rattle.wild_relax.specs.declared.pattern.Pattern.{Pattern}
 use Rattle.wild_relax.specs.declared.pattern.Pattern.TheVariants as pattern
 use Rattle.wild_relax.specs.Rows.{rows_x86_64}
-use Rattle.wild_relax.specs.Linked.{pattern_of, keeps_bytes, IsChanging}
+use Rattle.wild_relax.specs.LinkedPattern.{pattern_of, keeps_bytes, IsChanging}
 use Rattle.wild_words.proofs.Basics.{or_other, listed_passes}
 use Rattle.wild_loader.specs.Instruction as judge
 use Rattle.wild_loader.specs.declared.instruction.Cell as judge-cell
@@ -141,18 +141,18 @@ pub record InstructionFits (p : Pattern) (n : ℕ) : Type 0 where
   pub template : Contains templates_x86_64 (instruction_by p n).template
   pub number : Contains (instruction_by p n).numbers n
   pub field : (instruction_by p n).field ≡ writer.field_of p
-  pub covers : covers_all (writer.cells_of p) (instruction_by p n).template.cells ≡ true
+  pub covers : covers_all (writer.pattern_cells p) (instruction_by p n).template.cells ≡ true
 
 abbrev pub RowFits : Row → Type 0
 RowFits row = InstructionFits (pattern_of row) row.number
 
 -- what a test that passes gives, else another
-abbrev pub where_so : {X : Type 0} → (b : Bool) → (b ≡ true → X) → Option X → Option X
-where_so true f other = Some (f refl)
-where_so false f other = other
+abbrev pub items_if : {X : Type 0} → (b : Bool) → (b ≡ true → X) → Option X → Option X
+items_if true f other = Some (f refl)
+items_if false f other = other
 
 abbrev at : (p : Pattern) (k : ℕ) → InstructionFits p k → (n : ℕ) → Option (InstructionFits p n) → Option (InstructionFits p n)
-at p k fits n other = where_so (n == k) (λ t. subst (InstructionFits p) (sym (eqb-true n k t)) fits) other
+at p k fits n other = items_if (n == k) (λ t. subst (InstructionFits p) (sym (eqb-true n k t)) fits) other
 
 abbrev fits_by : (p : Pattern) (n : ℕ) → Option (InstructionFits p n)
 fits_by (pattern.Wide Rex operation.Mov) n = at (pattern.Wide Rex operation.Mov) abi.r_x86_64_rex_gotpcrelx (record { known = (8, omega arith, refl); template = (21, omega arith, refl); number = (0, omega arith, refl); field = refl; covers = refl }) n (at (pattern.Wide Rex operation.Mov) abi.r_x86_64_gottpoff (record { known = (16, omega arith, refl); template = (21, omega arith, refl); number = (0, omega arith, refl); field = refl; covers = refl }) n (at (pattern.Wide Rex operation.Mov) abi.r_x86_64_gotpcrel (record { known = (20, omega arith, refl); template = (21, omega arith, refl); number = (0, omega arith, refl); field = refl; covers = refl }) n None))

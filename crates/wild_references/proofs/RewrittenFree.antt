@@ -15,9 +15,9 @@ use Rattle.wild_relax.specs.declared.pattern.GeneralForm.{GeneralForm}
 use Rattle.wild_relax.specs.declared.pattern.GeneralForm.TheVariants as general
 use Rattle.wild_relax.specs.declared.row.Row.{Row}
 use Rattle.wild_relax.specs.Question.{Question}
-use Rattle.wild_relax.specs.First.{first_standing}
+use Rattle.wild_relax.specs.FirstRow.{first_standing}
 use Rattle.wild_relax.specs.RowSequences.{is_call_number, call_form, has_its_sequence}
-use Rattle.wild_relax.specs.Rows.{rows_x86_64, applies, unknown_sequence, standing_x86_64, chosen_x86_64}
+use Rattle.wild_relax.specs.Rows.{rows_x86_64, applies, unknown_sequence, first_row_x86_64, chosen_row_x86_64}
 use Rattle.wild_relax.specs.Rewrite.{is_skip}
 use Rattle.wild_relax.specs.RewriteX86_64.{rewrite_of}
 use Rattle.wild_layout.specs.Choice.{question_of, choice_of, is_partner, is_thread_type}
@@ -38,13 +38,13 @@ first_there stands (x ∷ xs) w (suc k) lt e h = by_test (stands x) (first_there
     by_test true rest = (x, refl)
     by_test false rest = rest
 
-standing_there : (q : Question) (w : Row) (k : ℕ) → k < length rows_x86_64 → get_or rows_x86_64 k w ≡ w → applies q w ≡ true → (x : Row) × (standing_x86_64 q ≡ Some x)
-unfolding standing_x86_64
+standing_there : (q : Question) (w : Row) (k : ℕ) → k < length rows_x86_64 → get_or rows_x86_64 k w ≡ w → applies q w ≡ true → (x : Row) × (first_row_x86_64 q ≡ Some x)
+unfolding first_row_x86_64
 standing_there q w k lt e h = first_there (applies q) rows_x86_64 w k lt e h
 
 -- so that it is chosen, or refused
-chosen_or_not : (q : Question) (x : Row) → standing_x86_64 q ≡ Some x → (chosen_x86_64 q ≡ Ok (Some x)) ⊎ ((e : UnknownSequence) × (chosen_x86_64 q ≡ Err e))
-unfolding chosen_x86_64
+chosen_or_not : (q : Question) (x : Row) → first_row_x86_64 q ≡ Some x → (chosen_row_x86_64 q ≡ Ok (Some x)) ⊎ ((e : UnknownSequence) × (chosen_row_x86_64 q ≡ Err e))
+unfolding chosen_row_x86_64
 chosen_or_not q x e =
     elim (cases_Bool (has_its_sequence q x)) [
       | inl t ↦ inl (rw (e, t) refl)

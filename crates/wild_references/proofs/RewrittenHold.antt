@@ -8,7 +8,7 @@ use Rattle.wild_types.specs.declared.kind.Machine.{Machine}
 use Rattle.wild_types.specs.declared.kind.Machine.TheVariants as machine
 use Rattle.wild_types.specs.declared.input.InputRelocation.{InputRelocation}
 use Rattle.wild_types.specs.declared.layout.Layout.{Layout}
-use Rattle.wild_types.specs.Hollow.{KeepsAll}
+use Rattle.wild_types.specs.HeaderOnly.{KeepsAll}
 use Rattle.wild_types.specs.Flags.{interposable}
 use Rattle.wild_types.specs.Item.{Item}
 use Rattle.wild_slot.specs.Treatment.{flags_at}
@@ -18,11 +18,11 @@ use Rattle.wild_relax.specs.declared.row.Row.{Row}
 use Rattle.wild_relax.specs.declared.row.ValueTest.TheVariants as value
 use Rattle.wild_relax.specs.declared.table_aarch64.TheConstants.{CALL_FIRST, CALL_SECOND, CALL_THIRD, CALL_FOURTH, CALL_THIRD_SLOT, CALL_FOURTH_SLOT, SLOT_FIRST, SLOT_SECOND, ADDRESS_FIRST, ADDRESS_SECOND}
 use Rattle.wild_relax.specs.KeepAArch64.{Rewriting, rewritings, RowsOfAArch64Keep}
-use Rattle.wild_relax.specs.Linked.{keeps_bytes}
+use Rattle.wild_relax.specs.LinkedPattern.{keeps_bytes}
 use Rattle.wild_relax.specs.Question.{Question}
-use Rattle.wild_relax.specs.RowsAArch64.{chosen_aarch64}
+use Rattle.wild_relax.specs.RowsAArch64.{chosen_row_aarch64}
 use Rattle.wild_relax.specs.SequenceAArch64.{words_before}
-use Rattle.wild_relax.specs.TogetherAArch64.{asked_at, IsOneOf, RowsStandTogether}
+use Rattle.wild_relax.specs.SequenceRowsAArch64.{question_at, IsRowOfSequence, RowsApplyTogether}
 use Rattle.wild_relax.proofs.TogetherLemmas.{chosen_word}
 use Rattle.wild_layout.specs.Choice.{question_around}
 use Rattle.wild_loader.specs.declared.memory.Memory.{Memory}
@@ -48,19 +48,19 @@ use Rattle.wild_references.proofs.Targets.{Stands}
 -- word k of a run, with the relocation of a type, as its row writes it
 pub record IsWordOf (l : Layout) (s : Item) (symbol index k : ℕ) (p : InputRelocation) (row : Row) : Type 0 where
   pub value : ℕ
-  pub chosen : chosen_aarch64 (question_around l s (index + k) p symbol) ≡ Ok (Some row)
+  pub chosen : chosen_row_aarch64 (question_around l s (index + k) p symbol) ≡ Ok (Some row)
   pub written : IsWrittenWord l s (index + k) p row value
 
 none_before : (i w k f j : ℕ) → w ≡ k → i - (i - w) ≡ f + k → f + j ≡ j
 none_before i w k f j e h = omega (arith, e, h)
 
-pub word_of_run : (l : Layout) (s : Item) (i : ℕ) (r : InputRelocation) (row : Row) (q : Sequence) → (t : IsRewrittenWord l s i r row) → (c : IsRunThere l s i r row q t.word) → (o : IsOneOf (question_around l s i r t.symbol) row t.sequence t.word) → WordsAreWritten l s t.symbol
+pub word_of_run : (l : Layout) (s : Item) (i : ℕ) (r : InputRelocation) (row : Row) (q : Sequence) → (t : IsRewrittenWord l s i r row) → (c : IsRunThere l s i r row q t.word) → (o : IsRowOfSequence (question_around l s i r t.symbol) row t.sequence t.word) → WordsAreWritten l s t.symbol
     → (k n : ℕ) (p : InputRelocation) (other : Row) → slice_get o.whole.rows k ≡ Some other → keeps_bytes other ≡ false → words_before n ≡ k → Contains (n ∷ []) p.number → slice_get s.relocations (c.index + k) ≡ Some p → p.symbol ≡ Some t.symbol → IsWordOf l s t.symbol c.index k p other
 word_of_run l s i r row q t c o written k n p other here changes before number listed named =
     let first : o.first + k ≡ k = none_before i (words_before r.number) t.word o.first k c.before o.place in
-    let there = subst (λ (j : ℕ). chosen_aarch64 (asked_at (question_around l s i r t.symbol) j) ≡ Ok (Some other)) first (o.each k other here) in
+    let there = subst (λ (j : ℕ). chosen_row_aarch64 (question_at (question_around l s i r t.symbol) j) ≡ Ok (Some other)) first (o.each k other here) in
     let asked = asked_there l s i c.index t.word k t.symbol r p c.at c.before (ap words_before (only_one n p.number number) ∙ before) in
-    let chosen = subst (λ (y : Question). chosen_aarch64 y ≡ Ok (Some other)) asked there in
+    let chosen = subst (λ (y : Question). chosen_row_aarch64 y ≡ Ok (Some other)) asked there in
     let w = written (c.index + k) p other listed named chosen changes in
     record { value = w.0; chosen = chosen; written = w.1 }
 
@@ -84,7 +84,7 @@ slot_whole t (suc (suc zero), low, is) e = sym is
 slot_whole t (suc (suc (suc zero)), low, is) e = (let both : Address ≡ OffsetSlot = ap (λ (x : Rewriting). x.sequence) is ∙ e in cc)
 slot_whole t (suc (suc (suc (suc k))), low, is) e = absurd (omega (arith, low))
 
-pub slot_holds : RowsStandTogether → RowsOfAArch64Keep → TermGives term.PointerOffset → (l : Layout) (w : World) (m : Memory) (s : Item) (i : ℕ) (r : InputRelocation) (row : Row) → IsLoadedItem machine.AArch64 l w m s → (t : IsRewrittenWord l s i r row) → t.sequence ≡ OffsetSlot → (c : IsRunThere l s i r row OffsetSlot t.word) → IsJudgedRun l s r OffsetSlot c.start c.index
+pub slot_holds : RowsApplyTogether → RowsOfAArch64Keep → TermGives term.PointerOffset → (l : Layout) (w : World) (m : Memory) (s : Item) (i : ℕ) (r : InputRelocation) (row : Row) → IsLoadedItem machine.AArch64 l w m s → (t : IsRewrittenWord l s i r row) → t.sequence ≡ OffsetSlot → (c : IsRunThere l s i r row OffsetSlot t.word) → IsJudgedRun l s r OffsetSlot c.start c.index
     → WordsAreWritten l s t.symbol → HoldsRewritten l w m s r
 slot_holds together keeps law l w m s i r row g t same c j written =
     let o = together (question_around l s i r t.symbol) row t.sequence t.word t.chosen t.among in
@@ -110,7 +110,7 @@ address_whole t (suc (suc zero), low, is) e = (let both : OffsetSlot ≡ Address
 address_whole t (suc (suc (suc zero)), low, is) e = sym is
 address_whole t (suc (suc (suc (suc k))), low, is) e = absurd (omega (arith, low))
 
-pub near_holds : StubLaws → RowsStandTogether → RowsOfAArch64Keep → (l : Layout) (w : World) (m : Memory) (s : Item) (i : ℕ) (r : InputRelocation) (row : Row) → IsLoadedItem machine.AArch64 l w m s → (t : IsRewrittenWord l s i r row) → Stands l t.symbol → t.sequence ≡ Address → (c : IsRunThere l s i r row Address t.word) → IsJudgedRun l s r Address c.start c.index
+pub near_holds : StubLaws → RowsApplyTogether → RowsOfAArch64Keep → (l : Layout) (w : World) (m : Memory) (s : Item) (i : ℕ) (r : InputRelocation) (row : Row) → IsLoadedItem machine.AArch64 l w m s → (t : IsRewrittenWord l s i r row) → Stands l t.symbol → t.sequence ≡ Address → (c : IsRunThere l s i r row Address t.word) → IsJudgedRun l s r Address c.start c.index
     → WordsAreWritten l s t.symbol → HoldsRewritten l w m s r
 near_holds stubs together keeps l w m s i r row g t stands same c j written =
     let o = together (question_around l s i r t.symbol) row t.sequence t.word t.chosen t.among in
@@ -137,7 +137,7 @@ call_whole t (suc (suc zero), low, is) e = (let both : OffsetSlot ≡ Descriptor
 call_whole t (suc (suc (suc zero)), low, is) e = (let both : Address ≡ DescriptorCall = ap (λ (x : Rewriting). x.sequence) is ∙ e in cc)
 call_whole t (suc (suc (suc (suc k))), low, is) e = absurd (omega (arith, low))
 
-pub call_holds : RowsStandTogether → RowsOfAArch64Keep → TermGives term.PointerOffset → (l : Layout) (w : World) (m : Memory) (s : Item) (i : ℕ) (r : InputRelocation) (row : Row) → IsLoadedItem machine.AArch64 l w m s → (t : IsRewrittenWord l s i r row) → KeepsAll l → t.sequence ≡ DescriptorCall → (c : IsRunThere l s i r row DescriptorCall t.word) → IsJudgedRun l s r DescriptorCall c.start c.index
+pub call_holds : RowsApplyTogether → RowsOfAArch64Keep → TermGives term.PointerOffset → (l : Layout) (w : World) (m : Memory) (s : Item) (i : ℕ) (r : InputRelocation) (row : Row) → IsLoadedItem machine.AArch64 l w m s → (t : IsRewrittenWord l s i r row) → KeepsAll l → t.sequence ≡ DescriptorCall → (c : IsRunThere l s i r row DescriptorCall t.word) → IsJudgedRun l s r DescriptorCall c.start c.index
     → WordsAreWritten l s t.symbol → HoldsRewritten l w m s r
 call_holds together keeps law l w m s i r row g t all same c j written =
     let o = together (question_around l s i r t.symbol) row t.sequence t.word t.chosen t.among in

@@ -2,13 +2,13 @@
 use Rattle.std.proofs.Common.{refl}
 use Rattle.wild_types.specs.declared.kind.Machine.TheVariants as machine
 use Rattle.wild_layout.specs.declared.decision.Decision.TheVariants.{Partner}
-use Rattle.wild_references.specs.EffectLaws.{RewrittenStand, RewrittenHold, PartnersHold}
+use Rattle.wild_references.specs.EffectLaws.{RewrittenAreInstructions, RewrittenHold, PartnersHold}
 use Rattle.wild_references.proofs.WordWindows.{no_partner_there}
 use Rattle.wild_references.proofs.RewrittenPlaces.{LawsBelow}
 use Rattle.wild_references.proofs.RewrittenWhole.{instruction_stands, instruction_holds, partner_holds}
 use Rattle.wild_references.proofs.RewrittenAArch64.{LawsOfWords, word_stands, word_holds}
 
-pub rewritten_stand : LawsBelow → LawsOfWords → RewrittenStand
+pub rewritten_stand : LawsBelow → LawsOfWords → RewrittenAreInstructions
 rewritten_stand laws words machine.X86_64 l w m s g i r row v has = instruction_stands laws l w m s g i r row v has
 rewritten_stand laws words machine.AArch64 l w m s g i r row v has = word_stands words.alone l s i r row v g.on g.decided has
 

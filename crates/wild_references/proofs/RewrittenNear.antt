@@ -26,9 +26,9 @@ use Rattle.wild_relax.specs.KeepAArch64.{Rewriting, rewriting, templates_at, Row
 use Rattle.wild_aarch64.specs.Row as judged
 use Rattle.wild_aarch64.specs.Row.{distance, IsNear}
 use Rattle.wild_aarch64.specs.Effect.{words_of}
-use Rattle.wild_relax.specs.Linked.{template_of}
+use Rattle.wild_relax.specs.LinkedPattern.{template_of}
 use Rattle.wild_relax.specs.RewriteX86_64.{info_written}
-use Rattle.wild_relax.specs.SequenceAArch64.{words_at, stand_as}
+use Rattle.wild_relax.specs.SequenceAArch64.{words_at, words_match}
 use Rattle.wild_relax.proofs.KeepAArch64Lemmas.{address_first}
 use Rattle.wild_layout.specs.Decide.{place_to, term_to}
 use Rattle.wild_layout.specs.Geometry.{NamesSymbol}
@@ -39,15 +39,15 @@ use Rattle.wild_geometry.proofs.JudgedLemmas.{flag_is}
 use Rattle.wild_loader.specs.declared.memory.Memory.{Memory}
 use Rattle.wild_loader.specs.declared.world.World.{World}
 use Rattle.wild_meaning.specs.Item.{place_at}
-use Rattle.wild_meaning.specs.Value.{IsReplaceable, moved}
-use Rattle.wild_meaning.specs.ReferentAArch64.{IsAbsent, IsOneAddress}
+use Rattle.wild_meaning.specs.Value.{IsReplaceable, with_base}
+use Rattle.wild_meaning.specs.ReferentAArch64.{IsUndefinedWeak, IsOneAddress}
 use Rattle.wild_meaning.specs.Formula.{IsReferent, IsReferentOnAArch64, IsSum}
 use Rattle.wild_meaning.specs.Sequence.{address_pair_words}
-use Rattle.wild_meaning.specs.Template.{reads_alone}
+use Rattle.wild_meaning.specs.Template.{reads_without_calls}
 use Rattle.wild_meaning.specs.WordsAArch64.{reads_numbers}
 use Rattle.wild_loader.specs.Instruction.{Reader}
 use Rattle.wild_loader.specs.declared.instruction.Operand.TheVariants.{Number}
-use Rattle.wild_meaning.specs.Reference.{IsStubbed}
+use Rattle.wild_meaning.specs.Reference.{HasStubAddress}
 use Rattle.wild_references.specs.Laws.{IsLoadedItem}
 use Rattle.wild_references.proofs.KeptItems.{item_lies}
 use Rattle.wild_references.proofs.StubCode.{StubLaws}
@@ -114,7 +114,7 @@ distance_is term c address offset start v none at low e = omega (arith, none, at
 
 -- ---- the symbol
 
-absent_no : (l : Layout) (k : ℕ) → has_flag (flags_at l k) undefined_weak ≡ false → IsAbsent l k → ⊥
+absent_no : (l : Layout) (k : ℕ) → has_flag (flags_at l k) undefined_weak ≡ false → IsUndefinedWeak l k → ⊥
 absent_no l k weak a =
     let yes : has_flag (flags_at l k) undefined_weak ≡ true = flag_is l k undefined_weak true a.weak in
     let both : true ≡ false = sym yes ∙ weak in
@@ -127,12 +127,12 @@ present l o k named weak = rw (named, weak) refl
 stands_moved : StubLaws → (l : Layout) (w : World) (m : Memory) (s : Item) (k term : ℕ) → IsLoadedItem machine.AArch64 l w m s → Stands l k → IsReplaceable l k false → has_flag (flags_at l k) absolute ≡ false → address_of l (Some k) ≡ Ok term → IsOneAddress l w m k ((w.base + term) % 2 ^ 64)
 stands_moved stubs l w m s k term g stands own moves given =
     let p = placed machine.AArch64 l w m s g in
-    let t = addressed stubs l w m (Some k) term p (λ i e. (let same : k ≡ i = cc in subst (λ (x : ℕ). Stands l x) same stands)) (λ i e. (let same : k ≡ i = cc in subst (λ (x : ℕ). IsReplaceable l x false ⊎ IsStubbed l x) same (inl own))) given in
+    let t = addressed stubs l w m (Some k) term p (λ i e. (let same : k ≡ i = cc in subst (λ (x : ℕ). Stands l x) same stands)) (λ i e. (let same : k ≡ i = cc in subst (λ (x : ℕ). IsReplaceable l x false ⊎ HasStubAddress l x) same (inl own))) given in
     let still : t.still ≡ false = sym (t.flag k refl) ∙ moves in
     let one = one_addressed l w m k term t.still p (inl own) given (t.flag k refl) t.denoted in
-    subst (λ (b : Bool). IsOneAddress l w m k (moved b w.base term)) still one
+    subst (λ (b : Bool). IsOneAddress l w m k (with_base b w.base term)) still one
 
-sum_of : (l : Layout) (w : World) (m : Memory) (s : Item) (first : InputRelocation) (k v : ℕ) → l.machine ≡ machine.AArch64 → first.symbol ≡ Some k → first.addend ≡ pos 0 → (IsAbsent l k → ⊥) → (NamesStrings l first → ⊥) → IsOneAddress l w m k v → v < 2 ^ 64 → IsSum PageDistance l w m s first v
+sum_of : (l : Layout) (w : World) (m : Memory) (s : Item) (first : InputRelocation) (k v : ℕ) → l.machine ≡ machine.AArch64 → first.symbol ≡ Some k → first.addend ≡ pos 0 → (IsUndefinedWeak l k → ⊥) → (NamesStrings l first → ⊥) → IsOneAddress l w m k v → v < 2 ^ 64 → IsSum PageDistance l w m s first v
 sum_of l w m s first k v on named none there plain one small =
     let stands : IsReferentOnAArch64 PageDistance l w m s first (Some k) v = inr ((λ own. there own.1), one) in
     let c : cast_unsigned w64 first.addend ≡ 0 = ap (λ (x : ℤ). cast_unsigned w64 x) none in
@@ -144,7 +144,7 @@ sum_of l w m s first k v on named none there plain one small =
 
 -- ---- the pair
 
-pub address_pair_to_near : StubLaws → RowsOfAArch64Keep → (l : Layout) (w : World) (m : Memory) (s : Item) (first : InputRelocation) (start k : ℕ) → IsLoadedItem machine.AArch64 l w m s → Stands l k → start + 8 ≤ length s.bytes → stand_as Address (words_at s.bytes start 2) ≡ true
+pub address_pair_to_near : StubLaws → RowsOfAArch64Keep → (l : Layout) (w : World) (m : Memory) (s : Item) (first : InputRelocation) (start k : ℕ) → IsLoadedItem machine.AArch64 l w m s → Stands l k → start + 8 ≤ length s.bytes → words_match Address (words_at s.bytes start 2) ≡ true
     → first.symbol ≡ Some k → interposable (flags_at l k) ≡ false → has_flag (flags_at l k) absolute ≡ false → has_flag (flags_at l k) undefined_weak ≡ false → IsWrittenPair l s first start ADDRESS_FIRST ADDRESS_SECOND → IsDone l w m s first start address_pair_words
 address_pair_to_near stubs keeps l w m s first start k g addressed_so inside stands named own moves weak t =
     let here : start + 4 ≤ length s.bytes = omega (arith, inside) in
@@ -190,7 +190,7 @@ address_pair_to_near stubs keeps l w m s first start k g addressed_so inside sta
       does = record {
         value = v;
         demands = sum_of l w m s first k v g.on named t.none (absent_no l k weak) (names_none l first (rewritten_aarch64 l s t.index first ADDRESS_FIRST t.value g.on t.here.has.listed t.here.has.decided).chosen.plain) (stands_moved stubs l w m s k x g addressed_so own_symbol moves given) (omega arith);
-        code = by_words (reads_alone w m) l w m s start address_pair_words v us g.on refl inside (λ e h. h) there (done (reads_alone w m) (λ y. refl));
+        code = by_words (reads_without_calls w m) l w m s start address_pair_words v us g.on refl inside (λ e h. h) there (done (reads_without_calls w m) (λ y. refl));
       };
       words = no_slot l w m s first start address_pair_words v ws us refl there (done reads_numbers (λ y. refl));
     }

@@ -12,7 +12,7 @@ use Rattle.wild_words.proofs.Basics.{length-range}
 use Rattle.wild_words.proofs.ListLemmas.{holds_at}
 use Rattle.wild_reloc.specs.Field.{is_aligned, allows}
 use Rattle.wild_reloc.specs.TableAArch64.{tp_off, imm16, unsigned, any, static_row, thread_row}
-use Rattle.wild_reloc.specs.declared.expression.Taken.TheVariants as taken
+use Rattle.wild_reloc.specs.declared.expression.Subtrahend.TheVariants as taken
 use Rattle.wild_reloc.specs.declared.expression.Term.TheVariants as term
 use Rattle.wild_reloc.specs.declared.info.RelocationKind.TheVariants as kinds
 use Rattle.wild_reloc.specs.declared.info.RelocationKindInfo.{RelocationKindInfo}
@@ -28,17 +28,17 @@ use Rattle.wild_types.specs.Flags.{interposable}
 use Rattle.wild_types.specs.Item.{Item}
 use Rattle.wild_types.specs.Kinds.{is_executable}
 use Rattle.wild_types.specs.Lookups.{place_of}
-use Rattle.wild_slot.specs.Treatment.{flags_at, suits}
+use Rattle.wild_slot.specs.Treatment.{flags_at, row_accepts}
 use Rattle.wild_relax.specs.declared.pattern.Sequence.TheVariants.{OffsetSlot}
 use Rattle.wild_relax.specs.declared.row.Row.{Row}
 use Rattle.wild_relax.specs.declared.table_aarch64.TheConstants.{SLOT_FIRST, SLOT_SECOND}
 use Rattle.wild_relax.specs.KeepAArch64.{Rewriting, rewriting, templates_at, RowsOfAArch64Keep}
 use Rattle.wild_aarch64.specs.Row as judged
 use Rattle.wild_aarch64.specs.Effect.{words_of}
-use Rattle.wild_relax.specs.Linked.{pattern_of, pattern_size, fits_in, template_of}
+use Rattle.wild_relax.specs.LinkedPattern.{pattern_of, pattern_size, fits_in, template_of}
 use Rattle.wild_relax.specs.Pattern.{field_of}
 use Rattle.wild_relax.specs.RewriteX86_64.{rewrite_of, info_written}
-use Rattle.wild_relax.specs.SequenceAArch64.{words_at, stand_as}
+use Rattle.wild_relax.specs.SequenceAArch64.{words_at, words_match}
 use Rattle.wild_relax.proofs.TemplateLemmas.{length-template}
 use Rattle.wild_layout.specs.declared.decision.Decision.TheVariants.{Rewritten}
 use Rattle.wild_layout.specs.Decide.{place_to, term_to}
@@ -54,7 +54,7 @@ use Rattle.wild_meaning.specs.Value.{IsReplaceable}
 use Rattle.wild_meaning.specs.Item.{place_at}
 use Rattle.wild_meaning.specs.Formula.{IsOffset}
 use Rattle.wild_meaning.specs.Sequence.{offset_pair_words}
-use Rattle.wild_meaning.specs.Template.{reads_alone}
+use Rattle.wild_meaning.specs.Template.{reads_without_calls}
 use Rattle.wild_meaning.specs.WordsAArch64.{reads_numbers}
 use Rattle.wild_loader.specs.Instruction.{Reader}
 use Rattle.wild_loader.specs.declared.instruction.Operand.TheVariants.{Number}
@@ -162,7 +162,7 @@ offset_of_word law l w m s i p k v at g listed named none place inside program o
       number = wide_type;
       row = wide;
       treated = pointer_value l s k p.symbol named program;
-      suited = subst (λ (j : Machine). suits j p info ≡ true) (sym g.on) (suits_offset (cast_unsigned w64 p.addend == 0) p.symbol);
+      row_that_accepts = subst (λ (j : Machine). row_accepts j p info ≡ true) (sym g.on) (suits_offset (cast_unsigned w64 p.addend == 0) p.symbol);
       expressed = subst (λ (j : Machine). is_expressed j term.PointerOffset taken.Nothing None ≡ true) (sym g.on) refl;
       term = t.term;
       given = by_place l.machine t.given;
@@ -241,7 +241,7 @@ pub record IsWrittenPair (l : Layout) (s : Item) (first : InputRelocation) (star
   pub symbol : first.symbol ≡ second.symbol
   pub addend : first.addend ≡ second.addend
 
-pub slot_pair_to_offset : RowsOfAArch64Keep → TermGives term.PointerOffset → (l : Layout) (w : World) (m : Memory) (s : Item) (first : InputRelocation) (start k : ℕ) → IsLoadedItem machine.AArch64 l w m s → start + 8 ≤ length s.bytes → stand_as OffsetSlot (words_at s.bytes start 2) ≡ true
+pub slot_pair_to_offset : RowsOfAArch64Keep → TermGives term.PointerOffset → (l : Layout) (w : World) (m : Memory) (s : Item) (first : InputRelocation) (start k : ℕ) → IsLoadedItem machine.AArch64 l w m s → start + 8 ≤ length s.bytes → words_match OffsetSlot (words_at s.bytes start 2) ≡ true
     → first.symbol ≡ Some k → is_executable l.kind ≡ true → interposable (flags_at l k) ≡ false → IsWrittenPair l s first start SLOT_FIRST SLOT_SECOND → IsDone l w m s first start offset_pair_words
 slot_pair_to_offset keeps law l w m s first start k g inside stands named program own t =
     let v = t.value in
@@ -271,6 +271,6 @@ slot_pair_to_offset keeps law l w m s first start k g inside stands named progra
     (run_done keeps slot_rows (2, omega arith, refl) ws read numbers w.base a v v (word_small w m l s start g here, (word_small w m l s (start + 4) g behind, tt)) stands (small, refl))) in
     let there : AreWordsThere m (place_at w s start) us = (one, (subst (λ (n : ℕ). IsWordThere m n (number (template_of SLOT_SECOND t.other next))) both two, tt)) in
     record {
-      does = record { value = v; demands = offset.offset; code = by_words (reads_alone w m) l w m s start offset_pair_words v us g.on refl inside (λ e h. h) there (done (reads_alone w m) (λ x. refl)) };
+      does = record { value = v; demands = offset.offset; code = by_words (reads_without_calls w m) l w m s start offset_pair_words v us g.on refl inside (λ e h. h) there (done (reads_without_calls w m) (λ x. refl)) };
       words = no_slot l w m s first start offset_pair_words v ws us refl there (done reads_numbers (λ x. refl));
     }

@@ -9,7 +9,7 @@ use Rattle.wild_types.specs.declared.kind.OutputKind.{OutputKind}
 use Rattle.wild_types.specs.declared.kind.OutputKind.TheVariants as output
 use Rattle.wild_types.specs.declared.input.InputRelocation.{InputRelocation}
 use Rattle.wild_types.specs.declared.layout.Layout.{Layout}
-use Rattle.wild_types.specs.Hollow.{KeepsAll}
+use Rattle.wild_types.specs.HeaderOnly.{KeepsAll}
 use Rattle.wild_types.specs.Flags.{has_flag, interposable, has_link_time_address, absolute, ifunc}
 use Rattle.wild_types.specs.Kinds.{has_fixed_load_address}
 use Rattle.wild_slot.specs.Treatment.{flags_at, moves}
@@ -21,7 +21,7 @@ use Rattle.wild_reloc.specs.declared.range.Sign.{Sign}
 use Rattle.wild_relax.specs.declared.row.Row.{Row}
 use Rattle.wild_relax.specs.Question.{minus_four}
 use Rattle.wild_relax.specs.RewriteX86_64.{rewrite_of}
-use Rattle.wild_relax.specs.Linked.{field_in}
+use Rattle.wild_relax.specs.LinkedPattern.{field_in}
 use Rattle.wild_relax.specs.KeepX86_64.{distance}
 use Rattle.wild_layout.specs.Sites.{template_start}
 use Rattle.wild_loader.specs.declared.memory.Memory.{Memory}

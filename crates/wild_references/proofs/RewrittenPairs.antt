@@ -18,11 +18,11 @@ use Rattle.wild_relax.specs.Rewrite.{is_skip}
 use Rattle.wild_relax.specs.RewriteX86_64.{rewrite_of}
 use Rattle.wild_relax.specs.RowSequences.{form_by, is_call_number}
 use Rattle.wild_relax.specs.Rows.{rows_x86_64}
-use Rattle.wild_relax.specs.Linked.{pattern_of, keeps_bytes, IsChanging}
+use Rattle.wild_relax.specs.LinkedPattern.{pattern_of, keeps_bytes, IsChanging}
 use Rattle.wild_meaning.specs.Field.{form_width}
 use Rattle.wild_meaning.specs.Sequence.{Instruction, Partner, by_call, by_slot, by_distance}
 use Rattle.wild_meaning.proofs.PairLemmas.{are_several}
-use Rattle.wild_references.proofs.RewrittenForms.{instruction_by, instruction_of, where_so, some_of}
+use Rattle.wild_references.proofs.RewrittenForms.{instruction_by, instruction_of, items_if, some_of}
 
 -- ---- the own field
 
@@ -105,7 +105,7 @@ paired_by o c at is place = record {
 
 -- where the call is so far behind
 abbrev pair_at : (o : Instruction) (c : writer.Partner) (at : ℕ) → o.partners ≡ partner_for c.form at ∷ [] → Option (IsPairedBy o (Some c))
-pair_at o c at is = where_so ((partner_for c.form at).field == o.field + c.distance) (λ t. paired_by o c at is (eqb-true _ _ t)) None
+pair_at o c at is = items_if ((partner_for c.form at).field == o.field + c.distance) (λ t. paired_by o c at is (eqb-true _ _ t)) None
 
 abbrev form_pair : (p : Pattern) (n : ℕ) (c : writer.Partner) (form : GeneralForm) → c.form ≡ form → Option (IsPairedBy (instruction_by p n) (Some c))
 form_pair (pattern.General general.Regular) n c general.Regular e = pair_at (instruction_by (pattern.General general.Regular) n) c 12 (rw e refl)

@@ -22,11 +22,11 @@ use Rattle.wild_relax.specs.declared.row.Duty.{Duty}
 use Rattle.wild_relax.specs.declared.row.Duty.TheVariants as duty
 use Rattle.wild_relax.specs.RowSymbols.{is_mandatory}
 use Rattle.wild_types.specs.Kinds.{is_static_executable}
-use Rattle.wild_relax.specs.Pattern.{cells_of}
+use Rattle.wild_relax.specs.Pattern.{pattern_cells}
 use Rattle.wild_relax.specs.Rows.{rows_x86_64}
-use Rattle.wild_relax.specs.Linked.{pattern_of, pattern_size, keeps_bytes, IsChanging}
+use Rattle.wild_relax.specs.LinkedPattern.{pattern_of, pattern_size, keeps_bytes, IsChanging}
 use Rattle.wild_relax.specs.KeepX86_64.{RowsKeep, IsWhole}
-use Rattle.wild_relax.specs.Section.{IsStanding, ChosenStand, ChosenAreWhole}
+use Rattle.wild_relax.specs.Section.{RowApplies, ChosenRowsApply, ChosenPatternsArePresent}
 use Rattle.wild_layout.specs.declared.decision.Decision.TheVariants.{Rewritten}
 use Rattle.wild_layout.specs.Choice.{question_of, is_partner}
 use Rattle.wild_layout.specs.Sites.{template_start}
@@ -36,19 +36,19 @@ use Rattle.wild_geometry.specs.Loaded.{HasDecision}
 use Rattle.wild_meaning.specs.Section.{IsSet}
 use Rattle.wild_loader.specs.Instruction.{stands}
 use Rattle.wild_meaning.specs.Sequence.{Sort, Target, DescribedCall, Address, FieldBits, size_of}
-use Rattle.wild_meaning.specs.Template.{AddsNothing}
+use Rattle.wild_meaning.specs.Template.{HasOriginAddend}
 use Rattle.wild_meaning.proofs.BitLemmas.{bit_code}
 use Rattle.wild_references.specs.Laws.{RowGives}
-use Rattle.wild_references.specs.EffectLaws.{WindowsAreAlone}
+use Rattle.wild_references.specs.EffectLaws.{WindowsHaveNoOtherField}
 use Rattle.wild_references.proofs.RewrittenDecisions.{rewritten_alone}
 use Rattle.wild_references.proofs.RewrittenForms.{all_long, all_stand, instruction_of, RowFits, row_fits}
 
 -- the laws below, as they are called
 pub record LawsBelow : Type 0 where
-  pub alone : WindowsAreAlone
+  pub alone : WindowsHaveNoOtherField
   pub keeps : RowsKeep
-  pub stand : ChosenStand
-  pub whole : ChosenAreWhole
+  pub stand : ChosenRowsApply
+  pub whole : ChosenPatternsArePresent
   pub sum : (sign : Sign) → RowGives (plain kinds.Absolute Four sign)
   pub distance : RowGives (plain kinds.Relative Four Signed)
   pub pointer : RowGives (plain kinds.TpOff Four Signed)
@@ -60,8 +60,8 @@ pub record IsPlacedRow (l : Layout) (s : Item) (i : ℕ) (r : InputRelocation) (
   pub alone : is_partner l s i ≡ false
   pub made : IsRewritten l s r (slice_get s.relocations (i + 1)) row v
   pub chosen : IsChosen l s r (slice_get s.relocations (i + 1)) row
-  pub stands : IsStanding (question_of l s r chosen.symbol (slice_get s.relocations (i + 1))) row
-  pub whole : IsWhole (cells_of (pattern_of row)) (slice_range s.bytes (template_start row r) (template_start row r + pattern_size row))
+  pub stands : RowApplies (question_of l s r chosen.symbol (slice_get s.relocations (i + 1))) row
+  pub whole : IsWhole (pattern_cells (pattern_of row)) (slice_range s.bytes (template_start row r) (template_start row r + pattern_size row))
   pub changing : IsChanging row
   pub fits : RowFits row
 
@@ -130,23 +130,23 @@ ended_is (negsuc n) h = ap negsuc (eqb-true n 3 h)
 pub ended : (a : ℤ) → minus_four a ≡ true → cast_unsigned w64 a ≡ 2 ^ 64 - 4
 ended a h = subst (λ (x : ℤ). cast_unsigned w64 x ≡ 2 ^ 64 - 4) (sym (ended_is a h)) refl
 
-counts_by : (o : Sort) (r : InputRelocation) → (cast_unsigned w64 r.addend + 4) % 2 ^ 64 ≡ 0 → AddsNothing machine.X86_64 o r
+counts_by : (o : Sort) (r : InputRelocation) → (cast_unsigned w64 r.addend + 4) % 2 ^ 64 ≡ 0 → HasOriginAddend machine.X86_64 o r
 counts_by Target r h = tt
 counts_by DescribedCall r h = tt
 counts_by Address r h = tt
 counts_by FieldBits r h = tt
 counts_by other r h = h
 
-pub counts_ended : (o : Sort) (r : InputRelocation) → minus_four r.addend ≡ true → AddsNothing machine.X86_64 o r
+pub counts_ended : (o : Sort) (r : InputRelocation) → minus_four r.addend ≡ true → HasOriginAddend machine.X86_64 o r
 counts_ended o r h = (let e = ended r.addend h in counts_by o r (omega (arith, e)))
 
 -- ---- the bytes
 
 pub size_is : (l : Layout) (s : Item) (i : ℕ) (r : InputRelocation) (row : Row) (v : ℕ) → IsPlacedRow l s i r row v → size_of (instruction_of row) ≡ pattern_size row
-size_is l s i r row v p = all_long (cells_of (pattern_of row)) (instruction_of row).template.cells p.fits.covers
+size_is l s i r row v p = all_long (pattern_cells (pattern_of row)) (instruction_of row).template.cells p.fits.covers
 
 pub cells_stand : (l : Layout) (s : Item) (i : ℕ) (r : InputRelocation) (row : Row) (v : ℕ) → IsPlacedRow l s i r row v → stands (instruction_of row).template.cells (slice_range s.bytes (template_start row r) (template_start row r + size_of (instruction_of row))) ≡ true
 cells_stand l s i r row v p =
     let e = size_is l s i r row v p in
     subst (λ (n : ℕ). stands (instruction_of row).template.cells (slice_range s.bytes (template_start row r) (template_start row r + n)) ≡ true) (sym e)
-    (all_stand (cells_of (pattern_of row)) (instruction_of row).template.cells (slice_range s.bytes (template_start row r) (template_start row r + pattern_size row)) p.fits.covers p.whole.same)
+    (all_stand (pattern_cells (pattern_of row)) (instruction_of row).template.cells (slice_range s.bytes (template_start row r) (template_start row r + pattern_size row)) p.fits.covers p.whole.same)

@@ -13,7 +13,7 @@ use Rattle.wild_relax.specs.declared.table.TheConstants.{PLAIN_LEA}
 use Rattle.wild_relax.specs.declared.pattern.Prefix.TheVariants.{Rex}
 use Rattle.wild_relax.specs.declared.pattern.Operation.TheVariants as operation
 use Rattle.wild_relax.specs.declared.pattern.Pattern.TheVariants as pattern
-use Rattle.wild_relax.specs.Pattern.{cells_of}
+use Rattle.wild_relax.specs.Pattern.{pattern_cells}
 use Rattle.wild_layout.specs.Sites.{template_start}
 use Rattle.wild_geometry.specs.Loaded.{IsDecided}
 use Rattle.wild_types.specs.Item.{Item}
@@ -24,20 +24,20 @@ use Rattle.wild_loader.specs.declared.instruction.Operand.TheVariants.{Word}
 use Rattle.wild_loader.specs.declared.instruction.Deed.TheVariants.{Set}
 use Rattle.wild_loader.specs.CodeX86_64.{rex2, with_slot}
 use Rattle.wild_meaning.specs.Sequence.{AddressInSlot, Instruction, IsOwnByte, of_field, instructions_of}
-use Rattle.wild_meaning.specs.Template.{AddsNothing, IsInstruction, IsSingle}
-use Rattle.wild_references.specs.EffectLaws.{IsBesideField, WindowsAreAlone}
+use Rattle.wild_meaning.specs.Template.{HasOriginAddend, IsInstruction, IsSingle}
+use Rattle.wild_references.specs.EffectLaws.{IsOutsideField, WindowsHaveNoOtherField}
 use Rattle.wild_references.proofs.RewrittenForms.{covers_all, all_stand}
 use Rattle.wild_references.proofs.RewrittenPlaces.{IsPlacedRow, is_code}
-use Rattle.wild_references.proofs.RewrittenAlone.{field_is, in_no_field}
+use Rattle.wild_references.proofs.RewrittenInInput.{field_is, in_no_field}
 use Rattle.wild_references.proofs.RewrittenSingles.{counts, no_longer}
-use Rattle.wild_references.proofs.RewrittenApart.{free}
+use Rattle.wild_references.proofs.RewrittenSingleInstructions.{free}
 
 -- ---- whether a byte lies in a field
 
-is_beside : (l : Layout) (q : InputRelocation) (k : ℕ) → IsBesideField l q k ⊎ (IsBesideField l q k → ⊥)
+is_beside : (l : Layout) (q : InputRelocation) (k : ℕ) → IsOutsideField l q k ⊎ (IsOutsideField l q k → ⊥)
 is_beside l q k = by_formula (formula_of l.machine q.number) refl
   where
-    by_formula : (o : Option Formula) → formula_of l.machine q.number ≡ o → IsBesideField l q k ⊎ (IsBesideField l q k → ⊥)
+    by_formula : (o : Option Formula) → formula_of l.machine q.number ≡ o → IsOutsideField l q k ⊎ (IsOutsideField l q k → ⊥)
     by_formula None e = inl (λ f known. (let z : None ≡ Some f = sym e ∙ known in cc))
     by_formula (Some g) e =
         elim (cases_lt k q.offset) [
@@ -64,7 +64,7 @@ all_or_not P test (x ∷ xs) =
     ]
 
 no_field_or : (l : Layout) (s : Item) (k : ℕ) → InNoField l s k ⊎ (InNoField l s k → ⊥)
-no_field_or l s k = all_or_not (λ (q : InputRelocation). IsBesideField l q k) (λ q. is_beside l q k) s.relocations
+no_field_or l s k = all_or_not (λ (q : InputRelocation). IsOutsideField l q k) (λ q. is_beside l q k) s.relocations
 
 -- ---- the bytes, with the one before
 
@@ -100,13 +100,13 @@ bytes_are l s i r v from t =
     let inside = room l s i r v from t in
     subst (λ (n : ℕ). slice_range s.bytes from (from + 8) ≡ slice_index s.bytes from ∷ slice_range s.bytes n (n + 7)) (sym t.start) (one_more s.bytes from 7 (omega (arith, inside)))
 
-rest_covers : covers_all (cells_of (pattern.Wide Rex operation.Mov)) (judge-cells.From 0 0x7f ∷ judge-cells.Is 0x8b ∷ judge-cells.Slot ∷ judge.field) ≡ true
+rest_covers : covers_all (pattern_cells (pattern.Wide Rex operation.Mov)) (judge-cells.From 0 0x7f ∷ judge-cells.Is 0x8b ∷ judge-cells.Slot ∷ judge.field) ≡ true
 rest_covers = refl
 
 pub stands_with : (l : Layout) (s : Item) (i : ℕ) (r : InputRelocation) (v from : ℕ) → Plain l s i r v from → (slice_index s.bytes from == 0xd5) ≡ true → judge.stands wide_load.template.cells (slice_range s.bytes from (from + 8)) ≡ true
 stands_with l s i r v from t h =
     let old = slice_range s.bytes (template_start PLAIN_LEA r) (template_start PLAIN_LEA r + 7) in
-    let rest : judge.stands (judge-cells.From 0 0x7f ∷ judge-cells.Is 0x8b ∷ judge-cells.Slot ∷ judge.field) old ≡ true = all_stand (cells_of (pattern.Wide Rex operation.Mov)) (judge-cells.From 0 0x7f ∷ judge-cells.Is 0x8b ∷ judge-cells.Slot ∷ judge.field) old rest_covers t.row.whole.same in
+    let rest : judge.stands (judge-cells.From 0 0x7f ∷ judge-cells.Is 0x8b ∷ judge-cells.Slot ∷ judge.field) old ≡ true = all_stand (pattern_cells (pattern.Wide Rex operation.Mov)) (judge-cells.From 0 0x7f ∷ judge-cells.Is 0x8b ∷ judge-cells.Slot ∷ judge.field) old rest_covers t.row.whole.same in
     subst (λ (bs : List ℕ). judge.stands wide_load.template.cells bs ≡ true) (sym (bytes_are l s i r v from t)) (both_stand (slice_index s.bytes from == 0xd5) _ h rest)
   where
     both_stand : (a b : Bool) → a ≡ true → b ≡ true → (a && b) ≡ true
@@ -124,7 +124,7 @@ pub record IsWider (l : Layout) (s : Item) (i : ℕ) (r : InputRelocation) (v fr
   pub prefix : (slice_index s.bytes from == 0xd5) ≡ true
   pub alone : InNoField l s from
 
-wide_alone : WindowsAreAlone → (l : Layout) (s : Item) (i : ℕ) (r : InputRelocation) (v from : ℕ) → l.machine ≡ machine.X86_64 → IsDecided l s → IsWider l s i r v from → (k : ℕ) → IsOwnByte wide_load k → InNoField l s (from + k)
+wide_alone : WindowsHaveNoOtherField → (l : Layout) (s : Item) (i : ℕ) (r : InputRelocation) (v from : ℕ) → l.machine ≡ machine.X86_64 → IsDecided l s → IsWider l s i r v from → (k : ℕ) → IsOwnByte wide_load k → InNoField l s (from + k)
 wide_alone law l s i r v from x86 decided t zero own = (let e : from ≡ from + 0 = omega arith in subst (λ (n : ℕ). InNoField l s n) e t.alone)
 wide_alone law l s i r v from x86 decided t (suc k) own =
     let start = t.plain.start in
@@ -137,7 +137,7 @@ wide_alone law l s i r v from x86 decided t (suc k) own =
     lower (inl h) = omega (arith, h)
     lower (inr h) = (let inside = own.inside in absurd (omega (arith, h, inside)))
 
-pub wide_stands : WindowsAreAlone → (l : Layout) (s : Item) (i : ℕ) (r : InputRelocation) (v from : ℕ) → l.machine ≡ machine.X86_64 → IsDecided l s → IsWider l s i r v from → IsInstruction l s r from wide_load
+pub wide_stands : WindowsHaveNoOtherField → (l : Layout) (s : Item) (i : ℕ) (r : InputRelocation) (v from : ℕ) → l.machine ≡ machine.X86_64 → IsDecided l s → IsWider l s i r v from → IsInstruction l s r from wide_load
 wide_stands law l s i r v from x86 decided t = record {
   code = is_code l s i r PLAIN_LEA v t.plain.row;
   known = subst (λ (m : Machine). Contains (instructions_of m) wide_load) (sym x86) (21, omega arith, refl);
@@ -146,11 +146,11 @@ wide_stands law l s i r v from x86 decided t = record {
   inside = room l s i r v from t.plain;
   stands = stands_with l s i r v from t.plain t.prefix;
   words = refl;
-  counts = subst (λ (m : Machine). AddsNothing m AddressInSlot r) (sym x86) (counts l s i r PLAIN_LEA v t.plain.row);
+  counts = subst (λ (m : Machine). HasOriginAddend m AddressInSlot r) (sym x86) (counts l s i r PLAIN_LEA v t.plain.row);
   alone = wide_alone law l s i r v from x86 decided t;
 }
 
-pub wide_single : WindowsAreAlone → (l : Layout) (s : Item) (i : ℕ) (r : InputRelocation) (v from : ℕ) → l.machine ≡ machine.X86_64 → IsDecided l s → IsWider l s i r v from → IsSingle l s r from wide_load
+pub wide_single : WindowsHaveNoOtherField → (l : Layout) (s : Item) (i : ℕ) (r : InputRelocation) (v from : ℕ) → l.machine ≡ machine.X86_64 → IsDecided l s → IsWider l s i r v from → IsSingle l s r from wide_load
 wide_single law l s i r v from x86 decided t = record {
   single = refl;
   stands = wide_stands law l s i r v from x86 decided t;

@@ -26,7 +26,7 @@ use Rattle.wild_aarch64.specs.Slice.{bits, stands}
 use Rattle.wild_aarch64.specs.Forms.{d, adrp, add, ldr}
 use Rattle.wild_aarch64.specs.Code.{read}
 use Rattle.wild_aarch64.specs.Machine.{run}
-use Rattle.wild_aarch64.specs.Effect.{cleared, shapes}
+use Rattle.wild_aarch64.specs.Effect.{without_immediate, shapes}
 use Rattle.wild_aarch64.specs.Template.{codes_of, same, fits, begins}
 use Rattle.wild_relax.specs.declared.pattern.Pattern.{Pattern}
 use Rattle.wild_relax.specs.declared.pattern.Pattern.TheVariants.{Among}
@@ -36,17 +36,17 @@ use Rattle.wild_relax.specs.declared.reference.RelocationInfo.{RelocationInfo}
 use Rattle.wild_relax.specs.declared.row.Row.{Row}
 use Rattle.wild_relax.specs.declared.row.ValueTest.{ValueTest}
 use Rattle.wild_relax.specs.declared.row.ValueTest.TheVariants as value
-use Rattle.wild_relax.specs.Linked.{pattern_of}
+use Rattle.wild_relax.specs.LinkedPattern.{pattern_of}
 use Rattle.wild_relax.specs.Question.{Question, relocation_of}
 use Rattle.wild_relax.specs.RewriteX86_64.{register_set}
 use Rattle.wild_relax.specs.RowSymbols.{takes_value}
-use Rattle.wild_relax.specs.RowsAArch64.{rows_aarch64, chosen_aarch64}
-use Rattle.wild_relax.specs.SequenceAArch64.{types_of, words_before, follow, words_at, is_adrp, is_ldr, is_add, stand_as}
+use Rattle.wild_relax.specs.RowsAArch64.{rows_aarch64, chosen_row_aarch64}
+use Rattle.wild_relax.specs.SequenceAArch64.{types_of, words_before, relocations_match, words_at, is_adrp, is_ldr, is_add, words_match}
 use Rattle.wild_relax.proofs.KeepAArch64Lemmas.{adrp_shape, ldr_shape, add_shape, blr_shape}
 use Rattle.wild_relax.proofs.TogetherLemmas.{chosen_word}
 use Rattle.wild_layout.specs.Choice.{nameless, infos_from, question_around}
 use Rattle.wild_layout.proofs.ChoiceLemmas.{relocation_around}
-use Rattle.wild_meaning.specs.WordsAArch64.{are_filled, is_told, is_run}
+use Rattle.wild_meaning.specs.WordsAArch64.{are_filled, has_known_meaning, is_run}
 use Rattle.wild_meaning.specs.Sequence.{Instruction, descriptor_call_words, offset_pair_words, address_pair_words}
 use Rattle.wild_references.proofs.RunsAArch64.{address_run, slot_run, call_run}
 use Rattle.wild_references.proofs.WordsAArch64.{words_from}
@@ -96,9 +96,9 @@ add_form r q w h =
     and_from _ _ (eq-eqb _ _ a) (and_from _ _ (eq-eqb _ _ b) (and_from _ _ (eq-eqb _ _ c) refl))
 
 -- an instruction of that shape
-fits_shape : (t : Code) (o : Option Code) → option_map cleared o ≡ Some t → same t t ≡ true → fits t o ≡ true
+fits_shape : (t : Code) (o : Option Code) → option_map without_immediate o ≡ Some t → same t t ≡ true → fits t o ≡ true
 fits_shape t None e s = cc
-fits_shape t (Some c) e s = (let is : cleared c ≡ t = cc in subst (λ (x : Code). same t x ≡ true) (sym is) s)
+fits_shape t (Some c) e s = (let is : without_immediate c ≡ t = cc in subst (λ (x : Code). same t x ≡ true) (sym is) s)
 
 two_fit : (t u : Code) (a b : Option Code) → fits t a ≡ true → fits u b ≡ true → begins (t ∷ u ∷ []) (a ∷ b ∷ []) ≡ true
 two_fit t u a b f g = rw (f, g) refl
@@ -131,7 +131,7 @@ same_blr r = itself r
 second_sets : (w : ℕ) → d w ≡ register_set w
 second_sets w = omega arith
 
-address_stands : (b c : ℕ) → stand_as Address (b ∷ c ∷ []) ≡ true → is_run kinds.AddressPair (types_of Address) (b ∷ c ∷ []) ≡ true
+address_stands : (b c : ℕ) → words_match Address (b ∷ c ∷ []) ≡ true → is_run kinds.AddressPair (types_of Address) (b ∷ c ∷ []) ≡ true
 address_stands b c h =
     let both = and_parts _ _ h in
     let r = register_set c in
@@ -143,10 +143,10 @@ address_stands b c h =
     let filled : are_filled (types_of Address) (b ∷ c ∷ []) ≡ true = two_filled (stands adrp.fixed b) (stands add.fixed c) (adrp_form r b each.0) (add_form r r c each.1) in
     let codes : begins (codes_of kinds.AddressPair r) (read b ∷ read c ∷ []) ≡ true = two_fit (Adrp r 0) (Add r r 0) (read b) (read c) (fits_shape (Adrp r 0) (read b) pb (same_adrp r)) (fits_shape (Add r r 0) (read c) pc (same_add r r)) in
     let shaped : shapes (b ∷ c ∷ []) ≡ Some (Adrp r 0) ∷ Some (Add r r 0) ∷ [] = rw (pb, pc) refl in
-    let told : is_told (run (shapes (b ∷ c ∷ [])) 0 []) ≡ true = ap (λ (cs : List (Option Code)). is_told (run cs 0 [])) shaped ∙ ap is_told (address_run r 0 0 0 _ (ne_eqb r 31 (λ z. omega (arith, low, z))) refl) in
+    let told : has_known_meaning (run (shapes (b ∷ c ∷ [])) 0 []) ≡ true = ap (λ (cs : List (Option Code)). has_known_meaning (run cs 0 [])) shaped ∙ ap has_known_meaning (address_run r 0 0 0 _ (ne_eqb r 31 (λ z. omega (arith, low, z))) refl) in
     and_from _ _ filled (and_from _ _ (subst (λ (q : ℕ). begins (codes_of kinds.AddressPair q) (read b ∷ read c ∷ []) ≡ true) (sym e) codes) told)
 
-slot_stands : (b c : ℕ) → stand_as OffsetSlot (b ∷ c ∷ []) ≡ true → is_run kinds.SlotPair (types_of OffsetSlot) (b ∷ c ∷ []) ≡ true
+slot_stands : (b c : ℕ) → words_match OffsetSlot (b ∷ c ∷ []) ≡ true → is_run kinds.SlotPair (types_of OffsetSlot) (b ∷ c ∷ []) ≡ true
 slot_stands b c h =
     let both = and_parts _ _ h in
     let r = register_set c in
@@ -158,14 +158,14 @@ slot_stands b c h =
     let filled : are_filled (types_of OffsetSlot) (b ∷ c ∷ []) ≡ true = two_filled (stands adrp.fixed b) (stands ldr.fixed c) (adrp_form r b each.0) (ldr_form r r c each.1) in
     let codes : begins (codes_of kinds.SlotPair r) (read b ∷ read c ∷ []) ≡ true = two_fit (Adrp r 0) (Ldr r r 0) (read b) (read c) (fits_shape (Adrp r 0) (read b) pb (same_adrp r)) (fits_shape (Ldr r r 0) (read c) pc (same_ldr r r)) in
     let shaped : shapes (b ∷ c ∷ []) ≡ Some (Adrp r 0) ∷ Some (Ldr r r 0) ∷ [] = rw (pb, pc) refl in
-    let told : is_told (run (shapes (b ∷ c ∷ [])) 0 []) ≡ true = ap (λ (cs : List (Option Code)). is_told (run cs 0 [])) shaped ∙ ap is_told (slot_run r 0 0 0 _ (ne_eqb r 31 (λ z. omega (arith, low, z))) refl) in
+    let told : has_known_meaning (run (shapes (b ∷ c ∷ [])) 0 []) ≡ true = ap (λ (cs : List (Option Code)). has_known_meaning (run cs 0 [])) shaped ∙ ap has_known_meaning (slot_run r 0 0 0 _ (ne_eqb r 31 (λ z. omega (arith, low, z))) refl) in
     and_from _ _ filled (and_from _ _ (subst (λ (q : ℕ). begins (codes_of kinds.SlotPair q) (read b ∷ read c ∷ []) ≡ true) (sym e) codes) told)
 
-call_told : (r : ℕ) → 1 ≤ r → r < 31 → is_told (run (Some (Adrp 0 0) ∷ Some (Ldr r 0 0) ∷ Some (Add 0 0 0) ∷ Some (Blr r) ∷ []) 0 []) ≡ true
+call_told : (r : ℕ) → 1 ≤ r → r < 31 → has_known_meaning (run (Some (Adrp 0 0) ∷ Some (Ldr r 0 0) ∷ Some (Add 0 0 0) ∷ Some (Blr r) ∷ []) 0 []) ≡ true
 call_told zero some low = absurd (omega (arith, some))
-call_told (suc q) some low = ap is_told (call_run q 0 0 0 0 _ (ne_eqb (suc q) 31 (λ z. omega (arith, low, z))) refl refl)
+call_told (suc q) some low = ap has_known_meaning (call_run q 0 0 0 0 _ (ne_eqb (suc q) 31 (λ z. omega (arith, low, z))) refl refl)
 
-call_stands : (b c e f : ℕ) → stand_as DescriptorCall (b ∷ c ∷ e ∷ f ∷ []) ≡ true → is_run kinds.DescriptorCall (types_of DescriptorCall) (b ∷ c ∷ e ∷ f ∷ []) ≡ true
+call_stands : (b c e f : ℕ) → words_match DescriptorCall (b ∷ c ∷ e ∷ f ∷ []) ≡ true → is_run kinds.DescriptorCall (types_of DescriptorCall) (b ∷ c ∷ e ∷ f ∷ []) ≡ true
 call_stands b c e f h =
     let both = and_parts _ _ h in
     let r = register_set c in
@@ -184,7 +184,7 @@ call_stands b c e f h =
     let codes : begins (codes_of kinds.DescriptorCall r) (read b ∷ read c ∷ read e ∷ read f ∷ []) ≡ true =
     four_fit (Adrp 0 0) (Ldr r 0 0) (Add 0 0 0) (Blr r) (read b) (read c) (read e) (read f) (fits_shape (Adrp 0 0) (read b) pb refl) (fits_shape (Ldr r 0 0) (read c) pc (same_ldr r 0)) (fits_shape (Add 0 0 0) (read e) pe refl) (fits_shape (Blr r) (read f) pf (same_blr r)) in
     let shaped : shapes (b ∷ c ∷ e ∷ f ∷ []) ≡ Some (Adrp 0 0) ∷ Some (Ldr r 0 0) ∷ Some (Add 0 0 0) ∷ Some (Blr r) ∷ [] = rw (pb, pc, pe, pf) refl in
-    let told : is_told (run (shapes (b ∷ c ∷ e ∷ f ∷ [])) 0 []) ≡ true = ap (λ (cs : List (Option Code)). is_told (run cs 0 [])) shaped ∙ call_told r some low in
+    let told : has_known_meaning (run (shapes (b ∷ c ∷ e ∷ f ∷ [])) 0 []) ≡ true = ap (λ (cs : List (Option Code)). has_known_meaning (run cs 0 [])) shaped ∙ call_told r some low in
     and_from _ _ filled (and_from _ _ (subst (λ (q : ℕ). begins (codes_of kinds.DescriptorCall q) (read b ∷ read c ∷ read e ∷ read f ∷ []) ≡ true) (sym at) codes) told)
 
 pub same_words : (n at : ℕ) (bs : List ℕ) → words_at bs at n ≡ words_from n at bs
@@ -195,7 +195,7 @@ abbrev word : ℕ → List ℕ → ℕ
 word at bs = number (slice_range bs at (at + 4))
 
 -- the words of a sequence in bytes are such a run
-pub run_stands : (q : Sequence) (at : ℕ) (bs : List ℕ) → stand_as q (words_at bs at (length (types_of q))) ≡ true → is_run (kind_of q) (types_of q) (words_from (length (types_of q)) at bs) ≡ true
+pub run_stands : (q : Sequence) (at : ℕ) (bs : List ℕ) → words_match q (words_at bs at (length (types_of q))) ≡ true → is_run (kind_of q) (types_of q) (words_from (length (types_of q)) at bs) ≡ true
 run_stands DescriptorCall at bs h = call_stands (word at bs) (word (at + 4) bs) (word (at + 4 + 4) bs) (word (at + 4 + 4 + 4) bs) h
 run_stands OffsetSlot at bs h = slot_stands (word at bs) (word (at + 4) bs) h
 run_stands Address at bs h = address_stands (word at bs) (word (at + 4) bs) h
@@ -209,7 +209,7 @@ pub record IsRewrittenWord (l : Layout) (s : Item) (i : ℕ) (r : InputRelocatio
   pub symbol : ℕ
   pub named : r.symbol ≡ Some symbol
   pub plain : names_merged l (Some symbol) ≡ false
-  pub chosen : chosen_aarch64 (question_around l s i r symbol) ≡ Ok (Some row)
+  pub chosen : chosen_row_aarch64 (question_around l s i r symbol) ≡ Ok (Some row)
   pub sequence : Sequence
   pub word : ℕ
   pub among : pattern_of row ≡ Among sequence word
@@ -279,9 +279,9 @@ pub record IsRunThere (l : Layout) (s : Item) (i : ℕ) (r : InputRelocation) (r
   pub before : words_before r.number ≡ k
   pub start : ℕ
   pub place : r.offset ≡ start + 4 * k
-  pub follows : follow r.symbol start (types_of q) (infos_from s.relocations index) ≡ true
+  pub follows : relocations_match r.symbol start (types_of q) (infos_from s.relocations index) ≡ true
   pub inside : start + 4 * length (types_of q) ≤ length s.bytes
-  pub words : stand_as q (words_at s.bytes start (length (types_of q))) ≡ true
+  pub words : words_match q (words_at s.bytes start (length (types_of q))) ≡ true
   pub code : executable s.flags ≡ true
 
 back : (i w : ℕ) → w ≤ i - (i - w) → (i - w + w ≡ i) × (i - (i - w) - w ≡ 0)
@@ -311,11 +311,11 @@ run_there l s i r row t =
       start = r.offset - 4 * t.word;
       place = omega (arith, from);
       follows =
-          subst (λ (j : ℕ). follow r.symbol (r.offset - 4 * t.word) (types_of t.sequence) (infos_from s.relocations j) ≡ true) first
-          (subst (λ (n : ℕ). follow r.symbol (r.offset - 4 * t.word) (types_of t.sequence) (drop n (infos_from s.relocations (i - words_before r.number))) ≡ true) none
-          (subst (λ (x : RelocationInfo). follow x.symbol (x.offset - 4 * t.word) (types_of t.sequence) (drop (i - (i - words_before r.number) - t.word) (infos_from s.relocations (i - words_before r.number))) ≡ true) is c.among.follows));
+          subst (λ (j : ℕ). relocations_match r.symbol (r.offset - 4 * t.word) (types_of t.sequence) (infos_from s.relocations j) ≡ true) first
+          (subst (λ (n : ℕ). relocations_match r.symbol (r.offset - 4 * t.word) (types_of t.sequence) (drop n (infos_from s.relocations (i - words_before r.number))) ≡ true) none
+          (subst (λ (x : RelocationInfo). relocations_match x.symbol (x.offset - 4 * t.word) (types_of t.sequence) (drop (i - (i - words_before r.number) - t.word) (infos_from s.relocations (i - words_before r.number))) ≡ true) is c.among.follows));
       inside = subst (λ (n : ℕ). n - 4 * t.word + 4 * length (types_of t.sequence) ≤ length s.bytes) offset c.among.within;
-      words = subst (λ (n : ℕ). stand_as t.sequence (words_at s.bytes (n - 4 * t.word) (length (types_of t.sequence))) ≡ true) offset c.among.words;
+      words = subst (λ (n : ℕ). words_match t.sequence (words_at s.bytes (n - 4 * t.word) (length (types_of t.sequence))) ≡ true) offset c.among.words;
       code = in_code row.in_code (executable s.flags) in_row c.applied.section;
     }
 

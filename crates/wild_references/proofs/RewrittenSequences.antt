@@ -21,16 +21,16 @@ use Rattle.wild_relax.specs.declared.pattern.Sequence.TheVariants.{DescriptorCal
 use Rattle.wild_relax.specs.declared.reference.RelocationInfo.{RelocationInfo}
 use Rattle.wild_relax.specs.declared.row.Row.{Row}
 use Rattle.wild_relax.specs.Question.{zero as none_added}
-use Rattle.wild_relax.specs.SequenceAArch64.{types_of, same_symbol, follow}
+use Rattle.wild_relax.specs.SequenceAArch64.{types_of, same_symbol, relocations_match}
 use Rattle.wild_relax.proofs.TogetherLemmas.{same_is}
 use Rattle.wild_layout.specs.Choice.{nameless, info_at}
 use Rattle.wild_loader.specs.Instruction.{stands}
 use Rattle.wild_meaning.specs.WordsAArch64.{is_run}
 use Rattle.wild_meaning.specs.Sequence.{size_of, bytes_of, by_word, IsOwnByte, descriptor_call_words, offset_pair_words, address_pair_words, instructions_of}
 use Rattle.wild_meaning.specs.Field.{InNoField}
-use Rattle.wild_meaning.specs.ReferentAArch64.{IsAbsent}
+use Rattle.wild_meaning.specs.ReferentAArch64.{IsUndefinedWeak}
 use Rattle.wild_meaning.specs.Partners.{HasPartner}
-use Rattle.wild_meaning.specs.Template.{AddsNothing, counts_from, IsInstruction, IsSequence, IsOfSequence}
+use Rattle.wild_meaning.specs.Template.{HasOriginAddend, field_origin, IsInstruction, IsSequence, IsOfSequence}
 use Rattle.wild_meaning.proofs.BitLemmas.{bit_code}
 use Rattle.wild_references.proofs.WordsAArch64.{fours, words_from, words_read}
 use Rattle.wild_references.proofs.RewrittenRuns.{kind_of, run_of, run_stands, IsRewrittenWord, IsRunThere, address_there}
@@ -58,10 +58,10 @@ there rs i n e some = by (slice_get rs i) refl
     by None h = absurd (some (sym e ∙ (rw h refl)))
     by (Some p) h = (p, h, rw h refl)
 
-pub part : (s : Item) (index : ℕ) (symbol : Option ℕ) (place n : ℕ) (ns : List ℕ) (rest : List RelocationInfo) → (n ≡ 0 → ⊥) → follow symbol place (n ∷ ns) (info_at s.relocations index ∷ rest) ≡ true → IsPart s symbol place n index × (follow symbol (place + 4) ns rest ≡ true)
+pub part : (s : Item) (index : ℕ) (symbol : Option ℕ) (place n : ℕ) (ns : List ℕ) (rest : List RelocationInfo) → (n ≡ 0 → ⊥) → relocations_match symbol place (n ∷ ns) (info_at s.relocations index ∷ rest) ≡ true → IsPart s symbol place n index × (relocations_match symbol (place + 4) ns rest ≡ true)
 part s index symbol place n ns rest some h =
     let r = info_at s.relocations index in
-    let a = and_parts (r.number == n && r.offset == place && same_symbol r.symbol symbol && none_added r.addend) (follow symbol (place + 4) ns rest) h in
+    let a = and_parts (r.number == n && r.offset == place && same_symbol r.symbol symbol && none_added r.addend) (relocations_match symbol (place + 4) ns rest) h in
     let b = and_parts (r.number == n && r.offset == place && same_symbol r.symbol symbol) (none_added r.addend) a.0 in
     let c = and_parts (r.number == n && r.offset == place) (same_symbol r.symbol symbol) b.0 in
     let e = and_parts (r.number == n) (r.offset == place) c.0 in
@@ -118,9 +118,9 @@ run_words DescriptorCall start bs h w = subst (λ (ws : List ℕ). descriptor_ca
 run_words OffsetSlot start bs h w = subst (λ (ws : List ℕ). offset_pair_words.words ws ≡ true) (sym (words_read 2 start bs h)) w
 run_words Address start bs h w = subst (λ (ws : List ℕ). address_pair_words.words ws ≡ true) (sym (words_read 2 start bs h)) w
 
-run_counts : (l : Layout) (q : Sequence) (first : InputRelocation) → l.machine ≡ machine.AArch64 → first.addend ≡ pos 0 → AddsNothing l.machine (run_of q).sort first
-run_counts l DescriptorCall first on none = subst (λ (m : Machine). (cast_unsigned w64 first.addend + counts_from m) % 2 ^ 64 ≡ 0) (sym on) (ap (λ (a : ℤ). (cast_unsigned w64 a + 0) % 2 ^ 64) none)
-run_counts l OffsetSlot first on none = subst (λ (m : Machine). (cast_unsigned w64 first.addend + counts_from m) % 2 ^ 64 ≡ 0) (sym on) (ap (λ (a : ℤ). (cast_unsigned w64 a + 0) % 2 ^ 64) none)
+run_counts : (l : Layout) (q : Sequence) (first : InputRelocation) → l.machine ≡ machine.AArch64 → first.addend ≡ pos 0 → HasOriginAddend l.machine (run_of q).sort first
+run_counts l DescriptorCall first on none = subst (λ (m : Machine). (cast_unsigned w64 first.addend + field_origin m) % 2 ^ 64 ≡ 0) (sym on) (ap (λ (a : ℤ). (cast_unsigned w64 a + 0) % 2 ^ 64) none)
+run_counts l OffsetSlot first on none = subst (λ (m : Machine). (cast_unsigned w64 first.addend + field_origin m) % 2 ^ 64 ≡ 0) (sym on) (ap (λ (a : ℤ). (cast_unsigned w64 a + 0) % 2 ^ 64) none)
 run_counts l Address first on none = tt
 
 -- what stands alone of a run: the word of a call has no field of its own
@@ -230,7 +230,7 @@ slot_run_is l s i r row k symbol on listed named t =
       one = one_of_pair s i t.index k r first b.0.relocation t.at t.few listed a.0.listed b.0.listed;
     }
 
-address_run_is : (l : Layout) (s : Item) (i : ℕ) (r : InputRelocation) (row : Row) (k symbol : ℕ) → l.machine ≡ machine.AArch64 → slice_get s.relocations i ≡ Some r → r.symbol ≡ Some symbol → (IsAbsent l symbol → ⊥) → (t : IsRunThere l s i r row Address k) → IsJudgedRun l s r Address t.start t.index
+address_run_is : (l : Layout) (s : Item) (i : ℕ) (r : InputRelocation) (row : Row) (k symbol : ℕ) → l.machine ≡ machine.AArch64 → slice_get s.relocations i ≡ Some r → r.symbol ≡ Some symbol → (IsUndefinedWeak l symbol → ⊥) → (t : IsRunThere l s i r row Address k) → IsJudgedRun l s r Address t.start t.index
 address_run_is l s i r row k symbol on listed named present t =
     let a = part s t.index r.symbol t.start r_aarch64_adr_prel_pg_hi21 (r_aarch64_add_abs_lo12_nc ∷ []) (infos_behind s t.index) (λ z. omega (arith, z)) t.follows in
     let b = part s (t.index + 1) r.symbol (t.start + 4) r_aarch64_add_abs_lo12_nc [] (infos_last s t.index) (λ z. omega (arith, z)) a.1 in
@@ -296,7 +296,7 @@ call_run_is l s i r row k symbol on listed named t alone =
 pub judged_run : (l : Layout) (s : Item) (i : ℕ) (r : InputRelocation) (row : Row) → (w : IsRewrittenWord l s i r row) → (t : IsRunThere l s i r row w.sequence w.word) → (w.sequence ≡ DescriptorCall → StandsAlone l s DescriptorCall t.start) → IsJudgedRun l s r w.sequence t.start t.index
 judged_run l s i r row w t alone = by w.sequence refl t alone
   where
-    present : w.sequence ≡ Address → IsAbsent l w.symbol → ⊥
+    present : w.sequence ≡ Address → IsUndefinedWeak l w.symbol → ⊥
     present e a =
         (let no = address_there l s i r row w e in
         let yes : has_flag (flags_at l w.symbol) undefined_weak ≡ true = flag_is l w.symbol undefined_weak true a.weak in

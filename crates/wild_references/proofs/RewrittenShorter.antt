@@ -13,12 +13,12 @@ use Rattle.wild_geometry.specs.Loaded.{IsDecided}
 use Rattle.wild_types.specs.Item.{Item}
 use Rattle.wild_meaning.specs.Sequence.{Instruction, size_of, instructions_of}
 use Rattle.wild_meaning.specs.Template.{IsInstruction, IsSingle}
-use Rattle.wild_references.specs.EffectLaws.{WindowsAreAlone}
+use Rattle.wild_references.specs.EffectLaws.{WindowsHaveNoOtherField}
 use Rattle.wild_references.proofs.RewrittenForms.{instruction_of}
 use Rattle.wild_references.proofs.RewrittenPlaces.{IsPlacedRow}
 use Rattle.wild_references.proofs.RewrittenSingles.{has_number, has_listed, stands_there}
 use Rattle.wild_references.proofs.RewrittenCalls.{EachOf, each_of}
-use Rattle.wild_references.proofs.RewrittenApart.{free}
+use Rattle.wild_references.proofs.RewrittenSingleInstructions.{free}
 use Rattle.wild_references.proofs.RewrittenPrefix.{wide_load}
 
 -- no instruction of the type is longer but that one
@@ -127,7 +127,7 @@ shorter l s r from o x86 number none h =
       | inr same ↦ inr same
     ]
 
-pub plain_single : WindowsAreAlone → (l : Layout) (s : Item) (i : ℕ) (r : InputRelocation) (v : ℕ) → l.machine ≡ machine.X86_64 → IsDecided l s → IsPlacedRow l s i r PLAIN_LEA v → ((from : ℕ) → IsInstruction l s r from wide_load → ⊥) → IsSingle l s r (template_start PLAIN_LEA r) (instruction_of PLAIN_LEA)
+pub plain_single : WindowsHaveNoOtherField → (l : Layout) (s : Item) (i : ℕ) (r : InputRelocation) (v : ℕ) → l.machine ≡ machine.X86_64 → IsDecided l s → IsPlacedRow l s i r PLAIN_LEA v → ((from : ℕ) → IsInstruction l s r from wide_load → ⊥) → IsSingle l s r (template_start PLAIN_LEA r) (instruction_of PLAIN_LEA)
 plain_single law l s i r v x86 decided p none_wider = record {
   single = refl;
   stands = stands_there law l s i r PLAIN_LEA v x86 decided p;

@@ -14,19 +14,19 @@ use Rattle.wild_relax.specs.Question.{minus_four}
 use Rattle.wild_relax.specs.Rows.{rows_x86_64}
 use Rattle.wild_relax.specs.Rewrite.{is_skip}
 use Rattle.wild_relax.specs.RewriteX86_64.{rewrite_of}
-use Rattle.wild_relax.specs.Linked.{keeps_bytes}
+use Rattle.wild_relax.specs.LinkedPattern.{keeps_bytes}
 use Rattle.wild_layout.specs.Sites.{template_start}
 use Rattle.wild_geometry.specs.Loaded.{IsDecided}
 use Rattle.wild_types.specs.Item.{Item}
 use Rattle.wild_aarch64.specs.Effect.{words_of}
 use Rattle.wild_meaning.specs.Sequence.{Instruction, size_of, instructions_of, Sort, DescribedCall}
-use Rattle.wild_meaning.specs.Template.{IsInstruction, AddsNothing}
+use Rattle.wild_meaning.specs.Template.{IsInstruction, HasOriginAddend}
 use Rattle.wild_meaning.proofs.PairLemmas.{are_several}
-use Rattle.wild_references.specs.EffectLaws.{WindowsAreAlone}
+use Rattle.wild_references.specs.EffectLaws.{WindowsHaveNoOtherField}
 use Rattle.wild_references.proofs.RewrittenForms.{instruction_of}
 use Rattle.wild_references.proofs.RewrittenPairs.{paired}
 use Rattle.wild_references.proofs.RewrittenPlaces.{IsPlacedRow, is_code, counts_ended, size_is, cells_stand}
-use Rattle.wild_references.proofs.RewrittenAlone.{field_is, called, in_no_field}
+use Rattle.wild_references.proofs.RewrittenInInput.{field_is, called, in_no_field}
 
 -- ---- the instruction stands
 
@@ -42,13 +42,13 @@ each_ends : list_all ends_or_call rows_x86_64 ≡ true
 unfolding rows_x86_64
 each_ends = refl
 
-counts_single : (a b : Bool) (o : Sort) (r : InputRelocation) → (a || is_described o) ≡ true → (not a || b) ≡ true → (b ≡ true → minus_four r.addend ≡ true) → AddsNothing machine.X86_64 o r
+counts_single : (a b : Bool) (o : Sort) (r : InputRelocation) → (a || is_described o) ≡ true → (not a || b) ≡ true → (b ≡ true → minus_four r.addend ≡ true) → HasOriginAddend machine.X86_64 o r
 counts_single true true o r h e ends = counts_ended o r (ends refl)
 counts_single true false o r h e ends = cc
 counts_single false b DescribedCall r h e ends = tt
 counts_single false b other r h e ends = cc
 
-pub counts : (l : Layout) (s : Item) (i : ℕ) (r : InputRelocation) (row : Row) (v : ℕ) → IsPlacedRow l s i r row v → AddsNothing machine.X86_64 (instruction_of row).sort r
+pub counts : (l : Layout) (s : Item) (i : ℕ) (r : InputRelocation) (row : Row) (v : ℕ) → IsPlacedRow l s i r row v → HasOriginAddend machine.X86_64 (instruction_of row).sort r
 counts l s i r row v p =
     elim (cases_Bool (is_skip (rewrite_of row).next)) [
       | inl skips ↦ (let pair = paired row p.changing skips in counts_ended (instruction_of row).sort r (called l s row r p.chosen.symbol pair.distance _ pair.behind p.stands.taken.partner).2.ends)
@@ -57,7 +57,7 @@ counts l s i r row v p =
           counts_single (row.ends || row.needs_end) (minus_four r.addend) (instruction_of row).sort r ends p.stands.taken.addend (λ e. e))
     ]
 
-pub stands_there : WindowsAreAlone → (l : Layout) (s : Item) (i : ℕ) (r : InputRelocation) (row : Row) (v : ℕ) → l.machine ≡ machine.X86_64 → IsDecided l s → IsPlacedRow l s i r row v → IsInstruction l s r (template_start row r) (instruction_of row)
+pub stands_there : WindowsHaveNoOtherField → (l : Layout) (s : Item) (i : ℕ) (r : InputRelocation) (row : Row) (v : ℕ) → l.machine ≡ machine.X86_64 → IsDecided l s → IsPlacedRow l s i r row v → IsInstruction l s r (template_start row r) (instruction_of row)
 stands_there law l s i r row v x86 decided p =
     let size = size_is l s i r row v p in
     let inside = p.stands.inside in
@@ -69,7 +69,7 @@ stands_there law l s i r row v x86 decided p =
       inside = omega (arith, size, inside);
       stands = cells_stand l s i r row v p;
       words = listed_passes (λ (o : Instruction). o.words (words_of (slice_range s.bytes (template_start row r) (template_start row r + size_of (instruction_of row))))) (instructions_of machine.X86_64) (instruction_of row) refl p.fits.known;
-      counts = subst (λ (m : Machine). AddsNothing m (instruction_of row).sort r) (sym x86) (counts l s i r row v p);
+      counts = subst (λ (m : Machine). HasOriginAddend m (instruction_of row).sort r) (sym x86) (counts l s i r row v p);
       alone = λ k own. in_no_field law l s i r row v k x86 decided p own;
     }
 

@@ -16,7 +16,7 @@ use Rattle.wild_types.specs.declared.kind.Machine.TheVariants as machine
 use Rattle.wild_types.specs.declared.fault.Fault.{Fault}
 use Rattle.wild_types.specs.declared.input.InputRelocation.{InputRelocation}
 use Rattle.wild_types.specs.declared.layout.Layout.{Layout}
-use Rattle.wild_types.specs.Hollow.{KeepsAll}
+use Rattle.wild_types.specs.HeaderOnly.{KeepsAll}
 use Rattle.wild_types.specs.Item.{Item}
 use Rattle.wild_relax.specs.declared.pattern.Sequence.TheVariants.{DescriptorCall}
 use Rattle.wild_relax.specs.declared.table_aarch64.TheConstants.{CALL_FIRST, CALL_SECOND, CALL_THIRD_SLOT, CALL_FOURTH_SLOT}
@@ -25,9 +25,9 @@ use Rattle.wild_aarch64.specs.Row as judged
 use Rattle.wild_aarch64.specs.Row.{distance, IsNear, IsRead}
 use Rattle.wild_aarch64.specs.Machine.{page}
 use Rattle.wild_aarch64.specs.Effect.{words_of}
-use Rattle.wild_relax.specs.Linked.{template_of}
+use Rattle.wild_relax.specs.LinkedPattern.{template_of}
 use Rattle.wild_relax.specs.RewriteX86_64.{info_written}
-use Rattle.wild_relax.specs.SequenceAArch64.{words_at, stand_as}
+use Rattle.wild_relax.specs.SequenceAArch64.{words_at, words_match}
 use Rattle.wild_layout.specs.Decide.{place_to, term_to}
 use Rattle.wild_layout.specs.SlotValues.{slot_address}
 use Rattle.wild_layout.specs.SymbolValues.{sum}
@@ -40,7 +40,7 @@ use Rattle.wild_meaning.specs.Item.{place_at}
 use Rattle.wild_meaning.specs.Formula.{IsOffset}
 use Rattle.wild_meaning.specs.Slot.{IsSlotOf}
 use Rattle.wild_meaning.specs.Sequence.{descriptor_call_words}
-use Rattle.wild_meaning.specs.Template.{reads_alone}
+use Rattle.wild_meaning.specs.Template.{reads_without_calls}
 use Rattle.wild_meaning.specs.Reference.{IsOwnSlot}
 use Rattle.wild_references.specs.Laws.{IsLoadedItem}
 use Rattle.wild_references.proofs.KeptItems.{item_lies}
@@ -139,7 +139,7 @@ reads_there g v = (let t : (g == g) ≡ true = eq-eqb g g refl in rw t refl)
 
 -- ---- the call
 
-pub call_to_slot : RowsOfAArch64Keep → (l : Layout) (w : World) (m : Memory) (s : Item) (first : InputRelocation) (start k : ℕ) → IsLoadedItem machine.AArch64 l w m s → KeepsAll l → start + 16 ≤ length s.bytes → stand_as DescriptorCall (words_at s.bytes start 4) ≡ true → first.symbol ≡ Some k
+pub call_to_slot : RowsOfAArch64Keep → (l : Layout) (w : World) (m : Memory) (s : Item) (first : InputRelocation) (start k : ℕ) → IsLoadedItem machine.AArch64 l w m s → KeepsAll l → start + 16 ≤ length s.bytes → words_match DescriptorCall (words_at s.bytes start 4) ≡ true → first.symbol ≡ Some k
     → IsWrittenPart l s first start CALL_FIRST → IsWrittenPart l s first (start + 4) CALL_SECOND → IsWrittenPart l s first (start + 4 + 4) CALL_THIRD_SLOT → IsWrittenPart l s first (start + 4 + 4 + 4) CALL_FOURTH_SLOT
     → IsDone l w m s first start descriptor_call_words
 call_to_slot keeps l w m s first start k g all inside stands named p q t u =
@@ -208,7 +208,7 @@ call_to_slot keeps l w m s first start k g all inside stands named p q t u =
       does = record {
         value = v;
         demands = subst (λ (o : Option ℕ). IsOffset l w o v) (sym named) slot.holds.2;
-        code = by_words (reads_alone w m) l w m s start descriptor_call_words v us g.on refl inside (λ e h. h) there (done (reads_alone w m) (λ y. refl) slot.holds.1);
+        code = by_words (reads_without_calls w m) l w m s start descriptor_call_words v us g.on refl inside (λ e h. h) there (done (reads_without_calls w m) (λ y. refl) slot.holds.1);
       };
       words = one_slot_read l w m s first start descriptor_call_words v ((w.base + term) % 2 ^ 64) ws us refl there (done (reads_at ((w.base + term) % 2 ^ 64) v) (λ y. refl) (reads_there ((w.base + term) % 2 ^ 64) v)) own;
     }

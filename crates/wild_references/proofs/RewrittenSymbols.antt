@@ -15,7 +15,7 @@ use Rattle.wild_layout.specs.Numbers.{SymbolNumbers}
 use Rattle.wild_loader.specs.declared.memory.Memory.{Memory}
 use Rattle.wild_loader.specs.declared.world.World.{World}
 use Rattle.wild_loader.specs.declared.world.Answer.{Answer}
-use Rattle.wild_meaning.specs.Value.{IsSymbol, IsDefinedBy, IsResolved, IsUnresolved, StandsAt, HasRaw, HasFlag, IsValue, HasOwnValue, is_library, IsReplaceable, HasAnswer, moved}
+use Rattle.wild_meaning.specs.Value.{IsSymbol, IsDefinedBy, IsResolved, IsUnresolved, IsLocatedAt, HasRaw, HasFlag, IsValue, HasOwnValue, is_library, IsReplaceable, HasAnswer, with_base}
 use Rattle.wild_meaning.specs.Denotes.{Denotes}
 use Rattle.wild_meaning.specs.World.{IsAnswer}
 use Rattle.wild_meaning.proofs.SymbolLemmas.{canonical_is}
@@ -76,7 +76,7 @@ own_one l i flags d h =
 raw_small : (l : Layout) (w : World) (m : Memory) (i a : ℕ) → IsPlaced l w m → HasRaw l i a → a < 2 ^ 64
 raw_small l w m i a p h = by_case h.given
   where
-    by_case : IsResolved l h.definition a ⊎ (IsUnresolved l h.definition × StandsAt l i a) → a < 2 ^ 64
+    by_case : IsResolved l h.definition a ⊎ (IsUnresolved l h.definition × IsLocatedAt l i a) → a < 2 ^ 64
     by_case (inl t) =
         let n = holds_at (λ (s : Symbol). SymbolNumbers s) l.symbols h.definition t.symbol t.listed p.symbols.numbers in
         let low = (n t.resolution t.decided).value in
@@ -84,7 +84,7 @@ raw_small l w m i a p h = by_case h.given
         omega (arith, low, e)
     by_case (inr t) = (let e = t.1.address in omega (arith, e))
 
-moved_small : (still : Bool) (base raw : ℕ) → raw < 2 ^ 64 → moved still base raw < 2 ^ 64
+moved_small : (still : Bool) (base raw : ℕ) → raw < 2 ^ 64 → with_base still base raw < 2 ^ 64
 moved_small true base raw h = h
 moved_small false base raw h = omega arith
 

@@ -21,7 +21,7 @@ use Rattle.wild_relax.specs.declared.row.Duty.TheVariants as duty
 use Rattle.wild_relax.specs.Question.{Question}
 use Rattle.wild_relax.specs.RowSymbols.{takes_symbol, takes_value, is_mandatory}
 use Rattle.wild_relax.specs.Rows.{rows_x86_64}
-use Rattle.wild_relax.specs.Linked.{IsChanging}
+use Rattle.wild_relax.specs.LinkedPattern.{IsChanging}
 use Rattle.wild_relax.proofs.RoomLemmas.{applied}
 use Rattle.wild_relax.specs.declared.row.Row.{Row}
 use Rattle.wild_relax.specs.RowSequences.{call_form}
@@ -43,11 +43,11 @@ use Rattle.wild_references.specs.Laws.{IsLoadedItem}
 use Rattle.wild_references.proofs.RewrittenForms.{instruction_of}
 use Rattle.wild_references.proofs.RewrittenPairs.{partner_for, single}
 use Rattle.wild_references.proofs.RewrittenPlaces.{LawsBelow, IsPlacedRow}
-use Rattle.wild_references.proofs.RewrittenAlone.{taken_call, call_place}
+use Rattle.wild_references.proofs.RewrittenInInput.{taken_call, call_place}
 use Rattle.wild_references.proofs.RewrittenSingles.{is_told, is_longest, each_longest, longest, no_longer, stands_there}
 use Rattle.wild_references.proofs.RewrittenSymbols.{definition, flag_of}
 use Rattle.wild_references.proofs.RewrittenTerms.{symbol_there}
-use Rattle.wild_references.proofs.RewrittenApart.{free}
+use Rattle.wild_references.proofs.RewrittenSingleInstructions.{free}
 
 -- ---- an instruction of one field
 

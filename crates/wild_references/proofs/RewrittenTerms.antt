@@ -7,10 +7,10 @@ use Rattle.wild_records.specs.Abi.Relocation.{r_x86_64_64}
 use Rattle.wild_types.specs.declared.kind.Machine.TheVariants as machine
 use Rattle.wild_types.specs.declared.input.InputRelocation.{InputRelocation}
 use Rattle.wild_types.specs.declared.layout.Layout.{Layout}
-use Rattle.wild_types.specs.Hollow.{KeepsAll}
+use Rattle.wild_types.specs.HeaderOnly.{KeepsAll}
 use Rattle.wild_slot.specs.declared.treatment.Treatment.TheVariants as treatments
 use Rattle.wild_types.specs.Lookups.{place_of}
-use Rattle.wild_slot.specs.Treatment.{kind_treatment, suits}
+use Rattle.wild_slot.specs.Treatment.{kind_treatment, row_accepts}
 use Rattle.wild_reloc.specs.Expression.{expression_of}
 use Rattle.wild_reloc.specs.Table.{plain}
 use Rattle.wild_reloc.specs.TableX86_64.{x86_64_row}
@@ -26,7 +26,7 @@ use Rattle.wild_types.proofs.LookupLemmas.{row_here}
 use Rattle.wild_relax.specs.declared.row.Row.{Row}
 use Rattle.wild_relax.proofs.RewriteLemmas as written
 use Rattle.wild_relax.specs.RewriteX86_64.{rewrite_of}
-use Rattle.wild_relax.specs.Linked.{field_in}
+use Rattle.wild_relax.specs.LinkedPattern.{field_in}
 use Rattle.wild_layout.specs.Decide.{field_at}
 use Rattle.wild_layout.proofs.DecisionLemmas.{term_alone}
 use Rattle.wild_layout.specs.Values.{term_of, value_by, is_own_place, undefined_weak_target, term_by}
@@ -138,7 +138,7 @@ has_term l w m s i r row v k n sign h all p is term treated asked =
       number = wide_type;
       row = wide;
       treated = treated;
-      suited = subst (λ (j : Machine). suits j (written_as row r) (plain k n sign) ≡ true) (sym h.on) refl;
+      row_that_accepts = subst (λ (j : Machine). row_accepts j (written_as row r) (plain k n sign) ≡ true) (sym h.on) refl;
       expressed = subst (λ (j : Machine). is_expressed j (expression_of k).term (expression_of k).taken None ≡ true) (sym h.on) refl;
       term = x.term;
       given = plain_at l.machine l (written_as row r) (plain k n sign) (place_of s.address (written_as row r)) x.term h.on p.chosen.plain (term x.term given);

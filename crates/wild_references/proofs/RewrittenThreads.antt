@@ -8,7 +8,7 @@ use Rattle.wild_types.specs.declared.kind.OutputKind.{OutputKind}
 use Rattle.wild_types.specs.declared.kind.OutputKind.TheVariants as output
 use Rattle.wild_types.specs.declared.input.InputRelocation.{InputRelocation}
 use Rattle.wild_types.specs.declared.layout.Layout.{Layout}
-use Rattle.wild_types.specs.Hollow.{KeepsAll}
+use Rattle.wild_types.specs.HeaderOnly.{KeepsAll}
 use Rattle.wild_types.specs.Flags.{interposable}
 use Rattle.wild_types.specs.Kinds.{is_executable, is_static_executable}
 use Rattle.wild_slot.specs.Treatment.{flags_at}
@@ -16,7 +16,7 @@ use Rattle.wild_reloc.specs.Formula.{ThreadOffset}
 use Rattle.wild_relax.specs.declared.row.Row.{Row}
 use Rattle.wild_relax.specs.Question.{minus_four}
 use Rattle.wild_relax.specs.RewriteX86_64.{rewrite_of}
-use Rattle.wild_relax.specs.Linked.{field_in}
+use Rattle.wild_relax.specs.LinkedPattern.{field_in}
 use Rattle.wild_layout.specs.Sites.{template_start}
 use Rattle.wild_loader.specs.declared.memory.Memory.{Memory}
 use Rattle.wild_loader.specs.declared.world.World.{World}

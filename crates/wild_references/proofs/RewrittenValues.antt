@@ -9,13 +9,13 @@ use Rattle.wild_types.specs.declared.kind.OutputKind.{OutputKind}
 use Rattle.wild_types.specs.declared.kind.OutputKind.TheVariants as output
 use Rattle.wild_types.specs.declared.input.InputRelocation.{InputRelocation}
 use Rattle.wild_types.specs.declared.layout.Layout.{Layout}
-use Rattle.wild_types.specs.Hollow.{KeepsAll}
+use Rattle.wild_types.specs.HeaderOnly.{KeepsAll}
 use Rattle.wild_slot.specs.declared.treatment.Treatment.{Treatment}
 use Rattle.wild_slot.specs.declared.treatment.Treatment.TheVariants as treatments
 use Rattle.wild_types.specs.Flags.{has_flag, interposable, has_link_time_address, absolute, ifunc}
 use Rattle.wild_types.specs.Kinds.{is_executable, is_shared_object, is_position_independent, has_fixed_load_address}
 use Rattle.wild_types.specs.Lookups.{canonical, allocated}
-use Rattle.wild_slot.specs.Treatment.{flags_at, is_left, is_elsewhere, is_barred_type, is_barred_in_shared, is_barred, is_narrow, is_chosen, moves, moved_treatment, chosen_treatment, address_treatment, kind_treatment}
+use Rattle.wild_slot.specs.Treatment.{flags_at, needs_symbolic, has_no_local_address, is_barred_type, is_barred_in_shared, is_barred, is_narrow, needs_irelative, moves, relative_treatment, irelative_treatment, address_treatment, kind_treatment}
 use Rattle.wild_reloc.specs.Table.{plain}
 use Rattle.wild_reloc.specs.TableX86_64.{x86_64_row}
 use Rattle.wild_reloc.specs.Agreement.{plain_value}
@@ -56,7 +56,7 @@ not_listed_in_shared machine.X86_64 = refl
 not_listed_in_shared machine.AArch64 = refl
 
 not_barred : (l : Layout) (s : Item) (k : ℕ) → is_barred l s.flags wide_type k ≡ false
-not_barred l s k = barred_by (allocated s.flags) (is_position_independent l.kind) (is_barred_type l.machine wide_type) (is_elsewhere (flags_at l k)) (not_listed l.machine)
+not_barred l s k = barred_by (allocated s.flags) (is_position_independent l.kind) (is_barred_type l.machine wide_type) (has_no_local_address (flags_at l k)) (not_listed l.machine)
 
 by_barred : (b : Bool) → b ≡ false → (if b then treatments.Recompile else treatments.Value wide) ≡ treatments.Value wide
 by_barred true h = cc
@@ -79,7 +79,7 @@ there_by false t h = refl
 address_value : (l : Layout) (s : Item) (k : ℕ) (symbol : Option ℕ) → symbol ≡ Some k → interposable (flags_at l k) ≡ false → has_flag (flags_at l k) ifunc ≡ false → moves l k ≡ false → kind_treatment l s.flags wide_type symbol wide kinds.Absolute ≡ treatments.Value wide
 address_value l s k symbol e own plain_one still =
     let narrow : is_narrow l s.flags wide_type ≡ false = and_right (allocated s.flags && is_shared_object l.kind) (is_barred_in_shared l.machine wide_type) (not_listed_in_shared l.machine) in
-    let value = address_by (is_barred l s.flags wide_type k || is_narrow l s.flags wide_type) (is_left l s.flags wide k) (is_chosen l s.flags k) (allocated s.flags && moves l k) k (chosen_treatment wide k) (moved_treatment wide)
+    let value = address_by (is_barred l s.flags wide_type k || is_narrow l s.flags wide_type) (needs_symbolic l s.flags wide k) (needs_irelative l s.flags k) (allocated s.flags && moves l k) k (irelative_treatment wide k) (relative_treatment wide)
     (or_from (is_barred l s.flags wide_type k) (is_narrow l s.flags wide_type) (not_barred l s k) narrow) (and_right _ _ own) (and_right _ _ plain_one) (and_right (allocated s.flags) (moves l k) still) in
     rw e (there_by (nat_lt (canonical l k) (length l.symbols)) (address_treatment l s.flags wide_type wide k) value)
 

@@ -16,7 +16,7 @@ use Rattle.wild_references.proofs.TableRows.{plain_is}
 use Rattle.wild_relax.specs.Rewrite.{is_skip}
 use Rattle.wild_relax.specs.RewriteX86_64.{rewrite_of}
 use Rattle.wild_relax.specs.Rows.{rows_x86_64}
-use Rattle.wild_relax.specs.Linked.{pattern_size, keeps_bytes}
+use Rattle.wild_relax.specs.LinkedPattern.{pattern_size, keeps_bytes}
 use Rattle.wild_layout.specs.declared.decision.Decision.{Decision}
 use Rattle.wild_layout.specs.declared.decision.Decision.TheVariants.{Rewritten, Partner}
 use Rattle.wild_layout.specs.Sites.{template_start}
@@ -27,17 +27,17 @@ use Rattle.wild_loader.specs.declared.memory.Memory.{Memory}
 use Rattle.wild_loader.specs.declared.world.World.{World}
 use Rattle.wild_types.specs.Item.{Item}
 use Rattle.wild_meaning.specs.Sequence.{TargetInSlot, Instruction, size_of}
-use Rattle.wild_meaning.specs.Template.{IsSingle, IsTemplate, reads_alone, DoesDemanded}
+use Rattle.wild_meaning.specs.Template.{IsSingle, IsTemplate, reads_without_calls, DoesDemanded}
 use Rattle.wild_meaning.specs.Field.{formula_of}
-use Rattle.wild_meaning.specs.Reference.{CountsFromPlace, IsAsked, IsTakenAlong, HoldsRewritten, ReadsOwnSlots, IsSlotValue, HasSlotFormula, IsLeftOut}
+use Rattle.wild_meaning.specs.Reference.{CountsFromPlace, MustHold, HoldsWithSequence, HoldsRewritten, ReadsOwnSlots, IsSlotValue, HasSlotFormula, IsOmitted}
 use Rattle.wild_types.specs.declared.kind.Machine.{Machine}
 use Rattle.wild_types.specs.declared.kind.Machine.TheVariants as machine
 use Rattle.wild_references.specs.Laws.{IsLoadedItem}
-use Rattle.wild_references.specs.EffectLaws.{StandsAt}
-use Rattle.wild_references.proofs.LeftOut.{keeps_all}
+use Rattle.wild_references.specs.EffectLaws.{IsLocatedAt}
+use Rattle.wild_references.proofs.OmittedReferences.{keeps_all}
 use Rattle.wild_references.proofs.RewrittenForms.{instruction_of}
 use Rattle.wild_references.proofs.RewrittenPlaces.{LawsBelow, IsPlacedRow, placed_row, size_is}
-use Rattle.wild_references.proofs.RewrittenAlone.{called}
+use Rattle.wild_references.proofs.RewrittenInInput.{called}
 use Rattle.wild_references.proofs.RewrittenPairs.{paired}
 use Rattle.wild_references.proofs.RewrittenSingles.{is_told}
 use Rattle.wild_references.proofs.RewrittenDoes.{is_call, IsWhole, GoesWithBase, does_row}
@@ -54,10 +54,10 @@ record IsHeld (l : Layout) (w : World) (m : Memory) (s : Item) (r : InputRelocat
   template : IsTemplate l s r from instruction r
   before : from ≤ template_start row r
   behind : template_start row r + pattern_size row ≤ from + size_of instruction
-  does : IsWhole l row → (instruction.sort ≡ TargetInSlot → IsAsked l w s r) → DoesDemanded (reads_alone w m) l w m s r from instruction
+  does : IsWhole l row → (instruction.sort ≡ TargetInSlot → MustHold l w s r) → DoesDemanded (reads_without_calls w m) l w m s r from instruction
 
 -- where code goes through a slot to an absolute symbol of an output that moves, the reference is asked at base 0 alone
-goes_with : (l : Layout) (w : World) (m : Memory) (s : Item) (i : ℕ) (r : InputRelocation) (row : Row) (v : ℕ) → (p : IsPlacedRow l s i r row v) → IsSingle l s r (template_start row r) (instruction_of row) → ((instruction_of row).sort ≡ TargetInSlot → IsAsked l w s r) → GoesWithBase l w row p.chosen.symbol
+goes_with : (l : Layout) (w : World) (m : Memory) (s : Item) (i : ℕ) (r : InputRelocation) (row : Row) (v : ℕ) → (p : IsPlacedRow l s i r row v) → IsSingle l s r (template_start row r) (instruction_of row) → ((instruction_of row).sort ≡ TargetInSlot → MustHold l w s r) → GoesWithBase l w row p.chosen.symbol
 goes_with l w m s i r row v p t asked sort movable still = asked sort (record {
   movable = movable;
   symbol = p.chosen.symbol;
@@ -137,7 +137,7 @@ row_held laws l w m s i r row v h p = by (is_told row) refl
         let same = plain_is row p.changing.listed (truly (row.number == r_x86_64_gotpcrel) plain) in
         subst (λ (x : Row). IsPlacedRow l s i r x v → IsHeld l w m s r x) (sym same) (λ q. plain_held laws l w m s i r v h q) p
 
-pub instruction_stands : LawsBelow → (l : Layout) (w : World) (m : Memory) (s : Item) → IsLoadedItem machine.X86_64 l w m s → (i : ℕ) (r : InputRelocation) (row : Row) (v : ℕ) → HasDecision l s i r (Rewritten row v) → StandsAt l s r (template_start row r) (pattern_size row)
+pub instruction_stands : LawsBelow → (l : Layout) (w : World) (m : Memory) (s : Item) → IsLoadedItem machine.X86_64 l w m s → (i : ℕ) (r : InputRelocation) (row : Row) (v : ℕ) → HasDecision l s i r (Rewritten row v) → IsLocatedAt l s r (template_start row r) (pattern_size row)
 instruction_stands laws l w m s h i r row v has =
     let t = row_held laws l w m s i r row v h (placed_row laws l s i r row v h.on has) in
     record { from = t.from; instruction = t.instruction; first = r; template = t.template; before = t.before; behind = t.behind }
@@ -175,7 +175,7 @@ names_slot l r row x86 listed changes number other =
 words_free : (l : Layout) (w : World) (m : Memory) (s : Item) (first : InputRelocation) (start : ℕ) (o : Instruction) → l.machine ≡ machine.X86_64 → ReadsOwnSlots l.machine l w m s first start o
 words_free l w m s first start o x = subst (λ (k : Machine). ReadsOwnSlots k l w m s first start o) (sym x) tt
 
-pub instruction_holds : LawsBelow → (l : Layout) (w : World) (m : Memory) (s : Item) → IsLoadedItem machine.X86_64 l w m s → (i : ℕ) (r : InputRelocation) (row : Row) (v : ℕ) → HasDecision l s i r (Rewritten row v) → (IsLeftOut l s r → ⊥) → IsAsked l w s r → HoldsRewritten l w m s r
+pub instruction_holds : LawsBelow → (l : Layout) (w : World) (m : Memory) (s : Item) → IsLoadedItem machine.X86_64 l w m s → (i : ℕ) (r : InputRelocation) (row : Row) (v : ℕ) → HasDecision l s i r (Rewritten row v) → (IsOmitted l s r → ⊥) → MustHold l w s r → HoldsRewritten l w m s r
 instruction_holds laws l w m s h i r row v has present asked =
     let p = placed_row laws l s i r row v h.on has in
     let t = row_held laws l w m s i r row v h p in
@@ -204,7 +204,7 @@ before_call l w m s i r h has =
         let by = sequence_is_rewritten l s j row d.0 q d.1 in
         record { first = q.relocation; row = row; value = by.0; has = record { listed = q.listed; decided = d.1 ∙ ap (λ (x : Decision). Ok x) by.1 }; skips = q.takes; listed = listed }
 
-pub partner_holds : LawsBelow → (l : Layout) (w : World) (m : Memory) (s : Item) → IsLoadedItem machine.X86_64 l w m s → (i : ℕ) (r : InputRelocation) → HasDecision l s i r Partner → (IsLeftOut l s r → ⊥) → IsTakenAlong l w m s r
+pub partner_holds : LawsBelow → (l : Layout) (w : World) (m : Memory) (s : Item) → IsLoadedItem machine.X86_64 l w m s → (i : ℕ) (r : InputRelocation) → HasDecision l s i r Partner → (IsOmitted l s r → ⊥) → HoldsWithSequence l w m s r
 partner_holds laws l w m s h i r has present =
     let b = before_call l w m s i r h has in
     let t = b.1 in

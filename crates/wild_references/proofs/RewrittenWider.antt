@@ -10,7 +10,7 @@ use Rattle.wild_types.specs.declared.kind.Machine.{Machine}
 use Rattle.wild_types.specs.declared.kind.Machine.TheVariants as machine
 use Rattle.wild_types.specs.declared.input.InputRelocation.{InputRelocation}
 use Rattle.wild_types.specs.declared.layout.Layout.{Layout}
-use Rattle.wild_types.specs.Hollow.{KeepsAll}
+use Rattle.wild_types.specs.HeaderOnly.{KeepsAll}
 use Rattle.wild_reloc.specs.Field.{written}
 use Rattle.wild_reloc.specs.Formula.{Formula}
 use Rattle.wild_reloc.specs.FormulaX86_64.{x86_64_formula}
@@ -19,8 +19,8 @@ use Rattle.wild_relax.specs.declared.pattern.Cell.TheVariants as cells
 use Rattle.wild_relax.specs.declared.row.Row.{Row}
 use Rattle.wild_relax.specs.declared.table.TheConstants.{PLAIN_LEA, LEA_2}
 use Rattle.wild_references.proofs.TableRows.{long_there}
-use Rattle.wild_relax.specs.Pattern.{cells_of}
-use Rattle.wild_relax.specs.Linked.{pattern_of, pattern_size, keeps_bytes, linked, template_of}
+use Rattle.wild_relax.specs.Pattern.{pattern_cells}
+use Rattle.wild_relax.specs.LinkedPattern.{pattern_of, pattern_size, keeps_bytes, linked_pattern, template_of}
 use Rattle.wild_relax.specs.KeepX86_64.{IsWhole, distance}
 use Rattle.wild_layout.specs.declared.decision.Decision.TheVariants.{Rewritten}
 use Rattle.wild_layout.specs.Choice.{question_of}
@@ -37,10 +37,10 @@ use Rattle.wild_loader.specs.Instruction as judge
 use Rattle.wild_loader.specs.declared.instruction.Cell.TheVariants as judge-cells
 use Rattle.wild_loader.specs.InstructionX86_64.{effect_x86_64, demand_x86_64}
 use Rattle.wild_meaning.specs.Sequence.{Instruction, instructions_of}
-use Rattle.wild_meaning.specs.Template.{reads_alone, DoesDemanded}
+use Rattle.wild_meaning.specs.Template.{reads_without_calls, DoesDemanded}
 use Rattle.wild_references.specs.Laws.{IsLoadedItem}
 use Rattle.wild_references.proofs.Clash.{is_free, are_calls, pair_ok, row_ok, each_row_ok, IsUncovered, apart_templates}
-use Rattle.wild_references.proofs.Kept.{OutOfWindows, input_byte, Window, window, free_not}
+use Rattle.wild_references.proofs.KeptBytes.{OutOfWindows, input_byte, Window, window, free_not}
 use Rattle.wild_references.proofs.RewrittenPlaces.{LawsBelow}
 use Rattle.wild_references.proofs.RewrittenTerms.{info_is}
 use Rattle.wild_references.proofs.RewrittenEffects.{has_effect, template_linked, value_small, old_of, on_machine, demand_on, whole_is}
@@ -91,29 +91,29 @@ any_four (suc (suc zero)) h = cc
 any_four (suc (suc (suc zero))) h = cc
 any_four (suc (suc (suc (suc k)))) h = omega arith
 
-uncovered : LawsBelow → (l : Layout) (s : Item) (i j : ℕ) (r q : InputRelocation) (v from w : ℕ) (row : Row) → l.machine ≡ machine.X86_64 → IsDecided l s → Plain l s i r v from → HasDecision l s j q (Rewritten row w) → (j ≡ i → ⊥) → IsUncovered wide_load.template.cells (cells_of (pattern_of row)) from (template_start row q)
+uncovered : LawsBelow → (l : Layout) (s : Item) (i j : ℕ) (r q : InputRelocation) (v from w : ℕ) (row : Row) → l.machine ≡ machine.X86_64 → IsDecided l s → Plain l s i r v from → HasDecision l s j q (Rewritten row w) → (j ≡ i → ⊥) → IsUncovered wide_load.template.cells (pattern_cells (pattern_of row)) from (template_start row q)
 uncovered laws l s i j r q v from w row x86 decided t h other k lt any =
     let low = any_four k any in
     field_out laws l s i j r q v from (from + k) w row x86 decided t h other (omega (arith, low)) (omega (arith, lt))
 
 -- another row's window leaves the prefix out
 apart : LawsBelow → (l : Layout) (s : Item) (i j : ℕ) (r q : InputRelocation) (v from w : ℕ) (row : Row) → l.machine ≡ machine.X86_64 → IsDecided l s → IsWider l s i r v from → HasDecision l s j q (Rewritten row w) → (j ≡ i → ⊥) → template_start row q ≤ from → from < template_start row q + pattern_size row → ⊥
-apart laws l s i j r q v from w row x86 decided t h other low high = by_cell (is_free (get_or (cells_of (pattern_of row)) (from - template_start row q) cells.Any)) refl
+apart laws l s i j r q v from w row x86 decided t h other low high = by_cell (is_free (get_or (pattern_cells (pattern_of row)) (from - template_start row q) cells.Any)) refl
   where
     there : Window l s j q row w
     there = window l s j q row w x86 h
 
-    passes : (b : Bool) → b ≡ false → (b || list_all (λ (o : Instruction). pair_ok o.template.cells (cells_of (pattern_of row))) (instructions_of machine.X86_64)) ≡ true → pair_ok wide_load.template.cells (cells_of (pattern_of row)) ≡ true
+    passes : (b : Bool) → b ≡ false → (b || list_all (λ (o : Instruction). pair_ok o.template.cells (pattern_cells (pattern_of row))) (instructions_of machine.X86_64)) ≡ true → pair_ok wide_load.template.cells (pattern_cells (pattern_of row)) ≡ true
     passes true e k = cc
-    passes false e k = listed_passes (λ (o : Instruction). pair_ok o.template.cells (cells_of (pattern_of row))) (instructions_of machine.X86_64) wide_load k (21, omega arith, refl)
+    passes false e k = listed_passes (λ (o : Instruction). pair_ok o.template.cells (pattern_cells (pattern_of row))) (instructions_of machine.X86_64) wide_load k (21, omega arith, refl)
 
-    no_calls : are_calls wide_load.template.cells (cells_of (pattern_of row)) ≡ true → ⊥
+    no_calls : are_calls wide_load.template.cells (pattern_cells (pattern_of row)) ≡ true → ⊥
     no_calls k = cc
 
-    by_cell : (b : Bool) → is_free (get_or (cells_of (pattern_of row)) (from - template_start row q) cells.Any) ≡ b → ⊥
+    by_cell : (b : Bool) → is_free (get_or (pattern_cells (pattern_of row)) (from - template_start row q) cells.Any) ≡ b → ⊥
     by_cell true any = free_not l s j q row w from (from - template_start row q) x86 there t.alone (omega (arith, low)) (omega (arith, low, high)) any
     by_cell false fixed =
-        apart_templates wide_load.template.cells (cells_of (pattern_of row)) s.bytes from (template_start row q) (passes (keeps_bytes row) there.made.changes (chosen_listed l s q (slice_get s.relocations (j + 1)) row there.made.chosen row_ok each_row_ok)) no_calls (record {
+        apart_templates wide_load.template.cells (pattern_cells (pattern_of row)) s.bytes from (template_start row q) (passes (keeps_bytes row) there.made.changes (chosen_listed l s q (slice_get s.relocations (j + 1)) row there.made.chosen row_ok each_row_ok)) no_calls (record {
           first = stands_with l s i r v from t.plain t.prefix;
           second = (laws.whole (question_of l s q there.made.chosen.symbol (slice_get s.relocations (j + 1))) row there.made.chosen.chosen).same;
           own = 0;
@@ -158,7 +158,7 @@ place_more : (k x : ℕ) (part xs : List ℕ) → place (suc k) part (x ∷ xs) 
 unfolding place
 place_more k x part xs = (let e : suc k + length part ≡ suc (k + length part) = omega arith in rw e refl)
 
-linked_more : (info : RelocationKindInfo) (v x : ℕ) (old : List ℕ) → linked LEA_2 info v (x ∷ old) ≡ x ∷ linked PLAIN_LEA info v old
+linked_more : (info : RelocationKindInfo) (v x : ℕ) (old : List ℕ) → linked_pattern LEA_2 info v (x ∷ old) ≡ x ∷ linked_pattern PLAIN_LEA info v old
 linked_more info v x old =
     ap (λ (bs : List ℕ). place 4 (written info v []) bs) (place_more 1 x (0x8d ∷ []) old)
     ∙ place_more 3 x (written info v []) (place 1 (0x8d ∷ []) old)
@@ -168,7 +168,7 @@ held_more : (m : Memory) (a b x : ℕ) (bs : List ℕ) → b ≡ a + 1 → byte_
 held_more m a b x bs e first rest zero lt = (let z : a ≡ a + 0 = omega arith in subst (λ (n : ℕ). byte_in m n ≡ Some x) z first)
 held_more m a b x bs e first rest (suc k) lt = (let z : b + k ≡ a + suc k = omega (arith, e) in subst (λ (n : ℕ). byte_in m n ≡ Some (slice_index bs k)) z (rest k (omega (arith, lt))))
 
-pub does_wider : LawsBelow → (l : Layout) (w : World) (m : Memory) (s : Item) (i : ℕ) (r : InputRelocation) (v from : ℕ) → IsLoadedItem machine.X86_64 l w m s → KeepsAll l → IsWider l s i r v from → DoesDemanded (reads_alone w m) l w m s r from wide_load
+pub does_wider : LawsBelow → (l : Layout) (w : World) (m : Memory) (s : Item) (i : ℕ) (r : InputRelocation) (v from : ℕ) → IsLoadedItem machine.X86_64 l w m s → KeepsAll l → IsWider l s i r v from → DoesDemanded (reads_without_calls w m) l w m s r from wide_load
 does_wider laws l w m s i r v from h all t =
     let p = t.plain.row in
     let x = slice_index s.bytes from in
@@ -185,12 +185,12 @@ does_wider laws l w m s i r v from h all t =
     let here : judge.stands wide_load.template.cells (x ∷ old) ≡ true = subst (λ (bs : List ℕ). judge.stands wide_load.template.cells bs ≡ true) bytes shape in
     let long : length (x ∷ old) ≡ 8 = (let z = p.whole.long in omega (arith, z)) in
     let e = has_effect n a 12 wide_load.template (x ∷ old) (omega arith) refl long here in
-    let whole : IsWhole (cells_of (pattern_of LEA_2)) (x ∷ old) = record { long = long; same = both_stand (x == 0xd5) _ t.prefix p.whole.same } in
+    let whole : IsWhole (pattern_cells (pattern_of LEA_2)) (x ∷ old) = record { long = long; same = both_stand (x == 0xd5) _ t.prefix p.whole.same } in
     let place_is : place_at w s (template_start PLAIN_LEA r) + 3 ≡ a + 4 = omega (arith, next) in
     let lands : v ≡ distance n (a + 4) = subst (λ (y : ℕ). v ≡ distance n y) place_is far.lands in
-    let keeps = laws.keeps LEA_2 info (reads_alone w m) a n v (x ∷ old) (record { listed = long_there; changes = refl }) whole (record { row_of = sym known; allowed = p.made.written.allowed; small = value_small l s i r PLAIN_LEA v p; operand = far.is.small; numbers = λ k. refl; lands = lands }) in
-    let written_bytes : linked LEA_2 info v (x ∷ old) ≡ x ∷ template_of PLAIN_LEA v old = linked_more info v x old ∙ ap (λ (bs : List ℕ). x ∷ bs) (sym (template_linked PLAIN_LEA info v old known)) in
-    let done : effect_x86_64 (reads_alone w m) a (x ∷ template_of PLAIN_LEA v old) ≡ Some e.0 = subst (λ (bs : List ℕ). effect_x86_64 (reads_alone w m) a bs ≡ Some e.0) written_bytes (keeps ∙ e.1) in
+    let keeps = laws.keeps LEA_2 info (reads_without_calls w m) a n v (x ∷ old) (record { listed = long_there; changes = refl }) whole (record { row_of = sym known; allowed = p.made.written.allowed; small = value_small l s i r PLAIN_LEA v p; operand = far.is.small; numbers = λ k. refl; lands = lands }) in
+    let written_bytes : linked_pattern LEA_2 info v (x ∷ old) ≡ x ∷ template_of PLAIN_LEA v old = linked_more info v x old ∙ ap (λ (bs : List ℕ). x ∷ bs) (sym (template_linked PLAIN_LEA info v old known)) in
+    let done : effect_x86_64 (reads_without_calls w m) a (x ∷ template_of PLAIN_LEA v old) ≡ Some e.0 = subst (λ (bs : List ℕ). effect_x86_64 (reads_without_calls w m) a bs ≡ Some e.0) written_bytes (keeps ∙ e.1) in
     record {
       value = n;
       demands = far.is.target;
@@ -200,7 +200,7 @@ does_wider laws l w m s i r v from h all t =
         bytes = x ∷ template_of PLAIN_LEA v old;
         whole = (let z = whole_is l w m s i r PLAIN_LEA v h p in omega (arith, z));
         held = held_more m a (place_at w s (template_start PLAIN_LEA r)) x (template_of PLAIN_LEA v old) next (prefix_stays laws l w m s i r v from h t) (h.item.rewritten i r PLAIN_LEA v p.has);
-        does = on_machine l.machine (reads_alone w m) a (x ∷ template_of PLAIN_LEA v old) h.on ∙ done;
+        does = on_machine l.machine (reads_without_calls w m) a (x ∷ template_of PLAIN_LEA v old) h.on ∙ done;
       };
     }
   where

@@ -21,15 +21,15 @@ use Rattle.wild_relax.specs.declared.row.Row.{Row}
 use Rattle.wild_relax.specs.declared.pattern.Pattern.{Pattern}
 use Rattle.wild_relax.specs.declared.pattern.Pattern.TheVariants.{Among}
 use Rattle.wild_relax.specs.declared.pattern.Sequence.{Sequence}
-use Rattle.wild_relax.specs.Linked.{pattern_of, keeps_bytes}
+use Rattle.wild_relax.specs.LinkedPattern.{pattern_of, keeps_bytes}
 use Rattle.wild_relax.specs.RewriteX86_64.{rewrite_of, info_written}
-use Rattle.wild_relax.specs.RowsAArch64.{rows_aarch64, chosen_aarch64}
+use Rattle.wild_relax.specs.RowsAArch64.{rows_aarch64, chosen_row_aarch64}
 use Rattle.wild_relax.specs.SequenceAArch64.{words_before}
-use Rattle.wild_relax.specs.TogetherAArch64.{asked_at}
+use Rattle.wild_relax.specs.SequenceRowsAArch64.{question_at}
 use Rattle.wild_layout.specs.declared.decision.Decision.{Decision}
 use Rattle.wild_layout.specs.declared.decision.Decision.TheVariants.{Rewritten}
-use Rattle.wild_layout.specs.Choice.{infos_from, asked_of, question_around, choice_around_by, choice_around, choice_on, is_partner}
-use Rattle.wild_layout.specs.Decide.{place_to, term_to, value_to, rewritten_to, decide_with, decide}
+use Rattle.wild_layout.specs.Choice.{infos_from, question_for, question_around, choice_around_by, choice_around, choice_on, is_partner}
+use Rattle.wild_layout.specs.Decide.{place_to, term_to, value_to, rewritten_decision, decide_with, decide}
 use Rattle.wild_layout.specs.Values.{value_in}
 use Rattle.wild_layout.proofs.ChoiceLemmas.{no_partner_aarch64}
 use Rattle.wild_layout.proofs.DecisionLemmas.{rewritten_aarch64}
@@ -56,7 +56,7 @@ word_written l s i r row d on listed chosen changes alone h = by_term (term_to l
     on_machine : decide_with l s r (choice_around l s i r) ≡ Ok d
     on_machine = subst (λ (m : Machine). decide_with l s r (choice_on m l s i r) ≡ Ok d) on with_choice
 
-    made : rewritten_to l s r row ≡ Ok d
+    made : rewritten_decision l s r row ≡ Ok d
     made = subst (λ (c : Result (Option Row) UnknownSequence). decide_with l s r c ≡ Ok d) chosen on_machine
 
     by_test : (a v : ℕ) (b : Bool) → term_to l r (info_written row) (place_to s r row) ≡ Ok a → value_in l (info_written row) a ((rewrite_of row).addend r.addend) (place_to s r row) ≡ v → allows (info_written row) v ≡ b
@@ -70,13 +70,13 @@ word_written l s i r row d on listed chosen changes alone h = by_term (term_to l
     by_term (Err f) given e = cc
     by_term (Ok a) given e = by_test a (value_in l (info_written row) a ((rewrite_of row).addend r.addend) (place_to s r row)) (allows (info_written row) (value_in l (info_written row) a ((rewrite_of row).addend r.addend) (place_to s r row))) given refl refl (rw changes at e)
 
-choice_there : (l : Layout) (s : Item) (i symbol : ℕ) (r : InputRelocation) (row : Row) → names_merged l (Some symbol) ≡ false → r.symbol ≡ Some symbol → chosen_aarch64 (question_around l s i r symbol) ≡ Ok (Some row) → choice_around l s i r ≡ Ok (Some row)
+choice_there : (l : Layout) (s : Item) (i symbol : ℕ) (r : InputRelocation) (row : Row) → names_merged l (Some symbol) ≡ false → r.symbol ≡ Some symbol → chosen_row_aarch64 (question_around l s i r symbol) ≡ Ok (Some row) → choice_around l s i r ≡ Ok (Some row)
 unfolding choice_around_by
 choice_there l s i symbol r row plain named h = rw (named, plain) h
 
 -- where a row is chosen that changes its word, the word is written
 abbrev pub WordsAreWritten : Layout → Item → ℕ → Type 0
-WordsAreWritten l s symbol = (i : ℕ) (r : InputRelocation) (row : Row) → slice_get s.relocations i ≡ Some r → r.symbol ≡ Some symbol → chosen_aarch64 (question_around l s i r symbol) ≡ Ok (Some row) → keeps_bytes row ≡ false → (v : ℕ) × IsWrittenWord l s i r row v
+WordsAreWritten l s symbol = (i : ℕ) (r : InputRelocation) (row : Row) → slice_get s.relocations i ≡ Some r → r.symbol ≡ Some symbol → chosen_row_aarch64 (question_around l s i r symbol) ≡ Ok (Some row) → keeps_bytes row ≡ false → (v : ℕ) × IsWrittenWord l s i r row v
 
 pub words_are_written : (l : Layout) (s : Item) (symbol : ℕ) → l.machine ≡ machine.AArch64 → names_merged l (Some symbol) ≡ false → IsDecided l s → WordsAreWritten l s symbol
 words_are_written l s symbol on plain decided i r row listed named chosen changes =
@@ -107,9 +107,9 @@ rewritten_word l s i r row v on has =
 -- ---- the question
 
 -- the relocation of word j of a run that begins with relocation index asks what those of the others ask
-pub asked_there : (l : Layout) (s : Item) (i index k j symbol : ℕ) (r p : InputRelocation) → i ≡ index + k → words_before r.number ≡ k → words_before p.number ≡ j → asked_at (question_around l s i r symbol) j ≡ question_around l s (index + j) p symbol
+pub asked_there : (l : Layout) (s : Item) (i index k j symbol : ℕ) (r p : InputRelocation) → i ≡ index + k → words_before r.number ≡ k → words_before p.number ≡ j → question_at (question_around l s i r symbol) j ≡ question_around l s (index + j) p symbol
 asked_there l s i index k j symbol r p at mine its =
     let first : i - words_before r.number ≡ index = ap (λ (n : ℕ). i - n) mine ∙ omega (arith, at) in
     let other : index + j - words_before p.number ≡ index = ap (λ (n : ℕ). index + j - n) its ∙ omega arith in
     let place : j ≡ index + j - (index + j - words_before p.number) = (let e : index + j - index ≡ j = omega arith in sym (ap (λ (n : ℕ). index + j - n) other ∙ e)) in
-    ap (λ (n : ℕ). asked_of l s symbol (infos_from s.relocations n) j) (first ∙ sym other) ∙ ap (λ (n : ℕ). asked_of l s symbol (infos_from s.relocations (index + j - words_before p.number)) n) place
+    ap (λ (n : ℕ). question_for l s symbol (infos_from s.relocations n) j) (first ∙ sym other) ∙ ap (λ (n : ℕ). question_for l s symbol (infos_from s.relocations (index + j - words_before p.number)) n) place

@@ -1,7 +1,7 @@
 -- The fields of rows that keep the bytes around them: of an own symbol the distance of its stub is that of itself, and so is the offset from the table.
 use Rattle.std.proofs.Common.{◌≡◌, ℕ, ◌+◌, ◌-◌, ◌%◌, ◌^◌, ◌<◌, ◌⊎◌, inl, inr, true, false, refl, sym, ap, ◌∙◌, arith, subst}
 use Rattle.std.specs.Prelude.{Option, Some, Ok, List, length, slice_get}
-use Rattle.wild_reloc.specs.declared.expression.Taken.TheVariants as taken
+use Rattle.wild_reloc.specs.declared.expression.Subtrahend.TheVariants as taken
 use Rattle.std.proofs.lemmas.Bool.{cases_Bool, not-true}
 use Rattle.wild_words.proofs.ListLemmas.{holds_at}
 use Rattle.wild_records.specs.Abi.Relocation.{r_x86_64_pc32, r_x86_64_plt32, r_x86_64_gotoff64, r_x86_64_pltoff64}
@@ -33,7 +33,7 @@ use Rattle.wild_layout.specs.Geometry.{NamesSymbol}
 use Rattle.wild_layout.specs.Sites.{field_site}
 use Rattle.wild_types.specs.Lookups.{place_of}
 use Rattle.wild_layout.specs.SymbolValues.{displacement}
-use Rattle.wild_layout.specs.SlotValues.{is_chosen, address_of}
+use Rattle.wild_layout.specs.SlotValues.{symbol_is_ifunc, address_of}
 use Rattle.wild_layout.specs.Values.{term_of, value_by}
 use Rattle.wild_layout.proofs.ChoiceLemmas.{IsChosen}
 use Rattle.wild_layout.proofs.DecideLemmas.{HasField}
@@ -46,10 +46,10 @@ use Rattle.wild_meaning.specs.Formula.{IsTarget, Gives, IsPlaceRelative, TakesAd
 use Rattle.wild_meaning.proofs.SymbolLemmas.{referent_is}
 use Rattle.wild_types.specs.Item.{Item}
 use Rattle.wild_meaning.specs.Item.{place_at}
-use Rattle.wild_meaning.specs.Reference.{IsAsked}
-use Rattle.wild_meaning.specs.Value.{moved}
+use Rattle.wild_meaning.specs.Reference.{MustHold}
+use Rattle.wild_meaning.specs.Value.{with_base}
 use Rattle.wild_references.specs.Laws.{FieldHolds}
-use Rattle.wild_references.proofs.Fields.{IsItemLoaded, ReadsForm, old_field, old_long, place_is, place_ends, below_all, row_reads, formula_known, whole_bytes}
+use Rattle.wild_references.proofs.Fields.{IsItemLoaded, ReadsForm, old_field, old_long, place_is, place_ends, below_all, row_reads, formula_known, unique_table}
 use Rattle.wild_references.proofs.KnownRows.{row_fits}
 use Rattle.wild_references.proofs.Moves.{distance_is, table_is}
 use Rattle.wild_references.proofs.OwnSymbols.{IsOwnValue, own_value}
@@ -57,12 +57,12 @@ use Rattle.wild_relax.proofs.RoomLemmas.{IsApplied}
 use Rattle.wild_references.proofs.Rows.{chosen_row}
 use Rattle.wild_references.proofs.ValueKinds.{more}
 use Rattle.wild_layout.proofs.DecisionLemmas.{IsKept}
-use Rattle.wild_references.proofs.Written.{IsRowField, row_here}
+use Rattle.wild_references.proofs.WrittenFields.{IsRowField, row_here}
 
 -- ---- values
 
 -- at base 0, or of a symbol that moves, the place is right
-right : (l : Layout) (w : World) (m : Memory) (s : Item) (r : InputRelocation) (f : Formula) (i a : ℕ) → IsItemLoaded l w m s → IsAsked l w s r → formula_of l.machine r.number ≡ Some f → IsPlaceRelative f.value → r.symbol ≡ Some i → (t : IsOwnValue l w i a) → (w.base ≡ 0) ⊎ (t.still ≡ false)
+right : (l : Layout) (w : World) (m : Memory) (s : Item) (r : InputRelocation) (f : Formula) (i a : ℕ) → IsItemLoaded l w m s → MustHold l w s r → formula_of l.machine r.number ≡ Some f → IsPlaceRelative f.value → r.symbol ≡ Some i → (t : IsOwnValue l w i a) → (w.base ≡ 0) ⊎ (t.still ≡ false)
 right l w m s r f i a h asked known relative named t =
     elim (cases_Bool t.still) [
       | inr moves ↦ inr moves
@@ -73,24 +73,24 @@ right l w m s r f i a h asked known relative named t =
     ]
 
 -- the symbol itself is what L is
-goal_is : (v : Value) (l : Layout) (w : World) (m : Memory) (s : Item) (r : InputRelocation) (i a : ℕ) → l.machine ≡ machine.X86_64 → r.symbol ≡ Some i → (TakesAddress v → ⊥) → (t : IsOwnValue l w i a) → IsReferent l.machine v l w m s r (moved t.still w.base a)
-goal_is v l w m s r i a x named none t = referent_is v l w m s r (moved t.still w.base a) x (λ u. none u.0) (subst (λ (o : Option ℕ). IsTarget l w m o (moved t.still w.base a)) (sym named) (inl t.value))
+goal_is : (v : Value) (l : Layout) (w : World) (m : Memory) (s : Item) (r : InputRelocation) (i a : ℕ) → l.machine ≡ machine.X86_64 → r.symbol ≡ Some i → (TakesAddress v → ⊥) → (t : IsOwnValue l w i a) → IsReferent l.machine v l w m s r (with_base t.still w.base a)
+goal_is v l w m s r i a x named none t = referent_is v l w m s r (with_base t.still w.base a) x (λ u. none u.0) (subst (λ (o : Option ℕ). IsTarget l w m o (with_base t.still w.base a)) (sym named) (inl t.value))
 
 flat : (x c q : ℕ) → ((x + c) % 2 ^ 64 + q) % 2 ^ 64 ≡ (x + c + q) % 2 ^ 64
 flat x c q = omega arith
 
-gives_distance : (l : Layout) (w : World) (m : Memory) (s : Item) (i : ℕ) (r : InputRelocation) (f : Formula) (symbol a : ℕ) (z : RelocationSize) → (h : IsItemLoaded l w m s) → slice_get s.relocations i ≡ Some r → HasField l r z → IsAsked l w s r → formula_of l.machine r.number ≡ Some f → f.value ≡ StubDistance
+gives_distance : (l : Layout) (w : World) (m : Memory) (s : Item) (i : ℕ) (r : InputRelocation) (f : Formula) (symbol a : ℕ) (z : RelocationSize) → (h : IsItemLoaded l w m s) → slice_get s.relocations i ≡ Some r → HasField l r z → MustHold l w s r → formula_of l.machine r.number ≡ Some f → f.value ≡ StubDistance
     → r.symbol ≡ Some symbol → IsOwnValue l w symbol a → l.machine ≡ machine.X86_64 → Gives StubDistance l w m s r (displacement a r.addend (place_of s.address r))
 gives_distance l w m s i r f symbol a z h listed field asked known value named t x86 =
-    let x = moved t.still w.base a in
+    let x = with_base t.still w.base a in
     let e = distance_is t.still w.base a (more r) (place_of s.address r) (right l w m s r f symbol a h asked known (subst IsPlaceRelative (sym value) tt) named t) (place_ends l w m s i r z h listed field) in
     let at = ap (λ (p : ℕ). (x + more r + (2 ^ 64 - p)) % 2 ^ 64) (sym (place_is l w m s i r z h listed field)) in
     (x, goal_is StubDistance l w m s r symbol a x86 named (λ u. u) t, e ∙ flat x (more r) (2 ^ 64 - (w.base + place_of s.address r)) ∙ at)
 
-gives_offset : (l : Layout) (w : World) (m : Memory) (s : Item) (i : ℕ) (r : InputRelocation) (f : Formula) (symbol a : ℕ) → (h : IsItemLoaded l w m s) → IsAsked l w s r → formula_of l.machine r.number ≡ Some f → f.value ≡ StubFromTable
+gives_offset : (l : Layout) (w : World) (m : Memory) (s : Item) (i : ℕ) (r : InputRelocation) (f : Formula) (symbol a : ℕ) → (h : IsItemLoaded l w m s) → MustHold l w s r → formula_of l.machine r.number ≡ Some f → f.value ≡ StubFromTable
     → r.symbol ≡ Some symbol → IsOwnValue l w symbol a → l.machine ≡ machine.X86_64 → Gives StubFromTable l w m s r (displacement a r.addend l.got_base)
 gives_offset l w m s i r f symbol a h asked known value named t x86 =
-    let x = moved t.still w.base a in
+    let x = with_base t.still w.base a in
     let e = table_is t.still w.base a (more r) l.got_base (right l w m s r f symbol a h asked known (subst IsPlaceRelative (sym value) tt) named t) h.placed.got in
     (x, goal_is StubFromTable l w m s r symbol a x86 named (λ u. u) t, e ∙ flat x (more r) (2 ^ 64 - table_at l w))
 
@@ -104,7 +104,7 @@ form_of_row k info f v old agree known kind is low allowed long =
     record {
       width = fits.width ∙ ap (λ (g : Formula). form_width g.form) same;
       reads = subst (λ (g : Formula). Reads g.form (written info v old) v) same (fits.reads v old low long allowed);
-      keeps = whole_bytes k f is old (written info v old);
+      keeps = unique_table k f is old (written info v old);
     }
 
 info_is : (k : ℕ) (row info : RelocationKindInfo) → row_of machine.X86_64 k ≡ Some row → row_of machine.X86_64 k ≡ Some info → row ≡ info
@@ -157,7 +157,7 @@ record IsOwnTerm (l : Layout) (r : InputRelocation) (term : ℕ) : Type 0 where
   symbol : ℕ
   named : r.symbol ≡ Some symbol
   own : interposable (flags_at l symbol) ≡ false
-  direct : is_chosen l symbol ≡ false
+  direct : symbol_is_ifunc l symbol ≡ false
   given : address_of l (Some symbol) ≡ Ok term
 
 value_of_own : (l : Layout) (w : World) (m : Memory) (s : Item) (i : ℕ) (r : InputRelocation) (term : ℕ) → IsItemLoaded l w m s → slice_get s.relocations i ≡ Some r → (t : IsOwnTerm l r term) → IsOwnValue l w t.symbol term
@@ -165,7 +165,7 @@ value_of_own l w m s i r term h listed t =
     let names : NamesSymbol l r = holds_at (NamesSymbol l) s.relocations i r listed h.symbols in
     own_value l w m t.symbol term h.placed (names t.symbol t.named) t.own t.direct t.given
 
-stub_distance_holds : (l : Layout) (w : World) (m : Memory) (s : Item) (i : ℕ) (r : InputRelocation) (term v : ℕ) → (h : IsItemLoaded l w m s) → l.machine ≡ machine.X86_64 → slice_get s.relocations i ≡ Some r → IsAsked l w s r → r.number ≡ r_x86_64_plt32 → IsOwnTerm l r term → displacement term r.addend (place_of s.address r) ≡ v → allows (plain kinds.Relative Four sign.Signed) v ≡ true
+stub_distance_holds : (l : Layout) (w : World) (m : Memory) (s : Item) (i : ℕ) (r : InputRelocation) (term v : ℕ) → (h : IsItemLoaded l w m s) → l.machine ≡ machine.X86_64 → slice_get s.relocations i ≡ Some r → MustHold l w s r → r.number ≡ r_x86_64_plt32 → IsOwnTerm l r term → displacement term r.addend (place_of s.address r) ≡ v → allows (plain kinds.Relative Four sign.Signed) v ≡ true
     → Holds m (place_at w s r.offset) (field_site s r.offset (plain kinds.Relative Four sign.Signed).size v).bytes → RowHolds l w m s r
 stub_distance_holds l w m s i r term v h x86 listed asked number own value allowed held =
     let info = plain kinds.Relative Four sign.Signed in
@@ -185,7 +185,7 @@ stub_distance_holds l w m s i r term v h x86 listed asked number own value allow
       address = λ a. a;
     }
 
-stub_offset_holds : (l : Layout) (w : World) (m : Memory) (s : Item) (i : ℕ) (r : InputRelocation) (term v : ℕ) → (h : IsItemLoaded l w m s) → l.machine ≡ machine.X86_64 → slice_get s.relocations i ≡ Some r → IsAsked l w s r → r.number ≡ r_x86_64_pltoff64 → IsOwnTerm l r term → displacement term r.addend l.got_base ≡ v → allows (plain kinds.SymRelGotBase Eight sign.Signed) v ≡ true
+stub_offset_holds : (l : Layout) (w : World) (m : Memory) (s : Item) (i : ℕ) (r : InputRelocation) (term v : ℕ) → (h : IsItemLoaded l w m s) → l.machine ≡ machine.X86_64 → slice_get s.relocations i ≡ Some r → MustHold l w s r → r.number ≡ r_x86_64_pltoff64 → IsOwnTerm l r term → displacement term r.addend l.got_base ≡ v → allows (plain kinds.SymRelGotBase Eight sign.Signed) v ≡ true
     → Holds m (place_at w s r.offset) (field_site s r.offset (plain kinds.SymRelGotBase Eight sign.Signed).size v).bytes → RowHolds l w m s r
 stub_offset_holds l w m s i r term v h x86 listed asked number own value allowed held =
     let info = plain kinds.SymRelGotBase Eight sign.Signed in
@@ -206,7 +206,7 @@ stub_offset_holds l w m s i r term v h x86 listed asked number own value allowed
     }
 
 -- the field of such a row holds
-pub row_holds : (l : Layout) (w : World) (m : Memory) (s : Item) (i : ℕ) (r : InputRelocation) → (h : IsItemLoaded l w m s) → IsAsked l w s r → IsRowField l s i r → RowHolds l w m s r
+pub row_holds : (l : Layout) (w : World) (m : Memory) (s : Item) (i : ℕ) (r : InputRelocation) → (h : IsItemLoaded l w m s) → MustHold l w s r → IsRowField l s i r → RowHolds l w m s r
 row_holds l w m s i r h asked f = by_row f.kept.row f.kept.keeps f.kept.chosen (chosen_row l s r (slice_get s.relocations (i + 1)) f.kept.row f.kept.chosen) f.kept.known
   where
     k : IsKept l s r (slice_get s.relocations (i + 1)) f.size f.value
@@ -215,7 +215,7 @@ row_holds l w m s i r h asked f = by_row f.kept.row f.kept.keeps f.kept.chosen (
     held : (info : RelocationKindInfo) → k.info ≡ info → Holds m (place_at w s r.offset) (field_site s r.offset info.size f.value).bytes
     held info e = subst (λ (z : RelocationSize). Holds m (place_at w s r.offset) (field_site s r.offset z f.value).bytes) (sym k.size ∙ ap (λ (x : RelocationKindInfo). x.size) e) (h.item.values i r f.size f.value f.has)
 
-    own_term : (info : RelocationKindInfo) (symbol : ℕ) → k.info ≡ info → term_of l r.symbol info.kind ≡ address_of l r.symbol → r.symbol ≡ Some symbol → interposable (flags_at l symbol) ≡ false → is_chosen l symbol ≡ false → IsOwnTerm l r k.term
+    own_term : (info : RelocationKindInfo) (symbol : ℕ) → k.info ≡ info → term_of l r.symbol info.kind ≡ address_of l r.symbol → r.symbol ≡ Some symbol → interposable (flags_at l symbol) ≡ false → symbol_is_ifunc l symbol ≡ false → IsOwnTerm l r k.term
     own_term info symbol e same named own direct =
         let given = subst (λ (x : RelocationKindInfo). term_of l r.symbol x.kind ≡ Ok k.term) e k.given in
         record { symbol = symbol; named = named; own = own; direct = direct; given = subst (λ (o : Option ℕ). address_of l o ≡ Ok k.term) named (sym same ∙ given) }

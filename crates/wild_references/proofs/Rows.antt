@@ -12,12 +12,12 @@ use Rattle.wild_types.specs.Lookups.{executable}
 use Rattle.wild_relax.specs.declared.pattern.Pattern.TheVariants as pattern
 use Rattle.wild_relax.specs.declared.reference.UnknownSequence.{UnknownSequence}
 use Rattle.wild_relax.specs.declared.row.Row.{Row}
-use Rattle.wild_relax.specs.First.{first_standing, checked}
-use Rattle.wild_relax.specs.Pattern.{stands_before, stands_at}
+use Rattle.wild_relax.specs.FirstRow.{first_standing, row_or_fault}
+use Rattle.wild_relax.specs.Pattern.{stands_before, cells_match_at}
 use Rattle.wild_relax.specs.Question.{Question, relocation_of, minus_four}
 use Rattle.wild_relax.specs.RowSymbols.{takes_symbol, takes_value}
 use Rattle.wild_relax.specs.RowSequences.{has_its_sequence}
-use Rattle.wild_relax.specs.Rows.{rows_x86_64, applies, unknown_sequence, standing_x86_64, chosen_x86_64}
+use Rattle.wild_relax.specs.Rows.{rows_x86_64, applies, unknown_sequence, first_row_x86_64, chosen_row_x86_64}
 use Rattle.wild_relax.specs.RowSymbols.{is_mandatory}
 use Rattle.wild_relax.proofs.RoomLemmas.{IsApplied, applied, chosen_is}
 use Rattle.wild_layout.specs.Choice.{question_of, choice_by, choice_of, is_thread_type}
@@ -40,7 +40,7 @@ none_stands stands (x ∷ xs) n r h e = by_test stands x xs n r (stands x) refl 
     by_test stands x xs n r true f h e again = cc
     by_test stands x xs n r false f h e again = by_place stands x xs n r f h e again
 
-checked_none : {R : Type 0} (has : R → Bool) (by : R → UnknownSequence) (o : Option R) → checked has by o ≡ Ok None → o ≡ None
+checked_none : {R : Type 0} (has : R → Bool) (by : R → UnknownSequence) (o : Option R) → row_or_fault has by o ≡ Ok None → o ≡ None
 checked_none has by None h = refl
 checked_none has by (Some x) h =
     elim (cases_Bool (has x)) [
@@ -50,21 +50,21 @@ checked_none has by (Some x) h =
 
 -- ---- the row of a question
 
-not_chosen : (q : Question) (n : ℕ) (row : Row) → chosen_x86_64 q ≡ Ok None → slice_get rows_x86_64 n ≡ Some row → applies q row ≡ false
-unfolding chosen_x86_64 standing_x86_64
-not_chosen q n row h e = none_stands (applies q) rows_x86_64 n row (checked_none (has_its_sequence q) (unknown_sequence q) (standing_x86_64 q) h) e
+not_chosen : (q : Question) (n : ℕ) (row : Row) → chosen_row_x86_64 q ≡ Ok None → slice_get rows_x86_64 n ≡ Some row → applies q row ≡ false
+unfolding chosen_row_x86_64 first_row_x86_64
+not_chosen q n row h e = none_stands (applies q) rows_x86_64 n row (checked_none (has_its_sequence q) (unknown_sequence q) (first_row_x86_64 q) h) e
 
 all_of : (a b c d e f g h : Bool) → a ≡ true → b ≡ true → c ≡ true → d ≡ true → e ≡ true → f ≡ true → g ≡ true → h ≡ true → (a && b && c && d && e && f && g && h) ≡ true
 all_of a b c d e f g h ea eb ec ed ee ef eg eh = rw (ea, eb, ec, ed, ee, ef, eg, eh) refl
 
 pub row_applies : (q : Question) (row : Row) → ((relocation_of q).number == row.number) ≡ true → (q.relax || is_mandatory row.duty q) ≡ true → (not row.in_code || executable q.section_flags) ≡ true → takes_symbol row.symbol q ≡ true → (not row.thread_local || is_executable q.kind) ≡ true → takes_value row.value q ≡ true
-    → (not row.ends || minus_four (relocation_of q).addend) ≡ true → (row.anywhere || stands_before q.bytes (relocation_of q).offset row.always) ≡ true → applies q row ≡ true
+    → (not row.ends || minus_four (relocation_of q).addend) ≡ true → (row.ignores_bytes || stands_before q.bytes (relocation_of q).offset row.required_bytes) ≡ true → applies q row ≡ true
 unfolding applies
 row_applies q row number duty section symbol thread value addend bytes = all_of _ _ _ _ _ _ _ _ number duty section symbol thread value addend bytes
 
 -- no bytes stand wherever there are some behind them, or none
 pub nothing_stands : (bs : List ℕ) (o : ℕ) → o ≤ length bs → stands_before bs o pattern.Nothing ≡ true
-unfolding stands_before stands_at
+unfolding stands_before cells_match_at
 nothing_stands bs o h = grind (arith, nat_tests, h)
 
 -- ---- the choice of a relocation
@@ -74,9 +74,9 @@ pub chosen_row : (l : Layout) (s : Item) (r : InputRelocation) (next : Option In
 chosen_row l s r next row c = applied (question_of l s r c.symbol next) row (chosen_is (question_of l s r c.symbol next) row c.chosen).here
 
 -- of a type of thread-local storage the rows are asked, where it keeps its instruction
-pub thread_asked : (l : Layout) (s : Item) (r : InputRelocation) (next : Option InputRelocation) (i : ℕ) → (r.number == r_x86_64_pc32) ≡ false → is_thread_type r.number ≡ true → choice_by l s r next (Some i) ≡ Ok None → chosen_x86_64 (question_of l s r i next) ≡ Ok None
+pub thread_asked : (l : Layout) (s : Item) (r : InputRelocation) (next : Option InputRelocation) (i : ℕ) → (r.number == r_x86_64_pc32) ≡ false → is_thread_type r.number ≡ true → choice_by l s r next (Some i) ≡ Ok None → chosen_row_x86_64 (question_of l s r i next) ≡ Ok None
 unfolding choice_by
-thread_asked l s r next i other thread h = by_tests (r.number == r_x86_64_pc32) (names_merged l (Some i)) (is_thread_type r.number) (record { number = r.number; written = info_by written.Nothing }) (chosen_x86_64 (question_of l s r i next)) other thread h
+thread_asked l s r next i other thread h = by_tests (r.number == r_x86_64_pc32) (names_merged l (Some i)) (is_thread_type r.number) (record { number = r.number; written = info_by written.Nothing }) (chosen_row_x86_64 (question_of l s r i next)) other thread h
   where
     by_tests : (b m t : Bool) (e : UnknownSequence) (c : Result (Option Row) UnknownSequence) → b ≡ false → t ≡ true → (if b then Ok None else if m then (if t then Err e else Ok None) else c) ≡ Ok None → c ≡ Ok None
     by_tests false false t e c f g h = h
@@ -89,5 +89,5 @@ pub unchosen : (l : Layout) (s : Item) (r : InputRelocation) (next : Option Inpu
 unchosen l s r next i n row h named other thread listed =
     let q = question_of l s r i next in
     let here : choice_by l s r next (Some i) ≡ Ok None = subst (λ (o : Option ℕ). choice_by l s r next o ≡ Ok None) named h in
-    let none : chosen_x86_64 q ≡ Ok None = thread_asked l s r next i other thread here in
+    let none : chosen_row_x86_64 q ≡ Ok None = thread_asked l s r next i other thread here in
     not_chosen q n row none listed

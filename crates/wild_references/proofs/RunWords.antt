@@ -18,7 +18,7 @@ use Rattle.wild_meaning.specs.Item.{place_at}
 use Rattle.wild_meaning.specs.Field.{formula_of, form_width, FieldReads, IsInputByte}
 use Rattle.wild_meaning.specs.Formula.{IsPlaceRelative, Gives, TakesAddress, TakesOffset}
 use Rattle.wild_meaning.specs.Template.{IsSequence, IsTemplate}
-use Rattle.wild_meaning.specs.Reference.{HasPlace, CountsFromPlace, GoesByPlace, IsAsked, TakesItself, IsLinkedAlone}
+use Rattle.wild_meaning.specs.Reference.{HasPlace, CountsFromPlace, HasRelativeInstruction, MustHold, UsesOwnDefinition, UsesOwnSymbolOnly}
 use Rattle.wild_meaning.proofs.AmongLemmas.{pick}
 use Rattle.wild_meaning.proofs.OneReference.{has}
 use Rattle.wild_meaning.proofs.PairLemmas.{are_several, some, only_one}
@@ -40,9 +40,9 @@ pub record IsKeptRun (l : Layout) (w : World) (m : Memory) (s : Item) (r : Input
   pub rest : List InputRelocation
   pub sequence : IsSequence l s first rest start o
   pub one : Contains (first ∷ rest) r
-  pub each : (q : InputRelocation) → Contains (first ∷ rest) q → IsAsked l w s q → (IsLinkedAlone l s q → ⊥) → FieldHolds l w m s q
-  pub asked : IsAsked l w s r
-  pub alone : IsLinkedAlone l s r → ⊥
+  pub each : (q : InputRelocation) → Contains (first ∷ rest) q → MustHold l w s q → (UsesOwnSymbolOnly l s q → ⊥) → FieldHolds l w m s q
+  pub asked : MustHold l w s r
+  pub alone : UsesOwnSymbolOnly l s r → ⊥
   pub own : (k : ℕ) → IsOwnByte o k → IsInputByte w m s (start + k)
 
 -- ---- a word and its field
@@ -80,7 +80,7 @@ has_word g l w m s r at on place known h =
 -- ---- references by a slot are asked everywhere
 
 -- an instruction that counts from its place is one of an address
-by_place : (l : Layout) (s : Item) (q : InputRelocation) → l.machine ≡ machine.AArch64 → GoesByPlace l s q → has q.number (numbers_in address_pair_words) ≡ true
+by_place : (l : Layout) (s : Item) (q : InputRelocation) → l.machine ≡ machine.AArch64 → HasRelativeInstruction l s q → has q.number (numbers_in address_pair_words) ≡ true
 by_place l s q on g = by g.template
   where
     not_word : (word : IsWord g.instruction) → ⊥
@@ -107,10 +107,10 @@ pub record IsOfSlot (n : ℕ) (f : Formula) : Type 0 where
   pub address : TakesAddress f.value → ⊥
   pub other : has n (numbers_in address_pair_words) ≡ false
 
-slot_asked : (l : Layout) (w : World) (s : Item) (q : InputRelocation) (n : ℕ) (f : Formula) → l.machine ≡ machine.AArch64 → q.number ≡ n → IsOfSlot n f → IsAsked l w s q
+slot_asked : (l : Layout) (w : World) (s : Item) (q : InputRelocation) (n : ℕ) (f : Formula) → l.machine ≡ machine.AArch64 → q.number ≡ n → IsOfSlot n f → MustHold l w s q
 slot_asked l w s q n f on is k e = absurd (by e.relative)
   where
-    by : HasPlace l q ⊎ GoesByPlace l s q → ⊥
+    by : HasPlace l q ⊎ HasRelativeInstruction l s q → ⊥
     by (inl h) =
         let same = same_formula l n f h.formula on k.known (subst (λ (x : ℕ). formula_of l.machine x ≡ Some h.formula) is h.known) in
         k.still (subst (λ (g : Formula). IsPlaceRelative g.value) same h.relative)
@@ -119,12 +119,12 @@ slot_asked l w s q n f on is k e = absurd (by e.relative)
         let both : true ≡ false = sym yes ∙ k.other in
         cc
 
-slot_followed : (l : Layout) (s : Item) (q : InputRelocation) (n : ℕ) (f : Formula) → l.machine ≡ machine.AArch64 → q.number ≡ n → IsOfSlot n f → IsLinkedAlone l s q → ⊥
+slot_followed : (l : Layout) (s : Item) (q : InputRelocation) (n : ℕ) (f : Formula) → l.machine ≡ machine.AArch64 → q.number ≡ n → IsOfSlot n f → UsesOwnSymbolOnly l s q → ⊥
 slot_followed l s q n f on is k a =
     let same = same_formula l n f a.formula on k.known (subst (λ (x : ℕ). formula_of l.machine x ≡ Some a.formula) is a.known) in
-    by (subst (λ (g : Formula). TakesItself l s a.symbol g) same a.takes)
+    by (subst (λ (g : Formula). UsesOwnDefinition l s a.symbol g) same a.takes)
   where
-    by : TakesItself l s a.symbol f → ⊥
+    by : UsesOwnDefinition l s a.symbol f → ⊥
     by (inl h) = k.offset h
     by (inr h) = k.address h.0
 
@@ -167,7 +167,7 @@ part_word g n l w m s r q start at first k own t symbol c number place = has_wor
     known : aarch64_formula q.number ≡ Some g
     known = subst (λ (x : ℕ). aarch64_formula x ≡ Some g) (sym (only_one n q.number number)) t.known
 
-    asked : IsAsked l w s q
+    asked : MustHold l w s q
     asked e =
         k.asked (record {
           movable = e.movable;
@@ -177,17 +177,17 @@ part_word g n l w m s r q start at first k own t symbol c number place = has_wor
           relative = inr (record { start = start; instruction = address_pair_words; first = first; template = inr (record { rest = k.rest; sequence = k.sequence; one = k.one }); counts = tt });
         })
 
-    followed : IsLinkedAlone l s q → ⊥
+    followed : UsesOwnSymbolOnly l s q → ⊥
     followed a = k.alone (record {
       symbol = a.symbol;
       named = own.symbol ∙ sym symbol ∙ a.named;
       replaceable = a.replaceable;
       formula = own.formula;
       known = subst (λ (x : Machine). formula_of x r.number ≡ Some own.formula) (sym k.on) own.is.known;
-      takes = by (subst (λ (f : Formula). TakesItself l s a.symbol f) (same_formula l q.number g a.formula k.on known a.known) a.takes);
+      takes = by (subst (λ (f : Formula). UsesOwnDefinition l s a.symbol f) (same_formula l q.number g a.formula k.on known a.known) a.takes);
       direct = λ through. not_conditional r.number own.is.straight through.conditional;
     })
       where
-        by : TakesItself l s a.symbol g → TakesItself l s a.symbol own.formula
+        by : UsesOwnDefinition l s a.symbol g → UsesOwnDefinition l s a.symbol own.formula
         by (inl h) = absurd (t.offset h)
         by (inr h) = inr (own.is.takes, (λ left. own.is.part left.value), h.2)

@@ -11,7 +11,7 @@ use Rattle.wild_aarch64.specs.declared.operand.Operand.TheVariants as has
 use Rattle.wild_aarch64.specs.declared.operand.Deed.TheVariants as runs
 use Rattle.wild_aarch64.specs.declared.template.Template.{Template}
 use Rattle.wild_aarch64.specs.declared.template.Template.TheVariants as kinds
-use Rattle.wild_aarch64.specs.Immediate.{inserted, cut, Imm12, Imm21}
+use Rattle.wild_aarch64.specs.Immediate.{word_with_immediate, bits_of_field, Imm12, Imm21}
 use Rattle.wild_aarch64.specs.Slice.{signed, stands}
 use Rattle.wild_aarch64.specs.Forms.{d, n, adrp, add, ldr}
 use Rattle.wild_aarch64.specs.Code.{read}
@@ -25,27 +25,27 @@ use Rattle.wild_loader.specs.declared.instruction.Operand.{Operand}
 use Rattle.wild_loader.specs.declared.instruction.Operand.TheVariants.{Number, Word, Offset}
 use Rattle.wild_loader.specs.Instruction.{Reader, Effect, effect, as_value}
 use Rattle.wild_loader.specs.InstructionAArch64.{action_of}
-use Rattle.wild_meaning.specs.WordsAArch64.{is_told, are_filled, is_run}
+use Rattle.wild_meaning.specs.WordsAArch64.{has_known_meaning, are_filled, is_run}
 use Rattle.wild_references.proofs.FilledAArch64.{put_back}
 
 -- ---- words whose field is filled
 
 pub adrp_read : (w u x : ℕ) → stands adrp.fixed w ≡ true → others AdrField w ≡ others AdrField u → sign_extended 33 (immediate AdrField u * 2 ^ 12) ≡ x → read u ≡ Some (Adrp (d w) x)
 adrp_read w u x s keeps decodes =
-    let put : inserted Imm21 (immediate AdrField u) w ≡ u = put_back AdrField Imm21 w u (immediate AdrField u) refl keeps refl in
-    let at : cut Imm21 (immediate AdrField u) ≡ immediate AdrField u = omega arith in
+    let put : word_with_immediate Imm21 (immediate AdrField u) w ≡ u = put_back AdrField Imm21 w u (immediate AdrField u) refl keeps refl in
+    let at : bits_of_field Imm21 (immediate AdrField u) ≡ immediate AdrField u = omega arith in
     subst (λ (k : ℕ). read k ≡ Some (Adrp (d w) x)) put (adrp_field w (immediate AdrField u) s ∙ ap (λ (i : ℕ). Some (Adrp (d w) (signed 33 (i * 4096)))) at ∙ ap (λ (k : ℕ). Some (Adrp (d w) k)) decodes)
 
 pub add_read : (w u : ℕ) → stands add.fixed w ≡ true → others Imm12Field w ≡ others Imm12Field u → read u ≡ Some (Add (d w) (n w) (immediate Imm12Field u))
 add_read w u s keeps =
-    let put : inserted Imm12 (immediate Imm12Field u) w ≡ u = put_back Imm12Field Imm12 w u (immediate Imm12Field u) refl keeps refl in
-    let at : cut Imm12 (immediate Imm12Field u) ≡ immediate Imm12Field u = omega arith in
+    let put : word_with_immediate Imm12 (immediate Imm12Field u) w ≡ u = put_back Imm12Field Imm12 w u (immediate Imm12Field u) refl keeps refl in
+    let at : bits_of_field Imm12 (immediate Imm12Field u) ≡ immediate Imm12Field u = omega arith in
     subst (λ (k : ℕ). read k ≡ Some (Add (d w) (n w) (immediate Imm12Field u))) put (add_field w (immediate Imm12Field u) s ∙ ap (λ (i : ℕ). Some (Add (d w) (n w) i)) at)
 
 pub ldr_read : (w u : ℕ) → stands ldr.fixed w ≡ true → others Imm12Field w ≡ others Imm12Field u → read u ≡ Some (Ldr (d w) (n w) (immediate Imm12Field u * 8))
 ldr_read w u s keeps =
-    let put : inserted Imm12 (immediate Imm12Field u) w ≡ u = put_back Imm12Field Imm12 w u (immediate Imm12Field u) refl keeps refl in
-    let at : cut Imm12 (immediate Imm12Field u) ≡ immediate Imm12Field u = omega arith in
+    let put : word_with_immediate Imm12 (immediate Imm12Field u) w ≡ u = put_back Imm12Field Imm12 w u (immediate Imm12Field u) refl keeps refl in
+    let at : bits_of_field Imm12 (immediate Imm12Field u) ≡ immediate Imm12Field u = omega arith in
     subst (λ (k : ℕ). read k ≡ Some (Ldr (d w) (n w) (immediate Imm12Field u * 8))) put (ldr_field w (immediate Imm12Field u) s ∙ ap (λ (i : ℕ). Some (Ldr (d w) (n w) (i * 8))) at)
 
 -- a word without a field is as it was
@@ -92,12 +92,12 @@ call_run q a j k i g e at too =
 record IsKnown (t : Template) (ns ws : List ℕ) : Type 0 where
   filled : are_filled ns ws ≡ true
   codes : begins (codes_of t (register_in ws)) (map read ws) ≡ true
-  told : is_told (run (shapes ws) 0 []) ≡ true
+  told : has_known_meaning (run (shapes ws) 0 []) ≡ true
 
 known : (t : Template) (ns ws : List ℕ) → is_run t ns ws ≡ true → IsKnown t ns ws
 known t ns ws h =
-    let p = and_parts (are_filled ns ws) (begins (codes_of t (register_in ws)) (map read ws) && is_told (run (shapes ws) 0 [])) h in
-    let q = and_parts (begins (codes_of t (register_in ws)) (map read ws)) (is_told (run (shapes ws) 0 [])) p.1 in
+    let p = and_parts (are_filled ns ws) (begins (codes_of t (register_in ws)) (map read ws) && has_known_meaning (run (shapes ws) 0 [])) h in
+    let q = and_parts (begins (codes_of t (register_in ws)) (map read ws)) (has_known_meaning (run (shapes ws) 0 [])) p.1 in
     record { filled = p.0; codes = q.0; told = q.1 }
 
 two_stand : (a b : Bool) → ((a || false) && ((b || false) && true)) ≡ true → (a ≡ true) × (b ≡ true)
@@ -151,7 +151,7 @@ address_pair_does r a t x w0 w1 u0 u1 number is k0 decodes k1 at = by (d w0 == 3
 
     by : (b : Bool) → (d w0 == 31) ≡ b → RunDoes r a t (w0 ∷ w1 ∷ []) (u0 ∷ u1 ∷ [])
     by true e =
-        (let none : is_told (run (Some (Adrp (d w0) 0) ∷ Some (Add (d w0) (d w0) 0) ∷ []) 0 []) ≡ true = subst (λ (cs : List (Option Code)). is_told (run cs 0 []) ≡ true) words facts.told in
+        (let none : has_known_meaning (run (Some (Adrp (d w0) 0) ∷ Some (Add (d w0) (d w0) 0) ∷ []) 0 []) ≡ true = subst (λ (cs : List (Option Code)). has_known_meaning (run cs 0 []) ≡ true) words facts.told in
         let no : false ≡ true = rw e at none in
         cc)
     by false e =
@@ -186,7 +186,7 @@ slot_pair_does r a t g x w0 w1 u0 u1 word is k0 decodes k1 at = by (d w0 == 31) 
 
     by : (b : Bool) → (d w0 == 31) ≡ b → RunDoes r a t (w0 ∷ w1 ∷ []) (u0 ∷ u1 ∷ [])
     by true e =
-        (let none : is_told (run (Some (Adrp (d w0) 0) ∷ Some (Ldr (d w0) (d w0) 0) ∷ []) 0 []) ≡ true = subst (λ (cs : List (Option Code)). is_told (run cs 0 []) ≡ true) words facts.told in
+        (let none : has_known_meaning (run (Some (Adrp (d w0) 0) ∷ Some (Ldr (d w0) (d w0) 0) ∷ []) 0 []) ≡ true = subst (λ (cs : List (Option Code)). has_known_meaning (run cs 0 []) ≡ true) words facts.told in
         let no : false ≡ true = rw e at none in
         cc)
     by false e =
@@ -245,10 +245,10 @@ call_does r a t g x w0 w1 w2 w3 u0 u1 u2 offset is k0 decodes k1 at k2 too = by 
         let a2 = add_read w2 u2 there.2 k2 in
         rw (a0, a1, a2, registers.4, registers.0, registers.1, registers.2, registers.3) refl)
 
-    told_of : (q : ℕ) → d w1 ≡ q → is_told (run (Some (Adrp 0 0) ∷ Some (Ldr q 0 0) ∷ Some (Add 0 0 0) ∷ Some (Blr q) ∷ []) 0 []) ≡ true
+    told_of : (q : ℕ) → d w1 ≡ q → has_known_meaning (run (Some (Adrp 0 0) ∷ Some (Ldr q 0 0) ∷ Some (Add 0 0 0) ∷ Some (Blr q) ∷ []) 0 []) ≡ true
     told_of q e =
-        let told = subst (λ (cs : List (Option Code)). is_told (run cs 0 []) ≡ true) words facts.told in
-        subst (λ (k : ℕ). is_told (run (Some (Adrp 0 0) ∷ Some (Ldr k 0 0) ∷ Some (Add 0 0 0) ∷ Some (Blr k) ∷ []) 0 []) ≡ true) e told
+        let told = subst (λ (cs : List (Option Code)). has_known_meaning (run cs 0 []) ≡ true) words facts.told in
+        subst (λ (k : ℕ). has_known_meaning (run (Some (Adrp 0 0) ∷ Some (Ldr k 0 0) ∷ Some (Add 0 0 0) ∷ Some (Blr k) ∷ []) 0 []) ≡ true) e told
 
     by : (q : ℕ) → d w1 ≡ q → RunDoes r a t (w0 ∷ w1 ∷ w2 ∷ w3 ∷ []) (u0 ∷ u1 ∷ u2 ∷ w3 ∷ [])
     by zero e = (let none : false ≡ true = told_of zero e in cc)

@@ -21,13 +21,13 @@ use Rattle.wild_meaning.specs.WordsAArch64.{is_run}
 use Rattle.wild_meaning.specs.Sequence.{Instruction, Partner, by_word, IsOwnByte, descriptor_call_words, offset_pair_words, address_pair_words, instructions_of}
 use Rattle.wild_meaning.specs.Item.{place_at}
 use Rattle.wild_meaning.specs.Field.{IsInputByte}
-use Rattle.wild_meaning.specs.Formula.{IsReferent, IsReferentOnAArch64, IsOffset, page_of, IsReferentBy}
-use Rattle.wild_meaning.specs.ReferentAArch64.{IsAbsent, IsOneAddress}
+use Rattle.wild_meaning.specs.Formula.{IsReferent, IsReferentOnAArch64, IsOffset, page_of, IsReferentOnMachine}
+use Rattle.wild_meaning.specs.ReferentAArch64.{IsUndefinedWeak, IsOneAddress}
 use Rattle.wild_meaning.specs.Slot.{IsSlot}
 use Rattle.wild_meaning.specs.Partners.{HasPartner, HasPartners}
 use Rattle.wild_meaning.specs.Template.{IsOfSequence, reads, DoesDemanded}
 use Rattle.wild_meaning.proofs.PairLemmas.{only, only_one, one_of_two}
-use Rattle.wild_references.proofs.Right.{low_place}
+use Rattle.wild_references.proofs.RightOperands.{low_place}
 use Rattle.wild_references.proofs.OneAddress.{one_address, one_slot}
 use Rattle.wild_references.proofs.RunsAArch64.{address_pair_does, slot_pair_does, call_does}
 use Rattle.wild_references.proofs.WordsAArch64.{words_from, words_read, IsWordThere, by_words}
@@ -196,15 +196,15 @@ unfolding aarch64_formula
 address_low = record { straight = refl; known = refl; takes = tt; part = λ e. cc; offset = λ h. h }
 
 -- the address of a symbol that is there
-high_stands : (l : Layout) (w : World) (m : Memory) (s : Item) (r : InputRelocation) (i a : ℕ) → l.machine ≡ machine.AArch64 → r.symbol ≡ Some i → (IsAbsent l i → ⊥) → IsReferentBy l.machine PageDistance l w m s r a → IsOneAddress l w m i a
-high_stands l w m s r i a on named there h = by (subst (λ (o : Option ℕ). IsReferentOnAArch64 PageDistance l w m s r o a) named (subst (λ (k : Machine). IsReferentBy k PageDistance l w m s r a) on h))
+high_stands : (l : Layout) (w : World) (m : Memory) (s : Item) (r : InputRelocation) (i a : ℕ) → l.machine ≡ machine.AArch64 → r.symbol ≡ Some i → (IsUndefinedWeak l i → ⊥) → IsReferentOnMachine l.machine PageDistance l w m s r a → IsOneAddress l w m i a
+high_stands l w m s r i a on named there h = by (subst (λ (o : Option ℕ). IsReferentOnAArch64 PageDistance l w m s r o a) named (subst (λ (k : Machine). IsReferentOnMachine k PageDistance l w m s r a) on h))
   where
     by : IsReferentOnAArch64 PageDistance l w m s r (Some i) a → IsOneAddress l w m i a
     by (inl x) = absurd (there x.0.1)
     by (inr x) = x.1
 
-low_stands : (l : Layout) (w : World) (m : Memory) (s : Item) (r : InputRelocation) (i a : ℕ) → l.machine ≡ machine.AArch64 → r.symbol ≡ Some i → IsReferentBy l.machine SymbolPart l w m s r a → IsOneAddress l w m i a
-low_stands l w m s r i a on named h = by (subst (λ (o : Option ℕ). IsReferentOnAArch64 SymbolPart l w m s r o a) named (subst (λ (k : Machine). IsReferentBy k SymbolPart l w m s r a) on h))
+low_stands : (l : Layout) (w : World) (m : Memory) (s : Item) (r : InputRelocation) (i a : ℕ) → l.machine ≡ machine.AArch64 → r.symbol ≡ Some i → IsReferentOnMachine l.machine SymbolPart l w m s r a → IsOneAddress l w m i a
+low_stands l w m s r i a on named h = by (subst (λ (o : Option ℕ). IsReferentOnAArch64 SymbolPart l w m s r o a) named (subst (λ (k : Machine). IsReferentOnMachine k SymbolPart l w m s r a) on h))
   where
     by : IsReferentOnAArch64 SymbolPart l w m s r (Some i) a → IsOneAddress l w m i a
     by (inl x) = absurd x.0.0
@@ -214,7 +214,7 @@ low_stands l w m s r i a on named h = by (subst (λ (o : Option ℕ). IsReferent
 names_both : (l : Layout) (r q : InputRelocation) → r.symbol ≡ q.symbol → NamesStrings l r → NamesStrings l q
 names_both l r q e n = record { symbol = n.symbol; named = sym e ∙ n.named; strings = n.strings; has = n.has }
 
-one_referent : (l : Layout) (w : World) (m : Memory) (s : Item) (first second : InputRelocation) (i b a : ℕ) → l.machine ≡ machine.AArch64 → first.symbol ≡ Some i → second.symbol ≡ first.symbol → second.addend ≡ first.addend → (IsAbsent l i → ⊥) → IsReferent l.machine SymbolPart l w m s second b → IsReferent l.machine PageDistance l w m s first a → b ≡ a
+one_referent : (l : Layout) (w : World) (m : Memory) (s : Item) (first second : InputRelocation) (i b a : ℕ) → l.machine ≡ machine.AArch64 → first.symbol ≡ Some i → second.symbol ≡ first.symbol → second.addend ≡ first.addend → (IsUndefinedWeak l i → ⊥) → IsReferent l.machine SymbolPart l w m s second b → IsReferent l.machine PageDistance l w m s first a → b ≡ a
 one_referent l w m s first second i b a on named same added there (inl low) (inl high) = one_string l w second first b a same added low.1 high.1
 one_referent l w m s first second i b a on named same added there (inl low) (inr high) = absurd (high.0 (tt, names_both l second first same low.0.1))
 one_referent l w m s first second i b a on named same added there (inr low) (inl high) = absurd (low.0 (tt, names_both l first second (sym same) high.0.1))

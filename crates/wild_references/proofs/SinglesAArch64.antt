@@ -21,9 +21,9 @@ use Rattle.wild_meaning.specs.Item.{place_at}
 use Rattle.wild_meaning.specs.Field.{formula_of, FieldReads}
 use Rattle.wild_meaning.specs.Formula.{Gives}
 use Rattle.wild_meaning.specs.Sequence.{Sort, Target, FieldBits, Instruction, of_word, runs_of_words, IsOwnByte, instructions_of}
-use Rattle.wild_meaning.specs.Template.{IsInstruction, counts_from, reads, effect_of, demand_of, bits_of, DoesDemanded}
+use Rattle.wild_meaning.specs.Template.{IsInstruction, field_origin, reads, effect_of, demand_of, bits_of, DoesDemanded}
 use Rattle.wild_references.specs.Laws.{FieldHolds}
-use Rattle.wild_references.proofs.Right.{low_place}
+use Rattle.wild_references.proofs.RightOperands.{low_place}
 use Rattle.wild_references.proofs.FilledAArch64.{word_does, width_four, branch_does}
 use Rattle.wild_meaning.proofs.StringLemmas.{branch_referent, goes_to_none}
 
@@ -127,11 +127,11 @@ branch_do l w m s r start n on one t h =
     let field = subst (λ (f : Formula). FieldReads w m s r f.form h.value) is h.field in
     let keeps = subst (λ (bs : List ℕ). others Imm26Field (number bs) ≡ others Imm26Field (number field.bytes)) here field.keeps in
     let held : Holds m (place_at w s start) field.bytes = subst (λ (k : ℕ). Holds m (place_at w s k) field.bytes) at field.held in
-    let value = (gives.0 + cast_unsigned w64 r.addend + counts_from l.machine) % 2 ^ 64 in
+    let value = (gives.0 + cast_unsigned w64 r.addend + field_origin l.machine) % 2 ^ 64 in
     let low = low_place m (place_at w s start) field.bytes field.wide held in
     let place : place_at w s r.offset ≡ place_at w s start = ap (place_at w s) at in
     let value_is = gives.2 ∙ ap (λ (p : ℕ). (gives.0 + cast_unsigned w64 r.addend + (2 ^ 64 - p)) % 2 ^ 64) place in
-    let goes : (place_at w s start + h.value) % 2 ^ 64 ≡ value = goes_there (place_at w s start) gives.0 (cast_unsigned w64 r.addend) h.value low value_is ∙ ap (λ (k : Machine). (gives.0 + cast_unsigned w64 r.addend + counts_from k) % 2 ^ 64) (sym on) in
+    let goes : (place_at w s start + h.value) % 2 ^ 64 ≡ value = goes_there (place_at w s start) gives.0 (cast_unsigned w64 r.addend) h.value low value_is ∙ ap (λ (k : Machine). (gives.0 + cast_unsigned w64 r.addend + field_origin k) % 2 ^ 64) (sym on) in
     let d = branch_does n (place_at w s start) value h.value old field.bytes (reads w m) one t.words long field.wide field.reads keeps (λ k. refl) goes in
     record {
       value = value;

@@ -10,7 +10,7 @@ use Rattle.wild_types.specs.declared.symbol.Symbol.{Symbol}
 use Rattle.wild_types.specs.declared.layout.Layout.{Layout}
 use Rattle.wild_types.specs.Flags.{has_flag, interposable, absolute, dynamic, ifunc}
 use Rattle.wild_types.specs.ResolvedFlags.{HasItsFlags}
-use Rattle.wild_clauses.specs.SlotFlags.{dynamic_is_interposable, stub_has_slot, thread_slot_alone, resolver_is_own, resolver_moves}
+use Rattle.wild_plan_rules.specs.SlotFlags.{dynamic_is_interposable, stub_has_slot, thread_slot_alone, resolver_is_own, resolver_moves}
 use Rattle.wild_types.specs.SymbolSlots.{got_of, plt_of, has_thread_slot}
 use Rattle.wild_layout.specs.Numbers.{SymbolNumbers}
 use Rattle.wild_references.specs.Terms.{SymbolsFit}

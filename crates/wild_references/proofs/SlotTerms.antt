@@ -13,13 +13,13 @@ use Rattle.wild_reloc.specs.Formula.{Slot, AddressSlot, ModulePair, ThreadOffset
 use Rattle.wild_reloc.specs.Expression.{slot_sort}
 use Rattle.wild_reloc.specs.declared.expression.SlotSort.{SlotSort}
 use Rattle.wild_reloc.specs.declared.expression.SlotSort.TheVariants as sorts
-use Rattle.wild_layout.specs.SlotValues.{resolution_of, has_second_slot, behind_word, behind_pair, slot_among, slot_decided, slot_address, slot_of}
+use Rattle.wild_layout.specs.SlotValues.{resolution_of, has_second_slot, after_word, after_pair, slot_among, slot_decided, slot_address, slot_of}
 use Rattle.wild_words.proofs.ListLemmas.{holds_at}
 use Rattle.wild_loader.specs.declared.memory.Memory.{Memory}
 use Rattle.wild_loader.specs.declared.world.World.{World}
-use Rattle.wild_meaning.specs.Slot.{HoldsSlot, behind_first, IsDecidedSlot, HasSlot, IsSlotOf, IsSlot}
+use Rattle.wild_meaning.specs.Slot.{HoldsSlot, offset_from_first, HasSlotAddress, HasSlot, IsSlotOf, IsSlot}
 use Rattle.wild_references.proofs.Symbols.{IsResolvedBy, resolved}
-use Rattle.wild_references.proofs.Written.{given_some}
+use Rattle.wild_references.proofs.WrittenFields.{given_some}
 
 -- ---- what the writer knows
 
@@ -48,7 +48,7 @@ abbrev pub SlotsAgree : SlotSort → Layout → Type 0
 SlotsAgree sort l = (i at : ℕ) → slot_of l sort i ≡ Some at → IsSameSlot (slot_sort sort) l i at
 
 -- so far behind the first slot
-decided_slot : (sort : Slot) (l : Layout) (i at : ℕ) (r : Resolution) → HaveTheirFlags l → IsResolvedBy l i r → r.got_address ≡ Some at → IsDecidedSlot sort l i (at + behind_first sort r.flags)
+decided_slot : (sort : Slot) (l : Layout) (i at : ℕ) (r : Resolution) → HaveTheirFlags l → IsResolvedBy l i r → r.got_address ≡ Some at → HasSlotAddress sort l i (at + offset_from_first sort r.flags)
 decided_slot sort l i at r own d e =
     let flags : r.flags ≡ d.symbol.flags = holds_at HasItsFlags l.symbols (canonical l i) d.symbol d.listed own r d.decided in
     record {
@@ -60,14 +60,14 @@ decided_slot sort l i at r own d e =
       decided = d.decided;
       first = at;
       given = e;
-      place = ap (λ (f : ValueFlags). at + behind_first sort f) flags;
+      place = ap (λ (f : ValueFlags). at + offset_from_first sort f) flags;
     }
 
-word_same : (b : Bool) (base at : ℕ) → (base + behind_word b at) % 2 ^ 64 ≡ (base + (at + (if b then 8 else 0))) % 2 ^ 64
+word_same : (b : Bool) (base at : ℕ) → (base + after_word b at) % 2 ^ 64 ≡ (base + (at + (if b then 8 else 0))) % 2 ^ 64
 word_same true base at = omega arith
 word_same false base at = omega arith
 
-pair_same : (offset pair : Bool) (base at : ℕ) → (base + behind_pair pair (behind_word offset at)) % 2 ^ 64 ≡ (base + (at + ((if offset then 8 else 0) + (if pair then 16 else 0)))) % 2 ^ 64
+pair_same : (offset pair : Bool) (base at : ℕ) → (base + after_pair pair (after_word offset at)) % 2 ^ 64 ≡ (base + (at + ((if offset then 8 else 0) + (if pair then 16 else 0)))) % 2 ^ 64
 pair_same true true base at = omega arith
 pair_same true false base at = omega arith
 pair_same false true base at = omega arith
@@ -76,11 +76,11 @@ pair_same false false base at = omega arith
 pub address_slots : (l : Layout) → HaveTheirFlags l → SlotsAgree sorts.Address l
 address_slots l own = λ i slot h. by_slot sorts.Address l i slot (λ (n : ℕ). IsSameSlot AddressSlot l i n) h (λ r at d e among. by_flag i slot r at d e (has_thread_slot r.flags) among)
   where
-    by_flag : (i slot : ℕ) (r : Resolution) (at : ℕ) → IsResolvedBy l i r → r.got_address ≡ Some at → (b : Bool) → (if b then None else Some (behind_word (has_second_slot r.flags) at)) ≡ Some slot → IsSameSlot AddressSlot l i slot
+    by_flag : (i slot : ℕ) (r : Resolution) (at : ℕ) → IsResolvedBy l i r → r.got_address ≡ Some at → (b : Bool) → (if b then None else Some (after_word (has_second_slot r.flags) at)) ≡ Some slot → IsSameSlot AddressSlot l i slot
     by_flag i slot r at d e true h = cc
     by_flag i slot r at d e false h =
-        let is : behind_word (has_second_slot r.flags) at ≡ slot = cc in
-        subst (λ (n : ℕ). IsSameSlot AddressSlot l i n) is (record { slot = at + behind_first AddressSlot r.flags; given = decided_slot AddressSlot l i at r own d e; same = λ base. word_same (has_second_slot r.flags) base at })
+        let is : after_word (has_second_slot r.flags) at ≡ slot = cc in
+        subst (λ (n : ℕ). IsSameSlot AddressSlot l i n) is (record { slot = at + offset_from_first AddressSlot r.flags; given = decided_slot AddressSlot l i at r own d e; same = λ base. word_same (has_second_slot r.flags) base at })
 
 pub offset_slots : (l : Layout) → HaveTheirFlags l → SlotsAgree sorts.Offset l
 offset_slots l own = λ i slot h. by_slot sorts.Offset l i slot (λ (n : ℕ). IsSameSlot ThreadOffset l i n) h (λ r at d e among. by_flag i slot r at d e (has_flag r.flags got_tls_offset) among)
@@ -88,27 +88,27 @@ offset_slots l own = λ i slot h. by_slot sorts.Offset l i slot (λ (n : ℕ). I
     by_flag : (i slot : ℕ) (r : Resolution) (at : ℕ) → IsResolvedBy l i r → r.got_address ≡ Some at → (b : Bool) → (if b then Some at else None) ≡ Some slot → IsSameSlot ThreadOffset l i slot
     by_flag i slot r at d e true h =
         let is : at ≡ slot = cc in
-        subst (λ (n : ℕ). IsSameSlot ThreadOffset l i n) is (record { slot = at + behind_first ThreadOffset r.flags; given = decided_slot ThreadOffset l i at r own d e; same = λ base. word_same false base at })
+        subst (λ (n : ℕ). IsSameSlot ThreadOffset l i n) is (record { slot = at + offset_from_first ThreadOffset r.flags; given = decided_slot ThreadOffset l i at r own d e; same = λ base. word_same false base at })
     by_flag i slot r at d e false h = cc
 
 pub pair_slots : (l : Layout) → HaveTheirFlags l → SlotsAgree sorts.Pair l
 pair_slots l own = λ i slot h. by_slot sorts.Pair l i slot (λ (n : ℕ). IsSameSlot ModulePair l i n) h (λ r at d e among. by_flag i slot r at d e (has_flag r.flags got_tls_module) among)
   where
-    by_flag : (i slot : ℕ) (r : Resolution) (at : ℕ) → IsResolvedBy l i r → r.got_address ≡ Some at → (b : Bool) → (if b then Some (behind_word (has_flag r.flags got_tls_offset) at) else None) ≡ Some slot → IsSameSlot ModulePair l i slot
+    by_flag : (i slot : ℕ) (r : Resolution) (at : ℕ) → IsResolvedBy l i r → r.got_address ≡ Some at → (b : Bool) → (if b then Some (after_word (has_flag r.flags got_tls_offset) at) else None) ≡ Some slot → IsSameSlot ModulePair l i slot
     by_flag i slot r at d e true h =
-        let is : behind_word (has_flag r.flags got_tls_offset) at ≡ slot = cc in
-        subst (λ (n : ℕ). IsSameSlot ModulePair l i n) is (record { slot = at + behind_first ModulePair r.flags; given = decided_slot ModulePair l i at r own d e; same = λ base. word_same (has_flag r.flags got_tls_offset) base at })
+        let is : after_word (has_flag r.flags got_tls_offset) at ≡ slot = cc in
+        subst (λ (n : ℕ). IsSameSlot ModulePair l i n) is (record { slot = at + offset_from_first ModulePair r.flags; given = decided_slot ModulePair l i at r own d e; same = λ base. word_same (has_flag r.flags got_tls_offset) base at })
     by_flag i slot r at d e false h = cc
 
 pub descriptor_slots : (l : Layout) → HaveTheirFlags l → SlotsAgree sorts.Descriptor l
 descriptor_slots l own = λ i slot h. by_slot sorts.Descriptor l i slot (λ (n : ℕ). IsSameSlot Descriptor l i n) h (λ r at d e among. by_flag i slot r at d e (has_flag r.flags got_tls_descriptor) among)
   where
-    by_flag : (i slot : ℕ) (r : Resolution) (at : ℕ) → IsResolvedBy l i r → r.got_address ≡ Some at → (b : Bool) → (if b then Some (behind_pair (has_flag r.flags got_tls_module) (behind_word (has_flag r.flags got_tls_offset) at)) else None) ≡ Some slot → IsSameSlot Descriptor l i slot
+    by_flag : (i slot : ℕ) (r : Resolution) (at : ℕ) → IsResolvedBy l i r → r.got_address ≡ Some at → (b : Bool) → (if b then Some (after_pair (has_flag r.flags got_tls_module) (after_word (has_flag r.flags got_tls_offset) at)) else None) ≡ Some slot → IsSameSlot Descriptor l i slot
     by_flag i slot r at d e true h =
         let offset = has_flag r.flags got_tls_offset in
         let pair = has_flag r.flags got_tls_module in
-        let is : behind_pair pair (behind_word offset at) ≡ slot = cc in
-        subst (λ (n : ℕ). IsSameSlot Descriptor l i n) is (record { slot = at + behind_first Descriptor r.flags; given = decided_slot Descriptor l i at r own d e; same = λ base. pair_same offset pair base at })
+        let is : after_pair pair (after_word offset at) ≡ slot = cc in
+        subst (λ (n : ℕ). IsSameSlot Descriptor l i n) is (record { slot = at + offset_from_first Descriptor r.flags; given = decided_slot Descriptor l i at r own d e; same = λ base. pair_same offset pair base at })
     by_flag i slot r at d e false h = cc
 
 -- the pair of the output's own module is no symbol's

@@ -10,7 +10,7 @@ use Rattle.wild_reloc.specs.declared.instruction.AArch64Instruction.TheVariants.
 use Rattle.wild_relax.proofs.FieldsAArch64Lemmas.{fields_agree}
 use Rattle.wild_aarch64.specs.Machine.{page}
 use Rattle.wild_aarch64.specs.Stub as reader
-use Rattle.wild_aarch64.specs.Stub.{HasSlot, StandsAt}
+use Rattle.wild_aarch64.specs.Stub.{HasSlot, IsLocatedAt}
 use Rattle.wild_slot.specs.Stub.{stub_x86_64, displacement_x86_64}
 use Rattle.wild_slot.specs.StubAArch64 as writer
 use Rattle.wild_slot.specs.StubAArch64.{stub_aarch64}
@@ -20,7 +20,7 @@ use Rattle.wild_loader.specs.Memory.{Holds}
 use Rattle.wild_loader.specs.StepLawsX86_64.{IsSigned32, StubsOfValuesAreRead, stub_bytes}
 use Rattle.wild_loader.specs.StepLawsAArch64 as code
 use Rattle.wild_loader.specs.declared.world.World.{World}
-use Rattle.wild_loader.proofs.Mapped.{byte_below}
+use Rattle.wild_loader.proofs.MappedSegments.{byte_below}
 use Rattle.wild_meaning.specs.Slot.{HasWord}
 use Rattle.wild_loader.specs.Reach.{JumpsTo}
 use Rattle.wild_meaning.proofs.WorldLemmas.{word_below}
@@ -29,11 +29,11 @@ use Rattle.wild_types.specs.declared.kind.Machine.TheVariants as machine
 use Rattle.wild_types.specs.declared.symbol.Symbol.{Symbol}
 use Rattle.wild_types.specs.declared.layout.Layout.{Layout}
 use Rattle.wild_types.specs.SymbolSlots.{got_of}
-use Rattle.wild_clauses.specs.SlotPlaces.{is_even_slot, slot_is_even}
+use Rattle.wild_plan_rules.specs.SlotPlaces.{is_even_slot, slot_is_even}
 use Rattle.wild_slot.specs.MachineStub.{stub_of, stub_in}
 use Rattle.wild_slot.proofs.StubLemmas.{length-stub_of}
-use Rattle.wild_meaning.specs.Linked.{processor_of}
-use Rattle.wild_references.specs.Terms.{IsPaged, MovesByPages}
+use Rattle.wild_meaning.specs.LinkedImage.{processor_of}
+use Rattle.wild_references.specs.Terms.{HasPageBases, MovesByPages}
 
 -- what a stub does, of either machine
 pub record StubLaws : Type 0 where
@@ -94,7 +94,7 @@ reached_slot q p g e h even =
     record { from = subst (λ (i : ℕ). i ≤ g) e low; near = subst (λ (i : ℕ). g < i + 2 ^ 32) e high; aligned = even }
 
 -- the stub at base + stub, in reach of its slot at base + slot, jumps to the word there, behind a landing pad too
-words_jump : StubLaws → (m : Memory) (base slot stub x : ℕ) (bti : Bool) → m.machine ≡ machines.AArch64 → slot % 8 ≡ 0 → StandsAt base stub slot → (stub_aarch64 slot stub bti).reaches ≡ true → Holds m (base + stub) (stub_aarch64 slot stub bti).bytes → HasWord m (base + slot) x → JumpsTo m (base + stub) x
+words_jump : StubLaws → (m : Memory) (base slot stub x : ℕ) (bti : Bool) → m.machine ≡ machines.AArch64 → slot % 8 ≡ 0 → IsLocatedAt base stub slot → (stub_aarch64 slot stub bti).reaches ≡ true → Holds m (base + stub) (stub_aarch64 slot stub bti).bytes → HasWord m (base + slot) x → JumpsTo m (base + stub) x
 words_jump laws m base slot stub x false machine even at reaches held there =
     let k = slot - page stub in
     let bytes = subst (λ (ws : List ℕ). Holds m (base + stub) (writer.spelled (ws ++ (0xd503201f ∷ [])))) (jump_is k) held in
@@ -110,7 +110,7 @@ words_jump laws m base slot stub x true machine even at reaches held there =
 -- ---- either machine
 
 -- what an AArch64 output rests on besides
-pub paged_on : (l : Layout) (w : World) → MovesByPages l.machine l w → l.machine ≡ machine.AArch64 → IsPaged l w
+pub paged_on : (l : Layout) (w : World) → MovesByPages l.machine l w → l.machine ≡ machine.AArch64 → HasPageBases l w
 paged_on l w h on = subst (λ (k : Machine). MovesByPages k l w) on h
 
 -- where the slot of a symbol with a stub stands, as its machine asks

@@ -6,19 +6,19 @@ use Rattle.wild_slot.specs.declared.slot.SlotItem.{SlotItem}
 use Rattle.wild_types.specs.declared.symbol.Resolution.{Resolution}
 use Rattle.wild_types.specs.declared.symbol.ValueFlags.{ValueFlags}
 use Rattle.wild_types.specs.declared.layout.Layout.{Layout}
-use Rattle.wild_types.specs.Hollow.{KeepsAll}
+use Rattle.wild_types.specs.HeaderOnly.{KeepsAll}
 use Rattle.wild_types.specs.Lookups.{canonical}
 use Rattle.wild_slot.specs.Slots.{setting_of, stub_item, stub_items, ifunc_address_items, canonical_address_items}
-use Rattle.wild_slot.specs.MachineStub.{far_between, far_of, stub_in}
+use Rattle.wild_slot.specs.MachineStub.{far_between, distance_if_too_far, stub_in}
 use Rattle.wild_types.specs.SymbolSlots.{resolved_got, resolved_plt, plt_of, has_thread_slot}
-use Rattle.wild_clauses.proofs.ClauseLemmas.{not_thread}
+use Rattle.wild_plan_rules.proofs.ClauseLemmas.{not_thread}
 use Rattle.wild_layout.specs.SlotValues.{resolution_of, stub_of, stub_address}
 use Rattle.wild_loader.specs.declared.memory.Memory.{Memory}
 use Rattle.wild_loader.specs.declared.world.World.{World}
 use Rattle.wild_reloc.specs.Formula.{Value, StubDistance, Distance}
 use Rattle.wild_types.specs.declared.input.InputRelocation.{InputRelocation}
 use Rattle.wild_meaning.specs.Formula.{IsTarget}
-use Rattle.wild_meaning.specs.ReferentAArch64.{StandsOnAArch64}
+use Rattle.wild_meaning.specs.ReferentAArch64.{RepresentsOnAArch64}
 use Rattle.wild_meaning.specs.Value.{HasValue}
 use Rattle.wild_loader.specs.Reach.{JumpsTo, Reaches}
 use Rattle.wild_meaning.specs.Denotes.{Denotes, HasStub, IsStub}
@@ -28,7 +28,7 @@ use Rattle.wild_references.proofs.SlotContents.{ItemsHold}
 use Rattle.wild_references.proofs.SlotFlags.{symbol_fits, slot_of_stub}
 use Rattle.wild_references.proofs.StubCode.{StubLaws, has_places, stub_goes, stub_below}
 use Rattle.wild_references.proofs.Symbols.{IsResolvedBy, resolved}
-use Rattle.wild_references.proofs.Written.{given_some}
+use Rattle.wild_references.proofs.WrittenFields.{given_some}
 
 -- the stub of a symbol in memory, where all is written
 pub record StubStands (l : Layout) (w : World) (m : Memory) (i stub : ℕ) : Type 0 where
@@ -51,7 +51,7 @@ reach false d h = cc
 
 pub in_reach : (l : Layout) (w : World) (m : Memory) (at stub : ℕ) (r : Resolution) → r.got_address ≡ Some at → r.plt_address ≡ Some stub → ItemsHold w m (at + 8) (items_behind l r) → (stub_in l at stub).reaches ≡ true
 in_reach l w m at stub r e f behind =
-    let far = far_of l r in
+    let far = distance_if_too_far l r in
     let more = ifunc_address_items (setting_of l) r ++ canonical_address_items (setting_of l) r in
     let here = subst (λ (o : Option ℕ). ItemsHold w m (at + 8) (stub_items far o ++ more)) f behind in
     let none = near w m (at + 8) far more here in
@@ -119,10 +119,10 @@ goal_given law l w m symbol i term p all named given =
     subst (λ (o : Option ℕ). IsTarget l w m o ((w.base + term) % 2 ^ 64)) (sym named) goal
 
 -- and it is L to an AArch64 reader: a branch with the addend is at what stands for the symbol and that; and S in a distance
-pub goal_stands : StubLaws → (v : Value) (l : Layout) (w : World) (m : Memory) (r : InputRelocation) (i term : ℕ) → IsPlaced l w m → KeepsAll l → (v ≡ StubDistance) ⊎ (v ≡ Distance) → stub_address l (Some i) ≡ Ok term → StandsOnAArch64 v l w m r i ((w.base + term) % 2 ^ 64)
+pub goal_stands : StubLaws → (v : Value) (l : Layout) (w : World) (m : Memory) (r : InputRelocation) (i term : ℕ) → IsPlaced l w m → KeepsAll l → (v ≡ StubDistance) ⊎ (v ≡ Distance) → stub_address l (Some i) ≡ Ok term → RepresentsOnAArch64 v l w m r i ((w.base + term) % 2 ^ 64)
 goal_stands law v l w m r i term p all which given =
     let there : Denotes l w m i ((w.base + term) % 2 ^ 64) = inr (stub_is l w m i term (stub_stands law l w m i term p all (given_some missing.Stub i (stub_of l i) term given))) in
-    let P : Value → Type 0 = λ q. StandsOnAArch64 q l w m r i ((w.base + term) % 2 ^ 64) in
+    let P : Value → Type 0 = λ q. RepresentsOnAArch64 q l w m r i ((w.base + term) % 2 ^ 64) in
     elim which [
       | inl e ↦ subst P (sym e) (record { symbol = (w.base + term) % 2 ^ 64; denoted = there; comes = inl refl })
       | inr e ↦ subst P (sym e) there

@@ -5,52 +5,52 @@ use Rattle.std.proofs.lemmas.Bool.{cases_Bool}
 use Rattle.wild_types.specs.declared.fault.Missing.TheVariants as missing
 use Rattle.wild_types.specs.declared.symbol.ValueFlags.{ValueFlags}
 use Rattle.wild_types.specs.declared.layout.Layout.{Layout}
-use Rattle.wild_types.specs.Hollow.{KeepsAll}
+use Rattle.wild_types.specs.HeaderOnly.{KeepsAll}
 use Rattle.wild_types.specs.Flags.{has_flag, absolute, ifunc}
 use Rattle.wild_slot.specs.Treatment.{flags_at}
 use Rattle.wild_layout.specs.SymbolValues.{raw_address}
-use Rattle.wild_layout.specs.SlotValues.{is_chosen, address_of, stub_of}
+use Rattle.wild_layout.specs.SlotValues.{symbol_is_ifunc, address_of, stub_of}
 use Rattle.wild_loader.specs.declared.memory.Memory.{Memory}
 use Rattle.wild_loader.specs.declared.world.World.{World}
 use Rattle.wild_meaning.specs.Formula.{IsTarget}
-use Rattle.wild_meaning.specs.Reference.{IsStubbed}
-use Rattle.wild_meaning.specs.Value.{HasRaw, HasFlag, HasOwnValue, HasValue, IsAbsolute, IsReplaceable, moved}
+use Rattle.wild_meaning.specs.Reference.{HasStubAddress}
+use Rattle.wild_meaning.specs.Value.{HasRaw, HasFlag, HasOwnValue, HasValue, IsAbsolute, IsReplaceable, with_base}
 use Rattle.wild_meaning.specs.Denotes.{Denotes, HasStub}
 use Rattle.wild_meaning.specs.ReferentAArch64.{IsOneAddress}
 use Rattle.wild_geometry.proofs.JudgedLemmas.{flag_is}
 use Rattle.wild_references.specs.Terms.{IsPlaced}
 use Rattle.wild_references.proofs.SlotFlags.{symbol_fits, resolver_not_absolute, listed_at}
 use Rattle.wild_references.proofs.Symbols.{definition_listed, flags_are}
-use Rattle.wild_references.proofs.Stubbed.{raw_is, stub_given, one_stub, stubbed_or_not}
+use Rattle.wild_references.proofs.StubAddresses.{raw_is, stub_given, one_stub, stubbed_or_not}
 use Rattle.wild_references.proofs.SymbolStubs.{stub_there, stub_stands, stub_is}
 use Rattle.wild_references.proofs.Values.{has_raw}
-use Rattle.wild_references.proofs.Written.{address_given, given_some}
+use Rattle.wild_references.proofs.WrittenFields.{address_given, given_some}
 use Rattle.wild_references.proofs.StubCode.{StubLaws}
 
 -- an address in the world: the layout's own, or that moved with the base
 pub record IsAddressed (l : Layout) (w : World) (m : Memory) (symbol : Option ℕ) (a : ℕ) : Type 0 where
   pub still : Bool
-  pub denoted : IsTarget l w m symbol (moved still w.base a)
+  pub denoted : IsTarget l w m symbol (with_base still w.base a)
   pub flag : (i : ℕ) → symbol ≡ Some i → has_flag (flags_at l i) absolute ≡ still
   pub absolute : (i : ℕ) → symbol ≡ Some i → still ≡ true → IsAbsolute l i
 
 -- whichever module has the symbol, this output's address is right for it: the symbol is its own, or the address is its stub's
 abbrev pub Follows : Layout → ℕ → Type 0
-Follows l i = IsReplaceable l i false ⊎ IsStubbed l i
+Follows l i = IsReplaceable l i false ⊎ HasStubAddress l i
 
 -- its stub is written, or the address is no stub's
 abbrev pub Stands : Layout → ℕ → Type 0
-Stands l i = KeepsAll l ⊎ (IsStubbed l i → ⊥)
+Stands l i = KeepsAll l ⊎ (HasStubAddress l i → ⊥)
 
 -- the own symbol's value
 pub record IsOwnAddressed (l : Layout) (w : World) (i a : ℕ) : Type 0 where
   pub still : Bool
-  pub value : HasOwnValue l w i (moved still w.base a)
+  pub value : HasOwnValue l w i (with_base still w.base a)
   pub flag : has_flag (flags_at l i) absolute ≡ still
   pub absolute : still ≡ true → IsAbsolute l i
 
 -- the symbol's own address
-pub raw_addressed : (l : Layout) (w : World) (m : Memory) (i a : ℕ) → IsPlaced l w m → is_chosen l i ≡ false → raw_address l (Some i) ≡ Ok a → IsOwnAddressed l w i a
+pub raw_addressed : (l : Layout) (w : World) (m : Memory) (i a : ℕ) → IsPlaced l w m → symbol_is_ifunc l i ≡ false → raw_address l (Some i) ≡ Ok a → IsOwnAddressed l w i a
 raw_addressed l w m i a p chosen h =
     let raw = has_raw l i a (address_given l (Some i) a h) in
     let d = definition_listed l i raw.definition p.symbols.named raw.defined in
@@ -91,7 +91,7 @@ stub_moves law l w m i a p all moves h = record {
 }
 
 -- where a resolver chooses the function
-chosen_moves : (l : Layout) (w : World) (m : Memory) (i a : ℕ) → IsPlaced l w m → is_chosen l i ≡ true → stub_of l i ≡ Some a → HasStub l i a × (has_flag (flags_at l i) absolute ≡ false)
+chosen_moves : (l : Layout) (w : World) (m : Memory) (i a : ℕ) → IsPlaced l w m → symbol_is_ifunc l i ≡ true → stub_of l i ≡ Some a → HasStub l i a × (has_flag (flags_at l i) absolute ≡ false)
 chosen_moves l w m i a p chosen h =
     let given = stub_there l i a h in
     let s = given.symbol in
@@ -101,7 +101,7 @@ chosen_moves l w m i a p chosen h =
     (given, ap (λ (f : ValueFlags). has_flag f absolute) flags ∙ moves)
 
 -- whose address is the stub's
-pub chosen_stubbed : (l : Layout) (w : World) (m : Memory) (i a : ℕ) → IsPlaced l w m → is_chosen l i ≡ true → stub_of l i ≡ Some a → IsStubbed l i
+pub chosen_stubbed : (l : Layout) (w : World) (m : Memory) (i a : ℕ) → IsPlaced l w m → symbol_is_ifunc l i ≡ true → stub_of l i ≡ Some a → HasStubAddress l i
 chosen_stubbed l w m i a p chosen h =
     let c = chosen_moves l w m i a p chosen h in
     let g = c.0 in
@@ -113,7 +113,7 @@ chosen_stubbed l w m i a p chosen h =
     }
 
 -- the address that was decided of a symbol whose stub stands for it
-stubbed_address : (l : Layout) (i a : ℕ) → is_chosen l i ≡ false → raw_address l (Some i) ≡ Ok a → IsStubbed l i → stub_of l i ≡ Some a
+stubbed_address : (l : Layout) (i a : ℕ) → symbol_is_ifunc l i ≡ false → raw_address l (Some i) ≡ Ok a → HasStubAddress l i → stub_of l i ≡ Some a
 stubbed_address l i a plain h st = by_case st.stands
   where
     by_case : HasFlag l i ifunc true ⊎ HasRaw l i st.stub → stub_of l i ≡ Some a
@@ -126,46 +126,46 @@ stubbed_address l i a plain h st = by_case st.stands
 
 followed_by : StubLaws → (l : Layout) (w : World) (m : Memory) (i a : ℕ) → IsPlaced l w m → Stands l i → Follows l i → address_of l (Some i) ≡ Ok a → IsAddressed l w m (Some i) a
 followed_by law l w m i a p stands f h =
-    elim (cases_Bool (is_chosen l i)) [
+    elim (cases_Bool (symbol_is_ifunc l i)) [
       | inl t ↦ (let there = given_some missing.Stub i (stub_of l i) a (rw t at h) in by_stub stands (chosen_moves l w m i a p t there).1 there (chosen_stubbed l w m i a p t there))
       | inr n ↦ plain n f (rw n at h)
     ]
   where
-    by_stub : Stands l i → has_flag (flags_at l i) absolute ≡ false → stub_of l i ≡ Some a → IsStubbed l i → IsAddressed l w m (Some i) a
+    by_stub : Stands l i → has_flag (flags_at l i) absolute ≡ false → stub_of l i ≡ Some a → HasStubAddress l i → IsAddressed l w m (Some i) a
     by_stub (inl all) moves there st = stub_moves law l w m i a p all moves there
     by_stub (inr none) moves there st = absurd (none st)
 
-    plain : is_chosen l i ≡ false → Follows l i → raw_address l (Some i) ≡ Ok a → IsAddressed l w m (Some i) a
+    plain : symbol_is_ifunc l i ≡ false → Follows l i → raw_address l (Some i) ≡ Ok a → IsAddressed l w m (Some i) a
     plain n (inl own) h = own_addressed l w m i a own (raw_addressed l w m i a p n h)
     plain n (inr st) h = by_stub stands (flag_is l i absolute false st.moves) (stubbed_address l i a n h st) st
 
 -- it is the one address that stands for the symbol
-pub one_addressed : (l : Layout) (w : World) (m : Memory) (i a : ℕ) (still : Bool) → IsPlaced l w m → Follows l i → address_of l (Some i) ≡ Ok a → has_flag (flags_at l i) absolute ≡ still → Denotes l w m i (moved still w.base a) → IsOneAddress l w m i (moved still w.base a)
+pub one_addressed : (l : Layout) (w : World) (m : Memory) (i a : ℕ) (still : Bool) → IsPlaced l w m → Follows l i → address_of l (Some i) ≡ Ok a → has_flag (flags_at l i) absolute ≡ still → Denotes l w m i (with_base still w.base a) → IsOneAddress l w m i (with_base still w.base a)
 one_addressed l w m i a still p f h flag denoted = by_stub (stubbed_or_not l i)
   where
-    given : IsStubbed l i → stub_of l i ≡ Some a
+    given : HasStubAddress l i → stub_of l i ≡ Some a
     given st =
-        elim (cases_Bool (is_chosen l i)) [
+        elim (cases_Bool (symbol_is_ifunc l i)) [
           | inl t ↦ given_some missing.Stub i (stub_of l i) a (rw t at h)
           | inr n ↦ stubbed_address l i a n (rw n at h) st
         ]
 
-    value : (IsStubbed l i → ⊥) → Follows l i → HasValue l w i (moved still w.base a)
+    value : (HasStubAddress l i → ⊥) → Follows l i → HasValue l w i (with_base still w.base a)
     value none (inr st) = absurd (none st)
     value none (inl own) =
-        elim (cases_Bool (is_chosen l i)) [
+        elim (cases_Bool (symbol_is_ifunc l i)) [
           | inl t ↦ absurd (none (chosen_stubbed l w m i a p t (given_some missing.Stub i (stub_of l i) a (rw t at h))))
           | inr n ↦
               (let o = raw_addressed l w m i a p n (rw n at h) in
               let same : o.still ≡ still = sym o.flag ∙ flag in
-              subst (λ (b : Bool). HasValue l w i (moved b w.base a)) same (inr (own, o.value)))
+              subst (λ (b : Bool). HasValue l w i (with_base b w.base a)) same (inr (own, o.value)))
         ]
 
-    by_stub : IsStubbed l i ⊎ (IsStubbed l i → ⊥) → IsOneAddress l w m i (moved still w.base a)
+    by_stub : HasStubAddress l i ⊎ (HasStubAddress l i → ⊥) → IsOneAddress l w m i (with_base still w.base a)
     by_stub (inl st) =
         let same = one_stub l i a (given st) st in
         let moves : still ≡ false = sym flag ∙ flag_is l i absolute false st.moves in
-        let at : moved still w.base a ≡ (w.base + a) % 2 ^ 64 = ap (λ (b : Bool). moved b w.base a) moves in
+        let at : with_base still w.base a ≡ (w.base + a) % 2 ^ 64 = ap (λ (b : Bool). with_base b w.base a) moves in
         inl (st.stub, record { stub = st.there; stands = st.stands; moves = st.moves }, at ∙ ap (λ (n : ℕ). (w.base + n) % 2 ^ 64) same, denoted)
     by_stub (inr none) = inr (λ q s. none (record { stub = q; there = s.stub; stands = s.stands; moves = s.moves }), value none f)
 
@@ -174,9 +174,9 @@ addressed law l w m None a p stands f h = record { still = true; denoted = addre
 addressed law l w m (Some i) a p stands f h = followed_by law l w m i a p (stands i refl) (f i refl) h
 
 -- of a symbol without such a stub it is the own symbol's
-pub linked : (l : Layout) (w : World) (m : Memory) (i a : ℕ) → IsPlaced l w m → (IsStubbed l i → ⊥) → address_of l (Some i) ≡ Ok a → IsOwnAddressed l w i a
+pub linked : (l : Layout) (w : World) (m : Memory) (i a : ℕ) → IsPlaced l w m → (HasStubAddress l i → ⊥) → address_of l (Some i) ≡ Ok a → IsOwnAddressed l w i a
 linked l w m i a p alone h =
-    elim (cases_Bool (is_chosen l i)) [
+    elim (cases_Bool (symbol_is_ifunc l i)) [
       | inl t ↦ absurd (alone (chosen_stubbed l w m i a p t (given_some missing.Stub i (stub_of l i) a (rw t at h))))
       | inr n ↦ raw_addressed l w m i a p n (rw n at h)
     ]

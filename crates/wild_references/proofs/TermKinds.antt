@@ -6,18 +6,18 @@ use Rattle.wild_types.specs.declared.kind.Machine.{Machine}
 use Rattle.wild_types.specs.declared.kind.Machine.TheVariants as machine
 use Rattle.wild_types.specs.declared.input.InputRelocation.{InputRelocation}
 use Rattle.wild_types.specs.declared.layout.Layout.{Layout}
-use Rattle.wild_types.specs.Hollow.{KeepsAll}
+use Rattle.wild_types.specs.HeaderOnly.{KeepsAll}
 use Rattle.wild_types.specs.Lookups.{place_of}
 use Rattle.wild_slot.specs.declared.treatment.Treatment.TheVariants as treatments
-use Rattle.wild_slot.specs.Treatment.{named, kind_treatment, is_slot, suits}
+use Rattle.wild_slot.specs.Treatment.{named, kind_treatment, is_slot, row_accepts}
 use Rattle.wild_reloc.specs.Agreement as shape
-use Rattle.wild_reloc.specs.Expression.{expression_of, paged, taken_of, expressed, slot_sort, writes}
+use Rattle.wild_reloc.specs.Expression.{expression_of, paged, subtrahend_of, expressed, slot_sort, writes}
 use Rattle.wild_reloc.specs.Formula.{Value, Distance, StubDistance, StubFromTable, SlotAddress, SlotDistance, SlotPageDistance, SlotFromTable, SlotFromTablePage}
 use Rattle.wild_reloc.specs.declared.expression.Class.TheVariants as class
 use Rattle.wild_reloc.specs.declared.expression.SlotSort.{SlotSort}
 use Rattle.wild_reloc.specs.declared.expression.SlotSort.TheVariants as sorts
-use Rattle.wild_reloc.specs.declared.expression.Taken.{Taken}
-use Rattle.wild_reloc.specs.declared.expression.Taken.TheVariants as taken
+use Rattle.wild_reloc.specs.declared.expression.Subtrahend.{Subtrahend}
+use Rattle.wild_reloc.specs.declared.expression.Subtrahend.TheVariants as taken
 use Rattle.wild_reloc.specs.declared.expression.Term.{Term}
 use Rattle.wild_reloc.specs.declared.expression.Term.TheVariants as term
 use Rattle.wild_reloc.specs.declared.info.PageMask.{PageMask}
@@ -33,10 +33,10 @@ use Rattle.wild_types.specs.Item.{Item}
 use Rattle.wild_meaning.specs.Item.{place_at}
 use Rattle.wild_meaning.specs.Formula.{page_of, IsReferent, IsPlaceRelative, HasOffsetMode, Gives, GivesLinked, TakesAddress, TakesOffset, TakesString}
 use Rattle.wild_meaning.specs.Slot.{IsSlot}
-use Rattle.wild_meaning.specs.Reference.{IsStubbed}
+use Rattle.wild_meaning.specs.Reference.{HasStubAddress}
 use Rattle.wild_references.specs.Terms.{IsPlaced, is_expressed, value_by_row, IsDirect, HasTerm, IsFollowed}
-use Rattle.wild_references.specs.Laws.{RowGives, RowGivesLinked, TermGives, TermGivesLinked, StubsStand, SlotsGive, GivesPart, PartsGive, PartsGiveLinked}
-use Rattle.wild_references.proofs.AddressSlots.{slots_stand}
+use Rattle.wild_references.specs.Laws.{RowGives, RowGivesLinked, TermGives, TermGivesLinked, StubsRepresentSymbols, SlotsGive, GivesPart, PartsGive, PartsGiveLinked}
+use Rattle.wild_references.proofs.AddressSlots.{slots_are_placed}
 use Rattle.wild_references.proofs.DescriptorSlots.{descriptors_stand}
 use Rattle.wild_references.proofs.Referents.{no_mask, with_mask, of_table, sized_is, absent, present, own_parts, not_own, named_absent, own_at, own_referent, referent}
 use Rattle.wild_references.proofs.Relatives.{less_place, less_table}
@@ -45,7 +45,7 @@ use Rattle.wild_references.proofs.StubCode.{StubLaws, paged_on}
 use Rattle.wild_references.proofs.SymbolStubs.{goal_given, goal_stands}
 use Rattle.wild_references.proofs.ThreadKinds.{gives_pointer, links_pointer, gives_offset, links_offset}
 use Rattle.wild_references.proofs.ThreadPlaces.{offsets_stand, pairs_stand, own_pair_stands}
-use Rattle.wild_references.proofs.Treated.{symbol_named}
+use Rattle.wild_references.proofs.MovingSymbols.{symbol_named}
 use Rattle.wild_references.proofs.ValueKinds.{more, value_is, taken_is, plain_term, gives_sum, gives_part, gives_distance, gives_from_table, links_address, links_distance, links_from_table, gives_table, gives_size}
 use Rattle.wild_meaning.specs.Value.{IsReplaceable}
 
@@ -77,7 +77,7 @@ symbols_link = λ info e v. by_kind info e (symbol_kind info.kind e v)
 -- ---- L
 
 -- L, as the writer has it, or the place itself
-stub_refers : StubLaws → (v : Value) (l : Layout) (w : World) (m : Memory) (s : Item) (r : InputRelocation) (info : RelocationKindInfo) (x : ℕ) → (h : HasTerm l w m s r info x) → (expression_of info.kind).term ≡ term.Stub → named r.symbol (λ i. treatments.Value h.row) ≡ treatments.Value h.row → ((v ≡ StubDistance) ⊎ (v ≡ Distance)) ⊎ (l.machine ≡ machine.X86_64) → (l.machine ≡ machine.AArch64 → is_place (taken_of info.kind info.mask) ≡ true) → (TakesString v l r → ⊥) → IsReferent l.machine v l w m s r ((w.base + h.term) % 2 ^ 64)
+stub_refers : StubLaws → (v : Value) (l : Layout) (w : World) (m : Memory) (s : Item) (r : InputRelocation) (info : RelocationKindInfo) (x : ℕ) → (h : HasTerm l w m s r info x) → (expression_of info.kind).term ≡ term.Stub → named r.symbol (λ i. treatments.Value h.row) ≡ treatments.Value h.row → ((v ≡ StubDistance) ⊎ (v ≡ Distance)) ⊎ (l.machine ≡ machine.X86_64) → (l.machine ≡ machine.AArch64 → is_place (subtrahend_of info.kind info.mask) ≡ true) → (TakesString v l r → ⊥) → IsReferent l.machine v l w m s r ((w.base + h.term) % 2 ^ 64)
 stub_refers law v l w m s r info x h stub treated which place none = by_own (is_own_place l.machine l r info) refl h.given
   where
     distance : l.machine ≡ machine.AArch64 → ((v ≡ StubDistance) ⊎ (v ≡ Distance)) ⊎ (l.machine ≡ machine.X86_64) → (v ≡ StubDistance) ⊎ (v ≡ Distance)
@@ -124,9 +124,9 @@ record IsStubDistance (v : Value) (l : Layout) (w : World) (m : Memory) (s : Ite
 stub_distance_is : StubLaws → (v : Value) → (v ≡ StubDistance) ⊎ (v ≡ Distance) → (info : RelocationKindInfo) → info.kind ≡ kinds.PltRelative → (l : Layout) (w : World) (m : Memory) (s : Item) (r : InputRelocation) (x : ℕ) → HasTerm l w m s r info x → (TakesString v l r → ⊥) → IsStubDistance v l w m s r info x
 stub_distance_is law v which info kind l w m s r x h none =
     let mask = no_mask l.machine term.Stub taken.Place info.mask (subst (λ (k : RelocationKind). is_expressed l.machine (expression_of k).term (expression_of k).taken info.mask ≡ true) kind h.expressed) refl in
-    let less : taken_of info.kind info.mask ≡ taken.Place = taken_is info kinds.PltRelative None kind mask in
+    let less : subtrahend_of info.kind info.mask ≡ taken.Place = taken_is info kinds.PltRelative None kind mask in
     let treated = subst (λ (k : RelocationKind). kind_treatment l s.flags h.number r.symbol h.row k ≡ treatments.Value h.row) kind h.treated in
-    let value = subst (λ (u : Taken). value_less l u h.term r.addend (place_of s.address r) ≡ x) less h.value in
+    let value = subst (λ (u : Subtrahend). value_less l u h.term r.addend (place_of s.address r) ≡ x) less h.value in
     record {
       is = value_is info kinds.PltRelative None kind mask ∙ sized_is info.size StubDistance refl;
       symbol = (w.base + h.term) % 2 ^ 64;
@@ -142,7 +142,7 @@ stub_distance law info kind = λ l w m s r x h f.
 flat : (x c q : ℕ) → (x + c + q) % 2 ^ 64 ≡ ((x + c) % 2 ^ 64 + q) % 2 ^ 64
 flat x c q = omega arith
 
-pub stubs_stand : StubLaws → StubsStand
+pub stubs_stand : StubLaws → StubsRepresentSymbols
 stubs_stand law info kind l w m s r x on none h =
     let d = stub_distance_is law Distance (inr refl) info kind l w m s r x h (λ t. none t.1) in
     ((d.symbol + more r) % 2 ^ 64, record { symbol = d.symbol; denoted = d.referent; sum = refl }, d.value ∙ flat d.symbol (more r) (2 ^ 64 - place_at w s r.offset))
@@ -153,10 +153,10 @@ stub_offset law info kind = λ l w m s r x h f.
     let mask = no_mask l.machine term.Stub taken.Table info.mask expressed refl in
     let x86 = of_table l.machine term.Stub (subst (λ (o : Option PageMask). is_expressed l.machine term.Stub taken.Table o ≡ true) mask expressed) in
     let is : value_by_row info ≡ StubFromTable = value_is info kinds.PltRelGotBase None kind mask ∙ sized_is info.size StubFromTable refl in
-    let less : taken_of info.kind info.mask ≡ taken.Table = taken_is info kinds.PltRelGotBase None kind mask in
+    let less : subtrahend_of info.kind info.mask ≡ taken.Table = taken_is info kinds.PltRelGotBase None kind mask in
     let treated = subst (λ (k : RelocationKind). kind_treatment l s.flags h.number r.symbol h.row k ≡ treatments.Value h.row) kind h.treated in
     let a = stub_refers law StubFromTable l w m s r info x h (ap (λ (k : RelocationKind). (expression_of k).term) kind) treated (inr x86) (λ on. (let e : machine.AArch64 ≡ machine.X86_64 = sym on ∙ x86 in cc)) (λ t. t.0) in
-    let value = subst (λ (u : Taken). value_less l u h.term r.addend (place_of s.address r) ≡ x) less h.value in
+    let value = subst (λ (u : Subtrahend). value_less l u h.term r.addend (place_of s.address r) ≡ x) less h.value in
     subst (λ (v : Value). Gives v l w m s r x) (sym is) ((w.base + h.term) % 2 ^ 64, a, less_table l w m s r info x h value)
 
 pub stubs_give : StubLaws → TermGives term.Stub
@@ -177,7 +177,7 @@ slots_agree sorts.Offset l w m p = offset_slots l p.symbols.own
 slots_agree sorts.Descriptor l w m p = descriptor_slots l p.symbols.own
 
 all_stand : StubLaws → (sort : SlotSort) (l : Layout) (w : World) (m : Memory) → IsPlaced l w m → KeepsAll l → SlotsStand sort l w m
-all_stand law sorts.Address l w m p all = slots_stand law l w m p all
+all_stand law sorts.Address l w m p all = slots_are_placed law l w m p all
 all_stand law sorts.Pair l w m p all = pairs_stand l w m p all
 all_stand law sorts.OwnPair l w m p all = own_pair_stands l w m p all
 all_stand law sorts.Offset l w m p all = offsets_stand l w m p all
@@ -212,7 +212,7 @@ slot_here law sort l w m s r info x h e =
     slot_given sort l w m r.symbol i.0 h.term (slots_agree sort l w m h.placed) (all_stand law sort l w m h.placed all) i.1 (subst (λ (t : Term). term_value l r.symbol t ≡ Ok h.term) e plain)
 
 -- on AArch64 nothing is added to it
-adds_nothing : (k : Machine) (r : InputRelocation) (info : RelocationKindInfo) (sort : SlotSort) → k ≡ machine.AArch64 → suits k r info ≡ true → (expression_of info.kind).term ≡ term.Slot sort → more r ≡ 0
+adds_nothing : (k : Machine) (r : InputRelocation) (info : RelocationKindInfo) (sort : SlotSort) → k ≡ machine.AArch64 → row_accepts k r info ≡ true → (expression_of info.kind).term ≡ term.Slot sort → more r ≡ 0
 adds_nothing machine.X86_64 r info sort on h e = cc
 adds_nothing machine.AArch64 r info sort on h e =
     let a = (and_parts (more r == 0 || not (is_slot (expression_of info.kind).term)) (not (is_none r.symbol && not (is_none info.mask))) h).0 in
@@ -251,11 +251,11 @@ table_pages : (base a c g : ℕ) → base % 4096 ≡ 0 → c ≡ 0 → g < 2 ^ 6
 table_pages base a c g pages none low = omega (arith, pages, none, low)
 
 -- what is taken, and the value of a slot's row
-slot_less : (info : RelocationKindInfo) (u : Taken) (mask : Option PageMask) → (expression_of info.kind).taken ≡ u → info.mask ≡ mask → taken_of info.kind info.mask ≡ paged mask u
-slot_less info u mask f g = ap (λ (y : Taken). paged info.mask y) f ∙ ap (λ (o : Option PageMask). paged o u) g
+slot_less : (info : RelocationKindInfo) (u : Subtrahend) (mask : Option PageMask) → (expression_of info.kind).taken ≡ u → info.mask ≡ mask → subtrahend_of info.kind info.mask ≡ paged mask u
+slot_less info u mask f g = ap (λ (y : Subtrahend). paged info.mask y) f ∙ ap (λ (o : Option PageMask). paged o u) g
 
-slot_value : (sort : SlotSort) (info : RelocationKindInfo) (u : Taken) (mask : Option PageMask) → (expression_of info.kind).term ≡ term.Slot sort → (expression_of info.kind).taken ≡ u → info.mask ≡ mask → value_by_row info ≡ shape.sized info.size (expressed (term.Slot sort) (paged mask u))
-slot_value sort info u mask e f g = ap (λ (t : Term). shape.sized info.size (expressed t (taken_of info.kind info.mask))) e ∙ ap (λ (y : Taken). shape.sized info.size (expressed (term.Slot sort) y)) (slot_less info u mask f g)
+slot_value : (sort : SlotSort) (info : RelocationKindInfo) (u : Subtrahend) (mask : Option PageMask) → (expression_of info.kind).term ≡ term.Slot sort → (expression_of info.kind).taken ≡ u → info.mask ≡ mask → value_by_row info ≡ shape.sized info.size (expressed (term.Slot sort) (paged mask u))
+slot_value sort info u mask e f g = ap (λ (t : Term). shape.sized info.size (expressed t (subtrahend_of info.kind info.mask))) e ∙ ap (λ (y : Subtrahend). shape.sized info.size (expressed (term.Slot sort) y)) (slot_less info u mask f g)
 
 -- what is said of it
 abbrev SlotGives : SlotSort → RelocationKindInfo → Type 0
@@ -265,21 +265,21 @@ place_given : StubLaws → (sort : SlotSort) (info : RelocationKindInfo) → (ex
 place_given law sort info e f = λ l w m s r x h none. by_mask law sort info e f l w m s r x h none info.mask refl (here sort info e f l.machine h.expressed)
   where
     here : (sort : SlotSort) (info : RelocationKindInfo) → (expression_of info.kind).term ≡ term.Slot sort → (expression_of info.kind).taken ≡ taken.Place → (k : Machine) → is_expressed k (expression_of info.kind).term (expression_of info.kind).taken info.mask ≡ true → is_expressed k (term.Slot sort) taken.Place info.mask ≡ true
-    here sort info e f k h = subst (λ (t : Term). is_expressed k t taken.Place info.mask ≡ true) e (subst (λ (u : Taken). is_expressed k (expression_of info.kind).term u info.mask ≡ true) f h)
+    here sort info e f k h = subst (λ (t : Term). is_expressed k t taken.Place info.mask ≡ true) e (subst (λ (u : Subtrahend). is_expressed k (expression_of info.kind).term u info.mask ≡ true) f h)
 
     by_mask : StubLaws → (sort : SlotSort) (info : RelocationKindInfo) → (expression_of info.kind).term ≡ term.Slot sort → (expression_of info.kind).taken ≡ taken.Place → (l : Layout) (w : World) (m : Memory) (s : Item) (r : InputRelocation) (x : ℕ) → (h : HasTerm l w m s r info x) → (sort ≡ sorts.Descriptor → HasOffsetMode l s → ⊥) → (o : Option PageMask) → info.mask ≡ o → is_expressed l.machine (term.Slot sort) taken.Place o ≡ true → Gives (value_by_row info) l w m s r x
     by_mask law sort info e f l w m s r x h none None mask fit =
         let is = slot_value sort info taken.Place None e f mask ∙ sized_is info.size (SlotDistance (slot_sort sort)) refl in
-        let value = subst (λ (u : Taken). value_less l u h.term r.addend (place_of s.address r) ≡ x) (slot_less info taken.Place None f mask) h.value in
+        let value = subst (λ (u : Subtrahend). value_less l u h.term r.addend (place_of s.address r) ≡ x) (slot_less info taken.Place None f mask) h.value in
         subst (λ (v : Value). Gives v l w m s r x) (sym is) (gives_slot_distance sort l w m s r x ((w.base + h.term) % 2 ^ 64) (slot_here law sort l w m s r info x h e) none (less_place l w m s r info x h value))
     by_mask law sort info e f l w m s r x h none (Some masks.GotEntryAndPosition) mask fit =
         let on = (with_mask l.machine (term.Slot sort) taken.Place masks.GotEntryAndPosition fit).0 in
         let is = slot_value sort info taken.Place (Some masks.GotEntryAndPosition) e f mask ∙ sized_is info.size (SlotPageDistance (slot_sort sort)) refl in
-        let value = subst (λ (u : Taken). value_less l u h.term r.addend (place_of s.address r) ≡ x) (slot_less info taken.Place (Some masks.GotEntryAndPosition) f mask) h.value in
+        let value = subst (λ (u : Subtrahend). value_less l u h.term r.addend (place_of s.address r) ≡ x) (slot_less info taken.Place (Some masks.GotEntryAndPosition) f mask) h.value in
         let g = (w.base + h.term) % 2 ^ 64 in
-        let pages = slot_pages w.base h.term (more r) (place_of s.address r) (paged_on l w h.placed.paged on).pages (adds_nothing l.machine r info sort on h.suited e) h.ends in
+        let pages = slot_pages w.base h.term (more r) (place_of s.address r) (paged_on l w h.placed.paged on).pages (adds_nothing l.machine r info sort on h.row_that_accepts e) h.ends in
         let at = ap (λ (p : ℕ). (page_of g + (2 ^ 64 - page_of p)) % 2 ^ 64) (sym h.place) in
-        subst (λ (v : Value). Gives v l w m s r x) (sym is) (g, (slot_here law sort l w m s r info x h e, adds_nothing l.machine r info sort on h.suited e), sym value ∙ pages ∙ at)
+        subst (λ (v : Value). Gives v l w m s r x) (sym is) (g, (slot_here law sort l w m s r info x h e, adds_nothing l.machine r info sort on h.row_that_accepts e), sym value ∙ pages ∙ at)
     by_mask law sort info e f l w m s r x h none (Some masks.SymbolPlusAddendAndPosition) mask fit = (let no = (with_mask l.machine (term.Slot sort) taken.Place masks.SymbolPlusAddendAndPosition fit).1 in cc)
     by_mask law sort info e f l w m s r x h none (Some masks.GotBase) mask fit = (let no = (with_mask l.machine (term.Slot sort) taken.Place masks.GotBase fit).1 in cc)
 
@@ -287,19 +287,19 @@ table_given : StubLaws → (info : RelocationKindInfo) → (expression_of info.k
 table_given law info e f = λ l w m s r x h none. by_mask law info e f l w m s r x h info.mask refl (here info e f l.machine h.expressed)
   where
     here : (info : RelocationKindInfo) → (expression_of info.kind).term ≡ term.Slot sorts.Address → (expression_of info.kind).taken ≡ taken.Table → (k : Machine) → is_expressed k (expression_of info.kind).term (expression_of info.kind).taken info.mask ≡ true → is_expressed k (term.Slot sorts.Address) taken.Table info.mask ≡ true
-    here info e f k h = subst (λ (t : Term). is_expressed k t taken.Table info.mask ≡ true) e (subst (λ (u : Taken). is_expressed k (expression_of info.kind).term u info.mask ≡ true) f h)
+    here info e f k h = subst (λ (t : Term). is_expressed k t taken.Table info.mask ≡ true) e (subst (λ (u : Subtrahend). is_expressed k (expression_of info.kind).term u info.mask ≡ true) f h)
 
     by_mask : StubLaws → (info : RelocationKindInfo) → (expression_of info.kind).term ≡ term.Slot sorts.Address → (expression_of info.kind).taken ≡ taken.Table → (l : Layout) (w : World) (m : Memory) (s : Item) (r : InputRelocation) (x : ℕ) → (h : HasTerm l w m s r info x) → (o : Option PageMask) → info.mask ≡ o → is_expressed l.machine (term.Slot sorts.Address) taken.Table o ≡ true → Gives (value_by_row info) l w m s r x
     by_mask law info e f l w m s r x h None mask fit =
         let is = slot_value sorts.Address info taken.Table None e f mask ∙ sized_is info.size SlotFromTable refl in
-        let value = subst (λ (u : Taken). value_less l u h.term r.addend (place_of s.address r) ≡ x) (slot_less info taken.Table None f mask) h.value in
+        let value = subst (λ (u : Subtrahend). value_less l u h.term r.addend (place_of s.address r) ≡ x) (slot_less info taken.Table None f mask) h.value in
         subst (λ (v : Value). Gives v l w m s r x) (sym is) ((w.base + h.term) % 2 ^ 64, slot_here law sorts.Address l w m s r info x h e, less_table l w m s r info x h value)
     by_mask law info e f l w m s r x h (Some masks.GotBase) mask fit =
         let on = (with_mask l.machine (term.Slot sorts.Address) taken.Table masks.GotBase fit).0 in
         let is = slot_value sorts.Address info taken.Table (Some masks.GotBase) e f mask ∙ sized_is info.size SlotFromTablePage refl in
-        let value = subst (λ (u : Taken). value_less l u h.term r.addend (place_of s.address r) ≡ x) (slot_less info taken.Table (Some masks.GotBase) f mask) h.value in
-        let pages = table_pages w.base h.term (more r) l.got_base (paged_on l w h.placed.paged on).pages (adds_nothing l.machine r info sorts.Address on h.suited e) h.placed.got in
-        subst (λ (v : Value). Gives v l w m s r x) (sym is) ((w.base + h.term) % 2 ^ 64, (slot_here law sorts.Address l w m s r info x h e, adds_nothing l.machine r info sorts.Address on h.suited e), sym value ∙ pages)
+        let value = subst (λ (u : Subtrahend). value_less l u h.term r.addend (place_of s.address r) ≡ x) (slot_less info taken.Table (Some masks.GotBase) f mask) h.value in
+        let pages = table_pages w.base h.term (more r) l.got_base (paged_on l w h.placed.paged on).pages (adds_nothing l.machine r info sorts.Address on h.row_that_accepts e) h.placed.got in
+        subst (λ (v : Value). Gives v l w m s r x) (sym is) ((w.base + h.term) % 2 ^ 64, (slot_here law sorts.Address l w m s r info x h e, adds_nothing l.machine r info sorts.Address on h.row_that_accepts e), sym value ∙ pages)
     by_mask law info e f l w m s r x h (Some masks.SymbolPlusAddendAndPosition) mask fit = (let no = (with_mask l.machine (term.Slot sorts.Address) taken.Table masks.SymbolPlusAddendAndPosition fit).1 in cc)
     by_mask law info e f l w m s r x h (Some masks.GotEntryAndPosition) mask fit = (let no = (with_mask l.machine (term.Slot sorts.Address) taken.Table masks.GotEntryAndPosition fit).1 in cc)
 
@@ -326,13 +326,13 @@ slot_part_same base a c x pages none e = omega (arith, pages, none, e)
 
 slot_part : StubLaws → (sort : SlotSort) (info : RelocationKindInfo) → (expression_of info.kind).term ≡ term.Slot sort → (expression_of info.kind).taken ≡ taken.Nothing → (l : Layout) (w : World) (m : Memory) (s : Item) (r : InputRelocation) (x : ℕ) → l.machine ≡ machine.AArch64 → HasTerm l w m s r info x → GivesPart (value_by_row info) l w m s r x
 slot_part law sort info e f l w m s r x on h =
-    let fit = subst (λ (t : Term). is_expressed l.machine t taken.Nothing info.mask ≡ true) e (subst (λ (u : Taken). is_expressed l.machine (expression_of info.kind).term u info.mask ≡ true) f h.expressed) in
+    let fit = subst (λ (t : Term). is_expressed l.machine t taken.Nothing info.mask ≡ true) e (subst (λ (u : Subtrahend). is_expressed l.machine (expression_of info.kind).term u info.mask ≡ true) f h.expressed) in
     let mask = no_mask l.machine (term.Slot sort) taken.Nothing info.mask fit refl in
     let is = slot_value sort info taken.Nothing None e f mask ∙ sized_is info.size (SlotAddress (slot_sort sort)) refl in
-    let value : (h.term + more r) % 2 ^ 64 ≡ x = subst (λ (u : Taken). value_less l u h.term r.addend (place_of s.address r) ≡ x) (slot_less info taken.Nothing None f mask) h.value in
+    let value : (h.term + more r) % 2 ^ 64 ≡ x = subst (λ (u : Subtrahend). value_less l u h.term r.addend (place_of s.address r) ≡ x) (slot_less info taken.Nothing None f mask) h.value in
     let g = (w.base + h.term) % 2 ^ 64 in
-    let gives : Gives (SlotAddress (slot_sort sort)) l w m s r (g % 2 ^ 64) = (g, (slot_here law sort l w m s r info x h e, adds_nothing l.machine r info sort on h.suited e), refl) in
-    (g % 2 ^ 64, subst (λ (v : Value). Gives v l w m s r (g % 2 ^ 64)) (sym is) gives, slot_part_same w.base h.term (more r) x (paged_on l w h.placed.paged on).pages (adds_nothing l.machine r info sort on h.suited e) value)
+    let gives : Gives (SlotAddress (slot_sort sort)) l w m s r (g % 2 ^ 64) = (g, (slot_here law sort l w m s r info x h e, adds_nothing l.machine r info sort on h.row_that_accepts e), refl) in
+    (g % 2 ^ 64, subst (λ (v : Value). Gives v l w m s r (g % 2 ^ 64)) (sym is) gives, slot_part_same w.base h.term (more r) x (paged_on l w h.placed.paged on).pages (adds_nothing l.machine r info sort on h.row_that_accepts e) value)
 
 pub parts_give : StubLaws → PartsGive
 parts_give law = λ info c l w m s r x on h f. by_term law info (part_kind info.kind c).0 (part_kind info.kind c).1 l w m s r x on h f
@@ -352,10 +352,10 @@ no_slot sort info e f mask takes = neither (subst (λ (v : Value). TakesOffset v
 pub parts_link : PartsGiveLinked
 parts_link = λ info c l w m s r x i h zero named whose alone takes. by_term info (part_kind info.kind c).0 (part_kind info.kind c).1 l w m s r x i h zero named whose alone takes
   where
-    by_term : (info : RelocationKindInfo) → (expression_of info.kind).taken ≡ taken.Nothing → ((expression_of info.kind).term ≡ term.Symbol) ⊎ ((sort : SlotSort) × ((expression_of info.kind).term ≡ term.Slot sort)) → (l : Layout) (w : World) (m : Memory) (s : Item) (r : InputRelocation) (x i : ℕ) → HasTerm l w m s r info x → w.base ≡ 0 → r.symbol ≡ Some i → IsReplaceable l i true → (IsStubbed l i → ⊥) ⊎ TakesOffset (value_by_row info) → TakesOffset (value_by_row info) ⊎ TakesAddress (value_by_row info) → GivesLinked (value_by_row info) l w s r x
+    by_term : (info : RelocationKindInfo) → (expression_of info.kind).taken ≡ taken.Nothing → ((expression_of info.kind).term ≡ term.Symbol) ⊎ ((sort : SlotSort) × ((expression_of info.kind).term ≡ term.Slot sort)) → (l : Layout) (w : World) (m : Memory) (s : Item) (r : InputRelocation) (x i : ℕ) → HasTerm l w m s r info x → w.base ≡ 0 → r.symbol ≡ Some i → IsReplaceable l i true → (HasStubAddress l i → ⊥) ⊎ TakesOffset (value_by_row info) → TakesOffset (value_by_row info) ⊎ TakesAddress (value_by_row info) → GivesLinked (value_by_row info) l w s r x
     by_term info nothing (inl symbol) l w m s r x i h zero named whose alone takes = links_address info symbol nothing l w m s r x i h zero named whose alone
     by_term info nothing (inr slot) l w m s r x i h zero named whose alone takes =
-        let fit = subst (λ (t : Term). is_expressed l.machine t taken.Nothing info.mask ≡ true) slot.1 (subst (λ (u : Taken). is_expressed l.machine (expression_of info.kind).term u info.mask ≡ true) nothing h.expressed) in
+        let fit = subst (λ (t : Term). is_expressed l.machine t taken.Nothing info.mask ≡ true) slot.1 (subst (λ (u : Subtrahend). is_expressed l.machine (expression_of info.kind).term u info.mask ≡ true) nothing h.expressed) in
         absurd (no_slot slot.0 info slot.1 nothing (no_mask l.machine (term.Slot slot.0) taken.Nothing info.mask fit refl) takes)
 
 -- ---- the other terms

@@ -16,31 +16,31 @@ use Rattle.wild_slot.specs.Treatment.{pointer_treatment, kind_treatment}
 use Rattle.wild_reloc.specs.Agreement.{value_of}
 use Rattle.wild_reloc.specs.Expression.{expression_of}
 use Rattle.wild_reloc.specs.Formula.{Value, PointerOffset, ModuleOffset}
-use Rattle.wild_reloc.specs.declared.expression.Taken.{Taken}
-use Rattle.wild_reloc.specs.declared.expression.Taken.TheVariants as taken
+use Rattle.wild_reloc.specs.declared.expression.Subtrahend.{Subtrahend}
+use Rattle.wild_reloc.specs.declared.expression.Subtrahend.TheVariants as taken
 use Rattle.wild_reloc.specs.declared.info.RelocationKindInfo.{RelocationKindInfo}
 use Rattle.wild_reloc.specs.declared.info.RelocationSize.{RelocationSize}
 use Rattle.wild_reloc.specs.declared.info.RelocationKind.{RelocationKind}
 use Rattle.wild_reloc.specs.declared.info.RelocationKind.TheVariants as kinds
-use Rattle.wild_layout.specs.SymbolValues.{less, thread_pointer, storage_start, raw_address, is_undefined}
-use Rattle.wild_layout.specs.Values.{behind, pointer_offset, term_of, value_less, is_symbol}
+use Rattle.wild_layout.specs.SymbolValues.{minus, thread_pointer, storage_start, raw_address, is_undefined}
+use Rattle.wild_layout.specs.Values.{offset_from, pointer_offset, term_of, value_less, is_symbol}
 use Rattle.wild_loader.specs.declared.world.World.{World}
 use Rattle.wild_loader.specs.declared.memory.Memory.{Memory}
 use Rattle.wild_types.specs.Item.{Item}
 use Rattle.wild_meaning.specs.Formula.{IsOffset, IsOwnOffset, Gives, GivesLinked, TakesAddress, TakesOffset}
-use Rattle.wild_meaning.specs.Reference.{IsStubbed}
+use Rattle.wild_meaning.specs.Reference.{HasStubAddress}
 use Rattle.wild_meaning.specs.Thread.{HasDistance, HasOwnOffset, IsOffsetBase}
 use Rattle.wild_meaning.specs.Value.{IsReplaceable}
 use Rattle.wild_meaning.specs.World.{IsExecutable, IsFirstModule, IsLoadable}
 use Rattle.wild_meaning.proofs.WorldLemmas.{distance_known}
 use Rattle.wild_meaning.proofs.OutputLemmas.{executable_is}
-use Rattle.wild_references.proofs.Written.{address_given}
+use Rattle.wild_references.proofs.WrittenFields.{address_given}
 use Rattle.wild_references.proofs.Values.{has_raw}
 use Rattle.wild_references.proofs.Symbols.{undefined}
 use Rattle.wild_references.proofs.Moves.{less_sum}
 use Rattle.wild_references.proofs.OutputKinds.{loadable_cases, loaded_program}
 use Rattle.wild_references.proofs.ThreadValues.{thread_place, placed_thread, thread_sum, distance_below, pointer_same, own_base, library_base, data_base}
-use Rattle.wild_references.proofs.Treated.{symbol_named, pointer_kept}
+use Rattle.wild_references.proofs.MovingSymbols.{symbol_named, pointer_kept}
 use Rattle.wild_references.specs.Terms.{IsPlaced, page_mask, is_expressed, value_by_row, HasTerm, IsFollowed}
 use Rattle.wild_references.specs.Laws.{RowGives, RowGivesLinked}
 use Rattle.wild_references.proofs.Referents.{no_mask, sized_is}
@@ -48,9 +48,9 @@ use Rattle.wild_references.proofs.ValueKinds.{more, value_is, taken_is, plain_te
 
 -- ---- an address less a number
 
-behind_given : (start term : ℕ) (o : Result ℕ Fault) → behind start o ≡ Ok term → (a : ℕ) × (o ≡ Ok a) × (less a start ≡ term)
+behind_given : (start term : ℕ) (o : Result ℕ Fault) → offset_from start o ≡ Ok term → (a : ℕ) × (o ≡ Ok a) × (minus a start ≡ term)
 behind_given start term (Err f) h = cc
-behind_given start term (Ok a) h = (a, refl, (let e : Ok (less a start) ≡ Ok term = h in cc))
+behind_given start term (Ok a) h = (a, refl, (let e : Ok (minus a start) ≡ Ok term = h in cc))
 
 -- the own symbol's place in the thread's data, where the writer takes its address less the thread pointer
 pub record HasPlace (l : Layout) (w : World) (i term : ℕ) : Type 0 where
@@ -58,7 +58,7 @@ pub record HasPlace (l : Layout) (w : World) (i term : ℕ) : Type 0 where
   pub is : HasOwnOffset l w i offset
   pub sum : (a : ℕ) → (offset + a) % 2 ^ 64 ≡ (term + a) % 2 ^ 64
 
-placed_offset : (l : Layout) (w : World) (m : Memory) (i term : ℕ) → IsPlaced l w m → IsFirstModule l w → behind (thread_pointer l.machine l.tls) (raw_address l (Some i)) ≡ Ok term → HasPlace l w i term
+placed_offset : (l : Layout) (w : World) (m : Memory) (i term : ℕ) → IsPlaced l w m → IsFirstModule l w → offset_from (thread_pointer l.machine l.tls) (raw_address l (Some i)) ≡ Ok term → HasPlace l w i term
 placed_offset l w m i term p f h =
     let a = behind_given (thread_pointer l.machine l.tls) term (raw_address l (Some i)) h in
     let raw = has_raw l i a.0 (address_given l (Some i) a.0 a.1) in
@@ -77,7 +77,7 @@ placed_offset l w m i term p f h =
 own_followed : (l : Layout) (r : InputRelocation) (v : Value) → TakesOffset v → IsFollowed l r v → (i : ℕ) → r.symbol ≡ Some i → IsReplaceable l i false
 own_followed l r v takes f i named = by_case (f i named)
   where
-    by_case : IsReplaceable l i false ⊎ (((TakesOffset v → ⊥) × (TakesAddress v → ⊥)) ⊎ ((TakesOffset v → ⊥) × IsStubbed l i)) → IsReplaceable l i false
+    by_case : IsReplaceable l i false ⊎ (((TakesOffset v → ⊥) × (TakesAddress v → ⊥)) ⊎ ((TakesOffset v → ⊥) × HasStubAddress l i)) → IsReplaceable l i false
     by_case (inl own) = own
     by_case (inr (inl other)) = absurd (other.0 takes)
     by_case (inr (inr stubbed)) = absurd (stubbed.0 takes)
@@ -114,7 +114,7 @@ offset_row v k l w m s r info x h kind nothing single is =
     let mask = no_mask l.machine (expression_of k).term (expression_of k).taken info.mask (subst (λ (j : RelocationKind). is_expressed l.machine (expression_of j).term (expression_of j).taken info.mask ≡ true) kind h.expressed) single in
     record {
       value = value_is info k None kind mask ∙ is info.size;
-      sum = subst (λ (u : Taken). value_less l u h.term r.addend (place_of s.address r) ≡ x) (taken_is info k None kind mask ∙ nothing) h.value;
+      sum = subst (λ (u : Subtrahend). value_less l u h.term r.addend (place_of s.address r) ≡ x) (taken_is info k None kind mask ∙ nothing) h.value;
     }
 
 pointer_given : (l : Layout) (w : World) (m : Memory) (s : Item) (r : InputRelocation) (info : RelocationKindInfo) (x : ℕ) → (h : HasTerm l w m s r info x) → info.kind ≡ kinds.TpOff → (h.term + more r) % 2 ^ 64 ≡ x → HasOwnPlace l w r x
@@ -128,8 +128,8 @@ pointer_given l w m s r info x h kind sum =
     let p = pointer_place l w m i.0 h.term h.placed (h.placed.legal.first program) (h.listed i.0 i.1) given in
     record { symbol = i.0; named = i.1; offset = p.offset; is = p.is; sum = sym sum ∙ sym (p.sum (more r)) }
 
-offset_from : (l : Layout) (w : World) (r : InputRelocation) (v : Value) (x : ℕ) → TakesOffset v → IsFollowed l r v → (p : HasOwnPlace l w r x) → IsOffset l w r.symbol p.offset
-offset_from l w r v x takes f p = subst (λ (o : Option ℕ). IsOffset l w o p.offset) (sym p.named) (inr (own_followed l r v takes f p.symbol p.named, p.is))
+followed_offset : (l : Layout) (w : World) (r : InputRelocation) (v : Value) (x : ℕ) → TakesOffset v → IsFollowed l r v → (p : HasOwnPlace l w r x) → IsOffset l w r.symbol p.offset
+followed_offset l w r v x takes f p = subst (λ (o : Option ℕ). IsOffset l w o p.offset) (sym p.named) (inr (own_followed l r v takes f p.symbol p.named, p.is))
 
 own_offset_from : (l : Layout) (w : World) (r : InputRelocation) (x : ℕ) → (p : HasOwnPlace l w r x) → IsOwnOffset l w r.symbol p.offset
 own_offset_from l w r x p = subst (λ (o : Option ℕ). IsOwnOffset l w o p.offset) (sym p.named) p.is
@@ -138,7 +138,7 @@ pub gives_pointer : (info : RelocationKindInfo) → info.kind ≡ kinds.TpOff �
 gives_pointer info kind = λ l w m s r x h f.
     let a = offset_row PointerOffset kinds.TpOff l w m s r info x h kind refl refl (λ z. sized_is z PointerOffset refl) in
     let p = pointer_given l w m s r info x h kind a.sum in
-    subst (λ (v : Value). Gives v l w m s r x) (sym a.value) (p.offset, offset_from l w r PointerOffset x tt (subst (λ (v : Value). IsFollowed l r v) a.value f) p, p.sum)
+    subst (λ (v : Value). Gives v l w m s r x) (sym a.value) (p.offset, followed_offset l w r PointerOffset x tt (subst (λ (v : Value). IsFollowed l r v) a.value f) p, p.sum)
 
 pub links_pointer : (info : RelocationKindInfo) → info.kind ≡ kinds.TpOff → RowGivesLinked info
 links_pointer info kind = λ l w m s r x i h zero named whose alone.
@@ -177,9 +177,9 @@ storage_cases l loads = by_machine l.machine refl
     by_machine machine.X86_64 e = by_kind e (loadable_cases l.kind loads)
     by_machine machine.AArch64 e = inr (record { start = rw e refl; base = λ w d h. subst (λ (k : Machine). IsOffsetBase k l.kind w d) (sym e) (data_base l.kind w d h) })
 
-program_place : (l : Layout) (w : World) (m : Memory) (r : InputRelocation) (x i term : ℕ) → IsPlaced l w m → l.machine ≡ machine.X86_64 → IsExecutable l.kind → r.symbol ≡ Some i → behind (storage_start l) (raw_address l (Some i)) ≡ Ok term → (term + more r) % 2 ^ 64 ≡ x → HasModulePlace l w r x
+program_place : (l : Layout) (w : World) (m : Memory) (r : InputRelocation) (x i term : ℕ) → IsPlaced l w m → l.machine ≡ machine.X86_64 → IsExecutable l.kind → r.symbol ≡ Some i → offset_from (storage_start l) (raw_address l (Some i)) ≡ Ok term → (term + more r) % 2 ^ 64 ≡ x → HasModulePlace l w r x
 program_place l w m r x i term p x86 program named given value =
-    let given' = subst (λ (n : ℕ). behind n (raw_address l (Some i)) ≡ Ok term) (storage_program l x86 program) given in
+    let given' = subst (λ (n : ℕ). offset_from n (raw_address l (Some i)) ≡ Ok term) (storage_program l x86 program) given in
     let o = placed_offset l w m i term p (p.legal.first program) given' in
     record { symbol = i; named = named; offset = o.offset; is = o.is; begin = 0; counted = own_base l.machine l.kind w x86 program; sum = sym value ∙ sym (o.sum (more r)) ∙ whole (o.offset + more r) }
   where
@@ -189,9 +189,9 @@ program_place l w m r x i term p x86 program named given value =
 library_sum : (d raw start a x : ℕ) → d < 2 ^ 64 → ((raw + (2 ^ 64 - start)) % 2 ^ 64 + a) % 2 ^ 64 ≡ x → x ≡ ((d + raw + (2 ^ 64 - start)) % 2 ^ 64 + a + (2 ^ 64 - d)) % 2 ^ 64
 library_sum d raw start a x low e = omega (arith, low, e)
 
-data_place : (l : Layout) (w : World) (m : Memory) (r : InputRelocation) (x i term : ℕ) → IsPlaced l w m → CountsFromData l → r.symbol ≡ Some i → behind (storage_start l) (raw_address l (Some i)) ≡ Ok term → (term + more r) % 2 ^ 64 ≡ x → HasModulePlace l w r x
+data_place : (l : Layout) (w : World) (m : Memory) (r : InputRelocation) (x i term : ℕ) → IsPlaced l w m → CountsFromData l → r.symbol ≡ Some i → offset_from (storage_start l) (raw_address l (Some i)) ≡ Ok term → (term + more r) % 2 ^ 64 ≡ x → HasModulePlace l w r x
 data_place l w m r x i term p counts named given value =
-    let given' = subst (λ (n : ℕ). behind n (raw_address l (Some i)) ≡ Ok term) counts.start given in
+    let given' = subst (λ (n : ℕ). offset_from n (raw_address l (Some i)) ≡ Ok term) counts.start given in
     let a = behind_given l.tls.start term (raw_address l (Some i)) given' in
     let raw = has_raw l i a.0 (address_given l (Some i) a.0 a.1) in
     let k = p.legal.symbols.known in
@@ -213,8 +213,8 @@ module_given l w m s r info x h kind sum =
     let treated = subst (λ (k : RelocationKind). kind_treatment l s.flags h.number r.symbol h.row k ≡ treatments.Value h.row) kind h.treated in
     let i = symbol_named r.symbol (λ i. treatments.Value h.row) h.row treated in
     let plain = plain_term l w m s r info x h (ap (λ (k : RelocationKind). is_symbol (expression_of k).term) kind) in
-    let here : behind (storage_start l) (raw_address l r.symbol) ≡ Ok h.term = subst (λ (k : RelocationKind). term_of l r.symbol k ≡ Ok h.term) kind plain in
-    let given : behind (storage_start l) (raw_address l (Some i.0)) ≡ Ok h.term = subst (λ (o : Option ℕ). behind (storage_start l) (raw_address l o) ≡ Ok h.term) i.1 here in
+    let here : offset_from (storage_start l) (raw_address l r.symbol) ≡ Ok h.term = subst (λ (k : RelocationKind). term_of l r.symbol k ≡ Ok h.term) kind plain in
+    let given : offset_from (storage_start l) (raw_address l (Some i.0)) ≡ Ok h.term = subst (λ (o : Option ℕ). offset_from (storage_start l) (raw_address l o) ≡ Ok h.term) i.1 here in
     elim (storage_cases l h.placed.loadable) [
       | inl program ↦ program_place l w m r x i.0 h.term h.placed program.0 program.1 i.1 given sum
       | inr counts ↦ data_place l w m r x i.0 h.term h.placed counts i.1 given sum

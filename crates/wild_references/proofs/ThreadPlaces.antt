@@ -12,15 +12,15 @@ use Rattle.wild_slot.specs.declared.slot.SlotWord.{SlotWord}
 use Rattle.wild_slot.specs.declared.slot.SlotWord.TheVariants.{Number, General}
 use Rattle.wild_types.specs.declared.symbol.Resolution.{Resolution}
 use Rattle.wild_types.specs.declared.layout.Layout.{Layout}
-use Rattle.wild_types.specs.Hollow.{KeepsAll}
+use Rattle.wild_types.specs.HeaderOnly.{KeepsAll}
 use Rattle.wild_types.specs.Flags.{has_flag, got_tls_offset, got_tls_module, got_tls_descriptor}
 use Rattle.wild_slot.specs.Slots.{setting_of, storage_pair}
 use Rattle.wild_needs.specs.SlotShares.{storage_at, storage_words}
-use Rattle.wild_slot.specs.Storage.{less, thread_pointer}
+use Rattle.wild_slot.specs.Storage.{minus, thread_pointer}
 use Rattle.wild_types.specs.SymbolSlots.{has_thread_slot}
 use Rattle.wild_reloc.specs.Formula.{ThreadOffset, ModulePair, OwnModulePair}
 use Rattle.wild_reloc.specs.declared.expression.SlotSort.TheVariants as sorts
-use Rattle.wild_layout.specs.SlotValues.{behind_word}
+use Rattle.wild_layout.specs.SlotValues.{after_word}
 use Rattle.wild_geometry.specs.Slots.{HasWords}
 use Rattle.wild_loader.specs.declared.memory.Memory.{Memory}
 use Rattle.wild_loader.specs.declared.world.World.{World}
@@ -66,13 +66,13 @@ offsets_stand l w m p all = λ i slot h. by_slot sorts.Offset l i slot (λ (n : 
 pair_at : (l : Layout) (w : World) (m : Memory) (i at : ℕ) → HasPair l w m i at → SlotStands ModulePair l w m i at
 pair_at l w m i at h = record { holds = (h.offset, h.pair, h.is); below = word_below m (w.base + at) h.owner h.first }
 
-pair_stands : (l : Layout) (w : World) (m : Memory) (i at : ℕ) (r : Resolution) (offset : Bool) → IsPlaced l w m → KeepsAll l → IsResolvedBy l i r → r.got_address ≡ Some at → has_flag r.flags got_tls_module ≡ true → has_flag r.flags got_tls_offset ≡ offset → SlotStands ModulePair l w m i (behind_word offset at)
-pair_stands l w m i at r offset p all d e asked is = by_offset offset (pair_behind l w m i at r offset p d asked is (thread_held l w m i at r p all d e thread))
+pair_is_placed : (l : Layout) (w : World) (m : Memory) (i at : ℕ) (r : Resolution) (offset : Bool) → IsPlaced l w m → KeepsAll l → IsResolvedBy l i r → r.got_address ≡ Some at → has_flag r.flags got_tls_module ≡ true → has_flag r.flags got_tls_offset ≡ offset → SlotStands ModulePair l w m i (after_word offset at)
+pair_is_placed l w m i at r offset p all d e asked is = by_offset offset (pair_behind l w m i at r offset p d asked is (thread_held l w m i at r p all d e thread))
   where
     thread : has_thread_slot r.flags ≡ true
     thread = middle_of (has_flag r.flags got_tls_offset) (has_flag r.flags got_tls_module) (has_flag r.flags got_tls_descriptor) asked
 
-    by_offset : (b : Bool) → HasPair l w m i (if b then at + 8 else at) → SlotStands ModulePair l w m i (behind_word b at)
+    by_offset : (b : Bool) → HasPair l w m i (if b then at + 8 else at) → SlotStands ModulePair l w m i (after_word b at)
     by_offset false pair = pair_at l w m i at pair
     by_offset true pair =
         let there = pair_at l w m i (at + 8) pair in
@@ -83,10 +83,10 @@ pair_stands l w m i at r offset p all d e asked is = by_offset offset (pair_behi
 pub pairs_stand : (l : Layout) (w : World) (m : Memory) → IsPlaced l w m → KeepsAll l → SlotsStand sorts.Pair l w m
 pairs_stand l w m p all = λ i slot h. by_slot sorts.Pair l i slot (λ (n : ℕ). SlotStands ModulePair l w m i n) h (λ r at d e among. by_flag i slot r at d e (has_flag r.flags got_tls_module) refl among)
   where
-    by_flag : (i slot : ℕ) (r : Resolution) (at : ℕ) → IsResolvedBy l i r → r.got_address ≡ Some at → (b : Bool) → has_flag r.flags got_tls_module ≡ b → (if b then Some (behind_word (has_flag r.flags got_tls_offset) at) else None) ≡ Some slot → SlotStands ModulePair l w m i slot
+    by_flag : (i slot : ℕ) (r : Resolution) (at : ℕ) → IsResolvedBy l i r → r.got_address ≡ Some at → (b : Bool) → has_flag r.flags got_tls_module ≡ b → (if b then Some (after_word (has_flag r.flags got_tls_offset) at) else None) ≡ Some slot → SlotStands ModulePair l w m i slot
     by_flag i slot r at d e true asked h =
-        let same : behind_word (has_flag r.flags got_tls_offset) at ≡ slot = cc in
-        subst (λ (n : ℕ). SlotStands ModulePair l w m i n) same (pair_stands l w m i at r (has_flag r.flags got_tls_offset) p all d e asked refl)
+        let same : after_word (has_flag r.flags got_tls_offset) at ≡ slot = cc in
+        subst (λ (n : ℕ). SlotStands ModulePair l w m i n) same (pair_is_placed l w m i at r (has_flag r.flags got_tls_offset) p all d e asked refl)
     by_flag i slot r at d e false asked h = cc
 
 -- ---- the output's own pair
@@ -104,9 +104,9 @@ own_pair_at l w m i at h = record { holds = h.pair; below = word_below m (w.base
 program_same : (d pointer tp start : ℕ) → (pointer + d) % 2 ^ 64 ≡ start → pointer % 2 ^ 64 ≡ tp → 0 ≡ (d + (tp + (2 ^ 64 - start)) % 2 ^ 64) % 2 ^ 64
 program_same d pointer tp start begins same = omega (arith, begins, same)
 
-program_pair : (l : Layout) (w : World) (m : Memory) (at : ℕ) → IsPlaced l w m → l.machine ≡ machine.X86_64 → IsExecutable l.kind → HasWords w m at (Number 1 ∷ Number (less (thread_pointer l.machine l.tls) l.tls.start) ∷ []) → HasOwnPair l w m at
+program_pair : (l : Layout) (w : World) (m : Memory) (at : ℕ) → IsPlaced l w m → l.machine ≡ machine.X86_64 → IsExecutable l.kind → HasWords w m at (Number 1 ∷ Number (minus (thread_pointer l.machine l.tls) l.tls.start) ∷ []) → HasOwnPair l w m at
 program_pair l w m at p x86 program h =
-    let n = less (thread_pointer l.machine l.tls) l.tls.start in
+    let n = minus (thread_pointer l.machine l.tls) l.tls.start in
     let f = p.legal.first program in
     let a = word_first w m at (Number 1) (Number n ∷ []) h in
     let b = word_first w m (at + 8) (Number n) [] (words_behind w m at (Number 1) (Number n ∷ []) h) in

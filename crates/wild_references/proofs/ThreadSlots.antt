@@ -12,8 +12,8 @@ use Rattle.wild_types.specs.declared.symbol.ValueFlags.{ValueFlags}
 use Rattle.wild_types.specs.declared.layout.Layout.{Layout}
 use Rattle.wild_types.specs.Flags.{has_flag, interposable, dynamic, non_interposable, copy_relocation, export_dynamic, got_tls_offset, got_tls_module}
 use Rattle.wild_types.specs.Kinds.{is_executable}
-use Rattle.wild_slot.specs.Slots.{setting_of, number, general, named, offset_item, module_item, module_offset, module_offset_item, where_so, module_items, descriptor_items, thread_items}
-use Rattle.wild_slot.specs.Storage.{less, thread_pointer, is_outside}
+use Rattle.wild_slot.specs.Slots.{setting_of, number, general, named, offset_item, module_item, module_offset, module_offset_item, items_if, module_items, descriptor_items, thread_items}
+use Rattle.wild_slot.specs.Storage.{minus, thread_pointer, is_outside}
 use Rattle.wild_types.specs.SymbolSlots.{has_dynamic_symbol}
 use Rattle.wild_loader.specs.Changes.{distance_of}
 use Rattle.wild_loader.specs.declared.memory.Memory.{Memory}
@@ -25,7 +25,7 @@ use Rattle.wild_meaning.specs.World.{IsFirstModule}
 use Rattle.wild_meaning.proofs.WorldLemmas.{distance_known, next_word}
 use Rattle.wild_meaning.proofs.OutputLemmas.{is_program}
 use Rattle.wild_references.specs.Terms.{IsPlaced}
-use Rattle.wild_references.proofs.Answered.{has_answer, answered_offset, answer_fits, place_same}
+use Rattle.wild_references.proofs.AnsweredValues.{has_answer, answered_offset, answer_fits, place_same}
 use Rattle.wild_references.proofs.EntryWords.{module_filled, own_module_filled, offset_filled, thread_filled, own_thread_filled}
 use Rattle.wild_references.proofs.FirstSlots.{own_flags}
 use Rattle.wild_references.proofs.OutputKinds.{no_library}
@@ -58,7 +58,7 @@ pub record HasOffsetWord (l : Layout) (w : World) (m : Memory) (i at : ℕ) (res
 offset_same : (place raw tp pointer : ℕ) → (place % 2 ^ 64 + 0) % 2 ^ 64 ≡ (raw + 0 + (2 ^ 64 - pointer)) % 2 ^ 64 → pointer ≡ tp → (raw + (2 ^ 64 - tp)) % 2 ^ 64 ≡ place % 2 ^ 64
 offset_same place raw tp pointer sum same = omega (arith, sum, same)
 
-program_offset : (l : Layout) (w : World) (m : Memory) (i t : ℕ) (r : Resolution) → IsPlaced l w m → IsResolvedBy l i r → is_executable l.kind ≡ true → t ≡ less r.raw_value (thread_pointer l.machine l.tls) → judge.HasOwnOffset l w i t
+program_offset : (l : Layout) (w : World) (m : Memory) (i t : ℕ) (r : Resolution) → IsPlaced l w m → IsResolvedBy l i r → is_executable l.kind ≡ true → t ≡ minus r.raw_value (thread_pointer l.machine l.tls) → judge.HasOwnOffset l w i t
 program_offset l w m i t r p d program e =
     let f = p.legal.first (is_program l.kind program) in
     let place = cast_unsigned w64 f.distance + r.raw_value + (2 ^ 64 - l.tls.start) in
@@ -69,7 +69,7 @@ program_offset l w m i t r p d program e =
 pub library_same : (t raw start x : ℕ) → x ≡ ((t + 0) % 2 ^ 64 + (raw + (2 ^ 64 - start)) % 2 ^ 64) % 2 ^ 64 → x ≡ (t + raw + (2 ^ 64 - start)) % 2 ^ 64
 library_same t raw start x e = omega (arith, e)
 
-pub less_below : (raw start : ℕ) → less raw start < 2 ^ 64
+pub less_below : (raw start : ℕ) → minus raw start < 2 ^ 64
 less_below raw start = omega arith
 
 pub looked_same : (t offset x : ℕ) → x ≡ ((t + offset) % 2 ^ 64 + 0) % 2 ^ 64 → x ≡ (t + offset) % 2 ^ 64
@@ -91,7 +91,7 @@ offset_held : (l : Layout) (w : World) (m : Memory) (i at : ℕ) (r : Resolution
 offset_held l w m i at r rest p d h = by_tests (has_dynamic_symbol r.flags) (r.raw_value == 0) (is_outside l.tls r.raw_value) (is_executable l.kind) refl refl (λ t. eqb-true r.raw_value 0 t) h
   where
     by_tests : (looked zero outside program : Bool) → has_dynamic_symbol r.flags ≡ looked → is_executable l.kind ≡ program → (zero ≡ true → r.raw_value ≡ 0)
-        → ItemsHold w m at ((if looked then named r.dynamic_symbol_index (λ d. general TpOff d 0) else if zero then number 0 else if outside then Fault (TlsOutOfSegment r.raw_value) else if program then number (less r.raw_value (thread_pointer l.machine l.tls)) else general TpOff 0 (less r.raw_value l.tls.start)) ∷ rest) → HasOffsetWord l w m i at rest
+        → ItemsHold w m at ((if looked then named r.dynamic_symbol_index (λ d. general TpOff d 0) else if zero then number 0 else if outside then Fault (TlsOutOfSegment r.raw_value) else if program then number (minus r.raw_value (thread_pointer l.machine l.tls)) else general TpOff 0 (minus r.raw_value l.tls.start)) ∷ rest) → HasOffsetWord l w m i at rest
     by_tests true zero outside program e f z h = looked_up l w m i at r rest p d h
     by_tests false true outside program e f z h =
         let own = whose_own l w m i r p d (own_flags l.kind r.flags e) in
@@ -103,7 +103,7 @@ offset_held l w m i at r rest p d h = by_tests (has_dynamic_symbol r.flags) (r.r
         record { value = h.0.0; there = h.0.1; is = inr (own, program_offset l w m i h.0.0 r p d f h.0.2); behind = h.1 }
     by_tests false false false false e f z h =
         let own = whose_own l w m i r p d (own_flags l.kind r.flags e) in
-        let t = own_thread_filled w m (w.base + at) (less r.raw_value l.tls.start) h.0.0 (less_below r.raw_value l.tls.start) h.0.2 in
+        let t = own_thread_filled w m (w.base + at) (minus r.raw_value l.tls.start) h.0.0 (less_below r.raw_value l.tls.start) h.0.2 in
         let place = placed_thread l w i r.raw_value t.0 t.1 (resolved_raw l i r d) in
         record { value = h.0.0; there = h.0.1; is = inr (own, inl (subst (λ (n : ℕ). judge.IsThreadPlace l w i n) (sym (library_same t.0 r.raw_value l.tls.start h.0.0 t.2)) place)); behind = h.1 }
 
@@ -249,12 +249,12 @@ pub offset_first : (l : Layout) (w : World) (m : Memory) (i at : ℕ) (r : Resol
 offset_first l w m i at r p d asked h =
     let s = setting_of l in
     let more = module_items s r ++ descriptor_items s r in
-    offset_held l w m i at r more p d (subst (λ (b : Bool). ItemsHold w m at (where_so b (offset_item s r ∷ []) ++ more)) asked h)
+    offset_held l w m i at r more p d (subst (λ (b : Bool). ItemsHold w m at (items_if b (offset_item s r ∷ []) ++ more)) asked h)
 
 paired : (l : Layout) (w : World) (m : Memory) (i at : ℕ) (r : Resolution) → IsPlaced l w m → IsResolvedBy l i r → has_flag r.flags got_tls_module ≡ true → ItemsHold w m at (module_items (setting_of l) r ++ descriptor_items (setting_of l) r) → HasPair l w m i at
 paired l w m i at r p d asked h =
     let s = setting_of l in
-    pair_held l w m i at r (descriptor_items s r) p d (subst (λ (b : Bool). ItemsHold w m at (where_so b (module_item s r ∷ module_offset_item s r ∷ []) ++ descriptor_items s r)) asked h)
+    pair_held l w m i at r (descriptor_items s r) p d (subst (λ (b : Bool). ItemsHold w m at (items_if b (module_item s r ∷ module_offset_item s r ∷ []) ++ descriptor_items s r)) asked h)
 
 -- the pair is behind it, where it is there
 pub pair_behind : (l : Layout) (w : World) (m : Memory) (i at : ℕ) (r : Resolution) (offset : Bool) → IsPlaced l w m → IsResolvedBy l i r → has_flag r.flags got_tls_module ≡ true → has_flag r.flags got_tls_offset ≡ offset → ItemsHold w m at (thread_items (setting_of l) r) → HasPair l w m i (if offset then at + 8 else at)
@@ -262,4 +262,4 @@ pair_behind l w m i at r true p d asked e h = paired l w m i (at + 8) r p d aske
 pair_behind l w m i at r false p d asked e h =
     let s = setting_of l in
     let more = module_items s r ++ descriptor_items s r in
-    paired l w m i at r p d asked (subst (λ (b : Bool). ItemsHold w m at (where_so b (offset_item s r ∷ []) ++ more)) e h)
+    paired l w m i at r p d asked (subst (λ (b : Bool). ItemsHold w m at (items_if b (offset_item s r ∷ []) ++ more)) e h)

@@ -11,7 +11,7 @@ use Rattle.wild_types.specs.declared.layout.Layout.{Layout}
 use Rattle.wild_slot.specs.Storage as storage
 use Rattle.wild_loader.specs.declared.fault.LoadFault.TheVariants as faults
 use Rattle.wild_loader.specs.declared.world.World.{World}
-use Rattle.wild_loader.specs.Given.{◌>>=◌, known}
+use Rattle.wild_loader.specs.Outcome.{◌>>=◌, known}
 use Rattle.wild_loader.specs.Changes.{first_value, distance_of}
 use Rattle.wild_meaning.specs.Value.{HasRaw}
 use Rattle.wild_meaning.specs.Thread.{thread_pointer_of, thread_pointer, HasDistance, IsThreadPlace, IsOffsetBase}

@@ -17,10 +17,10 @@ use Rattle.wild_loader.specs.declared.world.World.{World}
 use Rattle.wild_loader.specs.Memory.{Holds}
 use Rattle.wild_loader.specs.StepLawsAArch64.{ThunksAreRead}
 use Rattle.wild_loader.specs.Reach.{JumpsTo}
-use Rattle.wild_loader.proofs.Mapped.{byte_below}
+use Rattle.wild_loader.proofs.MappedSegments.{byte_below}
 use Rattle.wild_geometry.specs.Thunks.{HasThunk}
-use Rattle.wild_meaning.specs.Linked.{processor_of}
-use Rattle.wild_references.specs.Thunks.{GoesOn, ThunksGoOn}
+use Rattle.wild_meaning.specs.LinkedImage.{processor_of}
+use Rattle.wild_references.specs.Thunks.{JumpsToTarget, ThunksJumpToTargets}
 use Rattle.wild_references.proofs.StubCode.{paged_on}
 
 -- its words, as they are written and as they are read
@@ -42,10 +42,10 @@ thunk_jumps law m base p t machine pages reaches held =
 
 -- ---- each thunk of a layout
 
-thunk_goes : ThunksAreRead → (l : Layout) (w : World) (m : Memory) (t : Thunk) → m.machine ≡ machines.AArch64 → w.base % 4096 ≡ 0 → HasThunk l w m t → GoesOn l w m t
+thunk_goes : ThunksAreRead → (l : Layout) (w : World) (m : Memory) (t : Thunk) → m.machine ≡ machines.AArch64 → w.base % 4096 ≡ 0 → HasThunk l w m t → JumpsToTarget l w m t
 thunk_goes law l w m t machine pages h = record { target = h.target; known = h.known; ends = thunk_ends m w.base t.address h.target h.stands; jumps = thunk_jumps law m w.base t.address h.target machine pages h.reaches h.stands }
 
-pub thunks_go : ThunksAreRead → ThunksGoOn
+pub thunks_go : ThunksAreRead → ThunksJumpToTargets
 thunks_go law = λ l w m paged loaded laid has b t c d.
     let on = (laid.blocks b t c d).on in
     let machine : m.machine ≡ machines.AArch64 = loaded ∙ ap (λ (k : Machine). processor_of k) on in

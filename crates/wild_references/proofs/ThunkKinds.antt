@@ -11,24 +11,24 @@ use Rattle.wild_types.specs.declared.input.InputRelocation.{InputRelocation}
 use Rattle.wild_types.specs.declared.symbol.Resolution.{Resolution}
 use Rattle.wild_types.specs.declared.layout.Thunk.{Thunk}
 use Rattle.wild_types.specs.declared.layout.Layout.{Layout}
-use Rattle.wild_types.specs.Hollow.{KeepsAll}
+use Rattle.wild_types.specs.HeaderOnly.{KeepsAll}
 use Rattle.wild_types.specs.Item.{Item}
 use Rattle.wild_types.specs.Kinds.{is_position_independent}
 use Rattle.wild_types.specs.Lookups.{canonical, place_of}
-use Rattle.wild_reloc.specs.Barred.{is_listed, branches_aarch64}
+use Rattle.wild_reloc.specs.BarredTypes.{is_listed, branches_aarch64}
 use Rattle.wild_reloc.specs.Range.{contains}
-use Rattle.wild_reloc.specs.Expression.{expression_of, taken_of}
+use Rattle.wild_reloc.specs.Expression.{expression_of, subtrahend_of}
 use Rattle.wild_reloc.specs.Formula.{Value, Distance, StubDistance}
-use Rattle.wild_reloc.specs.declared.expression.Taken.{Taken}
-use Rattle.wild_reloc.specs.declared.expression.Taken.TheVariants as taken
+use Rattle.wild_reloc.specs.declared.expression.Subtrahend.{Subtrahend}
+use Rattle.wild_reloc.specs.declared.expression.Subtrahend.TheVariants as taken
 use Rattle.wild_reloc.specs.declared.info.RelocationKind.{RelocationKind}
 use Rattle.wild_reloc.specs.declared.info.RelocationKind.TheVariants as kinds
 use Rattle.wild_reloc.specs.declared.info.RelocationKindInfo.{RelocationKindInfo}
-use Rattle.wild_layout.specs.Decide.{added}
-use Rattle.wild_layout.specs.SymbolValues.{less}
+use Rattle.wild_layout.specs.Decide.{addend_bits}
+use Rattle.wild_layout.specs.SymbolValues.{minus}
 use Rattle.wild_layout.specs.SlotValues.{resolution_of, stub_of, stub_address, address_of}
-use Rattle.wild_layout.specs.Thunks.{thunk_target, goes_by_definition, thunk_for}
-use Rattle.wild_layout.proofs.ReachedLemmas.{thunk_found}
+use Rattle.wild_layout.specs.Thunks.{thunk_target, uses_definition, thunk_for}
+use Rattle.wild_layout.proofs.ThunkFieldLemmas.{thunk_found}
 use Rattle.wild_layout.specs.Values.{term_of, value_less, is_absent, is_symbol, is_place, is_own_place, undefined_weak_target, term_by}
 use Rattle.wild_loader.specs.declared.memory.Memory.{Memory}
 use Rattle.wild_loader.specs.declared.world.World.{World}
@@ -36,12 +36,12 @@ use Rattle.wild_loader.specs.Reach.{ReachesWithin, JumpsTo}
 use Rattle.wild_meaning.specs.Formula.{IsReferent, IsReferentOnAArch64, Gives, IsPlaceRelative, TakesAddress}
 use Rattle.wild_meaning.specs.Value.{IsAbsolute}
 use Rattle.wild_references.specs.Terms.{value_by_row, HasTerm, IsFollowed}
-use Rattle.wild_references.specs.Thunks.{GoesOn, EachThunkGoesOn, Carries, ThunksGive}
+use Rattle.wild_references.specs.Thunks.{JumpsToTarget, EachThunkJumps, AllowsThunks, ThunksGive}
 use Rattle.wild_references.proofs.Referents.{sized_is, present, not_own, follows}
 use Rattle.wild_references.proofs.StubCode.{StubLaws}
 use Rattle.wild_references.proofs.ThunkTargets.{IsThunkOf, IsTargeted, stub_targeted, symbol_targeted}
 use Rattle.wild_references.proofs.ValueKinds.{more, value_is, taken_is}
-use Rattle.wild_references.proofs.Written.{given_some}
+use Rattle.wild_references.proofs.WrittenFields.{given_some}
 use Rattle.wild_layout.specs.Merged.{names_merged}
 use Rattle.wild_layout.proofs.MergedLemmas.{term_plain}
 
@@ -58,14 +58,14 @@ some_resolution : (o : Option Resolution) → is_some o ≡ true → (r : Resolu
 some_resolution None h = cc
 some_resolution (Some r) h = (r, refl)
 
-by_definition : (l : Layout) (i : ℕ) → goes_by_definition l i ≡ true → (canonical l i ≡ i) ⊎ ((r : Resolution) × (resolution_of l i ≡ Some r))
+by_definition : (l : Layout) (i : ℕ) → uses_definition l i ≡ true → (canonical l i ≡ i) ⊎ ((r : Resolution) × (resolution_of l i ≡ Some r))
 by_definition l i h = elim (or_cases (canonical l i == i) (is_some (resolution_of l i)) h) [ inl e ↦ inl (eqb-true (canonical l i) i e) | inr s ↦ inr (some_resolution (resolution_of l i) s) ]
 
 of_block : (l : Layout) (k i : ℕ) (t : Thunk) → thunk_for l k (Some i) ≡ Some t → IsOfBlock l i t
 of_block l k i t h =
     let f = thunk_found l k (Some i) t h in
     let same : f.symbol ≡ i = (let e = f.named in cc) in
-    in_block (by_definition l i (subst (λ (j : ℕ). goes_by_definition l j ≡ true) same f.definition)) (f.is ∙ ap (canonical l) same) (slice_get l.thunk_blocks k) refl f.listed
+    in_block (by_definition l i (subst (λ (j : ℕ). uses_definition l j ≡ true) same f.definition)) (f.is ∙ ap (canonical l) same) (slice_get l.thunk_blocks k) refl f.listed
   where
     in_block : (canonical l i ≡ i) ⊎ ((r : Resolution) × (resolution_of l i ≡ Some r)) → t.symbol ≡ canonical l i → (o : Option (List Thunk)) → slice_get l.thunk_blocks k ≡ o → Contains (unwrap_or o []) t → IsOfBlock l i t
     in_block d own None is c = absurd (omega (arith, c.1))
@@ -75,7 +75,7 @@ of_block l k i t h =
 
 -- what it takes, and its value
 pub record IsBranchRow (info : RelocationKindInfo) (v : Value) : Type 0 where
-  pub taken : taken_of info.kind info.mask ≡ taken.Place
+  pub taken : subtrahend_of info.kind info.mask ≡ taken.Place
   pub value : value_by_row info ≡ v
 
 pub symbol_row : (info : RelocationKindInfo) → info.mask ≡ None → info.kind ≡ kinds.Relative → IsBranchRow info Distance
@@ -96,14 +96,14 @@ near : (p d c x : ℕ) → p < 2 ^ 64 → c ≡ 0 → (((p + d) % 2 ^ 64 + c) % 
 near p d c x low none e small = omega (arith, low, none, e, small)
 
 -- the next instruction is no far target
-pub not_far : (l : Layout) (w : World) (m : Memory) (s : Item) (r : InputRelocation) (info : RelocationKindInfo) (x : ℕ) → (h : HasTerm l w m s r info x) → Carries info → taken_of info.kind info.mask ≡ taken.Place → cast_unsigned w64 r.addend ≡ 0 → undefined_weak_target r.number (place_of s.address r) ≡ h.term → contains info.range x ≡ false → ⊥
-not_far l w m s r info x h c less none term far = by_branch (is_listed r.number branches_aarch64) refl
+pub not_far : (l : Layout) (w : World) (m : Memory) (s : Item) (r : InputRelocation) (info : RelocationKindInfo) (x : ℕ) → (h : HasTerm l w m s r info x) → AllowsThunks info → subtrahend_of info.kind info.mask ≡ taken.Place → cast_unsigned w64 r.addend ≡ 0 → undefined_weak_target r.number (place_of s.address r) ≡ h.term → contains info.range x ≡ false → ⊥
+not_far l w m s r info x h c minus none term far = by_branch (is_listed r.number branches_aarch64) refl
   where
     p : ℕ
     p = place_of s.address r
 
     value : ((h.term + more r) % 2 ^ 64 + (2 ^ 64 - p)) % 2 ^ 64 ≡ x
-    value = subst (λ (u : Taken). value_less l u h.term r.addend p ≡ x) less h.value
+    value = subst (λ (u : Subtrahend). value_less l u h.term r.addend p ≡ x) minus h.value
 
     at : (d : ℕ) → (p + d) % 2 ^ 64 ≡ h.term → d < 2 ^ 64 → contains info.range d ≡ true → ⊥
     at d e small there =
@@ -123,7 +123,7 @@ record IsThere (l : Layout) (w : World) (m : Memory) (i target : ℕ) : Type 0 w
   present : is_absent l (Some i) ≡ false
   targeted : IsTargeted l w m i target
 
-targeted_by : StubLaws → (l : Layout) (w : World) (m : Memory) (s : Item) (r : InputRelocation) (info : RelocationKindInfo) (x i target : ℕ) (t : Thunk) → KeepsAll l → (h : HasTerm l w m s r info x) → Carries info → IsFollowed l r (value_by_row info) → r.symbol ≡ Some i → IsThunkOf l i t → thunk_target l t ≡ Ok target → term_of l (Some i) info.kind ≡ Ok h.term → IsTargeted l w m i target
+targeted_by : StubLaws → (l : Layout) (w : World) (m : Memory) (s : Item) (r : InputRelocation) (info : RelocationKindInfo) (x i target : ℕ) (t : Thunk) → KeepsAll l → (h : HasTerm l w m s r info x) → AllowsThunks info → IsFollowed l r (value_by_row info) → r.symbol ≡ Some i → IsThunkOf l i t → thunk_target l t ≡ Ok target → term_of l (Some i) info.kind ≡ Ok h.term → IsTargeted l w m i target
 targeted_by law l w m s r info x i target t all h c f named of known given = by_kind c.kind
   where
     still : IsPlaceRelative (value_by_row info) → IsAbsolute l i → w.base ≡ 0
@@ -145,10 +145,10 @@ is_branch : (k : RelocationKind) → (k ≡ kinds.Relative) ⊎ (k ≡ kinds.Plt
 is_branch k (inl e) = ap (λ (k : RelocationKind). is_symbol (expression_of k).term) e
 is_branch k (inr e) = ap (λ (k : RelocationKind). is_symbol (expression_of k).term) e
 
-pub from_place : (info : RelocationKindInfo) → Carries info → taken_of info.kind info.mask ≡ taken.Place
+pub from_place : (info : RelocationKindInfo) → AllowsThunks info → subtrahend_of info.kind info.mask ≡ taken.Place
 from_place info c = by_kind c.kind
   where
-    by_kind : (info.kind ≡ kinds.Relative) ⊎ (info.kind ≡ kinds.PltRelative) → taken_of info.kind info.mask ≡ taken.Place
+    by_kind : (info.kind ≡ kinds.Relative) ⊎ (info.kind ≡ kinds.PltRelative) → subtrahend_of info.kind info.mask ≡ taken.Place
     by_kind (inl k) = (symbol_row info c.whole k).taken
     by_kind (inr k) = (stub_row info c.whole k).taken
 
@@ -157,7 +157,7 @@ term_carried : (l : Layout) (r : InputRelocation) (info : RelocationKindInfo) �
 term_carried l r info (inl k) plain = term_plain l r (expression_of info.kind).term (plain k)
 term_carried l r info (inr k) plain = subst (λ (j : RelocationKind). term_by l r (expression_of j).term ≡ term_of l r.symbol j) (sym k) refl
 
-there : StubLaws → (l : Layout) (w : World) (m : Memory) (s : Item) (r : InputRelocation) (info : RelocationKindInfo) (x i target : ℕ) (t : Thunk) → l.machine ≡ machine.AArch64 → KeepsAll l → (h : HasTerm l w m s r info x) → Carries info → (info.kind ≡ kinds.Relative → names_merged l r.symbol ≡ false) → IsFollowed l r (value_by_row info) → contains info.range x ≡ false → cast_unsigned w64 r.addend ≡ 0 → r.symbol ≡ Some i → IsThunkOf l i t → thunk_target l t ≡ Ok target → IsThere l w m i target
+there : StubLaws → (l : Layout) (w : World) (m : Memory) (s : Item) (r : InputRelocation) (info : RelocationKindInfo) (x i target : ℕ) (t : Thunk) → l.machine ≡ machine.AArch64 → KeepsAll l → (h : HasTerm l w m s r info x) → AllowsThunks info → (info.kind ≡ kinds.Relative → names_merged l r.symbol ≡ false) → IsFollowed l r (value_by_row info) → contains info.range x ≡ false → cast_unsigned w64 r.addend ≡ 0 → r.symbol ≡ Some i → IsThunkOf l i t → thunk_target l t ≡ Ok target → IsThere l w m i target
 there law l w m s r info x i target t on all h c plain f far none named of known = by_own (is_own_place l.machine l r info) refl h.given
   where
     by_own : (b : Bool) → is_own_place l.machine l r info ≡ b → (if b then Ok (undefined_weak_target r.number (place_of s.address r)) else term_by l r (expression_of info.kind).term) ≡ Ok h.term → IsThere l w m i target
@@ -180,14 +180,14 @@ landed b c s none e = omega (arith, none, e)
 distance_moved : (base a p c : ℕ) → c ≡ 0 → base + p ≤ 2 ^ 64 → (a + (2 ^ 64 - p)) % 2 ^ 64 ≡ (base + a + c + (2 ^ 64 - (base + p))) % 2 ^ 64
 distance_moved base a p c none ends = omega (arith, none, ends)
 
-comes : (l : Layout) (w : World) (m : Memory) (r : InputRelocation) (t : Thunk) (symbol : ℕ) → (g : GoesOn l w m t) → cast_unsigned w64 r.addend ≡ 0 → (w.base + g.target) % 2 ^ 64 ≡ symbol % 2 ^ 64 → ReachesWithin 1 m ((w.base + t.address + cast_unsigned w64 r.addend) % 2 ^ 64) ((symbol + cast_unsigned w64 r.addend) % 2 ^ 64)
+comes : (l : Layout) (w : World) (m : Memory) (r : InputRelocation) (t : Thunk) (symbol : ℕ) → (g : JumpsToTarget l w m t) → cast_unsigned w64 r.addend ≡ 0 → (w.base + g.target) % 2 ^ 64 ≡ symbol % 2 ^ 64 → ReachesWithin 1 m ((w.base + t.address + cast_unsigned w64 r.addend) % 2 ^ 64) ((symbol + cast_unsigned w64 r.addend) % 2 ^ 64)
 comes l w m r t symbol g none at =
     let ends = g.ends in
     let low : w.base + t.address < 2 ^ 64 = omega (arith, ends) in
     let b = (w.base + g.target) % 2 ^ 64 in
     inr (b, subst (λ (a : ℕ). JumpsTo m a b) (added_none (w.base + t.address) (cast_unsigned w64 r.addend) none low) g.jumps, landed b (cast_unsigned w64 r.addend) symbol none at)
 
-referent_by : (l : Layout) (w : World) (m : Memory) (s : Item) (r : InputRelocation) (i : ℕ) (t : Thunk) → l.machine ≡ machine.AArch64 → r.symbol ≡ Some i → cast_unsigned w64 r.addend ≡ 0 → (g : GoesOn l w m t) → IsThere l w m i g.target → IsReferent l.machine StubDistance l w m s r (w.base + t.address)
+referent_by : (l : Layout) (w : World) (m : Memory) (s : Item) (r : InputRelocation) (i : ℕ) (t : Thunk) → l.machine ≡ machine.AArch64 → r.symbol ≡ Some i → cast_unsigned w64 r.addend ≡ 0 → (g : JumpsToTarget l w m t) → IsThere l w m i g.target → IsReferent l.machine StubDistance l w m s r (w.base + t.address)
 referent_by l w m s r i t on named none g h =
     subst (λ (k : Machine). IsReferent k StubDistance l w m s r (w.base + t.address)) (sym on)
     (inr (
@@ -199,7 +199,7 @@ referent_by l w m s r i t on named none g h =
 pub thunks_give : StubLaws → ThunksGive
 thunks_give law = λ info c l w m s r x t on all h goes plain f far found none. by_symbol info c l w m s r x t on all h goes plain f far none r.symbol refl found
   where
-    by_symbol : (info : RelocationKindInfo) → Carries info → (l : Layout) (w : World) (m : Memory) (s : Item) (r : InputRelocation) (x : ℕ) (t : Thunk) → l.machine ≡ machine.AArch64 → KeepsAll l → HasTerm l w m s r info x → EachThunkGoesOn l w m → (info.kind ≡ kinds.Relative → names_merged l r.symbol ≡ false) → IsFollowed l r (value_by_row info) → contains info.range x ≡ false → added r ≡ 0 → (o : Option ℕ) → r.symbol ≡ o → thunk_for l s.thunk_block o ≡ Some t → Gives StubDistance l w m s r (less t.address (place_of s.address r))
+    by_symbol : (info : RelocationKindInfo) → AllowsThunks info → (l : Layout) (w : World) (m : Memory) (s : Item) (r : InputRelocation) (x : ℕ) (t : Thunk) → l.machine ≡ machine.AArch64 → KeepsAll l → HasTerm l w m s r info x → EachThunkJumps l w m → (info.kind ≡ kinds.Relative → names_merged l r.symbol ≡ false) → IsFollowed l r (value_by_row info) → contains info.range x ≡ false → addend_bits r ≡ 0 → (o : Option ℕ) → r.symbol ≡ o → thunk_for l s.thunk_block o ≡ Some t → Gives StubDistance l w m s r (minus t.address (place_of s.address r))
     by_symbol info c l w m s r x t on all h goes plain f far none None named found = cc
     by_symbol info c l w m s r x t on all h goes plain f far none (Some i) named found =
         let b = of_block l s.thunk_block i t found in

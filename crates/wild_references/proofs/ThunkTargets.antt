@@ -6,22 +6,22 @@ use Rattle.wild_types.specs.declared.symbol.Resolution.{Resolution}
 use Rattle.wild_types.specs.declared.symbol.Symbol.{Symbol}
 use Rattle.wild_types.specs.declared.layout.Thunk.{Thunk}
 use Rattle.wild_types.specs.declared.layout.Layout.{Layout}
-use Rattle.wild_types.specs.Hollow.{KeepsAll}
+use Rattle.wild_types.specs.HeaderOnly.{KeepsAll}
 use Rattle.wild_types.specs.Addresses.{raw_value, placed_value, resolved_or}
 use Rattle.wild_types.specs.Lookups.{canonical}
 use Rattle.wild_layout.specs.Geometry.{DefinitionsAreFinal}
 use Rattle.wild_layout.specs.SymbolValues.{raw_address}
-use Rattle.wild_layout.specs.SlotValues.{is_chosen, resolution_of, stub_of, address_of}
+use Rattle.wild_layout.specs.SlotValues.{symbol_is_ifunc, resolution_of, stub_of, address_of}
 use Rattle.wild_layout.specs.Thunks.{stub_or, thunk_target}
 use Rattle.wild_loader.specs.declared.memory.Memory.{Memory}
 use Rattle.wild_loader.specs.declared.world.World.{World}
 use Rattle.wild_meaning.specs.Denotes.{Denotes, IsStub}
-use Rattle.wild_meaning.specs.Value.{IsAbsolute, moved}
+use Rattle.wild_meaning.specs.Value.{IsAbsolute, with_base}
 use Rattle.wild_references.specs.Terms.{IsPlaced}
 use Rattle.wild_references.proofs.StubCode.{StubLaws}
 use Rattle.wild_references.proofs.SymbolStubs.{stub_stands, stub_is}
 use Rattle.wild_references.proofs.Targets.{Follows, IsAddressed, addressed}
-use Rattle.wild_references.proofs.Written.{address_given, given_some}
+use Rattle.wild_references.proofs.WrittenFields.{address_given, given_some}
 
 -- the thunk is of the symbol's definition, which has the symbol's address
 pub record IsThunkOf (l : Layout) (i : ℕ) (t : Thunk) : Type 0 where
@@ -81,7 +81,7 @@ stub_targeted law l w m i stub target t p all of known is =
 -- ---- the symbol itself
 
 -- at base 0, or where the symbol moves
-moves_so : (b : Bool) (base a : ℕ) → (base ≡ 0) ⊎ (b ≡ false) → (base + a) % 2 ^ 64 ≡ moved b base a % 2 ^ 64
+moves_so : (b : Bool) (base a : ℕ) → (base ≡ 0) ⊎ (b ≡ false) → (base + a) % 2 ^ 64 ≡ with_base b base a % 2 ^ 64
 moves_so true base a (inl zero) = omega (arith, zero)
 moves_so true base a (inr f) = cc
 moves_so false base a h = omega arith
@@ -97,10 +97,10 @@ plain_target l i a target t final of known none given =
 pub symbol_targeted : StubLaws → (l : Layout) (w : World) (m : Memory) (i a target : ℕ) (t : Thunk) → IsPlaced l w m → KeepsAll l → IsThunkOf l i t → thunk_target l t ≡ Ok target → Follows l i → address_of l (Some i) ≡ Ok a → (IsAbsolute l i → w.base ≡ 0) → IsTargeted l w m i target
 symbol_targeted law l w m i a target t p all of known f given still = by_stub (stub_of l i) refl
   where
-    plain : stub_of l i ≡ None → (b : Bool) → is_chosen l i ≡ b → raw_value l i ≡ Some a
+    plain : stub_of l i ≡ None → (b : Bool) → symbol_is_ifunc l i ≡ b → raw_value l i ≡ Some a
     plain none b chosen = by_choice b chosen given
       where
-        by_choice : (b : Bool) → is_chosen l i ≡ b → address_of l (Some i) ≡ Ok a → raw_value l i ≡ Some a
+        by_choice : (b : Bool) → symbol_is_ifunc l i ≡ b → address_of l (Some i) ≡ Ok a → raw_value l i ≡ Some a
         by_choice true chosen h = (let e : None ≡ Some a = sym none ∙ given_some missing.Stub i (stub_of l i) a (rw chosen at h) in cc)
         by_choice false chosen h = address_given l (Some i) a (rw chosen at h)
 
@@ -110,9 +110,9 @@ symbol_targeted law l w m i a target t p all of known f given still = by_stub (s
     by_stub : (o : Option ℕ) → stub_of l i ≡ o → IsTargeted l w m i target
     by_stub (Some stub) is = stub_targeted law l w m i stub target t p all of known is
     by_stub None none =
-        let same = plain_target l i a target t p.symbols.final of known none (plain none (is_chosen l i) refl) in
+        let same = plain_target l i a target t p.symbols.final of known none (plain none (symbol_is_ifunc l i) refl) in
         let rests : (w.base ≡ 0) ⊎ (here.still ≡ false) = resting here.still refl in
-        record { symbol = moved here.still w.base a; denoted = here.denoted; at = ap (λ (n : ℕ). (w.base + n) % 2 ^ 64) (sym same) ∙ moves_so here.still w.base a rests }
+        record { symbol = with_base here.still w.base a; denoted = here.denoted; at = ap (λ (n : ℕ). (w.base + n) % 2 ^ 64) (sym same) ∙ moves_so here.still w.base a rests }
       where
         resting : (b : Bool) → here.still ≡ b → (w.base ≡ 0) ⊎ (here.still ≡ false)
         resting true e = inl (still (here.absolute i refl e))

@@ -13,15 +13,15 @@ use Rattle.wild_types.specs.declared.symbol.ValueFlags.{ValueFlags}
 use Rattle.wild_types.specs.Flags.{has_flag, interposable, dynamic, non_interposable, copy_relocation, export_dynamic}
 use Rattle.wild_types.specs.Kinds.{is_position_independent, is_shared_object}
 use Rattle.wild_types.specs.Lookups.{place_of, allocated}
-use Rattle.wild_slot.specs.Treatment.{flags_at, is_sized, where_there, address_treatment, size_treatment, kind_treatment}
+use Rattle.wild_slot.specs.Treatment.{flags_at, is_sized, if_defined, address_treatment, size_treatment, kind_treatment}
 use Rattle.wild_reloc.specs.Agreement as shape
 use Rattle.wild_reloc.specs.Agreement.{value_of}
-use Rattle.wild_reloc.specs.Expression.{expression_of, paged, taken_of, expressed}
+use Rattle.wild_reloc.specs.Expression.{expression_of, paged, subtrahend_of, expressed}
 use Rattle.wild_reloc.specs.Formula.{Value, SymbolAddress, Distance, PageDistance, FromTable, TableDistance, Size}
 use Rattle.wild_reloc.specs.declared.expression.Term.{Term}
 use Rattle.wild_reloc.specs.declared.expression.Term.TheVariants as term
-use Rattle.wild_reloc.specs.declared.expression.Taken.{Taken}
-use Rattle.wild_reloc.specs.declared.expression.Taken.TheVariants as taken
+use Rattle.wild_reloc.specs.declared.expression.Subtrahend.{Subtrahend}
+use Rattle.wild_reloc.specs.declared.expression.Subtrahend.TheVariants as taken
 use Rattle.wild_reloc.specs.declared.info.PageMask.{PageMask}
 use Rattle.wild_reloc.specs.declared.info.PageMask.TheVariants as masks
 use Rattle.wild_reloc.specs.declared.info.RelocationKind.{RelocationKind}
@@ -33,15 +33,15 @@ use Rattle.wild_layout.specs.SymbolValues.{symbol_size}
 use Rattle.wild_layout.specs.Values.{term_of, term_at, value_less, is_symbol, is_own_place, undefined_weak_target, term_by, term_value}
 use Rattle.wild_loader.specs.declared.world.World.{World}
 use Rattle.wild_loader.specs.declared.memory.Memory.{Memory}
-use Rattle.wild_meaning.specs.Value.{IsSymbol, IsReplaceable, HasOwnSize, moved}
+use Rattle.wild_meaning.specs.Value.{IsSymbol, IsReplaceable, HasOwnSize, with_base}
 use Rattle.wild_types.specs.Item.{Item}
 use Rattle.wild_meaning.specs.Formula.{page_of, IsSum, IsExtent, Gives, IsOwnSum, GivesLinked, IsPlaceRelative, TakesAddress, TakesOffset, table_at}
-use Rattle.wild_meaning.specs.Reference.{IsStubbed}
+use Rattle.wild_meaning.specs.Reference.{HasStubAddress}
 use Rattle.wild_references.proofs.OutputKinds.{library_is}
 use Rattle.wild_references.proofs.SlotFlags.{symbol_fits, dynamic_interposable, listed_at}
 use Rattle.wild_references.proofs.Symbols.{sized, replaceable_at, flags_are, definition_there}
 use Rattle.wild_references.proofs.Moves.{sum_is, distance_is, table_is, moved_distance}
-use Rattle.wild_references.proofs.Treated.{symbol_named, address_still, distance_still, size_kept, peeled}
+use Rattle.wild_references.proofs.MovingSymbols.{symbol_named, address_still, distance_still, size_kept, peeled}
 use Rattle.wild_references.proofs.StubCode.{StubLaws, paged_on}
 use Rattle.wild_references.proofs.Referents.{no_mask, with_mask, sized_is, own_parts, Refers, OwnRefers, symbol_value, refers, own_refers}
 use Rattle.wild_references.specs.Terms.{IsPlaced, is_expressed, value_by_row, HasTerm, IsFollowed}
@@ -57,8 +57,8 @@ more r = cast_unsigned w64 r.addend
 pub value_is : (info : RelocationKindInfo) (k : RelocationKind) (mask : Option PageMask) → info.kind ≡ k → info.mask ≡ mask → value_by_row info ≡ value_of k mask info.size
 value_is info k mask e f = ap (λ (j : RelocationKind). value_of j info.mask info.size) e ∙ ap (λ (o : Option PageMask). value_of k o info.size) f
 
-pub taken_is : (info : RelocationKindInfo) (k : RelocationKind) (mask : Option PageMask) → info.kind ≡ k → info.mask ≡ mask → taken_of info.kind info.mask ≡ taken_of k mask
-taken_is info k mask e f = ap (λ (j : RelocationKind). taken_of j info.mask) e ∙ ap (λ (o : Option PageMask). taken_of k o) f
+pub taken_is : (info : RelocationKindInfo) (k : RelocationKind) (mask : Option PageMask) → info.kind ≡ k → info.mask ≡ mask → subtrahend_of info.kind info.mask ≡ subtrahend_of k mask
+taken_is info k mask e f = ap (λ (j : RelocationKind). subtrahend_of j info.mask) e ∙ ap (λ (o : Option PageMask). subtrahend_of k o) f
 
 -- a term other than S is the symbol's alone
 term_plain : (l : Layout) (r : InputRelocation) (t : Term) → is_symbol t ≡ false → term_by l r t ≡ term_value l r.symbol t
@@ -82,7 +82,7 @@ plain_term l w m s r info x h none = plain_given l r info (place_of s.address r)
 right_sum : (l : Layout) (w : World) (m : Memory) (s : Item) (r : InputRelocation) (info : RelocationKindInfo) (x : ℕ) → (h : HasTerm l w m s r info x) → info.kind ≡ kinds.Absolute → (IsPlaceRelative (value_by_row info) → ⊥) → (t : Refers (value_by_row info) l w m s r h.term) → (w.base ≡ 0) ⊎ (t.still ≡ true)
 right_sum l w m s r info x h kind none t =
     let treated = subst (λ (k : RelocationKind). kind_treatment l s.flags h.number r.symbol h.row k ≡ treatments.Value h.row) kind h.treated in
-    let i = symbol_named r.symbol (λ k. where_there l h.row k (address_treatment l s.flags h.number h.row k)) h.row treated in
+    let i = symbol_named r.symbol (λ k. if_defined l h.row k (address_treatment l s.flags h.number h.row k)) h.row treated in
     elim (address_still l s h.number h.row i.0 h.room (peeled l h.row i.0 (address_treatment l s.flags h.number h.row i.0) (treatments.Value h.row) (definition_there l i.0 h.placed.symbols.named (h.listed i.0 i.1)) i.2)) [
       | inl fixed ↦ inl (h.placed.still fixed)
       | inr flag ↦ inr (sym (t.flag none i.0 i.1) ∙ flag)
@@ -105,11 +105,11 @@ links_of_sum : (z : RelocationSize) (l : Layout) (w : World) (s : Item) (r : Inp
 links_of_sum (ByteSize n) l w s r x h = h
 links_of_sum (BitMasking bits) l w s r x h = h
 
-sum_of : (v : Value) (l : Layout) (w : World) (m : Memory) (s : Item) (r : InputRelocation) (a : ℕ) → (t : Refers v l w m s r a) → IsSum v l w m s r ((moved t.still w.base a + more r) % 2 ^ 64)
-sum_of v l w m s r a t = record { symbol = moved t.still w.base a; denoted = t.referent; sum = refl }
+sum_of : (v : Value) (l : Layout) (w : World) (m : Memory) (s : Item) (r : InputRelocation) (a : ℕ) → (t : Refers v l w m s r a) → IsSum v l w m s r ((with_base t.still w.base a + more r) % 2 ^ 64)
+sum_of v l w m s r a t = record { symbol = with_base t.still w.base a; denoted = t.referent; sum = refl }
 
-own_sum : (v : Value) (l : Layout) (w : World) (s : Item) (r : InputRelocation) (a : ℕ) → (t : OwnRefers v l w s r a) → IsOwnSum v l w s r ((moved t.still w.base a + more r) % 2 ^ 64)
-own_sum v l w s r a t = record { symbol = moved t.still w.base a; denoted = t.referent; sum = refl }
+own_sum : (v : Value) (l : Layout) (w : World) (s : Item) (r : InputRelocation) (a : ℕ) → (t : OwnRefers v l w s r a) → IsOwnSum v l w s r ((with_base t.still w.base a + more r) % 2 ^ 64)
+own_sum v l w s r a t = record { symbol = with_base t.still w.base a; denoted = t.referent; sum = refl }
 
 -- what a row says of S + A itself
 record IsAddressRow (l : Layout) (w : World) (m : Memory) (s : Item) (r : InputRelocation) (info : RelocationKindInfo) (x term : ℕ) : Type 0 where
@@ -118,12 +118,12 @@ record IsAddressRow (l : Layout) (w : World) (m : Memory) (s : Item) (r : InputR
 
 address_row : (l : Layout) (w : World) (m : Memory) (s : Item) (r : InputRelocation) (info : RelocationKindInfo) (x : ℕ) → (h : HasTerm l w m s r info x) → (expression_of info.kind).term ≡ term.Symbol → (expression_of info.kind).taken ≡ taken.Nothing → IsAddressRow l w m s r info x h.term
 address_row l w m s r info x h symbol nothing =
-    let fit = subst (λ (u : Taken). is_expressed l.machine (expression_of info.kind).term u info.mask ≡ true) nothing h.expressed in
+    let fit = subst (λ (u : Subtrahend). is_expressed l.machine (expression_of info.kind).term u info.mask ≡ true) nothing h.expressed in
     let mask = no_mask l.machine term.Symbol taken.Nothing info.mask (subst (λ (t : Term). is_expressed l.machine t taken.Nothing info.mask ≡ true) symbol fit) refl in
-    let less_is : taken_of info.kind info.mask ≡ taken.Nothing = ap (λ (o : Option PageMask). paged o (expression_of info.kind).taken) mask ∙ nothing in
+    let less_is : subtrahend_of info.kind info.mask ≡ taken.Nothing = ap (λ (o : Option PageMask). paged o (expression_of info.kind).taken) mask ∙ nothing in
     record {
-      value = symbol_value info symbol ∙ ap (λ (u : Taken). shape.sized info.size (expressed term.Symbol u)) less_is;
-      sum = subst (λ (u : Taken). value_less l u h.term r.addend (place_of s.address r) ≡ x) less_is h.value;
+      value = symbol_value info symbol ∙ ap (λ (u : Subtrahend). shape.sized info.size (expressed term.Symbol u)) less_is;
+      sum = subst (λ (u : Subtrahend). value_less l u h.term r.addend (place_of s.address r) ≡ x) less_is h.value;
     }
 
 pub gives_sum : StubLaws → (info : RelocationKindInfo) → info.kind ≡ kinds.Absolute → RowGives info
@@ -137,7 +137,7 @@ gives_sum law info kind = λ l w m s r x h f.
     subst (λ (v : Value). Gives v l w m s r x) (sym a.value) (gives_of_sum info.size l w m s r x (subst (λ (v : Value). IsSum v l w m s r x) a.value sum))
 
 -- the bits of it below a page
-part_same : (b : Bool) (base a c x : ℕ) → base % 4096 ≡ 0 → (a + c) % 2 ^ 64 ≡ x → (moved b base a + c) % 2 ^ 64 % 4096 ≡ x % 4096
+part_same : (b : Bool) (base a c x : ℕ) → base % 4096 ≡ 0 → (a + c) % 2 ^ 64 ≡ x → (with_base b base a + c) % 2 ^ 64 % 4096 ≡ x % 4096
 part_same true base a c x pages e = omega (arith, e)
 part_same false base a c x pages e = omega (arith, pages, e)
 
@@ -146,7 +146,7 @@ gives_part law info symbol nothing l w m s r x pages h f =
     let a = address_row l w m s r info x h symbol nothing in
     let takes = subst TakesAddress (sym a.value) (takes_address info.size) in
     let t = refers law l w m s r info x h symbol takes f in
-    let n = (moved t.still w.base h.term + more r) % 2 ^ 64 in
+    let n = (with_base t.still w.base h.term + more r) % 2 ^ 64 in
     let sum = sum_of (value_by_row info) l w m s r h.term t in
     (n, subst (λ (v : Value). Gives v l w m s r n) (sym a.value) (gives_of_sum info.size l w m s r n (subst (λ (v : Value). IsSum v l w m s r n) a.value sum)), part_same t.still w.base h.term (more r) x pages a.sum)
 
@@ -174,7 +174,7 @@ right_relative l w m s r info x h kind relative t = by_symbol r.symbol refl
     by_symbol (Some i) e = named_one i e
 
 -- the distance of two pages
-page_distance_is : (b : Bool) (base a c p : ℕ) → base % 4096 ≡ 0 → (base ≡ 0) ⊎ (b ≡ false) → base + p ≤ 2 ^ 64 → ((a + c) % 2 ^ 64 / 4096 * 4096 + (2 ^ 64 - p / 4096 * 4096)) % 2 ^ 64 ≡ (page_of ((moved b base a + c) % 2 ^ 64) + (2 ^ 64 - page_of (base + p))) % 2 ^ 64
+page_distance_is : (b : Bool) (base a c p : ℕ) → base % 4096 ≡ 0 → (base ≡ 0) ⊎ (b ≡ false) → base + p ≤ 2 ^ 64 → ((a + c) % 2 ^ 64 / 4096 * 4096 + (2 ^ 64 - p / 4096 * 4096)) % 2 ^ 64 ≡ (page_of ((with_base b base a + c) % 2 ^ 64) + (2 ^ 64 - page_of (base + p))) % 2 ^ 64
 page_distance_is true base a c p pages (inl z) ends = omega (arith, z, ends)
 page_distance_is false base a c p pages (inl z) ends = omega (arith, z, ends)
 page_distance_is true base a c p pages (inr f) ends = cc
@@ -193,21 +193,21 @@ record IsPageRow (l : Layout) (w : World) (m : Memory) (s : Item) (r : InputRelo
 distance_row : (l : Layout) (w : World) (m : Memory) (s : Item) (r : InputRelocation) (info : RelocationKindInfo) (x : ℕ) → (h : HasTerm l w m s r info x) → info.kind ≡ kinds.Relative → IsDistanceRow l w m s r info x h.term ⊎ IsPageRow l w m s r info x h.term
 distance_row l w m s r info x h kind = by_mask info.mask refl (subst (λ (k : RelocationKind). is_expressed l.machine (expression_of k).term (expression_of k).taken info.mask ≡ true) kind h.expressed)
   where
-    paged_row : (mask : PageMask) → info.mask ≡ Some mask → taken_of kinds.Relative (Some mask) ≡ taken.PagePlace → l.machine ≡ machine.AArch64 → IsPageRow l w m s r info x h.term
+    paged_row : (mask : PageMask) → info.mask ≡ Some mask → subtrahend_of kinds.Relative (Some mask) ≡ taken.PagePlace → l.machine ≡ machine.AArch64 → IsPageRow l w m s r info x h.term
     paged_row mask e less on =
         let is = taken_is info kinds.Relative (Some mask) kind e ∙ less in
         record {
           on = on;
-          value = symbol_value info (ap (λ (k : RelocationKind). (expression_of k).term) kind) ∙ (ap (λ (u : Taken). shape.sized info.size (expressed term.Symbol u)) is ∙ sized_is info.size PageDistance refl);
-          distance = subst (λ (u : Taken). value_less l u h.term r.addend (place_of s.address r) ≡ x) is h.value;
+          value = symbol_value info (ap (λ (k : RelocationKind). (expression_of k).term) kind) ∙ (ap (λ (u : Subtrahend). shape.sized info.size (expressed term.Symbol u)) is ∙ sized_is info.size PageDistance refl);
+          distance = subst (λ (u : Subtrahend). value_less l u h.term r.addend (place_of s.address r) ≡ x) is h.value;
         }
 
     by_mask : (o : Option PageMask) → info.mask ≡ o → is_expressed l.machine term.Symbol taken.Place o ≡ true → IsDistanceRow l w m s r info x h.term ⊎ IsPageRow l w m s r info x h.term
     by_mask None e f =
-        let is : taken_of info.kind info.mask ≡ taken.Place = taken_is info kinds.Relative None kind e in
+        let is : subtrahend_of info.kind info.mask ≡ taken.Place = taken_is info kinds.Relative None kind e in
         inl (record {
-          value = symbol_value info (ap (λ (k : RelocationKind). (expression_of k).term) kind) ∙ (ap (λ (u : Taken). shape.sized info.size (expressed term.Symbol u)) is ∙ sized_is info.size Distance refl);
-          distance = subst (λ (u : Taken). value_less l u h.term r.addend (place_of s.address r) ≡ x) is h.value;
+          value = symbol_value info (ap (λ (k : RelocationKind). (expression_of k).term) kind) ∙ (ap (λ (u : Subtrahend). shape.sized info.size (expressed term.Symbol u)) is ∙ sized_is info.size Distance refl);
+          distance = subst (λ (u : Subtrahend). value_less l u h.term r.addend (place_of s.address r) ≡ x) is h.value;
         })
     by_mask (Some masks.SymbolPlusAddendAndPosition) e f = inr (paged_row masks.SymbolPlusAddendAndPosition e refl (with_mask l.machine term.Symbol taken.Place masks.SymbolPlusAddendAndPosition f).0)
     by_mask (Some masks.GotEntryAndPosition) e f = (let no = (with_mask l.machine term.Symbol taken.Place masks.GotEntryAndPosition f).1 in cc)
@@ -220,14 +220,14 @@ gives_distance law info kind = λ l w m s r x h f. by_row law info kind l w m s 
     by_row law info kind l w m s r x h f (inl d) =
         let t = refers law l w m s r info x h (ap (λ (k : RelocationKind). (expression_of k).term) kind) (subst TakesAddress (sym d.value) tt) f in
         let e = distance_is t.still w.base h.term (more r) (place_of s.address r) (right_relative l w m s r info x h (inl kind) (subst IsPlaceRelative (sym d.value) tt) t) h.ends in
-        let n = (moved t.still w.base h.term + more r) % 2 ^ 64 in
+        let n = (with_base t.still w.base h.term + more r) % 2 ^ 64 in
         let at = ap (λ (p : ℕ). (n + (2 ^ 64 - p)) % 2 ^ 64) (sym h.place) in
         subst (λ (v : Value). Gives v l w m s r x) (sym d.value) (n, subst (λ (v : Value). IsSum v l w m s r n) d.value (sum_of (value_by_row info) l w m s r h.term t), sym d.distance ∙ e ∙ at)
     by_row law info kind l w m s r x h f (inr d) =
         let t = refers law l w m s r info x h (ap (λ (k : RelocationKind). (expression_of k).term) kind) (subst TakesAddress (sym d.value) tt) f in
         let pages = (paged_on l w h.placed.paged d.on).pages in
         let e = page_distance_is t.still w.base h.term (more r) (place_of s.address r) pages (right_relative l w m s r info x h (inl kind) (subst IsPlaceRelative (sym d.value) tt) t) h.ends in
-        let n = (moved t.still w.base h.term + more r) % 2 ^ 64 in
+        let n = (with_base t.still w.base h.term + more r) % 2 ^ 64 in
         let at = ap (λ (p : ℕ). (page_of n + (2 ^ 64 - page_of p)) % 2 ^ 64) (sym h.place) in
         subst (λ (v : Value). Gives v l w m s r x) (sym d.value) (n, subst (λ (v : Value). IsSum v l w m s r n) d.value (sum_of (value_by_row info) l w m s r h.term t), sym d.distance ∙ e ∙ at)
 
@@ -239,10 +239,10 @@ record IsTableRow (l : Layout) (w : World) (m : Memory) (s : Item) (r : InputRel
 table_row : (l : Layout) (w : World) (m : Memory) (s : Item) (r : InputRelocation) (info : RelocationKindInfo) (x : ℕ) → (h : HasTerm l w m s r info x) → info.kind ≡ kinds.SymRelGotBase → IsTableRow l w m s r info x h.term
 table_row l w m s r info x h kind =
     let mask = no_mask l.machine term.Symbol taken.Table info.mask (subst (λ (k : RelocationKind). is_expressed l.machine (expression_of k).term (expression_of k).taken info.mask ≡ true) kind h.expressed) refl in
-    let less : taken_of info.kind info.mask ≡ taken.Table = taken_is info kinds.SymRelGotBase None kind mask in
+    let less : subtrahend_of info.kind info.mask ≡ taken.Table = taken_is info kinds.SymRelGotBase None kind mask in
     record {
-      value = symbol_value info (ap (λ (k : RelocationKind). (expression_of k).term) kind) ∙ (ap (λ (u : Taken). shape.sized info.size (expressed term.Symbol u)) less ∙ sized_is info.size FromTable refl);
-      distance = subst (λ (u : Taken). value_less l u h.term r.addend (place_of s.address r) ≡ x) less h.value;
+      value = symbol_value info (ap (λ (k : RelocationKind). (expression_of k).term) kind) ∙ (ap (λ (u : Subtrahend). shape.sized info.size (expressed term.Symbol u)) less ∙ sized_is info.size FromTable refl);
+      distance = subst (λ (u : Subtrahend). value_less l u h.term r.addend (place_of s.address r) ≡ x) less h.value;
     }
 
 pub gives_from_table : StubLaws → (info : RelocationKindInfo) → info.kind ≡ kinds.SymRelGotBase → RowGives info
@@ -250,13 +250,13 @@ gives_from_table law info kind = λ l w m s r x h f.
     let d = table_row l w m s r info x h kind in
     let t = refers law l w m s r info x h (ap (λ (k : RelocationKind). (expression_of k).term) kind) (subst TakesAddress (sym d.value) tt) f in
     let e = table_is t.still w.base h.term (more r) l.got_base (right_relative l w m s r info x h (inr kind) (subst IsPlaceRelative (sym d.value) tt) t) h.placed.got in
-    let n = (moved t.still w.base h.term + more r) % 2 ^ 64 in
+    let n = (with_base t.still w.base h.term + more r) % 2 ^ 64 in
     subst (λ (v : Value). Gives v l w m s r x) (sym d.value) (n, subst (λ (v : Value). IsSum v l w m s r n) d.value (sum_of (value_by_row info) l w m s r h.term t), sym d.distance ∙ e)
 
 -- ---- the same with the own symbol, at base 0
 
 -- such an expression takes no offset
-bare : (v : Value) (l : Layout) (i : ℕ) → (TakesOffset v → ⊥) → (IsStubbed l i → ⊥) ⊎ TakesOffset v → IsStubbed l i → ⊥
+bare : (v : Value) (l : Layout) (i : ℕ) → (TakesOffset v → ⊥) → (HasStubAddress l i → ⊥) ⊎ TakesOffset v → HasStubAddress l i → ⊥
 bare v l i none (inl alone) = alone
 bare v l i none (inr offset) = absurd (none offset)
 
@@ -275,18 +275,18 @@ links_address info symbol nothing = λ l w m s r x i h zero named whose alone.
 pub links_distance : (info : RelocationKindInfo) → info.kind ≡ kinds.Relative → RowGivesLinked info
 links_distance info kind = λ l w m s r x i h zero named whose alone. by_row info kind l w m s r x i h zero named whose alone (distance_row l w m s r info x h kind)
   where
-    by_row : (info : RelocationKindInfo) → info.kind ≡ kinds.Relative → (l : Layout) (w : World) (m : Memory) (s : Item) (r : InputRelocation) (x i : ℕ) → (h : HasTerm l w m s r info x) → w.base ≡ 0 → r.symbol ≡ Some i → IsReplaceable l i true → (IsStubbed l i → ⊥) ⊎ TakesOffset (value_by_row info) → IsDistanceRow l w m s r info x h.term ⊎ IsPageRow l w m s r info x h.term → GivesLinked (value_by_row info) l w s r x
+    by_row : (info : RelocationKindInfo) → info.kind ≡ kinds.Relative → (l : Layout) (w : World) (m : Memory) (s : Item) (r : InputRelocation) (x i : ℕ) → (h : HasTerm l w m s r info x) → w.base ≡ 0 → r.symbol ≡ Some i → IsReplaceable l i true → (HasStubAddress l i → ⊥) ⊎ TakesOffset (value_by_row info) → IsDistanceRow l w m s r info x h.term ⊎ IsPageRow l w m s r info x h.term → GivesLinked (value_by_row info) l w s r x
     by_row info kind l w m s r x i h zero named whose alone (inl d) =
         let t = own_refers l w m s r info x i h (ap (λ (k : RelocationKind). (expression_of k).term) kind) named whose (bare (value_by_row info) l i (λ o. subst TakesOffset d.value o) alone) in
         let e = distance_is t.still w.base h.term (more r) (place_of s.address r) (inl zero) h.ends in
-        let n = (moved t.still w.base h.term + more r) % 2 ^ 64 in
+        let n = (with_base t.still w.base h.term + more r) % 2 ^ 64 in
         let at = ap (λ (p : ℕ). (n + (2 ^ 64 - p)) % 2 ^ 64) (sym h.place) in
         subst (λ (v : Value). GivesLinked v l w s r x) (sym d.value) (n, subst (λ (v : Value). IsOwnSum v l w s r n) d.value (own_sum (value_by_row info) l w s r h.term t), sym d.distance ∙ e ∙ at)
     by_row info kind l w m s r x i h zero named whose alone (inr d) =
         let t = own_refers l w m s r info x i h (ap (λ (k : RelocationKind). (expression_of k).term) kind) named whose (bare (value_by_row info) l i (λ o. subst TakesOffset d.value o) alone) in
         let pages = (paged_on l w h.placed.paged d.on).pages in
         let e = page_distance_is t.still w.base h.term (more r) (place_of s.address r) pages (inl zero) h.ends in
-        let n = (moved t.still w.base h.term + more r) % 2 ^ 64 in
+        let n = (with_base t.still w.base h.term + more r) % 2 ^ 64 in
         let at = ap (λ (p : ℕ). (page_of n + (2 ^ 64 - page_of p)) % 2 ^ 64) (sym h.place) in
         subst (λ (v : Value). GivesLinked v l w s r x) (sym d.value) (n, subst (λ (v : Value). IsOwnSum v l w s r n) d.value (own_sum (value_by_row info) l w s r h.term t), sym d.distance ∙ e ∙ at)
 
@@ -295,7 +295,7 @@ links_from_table info kind = λ l w m s r x i h zero named whose alone.
     let d = table_row l w m s r info x h kind in
     let t = own_refers l w m s r info x i h (ap (λ (k : RelocationKind). (expression_of k).term) kind) named whose (bare (value_by_row info) l i (λ o. subst TakesOffset d.value o) alone) in
     let e = table_is t.still w.base h.term (more r) l.got_base (inl zero) h.placed.got in
-    let n = (moved t.still w.base h.term + more r) % 2 ^ 64 in
+    let n = (with_base t.still w.base h.term + more r) % 2 ^ 64 in
     subst (λ (v : Value). GivesLinked v l w s r x) (sym d.value) (n, subst (λ (v : Value). IsOwnSum v l w s r n) d.value (own_sum (value_by_row info) l w s r h.term t), sym d.distance ∙ e)
 
 -- ---- GOT + A - P
@@ -304,11 +304,11 @@ pub gives_table : (info : RelocationKindInfo) → info.kind ≡ kinds.GotBaseRel
 gives_table info kind = λ l w m s r x h f.
     let mask = no_mask l.machine term.Table taken.Place info.mask (subst (λ (k : RelocationKind). is_expressed l.machine (expression_of k).term (expression_of k).taken info.mask ≡ true) kind h.expressed) refl in
     let is : value_by_row info ≡ TableDistance = value_is info kinds.GotBaseRelative None kind mask ∙ sized_is info.size TableDistance refl in
-    let less : taken_of info.kind info.mask ≡ taken.Place = taken_is info kinds.GotBaseRelative None kind mask in
+    let less : subtrahend_of info.kind info.mask ≡ taken.Place = taken_is info kinds.GotBaseRelative None kind mask in
     let plain = plain_term l w m s r info x h (ap (λ (k : RelocationKind). is_symbol (expression_of k).term) kind) in
     let given : Ok l.got_base ≡ Ok h.term = subst (λ (k : RelocationKind). term_of l r.symbol k ≡ Ok h.term) kind plain in
     let g : l.got_base ≡ h.term = cc in
-    let value : ((h.term + more r) % 2 ^ 64 + (2 ^ 64 - place_of s.address r)) % 2 ^ 64 ≡ x = subst (λ (u : Taken). value_less l u h.term r.addend (place_of s.address r) ≡ x) less h.value in
+    let value : ((h.term + more r) % 2 ^ 64 + (2 ^ 64 - place_of s.address r)) % 2 ^ 64 ≡ x = subst (λ (u : Subtrahend). value_less l u h.term r.addend (place_of s.address r) ≡ x) less h.value in
     let e = moved_distance w.base l.got_base (more r) (place_of s.address r) h.ends in
     let here = ap (λ (n : ℕ). ((n + more r) % 2 ^ 64 + (2 ^ 64 - place_of s.address r)) % 2 ^ 64) g in
     let at = ap (λ (p : ℕ). (table_at l w + more r + (2 ^ 64 - p)) % 2 ^ 64) (sym h.place) in
@@ -346,12 +346,12 @@ gives_size info kind = λ l w m s r x h f.
     let is : value_by_row info ≡ Size = value_is info kinds.SymbolSize None kind mask ∙ sized_is info.size Size refl in
     let less = taken_is info kinds.SymbolSize None kind mask in
     let treated = subst (λ (k : RelocationKind). kind_treatment l s.flags h.number r.symbol h.row k ≡ treatments.Value h.row) kind h.treated in
-    let i = symbol_named r.symbol (λ k. where_there l h.row k (size_treatment l s.flags h.row k)) h.row treated in
+    let i = symbol_named r.symbol (λ k. if_defined l h.row k (size_treatment l s.flags h.row k)) h.row treated in
     let z = slice_get_inside l.symbols i.0 (h.listed i.0 i.1) in
     let own = own_size l w m s i.0 z.0 h.placed z.1 h.room (size_kept l s h.row i.0 (peeled l h.row i.0 (size_treatment l s.flags h.row i.0) (treatments.Value h.row) (definition_there l i.0 h.placed.symbols.named (h.listed i.0 i.1)) i.2)) in
     let plain : term_of l r.symbol info.kind ≡ Ok h.term = plain_term l w m s r info x h (ap (λ (k : RelocationKind). is_symbol (expression_of k).term) kind) in
     let given : term_of l (Some i.0) kinds.SymbolSize ≡ Ok h.term = subst (λ (o : Option ℕ). term_of l o kinds.SymbolSize ≡ Ok h.term) i.1 (subst (λ (k : RelocationKind). term_of l r.symbol k ≡ Ok h.term) kind plain) in
     let g : symbol_size l i.0 ≡ h.term = cc in
     let size : IsExtent l w (Some i.0) h.term = inr (own, subst (λ (n : ℕ). HasOwnSize l i.0 n) g (sized l i.0 z.0 h.placed.symbols.named z.1)) in
-    let value : (h.term + more r) % 2 ^ 64 ≡ x = subst (λ (u : Taken). value_less l u h.term r.addend (place_of s.address r) ≡ x) less h.value in
+    let value : (h.term + more r) % 2 ^ 64 ≡ x = subst (λ (u : Subtrahend). value_less l u h.term r.addend (place_of s.address r) ≡ x) less h.value in
     subst (λ (v : Value). Gives v l w m s r x) (sym is) (h.term, subst (λ (o : Option ℕ). IsExtent l w o h.term) (sym i.1) size, inl (sym value))

@@ -14,7 +14,7 @@ use Rattle.wild_types.specs.declared.layout.Layout.{Layout}
 use Rattle.wild_types.specs.Lookups.{canonical, has_address, is_discarded, files_of, file_of, is_allocated_part}
 use Rattle.wild_types.specs.Addresses.{raw_value, resolved_or, placed_value, address_at, address_in_file, address_in_section}
 use Rattle.wild_meaning.specs.Section.{IsAllocatedPart, IsPlaced}
-use Rattle.wild_meaning.specs.Value.{IsSymbol, IsDefinedBy, IsOwnFile, StandsAt, IsResolved, IsUnresolved, HasRaw}
+use Rattle.wild_meaning.specs.Value.{IsSymbol, IsDefinedBy, IsOwnFile, IsLocatedAt, IsResolved, IsUnresolved, HasRaw}
 use Rattle.wild_meaning.proofs.BitLemmas.{alloc_bit}
 
 -- ---- where a symbol stands
@@ -46,7 +46,7 @@ is_placed l s h =
     zero_not : (a : ℕ) → (a == 0) ≡ false → a ≡ 0 → ⊥
     zero_not a f z = let t : (a == 0) ≡ true = rw z refl in cc
 
-section_stands : (l : Layout) (i a n : ℕ) (symbol : Symbol) (f : File) (o : Option InputSection) → IsSymbol l i symbol → symbol.place ≡ at.Section n → IsOwnFile l i f → slice_get f.sections n ≡ o → address_in_section l symbol.value o ≡ Some a → StandsAt l i a
+section_stands : (l : Layout) (i a n : ℕ) (symbol : Symbol) (f : File) (o : Option InputSection) → IsSymbol l i symbol → symbol.place ≡ at.Section n → IsOwnFile l i f → slice_get f.sections n ≡ o → address_in_section l symbol.value o ≡ Some a → IsLocatedAt l i a
 section_stands l i a n symbol f None listed place own found h = cc
 section_stands l i a n symbol f (Some s) listed place own found h =
     elim (cases_Bool (has_address l s)) [
@@ -57,11 +57,11 @@ section_stands l i a n symbol f (Some s) listed place own found h =
           record { symbol = symbol; listed = listed; number = n; place = place; file = f; own = own; section = s; found = found; placed = is_placed l s t; address = sym same })
     ]
 
-file_stands : (l : Layout) (i a n : ℕ) (symbol : Symbol) (o : Option File) → IsSymbol l i symbol → symbol.place ≡ at.Section n → file_of (files_of l.groups) i ≡ o → address_in_file l n symbol.value o ≡ Some a → StandsAt l i a
+file_stands : (l : Layout) (i a n : ℕ) (symbol : Symbol) (o : Option File) → IsSymbol l i symbol → symbol.place ≡ at.Section n → file_of (files_of l.groups) i ≡ o → address_in_file l n symbol.value o ≡ Some a → IsLocatedAt l i a
 file_stands l i a n symbol None listed place is h = cc
 file_stands l i a n symbol (Some f) listed place is h = section_stands l i a n symbol f (slice_get f.sections n) listed place is refl h
 
-place_stands : (l : Layout) (i a : ℕ) (symbol : Symbol) (p : Place) → IsSymbol l i symbol → symbol.place ≡ p → address_at l i symbol.value p ≡ Some a → StandsAt l i a
+place_stands : (l : Layout) (i a : ℕ) (symbol : Symbol) (p : Place) → IsSymbol l i symbol → symbol.place ≡ p → address_at l i symbol.value p ≡ Some a → IsLocatedAt l i a
 place_stands l i a symbol at.Undefined listed place h = cc
 place_stands l i a symbol at.Absolute listed place h = cc
 place_stands l i a symbol at.Common listed place h = cc
@@ -90,7 +90,7 @@ resolved_none l c (Some t) is h = λ s e. (let same : t ≡ s = cc in subst (λ 
     inner t None e h = e
     inner t (Some r) e h = cc
 
-given_by : (l : Layout) (i c a : ℕ) (symbol : Symbol) (d : Option ℕ) → IsSymbol l i symbol → decided l c ≡ d → resolved_or d (placed_value l i) ≡ Some a → IsResolved l c a ⊎ (IsUnresolved l c × StandsAt l i a)
+given_by : (l : Layout) (i c a : ℕ) (symbol : Symbol) (d : Option ℕ) → IsSymbol l i symbol → decided l c ≡ d → resolved_or d (placed_value l i) ≡ Some a → IsResolved l c a ⊎ (IsUnresolved l c × IsLocatedAt l i a)
 given_by l i c a symbol (Some v) listed is h =
     let same : v ≡ a = cc in
     inl (resolved_some l c a (slice_get l.symbols c) refl (is ∙ ap Some same))

@@ -12,7 +12,7 @@ use Rattle.wild_meaning.proofs.OutputLemmas.{still_fixed, moving_movable}
 use Rattle.wild_references.proofs.KeptItems.{item_lies, addends_fit}
 use Rattle.wild_references.specs.Terms.{SymbolsFit, MovesByPages, IsPlaced}
 use Rattle.wild_references.specs.Laws.{HasBytes, IsLoadedItem, ItemFieldsHold}
-use Rattle.wild_references.specs.Thunks.{ThunksGoOn}
+use Rattle.wild_references.specs.Thunks.{ThunksJumpToTargets}
 use Rattle.wild_references.proofs.Fields.{Tables, KindLaws, LinkedLaws, IsItemLoaded}
 use Rattle.wild_references.proofs.References.{field_holds, field_links}
 
@@ -38,7 +38,7 @@ placed k l w m s h = record {
 
 -- ---- a kept item
 
-item_loaded : (k : Machine) (l : Layout) (w : World) (m : Memory) (s : Item) → Tables → KindLaws → LinkedLaws → ThunksGoOn → IsLoadedItem k l w m s → IsItemLoaded l w m s
+item_loaded : (k : Machine) (l : Layout) (w : World) (m : Memory) (s : Item) → Tables → KindLaws → LinkedLaws → ThunksJumpToTargets → IsLoadedItem k l w m s → IsItemLoaded l w m s
 item_loaded k l w m s tables kinds linked go h =
     let lies = item_lies l s h.loadable h.laid h.kept in
     let there = placed k l w m s h in
@@ -59,7 +59,7 @@ item_loaded k l w m s tables kinds linked go h =
       item = h.item;
     }
 
-pub item_fields_hold : Tables → KindLaws → LinkedLaws → ThunksGoOn → ItemFieldsHold
+pub item_fields_hold : Tables → KindLaws → LinkedLaws → ThunksJumpToTargets → ItemFieldsHold
 item_fields_hold tables kinds linked go = λ k l w m s h.
     let there = item_loaded k l w m s tables kinds linked go h in
     record {

@@ -26,11 +26,11 @@ use Rattle.wild_relax.specs.Pattern.{field_of}
 use Rattle.wild_relax.specs.RowSequences.{has_its_sequence, partner_distance, call_form, is_call_number, is_partner_at, form_by}
 use Rattle.wild_relax.specs.Rows.{applies}
 use Rattle.wild_relax.specs.RowSequences as rows
-use Rattle.wild_relax.specs.Linked.{pattern_of, pattern_size}
+use Rattle.wild_relax.specs.LinkedPattern.{pattern_of, pattern_size}
 use Rattle.wild_relax.specs.declared.row.Partner as writer
 use Rattle.wild_relax.proofs.RoomLemmas.{partner_asked}
 use Rattle.wild_layout.specs.declared.decision.Decision.{Decision}
-use Rattle.wild_layout.specs.declared.decision.Decision.TheVariants.{Nothing, Field, Moved, Left, Rewritten, Partner}
+use Rattle.wild_layout.specs.declared.decision.Decision.TheVariants.{Nothing, Field, RelativeAddress, DynamicField, Rewritten, Partner}
 use Rattle.wild_layout.specs.Choice.{info_of, question_of, choice_of}
 use Rattle.wild_layout.specs.Sites.{field_site, template_site, site_for}
 use Rattle.wild_layout.proofs.DecideLemmas.{HasField, IsNothing, decided_field, decided_moved, decided_left, decided_nothing, field_has, moved_has, left_has}
@@ -123,8 +123,8 @@ silent_width = refl
 -- how many bytes a decision writes
 abbrev pub written_width : Decision → ℕ
 written_width (Field z v) = size_width z
-written_width (Moved v packed) = 8
-written_width (Left z number symbol addend) = size_width z
+written_width (RelativeAddress v packed) = 8
+written_width (DynamicField z number symbol addend) = size_width z
 written_width other = 0
 
 has_width : (l : Layout) (r : InputRelocation) (z : RelocationSize) → l.machine ≡ machine.X86_64 → HasField l r z → width_of r.number ≡ size_width z
@@ -144,8 +144,8 @@ none_width l r x86 f =
 -- the size of the field that a decision writes, or leaves
 abbrev pub IsFieldOf : Layout → InputRelocation → Decision → Type 0
 IsFieldOf l r (Field z v) = HasField l r z
-IsFieldOf l r (Moved v packed) = HasField l r (ByteSize Eight)
-IsFieldOf l r (Left z n symbol addend) = HasField l r z
+IsFieldOf l r (RelativeAddress v packed) = HasField l r (ByteSize Eight)
+IsFieldOf l r (DynamicField z n symbol addend) = HasField l r z
 IsFieldOf l r other = ⊤
 
 -- is that of the relocation's row
@@ -157,8 +157,8 @@ kept_field l s i r (Field z v) h k =
       | inr (inl kept) ↦ kept.field
       | inr (inr kept) ↦ kept.field
     ]
-kept_field l s i r (Moved v packed) h k = moved_has l s r v packed (decided_moved l s r v packed (decide_moved l s i r v packed h.listed h.decided).made)
-kept_field l s i r (Left z n symbol addend) h k = left_has l s r z n symbol addend (decided_left l s r z n symbol addend (decide_left l s i r z n symbol addend h.listed h.decided).made)
+kept_field l s i r (RelativeAddress v packed) h k = moved_has l s r v packed (decided_moved l s r v packed (decide_moved l s i r v packed h.listed h.decided).made)
+kept_field l s i r (DynamicField z n symbol addend) h k = left_has l s r z n symbol addend (decided_left l s r z n symbol addend (decide_left l s i r z n symbol addend h.listed h.decided).made)
 kept_field l s i r (Rewritten row v) h k = absurd k
 kept_field l s i r Partner h k = absurd k
 
@@ -166,8 +166,8 @@ kept_field l s i r Partner h k = absurd k
 pub kept_width : (l : Layout) (s : Item) (i : ℕ) (r : InputRelocation) (d : Decision) → l.machine ≡ machine.X86_64 → HasDecision l s i r d → KeepsInstruction d → width_of r.number ≡ written_width d
 kept_width l s i r Nothing x86 h k = none_width l r x86 (decided_nothing l s r (decide_nothing l s i r h.listed h.decided).made)
 kept_width l s i r (Field z v) x86 h k = has_width l r z x86 (kept_field l s i r (Field z v) h k)
-kept_width l s i r (Moved v packed) x86 h k = has_width l r (ByteSize Eight) x86 (kept_field l s i r (Moved v packed) h k)
-kept_width l s i r (Left z n symbol addend) x86 h k = has_width l r z x86 (kept_field l s i r (Left z n symbol addend) h k)
+kept_width l s i r (RelativeAddress v packed) x86 h k = has_width l r (ByteSize Eight) x86 (kept_field l s i r (RelativeAddress v packed) h k)
+kept_width l s i r (DynamicField z n symbol addend) x86 h k = has_width l r z x86 (kept_field l s i r (DynamicField z n symbol addend) h k)
 kept_width l s i r (Rewritten row v) x86 h k = absurd k
 kept_width l s i r Partner x86 h k = absurd k
 
@@ -232,8 +232,8 @@ call_site l s i q row v d p listed h is =
 pub has_site : (l : Layout) (s : Item) (j : ℕ) (q : InputRelocation) (d : Decision) → l.machine ≡ machine.X86_64 → IsDecided l s → HasDecision l s j q d → (width_of q.number ≡ 0) ⊎ HasSite l s j q d
 has_site l s j q Nothing x86 whole h = inl (kept_width l s j q Nothing x86 h tt)
 has_site l s j q (Field z v) x86 whole h = inr (field_has_site l s j q (Field z v) z v h (kept_width l s j q (Field z v) x86 h tt) refl)
-has_site l s j q (Moved v packed) x86 whole h = inr (field_has_site l s j q (Moved v packed) (ByteSize Eight) (if packed then v else 0) h (kept_width l s j q (Moved v packed) x86 h tt) refl)
-has_site l s j q (Left z n symbol addend) x86 whole h = inr (field_has_site l s j q (Left z n symbol addend) z 0 h (kept_width l s j q (Left z n symbol addend) x86 h tt) refl)
+has_site l s j q (RelativeAddress v packed) x86 whole h = inr (field_has_site l s j q (RelativeAddress v packed) (ByteSize Eight) (if packed then v else 0) h (kept_width l s j q (RelativeAddress v packed) x86 h tt) refl)
+has_site l s j q (DynamicField z n symbol addend) x86 whole h = inr (field_has_site l s j q (DynamicField z n symbol addend) z 0 h (kept_width l s j q (DynamicField z n symbol addend) x86 h tt) refl)
 has_site l s j q (Rewritten row v) x86 whole h =
     let w = window_is l s j q row v x86 h in
     let before = w.before in

@@ -14,17 +14,17 @@ use Rattle.wild_relax.specs.Question.{Question, relocation_of, minus_four}
 use Rattle.wild_relax.specs.Pattern.{field_of, stands_before}
 use Rattle.wild_relax.specs.RowSymbols.{takes_value, takes_symbol}
 use Rattle.wild_relax.specs.RowSequences.{partner_distance, call_form, is_call_number, has_its_sequence}
-use Rattle.wild_relax.specs.Rows.{rows_x86_64, applies, chosen_x86_64}
+use Rattle.wild_relax.specs.Rows.{rows_x86_64, applies, chosen_row_x86_64}
 use Rattle.wild_relax.specs.RowSymbols.{is_mandatory}
 use Rattle.wild_relax.specs.Rewrite.{is_skip}
 use Rattle.wild_relax.specs.RewriteX86_64.{rewrite_of}
-use Rattle.wild_relax.specs.Linked.{pattern_of, pattern_size, keeps_bytes}
+use Rattle.wild_relax.specs.LinkedPattern.{pattern_of, pattern_size, keeps_bytes}
 use Rattle.wild_meaning.specs.Field.{form_width}
 use Rattle.wild_relax.proofs.RowLemmas.{either}
 use Rattle.wild_relax.proofs.RoomLemmas.{chosen_is}
 
 -- a row that is chosen stands, with its sequence
-pub chosen_stands : (q : Question) (row : Row) → chosen_x86_64 q ≡ Ok (Some row) → (applies q row ≡ true) × (has_its_sequence q row ≡ true)
+pub chosen_stands : (q : Question) (row : Row) → chosen_row_x86_64 q ≡ Ok (Some row) → (applies q row ≡ true) × (has_its_sequence q row ≡ true)
 chosen_stands q row e = let c = chosen_is q row e in (c.here, c.whole)
 
 -- ---- what is asked
@@ -37,7 +37,7 @@ pub record Applied (q : Question) (row : Row) : Type 0 where
   pub thread : (not row.thread_local || is_executable q.kind) ≡ true
   pub value : takes_value row.value q ≡ true
   pub counts : (not row.ends || minus_four (relocation_of q).addend) ≡ true
-  pub stands : (row.anywhere || stands_before q.bytes (relocation_of q).offset row.always) ≡ true
+  pub stands : (row.ignores_bytes || stands_before q.bytes (relocation_of q).offset row.required_bytes) ≡ true
 
 pub applied : (q : Question) (row : Row) → applies q row ≡ true → Applied q row
 unfolding applies

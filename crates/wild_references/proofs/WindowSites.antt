@@ -7,8 +7,8 @@ use Rattle.std.proofs.lemmas.List.{take-take, get_or-take, length-take-le}
 use Rattle.std.proofs.lemmas.List.Concat.{get_or-flat_map}
 use Rattle.std.proofs.lemmas.List.Folds.{length-flat_map-take}
 use Rattle.std.proofs.lemmas.List.FromFn.{get_or-range_with_len, length-range_with_len}
-use Rattle.wild_words.specs.Overlay.{Piece, Apart}
-use Rattle.wild_words.proofs.OrderLemmas.{Apart-flip}
+use Rattle.wild_words.specs.Overlay.{Piece, Disjoint}
+use Rattle.wild_words.proofs.OrderLemmas.{Disjoint-flip}
 use Rattle.wild_types.specs.declared.input.InputRelocation.{InputRelocation}
 use Rattle.wild_types.specs.Item.{Item}
 use Rattle.wild_types.specs.declared.layout.Layout.{Layout}
@@ -41,7 +41,7 @@ piece_ends l s i p ns lt n only =
     let e = length-flat_map-take (site l s) ns i 0 lt in
     omega (arith, here, e)
 
-ordered : (l : Layout) (s : Item) → IsDecided l s → (i j : ℕ) (p q : Piece) → i < j → j < length s.relocations → site l s i ≡ p ∷ [] → site l s j ≡ q ∷ [] → Apart p q
+ordered : (l : Layout) (s : Item) → IsDecided l s → (i j : ℕ) (p q : Piece) → i < j → j < length s.relocations → site l s i ≡ p ∷ [] → site l s j ≡ q ∷ [] → Disjoint p q
 ordered l s whole i j p q lt within first second =
     let xs = range_with_len 0 (length s.relocations) in
     let long = length-range_with_len 0 (length s.relocations) in
@@ -57,14 +57,14 @@ ordered l s whole i j p q lt within first second =
     let pair = whole.apart.apart (a + 0) (b + 0) p (omega (arith, inner, same)) (omega (arith, outer)) in
     let e = piece_is l s i p (omega arith) first p in
     let f = piece_is l s j q within second p in
-    subst (λ (x : Piece). Apart p x) f (subst (λ (x : Piece). Apart x (get_or (sites l s) (b + 0) p)) e pair)
+    subst (λ (x : Piece). Disjoint p x) f (subst (λ (x : Piece). Disjoint x (get_or (sites l s) (b + 0) p)) e pair)
 
 -- the sites of two relocations lie apart
-pub sites_apart : (l : Layout) (s : Item) → IsDecided l s → (i j : ℕ) (r q : InputRelocation) (d e : Decision) (x y : Piece) → HasDecision l s i r d → HasDecision l s j q e → (i ≡ j → ⊥) → site_for s r d ≡ x ∷ [] → site_for s q e ≡ y ∷ [] → Apart x y
+pub sites_apart : (l : Layout) (s : Item) → IsDecided l s → (i j : ℕ) (r q : InputRelocation) (d e : Decision) (x y : Piece) → HasDecision l s i r d → HasDecision l s j q e → (i ≡ j → ⊥) → site_for s r d ≡ x ∷ [] → site_for s q e ≡ y ∷ [] → Disjoint x y
 sites_apart l s whole i j r q d e x y hi hj other fi fj =
     elim (cases_lt i j) [
       | inl low ↦ ordered l s whole i j x y low (slice_get_within s.relocations j q hj.listed) (site_is l s i r d hi ∙ fi) (site_is l s j q e hj ∙ fj)
-      | inr high ↦ Apart-flip y x (ordered l s whole j i y x (above high) (slice_get_within s.relocations i r hi.listed) (site_is l s j q e hj ∙ fj) (site_is l s i r d hi ∙ fi))
+      | inr high ↦ Disjoint-flip y x (ordered l s whole j i y x (above high) (slice_get_within s.relocations i r hi.listed) (site_is l s j q e hj ∙ fj) (site_is l s i r d hi ∙ fi))
     ]
   where
     above : j ≤ i → j < i

@@ -2,7 +2,7 @@
 use Rattle.std.proofs.Common.{◌≡◌, ℕ, ◌+◌, ◌<◌, ◌≤◌, ◌⊎◌, inl, inr, length, refl, sym, ap, ◌∙◌, arith, subst}
 use Rattle.std.specs.Prelude.{Some}
 use Rattle.std.proofs.lemmas.Bool.{cases_lt}
-use Rattle.wild_words.specs.Overlay.{Piece, Apart}
+use Rattle.wild_words.specs.Overlay.{Piece, Disjoint}
 use Rattle.wild_types.specs.declared.kind.Machine.{Machine}
 use Rattle.wild_types.specs.declared.kind.Machine.TheVariants as machine
 use Rattle.wild_types.specs.declared.input.InputRelocation.{InputRelocation}
@@ -10,13 +10,13 @@ use Rattle.wild_types.specs.declared.layout.Layout.{Layout}
 use Rattle.wild_types.specs.Item.{Item}
 use Rattle.wild_reloc.specs.Formula.{Formula}
 use Rattle.wild_relax.specs.declared.row.Row.{Row}
-use Rattle.wild_relax.specs.Linked.{pattern_size}
+use Rattle.wild_relax.specs.LinkedPattern.{pattern_size}
 use Rattle.wild_layout.specs.declared.decision.Decision.{Decision}
 use Rattle.wild_layout.specs.declared.decision.Decision.TheVariants.{Rewritten, Partner}
 use Rattle.wild_layout.specs.Sites.{template_start, template_site}
 use Rattle.wild_geometry.specs.Loaded.{IsDecided, HasDecision}
 use Rattle.wild_meaning.specs.Field.{formula_of, form_width}
-use Rattle.wild_references.specs.EffectLaws.{IsBesideField, WindowsAreAlone}
+use Rattle.wild_references.specs.EffectLaws.{IsOutsideField, WindowsHaveNoOtherField}
 use Rattle.wild_references.proofs.WindowRows.{width_by, width_of}
 use Rattle.wild_references.proofs.WindowSites.{sites_apart}
 use Rattle.wild_references.proofs.WindowFields.{window_is, HasSite, has_site}
@@ -26,7 +26,7 @@ use Rattle.wild_references.proofs.WordWindows.{HasPiece, word_here, own_piece}
 pub formula_width : (l : Layout) (n : ℕ) (f : Formula) → l.machine ≡ machine.X86_64 → formula_of l.machine n ≡ Some f → form_width f.form ≡ width_of n
 formula_width l n f x86 h = sym (ap width_by (rw x86 at h))
 
-pub beside : (l : Layout) (q : InputRelocation) (k : ℕ) → l.machine ≡ machine.X86_64 → (k < q.offset) ⊎ (q.offset + width_of q.number ≤ k) → IsBesideField l q k
+pub beside : (l : Layout) (q : InputRelocation) (k : ℕ) → l.machine ≡ machine.X86_64 → (k < q.offset) ⊎ (q.offset + width_of q.number ≤ k) → IsOutsideField l q k
 beside l q k x86 (inl low) f known = inl low
 beside l q k x86 (inr high) f known = let w = formula_width l q.number f x86 known in inr (omega (arith, w, high))
 
@@ -34,19 +34,19 @@ beside l q k x86 (inr high) f known = let w = formula_width l q.number f x86 kno
 pub order : (k n : ℕ) → (k < n) ⊎ (n + 0 ≤ k)
 order k n = elim (cases_lt k n) [ inl low ↦ inl low | inr high ↦ inr (omega (arith, high)) ]
 
-apart_from : (k at size from width : ℕ) (p q : Piece) → p.at ≡ at → length p.bytes ≡ size → at ≤ k → k < at + size → q.at ≤ from → from + width ≤ q.at + length q.bytes → Apart p q → (k < from) ⊎ (from + width ≤ k)
+apart_from : (k at size from width : ℕ) (p q : Piece) → p.at ≡ at → length p.bytes ≡ size → at ≤ k → k < at + size → q.at ≤ from → from + width ≤ q.at + length q.bytes → Disjoint p q → (k < from) ⊎ (from + width ≤ k)
 apart_from k at size from width p q start long low high first last (inl before) = inl (omega (arith, start, long, high, first, before))
 apart_from k at size from width p q start long low high first last (inr behind) = inr (omega (arith, start, low, last, behind))
 
 instructions_alone : (l : Layout) (s : Item) → l.machine ≡ machine.X86_64 → IsDecided l s → (i j : ℕ) (r q : InputRelocation) (row : Row) (v : ℕ) (d : Decision) → HasDecision l s i r (Rewritten row v) → HasDecision l s j q d → (i ≡ j → ⊥) → (j ≡ i + 1 → d ≡ Partner → ⊥)
-    → (k : ℕ) → template_start row r ≤ k → k < template_start row r + pattern_size row → IsBesideField l q k
+    → (k : ℕ) → template_start row r ≤ k → k < template_start row r + pattern_size row → IsOutsideField l q k
 instructions_alone l s x86 whole i j r q row v d hi hj other no_call k low high = by (has_site l s j q d x86 whole hj)
   where
     not_own : (h : HasSite l s j q d) → (h.index ≡ j) ⊎ ((j ≡ h.index + 1) × (d ≡ Partner)) → i ≡ h.index → ⊥
     not_own h (inl e) same = other (same ∙ e)
     not_own h (inr e) same = no_call (e.0 ∙ ap (λ (n : ℕ). n + 1) (sym same)) e.1
 
-    by : (width_of q.number ≡ 0) ⊎ HasSite l s j q d → IsBesideField l q k
+    by : (width_of q.number ≡ 0) ⊎ HasSite l s j q d → IsOutsideField l q k
     by (inl none) = beside l q k x86 (subst (λ (n : ℕ). (k < q.offset) ⊎ (q.offset + n ≤ k)) (sym none) (order k q.offset))
     by (inr h) =
         let w = window_is l s i r row v x86 hi in
@@ -55,7 +55,7 @@ instructions_alone l s x86 whole i j r q row v d hi hj other no_call k low high 
 
 -- on AArch64 each word has its own relocation
 words_alone : (l : Layout) (s : Item) → l.machine ≡ machine.AArch64 → IsDecided l s → (i j : ℕ) (r q : InputRelocation) (row : Row) (v : ℕ) (d : Decision) → HasDecision l s i r (Rewritten row v) → HasDecision l s j q d → (i ≡ j → ⊥)
-    → (k : ℕ) → template_start row r ≤ k → k < template_start row r + pattern_size row → IsBesideField l q k
+    → (k : ℕ) → template_start row r ≤ k → k < template_start row r + pattern_size row → IsOutsideField l q k
 words_alone l s on whole i j r q row v d hi hj other k low high f known = by (own_piece l s j q d on hj)
   where
     by : ((f : Formula) → formula_of l.machine q.number ≡ Some f → form_width f.form ≡ 0) ⊎ HasPiece l s q d → (k < q.offset) ⊎ (q.offset + form_width f.form ≤ k)
@@ -67,10 +67,10 @@ words_alone l s on whole i j r q row v d hi hj other k low high f known = by (ow
         let a = sites_apart l s whole i j r q (Rewritten row v) d (template_site s r row v) p.piece hi hj other refl p.only in
         apart_from k (template_start row r) (pattern_size row) q.offset (form_width f.form) (template_site s r row v) p.piece refl (w.long ∙ sym w.size) low high (omega (arith, at)) (omega (arith, at, wide)) a
 
-pub windows_are_alone : WindowsAreAlone
-windows_are_alone l s = by l.machine refl
+pub windows_have_no_other_field : WindowsHaveNoOtherField
+windows_have_no_other_field l s = by l.machine refl
   where
     by : (m : Machine) → l.machine ≡ m → IsDecided l s → (i j : ℕ) (r q : InputRelocation) (row : Row) (v : ℕ) (d : Decision) → HasDecision l s i r (Rewritten row v) → HasDecision l s j q d → (i ≡ j → ⊥) → (j ≡ i + 1 → d ≡ Partner → ⊥)
-        → (k : ℕ) → template_start row r ≤ k → k < template_start row r + pattern_size row → IsBesideField l q k
+        → (k : ℕ) → template_start row r ≤ k → k < template_start row r + pattern_size row → IsOutsideField l q k
     by machine.X86_64 x86 whole i j r q row v d hi hj other no_call k low high = instructions_alone l s x86 whole i j r q row v d hi hj other no_call k low high
     by machine.AArch64 on whole i j r q row v d hi hj other no_call k low high = words_alone l s on whole i j r q row v d hi hj other k low high

@@ -21,15 +21,15 @@ use Rattle.wild_relax.specs.declared.reference.RelocationInfo.{RelocationInfo}
 use Rattle.wild_relax.specs.declared.row.Row.{Row}
 use Rattle.wild_relax.specs.declared.table_aarch64.TheConstants.{CALL_FIRST}
 use Rattle.wild_relax.specs.KeepAArch64.{Rewriting, rewritings}
-use Rattle.wild_relax.specs.Linked.{keeps_bytes}
-use Rattle.wild_relax.specs.SequenceAArch64.{types_of, words_before, follow}
-use Rattle.wild_relax.specs.TogetherAArch64.{RowsStandTogether}
+use Rattle.wild_relax.specs.LinkedPattern.{keeps_bytes}
+use Rattle.wild_relax.specs.SequenceAArch64.{types_of, words_before, relocations_match}
+use Rattle.wild_relax.specs.SequenceRowsAArch64.{RowsApplyTogether}
 use Rattle.wild_layout.specs.declared.decision.Decision.TheVariants.{Rewritten}
 use Rattle.wild_layout.specs.Choice.{info_at, infos_from, question_around}
 use Rattle.wild_geometry.specs.Loaded.{IsDecided, HasDecision}
 use Rattle.wild_meaning.specs.Sequence.{IsOwnByte, descriptor_call_words}
 use Rattle.wild_meaning.specs.Field.{formula_of}
-use Rattle.wild_references.specs.EffectLaws.{IsBesideField, WindowsAreAlone}
+use Rattle.wild_references.specs.EffectLaws.{IsOutsideField, WindowsHaveNoOtherField}
 use Rattle.wild_references.proofs.Windows.{order}
 use Rattle.wild_references.proofs.WordWindows.{word_here, call_width, no_partner_there}
 use Rattle.wild_references.proofs.RewrittenRuns.{IsRewrittenWord, IsRunThere}
@@ -89,7 +89,7 @@ four_up rs i =
     let b : i + 3 ≡ i + 1 + 1 + 1 = omega arith in
     ap (λ (n : ℕ). info_at rs i ∷ info_at rs (i + 1) ∷ info_at rs n ∷ info_at rs (i + 3) ∷ []) a ∙ ap (λ (n : ℕ). info_at rs i ∷ info_at rs (i + 1) ∷ info_at rs (i + 1 + 1) ∷ info_at rs n ∷ []) b
 
-part_at : (s : Item) (symbol : Option ℕ) (ns : List ℕ) (k index place j n : ℕ) → are_types ns ≡ true → follow symbol place ns (infos_up s.relocations index k) ≡ true → slice_get ns j ≡ Some n → IsPart s symbol (place + 4 * j) n (index + j)
+part_at : (s : Item) (symbol : Option ℕ) (ns : List ℕ) (k index place j n : ℕ) → are_types ns ≡ true → relocations_match symbol place ns (infos_up s.relocations index k) ≡ true → slice_get ns j ≡ Some n → IsPart s symbol (place + 4 * j) n (index + j)
 part_at s symbol [] k index place j n types h at = cc
 part_at s symbol (m ∷ ns) zero index place j n types h at = cc
 part_at s symbol (m ∷ ns) (suc k) index place zero n types h at =
@@ -107,7 +107,7 @@ part_at s symbol (m ∷ ns) (suc k) index place (suc j) n types h at =
     subst (λ (i : ℕ). IsPart s symbol (place + 4 * suc j) n i) there (subst (λ (p : ℕ). IsPart s symbol p n (index + 1 + j)) here (part_at s symbol ns k (index + 1) (place + 4) j n t.1 a.1 at))
 
 run_part : (l : Layout) (s : Item) (i : ℕ) (r : InputRelocation) (row : Row) (q : Sequence) (k : ℕ) → (c : IsRunThere l s i r row q k) → (j n : ℕ) → slice_get (types_of q) j ≡ Some n → IsPart s r.symbol (c.start + 4 * j) n (c.index + j)
-run_part l s i r row q k c j n at = part_at s r.symbol (types_of q) 4 c.index c.start j n (each_is_type q) (subst (λ (rs : List RelocationInfo). follow r.symbol c.start (types_of q) rs ≡ true) (four_up s.relocations c.index) c.follows) at
+run_part l s i r row q k c j n at = part_at s r.symbol (types_of q) 4 c.index c.start j n (each_is_type q) (subst (λ (rs : List RelocationInfo). relocations_match r.symbol c.start (types_of q) rs ≡ true) (four_up s.relocations c.index) c.follows) at
 
 pub own_type : (l : Layout) (s : Item) (i : ℕ) (r : InputRelocation) (row : Row) → (t : IsRewrittenWord l s i r row) → IsRunThere l s i r row t.sequence t.word → slice_get (types_of t.sequence) t.word ≡ Some r.number
 own_type l s i r row t c =
@@ -147,7 +147,7 @@ pub record IsWordAt (l : Layout) (s : Item) (index place n : ℕ) : Type 0 where
   pub value : ℕ
   pub has : HasDecision l s index relocation (Rewritten row value)
 
-pub run_word : RowsStandTogether → (l : Layout) (s : Item) (i : ℕ) (r : InputRelocation) (row : Row) → IsDecided l s → (t : IsRewrittenWord l s i r row) → (c : IsRunThere l s i r row t.sequence t.word) → (j n : ℕ) → slice_get (types_of t.sequence) j ≡ Some n → IsWordAt l s (c.index + j) (c.start + 4 * j) n
+pub run_word : RowsApplyTogether → (l : Layout) (s : Item) (i : ℕ) (r : InputRelocation) (row : Row) → IsDecided l s → (t : IsRewrittenWord l s i r row) → (c : IsRunThere l s i r row t.sequence t.word) → (j n : ℕ) → slice_get (types_of t.sequence) j ≡ Some n → IsWordAt l s (c.index + j) (c.start + 4 * j) n
 run_word together l s i r row decided t c j n at =
     let p = run_part l s i r row t.sequence t.word c j n at in
     let o = together (question_around l s i r t.symbol) row t.sequence t.word t.chosen t.among in
@@ -167,7 +167,7 @@ call_bytes k h = (by h.beside h.apart.0 h.apart.1.0, h.inside)
     by (inr a) (inr b) (inl c) = absurd (omega (arith, b, c))
     by (inr a) (inr b) (inr c) = c
 
-pub calls_alone : RowsStandTogether → WindowsAreAlone → (l : Layout) (s : Item) (i : ℕ) (r : InputRelocation) (row : Row) → IsDecided l s → (t : IsRewrittenWord l s i r row) → (c : IsRunThere l s i r row t.sequence t.word) → t.sequence ≡ DescriptorCall → StandsAlone l s DescriptorCall c.start
+pub calls_alone : RowsApplyTogether → WindowsHaveNoOtherField → (l : Layout) (s : Item) (i : ℕ) (r : InputRelocation) (row : Row) → IsDecided l s → (t : IsRewrittenWord l s i r row) → (c : IsRunThere l s i r row t.sequence t.word) → t.sequence ≡ DescriptorCall → StandsAlone l s DescriptorCall c.start
 calls_alone together windows l s i r row decided t c same k own j d lt = by (cases_eq (c.index + 3) j)
   where
     w : IsWordAt l s (c.index + 3) (c.start + 4 * 3) abi.r_aarch64_tlsdesc_call
@@ -179,7 +179,7 @@ calls_alone together windows l s i r row decided t c same k own j d lt = by (cas
     listed : slice_get s.relocations j ≡ Some q
     listed = slice_get-get_or s.relocations j d lt
 
-    by : (c.index + 3 ≡ j) ⊎ (c.index + 3 ≡ j → ⊥) → IsBesideField l q (c.start + k)
+    by : (c.index + 3 ≡ j) ⊎ (c.index + 3 ≡ j → ⊥) → IsOutsideField l q (c.start + k)
     by (inl here) f known =
         let there : slice_get s.relocations j ≡ Some w.relocation = subst (λ (n : ℕ). slice_get s.relocations n ≡ Some w.relocation) here w.has.listed in
         let both : Some q ≡ Some w.relocation = sym listed ∙ there in

@@ -23,10 +23,10 @@ use Rattle.wild_reloc.specs.declared.info.RelocationSize.TheVariants.{ByteSize}
 use Rattle.wild_reloc.specs.declared.info.Width.TheVariants.{Eight}
 use Rattle.wild_reloc.proofs.PlaceLemmas.{length-size_written}
 use Rattle.wild_relax.specs.declared.row.Row.{Row}
-use Rattle.wild_relax.specs.Linked.{pattern_size, keeps_bytes}
+use Rattle.wild_relax.specs.LinkedPattern.{pattern_size, keeps_bytes}
 use Rattle.wild_relax.specs.RowsAArch64.{rows_aarch64}
 use Rattle.wild_layout.specs.declared.decision.Decision.{Decision}
-use Rattle.wild_layout.specs.declared.decision.Decision.TheVariants.{Nothing, Field, Moved, Left, Rewritten, Partner}
+use Rattle.wild_layout.specs.declared.decision.Decision.TheVariants.{Nothing, Field, RelativeAddress, DynamicField, Rewritten, Partner}
 use Rattle.wild_layout.specs.Sites.{field_site, template_start, template_site, site_for}
 use Rattle.wild_layout.proofs.DecideLemmas.{HasField, IsNothing, decided_nothing}
 use Rattle.wild_layout.proofs.DecisionLemmas.{decide_nothing, decide_partner, IsRewrittenAArch64, rewritten_aarch64}
@@ -137,7 +137,7 @@ no_width l q f n known = by n.kind
 pub own_piece : (l : Layout) (s : Item) (j : ℕ) (q : InputRelocation) (d : Decision) → l.machine ≡ machine.AArch64 → HasDecision l s j q d → ((f : Formula) → formula_of l.machine q.number ≡ Some f → form_width f.form ≡ 0) ⊎ HasPiece l s q d
 own_piece l s j q Nothing on h = inl (λ f known. no_width l q f (decided_nothing l s q (decide_nothing l s j q h.listed h.decided).made) known)
 own_piece l s j q (Field z v) on h = inr (field_piece l s q (Field z v) z v (kept_field l s j q (Field z v) h tt) refl)
-own_piece l s j q (Moved v packed) on h = inr (field_piece l s q (Moved v packed) (ByteSize Eight) (if packed then v else 0) (kept_field l s j q (Moved v packed) h tt) refl)
-own_piece l s j q (Left z n symbol addend) on h = inr (field_piece l s q (Left z n symbol addend) z 0 (kept_field l s j q (Left z n symbol addend) h tt) refl)
+own_piece l s j q (RelativeAddress v packed) on h = inr (field_piece l s q (RelativeAddress v packed) (ByteSize Eight) (if packed then v else 0) (kept_field l s j q (RelativeAddress v packed) h tt) refl)
+own_piece l s j q (DynamicField z n symbol addend) on h = inr (field_piece l s q (DynamicField z n symbol addend) z 0 (kept_field l s j q (DynamicField z n symbol addend) h tt) refl)
 own_piece l s j q (Rewritten row v) on h = inr (word_piece l s j q row v on h)
 own_piece l s j q Partner on h = absurd (no_partner_there l s j q Partner on h refl)

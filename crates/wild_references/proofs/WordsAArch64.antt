@@ -15,7 +15,7 @@ use Rattle.wild_loader.specs.declared.world.World.{World}
 use Rattle.wild_loader.specs.Memory.{byte_in, Holds}
 use Rattle.wild_loader.specs.Instruction.{Reader, Effect, effect, as_value}
 use Rattle.wild_loader.specs.InstructionAArch64.{action_of}
-use Rattle.wild_loader.proofs.Held.{held-first, held-rest}
+use Rattle.wild_loader.proofs.HeldBytes.{held-first, held-rest}
 use Rattle.wild_meaning.specs.Sequence.{Instruction, size_of}
 use Rattle.wild_meaning.specs.Item.{place_at}
 use Rattle.wild_meaning.specs.Template.{effect_of, demand_of, IsDemanded, old_bytes, DoesWith}

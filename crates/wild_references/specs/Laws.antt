@@ -2,7 +2,7 @@
 --   RowGives info         the value of a row is that of the row's expression
 --   RowGivesLinked info   or that of the expression with the output's own symbol
 --   TermGives t           the same for each row with that term; SlotsGive for slots
---   StubsStand            the value of a stub's distance, for the symbol itself
+--   StubsRepresentSymbols            the value of a stub's distance, for the symbol itself
 --   PartsGive             the value whose low bits a part of an address below its page holds
 --   AddressesGive, AddressesGiveLinked   an address that moves with the base is S + A after loading
 --   EntriesGive           the same for the value that an entry stores in a field that is left to it
@@ -18,7 +18,7 @@ use Rattle.wild_types.specs.declared.kind.Machine.{Machine}
 use Rattle.wild_types.specs.declared.kind.Machine.TheVariants as machine
 use Rattle.wild_types.specs.declared.input.InputRelocation.{InputRelocation}
 use Rattle.wild_types.specs.declared.layout.Layout.{Layout}
-use Rattle.wild_types.specs.Hollow.{KeepsAll}
+use Rattle.wild_types.specs.HeaderOnly.{KeepsAll}
 use Rattle.wild_types.specs.ResolvedFlags.{HaveTheirFlags}
 use Rattle.wild_reloc.specs.Formula.{Value, SymbolAddress, Distance, Formula, Reads, Keeps}
 use Rattle.wild_reloc.specs.Expression.{expression_of, writes}
@@ -31,11 +31,11 @@ use Rattle.wild_reloc.specs.declared.info.RelocationKind.TheVariants as kinds
 use Rattle.wild_reloc.specs.declared.info.RelocationKindInfo.{RelocationKindInfo}
 use Rattle.wild_reloc.specs.declared.info.RelocationSize.{RelocationSize}
 use Rattle.wild_layout.specs.declared.decision.Decision.{Decision}
-use Rattle.wild_layout.specs.declared.decision.Decision.TheVariants.{Moved, Left, Rewritten, Partner}
+use Rattle.wild_layout.specs.declared.decision.Decision.TheVariants.{RelativeAddress, DynamicField, Rewritten, Partner}
 use Rattle.wild_layout.specs.Decide.{decided}
 use Rattle.wild_layout.specs.Numbers.{NumbersFit}
 use Rattle.wild_layout.specs.Geometry.{IsLaidOut, NamesSymbol}
-use Rattle.wild_geometry.specs.Loaded.{IsDecided, Stage, InMemory, number_at, ReadsLeft, HasDecision, HasItem}
+use Rattle.wild_geometry.specs.Loaded.{IsDecided, Stage, InMemory, number_at, ReadsFilledField, HasDecision, HasItem}
 use Rattle.wild_geometry.specs.Slots.{HasSlots}
 use Rattle.wild_geometry.specs.Thunks.{HasThunks}
 use Rattle.wild_loader.specs.declared.memory.Memory.{Memory}
@@ -48,9 +48,9 @@ use Rattle.wild_types.specs.Item.{Item}
 use Rattle.wild_meaning.specs.Item.{IsKept}
 use Rattle.wild_meaning.specs.Field.{formula_of, FieldReads}
 use Rattle.wild_meaning.specs.Formula.{IsSum, HasOffsetMode, Gives, IsOwnSum, GivesLinked, TakesAddress, TakesOffset}
-use Rattle.wild_meaning.specs.Reference.{IsAsked, IsStubbed, IsLinkedAlone, IsLeftOut}
+use Rattle.wild_meaning.specs.Reference.{MustHold, HasStubAddress, UsesOwnSymbolOnly, IsOmitted}
 use Rattle.wild_references.specs.Terms.{IsPlaced, MovesByPages, value_by_row, HasTerm, IsFollowed}
-use Rattle.wild_meaning.specs.Linked.{processor_of}
+use Rattle.wild_meaning.specs.LinkedImage.{processor_of}
 use Rattle.wild_meaning.specs.Strings.{NamesStrings}
 
 -- The value that the writer computes for a row is that of the row's expression, if the symbol's definition is followed (x86-64
@@ -61,7 +61,7 @@ RowGives info = (l : Layout) (w : World) (m : Memory) (s : Item) (r : InputReloc
 -- Otherwise, at base 0, it is the value of the expression with the output's own symbol. This is for rows with a symbol's address
 -- or its thread-pointer offset.
 abbrev pub RowGivesLinked : RelocationKindInfo → Type 0
-RowGivesLinked info = (l : Layout) (w : World) (m : Memory) (s : Item) (r : InputRelocation) (x i : ℕ) → HasTerm l w m s r info x → w.base ≡ 0 → r.symbol ≡ Some i → IsReplaceable l i true → (IsStubbed l i → ⊥) ⊎ TakesOffset (value_by_row info) → GivesLinked (value_by_row info) l w s r x
+RowGivesLinked info = (l : Layout) (w : World) (m : Memory) (s : Item) (r : InputRelocation) (x i : ℕ) → HasTerm l w m s r info x → w.base ≡ 0 → r.symbol ≡ Some i → IsReplaceable l i true → (HasStubAddress l i → ⊥) ⊎ TakesOffset (value_by_row info) → GivesLinked (value_by_row info) l w s r x
 
 -- the same for each row with that term whose field holds the whole value
 abbrev pub TermGives : Term → Type 0
@@ -72,8 +72,8 @@ TermGivesLinked t = (info : RelocationKindInfo) → (expression_of info.kind).te
 
 -- On AArch64 the distance to a stub that a row writes is the distance of the symbol that the stub represents, if the symbol is
 -- not that of merged strings.
-abbrev pub StubsStand : Type 0
-StubsStand = (info : RelocationKindInfo) → info.kind ≡ kinds.PltRelative → (l : Layout) (w : World) (m : Memory) (s : Item) (r : InputRelocation) (x : ℕ) → l.machine ≡ machine.AArch64 → (NamesStrings l r → ⊥) → HasTerm l w m s r info x → Gives Distance l w m s r x
+abbrev pub StubsRepresentSymbols : Type 0
+StubsRepresentSymbols = (info : RelocationKindInfo) → info.kind ≡ kinds.PltRelative → (l : Layout) (w : World) (m : Memory) (s : Item) (r : InputRelocation) (x : ℕ) → l.machine ≡ machine.AArch64 → (NamesStrings l r → ⊥) → HasTerm l w m s r info x → Gives Distance l w m s r x
 
 -- For slots, whichever module defines the symbol. For a descriptor, unless references in that code hold offsets ("ELF Handling
 -- For Thread-Local Storage", "Linker Relaxations").
@@ -90,22 +90,22 @@ PartsGive = (info : RelocationKindInfo) → (expression_of info.kind).class ≡ 
 
 -- otherwise, at base 0, with the output's own symbol
 abbrev pub PartsGiveLinked : Type 0
-PartsGiveLinked = (info : RelocationKindInfo) → (expression_of info.kind).class ≡ class.Part → (l : Layout) (w : World) (m : Memory) (s : Item) (r : InputRelocation) (x i : ℕ) → HasTerm l w m s r info x → w.base ≡ 0 → r.symbol ≡ Some i → IsReplaceable l i true → (IsStubbed l i → ⊥) ⊎ TakesOffset (value_by_row info) → TakesOffset (value_by_row info) ⊎ TakesAddress (value_by_row info) → GivesLinked (value_by_row info) l w s r x
+PartsGiveLinked = (info : RelocationKindInfo) → (expression_of info.kind).class ≡ class.Part → (l : Layout) (w : World) (m : Memory) (s : Item) (r : InputRelocation) (x i : ℕ) → HasTerm l w m s r info x → w.base ≡ 0 → r.symbol ≡ Some i → IsReplaceable l i true → (HasStubAddress l i → ⊥) ⊎ TakesOffset (value_by_row info) → TakesOffset (value_by_row info) ⊎ TakesAddress (value_by_row info) → GivesLinked (value_by_row info) l w s r x
 
 -- an address decided to move with the base is S + A in the world after the base is added, if the symbol's definition is followed
 -- and all tables are written
 abbrev pub AddressesGive : Type 0
-AddressesGive = (l : Layout) (w : World) (m : Memory) (s : Item) (r : InputRelocation) (v : ℕ) (packed : Bool) → KeepsAll l → IsPlaced l w m → NamesSymbol l r → FitsSigned w64 r.addend → decided l s r ≡ Ok (Moved v packed) → IsFollowed l r SymbolAddress → IsSum SymbolAddress l w m s r (number_at InMemory w v packed)
+AddressesGive = (l : Layout) (w : World) (m : Memory) (s : Item) (r : InputRelocation) (v : ℕ) (packed : Bool) → KeepsAll l → IsPlaced l w m → NamesSymbol l r → FitsSigned w64 r.addend → decided l s r ≡ Ok (RelativeAddress v packed) → IsFollowed l r SymbolAddress → IsSum SymbolAddress l w m s r (number_at InMemory w v packed)
 
 -- otherwise, at base 0, with the output's own symbol
 abbrev pub AddressesGiveLinked : Type 0
-AddressesGiveLinked = (l : Layout) (w : World) (m : Memory) (s : Item) (r : InputRelocation) (v i : ℕ) (packed : Bool) → KeepsAll l → IsPlaced l w m → NamesSymbol l r → decided l s r ≡ Ok (Moved v packed) → w.base ≡ 0 → r.symbol ≡ Some i → IsReplaceable l i true → (IsStubbed l i → ⊥) → IsOwnSum SymbolAddress l w s r (number_at InMemory w v packed)
+AddressesGiveLinked = (l : Layout) (w : World) (m : Memory) (s : Item) (r : InputRelocation) (v i : ℕ) (packed : Bool) → KeepsAll l → IsPlaced l w m → NamesSymbol l r → decided l s r ≡ Ok (RelativeAddress v packed) → w.base ≡ 0 → r.symbol ≡ Some i → IsReplaceable l i true → (HasStubAddress l i → ⊥) → IsOwnSum SymbolAddress l w s r (number_at InMemory w v packed)
 
 -- If all tables are written, a field that is left to an entry has the value of its relocation type's formula once the entry has
 -- stored its number. The field is whole bytes.
 abbrev pub EntriesGive : Type 0
-EntriesGive = (l : Layout) (w : World) (m : Memory) (s : Item) (r : InputRelocation) (z : RelocationSize) (number symbol addend : ℕ) (bs : List ℕ) → KeepsAll l → IsPlaced l w m → NamesSymbol l r → FitsSigned w64 r.addend → decided l s r ≡ Ok (Left z number symbol addend)
-    → ReadsLeft (processor_of l.machine) InMemory w z number symbol addend bs → (f : Formula) × (formula_of l.machine r.number ≡ Some f) × (x : ℕ) × Gives f.value l w m s r x × Reads f.form bs x × ((old : List ℕ) → Keeps f.form old bs)
+EntriesGive = (l : Layout) (w : World) (m : Memory) (s : Item) (r : InputRelocation) (z : RelocationSize) (number symbol addend : ℕ) (bs : List ℕ) → KeepsAll l → IsPlaced l w m → NamesSymbol l r → FitsSigned w64 r.addend → decided l s r ≡ Ok (DynamicField z number symbol addend)
+    → ReadsFilledField (processor_of l.machine) InMemory w z number symbol addend bs → (f : Formula) × (formula_of l.machine r.number ≡ Some f) × (x : ℕ) × Gives f.value l w m s r x × Reads f.form bs x × ((old : List ℕ) → Keeps f.form old bs)
 
 -- In a world whose first module is the executable: the distance of its thread-local data, a symbol's offset in these data, and
 -- that it is the symbol's address minus the thread pointer ("ELF Handling For Thread-Local Storage", "Run-Time Handling of TLS").
@@ -146,8 +146,8 @@ pub record IsKeptReference (l : Layout) (s : Item) (i : ℕ) (r : InputRelocatio
 -- The fields of an item in memory. Each reference that keeps its instruction, is checked and is not left out has its formula's
 -- value; one to the output's own symbol has it at base 0 with that symbol.
 pub record FieldsHold (l : Layout) (w : World) (m : Memory) (s : Item) : Type 0 where
-  pub references : (i : ℕ) (r : InputRelocation) → IsKeptReference l s i r → (IsLeftOut l s r → ⊥) → IsAsked l w s r → (IsLinkedAlone l s r → ⊥) → FieldHolds l w m s r
-  pub linked : (i : ℕ) (r : InputRelocation) → IsKeptReference l s i r → (IsLeftOut l s r → ⊥) → IsLinkedAlone l s r → w.base ≡ 0 → FieldIsLinked l w m s r
+  pub references : (i : ℕ) (r : InputRelocation) → IsKeptReference l s i r → (IsOmitted l s r → ⊥) → MustHold l w s r → (UsesOwnSymbolOnly l s r → ⊥) → FieldHolds l w m s r
+  pub linked : (i : ℕ) (r : InputRelocation) → IsKeptReference l s i r → (IsOmitted l s r → ⊥) → UsesOwnSymbolOnly l s r → w.base ≡ 0 → FieldIsLinked l w m s r
 
 -- the bytes of the instructions whose bits are fields
 abbrev pub HasBytes : Machine → Item → Type 0

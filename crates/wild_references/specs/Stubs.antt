@@ -1,8 +1,8 @@
 -- The effect of stubs in memory, whether or not a reference uses them (x86-64 psABI, "Procedure Linkage Table"; "ELF for the Arm
 -- 64-bit Architecture", "Program Linkage Table").
---   GoesThrough w m r p    code at the stub p jumps to the address in the first slot of a resolution
---   EachStubGoesOn l w m   each stub of the layout does so
---   StubsGoOn              the law
+--   JumpsThroughSlot w m r p    code at the stub p jumps to the address in the first slot of a resolution
+--   EachStubJumps l w m   each stub of the layout does so
+--   StubsJumpToSlots              the law
 use Rattle.std.specs.Prelude.{◌≡◌, ℕ, ◌+◌, Some}
 use Rattle.wild_types.specs.declared.symbol.Resolution.{Resolution}
 use Rattle.wild_types.specs.declared.symbol.Symbol.{Symbol}
@@ -15,11 +15,11 @@ use Rattle.wild_loader.specs.declared.world.World.{World}
 use Rattle.wild_meaning.specs.Value.{IsSymbol}
 use Rattle.wild_meaning.specs.Slot.{HasWord}
 use Rattle.wild_loader.specs.Reach.{JumpsTo}
-use Rattle.wild_meaning.specs.Linked.{processor_of}
+use Rattle.wild_meaning.specs.LinkedImage.{processor_of}
 use Rattle.wild_references.specs.Terms.{MovesByPages}
 
 -- the resolution has a slot, and the code at the loaded address of the stub p jumps directly to the address in that slot
-pub record GoesThrough (w : World) (m : Memory) (r : Resolution) (p : ℕ) : Type 0 where
+pub record JumpsThroughSlot (w : World) (m : Memory) (r : Resolution) (p : ℕ) : Type 0 where
   pub slot : ℕ
   pub given : r.got_address ≡ Some slot
   pub target : ℕ
@@ -27,9 +27,9 @@ pub record GoesThrough (w : World) (m : Memory) (r : Resolution) (p : ℕ) : Typ
   pub jumps : JumpsTo m (w.base + p) target
 
 -- each stub of the layout, whatever its symbol
-abbrev pub EachStubGoesOn : Layout → World → Memory → Type 0
-EachStubGoesOn l w m = (i p : ℕ) (s : Symbol) (r : Resolution) → IsSymbol l i s → s.resolution ≡ Some r → r.plt_address ≡ Some p → GoesThrough w m r p
+abbrev pub EachStubJumps : Layout → World → Memory → Type 0
+EachStubJumps l w m = (i p : ℕ) (s : Symbol) (r : Resolution) → IsSymbol l i s → s.resolution ≡ Some r → r.plt_address ≡ Some p → JumpsThroughSlot w m r p
 
 -- if flags and slots agree, and memory has the slots and stubs of symbols
-abbrev pub StubsGoOn : Type 0
-StubsGoOn = (l : Layout) (w : World) (m : Memory) → MovesByPages l.machine l w → m.machine ≡ processor_of l.machine → HaveTheirFlags l → EachAgrees l → HasSlots l w m → EachStubGoesOn l w m
+abbrev pub StubsJumpToSlots : Type 0
+StubsJumpToSlots = (l : Layout) (w : World) (m : Memory) → MovesByPages l.machine l w → m.machine ≡ processor_of l.machine → HaveTheirFlags l → EachAgrees l → HasSlots l w m → EachStubJumps l w m

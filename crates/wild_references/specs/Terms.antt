@@ -13,20 +13,20 @@ use Rattle.wild_types.specs.declared.kind.Machine.TheVariants as machine
 use Rattle.wild_types.specs.declared.input.InputRelocation.{InputRelocation}
 use Rattle.wild_types.specs.declared.layout.Layout.{Layout}
 use Rattle.wild_types.specs.declared.symbol.Symbol.{Symbol}
-use Rattle.wild_clauses.specs.SlotPlaces.{slot_is_even}
+use Rattle.wild_plan_rules.specs.SlotPlaces.{slot_is_even}
 use Rattle.wild_slot.specs.declared.treatment.Treatment.TheVariants as treatments
-use Rattle.wild_types.specs.Hollow.{KeepsAll}
+use Rattle.wild_types.specs.HeaderOnly.{KeepsAll}
 use Rattle.wild_types.specs.Kinds.{is_position_independent}
 use Rattle.wild_types.specs.Lookups.{place_of, allocated}
 use Rattle.wild_types.specs.ResolvedFlags.{HaveTheirFlags}
-use Rattle.wild_slot.specs.Treatment.{kind_treatment, suits}
+use Rattle.wild_slot.specs.Treatment.{kind_treatment, row_accepts}
 use Rattle.wild_reloc.specs.Agreement.{value_of}
 use Rattle.wild_reloc.specs.Expression.{expression_of}
 use Rattle.wild_reloc.specs.Formula.{Value}
 use Rattle.wild_reloc.specs.declared.expression.Term.{Term}
 use Rattle.wild_reloc.specs.declared.expression.Term.TheVariants as term
-use Rattle.wild_reloc.specs.declared.expression.Taken.{Taken}
-use Rattle.wild_reloc.specs.declared.expression.Taken.TheVariants as taken
+use Rattle.wild_reloc.specs.declared.expression.Subtrahend.{Subtrahend}
+use Rattle.wild_reloc.specs.declared.expression.Subtrahend.TheVariants as taken
 use Rattle.wild_reloc.specs.declared.info.PageMask.{PageMask}
 use Rattle.wild_reloc.specs.declared.info.PageMask.TheVariants as masks
 use Rattle.wild_reloc.specs.declared.info.RelocationKindInfo.{RelocationKindInfo}
@@ -34,7 +34,7 @@ use Rattle.wild_layout.specs.Merged.{names_merged}
 use Rattle.wild_layout.specs.Values.{is_own_place, term_at, value_in}
 use Rattle.wild_layout.specs.Geometry.{DefinitionNames, DefinitionsAreFinal, NamesSymbol}
 use Rattle.wild_layout.specs.SlotOrder.{EachAgrees}
-use Rattle.wild_layout.specs.ListedSymbols.{AreListed}
+use Rattle.wild_layout.specs.ExportedSymbols.{AreExported}
 use Rattle.wild_layout.specs.Numbers.{SymbolNumbers}
 use Rattle.wild_geometry.specs.Slots.{HasSlots}
 use Rattle.wild_loader.specs.declared.memory.Memory.{Memory}
@@ -45,8 +45,8 @@ use Rattle.wild_meaning.specs.Value.{IsAbsolute, IsReplaceable}
 use Rattle.wild_types.specs.Item.{Item}
 use Rattle.wild_meaning.specs.Item.{place_at}
 use Rattle.wild_meaning.specs.Formula.{IsPlaceRelative, TakesAddress, TakesOffset}
-use Rattle.wild_meaning.specs.Reference.{IsStubbed}
-use Rattle.wild_meaning.specs.Linked.{processor_of}
+use Rattle.wild_meaning.specs.Reference.{HasStubAddress}
+use Rattle.wild_meaning.specs.LinkedImage.{processor_of}
 use Rattle.std.specs.Int.{w64, cast_unsigned}
 
 -- The data of symbols are consistent:
@@ -58,7 +58,7 @@ pub record SymbolsFit (l : Layout) : Type 0 where
   pub final : DefinitionsAreFinal l
   pub own : HaveTheirFlags l
   pub flags : EachAgrees l
-  pub dynsyms : AreListed l
+  pub dynsyms : AreExported l
   pub numbers : All SymbolNumbers l.symbols
 
 -- For an AArch64 output:
@@ -67,7 +67,7 @@ pub record SymbolsFit (l : Layout) : Type 0 where
 -- - its slots are at multiples of 8, so each stub can read its slot;
 -- - the thread control block, rounded up to the alignment of the thread-local data, has a size in range;
 -- - there is no pair for these data, because no AArch64 type refers to one.
-pub record IsPaged (l : Layout) (w : World) : Type 0 where
+pub record HasPageBases (l : Layout) (w : World) : Type 0 where
   pub pages : w.base % 4096 ≡ 0
   pub even : All (λ (s : Symbol). slot_is_even s ≡ true) l.symbols
   pub block : rounded_up control_block_size l.tls.align < 2 ^ 64
@@ -75,7 +75,7 @@ pub record IsPaged (l : Layout) (w : World) : Type 0 where
 
 abbrev pub MovesByPages : Machine → Layout → World → Type 0
 MovesByPages machine.X86_64 l w = ⊤
-MovesByPages machine.AArch64 l w = IsPaged l w
+MovesByPages machine.AArch64 l w = HasPageBases l w
 
 -- An output in a legal world: a fixed output is at base 0, an executable is the first module, and its numbers are in range.
 -- Memory has the slots and stubs of its symbols, if all tables are written.
@@ -96,7 +96,7 @@ pub record IsPlaced (l : Layout) (w : World) (m : Memory) : Type 0 where
 
 -- The page mask of a term, in an expression that subtracts `taken` from it: for S + A, for G, or for GOT (aaelf64, "Relocation
 -- operations": Page).
-abbrev pub page_mask : Term → Taken → Option PageMask
+abbrev pub page_mask : Term → Subtrahend → Option PageMask
 page_mask term.Symbol taken.Place = Some masks.SymbolPlusAddendAndPosition
 page_mask (term.Slot sort) taken.Place = Some masks.GotEntryAndPosition
 page_mask (term.Slot sort) taken.Table = Some masks.GotBase
@@ -108,13 +108,13 @@ is_mask (Some masks.GotEntryAndPosition) masks.GotEntryAndPosition = true
 is_mask (Some masks.GotBase) masks.GotBase = true
 is_mask o mask = false
 
-abbrev pub is_table : Taken → Bool
+abbrev pub is_table : Subtrahend → Bool
 is_table taken.Table = true
 is_table less = false
 
 -- The machine has relocation types with that expression. On x86-64 no term is reduced to its page; on AArch64 no expression
 -- subtracts GOT itself (x86-64 psABI, "Relocation Types"; aaelf64, "Relocation operations").
-abbrev pub is_expressed : Machine → Term → Taken → Option PageMask → Bool
+abbrev pub is_expressed : Machine → Term → Subtrahend → Option PageMask → Bool
 is_expressed machine.X86_64 t less None = true
 is_expressed machine.X86_64 t less (Some mask) = false
 is_expressed machine.AArch64 t less None = not (is_table less)
@@ -126,7 +126,7 @@ value_by_row info = value_of info.kind info.mask info.size
 
 -- the expression of a row uses no slot and no stub; on AArch64 an undefined weak symbol is represented by the place itself
 abbrev pub IsDirect : Layout → InputRelocation → RelocationKindInfo → Term → Type 0
-IsDirect l r info term.Symbol = TakesAddress (value_by_row info) → (i : ℕ) → r.symbol ≡ Some i → IsStubbed l i → ⊥
+IsDirect l r info term.Symbol = TakesAddress (value_by_row info) → (i : ℕ) → r.symbol ≡ Some i → HasStubAddress l i → ⊥
 IsDirect l r info term.Stub = is_own_place l.machine l r info ≡ true
 IsDirect l r info (term.Slot sort) = ⊥
 IsDirect l r info other = ⊤
@@ -142,7 +142,7 @@ pub record HasTerm (l : Layout) (w : World) (m : Memory) (s : Item) (r : InputRe
   pub number : ℕ
   pub row : RelocationKindInfo
   pub treated : kind_treatment l s.flags number r.symbol row info.kind ≡ treatments.Value row
-  pub suited : suits l.machine r info ≡ true
+  pub row_that_accepts : row_accepts l.machine r info ≡ true
   pub expressed : is_expressed l.machine (expression_of info.kind).term (expression_of info.kind).taken info.mask ≡ true
   pub term : ℕ
   pub given : term_at l r info (place_of s.address r) ≡ Ok term
@@ -155,4 +155,4 @@ pub record HasTerm (l : Layout) (w : World) (m : Memory) (s : Item) (r : InputRe
 -- The expression does not depend on which module defines the symbol: the symbol is the output's own, the expression uses a slot
 -- or a stub, or the output uses the symbol's stub as its address.
 abbrev pub IsFollowed : Layout → InputRelocation → Value → Type 0
-IsFollowed l r v = (i : ℕ) → r.symbol ≡ Some i → IsReplaceable l i false ⊎ (((TakesOffset v → ⊥) × (TakesAddress v → ⊥)) ⊎ ((TakesOffset v → ⊥) × IsStubbed l i))
+IsFollowed l r v = (i : ℕ) → r.symbol ≡ Some i → IsReplaceable l i false ⊎ (((TakesOffset v → ⊥) × (TakesAddress v → ⊥)) ⊎ ((TakesOffset v → ⊥) × HasStubAddress l i))

@@ -2,16 +2,16 @@
 #![tactic(auto)]
 
 ghost use Rattle.wild_reloc.specs.declared.expression.Term.TheVariants as term;
-ghost use Rattle.wild_references.specs.Laws.{AddressesGive, AddressesGiveLinked, EntriesGive, ItemFieldsHold, ItemsHaveBytes, OutputsMoveByPages, PartsGive, PartsGiveLinked, SlotsGive, StubsStand, TermGives, TermGivesLinked, ThreadPlacesAreKnown};
-ghost use Rattle.wild_references.specs.Stubs.{StubsGoOn};
-ghost use Rattle.wild_references.specs.Thunks.{ThunksGive, ThunksGoOn};
+ghost use Rattle.wild_references.specs.Laws.{AddressesGive, AddressesGiveLinked, EntriesGive, ItemFieldsHold, ItemsHaveBytes, OutputsMoveByPages, PartsGive, PartsGiveLinked, SlotsGive, StubsRepresentSymbols, TermGives, TermGivesLinked, ThreadPlacesAreKnown};
+ghost use Rattle.wild_references.specs.Stubs.{StubsJumpToSlots};
+ghost use Rattle.wild_references.specs.Thunks.{ThunksGive, ThunksJumpToTargets};
 ghost use Rattle.wild_references.specs.FilledX86_64.{FilledInstructionsDo};
-ghost use Rattle.wild_references.specs.EffectLaws.{InstructionsAreKept, ItemsHold, KeptInstructionsDo, OthersAreKept, PartnersHold, RewrittenAreFollowed, RewrittenHold, RewrittenStand, SequencesAreKept, WindowsAreAlone};
+ghost use Rattle.wild_references.specs.EffectLaws.{InstructionsAreKept, ItemsHold, KeptInstructionsDo, OthersAreKept, PartnersHold, RewrittenAreFollowed, RewrittenHold, RewrittenAreInstructions, SequencesAreKept, WindowsHaveNoOtherField};
 
 use wild_geometry::machines_have_their_facts;
 use wild_loader::{stubs_are_read, stubs_of_words_are_read};
 use wild_relax::{
-    aarch64_rewrites_keep_the_effect, aarch64_rows_stand_together, rewrites_keep_the_effect,
+    aarch64_rewrites_keep_the_effect, aarch64_rows_apply_together, rewrites_keep_the_effect,
     rewrites_stay_in_their_patterns,
 };
 use wild_reloc::widths_of_fields;
@@ -28,7 +28,7 @@ pub fn symbols_are_given()
 /// L + A, minus the place or GOT.
 pub fn stubs_are_given()
     ensures gives { TermGives term.Stub }
-    ensures stand { StubsStand }
+    ensures stand { StubsRepresentSymbols }
 {
     stubs_are_read();
     stubs_of_words_are_read();
@@ -103,16 +103,16 @@ pub fn thread_places_are_known()
 {}
 
 /// Each stub in memory, used or not, jumps to the address in its symbol's first slot.
-pub fn stubs_go_on()
-    ensures { StubsGoOn }
+pub fn stubs_jump_to_slots()
+    ensures { StubsJumpToSlots }
 {
     stubs_are_read();
     stubs_of_words_are_read();
 }
 
 /// Each thunk in memory, used or not, jumps to its target.
-pub fn thunks_go_on()
-    ensures { ThunksGoOn }
+pub fn thunks_jump_to_targets()
+    ensures { ThunksJumpToTargets }
 {
     stubs_of_words_are_read();
 }
@@ -132,7 +132,7 @@ pub fn item_fields_hold()
     symbols_are_given();
     stubs_are_given();
     thunks_are_given();
-    thunks_go_on();
+    thunks_jump_to_targets();
     slots_are_given();
     parts_are_given();
     distances_of_the_table_are_given();
@@ -149,24 +149,24 @@ pub fn filled_instructions_do()
 {}
 
 /// No other relocation has a field among the bytes of a rewritten instruction.
-pub fn windows_are_alone()
-    ensures { WindowsAreAlone }
+pub fn windows_have_no_other_field()
+    ensures { WindowsHaveNoOtherField }
 {}
 
 /// A rewritten instruction is one that the judge knows, and has the effect that the input's instruction requires. So does the
 /// call of its sequence.
 pub fn rewritten_instructions_hold()
-    ensures stand { RewrittenStand }
+    ensures stand { RewrittenAreInstructions }
     ensures rewritten { RewrittenHold }
     ensures partners { PartnersHold }
 {
-    windows_are_alone();
+    windows_have_no_other_field();
     rewrites_keep_the_effect();
     rewrites_stay_in_their_patterns();
     symbols_are_given();
     offsets_from_the_thread_pointer_are_given();
     slots_are_given();
-    aarch64_rows_stand_together();
+    aarch64_rows_apply_together();
     aarch64_rewrites_keep_the_effect();
     stubs_are_read();
     stubs_of_words_are_read();
@@ -186,7 +186,7 @@ pub fn other_bytes_are_kept()
 {
     rewritten_instructions_hold();
     rewrites_stay_in_their_patterns();
-    aarch64_rows_stand_together();
+    aarch64_rows_apply_together();
 }
 
 /// A kept instruction has the effect that it requires, because of its fields' values.

@@ -2,7 +2,7 @@
 use Rattle.std.proofs.Common.{◌≡◌, ℕ, ◌+◌, ◌-◌, ◌*◌, ◌/◌, ◌%◌, ◌^◌, ◌<◌, ◌≤◌, true, false, ◌&&◌, nat_le, nat_lt, List, [], ◌∷◌, ◌++◌, Some, refl, ap, sym, subst, ◌∙◌, arith}
 use Rattle.std.proofs.lemmas.Bool.{and_parts, leb-true, ltb-true}
 use Rattle.wild_words.specs.Words.{word, number}
-use Rattle.wild_reloc.specs.Immediate.{insert_bits, inserted}
+use Rattle.wild_reloc.specs.Immediate.{insert_bits, word_with_immediate}
 use Rattle.wild_reloc.specs.declared.instruction.AArch64Instruction.TheVariants.{Adr, Imm12}
 use Rattle.wild_aarch64.specs.Immediate as judge
 use Rattle.wild_aarch64.specs.Machine.{page, meaning, jump_to, jump_through}
@@ -34,15 +34,15 @@ words_of-spelled (w ∷ ws) s = words_of-more w (spelled ws) s.0 ∙ ap (λ (us 
 
 -- ---- words that fit
 
-adrp_small : (x : ℕ) → inserted Adr x 0x90000010 < 2 ^ 32
+adrp_small : (x : ℕ) → word_with_immediate Adr x 0x90000010 < 2 ^ 32
 unfolding insert_bits
 adrp_small x = omega arith
 
-ldr_small : (x : ℕ) → inserted Imm12 x 0xf9400211 < 2 ^ 32
+ldr_small : (x : ℕ) → word_with_immediate Imm12 x 0xf9400211 < 2 ^ 32
 unfolding insert_bits
 ldr_small x = omega arith
 
-add_small : (x : ℕ) → inserted Imm12 x 0x91000210 < 2 ^ 32
+add_small : (x : ℕ) → word_with_immediate Imm12 x 0x91000210 < 2 ^ 32
 unfolding insert_bits
 add_small x = omega arith
 
@@ -77,7 +77,7 @@ stubs_jump base slot stub true h m s =
 
 -- ---- thunks
 
-thunk_is : (k t : ℕ) → words_of (spelled (thunk_words k t)) ≡ judge.inserted judge.Imm21 (k / 4096 % 2 ^ 21) 0x90000010 ∷ judge.inserted judge.Imm12 (t % 4096) 0x91000210 ∷ 0xd61f0200 ∷ []
+thunk_is : (k t : ℕ) → words_of (spelled (thunk_words k t)) ≡ judge.word_with_immediate judge.Imm21 (k / 4096 % 2 ^ 21) 0x90000010 ∷ judge.word_with_immediate judge.Imm12 (t % 4096) 0x91000210 ∷ 0xd61f0200 ∷ []
 thunk_is k t =
     words_of-spelled (thunk_words k t) (adrp_small (k / 4096 % 2 ^ 21), (add_small (t % 4096), (omega arith, tt)))
     ∙ rw (fields_agree Adr (k / 4096 % 2 ^ 21) 0x90000010, fields_agree Imm12 (t % 4096) 0x91000210) refl

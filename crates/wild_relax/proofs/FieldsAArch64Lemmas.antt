@@ -1,7 +1,7 @@
 -- The fields of AArch64's instructions agree.
 use Rattle.std.proofs.Common.{◌≡◌, ℕ, ◌/◌, ◌%◌, ◌^◌, ◌<◌, refl, ap, ◌∙◌, arith}
 use Rattle.wild_words.specs.Words.{word, number}
-use Rattle.wild_reloc.specs.Immediate.{insert_bits, inserted}
+use Rattle.wild_reloc.specs.Immediate.{insert_bits, word_with_immediate}
 use Rattle.wild_reloc.specs.TableAArch64.{static_row, thread_row}
 use Rattle.wild_reloc.specs.declared.instruction.AArch64Instruction.{AArch64Instruction}
 use Rattle.wild_reloc.specs.declared.instruction.AArch64Instruction.TheVariants.{Adr, Imm12, Imm14, Imm16, Imm19, Imm26}
@@ -27,9 +27,9 @@ unfolding word number
 read_back w h = omega arith
 
 -- a field that is written into a word's bytes
-into_word : (i : AArch64Instruction) (bits cut w : ℕ) → bits ≡ cut → w < 2 ^ 32 → word 4 (inserted i bits (number (word 4 w))) ≡ word 4 (judge.inserted (field_of i) cut w)
+into_word : (i : AArch64Instruction) (bits cut w : ℕ) → bits ≡ cut → w < 2 ^ 32 → word 4 (word_with_immediate i bits (number (word 4 w))) ≡ word 4 (judge.word_with_immediate (field_of i) cut w)
 into_word i bits cut w e h =
-    ap (λ (u : ℕ). word 4 (inserted i bits u)) (read_back w h) ∙ (ap (λ (u : ℕ). word 4 u) (fields_agree i bits w) ∙ ap (λ (b : ℕ). word 4 (judge.inserted (field_of i) b w)) e)
+    ap (λ (u : ℕ). word 4 (word_with_immediate i bits u)) (read_back w h) ∙ (ap (λ (u : ℕ). word 4 u) (fields_agree i bits w) ∙ ap (λ (b : ℕ). word 4 (judge.word_with_immediate (field_of i) b w)) e)
 
 pub parts_are_fields : PartsAreFields
 unfolding static_row thread_row

@@ -14,8 +14,8 @@ use Rattle.wild_aarch64.specs.declared.code.Code.{Code}
 use Rattle.wild_aarch64.specs.declared.code.Code.TheVariants.{Adrp, Add, Ldr, Blr}
 use Rattle.wild_aarch64.specs.Slice.{bits, signed}
 use Rattle.wild_aarch64.specs.Code.{read}
-use Rattle.wild_aarch64.specs.Immediate.{immediate, insert_bits, inserted, Imm12, Imm16, Imm21}
-use Rattle.wild_aarch64.specs.Effect.{Reader, cleared, shapes, words_of, effect, demand}
+use Rattle.wild_aarch64.specs.Immediate.{immediate, insert_bits, word_with_immediate, Imm12, Imm16, Imm21}
+use Rattle.wild_aarch64.specs.Effect.{Reader, without_immediate, shapes, words_of, effect, demand}
 use Rattle.wild_aarch64.specs.Laws.{some_codes}
 use Rattle.wild_aarch64.specs.Row as judged
 use Rattle.wild_aarch64.specs.Row.{Part, filled, HighOffset, LowOffset, SlotPage, SlotLow, Distance}
@@ -28,8 +28,8 @@ use Rattle.wild_relax.specs.declared.row.Word.TheVariants as words
 use Rattle.wild_relax.specs.declared.table_aarch64.TheConstants.{CALL_FIRST, CALL_SECOND, CALL_THIRD, CALL_FOURTH, CALL_THIRD_SLOT, CALL_FOURTH_SLOT, SLOT_FIRST, SLOT_SECOND, ADDRESS_FIRST, ADDRESS_SECOND}
 use Rattle.wild_relax.specs.FieldsAArch64.{value_of}
 use Rattle.wild_relax.specs.RewriteX86_64.{register_set, word_made, info_written}
-use Rattle.wild_relax.specs.Linked.{with_field, template_of}
-use Rattle.wild_relax.specs.SequenceAArch64.{register_read, is_adrp, is_ldr, is_add, is_blr, register_of, stand_with, stand_as}
+use Rattle.wild_relax.specs.LinkedPattern.{with_field, template_of}
+use Rattle.wild_relax.specs.SequenceAArch64.{register_read, is_adrp, is_ldr, is_add, is_blr, register_of, words_match_register, words_match}
 use Rattle.wild_relax.specs.KeepAArch64.{Rewriting, rewriting, rewritings, Keeps, RowsOfAArch64Keep}
 use Rattle.wild_relax.proofs.AArch64Lemmas.{words_of-more}
 use Rattle.wild_relax.proofs.FieldsAArch64Lemmas.{read_back, parts_are_fields}
@@ -38,7 +38,7 @@ use Rattle.wild_relax.proofs.FieldsAArch64Lemmas.{read_back, parts_are_fields}
 
 -- the instruction of a word with its field cleared
 abbrev pub shape : ℕ → Option Code
-shape w = option_map cleared (read w)
+shape w = option_map without_immediate (read w)
 
 pub adrp_shape : (r w : ℕ) → is_adrp r w ≡ true → shape w ≡ Some (Adrp r 0)
 adrp_shape r w h =
@@ -47,7 +47,7 @@ adrp_shape r w h =
     let top : w / 2 ^ 31 ≡ 1 = eqb-true _ _ first.0 in
     let class : w / 2 ^ 24 % 2 ^ 5 ≡ 16 = eqb-true _ _ first.1 in
     let register : w % 2 ^ 5 ≡ r = eqb-true _ _ last.1 in
-    ap (option_map cleared) (reads_adrp w r (immediate Imm21 w) (omega (arith, class)) (omega (arith, class)) (omega (arith, top)) (omega (arith, register)) refl)
+    ap (option_map without_immediate) (reads_adrp w r (immediate Imm21 w) (omega (arith, class)) (omega (arith, class)) (omega (arith, top)) (omega (arith, register)) refl)
 
 pub ldr_shape : (r q w : ℕ) → is_ldr r q w ≡ true → shape w ≡ Some (Ldr r q 0)
 ldr_shape r q w h =
@@ -56,7 +56,7 @@ ldr_shape r q w h =
     let top : w / 2 ^ 22 ≡ 0x3e5 = eqb-true _ _ first.0 in
     let register : w % 2 ^ 5 ≡ r = eqb-true _ _ first.1 in
     let from : w / 2 ^ 5 % 2 ^ 5 ≡ q = eqb-true _ _ last.1 in
-    ap (option_map cleared) (reads_ldr w r q (immediate Imm12 w) (omega (arith, top)) (omega (arith, top)) (omega (arith, top)) (omega (arith, top)) (omega (arith, register)) (omega (arith, from)) refl)
+    ap (option_map without_immediate) (reads_ldr w r q (immediate Imm12 w) (omega (arith, top)) (omega (arith, top)) (omega (arith, top)) (omega (arith, top)) (omega (arith, register)) (omega (arith, from)) refl)
 
 pub add_shape : (r q w : ℕ) → is_add r q w ≡ true → shape w ≡ Some (Add r q 0)
 add_shape r q w h =
@@ -65,7 +65,7 @@ add_shape r q w h =
     let top : w / 2 ^ 22 ≡ 0x244 = eqb-true _ _ first.0 in
     let register : w % 2 ^ 5 ≡ r = eqb-true _ _ first.1 in
     let from : w / 2 ^ 5 % 2 ^ 5 ≡ q = eqb-true _ _ last.1 in
-    ap (option_map cleared) (reads_add w r q (immediate Imm12 w) (omega (arith, top)) (omega (arith, top)) (omega (arith, top)) (omega (arith, register)) (omega (arith, from)) refl)
+    ap (option_map without_immediate) (reads_add w r q (immediate Imm12 w) (omega (arith, top)) (omega (arith, top)) (omega (arith, top)) (omega (arith, register)) (omega (arith, from)) refl)
 
 pub blr_shape : (r w : ℕ) → is_blr r w ≡ true → shape w ≡ Some (Blr r)
 blr_shape r w h =
@@ -74,7 +74,7 @@ blr_shape r w h =
     let top : w / 2 ^ 10 ≡ 0x358fc0 = eqb-true _ _ first.0 in
     let none : w % 2 ^ 5 ≡ 0 = eqb-true _ _ first.1 in
     let register : w / 2 ^ 5 % 2 ^ 5 ≡ r = eqb-true _ _ last.1 in
-    ap (option_map cleared) (reads_blr w r (omega (arith, top)) (omega (arith, top)) (omega (arith, top)) (omega (arith, none)) (omega (arith, register)))
+    ap (option_map without_immediate) (reads_blr w r (omega (arith, top)) (omega (arith, top)) (omega (arith, top)) (omega (arith, none)) (omega (arith, register)))
 
 -- the register that a word sets
 adrp_register : (r w : ℕ) → is_adrp r w ≡ true → register_set w ≡ r
@@ -171,15 +171,15 @@ four_words p q t u b c d e hb hc hd he eb ec ed ee =
     rw (eb, ec) (words_of-more b (word 4 c ++ (t ++ (u ++ []))) hb ∙ ap (λ (ws : List ℕ). b ∷ ws) (words_of-more c (t ++ (u ++ [])) hc ∙ ap (λ (ws : List ℕ). c ∷ ws) (two_words t u d e hd he ed ee)))
 
 -- fields leave a word a word
-filled_16 : (i w : ℕ) → w < 2 ^ 32 → inserted Imm16 i w < 2 ^ 32
+filled_16 : (i w : ℕ) → w < 2 ^ 32 → word_with_immediate Imm16 i w < 2 ^ 32
 unfolding insert_bits
 filled_16 i w h = omega arith
 
-filled_12 : (i w : ℕ) → w < 2 ^ 32 → inserted Imm12 i w < 2 ^ 32
+filled_12 : (i w : ℕ) → w < 2 ^ 32 → word_with_immediate Imm12 i w < 2 ^ 32
 unfolding insert_bits
 filled_12 i w h = omega arith
 
-filled_21 : (i w : ℕ) → w < 2 ^ 32 → inserted Imm21 i w < 2 ^ 32
+filled_21 : (i w : ℕ) → w < 2 ^ 32 → word_with_immediate Imm21 i w < 2 ^ 32
 unfolding insert_bits
 filled_21 i w h = omega arith
 
@@ -203,7 +203,7 @@ record IsCall (r : ℕ) (ws : List ℕ) : Type 0 where
   low : 1 ≤ r
   same : shapes ws ≡ some_codes (judged.call_to_offset.old r)
 
-calls : (r b c d e : ℕ) → stand_with DescriptorCall r (b ∷ c ∷ d ∷ e ∷ []) ≡ true → IsCall r (b ∷ c ∷ d ∷ e ∷ [])
+calls : (r b c d e : ℕ) → words_match_register DescriptorCall r (b ∷ c ∷ d ∷ e ∷ []) ≡ true → IsCall r (b ∷ c ∷ d ∷ e ∷ [])
 calls r b c d e h =
     let last = and_parts _ _ h in
     let third = and_parts _ _ last.0 in

@@ -5,9 +5,9 @@ use Rattle.std.specs.List.{filter}
 use Rattle.std.proofs.lemmas.Bool.{and_parts}
 use Rattle.wild_relax.specs.declared.row.Row.{Row}
 use Rattle.wild_relax.specs.Question.{Question, relocation_of}
-use Rattle.wild_relax.specs.First.{first_standing}
-use Rattle.wild_relax.specs.Rows.{rows_x86_64, applies, standing_x86_64}
-use Rattle.wild_relax.specs.ByNumber.{rows_with}
+use Rattle.wild_relax.specs.FirstRow.{first_standing}
+use Rattle.wild_relax.specs.Rows.{rows_x86_64, applies, first_row_x86_64}
+use Rattle.wild_relax.specs.RowsOfType.{rows_with}
 
 -- a row that does not pass the test does not stand
 kept_or_not : {R : Type 0} (stands p : R → Bool) (r : R) (rs : List R) (s t : Bool) → stands r ≡ s → p r ≡ t → (s ≡ true → t ≡ true) → first_standing stands (filter p rs) ≡ first_standing stands rs
@@ -32,6 +32,6 @@ of_its_number q row h =
     let section = and_parts _ _ symbol.0 in
     (and_parts _ _ section.0).0
 
-pub standing_is : (q : Question) → first_standing (applies q) (rows_with (relocation_of q).number) ≡ standing_x86_64 q
-unfolding rows_with standing_x86_64
+pub standing_is : (q : Question) → first_standing (applies q) (rows_with (relocation_of q).number) ≡ first_row_x86_64 q
+unfolding rows_with first_row_x86_64
 standing_is q = first_of_kept (applies q) (λ (row : Row). (relocation_of q).number == row.number) rows_x86_64 (of_its_number q)

@@ -25,7 +25,7 @@ use Rattle.wild_relax.specs.Pattern.{field_of}
 use Rattle.wild_relax.specs.Rows.{rows_x86_64}
 use Rattle.wild_relax.specs.KeepX86_64.{RowsHaveTypes}
 use Rattle.wild_relax.specs.RewriteX86_64.{distance_type, word_made, change_of, made_bytes, number_written, or_nothing, is_aarch64, type_row, going, info_by, info_written, rewrite_of}
-use Rattle.wild_relax.specs.Linked.{pattern_of, pattern_size, field_in, fits_in}
+use Rattle.wild_relax.specs.LinkedPattern.{pattern_of, pattern_size, field_in, fits_in}
 
 -- the field has bytes alone
 abbrev pub is_bytes : RelocationSize → Bool

@@ -11,13 +11,13 @@ use Rattle.wild_relax.specs.declared.reference.UnknownSequence.{UnknownSequence}
 use Rattle.wild_relax.specs.declared.pattern.Pattern.{Pattern}
 use Rattle.wild_relax.specs.declared.row.Row.{Row}
 use Rattle.wild_relax.specs.Question.{Question, relocation_of, minus_four}
-use Rattle.wild_relax.specs.Pattern.{cells_of, field_of, stands_before, stands_at}
-use Rattle.wild_relax.specs.First.{first_standing, checked}
+use Rattle.wild_relax.specs.Pattern.{pattern_cells, field_of, stands_before, cells_match_at}
+use Rattle.wild_relax.specs.FirstRow.{first_standing, row_or_fault}
 use Rattle.wild_relax.specs.RowSymbols.{takes_symbol, takes_value, is_mandatory}
 use Rattle.wild_relax.specs.RowSequences.{has_its_sequence, has_partner}
-use Rattle.wild_relax.specs.Rows.{rows_x86_64, applies, unknown_sequence, standing_x86_64, chosen_x86_64}
+use Rattle.wild_relax.specs.Rows.{rows_x86_64, applies, unknown_sequence, first_row_x86_64, chosen_row_x86_64}
 use Rattle.wild_relax.specs.Rewrite.{Rewrite, HasRoom}
-use Rattle.wild_relax.specs.RowsAArch64.{rows_aarch64, applies_aarch64, has_its_words, standing_aarch64, chosen_aarch64}
+use Rattle.wild_relax.specs.RowsAArch64.{rows_aarch64, applies_aarch64, has_its_words, first_row_aarch64, chosen_row_aarch64}
 use Rattle.wild_relax.specs.RewriteX86_64.{rewrite_of}
 
 -- what a first row is
@@ -48,16 +48,16 @@ has_all has by q r true h e =
     record { same = ap Some same; whole = subst (λ x. has x ≡ true) same h }
 has_all has by q r false h e = cc
 
-pub checked_is : {R : Type 0} (has : R → Bool) (by : R → UnknownSequence) (found : Option R) (r : R) → checked has by found ≡ Ok (Some r) → IsChecked has found r
+pub checked_is : {R : Type 0} (has : R → Bool) (by : R → UnknownSequence) (found : Option R) (r : R) → row_or_fault has by found ≡ Ok (Some r) → IsChecked has found r
 checked_is has by None r e = cc
 checked_is has by (Some q) r e = has_all has by q r (has q) refl e
 
 -- the bytes that are replaced are the pattern's
 abbrev pub lies_in : Rewrite → Pattern → Bool
-lies_in w p = nat_le w.back (field_of p) && nat_le (w.size + field_of p) (length (cells_of p) + w.back)
+lies_in w p = nat_le w.back (field_of p) && nat_le (w.size + field_of p) (length (pattern_cells p) + w.back)
 
 abbrev pub lies_in_its_own : Row → Bool
-lies_in_its_own row = not row.anywhere && lies_in (rewrite_of row) row.always || lies_in (rewrite_of row) row.needed
+lies_in_its_own row = not row.ignores_bytes && lies_in (rewrite_of row) row.required_bytes || lies_in (rewrite_of row) row.needed
 
 each_lies : list_all lies_in_its_own rows_x86_64 ≡ true
 unfolding rows_x86_64
@@ -68,14 +68,14 @@ unfolding rows_aarch64
 each_word_lies = refl
 
 room_in : (bs : List ℕ) (offset : ℕ) (p : Pattern) (w : Rewrite) → stands_before bs offset p ≡ true → lies_in w p ≡ true → HasRoom w offset (length bs)
-unfolding stands_before stands_at
+unfolding stands_before cells_match_at
 room_in bs offset p w s l = record { before = grind (arith, nat_tests); behind = grind (arith, nat_tests) }
 
 by_bytes : (a b : Bool) → (a || b) ≡ true → not a ≡ true → b ≡ true
 by_bytes true b h n = cc
 by_bytes false b h n = h
 
-pub always_stands : (q : Question) (row : Row) → applies q row ≡ true → not row.anywhere ≡ true → stands_before q.bytes (relocation_of q).offset row.always ≡ true
+pub always_stands : (q : Question) (row : Row) → applies q row ≡ true → not row.ignores_bytes ≡ true → stands_before q.bytes (relocation_of q).offset row.required_bytes ≡ true
 unfolding applies
 always_stands q row h n = by_bytes _ _ (and_parts _ _ h).1 n
 
@@ -84,8 +84,8 @@ unfolding has_its_sequence
 needed_stands q row h = (and_parts _ _ (and_parts _ _ h).0).0
 
 -- what the first row that stands is
-pub standing_first : (q : Question) (row : Row) → standing_x86_64 q ≡ Some row → IsFirst (applies q) rows_x86_64 row
-unfolding standing_x86_64
+pub standing_first : (q : Question) (row : Row) → first_row_x86_64 q ≡ Some row → IsFirst (applies q) rows_x86_64 row
+unfolding first_row_x86_64
 standing_first q row e = first_is (applies q) rows_x86_64 row e
 
 -- what a chosen row is
@@ -94,21 +94,21 @@ pub record IsChosenRow (q : Question) (row : Row) : Type 0 where
   pub listed : Contains rows_x86_64 row
   pub whole : has_its_sequence q row ≡ true
 
-pub chosen_is : (q : Question) (row : Row) → chosen_x86_64 q ≡ Ok (Some row) → IsChosenRow q row
-unfolding chosen_x86_64
+pub chosen_is : (q : Question) (row : Row) → chosen_row_x86_64 q ≡ Ok (Some row) → IsChosenRow q row
+unfolding chosen_row_x86_64
 chosen_is q row e =
-    let good = checked_is (has_its_sequence q) (unknown_sequence q) (standing_x86_64 q) row e in
+    let good = checked_is (has_its_sequence q) (unknown_sequence q) (first_row_x86_64 q) row e in
     let first = standing_first q row good.same in
     record { here = first.here; listed = first.listed; whole = good.whole }
 
 has_room : (q : Question) (row : Row) → applies q row ≡ true → has_its_sequence q row ≡ true → lies_in_its_own row ≡ true → HasRoom (rewrite_of row) (relocation_of q).offset (length q.bytes)
 has_room q row here whole lies =
     ⊎_elim
-    (λ l. room_in q.bytes (relocation_of q).offset row.always (rewrite_of row) (always_stands q row here (and_parts _ _ l).0) (and_parts _ _ l).1)
+    (λ l. room_in q.bytes (relocation_of q).offset row.required_bytes (rewrite_of row) (always_stands q row here (and_parts _ _ l).0) (and_parts _ _ l).1)
     (λ l. room_in q.bytes (relocation_of q).offset row.needed (rewrite_of row) (needed_stands q row whole) l)
     (or_cases _ _ lies)
 
-pub chosen_has_room : (q : Question) (row : Row) → chosen_x86_64 q ≡ Ok (Some row) → HasRoom (rewrite_of row) (relocation_of q).offset (length q.bytes)
+pub chosen_has_room : (q : Question) (row : Row) → chosen_row_x86_64 q ≡ Ok (Some row) → HasRoom (rewrite_of row) (relocation_of q).offset (length q.bytes)
 chosen_has_room q row e =
     let first = chosen_is q row e in
     has_room q row first.here first.whole (listed_passes lies_in_its_own rows_x86_64 row each_lies first.listed)
@@ -116,8 +116,8 @@ chosen_has_room q row e =
 -- ---- AArch64
 
 -- what the first row that stands is there
-pub standing_first_aarch64 : (q : Question) (row : Row) → standing_aarch64 q ≡ Some row → IsFirst (applies_aarch64 q) rows_aarch64 row
-unfolding standing_aarch64
+pub standing_first_aarch64 : (q : Question) (row : Row) → first_row_aarch64 q ≡ Some row → IsFirst (applies_aarch64 q) rows_aarch64 row
+unfolding first_row_aarch64
 standing_first_aarch64 q row e = first_is (applies_aarch64 q) rows_aarch64 row e
 
 -- what a chosen row is there
@@ -126,14 +126,14 @@ pub record IsChosenThere (q : Question) (row : Row) : Type 0 where
   pub listed : Contains rows_aarch64 row
   pub whole : has_its_words q row ≡ true
 
-pub chosen_is_aarch64 : (q : Question) (row : Row) → chosen_aarch64 q ≡ Ok (Some row) → IsChosenThere q row
-unfolding chosen_aarch64
+pub chosen_is_aarch64 : (q : Question) (row : Row) → chosen_row_aarch64 q ≡ Ok (Some row) → IsChosenThere q row
+unfolding chosen_row_aarch64
 chosen_is_aarch64 q row e =
-    let good = checked_is (has_its_words q) (unknown_sequence q) (standing_aarch64 q) row e in
+    let good = checked_is (has_its_words q) (unknown_sequence q) (first_row_aarch64 q) row e in
     let first = standing_first_aarch64 q row good.same in
     record { here = first.here; listed = first.listed; whole = good.whole }
 
-pub chosen_has_room_aarch64 : (q : Question) (row : Row) → chosen_aarch64 q ≡ Ok (Some row) → HasRoom (rewrite_of row) (relocation_of q).offset (length q.bytes)
+pub chosen_has_room_aarch64 : (q : Question) (row : Row) → chosen_row_aarch64 q ≡ Ok (Some row) → HasRoom (rewrite_of row) (relocation_of q).offset (length q.bytes)
 chosen_has_room_aarch64 q row e =
     let c = chosen_is_aarch64 q row e in
     has_room q row (and_parts _ _ c.here).0 (and_parts _ _ c.whole).0 (listed_passes lies_in_its_own rows_aarch64 row each_word_lies c.listed)

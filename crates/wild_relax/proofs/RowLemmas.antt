@@ -34,9 +34,9 @@ use Rattle.wild_relax.specs.declared.row.Written.TheVariants as ways
 use Rattle.wild_relax.specs.RewriteX86_64.{change_of, number_written}
 use Rattle.wild_relax.specs.Rows.{rows_x86_64}
 use Rattle.wild_words.proofs.Basics.{or_other, listed_passes}
-use Rattle.wild_relax.specs.Pattern.{cells_of, field_of, opcode}
-use Rattle.wild_relax.specs.Linked.{pattern_of, keeps_bytes}
-use Rattle.wild_relax.specs.KeepX86_64.{IsWhole, distance, ReadsNumbers, no_effect, Lands, demanded, IsField, RowsKeep}
+use Rattle.wild_relax.specs.Pattern.{pattern_cells, field_of, opcode}
+use Rattle.wild_relax.specs.LinkedPattern.{pattern_of, keeps_bytes}
+use Rattle.wild_relax.specs.KeepX86_64.{IsWhole, distance, ReadsNumbers, no_effect, FieldIsRight, demanded, IsField, RowsKeep}
 use Rattle.wild_relax.proofs.StubLemmas.{read_back}
 use Rattle.wild_relax.proofs.ShapeLemmas.{filled, shape, shape-stands}
 use Rattle.wild_relax.proofs.KeepLemmas.{placed, SlotByte, IsWide, Back, lea_bare, lea_rex, lea_rex2, call_direct, jump_direct}
@@ -109,26 +109,26 @@ record IsRex2 (old : List ℕ) : Type 0 where
   wide : IsWide (get_or old 1 0)
   slot : SlotByte (get_or old 3 0)
 
-rex_facts : (o : Operation) (old : List ℕ) → IsWhole (cells_of (pattern.Wide Rex o)) old → IsRex old
+rex_facts : (o : Operation) (old : List ℕ) → IsWhole (pattern_cells (pattern.Wide Rex o)) old → IsRex old
 rex_facts o old whole =
-    let all = shape-stands (cells_of (pattern.Wide Rex o)) old whole in
+    let all = shape-stands (pattern_cells (pattern.Wide Rex o)) old whole in
     let first = and_parts (get_or old 0 0 == 0x48 || get_or old 0 0 == 0x4c) _ all in
     let second = and_parts (opcode o == opcode o) _ first.1 in
     record { wide = either 0x48 0x4c (get_or old 0 0) first.0; slot = (and_parts _ _ second.1).0 }
 
-rex2_facts : (o : Operation) (old : List ℕ) → IsWhole (cells_of (pattern.Wide Rex2 o)) old → IsRex2 old
+rex2_facts : (o : Operation) (old : List ℕ) → IsWhole (pattern_cells (pattern.Wide Rex2 o)) old → IsRex2 old
 rex2_facts o old whole =
-    let all = shape-stands (cells_of (pattern.Wide Rex2 o)) old whole in
+    let all = shape-stands (pattern_cells (pattern.Wide Rex2 o)) old whole in
     let first = and_parts (get_or old 1 0 == 0x48 || get_or old 1 0 == 0x4c) _ all in
     let second = and_parts (opcode o == opcode o) _ first.1 in
     record { wide = either 0x48 0x4c (get_or old 1 0) first.0; slot = (and_parts _ _ second.1).0 }
 
-mov_slot : (old : List ℕ) → IsWhole (cells_of pattern.Mov) old → SlotByte (get_or old 1 0)
-mov_slot old whole = (and_parts _ _ (shape-stands (cells_of pattern.Mov) old whole)).0
+mov_slot : (old : List ℕ) → IsWhole (pattern_cells pattern.Mov) old → SlotByte (get_or old 1 0)
+mov_slot old whole = (and_parts _ _ (shape-stands (pattern_cells pattern.Mov) old whole)).0
 
-lea_facts : (old : List ℕ) → IsWhole (cells_of (pattern.Lea Rex)) old → IsRex old
+lea_facts : (old : List ℕ) → IsWhole (pattern_cells (pattern.Lea Rex)) old → IsRex old
 lea_facts old whole =
-    let all = shape-stands (cells_of (pattern.Lea Rex)) old whole in
+    let all = shape-stands (pattern_cells (pattern.Lea Rex)) old whole in
     let first = and_parts (get_or old 0 0 == 0x48 || get_or old 0 0 == 0x4c) _ all in
     record { wide = either 0x48 0x4c (get_or old 0 0) first.0; slot = (and_parts _ _ first.1).0 }
 
@@ -136,9 +136,9 @@ record IsRex2Lea (old : List ℕ) : Type 0 where
   wide : IsWide2 (get_or old 1 0)
   slot : SlotByte (get_or old 3 0)
 
-lea2_facts : (old : List ℕ) → IsWhole (cells_of (pattern.Lea Rex2)) old → IsRex2Lea old
+lea2_facts : (old : List ℕ) → IsWhole (pattern_cells (pattern.Lea Rex2)) old → IsRex2Lea old
 lea2_facts old whole =
-    let all = shape-stands (cells_of (pattern.Lea Rex2)) old whole in
+    let all = shape-stands (pattern_cells (pattern.Lea Rex2)) old whole in
     let first = and_parts (get_or old 1 0 == 0x08 || get_or old 1 0 == 0x0c || get_or old 1 0 == 0x48 || get_or old 1 0 == 0x4c) _ all in
     record { wide = either_of_four (get_or old 1 0) first.0; slot = (and_parts _ _ first.1).0 }
 
@@ -146,17 +146,17 @@ lea2_facts old whole =
 
 -- the field takes the value at a place, which lands, and the bytes of the pattern do what they have to then
 abbrev pub KeepsShape : Pattern → Made → Written → Type 0
-KeepsShape p m w = (info : RelocationKindInfo) (read : Reader) (a v value : ℕ) (old : List ℕ) → IsWhole (cells_of p) old → IsField w info read (a + (field_of p - (change_of m).back + (change_of m).field)) v value
+KeepsShape p m w = (info : RelocationKindInfo) (read : Reader) (a v value : ℕ) (old : List ℕ) → IsWhole (pattern_cells p) old → IsField w info read (a + (field_of p - (change_of m).back + (change_of m).field)) v value
     → effect_x86_64 read a (placed p m (written info value []) old) ≡ demanded m v a old
 
 -- from the pattern's own spelling to the bytes, and from the bytes of the value to the field
-carried : (p : Pattern) (m : Made) (info : RelocationKindInfo) (read : Reader) (a v value : ℕ) (bytes old : List ℕ) → IsWhole (cells_of p) old → written info value [] ≡ bytes → effect_x86_64 read a (placed p m bytes (filled (cells_of p) 0 old)) ≡ demanded m v a (filled (cells_of p) 0 old) → effect_x86_64 read a (placed p m (written info value []) old) ≡ demanded m v a old
+carried : (p : Pattern) (m : Made) (info : RelocationKindInfo) (read : Reader) (a v value : ℕ) (bytes old : List ℕ) → IsWhole (pattern_cells p) old → written info value [] ≡ bytes → effect_x86_64 read a (placed p m bytes (filled (pattern_cells p) 0 old)) ≡ demanded m v a (filled (pattern_cells p) 0 old) → effect_x86_64 read a (placed p m (written info value []) old) ≡ demanded m v a old
 carried p m info read a v value bytes old whole e h =
     let F : List ℕ → List ℕ → Type 0 = λ b o. effect_x86_64 read a (placed p m b o) ≡ demanded m v a o in
-    subst (λ (b : List ℕ). F b old) (sym e) (subst (λ (o : List ℕ). F bytes o) (sym (shape (cells_of p) old whole)) h)
+    subst (λ (b : List ℕ). F b old) (sym e) (subst (λ (o : List ℕ). F bytes o) (sym (shape (pattern_cells p) old whole)) h)
 
 -- the same where the value is v itself
-carried_value : (p : Pattern) (m : Made) (info : RelocationKindInfo) (read : Reader) (a v value : ℕ) (old : List ℕ) → IsWhole (cells_of p) old → written info value [] ≡ word 4 value → value ≡ v → effect_x86_64 read a (placed p m (word 4 value) (filled (cells_of p) 0 old)) ≡ demanded m value a (filled (cells_of p) 0 old) → effect_x86_64 read a (placed p m (written info value []) old) ≡ demanded m v a old
+carried_value : (p : Pattern) (m : Made) (info : RelocationKindInfo) (read : Reader) (a v value : ℕ) (old : List ℕ) → IsWhole (pattern_cells p) old → written info value [] ≡ word 4 value → value ≡ v → effect_x86_64 read a (placed p m (word 4 value) (filled (pattern_cells p) 0 old)) ≡ demanded m value a (filled (pattern_cells p) 0 old) → effect_x86_64 read a (placed p m (written info value []) old) ≡ demanded m v a old
 carried_value p m info read a v value old whole e same h =
     carried p m info read a value value (word 4 value) old whole e h ∙ ap (λ (x : ℕ). demanded m x a old) same
 
@@ -169,7 +169,7 @@ slot_at read v place end value h e = subst (λ (x : ℕ). read (Word (sum_64 x v
 -- the field has the value itself, with its sign
 record IsItself (w : Written) : Type 0 where
   field : (info : RelocationKindInfo) (value : ℕ) → Some info ≡ x86_64_row (number_written w) → value < 2 ^ 64 → allows info value ≡ true → IsSignedField info value
-  lands : (read : Reader) (place v value : ℕ) → Lands w read place v value → value ≡ v
+  lands : (read : Reader) (place v value : ℕ) → FieldIsRight w read place v value → value ≡ v
 
 signed_itself : IsItself ways.Signed32
 signed_itself = record { field = λ info value e small allowed. plain_signed info _ value (signed_32s info e) small allowed; lands = λ read place v value h. h }
@@ -275,7 +275,7 @@ rex2_described_slot info read a v value old whole field =
     let f = plain_signed info _ value (gottpoff info field.row_of) field.small field.allowed in
     carried (pattern.Lea Rex2) made.Load info read a v value (word 4 value) old whole f.bytes (rex2_descriptor_slot read a v value (get_or old 1 0) (get_or old 3 0) (get_or old 4 0) (get_or old 5 0) (get_or old 6 0) (get_or old 7 0) facts.wide facts.slot f.back (slot_at read v (a + 4) (a + 8) value field.lands (omega arith)))
 
-nop_stands : (read : Reader) (a : ℕ) (old : List ℕ) → ReadsNumbers read → effect_x86_64 read a (placed pattern.DescriptorCall made.Nop [] (filled (cells_of pattern.DescriptorCall) 0 old)) ≡ Some no_effect
+nop_stands : (read : Reader) (a : ℕ) (old : List ℕ) → ReadsNumbers read → effect_x86_64 read a (placed pattern.DescriptorCall made.Nop [] (filled (pattern_cells pattern.DescriptorCall) 0 old)) ≡ Some no_effect
 unfolding meaning_x86_64 place
 nop_stands read a old numbers = rw (numbers 0) refl
 

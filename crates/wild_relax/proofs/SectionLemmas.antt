@@ -17,14 +17,14 @@ use Rattle.wild_relax.specs.declared.row.Row.{Row}
 use Rattle.wild_reloc.specs.TableX86_64.{x86_64_row}
 use Rattle.wild_reloc.specs.declared.info.RelocationKindInfo.{RelocationKindInfo}
 use Rattle.wild_relax.specs.Question.{Question, relocation_of, minus_four}
-use Rattle.wild_relax.specs.Pattern.{cells_of, field_of, stands_before, stands_at}
+use Rattle.wild_relax.specs.Pattern.{pattern_cells, field_of, stands_before, cells_match_at}
 use Rattle.wild_relax.specs.RowSequences.{has_partner, has_its_sequence}
-use Rattle.wild_relax.specs.Rows.{rows_x86_64, chosen_x86_64}
-use Rattle.wild_relax.specs.Rewrite.{rewritten}
+use Rattle.wild_relax.specs.Rows.{rows_x86_64, chosen_row_x86_64}
+use Rattle.wild_relax.specs.Rewrite.{rewritten_bytes}
 use Rattle.wild_relax.specs.RewriteX86_64.{rewrite_of}
-use Rattle.wild_relax.specs.Linked.{either_pattern, pattern_of, keeps_bytes, field_in, fits_in, IsChanging}
+use Rattle.wild_relax.specs.LinkedPattern.{either_pattern, pattern_of, keeps_bytes, field_in, fits_in, IsChanging}
 use Rattle.wild_relax.specs.KeepX86_64.{IsWhole}
-use Rattle.wild_relax.specs.Section.{start_of, window, field_after, ChosenStand, ChosenAreWhole, SectionsAreLinked}
+use Rattle.wild_relax.specs.Section.{start_of, window, field_after, ChosenRowsApply, ChosenPatternsArePresent, SectionsAreLinked}
 use Rattle.wild_relax.proofs.RoomLemmas.{chosen_is, always_stands, needed_stands, applied}
 use Rattle.wild_relax.proofs.RewriteLemmas.{info_is, length-made_bytes, lies_in}
 use Rattle.wild_relax.proofs.TemplateLemmas.{field_fits}
@@ -34,37 +34,37 @@ use Rattle.wild_relax.proofs.TemplateLemmas.{field_fits}
 -- it has its place in the bytes, whole
 pub record IsAt (bs : List ℕ) (offset : ℕ) (p : Pattern) : Type 0 where
   pub before : field_of p ≤ offset
-  pub inside : offset - field_of p + length (cells_of p) ≤ length bs
-  pub whole : IsWhole (cells_of p) (slice_range bs (offset - field_of p) (offset - field_of p + length (cells_of p)))
+  pub inside : offset - field_of p + length (pattern_cells p) ≤ length bs
+  pub whole : IsWhole (pattern_cells p) (slice_range bs (offset - field_of p) (offset - field_of p + length (pattern_cells p)))
 
 pub at_place : (bs : List ℕ) (offset : ℕ) (p : Pattern) → stands_before bs offset p ≡ true → IsAt bs offset p
-unfolding stands_before stands_at
+unfolding stands_before cells_match_at
 at_place bs offset p h =
-    let inside : offset - field_of p + length (cells_of p) ≤ length bs = grind (arith, nat_tests) in
+    let inside : offset - field_of p + length (pattern_cells p) ≤ length bs = grind (arith, nat_tests) in
     record {
       before = grind (arith, nat_tests);
       inside = inside;
-      whole = record { long = length-range bs (offset - field_of p) (length (cells_of p)) inside; same = grind (arith, nat_tests) };
+      whole = record { long = length-range bs (offset - field_of p) (length (pattern_cells p)) inside; same = grind (arith, nat_tests) };
     }
 
 -- a row stands on the bytes that it needs, or always on its pattern
 abbrev pub stands_on : Pattern → Row → Bool
-stands_on pattern.Nothing row = not row.anywhere
+stands_on pattern.Nothing row = not row.ignores_bytes
 stands_on needed row = true
 
 each_stands_on : list_all (λ (row : Row). stands_on row.needed row) rows_x86_64 ≡ true
 unfolding rows_x86_64
 each_stands_on = refl
 
-pub either_at : (bs : List ℕ) (offset : ℕ) (row : Row) (n : Pattern) → (not row.anywhere ≡ true → IsAt bs offset row.always) → IsAt bs offset n → stands_on n row ≡ true → IsAt bs offset (either_pattern n row.always)
-either_at bs offset row pattern.Nothing always needed h = always h
-either_at bs offset row other always needed h = needed
+pub either_at : (bs : List ℕ) (offset : ℕ) (row : Row) (n : Pattern) → (not row.ignores_bytes ≡ true → IsAt bs offset row.required_bytes) → IsAt bs offset n → stands_on n row ≡ true → IsAt bs offset (either_pattern n row.required_bytes)
+either_at bs offset row pattern.Nothing required_bytes needed h = required_bytes h
+either_at bs offset row other required_bytes needed h = needed
 
-pub chosen_at : (q : Question) (row : Row) → chosen_x86_64 q ≡ Ok (Some row) → IsAt q.bytes (relocation_of q).offset (pattern_of row)
+pub chosen_at : (q : Question) (row : Row) → chosen_row_x86_64 q ≡ Ok (Some row) → IsAt q.bytes (relocation_of q).offset (pattern_of row)
 chosen_at q row e =
     let first = chosen_is q row e in
     either_at q.bytes (relocation_of q).offset row row.needed
-    (λ h. at_place q.bytes (relocation_of q).offset row.always (always_stands q row first.here h))
+    (λ h. at_place q.bytes (relocation_of q).offset row.required_bytes (always_stands q row first.here h))
     (at_place q.bytes (relocation_of q).offset row.needed (needed_stands q row first.whole))
     (listed_passes (λ (r : Row). stands_on r.needed r) rows_x86_64 row each_stands_on first.listed)
 
@@ -84,7 +84,7 @@ joined : (a b m : Bool) → (not a || m) ≡ true → (not b || m) ≡ true → 
 joined true b m h k = h
 joined false b m h k = k
 
-pub chosen_stand : ChosenStand
+pub chosen_stand : ChosenRowsApply
 chosen_stand q row e =
     let first = chosen_is q row e in
     let at = chosen_at q row e in
@@ -107,7 +107,7 @@ chosen_stand q row e =
       listed = first.listed;
     }
 
-pub chosen_are_whole : ChosenAreWhole
+pub chosen_are_whole : ChosenPatternsArePresent
 chosen_are_whole q row e = (chosen_at q row e).whole
 
 -- ---- the rewrite and the field lie in the pattern
@@ -153,7 +153,7 @@ sections_are_linked over q row info value chosen known e =
     let xs = q.bytes in
     let o = (relocation_of q).offset in
     let s = start_of q row in
-    let n = length (cells_of (pattern_of row)) in
+    let n = length (pattern_cells (pattern_of row)) in
     let part = window q row in
     let w = rewrite_of row in
     let k = field_of (pattern_of row) - w.back in
@@ -161,7 +161,7 @@ sections_are_linked over q row info value chosen known e =
     let lies = lies_in row fits in
     let back = lies.begins in
     let bytes_fit = lies.bytes in
-    let room_is : field_in row + field_width info ≤ length (cells_of (pattern_of row)) = subst (λ (i : RelocationKindInfo). field_in row + field_width i ≤ length (cells_of (pattern_of row))) (sym (info_is row info e)) (field_fits row fits) in
+    let room_is : field_in row + field_width info ≤ length (pattern_cells (pattern_of row)) = subst (λ (i : RelocationKindInfo). field_in row + field_width i ≤ length (pattern_cells (pattern_of row))) (sym (info_is row info e)) (field_fits row fits) in
     let before = at.before in
     let within = at.inside in
     let long : length part ≡ n = at.whole.long in
@@ -177,7 +177,7 @@ sections_are_linked over q row info value chosen known e =
     let first_lies : k + length (w.bytes (slice_range part k (k + w.size))) ≤ length part = omega arith in
     let second_lies : field_in row + length (written info value []) ≤ length part = omega arith in
     let linked_in = over s part xs (first ∷ second ∷ []) (omega arith) (All-cons Lies first (second ∷ []) first_lies (All-cons Lies second [] second_lies (All-nil Lies))) in
-    ap (λ (x : ℕ). place x (written info value []) (rewritten w o xs)) b
+    ap (λ (x : ℕ). place x (written info value []) (rewritten_bytes w o xs)) b
     ∙ ap (λ (x : ℕ). place (s + field_in row) (written info value []) (place x (w.bytes (slice_range xs x (x + w.size))) xs)) a
     ∙ ap (λ (z : List ℕ). place (s + field_in row) (written info value []) (place (s + k) (w.bytes z) xs)) (sym old)
     ∙ ap (λ (z : List ℕ). place (s + field_in row) (written info value []) (place (s + k) (w.bytes (slice_range part k (k + w.size))) z)) (sym same)

@@ -19,17 +19,17 @@ use Rattle.wild_relax.specs.declared.row.SymbolTest.TheVariants as symbol
 use Rattle.wild_relax.specs.declared.row.ValueTest.TheVariants as value
 use Rattle.wild_relax.specs.declared.table_aarch64.TheConstants.{PLT, TEST, CONDITION, IFUNC_JUMP, JUMP, IFUNC_CALL, CALL, CALL_FIRST, CALL_SECOND, CALL_THIRD, CALL_FOURTH, CALL_THIRD_SLOT, CALL_FOURTH_SLOT, SLOT_FIRST, SLOT_SECOND, ADDRESS_FIRST, ADDRESS_SECOND}
 use Rattle.wild_aarch64.specs.Row as judged
-use Rattle.wild_relax.specs.First.{first_standing}
+use Rattle.wild_relax.specs.FirstRow.{first_standing}
 use Rattle.wild_relax.specs.KeepAArch64.{Rewriting, rewriting}
-use Rattle.wild_relax.specs.Linked.{either_pattern, pattern_of, pattern_size, keeps_bytes, fits_in}
-use Rattle.wild_relax.specs.Pattern.{field_of, stands, field, stands_at, stands_before}
+use Rattle.wild_relax.specs.LinkedPattern.{either_pattern, pattern_of, pattern_size, keeps_bytes, fits_in}
+use Rattle.wild_relax.specs.Pattern.{field_of, stands, field, cells_match_at, stands_before}
 use Rattle.wild_relax.specs.Question.{Question, relocation_of, minus_four, no_relocation, zero as none_added}
 use Rattle.wild_relax.specs.RowSequences.{has_its_sequence, has_partner}
 use Rattle.wild_relax.specs.RowSymbols.{is_in_reach, takes_symbol, takes_value, is_mandatory}
 use Rattle.wild_relax.specs.Rows.{applies, unknown_sequence}
-use Rattle.wild_relax.specs.RowsAArch64.{rows_aarch64, rows_with_aarch64, applies_aarch64, has_its_words, standing_aarch64, chosen_aarch64}
-use Rattle.wild_relax.specs.SequenceAArch64.{types_of, same_symbol, follow, words_at, sequence_start, is_among, has_around, stand_as}
-use Rattle.wild_relax.specs.TogetherAArch64.{asked_at, IsOneOf, RowsStandTogether, ChosenStand}
+use Rattle.wild_relax.specs.RowsAArch64.{rows_aarch64, rows_with_aarch64, applies_aarch64, has_its_words, first_row_aarch64, chosen_row_aarch64}
+use Rattle.wild_relax.specs.SequenceAArch64.{types_of, same_symbol, relocations_match, words_at, sequence_start, is_among, has_around, words_match}
+use Rattle.wild_relax.specs.SequenceRowsAArch64.{question_at, IsRowOfSequence, RowsApplyTogether, ChosenRowsApply}
 use Rattle.wild_relax.proofs.RoomLemmas.{IsApplied, applied, chosen_is_aarch64, always_stands, needed_stands}
 use Rattle.wild_relax.proofs.SectionLemmas.{stands_on, at_place, either_at}
 use Rattle.wild_relax.proofs.RowsAArch64Lemmas.{standing_is}
@@ -41,9 +41,9 @@ pub record IsAmong (q : Question) (s : Sequence) (k : ℕ) : Type 0 where
   pub behind : k ≤ q.at
   pub listed : q.at ≤ length q.relocations
   pub offset : 4 * k ≤ (relocation_of q).offset
-  pub follows : follow (relocation_of q).symbol (sequence_start q k) (types_of s) (drop (q.at - k) q.relocations) ≡ true
+  pub follows : relocations_match (relocation_of q).symbol (sequence_start q k) (types_of s) (drop (q.at - k) q.relocations) ≡ true
   pub within : sequence_start q k + 4 * length (types_of s) ≤ length q.bytes
-  pub words : stand_as s (words_at q.bytes (sequence_start q k) (length (types_of s))) ≡ true
+  pub words : words_match s (words_at q.bytes (sequence_start q k) (length (types_of s))) ≡ true
 
 among_parts : (q : Question) (s : Sequence) (k : ℕ) → is_among q s k ≡ true → IsAmong q s k
 unfolding is_among
@@ -70,15 +70,15 @@ same_is (Some x) (Some y) h = ap (λ (n : ℕ). Some n) (eqb-true x y h)
 same_is (Some x) None h = cc
 same_is None b h = cc
 
-first_word : (symbol : Option ℕ) (place m : ℕ) (ns : List ℕ) (r : RelocationInfo) (rs : List RelocationInfo) → follow symbol place (m ∷ ns) (r ∷ rs) ≡ true → IsWord symbol place m r × (follow symbol (place + 4) ns rs ≡ true)
+first_word : (symbol : Option ℕ) (place m : ℕ) (ns : List ℕ) (r : RelocationInfo) (rs : List RelocationInfo) → relocations_match symbol place (m ∷ ns) (r ∷ rs) ≡ true → IsWord symbol place m r × (relocations_match symbol (place + 4) ns rs ≡ true)
 first_word symbol place m ns r rs h =
-    let a = and_parts (r.number == m && r.offset == place && same_symbol r.symbol symbol && none_added r.addend) (follow symbol (place + 4) ns rs) h in
+    let a = and_parts (r.number == m && r.offset == place && same_symbol r.symbol symbol && none_added r.addend) (relocations_match symbol (place + 4) ns rs) h in
     let b = and_parts (r.number == m && r.offset == place && same_symbol r.symbol symbol) (none_added r.addend) a.0 in
     let c = and_parts (r.number == m && r.offset == place) (same_symbol r.symbol symbol) b.0 in
     let d = and_parts (r.number == m) (r.offset == place) c.0 in
     (record { number = eqb-true r.number m d.0; offset = eqb-true r.offset place d.1; symbol = same_is r.symbol symbol c.1 }, a.1)
 
-word_at : (symbol : Option ℕ) (place : ℕ) (ns : List ℕ) (rs : List RelocationInfo) (j n : ℕ) → follow symbol place ns rs ≡ true → slice_get ns j ≡ Some n → (r : RelocationInfo) × (slice_get rs j ≡ Some r) × IsWord symbol (place + 4 * j) n r
+word_at : (symbol : Option ℕ) (place : ℕ) (ns : List ℕ) (rs : List RelocationInfo) (j n : ℕ) → relocations_match symbol place ns rs ≡ true → slice_get ns j ≡ Some n → (r : RelocationInfo) × (slice_get rs j ≡ Some r) × IsWord symbol (place + 4 * j) n r
 word_at symbol place [] rs j n h at = cc
 word_at symbol place (m ∷ ns) [] j n h at = cc
 word_at symbol place (m ∷ ns) (r ∷ rs) zero n h at =
@@ -116,9 +116,9 @@ at_behind (y ∷ ys) (suc a) j (suc i) d x e h =
 
 -- the same question of the relocation of word j
 record IsMoved (q : Question) (s : Sequence) (first start j n : ℕ) : Type 0 where
-  number : (relocation_of (asked_at q (first + j))).number ≡ n
-  offset : (relocation_of (asked_at q (first + j))).offset ≡ start + 4 * j
-  among : is_among (asked_at q (first + j)) s j ≡ true
+  number : (relocation_of (question_at q (first + j))).number ≡ n
+  offset : (relocation_of (question_at q (first + j))).offset ≡ start + 4 * j
+  among : is_among (question_at q (first + j)) s j ≡ true
 
 moved : (q : Question) (s : Sequence) (k j n : ℕ) → IsAmong q s k → slice_get (types_of s) j ≡ Some n → IsMoved q s (q.at - k) (sequence_start q k) j n
 moved q s k j n h at =
@@ -128,20 +128,20 @@ moved q s k j n h at =
     let b = at_behind q.relocations first j (first + j) no_relocation w.0 refl w.1 in
     let word = subst (λ (r : RelocationInfo). IsWord (relocation_of q).symbol (start + 4 * j) n r) (sym b.is) w.2 in
     let offset = word.offset in
-    let here : sequence_start (asked_at q (first + j)) j ≡ start = omega (arith, offset) in
+    let here : sequence_start (question_at q (first + j)) j ≡ start = omega (arith, offset) in
     let back : first + j - j ≡ first = omega arith in
     let low = b.inside in
     record {
       number = word.number;
       offset = word.offset;
-      among = among_from (asked_at q (first + j)) s j (record {
+      among = among_from (question_at q (first + j)) s j (record {
         behind = omega arith;
         listed = omega (arith, low);
         offset = omega (arith, offset);
-        follows = subst (λ (o : Option ℕ). follow o (sequence_start (asked_at q (first + j)) j) (types_of s) (drop (first + j - j) q.relocations) ≡ true) (sym word.symbol)
-            (subst (λ (p : ℕ). follow (relocation_of q).symbol p (types_of s) (drop (first + j - j) q.relocations) ≡ true) (sym here) (subst (λ (f : ℕ). follow (relocation_of q).symbol start (types_of s) (drop f q.relocations) ≡ true) (sym back) h.follows));
+        follows = subst (λ (o : Option ℕ). relocations_match o (sequence_start (question_at q (first + j)) j) (types_of s) (drop (first + j - j) q.relocations) ≡ true) (sym word.symbol)
+            (subst (λ (p : ℕ). relocations_match (relocation_of q).symbol p (types_of s) (drop (first + j - j) q.relocations) ≡ true) (sym here) (subst (λ (f : ℕ). relocations_match (relocation_of q).symbol start (types_of s) (drop f q.relocations) ≡ true) (sym back) h.follows));
         within = subst (λ (p : ℕ). p + 4 * length (types_of s) ≤ length q.bytes) (sym here) h.within;
-        words = subst (λ (p : ℕ). stand_as s (words_at q.bytes p (length (types_of s))) ≡ true) (sym here) h.words;
+        words = subst (λ (p : ℕ). words_match s (words_at q.bytes p (length (types_of s))) ≡ true) (sym here) h.words;
       });
     }
 
@@ -156,11 +156,11 @@ any_word (a ∷ b ∷ c ∷ []) h = absurd (omega (arith, h))
 any_word (a ∷ b ∷ c ∷ d ∷ xs) h = refl
 
 word_stands : (bs : List ℕ) (o : ℕ) (s : Sequence) (j : ℕ) → o + 4 ≤ length bs → stands_before bs o (pattern.Among s j) ≡ true
-unfolding stands_before stands_at
+unfolding stands_before cells_match_at
 word_stands bs o s j h = and_from _ _ (le-leb 0 o (omega arith)) (and_from _ _ (le-leb _ _ (omega (arith, h))) (any_word (slice_range bs (o - 0) (o - 0 + 4)) (length-range bs (o - 0) 4 (omega (arith, h)))))
 
 nothing_stands : (bs : List ℕ) (o : ℕ) → o ≤ length bs → stands_before bs o pattern.Nothing ≡ true
-unfolding stands_before stands_at
+unfolding stands_before cells_match_at
 nothing_stands bs o h = and_from _ _ (le-leb 0 o (omega arith)) (and_from _ _ (le-leb _ _ (omega (arith, h))) refl)
 
 -- what a row asks that stands
@@ -172,8 +172,8 @@ record Asks (q : Question) (row : Row) : Type 0 where
   thread : (not row.thread_local || is_executable q.kind) ≡ true
   value : takes_value row.value q ≡ true
   addend : (not row.ends || minus_four (relocation_of q).addend) ≡ true
-  bytes : (row.anywhere || stands_before q.bytes (relocation_of q).offset row.always) ≡ true
-  around : has_around q row.always ≡ true
+  bytes : (row.ignores_bytes || stands_before q.bytes (relocation_of q).offset row.required_bytes) ≡ true
+  around : has_around q row.required_bytes ≡ true
 
 stands_then : (q : Question) (row : Row) → Asks q row → applies_aarch64 q row ≡ true
 unfolding applies
@@ -191,11 +191,11 @@ unfolding has_its_sequence
 has_then q row h = and_from _ _ (and_from _ _ (and_from _ _ h.bytes h.addend) h.partner) h.around
 
 -- the first of its type, or the second where the first does not stand
-chosen_then : (q : Question) (row : Row) → standing_aarch64 q ≡ Some row → has_its_words q row ≡ true → chosen_aarch64 q ≡ Ok (Some row)
-unfolding chosen_aarch64
-chosen_then q row standing has = rw (standing, has) refl
+chosen_then : (q : Question) (row : Row) → first_row_aarch64 q ≡ Some row → has_its_words q row ≡ true → chosen_row_aarch64 q ≡ Ok (Some row)
+unfolding chosen_row_aarch64
+chosen_then q row first_row has = rw (first_row, has) refl
 
-first_then : (q : Question) (n : ℕ) (row : Row) (rest : List Row) → (relocation_of q).number ≡ n → rows_with_aarch64 n ≡ row ∷ rest → Asks q row → Has q row → chosen_aarch64 q ≡ Ok (Some row)
+first_then : (q : Question) (n : ℕ) (row : Row) (rest : List Row) → (relocation_of q).number ≡ n → rows_with_aarch64 n ≡ row ∷ rest → Asks q row → Has q row → chosen_row_aarch64 q ≡ Ok (Some row)
 first_then q n row rest number rows a h =
     let there = ap (λ (m : ℕ). first_standing (applies_aarch64 q) (rows_with_aarch64 m)) number ∙ ap (first_standing (applies_aarch64 q)) rows in
     chosen_then q row (sym (standing_is q) ∙ there ∙ by (applies_aarch64 q row) (stands_then q row a)) (has_then q row h)
@@ -204,7 +204,7 @@ first_then q n row rest number rows a h =
     by true e = refl
     by false e = cc
 
-second_then : (q : Question) (n : ℕ) (before row : Row) → (relocation_of q).number ≡ n → rows_with_aarch64 n ≡ before ∷ row ∷ [] → applies_aarch64 q before ≡ false → Asks q row → Has q row → chosen_aarch64 q ≡ Ok (Some row)
+second_then : (q : Question) (n : ℕ) (before row : Row) → (relocation_of q).number ≡ n → rows_with_aarch64 n ≡ before ∷ row ∷ [] → applies_aarch64 q before ≡ false → Asks q row → Has q row → chosen_row_aarch64 q ≡ Ok (Some row)
 second_then q n before row number rows none a h =
     let there = ap (λ (m : ℕ). first_standing (applies_aarch64 q) (rows_with_aarch64 m)) number ∙ ap (first_standing (applies_aarch64 q)) rows in
     chosen_then q row (sym (standing_is q) ∙ there ∙ by (applies_aarch64 q before) (applies_aarch64 q row) none (stands_then q row a)) (has_then q row h)
@@ -241,7 +241,7 @@ has_nothing q row needed ends alone room = record {
 }
 
 -- word j lies in the section
-room_of : (q : Question) (s : Sequence) (k j n first : ℕ) → IsAmong q s k → IsMoved q s first (sequence_start q k) j n → j < length (types_of s) → (relocation_of (asked_at q (first + j))).offset + 4 ≤ length q.bytes
+room_of : (q : Question) (s : Sequence) (k j n first : ℕ) → IsAmong q s k → IsMoved q s first (sequence_start q k) j n → j < length (types_of s) → (relocation_of (question_at q (first + j))).offset + 4 ≤ length q.bytes
 room_of q s k j n first h m low =
     let offset = m.offset in
     let within = h.within in
@@ -265,14 +265,14 @@ pub record IsConditional (q : Question) : Type 0 where
   pub value : takes_value value.Interposable q ≡ true
   pub room : (relocation_of q).offset ≤ length q.bytes
 
-pub conditional_chosen : (q : Question) → IsConditional q → (row : Row) × (chosen_aarch64 q ≡ Ok (Some row))
+pub conditional_chosen : (q : Question) → IsConditional q → (row : Row) × (chosen_row_aarch64 q ≡ Ok (Some row))
 conditional_chosen q c = by c.number
   where
     on : (b : Bool) → (b || true) ≡ true
     on true = refl
     on false = refl
 
-    by : ((relocation_of q).number ≡ abi.r_aarch64_tstbr14) ⊎ ((relocation_of q).number ≡ abi.r_aarch64_condbr19) → (row : Row) × (chosen_aarch64 q ≡ Ok (Some row))
+    by : ((relocation_of q).number ≡ abi.r_aarch64_tstbr14) ⊎ ((relocation_of q).number ≡ abi.r_aarch64_condbr19) → (row : Row) × (chosen_row_aarch64 q ≡ Ok (Some row))
     by (inl n) = (
       TEST,
       first_then q abi.r_aarch64_tstbr14 TEST [] n with_test (record { number = n; on = on q.relax; section = c.section; symbol = c.symbol; thread = refl; value = c.value; addend = refl; bytes = nothing_stands q.bytes (relocation_of q).offset c.room; around = refl }) (has_nothing q TEST refl refl refl c.room),
@@ -311,73 +311,73 @@ with_fourth : rows_with_aarch64 abi.r_aarch64_tlsdesc_call ≡ CALL_FOURTH ∷ C
 unfolding rows_with_aarch64 rows_aarch64
 with_fourth = refl
 
-call_first : (q : Question) (k : ℕ) → IsAmong q DescriptorCall k → Alike q CALL_FIRST → chosen_aarch64 (asked_at q (q.at - k + 0)) ≡ Ok (Some CALL_FIRST)
+call_first : (q : Question) (k : ℕ) → IsAmong q DescriptorCall k → Alike q CALL_FIRST → chosen_row_aarch64 (question_at q (q.at - k + 0)) ≡ Ok (Some CALL_FIRST)
 call_first q k h a =
     let m = moved q DescriptorCall k 0 abi.r_aarch64_tlsdesc_adr_page21 h refl in
-    first_then (asked_at q (q.at - k + 0)) abi.r_aarch64_tlsdesc_adr_page21 CALL_FIRST [] m.number with_first
+    first_then (question_at q (q.at - k + 0)) abi.r_aarch64_tlsdesc_adr_page21 CALL_FIRST [] m.number with_first
     (record { number = m.number; on = a.on; section = a.section; symbol = a.symbol; thread = a.thread; value = refl; addend = refl; bytes = refl; around = refl })
-    (has_word (asked_at q (q.at - k + 0)) CALL_FIRST DescriptorCall 0 refl refl refl (room_of q DescriptorCall k 0 _ (q.at - k) h m (omega arith)) m.among)
+    (has_word (question_at q (q.at - k + 0)) CALL_FIRST DescriptorCall 0 refl refl refl (room_of q DescriptorCall k 0 _ (q.at - k) h m (omega arith)) m.among)
 
-call_second : (q : Question) (k : ℕ) → IsAmong q DescriptorCall k → Alike q CALL_FIRST → chosen_aarch64 (asked_at q (q.at - k + 1)) ≡ Ok (Some CALL_SECOND)
+call_second : (q : Question) (k : ℕ) → IsAmong q DescriptorCall k → Alike q CALL_FIRST → chosen_row_aarch64 (question_at q (q.at - k + 1)) ≡ Ok (Some CALL_SECOND)
 call_second q k h a =
     let m = moved q DescriptorCall k 1 abi.r_aarch64_tlsdesc_ld64_lo12 h refl in
-    first_then (asked_at q (q.at - k + 1)) abi.r_aarch64_tlsdesc_ld64_lo12 CALL_SECOND [] m.number with_second
+    first_then (question_at q (q.at - k + 1)) abi.r_aarch64_tlsdesc_ld64_lo12 CALL_SECOND [] m.number with_second
     (record { number = m.number; on = a.on; section = a.section; symbol = a.symbol; thread = a.thread; value = refl; addend = refl; bytes = refl; around = refl })
-    (has_word (asked_at q (q.at - k + 1)) CALL_SECOND DescriptorCall 1 refl refl refl (room_of q DescriptorCall k 1 _ (q.at - k) h m (omega arith)) m.among)
+    (has_word (question_at q (q.at - k + 1)) CALL_SECOND DescriptorCall 1 refl refl refl (room_of q DescriptorCall k 1 _ (q.at - k) h m (omega arith)) m.among)
 
-call_third : (q : Question) (k : ℕ) → IsAmong q DescriptorCall k → Alike q CALL_FIRST → takes_value value.Own q ≡ true → chosen_aarch64 (asked_at q (q.at - k + 2)) ≡ Ok (Some CALL_THIRD)
+call_third : (q : Question) (k : ℕ) → IsAmong q DescriptorCall k → Alike q CALL_FIRST → takes_value value.Own q ≡ true → chosen_row_aarch64 (question_at q (q.at - k + 2)) ≡ Ok (Some CALL_THIRD)
 call_third q k h a own =
     let m = moved q DescriptorCall k 2 abi.r_aarch64_tlsdesc_add_lo12 h refl in
-    first_then (asked_at q (q.at - k + 2)) abi.r_aarch64_tlsdesc_add_lo12 CALL_THIRD (CALL_THIRD_SLOT ∷ []) m.number with_third
+    first_then (question_at q (q.at - k + 2)) abi.r_aarch64_tlsdesc_add_lo12 CALL_THIRD (CALL_THIRD_SLOT ∷ []) m.number with_third
     (record { number = m.number; on = a.on; section = a.section; symbol = a.symbol; thread = a.thread; value = own; addend = refl; bytes = refl; around = refl })
-    (has_word (asked_at q (q.at - k + 2)) CALL_THIRD DescriptorCall 2 refl refl refl (room_of q DescriptorCall k 2 _ (q.at - k) h m (omega arith)) m.among)
+    (has_word (question_at q (q.at - k + 2)) CALL_THIRD DescriptorCall 2 refl refl refl (room_of q DescriptorCall k 2 _ (q.at - k) h m (omega arith)) m.among)
 
-call_fourth : (q : Question) (k : ℕ) → IsAmong q DescriptorCall k → Alike q CALL_FIRST → takes_value value.Own q ≡ true → chosen_aarch64 (asked_at q (q.at - k + 3)) ≡ Ok (Some CALL_FOURTH)
+call_fourth : (q : Question) (k : ℕ) → IsAmong q DescriptorCall k → Alike q CALL_FIRST → takes_value value.Own q ≡ true → chosen_row_aarch64 (question_at q (q.at - k + 3)) ≡ Ok (Some CALL_FOURTH)
 call_fourth q k h a own =
     let m = moved q DescriptorCall k 3 abi.r_aarch64_tlsdesc_call h refl in
-    first_then (asked_at q (q.at - k + 3)) abi.r_aarch64_tlsdesc_call CALL_FOURTH (CALL_FOURTH_SLOT ∷ []) m.number with_fourth
+    first_then (question_at q (q.at - k + 3)) abi.r_aarch64_tlsdesc_call CALL_FOURTH (CALL_FOURTH_SLOT ∷ []) m.number with_fourth
     (record { number = m.number; on = a.on; section = a.section; symbol = a.symbol; thread = a.thread; value = own; addend = refl; bytes = refl; around = refl })
-    (has_word (asked_at q (q.at - k + 3)) CALL_FOURTH DescriptorCall 3 refl refl refl (room_of q DescriptorCall k 3 _ (q.at - k) h m (omega arith)) m.among)
+    (has_word (question_at q (q.at - k + 3)) CALL_FOURTH DescriptorCall 3 refl refl refl (room_of q DescriptorCall k 3 _ (q.at - k) h m (omega arith)) m.among)
 
-call_third_slot : (q : Question) (k : ℕ) → IsAmong q DescriptorCall k → Alike q CALL_FIRST → takes_value value.Own q ≡ false → chosen_aarch64 (asked_at q (q.at - k + 2)) ≡ Ok (Some CALL_THIRD_SLOT)
+call_third_slot : (q : Question) (k : ℕ) → IsAmong q DescriptorCall k → Alike q CALL_FIRST → takes_value value.Own q ≡ false → chosen_row_aarch64 (question_at q (q.at - k + 2)) ≡ Ok (Some CALL_THIRD_SLOT)
 call_third_slot q k h a own =
     let m = moved q DescriptorCall k 2 abi.r_aarch64_tlsdesc_add_lo12 h refl in
     let others : takes_value value.Interposable q ≡ true = ap not own in
-    second_then (asked_at q (q.at - k + 2)) abi.r_aarch64_tlsdesc_add_lo12 CALL_THIRD CALL_THIRD_SLOT m.number with_third (own_falls (asked_at q (q.at - k + 2)) CALL_THIRD own)
+    second_then (question_at q (q.at - k + 2)) abi.r_aarch64_tlsdesc_add_lo12 CALL_THIRD CALL_THIRD_SLOT m.number with_third (own_falls (question_at q (q.at - k + 2)) CALL_THIRD own)
     (record { number = m.number; on = a.on; section = a.section; symbol = a.symbol; thread = a.thread; value = others; addend = refl; bytes = refl; around = refl })
-    (has_word (asked_at q (q.at - k + 2)) CALL_THIRD_SLOT DescriptorCall 2 refl refl refl (room_of q DescriptorCall k 2 _ (q.at - k) h m (omega arith)) m.among)
+    (has_word (question_at q (q.at - k + 2)) CALL_THIRD_SLOT DescriptorCall 2 refl refl refl (room_of q DescriptorCall k 2 _ (q.at - k) h m (omega arith)) m.among)
 
-call_fourth_slot : (q : Question) (k : ℕ) → IsAmong q DescriptorCall k → Alike q CALL_FIRST → takes_value value.Own q ≡ false → chosen_aarch64 (asked_at q (q.at - k + 3)) ≡ Ok (Some CALL_FOURTH_SLOT)
+call_fourth_slot : (q : Question) (k : ℕ) → IsAmong q DescriptorCall k → Alike q CALL_FIRST → takes_value value.Own q ≡ false → chosen_row_aarch64 (question_at q (q.at - k + 3)) ≡ Ok (Some CALL_FOURTH_SLOT)
 call_fourth_slot q k h a own =
     let m = moved q DescriptorCall k 3 abi.r_aarch64_tlsdesc_call h refl in
     let others : takes_value value.Interposable q ≡ true = ap not own in
-    second_then (asked_at q (q.at - k + 3)) abi.r_aarch64_tlsdesc_call CALL_FOURTH CALL_FOURTH_SLOT m.number with_fourth (own_falls (asked_at q (q.at - k + 3)) CALL_FOURTH own)
+    second_then (question_at q (q.at - k + 3)) abi.r_aarch64_tlsdesc_call CALL_FOURTH CALL_FOURTH_SLOT m.number with_fourth (own_falls (question_at q (q.at - k + 3)) CALL_FOURTH own)
     (record { number = m.number; on = a.on; section = a.section; symbol = a.symbol; thread = a.thread; value = others; addend = refl; bytes = refl; around = refl })
-    (has_word (asked_at q (q.at - k + 3)) CALL_FOURTH_SLOT DescriptorCall 3 refl refl refl (room_of q DescriptorCall k 3 _ (q.at - k) h m (omega arith)) m.among)
+    (has_word (question_at q (q.at - k + 3)) CALL_FOURTH_SLOT DescriptorCall 3 refl refl refl (room_of q DescriptorCall k 3 _ (q.at - k) h m (omega arith)) m.among)
 
 -- the row of a place
-row_there : (q : Question) (row other : Row) → Some row ≡ Some other → chosen_aarch64 q ≡ Ok (Some row) → chosen_aarch64 q ≡ Ok (Some other)
+row_there : (q : Question) (row other : Row) → Some row ≡ Some other → chosen_row_aarch64 q ≡ Ok (Some row) → chosen_row_aarch64 q ≡ Ok (Some other)
 row_there q row other e h = h ∙ ap (λ (o : Option Row). Ok o) e
 
-call_each : (q : Question) (k : ℕ) (b : Bool) → IsAmong q DescriptorCall k → Alike q CALL_FIRST → takes_value value.Own q ≡ b → (j : ℕ) (other : Row) → slice_get (descriptor_rows b).rows j ≡ Some other → chosen_aarch64 (asked_at q (q.at - k + j)) ≡ Ok (Some other)
-call_each q k b h a own zero other e = row_there (asked_at q (q.at - k + 0)) CALL_FIRST other (sym (by b) ∙ e) (call_first q k h a)
+call_each : (q : Question) (k : ℕ) (b : Bool) → IsAmong q DescriptorCall k → Alike q CALL_FIRST → takes_value value.Own q ≡ b → (j : ℕ) (other : Row) → slice_get (descriptor_rows b).rows j ≡ Some other → chosen_row_aarch64 (question_at q (q.at - k + j)) ≡ Ok (Some other)
+call_each q k b h a own zero other e = row_there (question_at q (q.at - k + 0)) CALL_FIRST other (sym (by b) ∙ e) (call_first q k h a)
   where
     by : (b : Bool) → slice_get (descriptor_rows b).rows 0 ≡ Some CALL_FIRST
     by true = refl
     by false = refl
-call_each q k b h a own (suc zero) other e = row_there (asked_at q (q.at - k + 1)) CALL_SECOND other (sym (by b) ∙ e) (call_second q k h a)
+call_each q k b h a own (suc zero) other e = row_there (question_at q (q.at - k + 1)) CALL_SECOND other (sym (by b) ∙ e) (call_second q k h a)
   where
     by : (b : Bool) → slice_get (descriptor_rows b).rows 1 ≡ Some CALL_SECOND
     by true = refl
     by false = refl
-call_each q k true h a own (suc (suc zero)) other e = row_there (asked_at q (q.at - k + 2)) CALL_THIRD other e (call_third q k h a own)
-call_each q k false h a own (suc (suc zero)) other e = row_there (asked_at q (q.at - k + 2)) CALL_THIRD_SLOT other e (call_third_slot q k h a own)
-call_each q k true h a own (suc (suc (suc zero))) other e = row_there (asked_at q (q.at - k + 3)) CALL_FOURTH other e (call_fourth q k h a own)
-call_each q k false h a own (suc (suc (suc zero))) other e = row_there (asked_at q (q.at - k + 3)) CALL_FOURTH_SLOT other e (call_fourth_slot q k h a own)
+call_each q k true h a own (suc (suc zero)) other e = row_there (question_at q (q.at - k + 2)) CALL_THIRD other e (call_third q k h a own)
+call_each q k false h a own (suc (suc zero)) other e = row_there (question_at q (q.at - k + 2)) CALL_THIRD_SLOT other e (call_third_slot q k h a own)
+call_each q k true h a own (suc (suc (suc zero))) other e = row_there (question_at q (q.at - k + 3)) CALL_FOURTH other e (call_fourth q k h a own)
+call_each q k false h a own (suc (suc (suc zero))) other e = row_there (question_at q (q.at - k + 3)) CALL_FOURTH_SLOT other e (call_fourth_slot q k h a own)
 call_each q k true h a own (suc (suc (suc (suc j)))) other e = cc
 call_each q k false h a own (suc (suc (suc (suc j)))) other e = cc
 
-call_one : (q : Question) (k : ℕ) (row : Row) (b : Bool) → IsAmong q DescriptorCall k → Alike q CALL_FIRST → takes_value value.Own q ≡ b → slice_get (descriptor_rows b).rows k ≡ Some row → IsOneOf q row DescriptorCall k
+call_one : (q : Question) (k : ℕ) (row : Row) (b : Bool) → IsAmong q DescriptorCall k → Alike q CALL_FIRST → takes_value value.Own q ≡ b → slice_get (descriptor_rows b).rows k ≡ Some row → IsRowOfSequence q row DescriptorCall k
 call_one q k row true h a own here =
     let low = h.behind in
     record { whole = descriptor_rows true; known = (0, omega arith, refl); same = refl; first = q.at - k; place = omega (arith, low); here = here; each = call_each q k true h a own; words = h.words }
@@ -398,28 +398,28 @@ with_slot_low : rows_with_aarch64 abi.r_aarch64_tlsie_ld64_gottprel_lo12_nc ≡ 
 unfolding rows_with_aarch64 rows_aarch64
 with_slot_low = refl
 
-slot_first : (q : Question) (k : ℕ) → IsAmong q OffsetSlot k → Alike q SLOT_FIRST → takes_value value.Own q ≡ true → chosen_aarch64 (asked_at q (q.at - k + 0)) ≡ Ok (Some SLOT_FIRST)
+slot_first : (q : Question) (k : ℕ) → IsAmong q OffsetSlot k → Alike q SLOT_FIRST → takes_value value.Own q ≡ true → chosen_row_aarch64 (question_at q (q.at - k + 0)) ≡ Ok (Some SLOT_FIRST)
 slot_first q k h a own =
     let m = moved q OffsetSlot k 0 abi.r_aarch64_tlsie_adr_gottprel_page21 h refl in
     let room = room_of q OffsetSlot k 0 _ (q.at - k) h m (omega arith) in
-    first_then (asked_at q (q.at - k + 0)) abi.r_aarch64_tlsie_adr_gottprel_page21 SLOT_FIRST [] m.number with_slot_page
+    first_then (question_at q (q.at - k + 0)) abi.r_aarch64_tlsie_adr_gottprel_page21 SLOT_FIRST [] m.number with_slot_page
     (record { number = m.number; on = a.on; section = a.section; symbol = a.symbol; thread = a.thread; value = own; addend = refl; bytes = word_stands q.bytes _ OffsetSlot 0 room; around = m.among })
-    (has_nothing (asked_at q (q.at - k + 0)) SLOT_FIRST refl refl refl (omega (arith, room)))
+    (has_nothing (question_at q (q.at - k + 0)) SLOT_FIRST refl refl refl (omega (arith, room)))
 
-slot_second : (q : Question) (k : ℕ) → IsAmong q OffsetSlot k → Alike q SLOT_FIRST → takes_value value.Own q ≡ true → chosen_aarch64 (asked_at q (q.at - k + 1)) ≡ Ok (Some SLOT_SECOND)
+slot_second : (q : Question) (k : ℕ) → IsAmong q OffsetSlot k → Alike q SLOT_FIRST → takes_value value.Own q ≡ true → chosen_row_aarch64 (question_at q (q.at - k + 1)) ≡ Ok (Some SLOT_SECOND)
 slot_second q k h a own =
     let m = moved q OffsetSlot k 1 abi.r_aarch64_tlsie_ld64_gottprel_lo12_nc h refl in
     let room = room_of q OffsetSlot k 1 _ (q.at - k) h m (omega arith) in
-    first_then (asked_at q (q.at - k + 1)) abi.r_aarch64_tlsie_ld64_gottprel_lo12_nc SLOT_SECOND [] m.number with_slot_low
+    first_then (question_at q (q.at - k + 1)) abi.r_aarch64_tlsie_ld64_gottprel_lo12_nc SLOT_SECOND [] m.number with_slot_low
     (record { number = m.number; on = a.on; section = a.section; symbol = a.symbol; thread = a.thread; value = own; addend = refl; bytes = word_stands q.bytes _ OffsetSlot 1 room; around = m.among })
-    (has_nothing (asked_at q (q.at - k + 1)) SLOT_SECOND refl refl refl (omega (arith, room)))
+    (has_nothing (question_at q (q.at - k + 1)) SLOT_SECOND refl refl refl (omega (arith, room)))
 
-slot_each : (q : Question) (k : ℕ) → IsAmong q OffsetSlot k → Alike q SLOT_FIRST → takes_value value.Own q ≡ true → (j : ℕ) (other : Row) → slice_get slot_rows.rows j ≡ Some other → chosen_aarch64 (asked_at q (q.at - k + j)) ≡ Ok (Some other)
-slot_each q k h a own zero other e = row_there (asked_at q (q.at - k + 0)) SLOT_FIRST other e (slot_first q k h a own)
-slot_each q k h a own (suc zero) other e = row_there (asked_at q (q.at - k + 1)) SLOT_SECOND other e (slot_second q k h a own)
+slot_each : (q : Question) (k : ℕ) → IsAmong q OffsetSlot k → Alike q SLOT_FIRST → takes_value value.Own q ≡ true → (j : ℕ) (other : Row) → slice_get slot_rows.rows j ≡ Some other → chosen_row_aarch64 (question_at q (q.at - k + j)) ≡ Ok (Some other)
+slot_each q k h a own zero other e = row_there (question_at q (q.at - k + 0)) SLOT_FIRST other e (slot_first q k h a own)
+slot_each q k h a own (suc zero) other e = row_there (question_at q (q.at - k + 1)) SLOT_SECOND other e (slot_second q k h a own)
 slot_each q k h a own (suc (suc j)) other e = cc
 
-slot_one : (q : Question) (k : ℕ) (row : Row) → IsAmong q OffsetSlot k → Alike q SLOT_FIRST → takes_value value.Own q ≡ true → slice_get slot_rows.rows k ≡ Some row → IsOneOf q row OffsetSlot k
+slot_one : (q : Question) (k : ℕ) (row : Row) → IsAmong q OffsetSlot k → Alike q SLOT_FIRST → takes_value value.Own q ≡ true → slice_get slot_rows.rows k ≡ Some row → IsRowOfSequence q row OffsetSlot k
 slot_one q k row h a own here =
     let low = h.behind in
     record { whole = slot_rows; known = (2, omega arith, refl); same = refl; first = q.at - k; place = omega (arith, low); here = here; each = slot_each q k h a own; words = h.words }
@@ -438,38 +438,38 @@ unfolding rows_with_aarch64 rows_aarch64
 with_low = refl
 
 -- the address is near the same place, whichever word is asked
-near_there : (q : Question) (i b c : ℕ) → (relocation_of q).offset + b ≡ (relocation_of (asked_at q i)).offset + c → takes_value (value.OwnNear b) q ≡ true → takes_value (value.OwnNear c) (asked_at q i) ≡ true
+near_there : (q : Question) (i b c : ℕ) → (relocation_of q).offset + b ≡ (relocation_of (question_at q i)).offset + c → takes_value (value.OwnNear b) q ≡ true → takes_value (value.OwnNear c) (question_at q i) ≡ true
 near_there q i b c e h =
-    let same : q.address + (relocation_of q).offset + b ≡ q.address + (relocation_of (asked_at q i)).offset + c = omega (arith, e) in
+    let same : q.address + (relocation_of q).offset + b ≡ q.address + (relocation_of (question_at q i)).offset + c = omega (arith, e) in
     let a = and_parts _ _ h in
     and_from _ _ a.0 (subst (λ (p : ℕ). is_in_reach (p % 2 ^ 64) q.value ≡ true) same a.1)
 
-address_first : (q : Question) (k b : ℕ) → IsAmong q Address k → Alike q ADDRESS_FIRST → 4 * k + b ≡ 4 → takes_value (value.OwnNear b) q ≡ true → chosen_aarch64 (asked_at q (q.at - k + 0)) ≡ Ok (Some ADDRESS_FIRST)
+address_first : (q : Question) (k b : ℕ) → IsAmong q Address k → Alike q ADDRESS_FIRST → 4 * k + b ≡ 4 → takes_value (value.OwnNear b) q ≡ true → chosen_row_aarch64 (question_at q (q.at - k + 0)) ≡ Ok (Some ADDRESS_FIRST)
 address_first q k b h a sum near =
     let m = moved q Address k 0 abi.r_aarch64_adr_prel_pg_hi21 h refl in
     let room = room_of q Address k 0 _ (q.at - k) h m (omega arith) in
     let offset = m.offset in
     let back = h.offset in
-    first_then (asked_at q (q.at - k + 0)) abi.r_aarch64_adr_prel_pg_hi21 ADDRESS_FIRST [] m.number with_page
+    first_then (question_at q (q.at - k + 0)) abi.r_aarch64_adr_prel_pg_hi21 ADDRESS_FIRST [] m.number with_page
     (record { number = m.number; on = a.on; section = a.section; symbol = a.symbol; thread = a.thread; value = near_there q (q.at - k + 0) b 4 (omega (arith, offset, back, sum)) near; addend = refl; bytes = word_stands q.bytes _ Address 0 room; around = m.among })
-    (has_nothing (asked_at q (q.at - k + 0)) ADDRESS_FIRST refl refl refl (omega (arith, room)))
+    (has_nothing (question_at q (q.at - k + 0)) ADDRESS_FIRST refl refl refl (omega (arith, room)))
 
-address_second : (q : Question) (k b : ℕ) → IsAmong q Address k → Alike q ADDRESS_FIRST → 4 * k + b ≡ 4 → takes_value (value.OwnNear b) q ≡ true → chosen_aarch64 (asked_at q (q.at - k + 1)) ≡ Ok (Some ADDRESS_SECOND)
+address_second : (q : Question) (k b : ℕ) → IsAmong q Address k → Alike q ADDRESS_FIRST → 4 * k + b ≡ 4 → takes_value (value.OwnNear b) q ≡ true → chosen_row_aarch64 (question_at q (q.at - k + 1)) ≡ Ok (Some ADDRESS_SECOND)
 address_second q k b h a sum near =
     let m = moved q Address k 1 abi.r_aarch64_add_abs_lo12_nc h refl in
     let room = room_of q Address k 1 _ (q.at - k) h m (omega arith) in
     let offset = m.offset in
     let back = h.offset in
-    first_then (asked_at q (q.at - k + 1)) abi.r_aarch64_add_abs_lo12_nc ADDRESS_SECOND [] m.number with_low
+    first_then (question_at q (q.at - k + 1)) abi.r_aarch64_add_abs_lo12_nc ADDRESS_SECOND [] m.number with_low
     (record { number = m.number; on = a.on; section = a.section; symbol = a.symbol; thread = a.thread; value = near_there q (q.at - k + 1) b 0 (omega (arith, offset, back, sum)) near; addend = refl; bytes = word_stands q.bytes _ Address 1 room; around = m.among })
-    (has_nothing (asked_at q (q.at - k + 1)) ADDRESS_SECOND refl refl refl (omega (arith, room)))
+    (has_nothing (question_at q (q.at - k + 1)) ADDRESS_SECOND refl refl refl (omega (arith, room)))
 
-address_each : (q : Question) (k b : ℕ) → IsAmong q Address k → Alike q ADDRESS_FIRST → 4 * k + b ≡ 4 → takes_value (value.OwnNear b) q ≡ true → (j : ℕ) (other : Row) → slice_get address_rows.rows j ≡ Some other → chosen_aarch64 (asked_at q (q.at - k + j)) ≡ Ok (Some other)
-address_each q k b h a sum near zero other e = row_there (asked_at q (q.at - k + 0)) ADDRESS_FIRST other e (address_first q k b h a sum near)
-address_each q k b h a sum near (suc zero) other e = row_there (asked_at q (q.at - k + 1)) ADDRESS_SECOND other e (address_second q k b h a sum near)
+address_each : (q : Question) (k b : ℕ) → IsAmong q Address k → Alike q ADDRESS_FIRST → 4 * k + b ≡ 4 → takes_value (value.OwnNear b) q ≡ true → (j : ℕ) (other : Row) → slice_get address_rows.rows j ≡ Some other → chosen_row_aarch64 (question_at q (q.at - k + j)) ≡ Ok (Some other)
+address_each q k b h a sum near zero other e = row_there (question_at q (q.at - k + 0)) ADDRESS_FIRST other e (address_first q k b h a sum near)
+address_each q k b h a sum near (suc zero) other e = row_there (question_at q (q.at - k + 1)) ADDRESS_SECOND other e (address_second q k b h a sum near)
 address_each q k b h a sum near (suc (suc j)) other e = cc
 
-address_one : (q : Question) (k b : ℕ) (row : Row) → IsAmong q Address k → Alike q ADDRESS_FIRST → 4 * k + b ≡ 4 → takes_value (value.OwnNear b) q ≡ true → slice_get address_rows.rows k ≡ Some row → IsOneOf q row Address k
+address_one : (q : Question) (k b : ℕ) (row : Row) → IsAmong q Address k → Alike q ADDRESS_FIRST → 4 * k + b ≡ 4 → takes_value (value.OwnNear b) q ≡ true → slice_get address_rows.rows k ≡ Some row → IsRowOfSequence q row Address k
 address_one q k b row h a sum near here =
     let low = h.behind in
     record { whole = address_rows; known = (3, omega arith, refl); same = refl; first = q.at - k; place = omega (arith, low); here = here; each = address_each q k b h a sum near; words = h.words }
@@ -479,7 +479,7 @@ address_one q k b row h a sum near here =
 -- what is known of a row that is chosen
 record IsThere (q : Question) (row : Row) : Type 0 where
   applied : IsApplied q row
-  before : has_around q row.always ≡ true
+  before : has_around q row.required_bytes ≡ true
   needed : has_around q row.needed ≡ true
 
 there : (q : Question) (row : Row) → applies_aarch64 q row ≡ true → has_its_words q row ≡ true → IsThere q row
@@ -487,14 +487,14 @@ there q row here whole = record { applied = applied q row (and_parts _ _ here).0
 
 -- it is one of a sequence
 abbrev Finds : Row → Type 0
-Finds row = (q : Question) (s : Sequence) (k : ℕ) → IsThere q row → pattern_of row ≡ pattern.Among s k → IsOneOf q row s k
+Finds row = (q : Question) (s : Sequence) (k : ℕ) → IsThere q row → pattern_of row ≡ pattern.Among s k → IsRowOfSequence q row s k
 
 -- where the pattern is word j of a sequence
-found_at : (q : Question) (row : Row) (t s : Sequence) (j k : ℕ) → pattern.Among t j ≡ pattern.Among s k → IsOneOf q row t j → IsOneOf q row s k
+found_at : (q : Question) (row : Row) (t s : Sequence) (j k : ℕ) → pattern.Among t j ≡ pattern.Among s k → IsRowOfSequence q row t j → IsRowOfSequence q row s k
 found_at q row t s j k e found =
     let same : t ≡ s = cc in
     let place : j ≡ k = cc in
-    subst (λ (n : ℕ). IsOneOf q row s n) place (subst (λ (x : Sequence). IsOneOf q row x j) same found)
+    subst (λ (n : ℕ). IsRowOfSequence q row s n) place (subst (λ (x : Sequence). IsRowOfSequence q row x j) same found)
 
 first_either : (b : Bool) → slice_get (descriptor_rows b).rows 0 ≡ Some CALL_FIRST
 first_either true = refl
@@ -577,18 +577,18 @@ pub record IsChosenWord (q : Question) (row : Row) (s : Sequence) (k : ℕ) : Ty
   pub applied : IsApplied q row
   pub among : IsAmong q s k
 
-either_around : (q : Question) (needed always : Pattern) → has_around q needed ≡ true → has_around q always ≡ true → has_around q (either_pattern needed always) ≡ true
-either_around q pattern.Nothing always n a = a
-either_around q other always n a = n
+either_around : (q : Question) (needed required_bytes : Pattern) → has_around q needed ≡ true → has_around q required_bytes ≡ true → has_around q (either_pattern needed required_bytes) ≡ true
+either_around q pattern.Nothing required_bytes n a = a
+either_around q other required_bytes n a = n
 
-pub chosen_word : (q : Question) (row : Row) (s : Sequence) (k : ℕ) → chosen_aarch64 q ≡ Ok (Some row) → pattern_of row ≡ pattern.Among s k → IsChosenWord q row s k
+pub chosen_word : (q : Question) (row : Row) (s : Sequence) (k : ℕ) → chosen_row_aarch64 q ≡ Ok (Some row) → pattern_of row ≡ pattern.Among s k → IsChosenWord q row s k
 chosen_word q row s k e p =
     let c = chosen_is_aarch64 q row e in
     let t = there q row c.here c.whole in
-    let around = subst (λ (x : Pattern). has_around q x ≡ true) p (either_around q row.needed row.always t.needed t.before) in
+    let around = subst (λ (x : Pattern). has_around q x ≡ true) p (either_around q row.needed row.required_bytes t.needed t.before) in
     record { listed = c.listed; applied = t.applied; among = among_parts q s k around }
 
-pub rows_stand_together : RowsStandTogether
+pub rows_stand_together : RowsApplyTogether
 rows_stand_together q row s k e p =
     let c = chosen_is_aarch64 q row e in
     pick rows_aarch64 row finds_all c.listed q s k (there q row c.here c.whole) p
@@ -611,12 +611,12 @@ each_fits : list_all keeps_or_fits rows_aarch64 ≡ true
 unfolding x86_64_row static_row thread_row rows_aarch64
 each_fits = refl
 
-pub chosen_stand : ChosenStand
+pub chosen_stand : ChosenRowsApply
 chosen_stand q row e =
     let c = chosen_is_aarch64 q row e in
-    let here = and_parts (applies q row) (has_around q row.always) c.here in
+    let here = and_parts (applies q row) (has_around q row.required_bytes) c.here in
     let whole = and_parts (has_its_sequence q row) (has_around q row.needed) c.whole in
-    let at = either_at q.bytes (relocation_of q).offset row row.needed (λ h. at_place q.bytes (relocation_of q).offset row.always (always_stands q row here.0 h)) (at_place q.bytes (relocation_of q).offset row.needed (needed_stands q row whole.0))
+    let at = either_at q.bytes (relocation_of q).offset row row.needed (λ h. at_place q.bytes (relocation_of q).offset row.required_bytes (always_stands q row here.0 h)) (at_place q.bytes (relocation_of q).offset row.needed (needed_stands q row whole.0))
     (listed_passes (λ (r : Row). stands_on r.needed r) rows_aarch64 row each_stands_on c.listed) in
     let begins : field_of (pattern_of row) ≡ 0 = eqb-true _ 0 (listed_passes (λ (r : Row). field_of (pattern_of r) == 0) rows_aarch64 row each_begins c.listed) in
     let inside = at.inside in

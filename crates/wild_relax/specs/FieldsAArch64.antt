@@ -19,7 +19,7 @@ use Rattle.wild_reloc.specs.declared.instruction.AArch64Instruction.TheVariants 
 use Rattle.wild_aarch64.specs.Immediate.{Field, Imm12, Imm14, Imm16, Imm19, Imm21, Imm26}
 use Rattle.wild_aarch64.specs.Immediate as judge
 use Rattle.wild_aarch64.specs.Slice.{Form}
-use Rattle.wild_aarch64.specs.Filled.{forms_filled}
+use Rattle.wild_aarch64.specs.FilledForms.{forms_filled}
 use Rattle.wild_aarch64.specs.Machine.{page}
 use Rattle.wild_aarch64.specs.Row.{Part, Kept, HighOffset, LowOffset, SlotPage, SlotLow, Distance, distance, filled}
 
@@ -35,7 +35,7 @@ field_of instruction.Imm19 = Imm19
 field_of instruction.Imm26 = Imm26
 
 abbrev pub FieldsAgree : Type 0
-FieldsAgree = (i : AArch64Instruction) (bits w : ℕ) → writer.inserted i bits w ≡ judge.inserted (field_of i) bits w
+FieldsAgree = (i : AArch64Instruction) (bits w : ℕ) → writer.word_with_immediate i bits w ≡ judge.word_with_immediate (field_of i) bits w
 
 -- ---- forms
 

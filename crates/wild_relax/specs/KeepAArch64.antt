@@ -8,15 +8,15 @@ use Rattle.wild_words.specs.Words.{word}
 use Rattle.wild_aarch64.specs.Machine.{page}
 use Rattle.wild_aarch64.specs.Effect.{Reader, ReadsNumbers, effect, demand, words_of}
 use Rattle.wild_aarch64.specs.Row as judged
-use Rattle.wild_aarch64.specs.Row.{Comes, distance}
+use Rattle.wild_aarch64.specs.Row.{IsValueOf, distance}
 use Rattle.wild_relax.specs.declared.pattern.Sequence.{Sequence}
 use Rattle.wild_relax.specs.declared.pattern.Sequence.TheVariants.{DescriptorCall, OffsetSlot, Address}
 use Rattle.wild_relax.specs.declared.row.Written.{Written}
 use Rattle.wild_relax.specs.declared.row.Written.TheVariants as written
 use Rattle.wild_relax.specs.declared.row.Row.{Row}
 use Rattle.wild_relax.specs.declared.table_aarch64.TheConstants.{CALL_FIRST, CALL_SECOND, CALL_THIRD, CALL_FOURTH, CALL_THIRD_SLOT, CALL_FOURTH_SLOT, SLOT_FIRST, SLOT_SECOND, ADDRESS_FIRST, ADDRESS_SECOND}
-use Rattle.wild_relax.specs.Linked.{template_of}
-use Rattle.wild_relax.specs.SequenceAArch64.{stand_as}
+use Rattle.wild_relax.specs.LinkedPattern.{template_of}
+use Rattle.wild_relax.specs.SequenceAArch64.{words_match}
 
 -- a sequence, the rows of its words in order, and the rewrite of `wild_aarch64` that they carry out
 pub record Rewriting : Type 0 where
@@ -56,7 +56,7 @@ AreWords (w ∷ ws) = (w < 2 ^ 32) × AreWords ws
 
 -- for each valid register, at every address and base, if the fields are computed from what v stands for
 abbrev pub Keeps : Rewriting → Type 0
-Keeps t = (ws : List ℕ) (reader : Reader) → ReadsNumbers reader → (base a x v : ℕ) → AreWords ws → stand_as t.sequence ws ≡ true → Comes t.run.target reader base a x v
+Keeps t = (ws : List ℕ) (reader : Reader) → ReadsNumbers reader → (base a x v : ℕ) → AreWords ws → words_match t.sequence ws ≡ true → IsValueOf t.run.target reader base a x v
     → effect reader (base + a) (words_of (templates_at t.rows a x ws)) ≡ demand v (base + a) ws
 
 abbrev pub RowsOfAArch64Keep : Type 0

@@ -1,5 +1,5 @@
 -- The law of the rewrites of x86-64: the bytes written in place of an instruction have the effect that it demands of its operand.
---   Lands w read p v value   with `value` in the field at p, the operand has the value v
+--   FieldIsRight w read p v value   with `value` in the field at p, the operand has the value v
 --   RowsHaveTypes            the rows of the table write by relocation types
 --   RowsKeep                 the law
 use Rattle.std.specs.Prelude.{◌≡◌, ℕ, ◌+◌, ◌-◌, ◌%◌, ◌^◌, ◌<◌, true, List, length, Contains, Option, Some}
@@ -16,12 +16,12 @@ use Rattle.wild_relax.specs.declared.row.Made.TheVariants.{Nop}
 use Rattle.wild_relax.specs.declared.row.Written.{Written}
 use Rattle.wild_relax.specs.declared.row.Written.TheVariants as written
 use Rattle.wild_relax.specs.declared.row.Row.{Row}
-use Rattle.wild_relax.specs.Pattern.{cells_of, stands}
+use Rattle.wild_relax.specs.Pattern.{pattern_cells, stands}
 use Rattle.wild_types.specs.declared.kind.Machine.TheVariants.{X86_64}
 use Rattle.wild_types.specs.Rows.{row_of}
 use Rattle.wild_relax.specs.Rows.{rows_x86_64}
 use Rattle.wild_relax.specs.RewriteX86_64.{number_written, info_written, rewrite_of}
-use Rattle.wild_relax.specs.Linked.{pattern_of, IsChanging, field_in, linked}
+use Rattle.wild_relax.specs.LinkedPattern.{pattern_of, IsChanging, field_in, linked_pattern}
 
 -- the bytes are that pattern
 pub record IsWhole (cells : List Cell) (bs : List ℕ) : Type 0 where
@@ -38,12 +38,12 @@ distance v p = (v + (2 ^ 64 - 4) + (2 ^ 64 - p % 2 ^ 64)) % 2 ^ 64
 
 -- The meaning of the field depends on its relocation type: the distance to v, v itself, or the distance to a slot that holds v.
 -- Without a field the operand is the start of the output's own thread-local data, which is at offset 0 of that data.
-abbrev pub Lands : Written → Reader → ℕ → ℕ → ℕ → Type 0
-Lands written.Pc32 read place v value = value ≡ distance v place
-Lands written.Plt32 read place v value = value ≡ distance v place
-Lands written.GotTpOff read place v value = read (Word (sum_64 (place + 4) value)) ≡ Some v
-Lands written.Nothing read place v value = v ≡ 0
-Lands other read place v value = value ≡ v
+abbrev pub FieldIsRight : Written → Reader → ℕ → ℕ → ℕ → Type 0
+FieldIsRight written.Pc32 read place v value = value ≡ distance v place
+FieldIsRight written.Plt32 read place v value = value ≡ distance v place
+FieldIsRight written.GotTpOff read place v value = read (Word (sum_64 (place + 4) value)) ≡ Some v
+FieldIsRight written.Nothing read place v value = v ≡ 0
+FieldIsRight other read place v value = value ≡ v
 
 -- no effect
 abbrev pub no_effect : Effect
@@ -56,7 +56,7 @@ demanded Nop v a old = Some no_effect
 demanded other v a old = demand_x86_64 v a old
 
 abbrev pub Keeps : Row → RelocationKindInfo → Reader → ℕ → ℕ → ℕ → List ℕ → Type 0
-Keeps row info read a v value old = effect_x86_64 read a (linked row info value old) ≡ demanded row.made v a old
+Keeps row info read a v value old = effect_x86_64 read a (linked_pattern row info value old) ≡ demanded row.made v a old
 
 -- a value in range for the field at that place, with which the operand is right
 pub record IsField (w : Written) (info : RelocationKindInfo) (read : Reader) (place v value : ℕ) : Type 0 where
@@ -65,7 +65,7 @@ pub record IsField (w : Written) (info : RelocationKindInfo) (read : Reader) (pl
   pub small : value < 2 ^ 64
   pub operand : v < 2 ^ 64
   pub numbers : ReadsNumbers read
-  pub lands : Lands w read place v value
+  pub lands : FieldIsRight w read place v value
 
 -- the field of each row is written as the machine's relocation table has that relocation type
 abbrev pub RowsHaveTypes : Type 0
@@ -73,5 +73,5 @@ RowsHaveTypes = (row : Row) → Contains rows_x86_64 row → row_of X86_64 (rewr
 
 -- at any address a and for any operand
 abbrev pub RowsKeep : Type 0
-RowsKeep = (row : Row) (info : RelocationKindInfo) (read : Reader) (a v value : ℕ) (old : List ℕ) → IsChanging row → IsWhole (cells_of (pattern_of row)) old
+RowsKeep = (row : Row) (info : RelocationKindInfo) (read : Reader) (a v value : ℕ) (old : List ℕ) → IsChanging row → IsWhole (pattern_cells (pattern_of row)) old
     → IsField row.written info read (a + field_in row) v value → Keeps row info read a v value old

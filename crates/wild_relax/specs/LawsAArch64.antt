@@ -4,14 +4,14 @@
 use Rattle.std.specs.Prelude.{◌≡◌, ℕ, ◌+◌, ◌%◌, ◌^◌, ◌≤◌, Bool, true, Some}
 use Rattle.wild_aarch64.specs.Machine.{meaning, jump_to, jump_through}
 use Rattle.wild_aarch64.specs.Effect.{words_of}
-use Rattle.wild_aarch64.specs.Stub.{StandsAt}
+use Rattle.wild_aarch64.specs.Stub.{IsLocatedAt}
 use Rattle.wild_slot.specs.StubAArch64.{stub_aarch64}
 use Rattle.wild_relax.specs.ThunkAArch64.{thunk_aarch64}
 
 -- a stub that reaches its slot, a multiple of 8, jumps to the address in the slot, at every base that is a multiple of the page
 -- size
 abbrev pub StubsOfAArch64Jump : Type 0
-StubsOfAArch64Jump = (base slot stub : ℕ) (bti : Bool) → (stub_aarch64 slot stub bti).reaches ≡ true → slot % 8 ≡ 0 → StandsAt base stub slot
+StubsOfAArch64Jump = (base slot stub : ℕ) (bti : Bool) → (stub_aarch64 slot stub bti).reaches ≡ true → slot % 8 ≡ 0 → IsLocatedAt base stub slot
     → meaning (base + stub) (words_of (stub_aarch64 slot stub bti).bytes) ≡ Some (jump_through (base + slot))
 
 -- a thunk that reaches its target jumps there, at every such base; the target is computed modulo 2^64

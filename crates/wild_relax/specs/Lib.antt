@@ -1,6 +1,6 @@
 pub mod Question
 pub mod Pattern
-pub mod First
+pub mod FirstRow
 pub mod Rewrite
 pub mod RewriteX86_64
 pub mod RowSymbols
@@ -8,8 +8,8 @@ pub mod RowSequences
 pub mod Rows
 pub mod SequenceAArch64
 pub mod RowsAArch64
-pub mod ByNumber
-pub mod Linked
+pub mod RowsOfType
+pub mod LinkedPattern
 pub mod Relaxation
 pub mod KeepX86_64
 pub mod Section
@@ -20,4 +20,4 @@ pub mod Properties
 pub mod LawsAArch64
 pub mod FieldsAArch64
 pub mod KeepAArch64
-pub mod TogetherAArch64
+pub mod SequenceRowsAArch64

@@ -1,7 +1,7 @@
 -- The filling of padding bytes in a section.
 --   code_filling m    four bytes between sections of code
 --   filling m flags   four bytes for a section with those flags (sh_flags)
---   repeated bs n     four bytes repeated, n bytes in all
+--   repeated_bytes bs n     four bytes repeated, n bytes in all
 use Rattle.std.specs.Prelude.{ℕ, ◌%◌, if◌then◌else◌, List, [], ◌∷◌, map, slice_index}
 use Rattle.std.specs.List.{range_with_len}
 use Rattle.wild_types.specs.declared.kind.Machine.{Machine}
@@ -23,5 +23,5 @@ abbrev pub repeated_byte : List ℕ → ℕ → ℕ
 repeated_byte bs k = slice_index bs (k % 4)
 
 -- cut at the end
-abbrev pub repeated : List ℕ → ℕ → List ℕ
-repeated bs n = map (repeated_byte bs) (range_with_len 0 n)
+abbrev pub repeated_bytes : List ℕ → ℕ → List ℕ
+repeated_bytes bs n = map (repeated_byte bs) (range_with_len 0 n)

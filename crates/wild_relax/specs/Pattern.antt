@@ -1,6 +1,6 @@
 -- The bytes that rows match in the input: those of x86-64 (Intel SDM; x86-64 psABI, "Linker Optimization"; "ELF Handling For
 -- Thread-Local Storage", "Linker Relaxations"), and the position of AArch64's words.
---   cells_of p               the values that each byte of a pattern may have
+--   pattern_cells p               the values that each byte of a pattern may have
 --   field_of p               the offset of the relocation's field in the pattern
 --   stands_before bs o p     the whole pattern is in the bytes, with its field at o
 use Rattle.std.specs.Prelude.{ℕ, ◌+◌, ◌-◌, ◌==◌, Bool, true, false, ◌&&◌, ◌||◌, nat_le, List, [], ◌∷◌, ◌++◌, length, slice_range}
@@ -61,24 +61,24 @@ lea_rdi = exact (0x48 ∷ 0x8d ∷ 0x3d ∷ []) ++ field
 abbrev pub large_call : List Cell
 large_call = exact (0x48 ∷ 0xb8 ∷ []) ++ (field ++ (field ++ exact (0x48 ∷ 0x01 ∷ 0xd8 ∷ 0xff ∷ 0xd0 ∷ [])))
 
-abbrev pub cells_of : Pattern → List Cell
-cells_of Nothing = []
-cells_of (Wide p o) = prefix_cells p ++ (Is (opcode o) ∷ Slot ∷ field)
-cells_of Mov = Is 0x8b ∷ Slot ∷ field
-cells_of Call = exact (0xff ∷ 0x15 ∷ []) ++ field
-cells_of Jump = exact (0xff ∷ 0x25 ∷ []) ++ field
-cells_of (General general.Regular) = Is 0x66 ∷ (lea_rdi ++ (exact (0x66 ∷ 0x66 ∷ 0x48 ∷ 0xe8 ∷ []) ++ field))
-cells_of (General general.NoPlt) = Is 0x66 ∷ (lea_rdi ++ (exact (0x66 ∷ 0x48 ∷ 0xff ∷ 0x15 ∷ []) ++ field))
-cells_of (General general.Large) = lea_rdi ++ large_call
-cells_of (LocalStart local.Regular) = lea_rdi ++ exact (0xe8 ∷ [])
-cells_of (LocalStart local.Large) = lea_rdi ++ exact (0x48 ∷ 0xb8 ∷ [])
-cells_of (LocalStart local.NoPlt) = lea_rdi ++ exact (0xff ∷ 0x15 ∷ [])
-cells_of (Local local.Regular) = lea_rdi ++ (exact (0xe8 ∷ []) ++ field)
-cells_of (Local local.Large) = lea_rdi ++ large_call
-cells_of (Local local.NoPlt) = lea_rdi ++ (exact (0xff ∷ 0x15 ∷ []) ++ field)
-cells_of (Lea p) = lea_prefix_cells p ++ (Is 0x8d ∷ Slot ∷ field)
-cells_of DescriptorCall = exact (0xff ∷ 0x10 ∷ [])
-cells_of (Among s k) = field
+abbrev pub pattern_cells : Pattern → List Cell
+pattern_cells Nothing = []
+pattern_cells (Wide p o) = prefix_cells p ++ (Is (opcode o) ∷ Slot ∷ field)
+pattern_cells Mov = Is 0x8b ∷ Slot ∷ field
+pattern_cells Call = exact (0xff ∷ 0x15 ∷ []) ++ field
+pattern_cells Jump = exact (0xff ∷ 0x25 ∷ []) ++ field
+pattern_cells (General general.Regular) = Is 0x66 ∷ (lea_rdi ++ (exact (0x66 ∷ 0x66 ∷ 0x48 ∷ 0xe8 ∷ []) ++ field))
+pattern_cells (General general.NoPlt) = Is 0x66 ∷ (lea_rdi ++ (exact (0x66 ∷ 0x48 ∷ 0xff ∷ 0x15 ∷ []) ++ field))
+pattern_cells (General general.Large) = lea_rdi ++ large_call
+pattern_cells (LocalStart local.Regular) = lea_rdi ++ exact (0xe8 ∷ [])
+pattern_cells (LocalStart local.Large) = lea_rdi ++ exact (0x48 ∷ 0xb8 ∷ [])
+pattern_cells (LocalStart local.NoPlt) = lea_rdi ++ exact (0xff ∷ 0x15 ∷ [])
+pattern_cells (Local local.Regular) = lea_rdi ++ (exact (0xe8 ∷ []) ++ field)
+pattern_cells (Local local.Large) = lea_rdi ++ large_call
+pattern_cells (Local local.NoPlt) = lea_rdi ++ (exact (0xff ∷ 0x15 ∷ []) ++ field)
+pattern_cells (Lea p) = lea_prefix_cells p ++ (Is 0x8d ∷ Slot ∷ field)
+pattern_cells DescriptorCall = exact (0xff ∷ 0x10 ∷ [])
+pattern_cells (Among s k) = field
 
 abbrev pub field_of : Pattern → ℕ
 field_of Nothing = 0
@@ -98,8 +98,8 @@ field_of DescriptorCall = 0
 field_of (Among s k) = 0
 
 -- the bytes from start on have values that the cells allow
-unfoldable pub stands_at : List ℕ → ℕ → List Cell → Bool
-stands_at bytes start cells = nat_le (start + length cells) (length bytes) && stands cells (slice_range bytes start (start + length cells))
+unfoldable pub cells_match_at : List ℕ → ℕ → List Cell → Bool
+cells_match_at bytes start cells = nat_le (start + length cells) (length bytes) && stands cells (slice_range bytes start (start + length cells))
 
 unfoldable pub stands_before : List ℕ → ℕ → Pattern → Bool
-stands_before bytes offset p = nat_le (field_of p) offset && stands_at bytes (offset - field_of p) (cells_of p)
+stands_before bytes offset p = nat_le (field_of p) offset && cells_match_at bytes (offset - field_of p) (pattern_cells p)

@@ -1,6 +1,6 @@
 -- The rewrite that applies to a relocation.
 --   relaxation_x86_64 q, relaxation_aarch64 q   the rewrite of each machine
---   chosen_of m q         its row, for a given machine
+--   chosen_row_of m q         its row, for a given machine
 use Rattle.std.specs.Prelude.{◌≡◌, refl, Bool, Option, Some, None, Result, Ok, Err}
 use Rattle.wild_types.specs.declared.kind.Machine.{Machine}
 use Rattle.wild_types.specs.declared.kind.Machine.TheVariants as machine
@@ -9,8 +9,8 @@ use Rattle.wild_relax.specs.declared.row.Row.{Row}
 use Rattle.wild_relax.specs.declared.aarch64.ElfAArch64Relaxation.{ElfAArch64Relaxation}
 use Rattle.wild_relax.specs.declared.x86_64.ElfX86_64Relaxation.{ElfX86_64Relaxation}
 use Rattle.wild_relax.specs.Question.{Question}
-use Rattle.wild_relax.specs.Rows.{chosen_x86_64}
-use Rattle.wild_relax.specs.RowsAArch64.{chosen_aarch64}
+use Rattle.wild_relax.specs.Rows.{chosen_row_x86_64}
+use Rattle.wild_relax.specs.RowsAArch64.{chosen_row_aarch64}
 use Rattle.wild_relax.specs.RowSymbols.{is_mandatory}
 
 -- the row, and whether it is applied even if rewriting is off
@@ -27,10 +27,10 @@ of_aarch64 row mandatory = record { row = row; mandatory = mandatory }
 
 -- the first row that applies, as a rewrite
 abbrev pub relaxation_x86_64 : Question → Result (Option ElfX86_64Relaxation) UnknownSequence
-relaxation_x86_64 q = with_duty of_x86_64 q (chosen_x86_64 q)
+relaxation_x86_64 q = with_duty of_x86_64 q (chosen_row_x86_64 q)
 
 abbrev pub relaxation_aarch64 : Question → Result (Option ElfAArch64Relaxation) UnknownSequence
-relaxation_aarch64 q = with_duty of_aarch64 q (chosen_aarch64 q)
+relaxation_aarch64 q = with_duty of_aarch64 q (chosen_row_aarch64 q)
 
 -- ---- by machine
 
@@ -41,9 +41,9 @@ rows_of row (Ok (Some r)) = Ok (Some (row r))
 rows_of row (Err e) = Err e
 
 -- the first row that applies to a relocation, or why it is refused
-abbrev pub chosen_of : Machine → Question → Result (Option Row) UnknownSequence
-chosen_of machine.X86_64 q = chosen_x86_64 q
-chosen_of machine.AArch64 q = chosen_aarch64 q
+abbrev pub chosen_row_of : Machine → Question → Result (Option Row) UnknownSequence
+chosen_row_of machine.X86_64 q = chosen_row_x86_64 q
+chosen_row_of machine.AArch64 q = chosen_row_aarch64 q
 
 -- the flag does not change the row
 pub rows_with_duty : (q : Question) (found : Result (Option Row) UnknownSequence) → rows_of (λ (r : ElfX86_64Relaxation). r.row) (with_duty of_x86_64 q found) ≡ found

@@ -1,6 +1,6 @@
 -- The changes that a rewrite makes.
 --   Rewrite            which bytes around the field it replaces and with which, and how the field is written afterwards
---   rewritten w o bs   the bytes of a section after a rewrite whose field was at o
+--   rewritten_bytes w o bs   the bytes of a section after a rewrite whose field was at o
 --   is_skip m          the next relocation belongs to the same sequence
 --   HasRoom w o n      the bytes that it replaces are within the n bytes of the section
 use Rattle.std.specs.Prelude.{ℕ, ℤ, ◌+◌, ◌-◌, ◌≤◌, Bool, true, false, List, slice_range}
@@ -23,11 +23,11 @@ abbrev pub is_skip : RelocationModifier → Bool
 is_skip Normal = false
 is_skip SkipNextRelocation = true
 
-abbrev pub replaced : Rewrite → ℕ → List ℕ → List ℕ
-replaced w start old = place start (w.bytes (slice_range old start (start + w.size))) old
+abbrev pub replaced_bytes : Rewrite → ℕ → List ℕ → List ℕ
+replaced_bytes w start old = place start (w.bytes (slice_range old start (start + w.size))) old
 
-abbrev pub rewritten : Rewrite → ℕ → List ℕ → List ℕ
-rewritten w offset old = replaced w (offset - w.back) old
+abbrev pub rewritten_bytes : Rewrite → ℕ → List ℕ → List ℕ
+rewritten_bytes w offset old = replaced_bytes w (offset - w.back) old
 
 pub record HasRoom (w : Rewrite) (offset length : ℕ) : Type 0 where
   pub before : w.back ≤ offset

@@ -1,8 +1,8 @@
 -- The rewrite rows of x86-64, and which of them applies to a relocation.
 --   rows_x86_64            the rows, in the table's order
 --   applies q row          the row applies
---   standing_x86_64 q      the first row that applies
---   chosen_x86_64 q        that row, or why it is refused
+--   first_row_x86_64 q      the first row that applies
+--   chosen_row_x86_64 q        that row, or why it is refused
 use Rattle.std.specs.Prelude.{◌==◌, Bool, not, ◌&&◌, ◌||◌, List, ◌++◌, Option, Result}
 use Rattle.wild_types.specs.Kinds.{is_executable}
 use Rattle.wild_types.specs.Lookups.{executable}
@@ -12,7 +12,7 @@ use Rattle.wild_relax.specs.declared.table.TheConstants.{WITH_PC32, WITH_REX_GOT
 use Rattle.wild_relax.specs.Question.{Question, relocation_of, minus_four}
 use Rattle.wild_relax.specs.Pattern.{stands_before}
 use Rattle.wild_relax.specs.RewriteX86_64.{info_written}
-use Rattle.wild_relax.specs.First.{first_standing, checked}
+use Rattle.wild_relax.specs.FirstRow.{first_standing, row_or_fault}
 use Rattle.wild_relax.specs.RowSymbols.{takes_value, takes_symbol, is_mandatory}
 use Rattle.wild_relax.specs.RowSequences.{has_its_sequence}
 
@@ -28,18 +28,18 @@ rows_x86_64 =
 unfoldable pub applies : Question → Row → Bool
 applies q row = (relocation_of q).number == row.number && (q.relax || is_mandatory row.duty q) && (not row.in_code || executable q.section_flags) && takes_symbol row.symbol q
     && (not row.thread_local || is_executable q.kind) && takes_value row.value q
-    && (not row.ends || minus_four (relocation_of q).addend) && (row.anywhere || stands_before q.bytes (relocation_of q).offset row.always)
+    && (not row.ends || minus_four (relocation_of q).addend) && (row.ignores_bytes || stands_before q.bytes (relocation_of q).offset row.required_bytes)
 
 -- ---- the choice
 
 -- the first row that applies
-unfoldable pub standing_x86_64 : Question → Option Row
-standing_x86_64 q = first_standing (applies q) rows_x86_64
+unfoldable pub first_row_x86_64 : Question → Option Row
+first_row_x86_64 q = first_standing (applies q) rows_x86_64
 
 -- a row whose sequence is missing: the relocation type of the input, and how the row's field would have been written
 abbrev pub unknown_sequence : Question → Row → UnknownSequence
 unknown_sequence q row = record { number = (relocation_of q).number; written = info_written row }
 
 -- the first row that applies; refused if its sequence is missing
-unfoldable pub chosen_x86_64 : Question → Result (Option Row) UnknownSequence
-chosen_x86_64 q = checked (has_its_sequence q) (unknown_sequence q) (standing_x86_64 q)
+unfoldable pub chosen_row_x86_64 : Question → Result (Option Row) UnknownSequence
+chosen_row_x86_64 q = row_or_fault (has_its_sequence q) (unknown_sequence q) (first_row_x86_64 q)

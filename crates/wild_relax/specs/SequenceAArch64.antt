@@ -2,9 +2,9 @@
 --   types_of s              their relocation types, in order
 --   words_before n          the number of words of the sequence before that of a relocation type
 --   words_at bs start n     n words of the bytes, from a start on
---   stand_with s r ws       the words are those of the sequence for register r
+--   words_match_register s r ws       the words are those of the sequence for register r
 --   register_of s ws        the register that they use
---   stand_as s ws           they are those of the sequence, for the register that they use
+--   words_match s ws           they are those of the sequence, for the register that they use
 --   is_among q s k          the relocation is that of the sequence's word k, and the other words and relocations are around it
 use Rattle.std.specs.Prelude.{ℕ, zero, suc, ◌+◌, ◌-◌, ◌*◌, ◌/◌, ◌%◌, ◌^◌, ◌==◌, Bool, true, false, ◌&&◌, ◌||◌, if◌then◌else◌, nat_le, nat_lt, List, [], ◌∷◌, length, drop, slice_range, Option, Some, None}
 use Rattle.wild_words.specs.Words.{number}
@@ -39,10 +39,10 @@ same_symbol (Some a) (Some b) = a == b
 same_symbol other symbol = false
 
 -- these relocations have those types, that symbol, addend 0 and offsets 4 bytes apart, from a start on
-abbrev pub follow : Option ℕ → ℕ → List ℕ → List RelocationInfo → Bool
-follow symbol place [] rs = true
-follow symbol place (n ∷ ns) [] = false
-follow symbol place (n ∷ ns) (r ∷ rs) = r.number == n && r.offset == place && same_symbol r.symbol symbol && none_added r.addend && follow symbol (place + 4) ns rs
+abbrev pub relocations_match : Option ℕ → ℕ → List ℕ → List RelocationInfo → Bool
+relocations_match symbol place [] rs = true
+relocations_match symbol place (n ∷ ns) [] = false
+relocations_match symbol place (n ∷ ns) (r ∷ rs) = r.number == n && r.offset == place && same_symbol r.symbol symbol && none_added r.addend && relocations_match symbol (place + 4) ns rs
 
 -- ---- words
 
@@ -69,11 +69,11 @@ abbrev pub is_blr : ℕ → ℕ → Bool
 is_blr r w = w / 2 ^ 10 == 0x358fc0 && register_set w == 0 && register_read w == r
 
 -- the address of a descriptor is in register 0, and that of its function in another register
-abbrev pub stand_with : Sequence → ℕ → List ℕ → Bool
-stand_with DescriptorCall r (a ∷ b ∷ c ∷ d ∷ []) = nat_le 1 r && is_adrp 0 a && is_ldr r 0 b && is_add 0 0 c && is_blr r d
-stand_with OffsetSlot r (a ∷ b ∷ []) = is_adrp r a && is_ldr r r b
-stand_with Address r (a ∷ b ∷ []) = is_adrp r a && is_add r r b
-stand_with s r other = false
+abbrev pub words_match_register : Sequence → ℕ → List ℕ → Bool
+words_match_register DescriptorCall r (a ∷ b ∷ c ∷ d ∷ []) = nat_le 1 r && is_adrp 0 a && is_ldr r 0 b && is_add 0 0 c && is_blr r d
+words_match_register OffsetSlot r (a ∷ b ∷ []) = is_adrp r a && is_ldr r r b
+words_match_register Address r (a ∷ b ∷ []) = is_adrp r a && is_add r r b
+words_match_register s r other = false
 
 -- the register that the second word sets
 abbrev pub register_of : List ℕ → ℕ
@@ -81,8 +81,8 @@ register_of (a ∷ b ∷ ws) = register_set b
 register_of other = 31
 
 -- 31 does not name a register here (C1.2.5, "Register names")
-abbrev pub stand_as : Sequence → List ℕ → Bool
-stand_as s ws = nat_lt (register_of ws) 31 && stand_with s (register_of ws) ws
+abbrev pub words_match : Sequence → List ℕ → Bool
+words_match s ws = nat_lt (register_of ws) 31 && words_match_register s (register_of ws) ws
 
 -- ---- both
 
@@ -92,8 +92,8 @@ sequence_start q k = (relocation_of q).offset - 4 * k
 
 unfoldable pub is_among : Question → Sequence → ℕ → Bool
 is_among q s k =
-    nat_le k q.at && nat_le q.at (length q.relocations) && nat_le (4 * k) (relocation_of q).offset && follow (relocation_of q).symbol (sequence_start q k) (types_of s) (drop (q.at - k) q.relocations)
-    && nat_le (sequence_start q k + 4 * length (types_of s)) (length q.bytes) && stand_as s (words_at q.bytes (sequence_start q k) (length (types_of s)))
+    nat_le k q.at && nat_le q.at (length q.relocations) && nat_le (4 * k) (relocation_of q).offset && relocations_match (relocation_of q).symbol (sequence_start q k) (types_of s) (drop (q.at - k) q.relocations)
+    && nat_le (sequence_start q k + 4 * length (types_of s)) (length q.bytes) && words_match s (words_at q.bytes (sequence_start q k) (length (types_of s)))
 
 -- if the pattern is a word of a sequence, the relocation is that of this word
 abbrev pub has_around : Question → Pattern → Bool

@@ -28,7 +28,7 @@ impl Arch for ElfAArch64 {
     ghost use Rattle.std.specs.Prelude.{refl};
     ghost use Rattle.wild_types.specs.declared.kind.Machine.TheVariants.{AArch64};
     ghost use Rattle.wild_reloc.specs.declared.names.RelName.TheVariants as names;
-    ghost use Rattle.wild_relax.specs.RowsAArch64.{chosen_aarch64};
+    ghost use Rattle.wild_relax.specs.RowsAArch64.{chosen_row_aarch64};
     ghost use Rattle.wild_relax.specs.Relaxation.{relaxation_aarch64, words_with_duty};
 
     type Relaxation = ElfAArch64Relaxation;
@@ -41,7 +41,7 @@ impl Arch for ElfAArch64 {
 
     ghost same_machine = { refl };
 
-    ghost same_rows = { λ q. words_with_duty q (chosen_aarch64 q) };
+    ghost same_rows = { λ q. words_with_duty q (chosen_row_aarch64 q) };
 
     #[inline]
     fn arch_identifier() -> Machine {

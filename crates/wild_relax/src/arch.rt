@@ -4,7 +4,7 @@ ghost use Rattle.wild_slot.specs.MachineStub.{stub_of};
 ghost use Rattle.wild_slot.specs.SlotParts.{type_of};
 ghost use Rattle.wild_slot.specs.Storage.{thread_pointer};
 ghost use Rattle.wild_slot.specs.Treatment.{is_barred_type, is_barred_in_shared};
-ghost use Rattle.wild_relax.specs.Padding.{code_filling, filling, repeated};
+ghost use Rattle.wild_relax.specs.Padding.{code_filling, filling, repeated_bytes};
 ghost use Rattle.wild_relax.specs.Properties.{property_class};
 
 use crate::padding::{code_filling, fill_over_and_over, filling};
@@ -28,7 +28,7 @@ pub trait Arch {
     ghost use Rattle.wild_relax.specs.Question.{Question, question, relocation_of};
     ghost use Rattle.wild_relax.specs.Rewrite.{HasRoom};
     ghost use Rattle.wild_relax.specs.RewriteX86_64.{rewrite_of};
-    ghost use Rattle.wild_relax.specs.Relaxation.{rows_of, chosen_of};
+    ghost use Rattle.wild_relax.specs.Relaxation.{rows_of, chosen_row_of};
 
     /// A rewrite of the machine's instructions.
     type Relaxation: Relaxation + Copy;
@@ -59,14 +59,14 @@ pub trait Arch {
 
     /// Fills the padding of a section of code.
     fn fill_nop_padding(room: &mut [u8])
-        ensures { room.new ≡ repeated (code_filling Self.machine) (length room.old) }
+        ensures { room.new ≡ repeated_bytes (code_filling Self.machine) (length room.old) }
     {
         fill_over_and_over(room, code_filling(Self::arch_identifier()));
     }
 
     /// Fills the padding of a section with those flags (`sh_flags`).
     fn fill_section_padding(room: &mut [u8], section_flags: u64)
-        ensures { room.new ≡ repeated (filling Self.machine section_flags) (length room.old) }
+        ensures { room.new ≡ repeated_bytes (filling Self.machine section_flags) (length room.old) }
     {
         fill_over_and_over(room, filling(Self::arch_identifier(), section_flags));
     }
@@ -160,5 +160,5 @@ pub trait Arch {
     ghost same_machine: { Self.Relaxation.machine ≡ Self.machine };
 
     /// Their rows are the rows that apply.
-    ghost same_rows: { (q : Question) → rows_of Self.Relaxation.as_row (Self.relaxation q) ≡ chosen_of Self.machine q };
+    ghost same_rows: { (q : Question) → rows_of Self.Relaxation.as_row (Self.relaxation q) ≡ chosen_row_of Self.machine q };
 }

@@ -1,9 +1,9 @@
 //! Laws: the code that is written has the effect that is required.
 ghost use Rattle.wild_relax.specs.Laws.{StubsJump};
 ghost use Rattle.wild_relax.specs.KeepX86_64.{RowsHaveTypes, RowsKeep};
-ghost use Rattle.wild_relax.specs.Section.{ChosenStand, ChosenAreWhole, SectionsAreLinked};
+ghost use Rattle.wild_relax.specs.Section.{ChosenRowsApply, ChosenPatternsArePresent, SectionsAreLinked};
 
-use wild_words::owners_of_bytes;
+use wild_words::overlays_keep_pieces;
 
 /// The code of a stub jumps to the address in its slot, whatever the base of the output.
 pub fn stubs_jump_to_their_slots()
@@ -23,9 +23,9 @@ pub fn rewrites_write_relocation_types()
 /// A row is chosen only if it applies and its whole pattern is in the input. The rewrite and its field, written into the section,
 /// change nothing outside that pattern.
 pub fn rewrites_stay_in_their_patterns()
-    ensures stand { ChosenStand }
-    ensures whole { ChosenAreWhole }
+    ensures stand { ChosenRowsApply }
+    ensures whole { ChosenPatternsArePresent }
     ensures linked { SectionsAreLinked }
 {
-    owners_of_bytes();
+    overlays_keep_pieces();
 }

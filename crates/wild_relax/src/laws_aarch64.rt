@@ -2,7 +2,7 @@
 ghost use Rattle.wild_relax.specs.FieldsAArch64.{FieldsAgree, PartsAreFields, TypesHaveForms};
 ghost use Rattle.wild_relax.specs.KeepAArch64.{RowsOfAArch64Keep};
 ghost use Rattle.wild_relax.specs.LawsAArch64.{StubsOfAArch64Jump, ThunksReach};
-ghost use Rattle.wild_relax.specs.TogetherAArch64.{ChosenStand, RowsStandTogether};
+ghost use Rattle.wild_relax.specs.SequenceRowsAArch64.{ChosenRowsApply, RowsApplyTogether};
 
 /// A stub jumps to the address in its slot, also with a landing pad at its start; a thunk jumps to its target. This holds at
 /// every base that is a multiple of the page size.
@@ -27,7 +27,7 @@ pub fn aarch64_rewrites_keep_the_effect()
 
 /// A row is chosen only if it applies and its whole word is in the input. If it belongs to a sequence, those of the other words
 /// are chosen for theirs: no sequence is rewritten in part.
-pub fn aarch64_rows_stand_together()
-    ensures stand { ChosenStand }
-    ensures together { RowsStandTogether }
+pub fn aarch64_rows_apply_together()
+    ensures stand { ChosenRowsApply }
+    ensures together { RowsApplyTogether }
 {}

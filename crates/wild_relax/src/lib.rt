@@ -27,7 +27,7 @@ pub use laws::{
 };
 pub use laws_aarch64::{
     aarch64_code_reaches, aarch64_fields_agree, aarch64_rewrites_keep_the_effect,
-    aarch64_rows_stand_together,
+    aarch64_rows_apply_together,
 };
 pub use padding::filling;
 pub use pattern::{Cell, GeneralForm, LocalForm, Operation, Pattern, Prefix, Sequence};

@@ -1,6 +1,6 @@
 //! The filling of padding bytes in a section.
 ghost use Rattle.std.specs.Prelude.{◌≡◌, length};
-ghost use Rattle.wild_relax.specs.Padding.{code_filling, filling, repeated};
+ghost use Rattle.wild_relax.specs.Padding.{code_filling, filling, repeated_bytes};
 
 use wild_types::{Machine, is_executable};
 
@@ -28,7 +28,7 @@ pub fn filling(machine: Machine, section_flags: u64) -> [u8; 4]
 /// Fills a range with four bytes repeated, cut at the end.
 #[tactic(auto, using(std::proofs::lemmas::List::Edits::fill_by_more, std::proofs::lemmas::List::FromFn::fill_by_all))]
 pub fn fill_over_and_over(room: &mut [u8], bytes: [u8; 4])
-    ensures { room.new ≡ repeated bytes (length room.old) }
+    ensures { room.new ≡ repeated_bytes bytes (length room.old) }
 {
     for i in 0..room.len() {
         room[i] = bytes[i % 4];

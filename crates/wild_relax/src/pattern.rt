@@ -1,7 +1,7 @@
 //! The bytes that rows match in the input: those of x86-64 (Intel SDM; x86-64 psABI, "Linker Optimization"; "ELF Handling For
 //! Thread-Local Storage", "Linker Relaxations"), and the position of AArch64's words.
 ghost use Rattle.std.specs.Prelude.{◌≡◌, ◌≤◌, length};
-ghost use Rattle.wild_relax.specs.Pattern.{fits, stands, cells_of, field_of, stands_before};
+ghost use Rattle.wild_relax.specs.Pattern.{fits, stands, pattern_cells, field_of, stands_before};
 
 /// The prefix of a 64-bit instruction.
 #[derive(Clone, Copy)]
@@ -252,7 +252,7 @@ const LOCAL_NO_PLT_START: [Cell; 9] = [
 ];
 
 fn wide_cells(prefix: Prefix, operation: Operation) -> &'static [Cell]
-    ensures value { result.now ≡ cells_of (Pattern.Wide prefix operation) }
+    ensures value { result.now ≡ pattern_cells (Pattern.Wide prefix operation) }
     ensures short { length result.now ≤ 22 }
 {
     match (prefix, operation) {
@@ -269,7 +269,7 @@ fn wide_cells(prefix: Prefix, operation: Operation) -> &'static [Cell]
 
 /// The bytes of a pattern.
 pub(crate) fn cells(pattern: Pattern) -> &'static [Cell]
-    ensures value { result.now ≡ cells_of pattern }
+    ensures value { result.now ≡ pattern_cells pattern }
     ensures short { length result.now ≤ 22 }
 {
     match pattern {
@@ -311,7 +311,7 @@ pub(crate) fn field(pattern: Pattern) -> u64
     }
 }
 
-fn is_fit(cell: Cell, byte: u8) -> bool
+fn is_cell_match(cell: Cell, byte: u8) -> bool
     ensures { result ≡ fits cell byte }
 {
     match cell {
@@ -324,21 +324,21 @@ fn is_fit(cell: Cell, byte: u8) -> bool
 }
 
 // Whether the bytes start with values that the cells allow.
-fn is_standing(cells: &[Cell], bytes: &[u8]) -> bool
+fn is_match(cells: &[Cell], bytes: &[u8]) -> bool
     ensures { result ≡ stands cells.now bytes.now }
 {
     match cells.split_first() {
         None => true,
         Some((cell, cells)) => match bytes.split_first() {
             None => false,
-            Some((byte, bytes)) => is_fit(*cell, *byte) && is_standing(cells, bytes),
+            Some((byte, bytes)) => is_cell_match(*cell, *byte) && is_match(cells, bytes),
         },
     }
 }
 
 /// Whether the whole pattern is in the bytes with its field at the offset.
-#[tactic(auto, unfolding(crate::specs::Pattern::stands_before, crate::specs::Pattern::stands_at))]
-pub(crate) fn is_standing_before(bytes: &[u8], offset: u64, pattern: Pattern) -> bool
+#[tactic(auto, unfolding(crate::specs::Pattern::stands_before, crate::specs::Pattern::cells_match_at))]
+pub(crate) fn is_pattern_at(bytes: &[u8], offset: u64, pattern: Pattern) -> bool
     ensures { result ≡ stands_before bytes.now offset pattern }
 {
     let field = field(pattern);
@@ -350,5 +350,5 @@ pub(crate) fn is_standing_before(bytes: &[u8], offset: u64, pattern: Pattern) ->
     if bytes.len() < cells.len() || bytes.len() - cells.len() < start {
         return false;
     }
-    is_standing(cells, &bytes[start..start + cells.len()])
+    is_match(cells, &bytes[start..start + cells.len()])
 }

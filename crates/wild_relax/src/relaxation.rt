@@ -75,7 +75,7 @@ pub enum RelocationModifier {
 pub trait Relaxation {
     ghost use Rattle.std.specs.Prelude.{Bool};
     ghost use Rattle.wild_types.specs.declared.kind.Machine.{Machine};
-    ghost use Rattle.wild_relax.specs.Rewrite.{rewritten};
+    ghost use Rattle.wild_relax.specs.Rewrite.{rewritten_bytes};
     ghost use Rattle.wild_relax.specs.RewriteX86_64.{rewrite_of, info_written, is_number};
     ghost use Rattle.wild_relax.specs.declared.row.Row.{Row};
 
@@ -101,7 +101,7 @@ pub trait Relaxation {
     fn apply(&self, section_bytes: &mut [u8], offset_in_section: &mut u64, addend: &mut i64)
         requires before { (rewrite_of (Self.as_row self.now)).back ≤ offset_in_section.old }
         requires behind { offset_in_section.old - (rewrite_of (Self.as_row self.now)).back + (rewrite_of (Self.as_row self.now)).size ≤ length section_bytes.old }
-        ensures bytes { section_bytes.new ≡ rewritten (rewrite_of (Self.as_row self.now)) offset_in_section.old section_bytes.old }
+        ensures bytes { section_bytes.new ≡ rewritten_bytes (rewrite_of (Self.as_row self.now)) offset_in_section.old section_bytes.old }
         ensures offset { offset_in_section.new ≡ offset_in_section.old - (rewrite_of (Self.as_row self.now)).back + (rewrite_of (Self.as_row self.now)).field }
         ensures addend { addend.new ≡ (rewrite_of (Self.as_row self.now)).addend addend.old }
     {

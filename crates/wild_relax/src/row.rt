@@ -2,12 +2,12 @@
 //! The first row that applies is chosen.
 ghost use Rattle.std.specs.Prelude.{◌≡◌, ◌+◌};
 ghost use Rattle.wild_relax.specs.Question.{question, relocation_of};
-ghost use Rattle.wild_relax.specs.First.{first_standing};
+ghost use Rattle.wild_relax.specs.FirstRow.{first_standing};
 ghost use Rattle.wild_relax.specs.RowSymbols.{is_held, is_near, takes_value, takes_symbol, is_mandatory};
 ghost use Rattle.wild_relax.specs.RowSequences.{is_call_number, is_call_addend, is_partner, has_partner, has_its_sequence};
-ghost use Rattle.wild_relax.specs.Rows.{applies, standing_x86_64, chosen_x86_64};
+ghost use Rattle.wild_relax.specs.Rows.{applies, first_row_x86_64, chosen_row_x86_64};
 
-use crate::pattern::{GeneralForm, LocalForm, Operation, Pattern, Prefix, is_standing_before};
+use crate::pattern::{GeneralForm, LocalForm, Operation, Pattern, Prefix, is_pattern_at};
 use crate::reference::{Reference, RelocationInfo, UnknownSequence, is_minus_four, is_zero};
 use crate::relaxation::RelaxationKind;
 use crate::table::rows_with;
@@ -180,9 +180,9 @@ pub struct Row {
     pub ends: bool,
     pub duty: Duty,
     /// Whether it applies whatever the bytes at its relocation are.
-    pub anywhere: bool,
+    pub ignores_bytes: bool,
     /// The bytes without which it does not apply.
-    pub always: Pattern,
+    pub required_bytes: Pattern,
     /// The bytes that it needs if it applies.
     pub needed: Pattern,
     /// Whether it then needs the addend to be -4, for the field's own four bytes.
@@ -285,7 +285,8 @@ pub(crate) fn is_applied(row: &Row, reference: &Reference) -> bool
         && (!row.thread_local || reference.kind.is_executable())
         && takes_value(row.value, reference)
         && (!row.ends || is_minus_four(relocation.addend))
-        && (row.anywhere || is_standing_before(reference.bytes, relocation.offset, row.always))
+        && (row.ignores_bytes
+            || is_pattern_at(reference.bytes, relocation.offset, row.required_bytes))
 }
 
 // Whether a call of that form has a relocation of that type.
@@ -345,7 +346,7 @@ pub(crate) fn has_its_sequence(row: &Row, reference: &Reference) -> bool
     ensures { result ≡ has_its_sequence (question reference.now) row.now }
 {
     let relocation = reference.relocation();
-    is_standing_before(reference.bytes, relocation.offset, row.needed)
+    is_pattern_at(reference.bytes, relocation.offset, row.needed)
         && (!row.needs_end || is_minus_four(relocation.addend))
         && has_partner(row, reference)
 }
@@ -367,18 +368,18 @@ fn first_of(rows: &[Row], reference: &Reference) -> Option<Row>
 }
 
 // The first row that applies, among those of the relocation's type.
-fn standing(reference: &Reference) -> Option<Row>
-    ensures { result ≡ standing_x86_64 (question reference.now) }
+fn first_row(reference: &Reference) -> Option<Row>
+    ensures { result ≡ first_row_x86_64 (question reference.now) }
 {
     first_of(rows_with(reference.relocation().number), reference)
 }
 
 /// The first row that applies; refused if its sequence is missing.
-#[tactic(auto, unfolding(crate::specs::Rows::chosen_x86_64))]
+#[tactic(auto, unfolding(crate::specs::Rows::chosen_row_x86_64))]
 pub(crate) fn choose(reference: &Reference) -> Result<Option<Row>, UnknownSequence>
-    ensures { result ≡ chosen_x86_64 (question reference.now) }
+    ensures { result ≡ chosen_row_x86_64 (question reference.now) }
 {
-    let Some(row) = standing(reference) else {
+    let Some(row) = first_row(reference) else {
         return Ok(None);
     };
     if has_its_sequence(&row, reference) {

@@ -2,7 +2,7 @@
 ghost use Rattle.std.specs.Prelude.{◌≡◌, ◌+◌, ◌-◌, ◌*◌, ◌≤◌, ◌^◌, ◌<◌, length, drop};
 ghost use Rattle.wild_relax.specs.Question.{question, relocation_of};
 ghost use Rattle.wild_relax.specs.RewriteX86_64.{register_set};
-ghost use Rattle.wild_relax.specs.SequenceAArch64.{types_of, words_before, same_symbol, follow, words_at, register_read, is_adrp, is_ldr, is_add, is_blr, stand_as, is_among, has_around};
+ghost use Rattle.wild_relax.specs.SequenceAArch64.{types_of, words_before, same_symbol, relocations_match, words_at, register_read, is_adrp, is_ldr, is_add, is_blr, words_match, is_among, has_around};
 
 use crate::pattern::{Pattern, Sequence};
 use crate::reference::{Reference, RelocationInfo, is_zero};
@@ -71,7 +71,7 @@ fn is_following(
     relocations: &[RelocationInfo],
 ) -> bool
     requires { place + 4 * length types.now < 2 ^ 64 }
-    ensures { result ≡ follow symbol place types.now relocations.now }
+    ensures { result ≡ relocations_match symbol place types.now relocations.now }
 {
     match types.split_first() {
         None => true,
@@ -125,9 +125,9 @@ fn is_blr(register: u32, word: u32) -> bool
 }
 
 // Whether the words from a place on are those of the sequence.
-fn is_standing_as(sequence: Sequence, bytes: &[u8], start: usize) -> bool
+fn are_words_of(sequence: Sequence, bytes: &[u8], start: usize) -> bool
     requires { start + 4 * length (types_of sequence) ≤ length bytes.now }
-    ensures { result ≡ stand_as sequence (words_at bytes.now start (length (types_of sequence))) }
+    ensures { result ≡ words_match sequence (words_at bytes.now start (length (types_of sequence))) }
 {
     let first = read_u32(bytes, start);
     let second = read_u32(bytes, start + 4);
@@ -169,7 +169,7 @@ fn is_among(reference: &Reference, sequence: Sequence, before: u64) -> bool
         return false;
     }
     is_following(own.symbol, start, types, from_first)
-        && is_standing_as(sequence, reference.bytes, start as usize)
+        && are_words_of(sequence, reference.bytes, start as usize)
 }
 
 /// Whether, if a pattern is a word of a sequence, the relocation is that of this word.

@@ -9,7 +9,7 @@
 //! With REX2 (Intel APX) the same instructions have longer prefixes and relocation types of their own.
 //! Read x86-64 psABI, "Linker Optimization", and "ELF Handling For Thread-Local Storage", "Linker Relaxations".
 ghost use Rattle.std.specs.Prelude.{◌≡◌};
-ghost use Rattle.wild_relax.specs.ByNumber.{rows_with};
+ghost use Rattle.wild_relax.specs.RowsOfType.{rows_with};
 
 use crate::pattern::{GeneralForm, LocalForm, Operation, Pattern, Prefix};
 use crate::relaxation::RelaxationKind;
@@ -31,8 +31,8 @@ pub const PLT_OFF: Row = Row {
     thread_local: false,
     ends: false,
     duty: Duty::Static,
-    anywhere: false,
-    always: Pattern::Nothing,
+    ignores_bytes: false,
+    required_bytes: Pattern::Nothing,
     needed: Pattern::Nothing,
     needs_end: false,
     partner: None,
@@ -65,7 +65,7 @@ const NUMBER: Row = Row {
     value: ValueTest::OwnSigned,
     ends: true,
     duty: Duty::StaticAbsolute,
-    always: Pattern::Wide(Prefix::Rex, Operation::Mov),
+    required_bytes: Pattern::Wide(Prefix::Rex, Operation::Mov),
     made: Made::Immediate(Prefix::Rex, Operation::Mov),
     written: Written::Signed32,
     kind: RelaxationKind::RexMovIndirectToAbsolute(3),
@@ -74,7 +74,7 @@ const NUMBER: Row = Row {
 
 /// The same for `cmp`.
 pub const COMPARISON: Row = Row {
-    always: Pattern::Wide(Prefix::Rex, Operation::Cmp),
+    required_bytes: Pattern::Wide(Prefix::Rex, Operation::Cmp),
     made: Made::Immediate(Prefix::Rex, Operation::Cmp),
     kind: RelaxationKind::RexCmpIndirectToAbsolute(3),
     ..NUMBER
@@ -85,7 +85,7 @@ const LEA: Row = Row {
     number: R_X86_64_REX_GOTPCRELX,
     value: ValueTest::OwnMoving,
     ends: true,
-    always: Pattern::Wide(Prefix::Rex, Operation::Mov),
+    required_bytes: Pattern::Wide(Prefix::Rex, Operation::Mov),
     made: Made::Lea,
     written: Written::Pc32,
     kind: RelaxationKind::MovIndirectToLea,
@@ -95,7 +95,7 @@ const LEA: Row = Row {
 /// The same with the longer prefix.
 pub const LEA_2: Row = Row {
     number: R_X86_64_CODE_4_GOTPCRELX,
-    always: Pattern::Wide(Prefix::Rex2, Operation::Mov),
+    required_bytes: Pattern::Wide(Prefix::Rex2, Operation::Mov),
     ..LEA
 };
 
@@ -112,7 +112,7 @@ const CALL: Row = Row {
     number: R_X86_64_GOTPCRELX,
     ends: true,
     duty: Duty::StaticMovable,
-    always: Pattern::Call,
+    required_bytes: Pattern::Call,
     made: Made::DirectCall,
     written: Written::Pc32,
     kind: RelaxationKind::CallIndirectToRelative,
@@ -121,7 +121,7 @@ const CALL: Row = Row {
 
 /// `jmp` through a slot becomes a direct one.
 pub const JUMP: Row = Row {
-    always: Pattern::Jump,
+    required_bytes: Pattern::Jump,
     made: Made::DirectJump,
     kind: RelaxationKind::JmpIndirectToRelative,
     ..CALL
@@ -132,7 +132,7 @@ const OFFSET: Row = Row {
     number: R_X86_64_GOTTPOFF,
     thread_local: true,
     ends: true,
-    always: Pattern::Wide(Prefix::Rex, Operation::Mov),
+    required_bytes: Pattern::Wide(Prefix::Rex, Operation::Mov),
     made: Made::Immediate(Prefix::Rex, Operation::Mov),
     written: Written::TpOff32,
     kind: RelaxationKind::RexMovIndirectToAbsolute(3),
@@ -142,7 +142,7 @@ const OFFSET: Row = Row {
 // The same for `add`, only if rewriting is on: the code works without it.
 const ADDED: Row = Row {
     duty: Duty::Never,
-    always: Pattern::Wide(Prefix::Rex, Operation::Add),
+    required_bytes: Pattern::Wide(Prefix::Rex, Operation::Add),
     made: Made::Immediate(Prefix::Rex, Operation::Add),
     kind: RelaxationKind::RexAddIndirectToAbsolute(3),
     ..OFFSET
@@ -152,7 +152,7 @@ const ADDED: Row = Row {
 const GENERAL: Row = Row {
     number: R_X86_64_TLSGD,
     thread_local: true,
-    always: Pattern::General(GeneralForm::Regular),
+    required_bytes: Pattern::General(GeneralForm::Regular),
     partner: Some(Partner {
         distance: 8,
         form: GeneralForm::Regular,
@@ -165,7 +165,7 @@ const GENERAL: Row = Row {
 
 /// The same for a call through a slot.
 pub const GENERAL_NO_PLT: Row = Row {
-    always: Pattern::General(GeneralForm::NoPlt),
+    required_bytes: Pattern::General(GeneralForm::NoPlt),
     partner: Some(Partner {
         distance: 8,
         form: GeneralForm::NoPlt,
@@ -188,7 +188,7 @@ pub const LOCAL: Row = Row {
     number: R_X86_64_TLSLD,
     value: ValueTest::Any,
     thread_local: true,
-    always: Pattern::LocalStart(LocalForm::Regular),
+    required_bytes: Pattern::LocalStart(LocalForm::Regular),
     needed: Pattern::Local(LocalForm::Regular),
     partner: Some(Partner {
         distance: 5,
@@ -202,7 +202,7 @@ pub const LOCAL: Row = Row {
 
 /// The same for a call through a slot.
 pub const LOCAL_NO_PLT: Row = Row {
-    always: Pattern::LocalStart(LocalForm::NoPlt),
+    required_bytes: Pattern::LocalStart(LocalForm::NoPlt),
     needed: Pattern::Local(LocalForm::NoPlt),
     partner: Some(Partner {
         distance: 6,
@@ -256,7 +256,7 @@ pub const DESCRIPTOR_CALL: Row = Row {
     symbol: SymbolTest::Any,
     value: ValueTest::Any,
     thread_local: true,
-    anywhere: true,
+    ignores_bytes: true,
     needed: Pattern::DescriptorCall,
     made: Made::Nop,
     written: Written::Nothing,
@@ -269,7 +269,7 @@ const WITH_PC32: [Row; 1] = [IFUNC];
 const WITH_REX_GOTPCRELX: [Row; 4] = [
     NUMBER,
     Row {
-        always: Pattern::Wide(Prefix::Rex, Operation::Sub),
+        required_bytes: Pattern::Wide(Prefix::Rex, Operation::Sub),
         made: Made::Immediate(Prefix::Rex, Operation::Sub),
         kind: RelaxationKind::RexSubIndirectToAbsolute(3),
         ..NUMBER
@@ -281,21 +281,21 @@ const WITH_REX_GOTPCRELX: [Row; 4] = [
 const WITH_CODE_4_GOTPCRELX: [Row; 4] = [
     Row {
         number: R_X86_64_CODE_4_GOTPCRELX,
-        always: Pattern::Wide(Prefix::Rex2, Operation::Mov),
+        required_bytes: Pattern::Wide(Prefix::Rex2, Operation::Mov),
         made: Made::Immediate(Prefix::Rex2, Operation::Mov),
         kind: RelaxationKind::RexMovIndirectToAbsolute(4),
         ..NUMBER
     },
     Row {
         number: R_X86_64_CODE_4_GOTPCRELX,
-        always: Pattern::Wide(Prefix::Rex2, Operation::Sub),
+        required_bytes: Pattern::Wide(Prefix::Rex2, Operation::Sub),
         made: Made::Immediate(Prefix::Rex2, Operation::Sub),
         kind: RelaxationKind::RexSubIndirectToAbsolute(4),
         ..NUMBER
     },
     Row {
         number: R_X86_64_CODE_4_GOTPCRELX,
-        always: Pattern::Wide(Prefix::Rex2, Operation::Cmp),
+        required_bytes: Pattern::Wide(Prefix::Rex2, Operation::Cmp),
         made: Made::Immediate(Prefix::Rex2, Operation::Cmp),
         kind: RelaxationKind::RexCmpIndirectToAbsolute(4),
         ..NUMBER
@@ -309,7 +309,7 @@ const WITH_GOTPCRELX: [Row; 4] = [
         number: R_X86_64_GOTPCRELX,
         value: ValueTest::OwnUnsigned,
         duty: Duty::Static,
-        always: Pattern::Mov,
+        required_bytes: Pattern::Mov,
         made: Made::MovImmediate,
         written: Written::Unsigned32,
         kind: RelaxationKind::MovIndirectToAbsolute,
@@ -317,7 +317,7 @@ const WITH_GOTPCRELX: [Row; 4] = [
     },
     Row {
         number: R_X86_64_GOTPCRELX,
-        always: Pattern::Mov,
+        required_bytes: Pattern::Mov,
         ..LEA
     },
     CALL,
@@ -331,14 +331,14 @@ const WITH_GOTTPOFF: [Row; 2] = [OFFSET, ADDED];
 const WITH_CODE_4_GOTTPOFF: [Row; 2] = [
     Row {
         number: R_X86_64_CODE_4_GOTTPOFF,
-        always: Pattern::Wide(Prefix::Rex2, Operation::Mov),
+        required_bytes: Pattern::Wide(Prefix::Rex2, Operation::Mov),
         made: Made::Immediate(Prefix::Rex2, Operation::Mov),
         kind: RelaxationKind::RexMovIndirectToAbsolute(4),
         ..OFFSET
     },
     Row {
         number: R_X86_64_CODE_4_GOTTPOFF,
-        always: Pattern::Wide(Prefix::Rex2, Operation::Add),
+        required_bytes: Pattern::Wide(Prefix::Rex2, Operation::Add),
         made: Made::Immediate(Prefix::Rex2, Operation::Add),
         kind: RelaxationKind::RexAddIndirectToAbsolute(4),
         ..ADDED
@@ -354,7 +354,7 @@ const WITH_TLSGD: [Row; 5] = [
     GENERAL,
     GENERAL_NO_PLT,
     Row {
-        always: Pattern::General(GeneralForm::Large),
+        required_bytes: Pattern::General(GeneralForm::Large),
         partner: Some(Partner {
             distance: 6,
             form: GeneralForm::Large,
@@ -378,7 +378,7 @@ const WITH_TLSLD: [Row; 3] = [
     LOCAL,
     Row {
         duty: Duty::Never,
-        always: Pattern::LocalStart(LocalForm::Large),
+        required_bytes: Pattern::LocalStart(LocalForm::Large),
         needed: Pattern::Local(LocalForm::Large),
         partner: Some(Partner {
             distance: 6,
@@ -400,7 +400,7 @@ const WITH_TLSDESC_CALL: [Row; 1] = [DESCRIPTOR_CALL];
 const NO_ROWS: [Row; 0] = [];
 
 /// The rows of a relocation type.
-#[tactic(auto, unfolding(crate::specs::ByNumber::rows_with, crate::specs::Rows::rows_x86_64))]
+#[tactic(auto, unfolding(crate::specs::RowsOfType::rows_with, crate::specs::Rows::rows_x86_64))]
 pub(crate) fn rows_with(number: u32) -> &'static [Row]
     ensures { result.now ≡ rows_with number }
 {

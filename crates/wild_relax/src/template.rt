@@ -4,7 +4,7 @@ ghost use Rattle.wild_words.specs.Words.{place};
 ghost use Rattle.wild_relax.specs.Pattern.{field_of};
 ghost use Rattle.wild_relax.specs.Rewrite.{is_skip};
 ghost use Rattle.wild_relax.specs.RewriteX86_64.{rewrite_of};
-ghost use Rattle.wild_relax.specs.Linked.{pattern_of, pattern_size, keeps_bytes, fits_in, template_of};
+ghost use Rattle.wild_relax.specs.LinkedPattern.{pattern_of, pattern_size, keeps_bytes, fits_in, template_of};
 
 use crate::pattern::{self, Pattern};
 use crate::rewrite::{self, change_of};
@@ -16,7 +16,7 @@ impl Row {
         ensures { result ≡ pattern_of self }
     {
         match self.needed {
-            Pattern::Nothing => self.always,
+            Pattern::Nothing => self.required_bytes,
             other => other,
         }
     }

@@ -20,7 +20,7 @@ impl Arch for ElfX86_64 {
     ghost use Rattle.std.specs.Prelude.{refl};
     ghost use Rattle.wild_types.specs.declared.kind.Machine.TheVariants.{X86_64};
     ghost use Rattle.wild_reloc.specs.declared.names.RelName.TheVariants as names;
-    ghost use Rattle.wild_relax.specs.Rows.{chosen_x86_64};
+    ghost use Rattle.wild_relax.specs.Rows.{chosen_row_x86_64};
     ghost use Rattle.wild_relax.specs.Relaxation.{relaxation_x86_64, rows_with_duty};
 
     type Relaxation = ElfX86_64Relaxation;
@@ -33,7 +33,7 @@ impl Arch for ElfX86_64 {
 
     ghost same_machine = { refl };
 
-    ghost same_rows = { λ q. rows_with_duty q (chosen_x86_64 q) };
+    ghost same_rows = { λ q. rows_with_duty q (chosen_row_x86_64 q) };
 
     #[inline]
     fn arch_identifier() -> Machine {

@@ -1,7 +1,7 @@
 -- The expression of each kind of relocation, in parts (x86-64 psABI, "Relocation Types"; aaelf64, "Relocation
 -- operations").
 --   expression_of kind   the term to which A is added, what is subtracted from the sum, and the class
---   taken_of kind mask   what is subtracted if a mask replaces terms by their pages
+--   subtrahend_of kind mask   what is subtracted if a mask replaces terms by their pages
 --   expressed e          the formula's value of an expression
 use Rattle.std.specs.Prelude.{Bool, true, false, Option, Some, None}
 use Rattle.wild_reloc.specs.declared.info.PageMask.{PageMask}
@@ -12,15 +12,15 @@ use Rattle.wild_reloc.specs.declared.expression.SlotSort.{SlotSort}
 use Rattle.wild_reloc.specs.declared.expression.SlotSort.TheVariants as sorts
 use Rattle.wild_reloc.specs.declared.expression.Term.{Term}
 use Rattle.wild_reloc.specs.declared.expression.Term.TheVariants as term
-use Rattle.wild_reloc.specs.declared.expression.Taken.{Taken}
-use Rattle.wild_reloc.specs.declared.expression.Taken.TheVariants as taken
+use Rattle.wild_reloc.specs.declared.expression.Subtrahend.{Subtrahend}
+use Rattle.wild_reloc.specs.declared.expression.Subtrahend.TheVariants as taken
 use Rattle.wild_reloc.specs.declared.expression.Class.{Class}
 use Rattle.wild_reloc.specs.declared.expression.Class.TheVariants as class
 use Rattle.wild_reloc.specs.declared.expression.Expression.{Expression}
 use Rattle.wild_reloc.specs.Formula.{Slot, Value}
 use Rattle.wild_reloc.specs.Formula as formula
 
-abbrev pub expression : Term → Taken → Class → Expression
+abbrev pub expression : Term → Subtrahend → Class → Expression
 expression t less c = record { term = t; taken = less; class = c }
 
 -- the kinds, each with its expression
@@ -49,13 +49,13 @@ expression_of kinds.TlsDescCall = expression term.Nothing taken.Nothing class.Ma
 expression_of kinds.SymbolSize = expression term.Size taken.Nothing class.Extent
 
 -- what is subtracted if a mask replaces terms by their pages (aaelf64, "Relocation operations": Page)
-abbrev pub paged : Option PageMask → Taken → Taken
+abbrev pub paged : Option PageMask → Subtrahend → Subtrahend
 paged None less = less
 paged (Some masks.GotBase) less = taken.PageTable
 paged (Some both) less = taken.PagePlace
 
-abbrev pub taken_of : RelocationKind → Option PageMask → Taken
-taken_of kind mask = paged mask (expression_of kind).taken
+abbrev pub subtrahend_of : RelocationKind → Option PageMask → Subtrahend
+subtrahend_of kind mask = paged mask (expression_of kind).taken
 
 -- the class has a value: an address, a distance, an offset or a size
 abbrev pub has_value : Class → Bool
@@ -80,7 +80,7 @@ slot_sort sorts.Offset = formula.ThreadOffset
 slot_sort sorts.Descriptor = formula.Descriptor
 
 -- the formula's value of a term and what is subtracted
-abbrev pub expressed : Term → Taken → Value
+abbrev pub expressed : Term → Subtrahend → Value
 expressed term.Symbol taken.Nothing = formula.SymbolAddress
 expressed term.Symbol taken.Place = formula.Distance
 expressed term.Symbol taken.Table = formula.FromTable

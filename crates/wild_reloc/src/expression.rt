@@ -1,6 +1,6 @@
 //! The expression of a kind of relocation, as a term, what is subtracted from it, and a class.
 ghost use Rattle.std.specs.Prelude.{◌≡◌};
-ghost use Rattle.wild_reloc.specs.Expression.{paged, taken_of, expression_of};
+ghost use Rattle.wild_reloc.specs.Expression.{paged, subtrahend_of, expression_of};
 
 use crate::info::{PageMask, RelocationKind, RelocationKindInfo};
 
@@ -42,7 +42,7 @@ pub enum Term {
 
 /// What is subtracted from the sum.
 #[derive(Clone, Copy)]
-pub enum Taken {
+pub enum Subtrahend {
     /// Nothing.
     Nothing,
     /// P, the place.
@@ -84,7 +84,7 @@ pub struct Expression {
     /// The term to which A is added.
     pub term: Term,
     /// What is subtracted from the sum.
-    pub taken: Taken,
+    pub taken: Subtrahend,
     /// How it is treated.
     pub class: Class,
 }
@@ -96,48 +96,64 @@ impl RelocationKind {
         ensures { result ≡ expression_of self }
     {
         let (term, taken, class) = match self {
-            RelocationKind::None => (Term::Nothing, Taken::Nothing, Class::Nothing),
-            RelocationKind::Absolute => (Term::Symbol, Taken::Nothing, Class::Address),
-            RelocationKind::AbsoluteLowPart => (Term::Symbol, Taken::Nothing, Class::Part),
-            RelocationKind::Relative => (Term::Symbol, Taken::Place, Class::Distance),
-            RelocationKind::SymRelGotBase => (Term::Symbol, Taken::Table, Class::Plain),
-            RelocationKind::PltRelative => (Term::Stub, Taken::Place, Class::Plain),
-            RelocationKind::PltRelGotBase => (Term::Stub, Taken::Table, Class::Plain),
-            RelocationKind::GotBaseRelative => (Term::Table, Taken::Place, Class::Free),
-            RelocationKind::Got => (Term::Slot(SlotSort::Address), Taken::Nothing, Class::Part),
+            RelocationKind::None => (Term::Nothing, Subtrahend::Nothing, Class::Nothing),
+            RelocationKind::Absolute => (Term::Symbol, Subtrahend::Nothing, Class::Address),
+            RelocationKind::AbsoluteLowPart => (Term::Symbol, Subtrahend::Nothing, Class::Part),
+            RelocationKind::Relative => (Term::Symbol, Subtrahend::Place, Class::Distance),
+            RelocationKind::SymRelGotBase => (Term::Symbol, Subtrahend::Table, Class::Plain),
+            RelocationKind::PltRelative => (Term::Stub, Subtrahend::Place, Class::Plain),
+            RelocationKind::PltRelGotBase => (Term::Stub, Subtrahend::Table, Class::Plain),
+            RelocationKind::GotBaseRelative => (Term::Table, Subtrahend::Place, Class::Free),
+            RelocationKind::Got => (
+                Term::Slot(SlotSort::Address),
+                Subtrahend::Nothing,
+                Class::Part,
+            ),
             RelocationKind::GotRelative => (
                 Term::Slot(SlotSort::Address),
-                Taken::Place,
+                Subtrahend::Place,
                 Class::Plain,
             ),
             RelocationKind::GotRelGotBase => (
                 Term::Slot(SlotSort::Address),
-                Taken::Table,
+                Subtrahend::Table,
                 Class::Plain,
             ),
-            RelocationKind::TlsGd => (Term::Slot(SlotSort::Pair), Taken::Place, Class::Plain),
-            RelocationKind::TlsGdGot => (Term::Slot(SlotSort::Pair), Taken::Nothing, Class::Part),
-            RelocationKind::TlsLd => (Term::Slot(SlotSort::OwnPair), Taken::Place, Class::Plain),
-            RelocationKind::DtpOff => (Term::ModuleOffset, Taken::Nothing, Class::Plain),
-            RelocationKind::GotTpOff => (Term::Slot(SlotSort::Offset), Taken::Place, Class::Plain),
-            RelocationKind::GotTpOffGot => (
-                Term::Slot(SlotSort::Offset),
-                Taken::Nothing,
+            RelocationKind::TlsGd => (Term::Slot(SlotSort::Pair), Subtrahend::Place, Class::Plain),
+            RelocationKind::TlsGdGot => (
+                Term::Slot(SlotSort::Pair),
+                Subtrahend::Nothing,
                 Class::Part,
             ),
-            RelocationKind::TpOff => (Term::PointerOffset, Taken::Nothing, Class::Pointer),
+            RelocationKind::TlsLd => (
+                Term::Slot(SlotSort::OwnPair),
+                Subtrahend::Place,
+                Class::Plain,
+            ),
+            RelocationKind::DtpOff => (Term::ModuleOffset, Subtrahend::Nothing, Class::Plain),
+            RelocationKind::GotTpOff => (
+                Term::Slot(SlotSort::Offset),
+                Subtrahend::Place,
+                Class::Plain,
+            ),
+            RelocationKind::GotTpOffGot => (
+                Term::Slot(SlotSort::Offset),
+                Subtrahend::Nothing,
+                Class::Part,
+            ),
+            RelocationKind::TpOff => (Term::PointerOffset, Subtrahend::Nothing, Class::Pointer),
             RelocationKind::TlsDesc => (
                 Term::Slot(SlotSort::Descriptor),
-                Taken::Place,
+                Subtrahend::Place,
                 Class::Plain,
             ),
             RelocationKind::TlsDescGot => (
                 Term::Slot(SlotSort::Descriptor),
-                Taken::Nothing,
+                Subtrahend::Nothing,
                 Class::Part,
             ),
-            RelocationKind::TlsDescCall => (Term::Nothing, Taken::Nothing, Class::Mark),
-            RelocationKind::SymbolSize => (Term::Size, Taken::Nothing, Class::Extent),
+            RelocationKind::TlsDescCall => (Term::Nothing, Subtrahend::Nothing, Class::Mark),
+            RelocationKind::SymbolSize => (Term::Size, Subtrahend::Nothing, Class::Extent),
         };
         Expression { term, taken, class }
     }
@@ -145,21 +161,21 @@ impl RelocationKind {
 
 /// What is subtracted if the row replaces terms by their pages.
 #[inline]
-fn paged(mask: Option<PageMask>, taken: Taken) -> Taken
+fn paged(mask: Option<PageMask>, taken: Subtrahend) -> Subtrahend
     ensures { result ≡ paged mask taken }
 {
     match mask {
         None => taken,
-        Some(PageMask::GotBase) => Taken::PageTable,
-        Some(_) => Taken::PagePlace,
+        Some(PageMask::GotBase) => Subtrahend::PageTable,
+        Some(_) => Subtrahend::PagePlace,
     }
 }
 
 impl RelocationKindInfo {
     /// What the row subtracts from the sum.
     #[inline]
-    pub fn taken(&self) -> Taken
-        ensures { result ≡ taken_of self.now.kind self.now.mask }
+    pub fn taken(&self) -> Subtrahend
+        ensures { result ≡ subtrahend_of self.now.kind self.now.mask }
     {
         paged(self.mask, self.kind.expression().taken)
     }

@@ -14,7 +14,7 @@ mod range;
 pub mod x86_64;
 
 pub use dynamic::DynamicRelocationKind;
-pub use expression::{Class, Expression, SlotSort, Taken, Term};
+pub use expression::{Class, Expression, SlotSort, Subtrahend, Term};
 pub use info::{OutOfRange, PageMask, RelocationKind, RelocationKindInfo, RelocationSize, Width};
 pub use instruction::{AArch64Instruction, BitMask};
 pub use laws::{

@@ -6,7 +6,7 @@ use Rattle.std.proofs.lemmas.Bool.{cases_Bool, cases_lt, ne_eqb}
 use Rattle.std.proofs.lemmas.Nat.{pow_pos}
 use Rattle.std.proofs.Math.Nat.{pow-suc}
 use Rattle.wild_relr.specs.Places.{window, places_of, places_from, places, next_of}
-use Rattle.wild_relr.specs.Packed.{bitmaps, bitmap_count, block, slots}
+use Rattle.wild_relr.specs.RunWords.{bitmaps, bitmap_count, block, slots}
 use Rattle.wild_relr.proofs.PlaceLemmas.{window-odd, places-append, places_of-even, places_of-odd, next_after-even, next_after-odd, window-none}
 
 -- ---- a block

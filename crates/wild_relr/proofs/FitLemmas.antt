@@ -9,8 +9,8 @@ use Rattle.wild_relr.specs.declared.run.Run.{Run}
 use Rattle.wild_relr.specs.declared.run.Run.TheVariants.{Closed, Address, Bitmap}
 use Rattle.wild_relr.specs.declared.run.Choice.{Choice}
 use Rattle.wild_relr.specs.declared.run.Choice.TheVariants.{Joins, Adds}
-use Rattle.wild_relr.specs.Packing.{slot, bitmap, with_bit, starts, opens, joins, choice, joined}
-use Rattle.wild_relr.specs.Packed.{by_choice, packed_on, packed}
+use Rattle.wild_relr.specs.Encoding.{slot, bitmap, with_bit, starts, new_bitmap_or, last_bit_or, choice, with_last_bit}
+use Rattle.wild_relr.specs.RunWords.{by_choice, packed_on, packed}
 use Rattle.wild_relr.specs.Laws.{IsWord}
 use Rattle.wild_relr.proofs.PackingLemmas.{is_slot}
 use Rattle.wild_relr.proofs.WriterLemmas.{bit_small}
@@ -24,11 +24,11 @@ bitmap_fits : (i : ℕ) → i < 63 → IsWord (bitmap i)
 unfolding bitmap
 bitmap_fits i h = let b = bit_small i h in omega (arith, b)
 
-opens_fits : (start p : ℕ) (o : Option ℕ) (other : Choice) → slot start p ≡ o → FitsChoice other → FitsChoice (opens start o other)
+opens_fits : (start p : ℕ) (o : Option ℕ) (other : Choice) → slot start p ≡ o → FitsChoice other → FitsChoice (new_bitmap_or start o other)
 opens_fits start p None other e h = h
 opens_fits start p (Some i) other e h = bitmap_fits i (is_slot start p i e).below
 
-joins_fits : (start p : ℕ) (o : Option ℕ) (other : Choice) → slot start p ≡ o → FitsChoice other → FitsChoice (joins o other)
+joins_fits : (start p : ℕ) (o : Option ℕ) (other : Choice) → slot start p ≡ o → FitsChoice other → FitsChoice (last_bit_or o other)
 joins_fits start p None other e h = h
 joins_fits start p (Some i) other e h = (is_slot start p i e).below
 
@@ -36,7 +36,7 @@ choice_fits : (r : Run) (p : ℕ) → IsWord p → FitsChoice (choice r p)
 unfolding choice
 choice_fits Closed p h = h
 choice_fits (Address a) p h = opens_fits (a + 8) p (slot (a + 8) p) (starts p) refl h
-choice_fits (Bitmap s) p h = joins_fits s p (slot s p) (opens (s + 504) (slot (s + 504) p) (starts p)) refl (opens_fits (s + 504) p (slot (s + 504) p) (starts p) refl h)
+choice_fits (Bitmap s) p h = joins_fits s p (slot s p) (new_bitmap_or (s + 504) (slot (s + 504) p) (starts p)) refl (opens_fits (s + 504) p (slot (s + 504) p) (starts p) refl h)
 
 -- ---- a bit more
 
@@ -74,11 +74,11 @@ with_bit_fits i w h low =
       | inr f ↦ rw f low
     ]
 
-joined_fits : (i : ℕ) (ws : List ℕ) → i < 63 → All IsWord ws → All IsWord (joined i ws)
-unfolding joined
+joined_fits : (i : ℕ) (ws : List ℕ) → i < 63 → All IsWord ws → All IsWord (with_last_bit i ws)
+unfolding with_last_bit
 joined_fits i [] h a = a
 joined_fits i (w ∷ []) h a = All-cons IsWord (with_bit i w) [] (with_bit_fits i w h (All-head IsWord w [] a)) (All-nil IsWord)
-joined_fits i (w ∷ v ∷ ws) h a = All-cons IsWord w (joined i (v ∷ ws)) (All-head IsWord w (v ∷ ws) a) (joined_fits i (v ∷ ws) h (All-tail IsWord w (v ∷ ws) a))
+joined_fits i (w ∷ v ∷ ws) h a = All-cons IsWord w (with_last_bit i (v ∷ ws)) (All-head IsWord w (v ∷ ws) a) (joined_fits i (v ∷ ws) h (All-tail IsWord w (v ∷ ws) a))
 
 -- ---- runs
 
@@ -91,7 +91,7 @@ unfolding packed_on
 packed_on_fits [] r part a b = a
 packed_on_fits (p ∷ ps) r part a b =
     by_choice_fits (choice r p) _ _ (choice_fits r p (All-head IsWord p ps b))
-    (λ i h. packed_on_fits ps r (joined i part) (joined_fits i part h a) (All-tail IsWord p ps b))
+    (λ i h. packed_on_fits ps r (with_last_bit i part) (joined_fits i part h a) (All-tail IsWord p ps b))
     (λ w q h. All-append IsWord part (packed_on q (w ∷ []) ps) a (packed_on_fits ps q (w ∷ []) (All-cons IsWord w [] h (All-nil IsWord)) (All-tail IsWord p ps b)))
 
 pub packed_fits : (ps : List ℕ) → All IsWord ps → All IsWord (packed ps)

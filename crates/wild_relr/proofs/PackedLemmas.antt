@@ -12,37 +12,37 @@ use Rattle.wild_relr.specs.declared.run.Run.{Run}
 use Rattle.wild_relr.specs.declared.run.Run.TheVariants.{Closed, Address}
 use Rattle.wild_relr.specs.declared.run.Choice.{Choice}
 use Rattle.wild_relr.specs.declared.run.Choice.TheVariants.{Joins, Adds}
-use Rattle.wild_relr.specs.Packing.{choice, State, joined, with_bit, chosen, after, Follows}
-use Rattle.wild_relr.specs.Packed.{by_choice, packed_on, packed, block, Piece, Places, Block, words_of_piece, words_of, afters, all_done, AreNew, Rise, after_flat, after_run, new_words, run_after, counted, places_of_piece, places_of_pieces, IsEven}
-use Rattle.wild_relr.proofs.PackingLemmas.{joined-push, Records-after, Follows-after}
+use Rattle.wild_relr.specs.Encoding.{choice, State, with_last_bit, with_bit, chosen, after, Follows}
+use Rattle.wild_relr.specs.RunWords.{by_choice, packed_on, packed, block, Piece, Places, Block, words_of_piece, words_of, after_places, after_pieces, AreNew, AreRising, after_relr_slot, after_run, new_words, run_after, counted, places_of_piece, places_of_pieces, IsEven}
+use Rattle.wild_relr.proofs.PackingLemmas.{with_last_bit-push, Records-after, Follows-after}
 use Rattle.wild_relr.proofs.BlockLemmas.{places-block, block-no_base}
 
 -- ---- a run
 
-step_packed : (c : Choice) (r : Run) (front : List ℕ) (w : ℕ) (ps : List ℕ) → ((r : Run) (front : List ℕ) (w : ℕ) → (afters (record { run = r; words = front ++ w ∷ [] }) ps).words ≡ front ++ packed_on r (w ∷ []) ps)
-    → (afters (chosen c (record { run = r; words = front ++ w ∷ [] })) ps).words ≡ front ++ by_choice c (λ i. packed_on r (joined i (w ∷ [])) ps) (λ v q. (w ∷ []) ++ packed_on q (v ∷ []) ps)
-unfolding joined
-step_packed (Joins i) r front w ps again = rw (joined-push i front w) (again r front (with_bit i w))
+step_packed : (c : Choice) (r : Run) (front : List ℕ) (w : ℕ) (ps : List ℕ) → ((r : Run) (front : List ℕ) (w : ℕ) → (after_places (record { run = r; words = front ++ w ∷ [] }) ps).words ≡ front ++ packed_on r (w ∷ []) ps)
+    → (after_places (chosen c (record { run = r; words = front ++ w ∷ [] })) ps).words ≡ front ++ by_choice c (λ i. packed_on r (with_last_bit i (w ∷ [])) ps) (λ v q. (w ∷ []) ++ packed_on q (v ∷ []) ps)
+unfolding with_last_bit
+step_packed (Joins i) r front w ps again = rw (with_last_bit-push i front w) (again r front (with_bit i w))
 step_packed (Adds v q) r front w ps again = again q (front ++ w ∷ []) v ∙ append_assoc front (w ∷ []) (packed_on q (v ∷ []) ps)
 
-afters_on : (ps : List ℕ) (r : Run) (front : List ℕ) (w : ℕ) → (afters (record { run = r; words = front ++ w ∷ [] }) ps).words ≡ front ++ packed_on r (w ∷ []) ps
-unfolding afters packed_on
+afters_on : (ps : List ℕ) (r : Run) (front : List ℕ) (w : ℕ) → (after_places (record { run = r; words = front ++ w ∷ [] }) ps).words ≡ front ++ packed_on r (w ∷ []) ps
+unfolding after_places packed_on
 afters_on [] r front w = refl
 afters_on (p ∷ ps) r front w = step_packed (choice r p) r front w ps (λ r front w. afters_on ps r front w)
 
-pub afters-packed : (ps : List ℕ) (ws : List ℕ) → (afters (record { run = Closed; words = ws }) ps).words ≡ ws ++ packed ps
-unfolding afters packed_on packed choice
-afters-packed [] ws = sym (append-nil ws)
-afters-packed (p ∷ ps) ws = afters_on ps (Address p) ws p
+pub after_places-packed : (ps : List ℕ) (ws : List ℕ) → (after_places (record { run = Closed; words = ws }) ps).words ≡ ws ++ packed ps
+unfolding after_places packed_on packed choice
+after_places-packed [] ws = sym (append-nil ws)
+after_places-packed (p ∷ ps) ws = afters_on ps (Address p) ws p
 
-pub all_done-words : (xs : List Piece) (ws : List ℕ) → (all_done (record { run = Closed; words = ws }) xs).words ≡ ws ++ words_of xs
-unfolding all_done
-all_done-words [] ws = sym (append-nil ws)
-all_done-words (Places ps ∷ xs) ws =
-    ap (λ (vs : List ℕ). (all_done (record { run = Closed; words = vs }) xs).words) (afters-packed ps ws)
-    ∙ all_done-words xs (ws ++ packed ps)
+pub after_pieces-words : (xs : List Piece) (ws : List ℕ) → (after_pieces (record { run = Closed; words = ws }) xs).words ≡ ws ++ words_of xs
+unfolding after_pieces
+after_pieces-words [] ws = sym (append-nil ws)
+after_pieces-words (Places ps ∷ xs) ws =
+    ap (λ (vs : List ℕ). (after_pieces (record { run = Closed; words = vs }) xs).words) (after_places-packed ps ws)
+    ∙ after_pieces-words xs (ws ++ packed ps)
     ∙ append_assoc ws (packed ps) (words_of xs)
-all_done-words (Block base n ∷ xs) ws = all_done-words xs (ws ++ block base n) ∙ append_assoc ws (block base n) (words_of xs)
+after_pieces-words (Block base n ∷ xs) ws = after_pieces-words xs (ws ++ block base n) ∙ append_assoc ws (block base n) (words_of xs)
 
 -- ---- whole runs
 
@@ -50,10 +50,10 @@ one_of : (x y : ℕ) (xs : List ℕ) → Contains (x ∷ xs) y → (x ≡ y) ⊎
 one_of x y xs (zero, l, e) = inl e
 one_of x y xs (suc k, l, e) = inr (k, (omega arith), e)
 
-pub afters-recorded : (ps : List ℕ) (s : State) → Follows s → AreNew s.words ps → IsPermutation (ps ++ places s.words) (places (afters s ps).words)
-unfolding afters
-afters-recorded [] s f h = IsPermutation-refl _
-afters-recorded (p ∷ ps) s f h =
+pub after_places-recorded : (ps : List ℕ) (s : State) → Follows s → AreNew s.words ps → IsPermutation (ps ++ places s.words) (places (after_places s ps).words)
+unfolding after_places
+after_places-recorded [] s f h = IsPermutation-refl _
+after_places-recorded (p ∷ ps) s f h =
     let even : p % 2 ≡ 0 = All-head (λ q. q % 2 ≡ 0) p ps h.even in
     let fresh : Contains (places s.words) p → ⊥ = All-head (λ q. Contains (places s.words) q → ⊥) p ps h.new in
     let r = Records-after s p f even fresh in
@@ -65,39 +65,39 @@ afters-recorded (p ∷ ps) s f h =
       ];
       apart = λ i j d l m. h.apart (suc i) (suc j) d (omega arith) (omega arith);
     } in
-    let rest = afters-recorded ps (after s p) (Follows-after s p f even) again in
+    let rest = after_places-recorded ps (after s p) (Follows-after s p f even) again in
     IsPermutation-trans _ _ _ (IsPermutation-sym _ _ (IsPermutation-middle ps p (places s.words)))
     (IsPermutation-trans _ _ _ (IsPermutation-append_right ps (p ∷ places s.words) (places (after s p).words) r.each) rest)
 
 -- ---- counting
 
-pub length-joined : (i : ℕ) (ws : List ℕ) → length (joined i ws) ≡ length ws
-unfolding joined
-length-joined i [] = refl
-length-joined i (w ∷ []) = refl
-length-joined i (w ∷ v ∷ ws) = ap suc (length-joined i (v ∷ ws))
+pub length-with_last_bit : (i : ℕ) (ws : List ℕ) → length (with_last_bit i ws) ≡ length ws
+unfolding with_last_bit
+length-with_last_bit i [] = refl
+length-with_last_bit i (w ∷ []) = refl
+length-with_last_bit i (w ∷ v ∷ ws) = ap suc (length-with_last_bit i (v ∷ ws))
 
 length-chosen : (c : Choice) (s : State) → length (chosen c s).words ≡ length s.words + new_words c
-length-chosen (Joins i) s = let e = length-joined i s.words in omega arith
+length-chosen (Joins i) s = let e = length-with_last_bit i s.words in omega arith
 length-chosen (Adds w r) s = length_push s.words w
 
 run-chosen : (c : Choice) (s : State) → (chosen c s).run ≡ run_after c s.run
 run-chosen (Joins i) s = refl
 run-chosen (Adds w r) s = refl
 
-pub length-afters : (ps : List ℕ) (s : State) → length (afters s ps).words ≡ length s.words + counted s.run ps
-unfolding afters counted
-length-afters [] s = omega arith
-length-afters (p ∷ ps) s =
+pub length-after_places : (ps : List ℕ) (s : State) → length (after_places s ps).words ≡ length s.words + counted s.run ps
+unfolding after_places counted
+length-after_places [] s = omega arith
+length-after_places (p ∷ ps) s =
     let here = length-chosen (choice s.run p) s in
-    let rest = length-afters ps (after s p) in
+    let rest = length-after_places ps (after s p) in
     let same = ap (λ (r : Run). counted r ps) (run-chosen (choice s.run p) s) in
     omega (arith, here, rest, same)
 
 pub length-packed : (ps : List ℕ) → length (packed ps) ≡ counted Closed ps
 length-packed ps =
-    let e = ap length (afters-packed ps []) in
-    let f = length-afters ps (record { run = Closed; words = [] }) in
+    let e = ap length (after_places-packed ps []) in
+    let f = length-after_places ps (record { run = Closed; words = [] }) in
     sym e ∙ f ∙ (let z : 0 + counted Closed ps ≡ counted Closed ps = omega arith in z)
 
 -- ---- runs and blocks
@@ -125,8 +125,8 @@ apart_across (x ∷ xs) ys q h a b =
 piece-recorded : (x : Piece) (ws : List ℕ) → IsEven x → ((q : ℕ) → Contains (places ws) q → Contains (places_of_piece x) q → ⊥) → AllPairs (λ p q. p ≢ q) (places_of_piece x) → IsPermutation (places ws ++ places_of_piece x) (places (ws ++ words_of_piece x))
 piece-recorded (Places ps) ws h fresh a =
     let new : AreNew ws ps = record { even = h; new = λ k d l c. fresh _ c (Contains-get_or ps k d l); apart = a } in
-    let e = afters-packed ps ws in
-    let r = afters-recorded ps (record { run = Closed; words = ws }) tt new in
+    let e = after_places-packed ps ws in
+    let r = after_places-recorded ps (record { run = Closed; words = ws }) tt new in
     IsPermutation-trans _ _ _ (IsPermutation-append_comm (places ws) ps) (rw e at r)
 piece-recorded (Block base n) ws h fresh a =
     elim (cases_Bool (base == 0)) [
@@ -155,26 +155,26 @@ pub pieces-recorded : (xs : List Piece) → All IsEven xs → AllPairs (λ p q. 
 unfolding places_from
 pieces-recorded xs h a = pieces_on xs [] h (λ q c d. absurd (omega (arith, c.1))) a
 
-pub flat-packed : (s : State) (p : ℕ) → after_flat s p ≡ after_run s (p ∷ [])
+pub flat-packed : (s : State) (p : ℕ) → after_relr_slot s p ≡ after_run s (p ∷ [])
 unfolding packed packed_on choice
 flat-packed s p = refl
 
 -- ---- places that rise
 
-pub afters-rising : (ps : List ℕ) (s : State) → Follows s → Rise s.words ps → places (afters s ps).words ≡ places s.words ++ ps
-unfolding afters
-afters-rising [] s f h = sym (append-nil (places s.words))
-afters-rising (p ∷ ps) s f h =
+pub after_places-rising : (ps : List ℕ) (s : State) → Follows s → AreRising s.words ps → places (after_places s ps).words ≡ places s.words ++ ps
+unfolding after_places
+after_places-rising [] s f h = sym (append-nil (places s.words))
+after_places-rising (p ∷ ps) s f h =
     let even : p % 2 ≡ 0 = All-head (λ q. q % 2 ≡ 0) p ps h.even in
     let below : All (λ q. q < p) (places s.words) = All-head (λ p. All (λ q. q < p) (places s.words)) p ps h.above in
     let fresh : Contains (places s.words) p → ⊥ = λ c. not_below p (All-contains (λ q. q < p) (places s.words) p below c) in
     let e = (Records-after s p f even fresh).last below in
-    let again : Rise (after s p).words ps = record {
+    let again : AreRising (after s p).words ps = record {
       even = All-tail (λ q. q % 2 ≡ 0) p ps h.even;
       above = rw e (λ k d l. All-push (λ q. q < get_or ps k d) (places s.words) p (h.above (suc k) d (omega arith)) (h.rising 0 (suc k) d (omega arith) (omega arith)));
       rising = λ i j d l m. h.rising (suc i) (suc j) d (omega arith) (omega arith);
     } in
-    afters-rising ps (after s p) (Follows-after s p f even) again ∙ ap (λ (r : List ℕ). r ++ ps) e ∙ append_assoc (places s.words) (p ∷ []) ps
+    after_places-rising ps (after s p) (Follows-after s p f even) again ∙ ap (λ (r : List ℕ). r ++ ps) e ∙ append_assoc (places s.words) (p ∷ []) ps
   where
     not_below : (p : ℕ) → p < p → ⊥
     not_below p h = absurd (omega arith)

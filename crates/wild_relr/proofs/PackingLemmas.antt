@@ -12,7 +12,7 @@ use Rattle.wild_relr.specs.Places.{window, places_of, places, next_of}
 use Rattle.wild_relr.specs.declared.run.Run.{Run}
 use Rattle.wild_relr.specs.declared.run.Run.TheVariants.{Closed, Address, Bitmap}
 use Rattle.wild_relr.specs.declared.run.Choice.{Choice}
-use Rattle.wild_relr.specs.Packing.{slot, bitmap, with_bit, starts, opens, joins, choice, State, joined, chosen, after, EndsInBitmap, FollowsRun, Follows, Records}
+use Rattle.wild_relr.specs.Encoding.{slot, bitmap, with_bit, starts, new_bitmap_or, last_bit_or, choice, State, with_last_bit, chosen, after, EndsInBitmap, FollowsRun, Follows, Records}
 use Rattle.wild_relr.proofs.PlaceLemmas.{parity, window-adds, window-holds, window-last, window-one, places_of-even, places_of-odd, next_after-even, next_after-odd, places-push, next-push}
 
 -- ---- which bit
@@ -48,11 +48,11 @@ places_of-bitmap start i l =
     let half : (1 + 2 * 2 ^ i) / 2 ≡ 2 ^ i = omega arith in
     places_of-odd start (1 + 2 * 2 ^ i) (bitmap-odd i) ∙ rw half (window-one 63 i start l)
 
-pub joined-push : (i : ℕ) (xs : List ℕ) (w : ℕ) → joined i (xs ++ w ∷ []) ≡ xs ++ with_bit i w ∷ []
-unfolding joined
-joined-push i [] w = refl
-joined-push i (x ∷ []) w = refl
-joined-push i (x ∷ y ∷ xs) w = ap (λ (r : List ℕ). x ∷ r) (joined-push i (y ∷ xs) w)
+pub with_last_bit-push : (i : ℕ) (xs : List ℕ) (w : ℕ) → with_last_bit i (xs ++ w ∷ []) ≡ xs ++ with_bit i w ∷ []
+unfolding with_last_bit
+with_last_bit-push i [] w = refl
+with_last_bit-push i (x ∷ []) w = refl
+with_last_bit-push i (x ∷ y ∷ xs) w = ap (λ (r : List ℕ). x ∷ r) (with_last_bit-push i (y ∷ xs) w)
 
 pub with_bit-odd : (i w : ℕ) → w % 2 ≡ 1 → with_bit i w % 2 ≡ 1
 unfolding with_bit
@@ -111,11 +111,11 @@ Records-grown front s p i w n o h c =
         let b = subst P h.is a in
         rw h.is (window-last 63 i s (w / 2) h.below b)
 
-pub Records-bit : (ws : List ℕ) (s p i : ℕ) → EndsInBitmap s ws → IsSlot s p i → (Contains (places ws) p → ⊥) → Records ws (joined i ws) p
+pub Records-bit : (ws : List ℕ) (s p i : ℕ) → EndsInBitmap s ws → IsSlot s p i → (Contains (places ws) p → ⊥) → Records ws (with_last_bit i ws) p
 Records-bit ws s p i e h c =
-    let F : List ℕ → Type 0 = λ vs. Records vs (joined i vs) p in
+    let F : List ℕ → Type 0 = λ vs. Records vs (with_last_bit i vs) p in
     let G : List ℕ → Type 0 = λ vs. Contains (places vs) p → ⊥ in
-    subst F (sym e.is) (rw joined-push (Records-grown e.front s p i e.word e.starts e.odd h (subst G e.is c)))
+    subst F (sym e.is) (rw with_last_bit-push (Records-grown e.front s p i e.word e.starts e.odd h (subst G e.is c)))
 
 next_of-bitmap : (s : ℕ) (ws : List ℕ) → EndsInBitmap s ws → next_of ws ≡ s + 504
 next_of-bitmap s ws e =
@@ -123,11 +123,11 @@ next_of-bitmap s ws e =
 
 -- ---- the three cases
 
-opened : (o : Option ℕ) (r : Run) (ws : List ℕ) (s p : ℕ) (other : Choice) → slot s p ≡ o → next_of ws ≡ s → Records ws (chosen other (record { run = r; words = ws })).words p → Records ws (chosen (opens s o other) (record { run = r; words = ws })).words p
+opened : (o : Option ℕ) (r : Run) (ws : List ℕ) (s p : ℕ) (other : Choice) → slot s p ≡ o → next_of ws ≡ s → Records ws (chosen other (record { run = r; words = ws })).words p → Records ws (chosen (new_bitmap_or s o other) (record { run = r; words = ws })).words p
 opened (Some i) r ws s p other e n h = Records-bitmap ws s p i n (is_slot s p i e)
 opened None r ws s p other e n h = h
 
-joined_first : (o : Option ℕ) (r : Run) (ws : List ℕ) (s p : ℕ) (other : Choice) → slot s p ≡ o → EndsInBitmap s ws → (Contains (places ws) p → ⊥) → Records ws (chosen other (record { run = r; words = ws })).words p → Records ws (chosen (joins o other) (record { run = r; words = ws })).words p
+joined_first : (o : Option ℕ) (r : Run) (ws : List ℕ) (s p : ℕ) (other : Choice) → slot s p ≡ o → EndsInBitmap s ws → (Contains (places ws) p → ⊥) → Records ws (chosen other (record { run = r; words = ws })).words p → Records ws (chosen (last_bit_or o other) (record { run = r; words = ws })).words p
 joined_first (Some i) r ws s p other e n c h = Records-bit ws s p i n (is_slot s p i e) c
 joined_first None r ws s p other e n c h = h
 
@@ -136,7 +136,7 @@ unfolding choice
 records_run Closed ws p f h c = Records-address ws p h
 records_run (Address a) ws p f h c = opened (slot (a + 8) p) (Address a) ws (a + 8) p (starts p) refl f (Records-address ws p h)
 records_run (Bitmap s) ws p f h c =
-    joined_first (slot s p) (Bitmap s) ws s p (opens (s + 504) (slot (s + 504) p) (starts p)) refl f c
+    joined_first (slot s p) (Bitmap s) ws s p (new_bitmap_or (s + 504) (slot (s + 504) p) (starts p)) refl f c
     (opened (slot (s + 504) p) (Bitmap s) ws (s + 504) p (starts p) refl (next_of-bitmap s ws f) (Records-address ws p h))
 
 pub Records-after : (s : State) (p : ℕ) → Follows s → p % 2 ≡ 0 → (Contains (places s.words) p → ⊥) → Records s.words (after s p).words p
@@ -147,12 +147,12 @@ Records-after s p f h c = records_run s.run s.words p f h c
 Follows-address : (ws : List ℕ) (p : ℕ) → p % 2 ≡ 0 → next_of (ws ++ p ∷ []) ≡ p + 8
 Follows-address ws p h = next-push 0 ws p ∙ next_after-even (next_of ws) p h
 
-follows_opens : (o : Option ℕ) (r : Run) (ws : List ℕ) (s p : ℕ) (other : Choice) → next_of ws ≡ s → Follows (chosen other (record { run = r; words = ws })) → Follows (chosen (opens s o other) (record { run = r; words = ws }))
+follows_opens : (o : Option ℕ) (r : Run) (ws : List ℕ) (s p : ℕ) (other : Choice) → next_of ws ≡ s → Follows (chosen other (record { run = r; words = ws })) → Follows (chosen (new_bitmap_or s o other) (record { run = r; words = ws }))
 follows_opens (Some i) r ws s p other n h = record { front = ws; word = bitmap i; is = refl; starts = n; odd = bitmap-odd i }
 follows_opens None r ws s p other n h = h
 
-follows_joins : (o : Option ℕ) (ws : List ℕ) (s p : ℕ) (other : Choice) → EndsInBitmap s ws → Follows (chosen other (record { run = Bitmap s; words = ws })) → Follows (chosen (joins o other) (record { run = Bitmap s; words = ws }))
-follows_joins (Some i) ws s p other e h = record { front = e.front; word = with_bit i e.word; is = ap (λ (vs : List ℕ). joined i vs) e.is ∙ joined-push i e.front e.word; starts = e.starts; odd = with_bit-odd i e.word e.odd }
+follows_joins : (o : Option ℕ) (ws : List ℕ) (s p : ℕ) (other : Choice) → EndsInBitmap s ws → Follows (chosen other (record { run = Bitmap s; words = ws })) → Follows (chosen (last_bit_or o other) (record { run = Bitmap s; words = ws }))
+follows_joins (Some i) ws s p other e h = record { front = e.front; word = with_bit i e.word; is = ap (λ (vs : List ℕ). with_last_bit i vs) e.is ∙ with_last_bit-push i e.front e.word; starts = e.starts; odd = with_bit-odd i e.word e.odd }
 follows_joins None ws s p other e h = h
 
 follows_run : (r : Run) (ws : List ℕ) (p : ℕ) → FollowsRun r ws → p % 2 ≡ 0 → Follows (chosen (choice r p) (record { run = r; words = ws }))
@@ -160,7 +160,7 @@ unfolding choice
 follows_run Closed ws p f h = Follows-address ws p h
 follows_run (Address a) ws p f h = follows_opens (slot (a + 8) p) (Address a) ws (a + 8) p (starts p) f (Follows-address ws p h)
 follows_run (Bitmap s) ws p f h =
-    follows_joins (slot s p) ws s p (opens (s + 504) (slot (s + 504) p) (starts p)) f
+    follows_joins (slot s p) ws s p (new_bitmap_or (s + 504) (slot (s + 504) p) (starts p)) f
     (follows_opens (slot (s + 504) p) (Bitmap s) ws (s + 504) p (starts p) (next_of-bitmap s ws f) (Follows-address ws p h))
 
 pub Follows-after : (s : State) (p : ℕ) → Follows s → p % 2 ≡ 0 → Follows (after s p)

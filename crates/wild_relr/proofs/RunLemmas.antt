@@ -3,8 +3,8 @@ use Rattle.std.proofs.Common.{◌≡◌, ℕ, ◌+◌, ◌<◌, ◌≤◌, List,
 use Rattle.std.proofs.lemmas.List.{drop_more, drop_all}
 use Rattle.wild_relr.specs.declared.run.Run.{Run}
 use Rattle.wild_relr.specs.declared.run.Choice.TheVariants.{Joins, Adds}
-use Rattle.wild_relr.specs.Packing.{choice}
-use Rattle.wild_relr.specs.Packed.{counted, new_words, run_after}
+use Rattle.wild_relr.specs.Encoding.{choice}
+use Rattle.wild_relr.specs.RunWords.{counted, new_words, run_after}
 
 pub counted_more : (r : Run) (ps : List ℕ) (i n whole : ℕ) → i < length ps → n + counted r (drop i ps) ≡ whole → n + new_words (choice r (get_or ps i 0)) + counted (run_after (choice r (get_or ps i 0)) r) (drop (i + 1) ps) ≡ whole
 unfolding counted

@@ -2,11 +2,11 @@
 use Rattle.std.proofs.Common.{◌≡◌, ℕ, zero, suc, ◌+◌, ◌-◌, ◌*◌, ◌^◌, ◌<◌, ◌≤◌, List, [], ◌∷◌, ◌++◌, length, take, get_or, slice_range, refl, sym, ap, ◌∙◌, arith}
 use Rattle.std.proofs.lemmas.List.{append_assoc, append-nil, take-take, take_at, length-append}
 use Rattle.std.specs.Prelude.{All}
-use Rattle.wild_words.specs.Words.{word, place, number, number_at, Stands}
+use Rattle.wild_words.specs.Words.{word, place, number, number_at, HasBytesAt}
 use Rattle.wild_words.proofs.WordLemmas.{length-word, front-place}
-use Rattle.wild_words.proofs.OverlayLemmas.{Stands-inner}
-use Rattle.wild_words.proofs.RecordLemmas.{Stands-left, Stands-right, number-stands}
-use Rattle.wild_relr.specs.Written.{words_in, word_bytes, IsSpelled}
+use Rattle.wild_words.proofs.OverlayLemmas.{HasBytesAt-inner}
+use Rattle.wild_words.proofs.RecordLemmas.{HasBytesAt-left, HasBytesAt-right, number-stands}
+use Rattle.wild_relr.specs.WriterState.{words_in, word_bytes, IsSpelled}
 use Rattle.wild_relr.proofs.WriterLemmas.{words_in_next, length_words_in}
 
 pub word_bytes-append : (ws vs : List ℕ) → word_bytes (ws ++ vs) ≡ word_bytes ws ++ word_bytes vs
@@ -53,15 +53,15 @@ spelled_last bs (suc n) at w e z l h s =
 
 -- ---- reading
 
-pub Stands-word : (ws : List ℕ) (k d : ℕ) → k < length ws → Stands (word_bytes ws) (8 * k) (word 8 (get_or ws k d))
-Stands-word [] k d l = absurd (omega (arith, l))
-Stands-word (w ∷ ws) zero d l = Stands-left (word 8 w) (word_bytes ws)
-Stands-word (w ∷ ws) (suc k) d l =
+pub HasBytesAt-word : (ws : List ℕ) (k d : ℕ) → k < length ws → HasBytesAt (word_bytes ws) (8 * k) (word 8 (get_or ws k d))
+HasBytesAt-word [] k d l = absurd (omega (arith, l))
+HasBytesAt-word (w ∷ ws) zero d l = HasBytesAt-left (word 8 w) (word_bytes ws)
+HasBytesAt-word (w ∷ ws) (suc k) d l =
     let n = length-word 8 w in
     let e : length (word 8 w) + 8 * k ≡ 8 * suc k = omega (arith, n) in
-    rw e at (Stands-right (word 8 w) (word_bytes ws) (word 8 (get_or ws k d)) (8 * k) (Stands-word ws k d (omega (arith, l))))
+    rw e at (HasBytesAt-right (word 8 w) (word_bytes ws) (word 8 (get_or ws k d)) (8 * k) (HasBytesAt-word ws k d (omega (arith, l))))
 
-pub word_read : (whole ws : List ℕ) (at k d : ℕ) → All (λ w. w < 2 ^ 64) ws → Stands whole at (word_bytes ws) → k < length ws → number (slice_range whole (at + 8 * k) (at + 8 * k + 8)) ≡ get_or ws k d
+pub word_read : (whole ws : List ℕ) (at k d : ℕ) → All (λ w. w < 2 ^ 64) ws → HasBytesAt whole at (word_bytes ws) → k < length ws → number (slice_range whole (at + 8 * k) (at + 8 * k + 8)) ≡ get_or ws k d
 word_read whole ws at k d h s l =
     let small : get_or ws k d < 256 ^ 8 = h k d l in
-    number-stands whole (at + 8 * k) 8 (get_or ws k d) (Stands-inner whole (word_bytes ws) (word 8 (get_or ws k d)) at (8 * k) s (Stands-word ws k d l)) small
+    number-stands whole (at + 8 * k) 8 (get_or ws k d) (HasBytesAt-inner whole (word_bytes ws) (word 8 (get_or ws k d)) at (8 * k) s (HasBytesAt-word ws k d l)) small

@@ -9,21 +9,21 @@ use Rattle.std.proofs.Math.Nat.{pow-suc}
 use Rattle.std.proofs.Math.Pow.{pow_mono}
 use Rattle.wild_words.specs.Words.{word, number, place}
 use Rattle.wild_words.proofs.WordLemmas.{length-word}
-use Rattle.wild_words.proofs.OverlayLemmas.{length-place, place-below, place-above, Stands-place}
+use Rattle.wild_words.proofs.OverlayLemmas.{length-place, place-below, place-above, HasBytesAt-place}
 use Rattle.wild_words.proofs.RecordLemmas.{number-stands}
 use Rattle.wild_words.proofs.OrderLemmas.{number_kept}
 use Rattle.wild_relr.specs.declared.run.Run.{Run}
 use Rattle.wild_relr.specs.declared.run.Run.TheVariants.{Closed, Address, Bitmap}
 use Rattle.wild_relr.specs.declared.run.Choice.{Choice}
 use Rattle.wild_relr.specs.declared.run.Choice.TheVariants.{Joins, Adds}
-use Rattle.wild_relr.specs.Packing.{slot, with_bit, joined, choice, starts, opens, after, State, Follows, Records, EachPlaceIsRecorded}
+use Rattle.wild_relr.specs.Encoding.{slot, with_bit, with_last_bit, choice, starts, new_bitmap_or, after, State, Follows, Records, EachPlaceIsRecorded}
 use Rattle.wild_relr.specs.Places.{places}
-use Rattle.wild_relr.specs.Packed.{bitmaps, bitmap_count, block, after_block, after_flat, slots, BlocksHoldTheirSlots}
+use Rattle.wild_relr.specs.RunWords.{bitmaps, bitmap_count, block, after_block, after_relr_slot, slots, BlocksHoldTheirSlots}
 use Rattle.wild_relr.proofs.BlockLemmas.{block_is, length-block, block-no_base, block-no_slots}
-use Rattle.wild_relr.proofs.PackedLemmas.{length-joined}
-use Rattle.wild_relr.proofs.PackingLemmas.{joined-push}
+use Rattle.wild_relr.proofs.PackedLemmas.{length-with_last_bit}
+use Rattle.wild_relr.proofs.PackingLemmas.{with_last_bit-push}
 use Rattle.wild_relr.specs.declared.writer.RelrWriter.{RelrWriter}
-use Rattle.wild_relr.specs.Written.{words_in, state, HasLast}
+use Rattle.wild_relr.specs.WriterState.{words_in, state, HasLast}
 
 -- ---- bits
 
@@ -70,7 +70,7 @@ words_in_next bs n x h l =
     let w = length-word 8 x in
     let f : 8 * n + length (word 8 x) ≤ length bs = omega arith in
     let small : x < 256 ^ 8 = h in
-    let e = number-stands (place (8 * n) (word 8 x) bs) (8 * n) 8 x (Stands-place (8 * n) bs (word 8 x) f) small in
+    let e = number-stands (place (8 * n) (word 8 x) bs) (8 * n) 8 x (HasBytesAt-place (8 * n) bs (word 8 x) f) small in
     let r = words_in_kept n bs (word 8 x) (8 * n) (omega arith) f in
     rw (e, r) refl
 
@@ -83,12 +83,12 @@ words_in_split : (bs : List ℕ) (n : ℕ) → words_in bs (suc n) ≡ words_in 
 unfolding words_in
 words_in_split bs n = refl
 
-pub words_in_joined : (bs : List ℕ) (n i at w : ℕ) → at ≡ 8 * (n - 1) → 0 < n → 8 * n ≤ length bs → w ≡ with_bit i (number (slice_range bs at (at + 8))) → w < 2 ^ 64 → words_in (place at (word 8 w) bs) n ≡ joined i (words_in bs n)
+pub words_in_joined : (bs : List ℕ) (n i at w : ℕ) → at ≡ 8 * (n - 1) → 0 < n → 8 * n ≤ length bs → w ≡ with_bit i (number (slice_range bs at (at + 8))) → w < 2 ^ 64 → words_in (place at (word 8 w) bs) n ≡ with_last_bit i (words_in bs n)
 words_in_joined bs zero i at w e z l s h = absurd (omega arith)
 words_in_joined bs (suc n) i at w e z l s h =
     let a : at ≡ 8 * n = omega arith in
     let t : w ≡ with_bit i (number (slice_range bs (8 * n) (8 * n + 8))) = rw (← a) s in
-    rw a (words_in_next bs n w h (omega arith) ∙ sym (rw words_in_split (joined-push i (words_in bs n) (number (slice_range bs (8 * n) (8 * n + 8))) ∙ ap (λ (v : ℕ). words_in bs n ++ v ∷ []) (sym t))))
+    rw a (words_in_next bs n w h (omega arith) ∙ sym (rw words_in_split (with_last_bit-push i (words_in bs n) (number (slice_range bs (8 * n) (8 * n + 8))) ∙ ap (λ (v : ℕ). words_in bs n ++ v ∷ []) (sym t))))
 
 pub full_shift : (k c : ℕ) → c ≡ 63 - min k 63 → (2 ^ 64 - 1) / 2 ^ c ≡ 2 * 2 ^ min k 63 - 1
 full_shift k c e =
@@ -128,7 +128,7 @@ bitmaps_more new out all count i n k v l a e h =
     let x : words_in out (count + i) ++ (v ∷ bitmaps (n - (i + 1)) (k - 63)) ≡ all = rw e (rw s at h) in
     rw (z, a, append_assoc) x
 
-no_join : (o : Option ℕ) (s i : ℕ) (other : Choice) → opens s o other ≡ Joins i → (other ≡ Joins i → ⊥) → ⊥
+no_join : (o : Option ℕ) (s i : ℕ) (other : Choice) → new_bitmap_or s o other ≡ Joins i → (other ≡ Joins i → ⊥) → ⊥
 no_join (Some j) s i other e h = cc
 no_join None s i other e h = h e
 
@@ -139,7 +139,7 @@ joins_last (Address a) p i n e h = absurd (no_join (slot (a + 8) p) (a + 8) i (s
 joins_last (Bitmap s) p i n e h = h
 
 pub length_joins : (bs : List ℕ) (r : RelrWriter) (p i : ℕ) → Joins i ≡ choice r.run p → length (after (state bs r) p).words ≡ r.count
-length_joins bs r p i e = rw (← e) (length-joined i (words_in bs r.count) ∙ length_words_in bs r.count)
+length_joins bs r p i e = rw (← e) (length-with_last_bit i (words_in bs r.count) ∙ length_words_in bs r.count)
 
 pub length_adds : (bs : List ℕ) (r : RelrWriter) (p w : ℕ) (q : Run) → Adds w q ≡ choice r.run p → length (after (state bs r) p).words ≡ r.count + 1
 length_adds bs r p w q e = rw (← e) (length-append (words_in bs r.count) (w ∷ []) ∙ ap (λ (n : ℕ). n + 1) (length_words_in bs r.count))
@@ -168,7 +168,7 @@ recorded_as s t p f h law e n =
     let P : State → Type 0 = λ u. Records s.words u.words p in
     subst P (sym e) (law s p f h n)
 
-pub flat_recorded : (s t : State) (p : ℕ) → p % 2 ≡ 0 → EachPlaceIsRecorded → t ≡ after_flat s p → (Contains (places s.words) p → ⊥) → Records s.words t.words p
+pub flat_recorded : (s t : State) (p : ℕ) → p % 2 ≡ 0 → EachPlaceIsRecorded → t ≡ after_relr_slot s p → (Contains (places s.words) p → ⊥) → Records s.words t.words p
 unfolding choice
 flat_recorded s t p h law e n =
     let P : State → Type 0 = λ u. Records s.words u.words p in
@@ -177,8 +177,8 @@ flat_recorded s t p h law e n =
 pub block_recorded : (s t : State) (base n : ℕ) → base % 2 ≡ 0 → BlocksHoldTheirSlots → t ≡ after_block s base n → base ≢ 0 → places t.words ≡ places s.words ++ slots base n
 block_recorded s t base n h law e z = ap (λ (u : State). places u.words) e ∙ law s base n h z
 
-pub length-after_flat : (bs : List ℕ) (r : RelrWriter) (p : ℕ) → length (after_flat (state bs r) p).words ≡ r.count + 1
-length-after_flat bs r p = length-append (words_in bs r.count) (p ∷ []) ∙ ap (λ (k : ℕ). k + 1) (length_words_in bs r.count)
+pub length-after_relr_slot : (bs : List ℕ) (r : RelrWriter) (p : ℕ) → length (after_relr_slot (state bs r) p).words ≡ r.count + 1
+length-after_relr_slot bs r p = length-append (words_in bs r.count) (p ∷ []) ∙ ap (λ (k : ℕ). k + 1) (length_words_in bs r.count)
 
 pub word_above : (bs : List ℕ) (at x k : ℕ) → at + 8 ≤ length bs → at + 8 ≤ k → get_or (place at (word 8 x) bs) k 0 ≡ get_or bs k 0
 word_above bs at x k h l =

@@ -1,5 +1,5 @@
 pub mod Places
-pub mod Packing
-pub mod Packed
-pub mod Written
+pub mod Encoding
+pub mod RunWords
+pub mod WriterState
 pub mod Laws

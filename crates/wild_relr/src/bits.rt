@@ -1,9 +1,9 @@
 //! Bits of bitmap words.
 ghost use Rattle.std.specs.Prelude.{◌≡◌, ◌+◌, ◌-◌, ◌*◌, ◌^◌, ◌<◌, ◌≤◌, min, IfSome};
-ghost use Rattle.wild_relr.specs.Packing.{slot, bitmap, with_bit};
+ghost use Rattle.wild_relr.specs.Encoding.{slot, bitmap, with_bit};
 
 /// The number of the bit for the place, in the bitmap whose window starts `skip` bytes after `from`; `None` if the place has no bit there.
-#[tactic(auto, unfolding(crate::specs::Packing::slot))]
+#[tactic(auto, unfolding(crate::specs::Encoding::slot))]
 pub(crate) fn slot_of(from: u64, skip: u64, place: u64) -> Option<u64>
     ensures is { result ≡ slot (from + skip) place }
     ensures within { IfSome result (λ i. (i < 63) × (from + skip + 8 * i ≤ place)) }
@@ -26,7 +26,7 @@ pub(crate) fn slot_of(from: u64, skip: u64, place: u64) -> Option<u64>
 }
 
 /// A bitmap word with one bit set.
-#[tactic(auto, using(crate::proofs::WriterLemmas::bit_fits), unfolding(crate::specs::Packing::bitmap))]
+#[tactic(auto, using(crate::proofs::WriterLemmas::bit_fits), unfolding(crate::specs::Encoding::bitmap))]
 pub(crate) fn bitmap_of(slot: u64) -> u64
     requires { slot < 63 }
     ensures { result ≡ bitmap slot }

@@ -1,13 +1,13 @@
 //! The word that a place goes into.
 ghost use Rattle.std.specs.Prelude.{◌≡◌};
-ghost use Rattle.wild_relr.specs.Written.{IsInWord};
-ghost use Rattle.wild_relr.specs.Packing.{choice};
+ghost use Rattle.wild_relr.specs.WriterState.{IsInWord};
+ghost use Rattle.wild_relr.specs.Encoding.{choice};
 
 use crate::bits::{bitmap_of, slot_of};
 use crate::run::{Choice, Run};
 
 /// The first that holds: the place has a bit in the last bitmap, or in a new bitmap after the last word, or needs an address word.
-#[tactic(auto, unfolding(crate::specs::Packing::choice))]
+#[tactic(auto, unfolding(crate::specs::Encoding::choice))]
 pub fn choice(run: Run, place: u64) -> Choice
     ensures is { result ≡ choice run place }
     ensures in_word { IsInWord result }

@@ -1,6 +1,6 @@
 //! Counts the words of places, to reserve each group's share of the table.
 ghost use Rattle.std.specs.Prelude.{◌≡◌, length};
-ghost use Rattle.wild_relr.specs.Packed.{packed};
+ghost use Rattle.wild_relr.specs.RunWords.{packed};
 
 use crate::cases::choice;
 use crate::laws::runs_are_counted;

@@ -1,8 +1,8 @@
 //! Laws of RELR words: functions that do nothing.
 ghost use Rattle.wild_relr.specs.Laws.{LengthsOfWords, WordsAreRead, WordsFit};
 ghost use Rattle.wild_relr.specs.Places.{PlacesAreEven};
-ghost use Rattle.wild_relr.specs.Packing.{EachPlaceIsRecorded, RunsAreFollowed};
-ghost use Rattle.wild_relr.specs.Packed.{PiecesArePacked, BlocksHoldTheirSlots, NoBlockHasNoWords, RunsAreRecorded, RunsAreCounted, PiecesAreRecorded, FlatIsARun, RisingRunsKeepOrder};
+ghost use Rattle.wild_relr.specs.Encoding.{EachPlaceIsRecorded, RunsAreFollowed};
+ghost use Rattle.wild_relr.specs.RunWords.{PiecesArePacked, BlocksHoldTheirSlots, NoBlockHasNoWords, RunsAreRecorded, RunsAreCounted, PiecesAreRecorded, RelrSlotIsARun, RisingRunsKeepOrder};
 
 /// If a new place is recorded, the decoded places are the earlier ones and it. If it is the greatest, it is the last.
 pub fn each_place_is_recorded()
@@ -42,8 +42,8 @@ pub fn pieces_are_recorded()
 {}
 
 /// A place in an address word of its own is a run of one place.
-pub fn flat_is_a_run()
-    ensures { FlatIsARun }
+pub fn relr_slot_is_a_run()
+    ensures { RelrSlotIsARun }
 {}
 
 /// If places ascend and are all above the places decoded before, they are decoded in their order.

@@ -12,8 +12,8 @@ mod writer;
 pub use cases::choice;
 pub use count::count_words;
 pub use laws::{
-    blocks_hold_their_slots, each_place_is_recorded, flat_is_a_run, pieces_are_packed,
-    pieces_are_recorded, places_are_even, rising_runs_keep_order, runs_are_counted,
+    blocks_hold_their_slots, each_place_is_recorded, pieces_are_packed, pieces_are_recorded,
+    places_are_even, relr_slot_is_a_run, rising_runs_keep_order, runs_are_counted,
     runs_are_recorded, words_are_read, words_fit,
 };
 pub use run::{Choice, Run};

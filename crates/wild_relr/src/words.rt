@@ -1,8 +1,8 @@
 //! Consecutive words of eight bytes.
 ghost use Rattle.std.specs.Prelude.{◌≡◌, ℕ, ◌+◌, ◌-◌, ◌*◌, ◌<◌, ◌≤◌, [], ◌∷◌, ◌++◌, length, slice_index};
-ghost use Rattle.wild_relr.specs.Packing.{joined};
-ghost use Rattle.wild_relr.specs.Packed.{bitmaps, bitmap_count, block};
-ghost use Rattle.wild_relr.specs.Written.{words_in, IsSpelled};
+ghost use Rattle.wild_relr.specs.Encoding.{with_last_bit};
+ghost use Rattle.wild_relr.specs.RunWords.{bitmaps, bitmap_count, block};
+ghost use Rattle.wild_relr.specs.WriterState.{words_in, IsSpelled};
 
 use crate::bits::{full_bitmap, word_with};
 use wild_words::{put_u64, read_u64};
@@ -24,7 +24,7 @@ pub(crate) fn join_last(out: &mut [u8], count: usize, slot: u64)
     requires counted { 0 < count }
     requires fits { 8 * count ≤ length out.old }
     requires slot { slot < 63 }
-    ensures words { words_in out.new count ≡ joined slot (words_in out.old count) }
+    ensures words { words_in out.new count ≡ with_last_bit slot (words_in out.old count) }
     ensures spelled { IsSpelled out.old count → IsSpelled out.new count }
     ensures rest { (k : ℕ) → 8 * count ≤ k → slice_index out.new k ≡ slice_index out.old k }
 {

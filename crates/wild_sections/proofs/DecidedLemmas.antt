@@ -7,7 +7,7 @@ use Rattle.std.proofs.lemmas.List.{take_more, append-nil, append_assoc, take_all
 use Rattle.std.proofs.lemmas.List.Elements.{All-nil, All-cons}
 use Rattle.std.proofs.lemmas.Option.{slice_get-get_or, get_or_from_slice_get, slice_get_within}
 use Rattle.wild_words.specs.Words.{place}
-use Rattle.wild_words.specs.Overlay.{Piece, overlay, AreApart}
+use Rattle.wild_words.specs.Overlay.{Piece, overlay, AreDisjoint}
 use Rattle.wild_words.specs.declared.extents.Extent.{Extent}
 use Rattle.wild_words.specs.Extents.{SharesNothing, least_extent}
 use Rattle.wild_words.proofs.ExtentLemmas.{none-shared, beside-nothing}
@@ -20,8 +20,8 @@ use Rattle.wild_types.specs.declared.fault.Error.{Error}
 use Rattle.wild_types.specs.declared.layout.Layout.{Layout}
 use Rattle.wild_reloc.specs.Field.{size_width, size_written}
 use Rattle.wild_layout.specs.declared.decision.Decision.{Decision}
-use Rattle.wild_layout.specs.declared.decision.Decision.TheVariants.{Nothing, Field, Moved, Left, Rewritten, Partner}
-use Rattle.wild_relax.specs.Linked.{pattern_size, template_of}
+use Rattle.wild_layout.specs.declared.decision.Decision.TheVariants.{Nothing, Field, RelativeAddress, DynamicField, Rewritten, Partner}
+use Rattle.wild_relax.specs.LinkedPattern.{pattern_size, template_of}
 use Rattle.wild_layout.specs.Decide.{decide}
 use Rattle.wild_layout.specs.Sites.{Written, written_by, field_site, template_site, site_by, site_of, site, extent_back, extents_by, input_extents, shared_byte, MovesApart}
 use Rattle.wild_types.specs.Faults.{Refuses, Answers}
@@ -29,7 +29,7 @@ use Rattle.wild_layout.specs.Faults.{relocation_errors, at_section, overlap_erro
 use Rattle.wild_layout.specs.SectionPlaces.{FieldLies}
 use Rattle.wild_layout.proofs.SiteLemmas.{length-field_site, sites_apart}
 use Rattle.wild_layout.proofs.FaultLemmas.{no_overlap}
-use Rattle.wild_sections.specs.Decided.{decided_sites, written_extent, decided_extent, extent_by, extent_at, decided_extents, ascends, put_written, put_decision, DecisionLies, DecisionsLie, AreDecided}
+use Rattle.wild_sections.specs.WrittenDecisions.{decided_sites, written_extent, decided_extent, extent_by, extent_at, decided_extents, ascends, put_written, put_decision, DecisionLies, DecisionsLie, AreDecided}
 use Rattle.wild_sections.proofs.InstructionLemmas.{length-instruction, decision_lies}
 use Rattle.wild_sections.proofs.PieceLemmas.{overlay-append}
 use Rattle.wild_sections.proofs.FaultLemmas.{refuses_number, Refuses-front, Refuses-behind}
@@ -159,8 +159,8 @@ one_extent_is s from r d lies = by_decision s r d lies
     by_decision : (s : Item) (r : InputRelocation) (d : Decision) → DecisionLies (length s.bytes) r d → option_to_list (decided_extent from r d) ≡ map (extent_back from r.offset) (site_of s r (Ok d))
     by_decision s r Nothing lies = refl
     by_decision s r (Field z v) lies = by s r (written_by (Field z v))
-    by_decision s r (Moved v packed) lies = by s r (written_by (Moved v packed))
-    by_decision s r (Left z n i a) lies = by s r (written_by (Left z n i a))
+    by_decision s r (RelativeAddress v packed) lies = by s r (written_by (RelativeAddress v packed))
+    by_decision s r (DynamicField z n i a) lies = by s r (written_by (DynamicField z n i a))
     by_decision s r (Rewritten row v) lies = let n = length-instruction s r row v lies in rw n refl
     by_decision s r Partner lies = refl
 
@@ -295,7 +295,7 @@ ending_answers l g f k s os ending r none shared h = rw (none, shared, append-ni
 -- ---- writing
 
 -- a piece over bytes in which those before it were written, made of the bytes that it is over
-over_own : (s : Item) (ps rest : List Piece) (p : Piece) (n : ℕ) (make : List ℕ → List ℕ) → length p.bytes ≡ n → p.bytes ≡ make (slice_range s.bytes p.at (p.at + n)) → AreApart (length s.bytes) (ps ++ (p ∷ rest))
+over_own : (s : Item) (ps rest : List Piece) (p : Piece) (n : ℕ) (make : List ℕ → List ℕ) → length p.bytes ≡ n → p.bytes ≡ make (slice_range s.bytes p.at (p.at + n)) → AreDisjoint (length s.bytes) (ps ++ (p ∷ rest))
     → place p.at (make (slice_range (overlay ps s.bytes) p.at (p.at + n))) (overlay ps s.bytes) ≡ overlay (ps ++ p ∷ []) s.bytes
 over_own s ps rest p n make long made apart =
     let own : slice_range (overlay ps s.bytes) p.at (p.at + length p.bytes) ≡ slice_range s.bytes p.at (p.at + length p.bytes) = own_range_next p ps rest s.bytes apart in
@@ -305,18 +305,18 @@ over_own s ps rest p n make long made apart =
     ∙ sym (overlay-append ps (p ∷ []) s.bytes)
 
 -- a relocation written over bytes in which those before it were written
-pub put_next : (s : Item) (ps rest : List Piece) (r : InputRelocation) (d : Decision) → DecisionLies (length s.bytes) r d → AreApart (length s.bytes) (ps ++ (site_of s r (Ok d) ++ rest)) → put_decision (overlay ps s.bytes) r d ≡ overlay (ps ++ site_of s r (Ok d)) s.bytes
+pub put_next : (s : Item) (ps rest : List Piece) (r : InputRelocation) (d : Decision) → DecisionLies (length s.bytes) r d → AreDisjoint (length s.bytes) (ps ++ (site_of s r (Ok d) ++ rest)) → put_decision (overlay ps s.bytes) r d ≡ overlay (ps ++ site_of s r (Ok d)) s.bytes
 put_next s ps rest r d lies apart = by_decision s ps rest r d lies apart
   where
-    by : (s : Item) (ps rest : List Piece) (r : InputRelocation) (o : Option Written) → AreApart (length s.bytes) (ps ++ (site_by s r o ++ rest)) → put_written (overlay ps s.bytes) r.offset o ≡ overlay (ps ++ site_by s r o) s.bytes
+    by : (s : Item) (ps rest : List Piece) (r : InputRelocation) (o : Option Written) → AreDisjoint (length s.bytes) (ps ++ (site_by s r o ++ rest)) → put_written (overlay ps s.bytes) r.offset o ≡ overlay (ps ++ site_by s r o) s.bytes
     by s ps rest r None apart = ap (λ (qs : List Piece). overlay qs s.bytes) (sym (append-nil ps))
     by s ps rest r (Some w) apart = over_own s ps rest (field_site s r.offset w.size w.value) (size_width w.size) (size_written w.size w.value) (length-field_site s r.offset w.size w.value) refl apart
 
-    by_decision : (s : Item) (ps rest : List Piece) (r : InputRelocation) (d : Decision) → DecisionLies (length s.bytes) r d → AreApart (length s.bytes) (ps ++ (site_of s r (Ok d) ++ rest)) → put_decision (overlay ps s.bytes) r d ≡ overlay (ps ++ site_of s r (Ok d)) s.bytes
+    by_decision : (s : Item) (ps rest : List Piece) (r : InputRelocation) (d : Decision) → DecisionLies (length s.bytes) r d → AreDisjoint (length s.bytes) (ps ++ (site_of s r (Ok d) ++ rest)) → put_decision (overlay ps s.bytes) r d ≡ overlay (ps ++ site_of s r (Ok d)) s.bytes
     by_decision s ps rest r Nothing lies apart = by s ps rest r None apart
     by_decision s ps rest r (Field z v) lies apart = by s ps rest r (written_by (Field z v)) apart
-    by_decision s ps rest r (Moved v packed) lies apart = by s ps rest r (written_by (Moved v packed)) apart
-    by_decision s ps rest r (Left z n i a) lies apart = by s ps rest r (written_by (Left z n i a)) apart
+    by_decision s ps rest r (RelativeAddress v packed) lies apart = by s ps rest r (written_by (RelativeAddress v packed)) apart
+    by_decision s ps rest r (DynamicField z n i a) lies apart = by s ps rest r (written_by (DynamicField z n i a)) apart
     by_decision s ps rest r (Rewritten row v) lies apart = over_own s ps rest (template_site s r row v) (pattern_size row) (template_of row v) (length-instruction s r row v lies) refl apart
     by_decision s ps rest r Partner lies apart = by s ps rest r None apart
 
@@ -327,19 +327,19 @@ step_lies s ds i m n r d count h read long lie =
     let here = lie i r (get_or ds i d) listed (slice_get-get_or ds i d h) in
     subst (λ (j : ℕ). DecisionLies j r (get_or ds i d)) (sym long) here
 
-own_step : (s : Item) (ds : List Decision) (i : ℕ) (r : InputRelocation) (d : Decision) (room next : List ℕ) → length ds ≡ length s.relocations → i < length ds → DecisionsLie (length s.bytes) s.relocations ds → AreApart (length s.bytes) (decided_sites s s.relocations ds)
+own_step : (s : Item) (ds : List Decision) (i : ℕ) (r : InputRelocation) (d : Decision) (room next : List ℕ) → length ds ≡ length s.relocations → i < length ds → DecisionsLie (length s.bytes) s.relocations ds → AreDisjoint (length s.bytes) (decided_sites s s.relocations ds)
     → room ≡ overlay (decided_sites s (take i s.relocations) (take i ds)) s.bytes → next ≡ put_decision room (get_or s.relocations i r) (get_or ds i d) → next ≡ overlay (decided_sites s (take (i + 1) s.relocations) (take (i + 1) ds)) s.bytes
 own_step s ds i r d room next count h lie apart before is =
-    let split = subst (λ (ps : List Piece). AreApart (length s.bytes) ps) (sites-split s s.relocations ds i r d count h) apart in
+    let split = subst (λ (ps : List Piece). AreDisjoint (length s.bytes) ps) (sites-split s s.relocations ds i r d count h) apart in
     let lies = lie i (get_or s.relocations i r) (get_or ds i d) (slice_get-get_or s.relocations i r (omega (arith, count, h))) (slice_get-get_or ds i d h) in
     is ∙ ap (λ (old : List ℕ). put_decision old (get_or s.relocations i r) (get_or ds i d)) before
     ∙ put_next s (decided_sites s (take i s.relocations) (take i ds)) (decided_sites s (drop (suc i) s.relocations) (drop (suc i) ds)) (get_or s.relocations i r) (get_or ds i d) lies split
     ∙ ap (λ (ps : List Piece). overlay ps s.bytes) (sym (sites-more s s.relocations ds i r d count h))
 
-pub step_put : (s : Item) (ds : List Decision) (i : ℕ) (r : InputRelocation) (d : Decision) (first room next : List ℕ) → length ds ≡ length s.relocations → i < length ds → r ≡ get_or s.relocations i r → first ≡ s.bytes → DecisionsLie (length first) s.relocations ds → AreApart (length first) (decided_sites s s.relocations ds)
+pub step_put : (s : Item) (ds : List Decision) (i : ℕ) (r : InputRelocation) (d : Decision) (first room next : List ℕ) → length ds ≡ length s.relocations → i < length ds → r ≡ get_or s.relocations i r → first ≡ s.bytes → DecisionsLie (length first) s.relocations ds → AreDisjoint (length first) (decided_sites s s.relocations ds)
     → room ≡ overlay (decided_sites s (take i s.relocations) (take i ds)) first → next ≡ put_decision room r (get_or ds i d) → next ≡ overlay (decided_sites s (take (i + 1) s.relocations) (take (i + 1) ds)) first
 step_put s ds i r d first room next count h read whole lie apart before is =
-    let apart' = subst (λ (xs : List ℕ). AreApart (length xs) (decided_sites s s.relocations ds)) whole apart in
+    let apart' = subst (λ (xs : List ℕ). AreDisjoint (length xs) (decided_sites s s.relocations ds)) whole apart in
     let lie' = subst (λ (xs : List ℕ). DecisionsLie (length xs) s.relocations ds) whole lie in
     let before' = before ∙ ap (overlay (decided_sites s (take i s.relocations) (take i ds))) whole in
     let is' = is ∙ ap (λ (q : InputRelocation). put_decision room q (get_or ds i d)) read in
@@ -347,8 +347,8 @@ step_put s ds i r d first room next count h read whole lie apart before is =
 
 -- the decided sites are apart, where no byte of the input is of two of them
 pub decided_apart : (l : Layout) (s : Item) (os : List InputRelocation) (ds : List Decision) (g f k n : ℕ) → MovesApart l s os → AreDecided l s ds → n ≡ length s.bytes → All (FieldLies l.machine n) s.relocations → overlap_errors (at_section g f k) (least_extent (decided_extents s.relocations os ds)) ≡ []
-    → AreApart n (decided_sites s s.relocations ds)
+    → AreDisjoint n (decided_sites s s.relocations ds)
 decided_apart l s os ds g f k n moves h len lies none =
     let lies' = subst (λ (m : ℕ). All (FieldLies l.machine m) s.relocations) len lies in
     let apart = sites_apart l s os lies' moves (sym (shared_is l s os ds moves.count h lies') ∙ no_overlap _ _ none) in
-    subst (λ (m : ℕ). AreApart m (decided_sites s s.relocations ds)) (sym len) (subst (λ (ps : List Piece). AreApart (length s.bytes) ps) (sym h.same) apart)
+    subst (λ (m : ℕ). AreDisjoint m (decided_sites s s.relocations ds)) (sym len) (subst (λ (ps : List Piece). AreDisjoint (length s.bytes) ps) (sym h.same) apart)

@@ -14,7 +14,7 @@ use Rattle.wild_layout.specs.declared.decision.Decision.{Decision}
 use Rattle.wild_layout.specs.Choice.{choice, is_partner, may_take_next, takes_along, may_be_partner}
 use Rattle.wild_layout.specs.Decide.{decided, decide_with, decide}
 use Rattle.wild_layout.specs.Faults.{at_offset, refusal_at, relocation_errors}
-use Rattle.wild_layout.proofs.AskedLemmas.{none_before, no_choice}
+use Rattle.wild_layout.proofs.QuestionLemmas.{none_before, no_choice}
 use Rattle.wild_sections.proofs.FaultLemmas.{Refuses-head}
 
 -- a distance that no sequence takes along keeps its instruction

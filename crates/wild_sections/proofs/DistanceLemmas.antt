@@ -9,7 +9,7 @@ use Rattle.wild_slot.specs.declared.treatment.Treatment.TheVariants.{Value, Reco
 use Rattle.wild_types.specs.Kinds.{is_position_independent}
 use Rattle.wild_types.specs.Lookups.{allocated, place_of}
 use Rattle.wild_types.specs.Rows.{row_of}
-use Rattle.wild_slot.specs.Treatment.{flags_at, is_elsewhere, is_barred_type, distance_treatment, kind_treatment, suited, row_treatment, treatment}
+use Rattle.wild_slot.specs.Treatment.{flags_at, has_no_local_address, is_barred_type, distance_treatment, kind_treatment, row_that_accepts, row_treatment, treatment}
 use Rattle.wild_reloc.specs.declared.info.RelocationKind.TheVariants.{Relative}
 use Rattle.wild_reloc.specs.declared.info.RelocationKindInfo.{RelocationKindInfo}
 use Rattle.wild_layout.specs.Values.{term_at}
@@ -28,7 +28,7 @@ no_last false m t u h = refl
 
 fixed_distance : (l : Layout) (s : Item) (n : ℕ) (row : RelocationKindInfo) (symbol : Option ℕ) → is_position_independent l.kind ≡ false → distance_treatment l s.flags n row symbol ≡ Value row
 fixed_distance l s n row None h = no_last (allocated s.flags) (is_position_independent l.kind) Recompile (Value row) h
-fixed_distance l s n row (Some i) h = no_test (allocated s.flags) (is_position_independent l.kind) (is_barred_type l.machine n) (is_elsewhere (flags_at l i)) Recompile (Value row) h
+fixed_distance l s n row (Some i) h = no_test (allocated s.flags) (is_position_independent l.kind) (is_barred_type l.machine n) (has_no_local_address (flags_at l i)) Recompile (Value row) h
 
 -- what is decided of a distance of x86-64 in an output that does not move is its value in the field
 pub fixed_decided : (l : Layout) (s : Item) (r : InputRelocation) (row : RelocationKindInfo) → row_of l.machine r.number ≡ Some row → row.kind ≡ Relative → l.machine ≡ machine.X86_64 → is_position_independent l.kind ≡ false
@@ -36,5 +36,5 @@ pub fixed_decided : (l : Layout) (s : Item) (r : InputRelocation) (row : Relocat
 unfolding decided treatment row_treatment
 fixed_decided l s r row known kind x86 h =
     let t : kind_treatment l s.flags r.number r.symbol row row.kind ≡ Value row = ap (kind_treatment l s.flags r.number r.symbol row) kind ∙ fixed_distance l s r.number row r.symbol h in
-    let own : suited l.machine r (row_of l.machine r.number) ≡ row_of l.machine r.number = suited_x86_64 l.machine r (row_of l.machine r.number) x86 in
+    let own : row_that_accepts l.machine r (row_of l.machine r.number) ≡ row_of l.machine r.number = suited_x86_64 l.machine r (row_of l.machine r.number) x86 in
     rw (own, known, t) refl

@@ -8,8 +8,8 @@ pub mod DecisionLemmas
 pub mod InstructionLemmas
 pub mod DecidedLemmas
 pub mod AscendingLemmas
-pub mod HomeLemmas
+pub mod SymbolFileLemmas
 pub mod StringLemmas
-pub mod OwnerLemmas
+pub mod DefiningFileLemmas
 pub mod TargetLemmas
-pub mod FourLemmas
+pub mod FourByteLemmas

@@ -11,8 +11,8 @@ use Rattle.wild_records.specs.Relocations.{rela_fields}
 use Rattle.wild_types.specs.declared.input.InputRelocation.{InputRelocation}
 use Rattle.wild_types.specs.declared.input.InputSection.{InputSection}
 use Rattle.wild_types.specs.declared.layout.Layout.{Layout}
-use Rattle.wild_tables.specs.Entries.{rela_bytes}
-use Rattle.wild_tables.proofs.EntryLemmas.{length-rela}
+use Rattle.wild_table_formats.specs.RelativeEntries.{rela_bytes}
+use Rattle.wild_table_formats.proofs.EntryLemmas.{length-rela}
 use Rattle.wild_layout.specs.Partial.{rela_of, rela_bytes_of, group_words}
 
 -- one more item's bytes, behind those of the others

@@ -7,7 +7,7 @@ use Rattle.std.proofs.lemmas.List.Elements.{All-nil, All-cons}
 use Rattle.std.specs.List.Sorted.{IsPartitionedBy, IsPartitionPoint}
 use Rattle.wild_types.specs.declared.input.MergedString.{MergedString}
 use Rattle.wild_layout.specs.Merged.{string_before}
-use Rattle.wild_sections.specs.Strings.{offsets_ascend, later}
+use Rattle.wild_sections.specs.Strings.{offsets_ascend, last_string_up_to}
 
 -- one more string of a walk
 or_later : (b : Bool) (o last : Option MergedString) (s : MergedString) → option_or (option_or o (if b then Some s else None)) last ≡ option_or o (if b then Some s else last)
@@ -15,7 +15,7 @@ or_later b (Some x) last s = refl
 or_later true None last s = refl
 or_later false None last s = refl
 
-pub walked_on : (s : MergedString) (ss : List MergedString) (x : ℕ) (last next all : Option MergedString) → option_or (string_before (s ∷ ss) x) last ≡ all → next ≡ later last s x → option_or (string_before ss x) next ≡ all
+pub walked_on : (s : MergedString) (ss : List MergedString) (x : ℕ) (last next all : Option MergedString) → option_or (string_before (s ∷ ss) x) last ≡ all → next ≡ last_string_up_to last s x → option_or (string_before ss x) next ≡ all
 walked_on s ss x last next all before is = ap (option_or (string_before ss x)) is ∙ sym (or_later (nat_le s.offset x) (string_before ss x) last s) ∙ before
 
 or_none : (o : Option MergedString) → option_or o None ≡ o

@@ -28,17 +28,17 @@ use Rattle.wild_types.specs.Addresses.{raw_value}
 use Rattle.wild_slot.specs.Treatment.{flags_at}
 use Rattle.wild_layout.specs.declared.decision.Decision.TheVariants.{Field}
 use Rattle.wild_layout.specs.SymbolValues.{displacement}
-use Rattle.wild_layout.specs.SlotValues.{is_chosen, address_of}
-use Rattle.wild_layout.specs.Merged.{is_section_symbol, strings_in, strings_told, is_plain_own, merged_strings, names_merged, address_for}
+use Rattle.wild_layout.specs.SlotValues.{symbol_is_ifunc, address_of}
+use Rattle.wild_layout.specs.Merged.{is_section_symbol, strings_in, strings_of_symbol, is_plain_own, merged_strings, names_merged, address_for}
 use Rattle.wild_reloc.specs.declared.expression.Term.TheVariants as terms
 use Rattle.wild_types.specs.declared.fault.Fault.TheVariants as faults
 use Rattle.wild_layout.specs.Values.{is_own_place, undefined_weak_target, term_by, term_at}
-use Rattle.wild_layout.specs.Decide.{field_for, reached, decided}
+use Rattle.wild_layout.specs.Decide.{field_for, field_or_thunk, decided}
 use Rattle.wild_layout.proofs.MergedLemmas.{address_plain}
-use Rattle.wild_sections.specs.Owners.{asks_owners}
+use Rattle.wild_sections.specs.DefiningFiles.{layout_needs_owner_files}
 use Rattle.wild_sections.specs.Targets.{is_x86_64, has_targets, may_be_merged, target_of, HasTargets, IsTarget}
 use Rattle.wild_sections.proofs.DistanceLemmas.{fixed_decided}
-use Rattle.wild_sections.proofs.OwnerLemmas.{unasked}
+use Rattle.wild_sections.proofs.DefiningFileLemmas.{unasked}
 
 -- ---- the table
 
@@ -70,15 +70,15 @@ or_false false b h = (refl, h)
 
 -- a symbol with a target is not chosen, and stands for no merged strings
 record IsPlain (l : Layout) (i a : ℕ) : Type 0 where
-  unchosen : is_chosen l i ≡ false
-  unmerged : may_be_merged (asks_owners l) (slice_get l.symbols i) ≡ false
+  unchosen : symbol_is_ifunc l i ≡ false
+  unmerged : may_be_merged (layout_needs_owner_files l) (slice_get l.symbols i) ≡ false
   value : raw_value l i ≡ Some a
 
 is_plain : (l : Layout) (i a : ℕ) → target_of l i ≡ Some a → IsPlain l i a
 is_plain l i a h =
-    elim (cases_Bool (is_chosen l i || may_be_merged (asks_owners l) (slice_get l.symbols i))) [
+    elim (cases_Bool (symbol_is_ifunc l i || may_be_merged (layout_needs_owner_files l) (slice_get l.symbols i))) [
       | inl t ↦ cc (rw t at h)
-      | inr n ↦ (let p = or_false (is_chosen l i) (may_be_merged (asks_owners l) (slice_get l.symbols i)) n in record { unchosen = p.0; unmerged = p.1; value = rw n at h })
+      | inr n ↦ (let p = or_false (symbol_is_ifunc l i) (may_be_merged (layout_needs_owner_files l) (slice_get l.symbols i)) n in record { unchosen = p.0; unmerged = p.1; value = rw n at h })
     ]
 
 none_by : (b : Bool) (o : Option (List MergedString)) → o ≡ None → (if b then o else None) ≡ None
@@ -93,17 +93,17 @@ no_section : (f : File) (s : Symbol) → is_section_symbol s ≡ false → strin
 no_section f s h = rw h refl
 
 -- a symbol that is no section symbol has no strings
-none_told : (l : Layout) (i : ℕ) (o : Option Symbol) → may_be_merged true o ≡ false → option_and_then (strings_told (files_of l.groups) i) o ≡ None
+none_told : (l : Layout) (i : ℕ) (o : Option Symbol) → may_be_merged true o ≡ false → option_and_then (strings_of_symbol (files_of l.groups) i) o ≡ None
 none_told l i None h = cc
 none_told l i (Some s) h = and_then_none (λ (f : File). strings_in f s) (file_of (files_of l.groups) i) (λ f. no_section f s h)
 
 none_named : (l : Layout) (i : ℕ) → may_be_merged true (slice_get l.symbols i) ≡ false → names_merged l (Some i) ≡ false
 unfolding merged_strings
-none_named l i h = rw (none_by (is_plain_own (flags_at l i)) (option_and_then (strings_told (files_of l.groups) i) (slice_get l.symbols i)) (none_told l i (slice_get l.symbols i) h)) refl
+none_named l i h = rw (none_by (is_plain_own (flags_at l i)) (option_and_then (strings_of_symbol (files_of l.groups) i) (slice_get l.symbols i)) (none_told l i (slice_get l.symbols i) h)) refl
 
-unmerged_named : (l : Layout) (i : ℕ) → may_be_merged (asks_owners l) (slice_get l.symbols i) ≡ false → names_merged l (Some i) ≡ false
+unmerged_named : (l : Layout) (i : ℕ) → may_be_merged (layout_needs_owner_files l) (slice_get l.symbols i) ≡ false → names_merged l (Some i) ≡ false
 unmerged_named l i h =
-    elim (cases_Bool (asks_owners l)) [
+    elim (cases_Bool (layout_needs_owner_files l)) [
       | inl t ↦ none_named l i (rw t at h)
       | inr n ↦ unasked l (Some i) n
     ]
@@ -139,12 +139,12 @@ known_row m n x86 number = rw (x86, number) refl
 near_term : (l : Layout) (r : InputRelocation) (p a : ℕ) → l.machine ≡ machine.X86_64 → address_for l r ≡ Ok a → term_at l r near_row p ≡ Ok a
 near_term l r p a x86 is = ap (λ (m : Machine). if is_own_place m l r near_row then Ok (undefined_weak_target r.number p) else term_by l r terms.Symbol) x86 ∙ is
 
-near_reached : (l : Layout) (s : Item) (r : InputRelocation) (v : ℕ) → contains (of_bits 32 Signed) v ≡ true → reached l s r near_row v ≡ Ok (Field (ByteSize Four) v)
-unfolding reached
+near_reached : (l : Layout) (s : Item) (r : InputRelocation) (v : ℕ) → contains (of_bits 32 Signed) v ≡ true → field_or_thunk l s r near_row v ≡ Ok (Field (ByteSize Four) v)
+unfolding field_or_thunk
 near_reached l s r v fits = ap (λ (b : Bool). if b then Ok (Field (ByteSize Four) v) else Err (faults.OutOfRange v)) fits
 
 near_field : (l : Layout) (s : Item) (r : InputRelocation) (a v : ℕ) → v ≡ displacement a r.addend (place_of s.address r) → contains (of_bits 32 Signed) v ≡ true → field_for l s r near_row (Ok a) ≡ Ok (Field (ByteSize Four) v)
-near_field l s r a v is fits = ap (λ (x : ℕ). reached l s r near_row x) (sym is) ∙ near_reached l s r v fits
+near_field l s r a v is fits = ap (λ (x : ℕ). field_or_thunk l s r near_row x) (sym is) ∙ near_reached l s r v fits
 
 -- a distance to a target that four bytes hold
 pub near_decided : (l : Layout) (s : Item) (r : InputRelocation) (i a v : ℕ) → r.number ≡ r_x86_64_pc32 → r.symbol ≡ Some i → IsTarget l i a → v ≡ displacement a r.addend (place_of s.address r) → contains (of_bits 32 Signed) v ≡ true

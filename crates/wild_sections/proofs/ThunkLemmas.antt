@@ -4,7 +4,7 @@ use Rattle.std.specs.Prelude.{None, slice_index_or}
 use Rattle.std.proofs.lemmas.List.{take-append-drop}
 use Rattle.std.proofs.lemmas.Bool.{cases_Bool, and_parts, leb-true, le-leb, ne_eqb}
 use Rattle.wild_types.specs.declared.layout.Thunk.{Thunk}
-use Rattle.wild_clauses.specs.Thunks.{ascends_from, ascends}
+use Rattle.wild_plan_rules.specs.Thunks.{ascends_from, ascends}
 use Rattle.wild_layout.specs.Thunks.{thunk_of}
 
 -- what the first of them says of the others

@@ -14,7 +14,7 @@ use Rattle.wild_types.specs.Lookups.{file_of, files_of}
 use Rattle.wild_types.specs.Addresses.{raw_value, resolved_or, placed_value, address_at}
 use Rattle.wild_sections.specs.Values.{HasValues}
 use Rattle.wild_symbols.specs.SymbolNumbers.{found}
-use Rattle.wild_sections.specs.Placed.{stands_in, address_in, decided}
+use Rattle.wild_sections.specs.SymbolAddresses.{stands_in, address_in, decided}
 
 -- an entry of the table
 pub table_at : (l : Layout) (values : List (Option ℕ)) (i : ℕ) (d : Option ℕ) → HasValues l values → i < length values → get_or values i d ≡ raw_value l i

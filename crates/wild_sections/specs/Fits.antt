@@ -7,7 +7,7 @@ use Rattle.wild_types.specs.declared.layout.GnuHash.{GnuHash}
 use Rattle.wild_types.specs.declared.layout.Layout.{Layout}
 use Rattle.wild_needs.specs.DynamicSymbols.{first_listed}
 use Rattle.wild_needs.specs.Needs.{name_bytes}
-use Rattle.wild_headers.specs.Headers.{name_table}
+use Rattle.wild_table_formats.specs.Headers.{name_table}
 use Rattle.wild_layout.specs.Thunks.{Ascend}
 
 -- a gABI hash table with these parameters has a bucket, and its symbols have indexes

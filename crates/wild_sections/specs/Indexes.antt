@@ -4,7 +4,7 @@ use Rattle.std.specs.Prelude.{◌≡◌, ℕ, true, List, map, length, Option}
 use Rattle.std.specs.List.{range_with_len}
 use Rattle.wild_types.specs.declared.layout.Layout.{Layout}
 use Rattle.wild_types.specs.Kinds.{is_partial_link}
-use Rattle.wild_symbols.specs.SectionSymbols.{symbol_index}
+use Rattle.wild_table_formats.specs.SectionSymbols.{symbol_index}
 
 -- the table of these, if there is one
 pub record HasIndexes (l : Layout) (indexes : List (Option ℕ)) : Type 0 where

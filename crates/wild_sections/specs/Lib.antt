@@ -1,10 +1,10 @@
-pub mod Decided
+pub mod WrittenDecisions
 pub mod Fits
-pub mod Homes
+pub mod SymbolFiles
 pub mod Indexes
 pub mod Origins
-pub mod Owners
-pub mod Placed
+pub mod DefiningFiles
+pub mod SymbolAddresses
 pub mod Strings
 pub mod Targets
 pub mod Values

@@ -1,6 +1,6 @@
 -- Merged strings, as the writer searches them.
 --   offsets_ascend reach ss   the strings are sorted by offset, and the first begins at `reach` or after it
---   later last s x            string s if it begins at byte x or before it, otherwise the previous one
+--   last_string_up_to last s x            string s if it begins at byte x or before it, otherwise the previous one
 --   all_ascend l              the strings of each section are sorted by offset
 use Rattle.std.specs.Prelude.{ℕ, Bool, true, false, ◌&&◌, nat_le, if◌then◌else◌, List, [], ◌∷◌, Option, Some}
 use Rattle.std.specs.List.{list_all}
@@ -22,5 +22,5 @@ section_ascends s = offsets_ascend 0 s.strings
 abbrev pub all_ascend : Layout → Bool
 all_ascend l = list_all (λ (g : Group). list_all (λ (f : File). list_all section_ascends f.sections) g.files) l.groups
 
-abbrev pub later : Option MergedString → MergedString → ℕ → Option MergedString
-later last s x = if nat_le s.offset x then Some s else last
+abbrev pub last_string_up_to : Option MergedString → MergedString → ℕ → Option MergedString
+last_string_up_to last s x = if nat_le s.offset x then Some s else last

@@ -10,9 +10,9 @@ use Rattle.wild_types.specs.declared.symbol.Symbol.{Symbol}
 use Rattle.wild_types.specs.declared.layout.Layout.{Layout}
 use Rattle.wild_types.specs.Kinds.{is_position_independent}
 use Rattle.wild_types.specs.Addresses.{raw_value}
-use Rattle.wild_layout.specs.SlotValues.{is_chosen}
+use Rattle.wild_layout.specs.SlotValues.{symbol_is_ifunc}
 use Rattle.wild_layout.specs.Merged.{is_section_symbol}
-use Rattle.wild_sections.specs.Owners.{asks_owners}
+use Rattle.wild_sections.specs.DefiningFiles.{layout_needs_owner_files}
 
 abbrev pub is_x86_64 : Machine → Bool
 is_x86_64 machine.X86_64 = true
@@ -24,12 +24,12 @@ has_targets l = is_x86_64 l.machine && not (is_position_independent l.kind)
 
 -- the symbol may be the section symbol of merged strings
 abbrev pub may_be_merged : Bool → Option Symbol → Bool
-may_be_merged asks None = asks
-may_be_merged asks (Some s) = asks && is_section_symbol s
+may_be_merged needs_owner_files None = needs_owner_files
+may_be_merged needs_owner_files (Some s) = needs_owner_files && is_section_symbol s
 
 -- None for an IFUNC, and if the address may depend on the addend
 abbrev pub target_of : Layout → ℕ → Option ℕ
-target_of l i = if is_chosen l i || may_be_merged (asks_owners l) (slice_get l.symbols i) then None else raw_value l i
+target_of l i = if symbol_is_ifunc l i || may_be_merged (layout_needs_owner_files l) (slice_get l.symbols i) then None else raw_value l i
 
 pub record HasTargets (l : Layout) (targets : List (Option ℕ)) : Type 0 where
   pub all : targets ≡ map (target_of l) (range_with_len 0 (length targets))

@@ -1,7 +1,7 @@
 //! Which rewrite (relaxation) applies to the instruction of a relocation. A row sees at most four relocations, which are on the stack.
 ghost use Rattle.std.specs.Prelude.{◌≡◌, ◌<◌, ◌+◌, length, slice_get};
-ghost use Rattle.wild_relax.specs.Relaxation.{chosen_of};
-ghost use Rattle.wild_layout.specs.Choice.{same_names, is_getter, info_of, nameless, asked_of, infos_of, info_at, question_around, is_thread_type, merged_on, choice, takes_next, is_partner, may_take_next, may_be_partner};
+ghost use Rattle.wild_relax.specs.Relaxation.{chosen_row_of};
+ghost use Rattle.wild_layout.specs.Choice.{same_names, is_getter, info_of, nameless, question_for, infos_of, info_at, question_around, is_thread_type, merged_on, choice, takes_next, is_partner, may_take_next, may_be_partner};
 ghost use Rattle.wild_types.specs.Item.{item_now};
 
 use crate::values::Resolved;
@@ -82,14 +82,14 @@ fn info_at(relocations: &[InputRelocation], index: usize) -> RelocationInfo
 }
 
 /// The row that applies to the relocation at `at` of `relocations`, or why it is refused.
-fn asked<A: Arch>(
+fn row_that_applies<A: Arch>(
     resolved: &Resolved<A>,
     item: &ItemRef,
     symbol: SymbolIndex,
     relocations: &[RelocationInfo],
     at: usize,
 ) -> Result<Option<Row>, UnknownSequence>
-    ensures { result ≡ chosen_of resolved.now.layout.now.machine (asked_of resolved.now.layout.now (item_now item.now) symbol relocations.now at) }
+    ensures { result ≡ chosen_row_of resolved.now.layout.now.machine (question_for resolved.now.layout.now (item_now item.now) symbol relocations.now at) }
 {
     let layout = resolved.layout;
     let reference = Reference {
@@ -126,14 +126,14 @@ fn choice_with_next<A: Arch>(
     symbol: SymbolIndex,
 ) -> Result<Option<Row>, UnknownSequence>
     requires index { index < length item.now.relocations.now }
-    ensures { result ≡ chosen_of resolved.now.layout.now.machine (asked_of resolved.now.layout.now (item_now item.now) symbol
+    ensures { result ≡ chosen_row_of resolved.now.layout.now.machine (question_for resolved.now.layout.now (item_now item.now) symbol
         (infos_of resolved.now.layout.now (slice_get item.now.relocations.now index) (slice_get item.now.relocations.now (index + 1))) 0) }
 {
     let relocations = item.relocations;
     let own = info_of(resolved.layout, &relocations[index]);
     match relocations.get(index + 1) {
         Some(next) => {
-            asked(
+            row_that_applies(
                 resolved,
                 item,
                 symbol,
@@ -141,7 +141,7 @@ fn choice_with_next<A: Arch>(
                 0,
             )
         }
-        None => asked(resolved, item, symbol, &[own], 0),
+        None => row_that_applies(resolved, item, symbol, &[own], 0),
     }
 }
 
@@ -155,7 +155,7 @@ fn choice_around<A: Arch>(
     symbol: SymbolIndex,
 ) -> Result<Option<Row>, UnknownSequence>
     requires index { index < length item.now.relocations.now }
-    ensures { result ≡ chosen_of resolved.now.layout.now.machine (question_around resolved.now.layout.now (item_now item.now) index relocation.now symbol) }
+    ensures { result ≡ chosen_row_of resolved.now.layout.now.machine (question_around resolved.now.layout.now (item_now item.now) index relocation.now symbol) }
 {
     let relocations = item.relocations;
     let first = index.saturating_sub(words_before(relocation.number));
@@ -165,7 +165,7 @@ fn choice_around<A: Arch>(
         info_at(relocations, first + 2),
         info_at(relocations, first + 3),
     ];
-    asked(resolved, item, symbol, &infos, index - first)
+    row_that_applies(resolved, item, symbol, &infos, index - first)
 }
 
 /// Whether references of that type to thread-local storage are rewritten in each executable.
@@ -224,7 +224,7 @@ pub(crate) fn choice<A: Arch>(
         Machine::X86_64 if may_take_next(relocation.number) => {
             choice_with_next(resolved, item, index, symbol)
         }
-        Machine::X86_64 => asked(resolved, item, symbol, &[nameless(relocation)], 0),
+        Machine::X86_64 => row_that_applies(resolved, item, symbol, &[nameless(relocation)], 0),
     }
 }
 

@@ -5,7 +5,7 @@ ghost use Rattle.wild_reloc.specs.declared.info.RelocationSize.TheVariants.{Byte
 ghost use Rattle.wild_reloc.specs.declared.info.Width.TheVariants.{Four};
 ghost use Rattle.wild_reloc.specs.Field.{size_width};
 ghost use Rattle.wild_layout.specs.Sites.{template_start};
-ghost use Rattle.wild_sections.specs.Decided.{put_field, reach_of_field, put_template, TemplateLies, reach_of_template, put_decision, DecisionLies, reach_behind};
+ghost use Rattle.wild_sections.specs.WrittenDecisions.{put_field, end_of_field, put_template, TemplateLies, end_of_template, put_decision, DecisionLies, end_of_decision};
 
 use crate::relocation::ADDRESS;
 use wild_layout::Decision;
@@ -16,7 +16,7 @@ use wild_words::put;
 
 /// The content of the field of a RELATIVE relocation: the address if it is packed in `.relr.dyn`, otherwise 0.
 #[inline]
-fn standing(value: u64, packed: bool) -> u64
+fn relative_field_content(value: u64, packed: bool) -> u64
     ensures { result ≡ (if packed then value else 0) }
 {
     if packed { value } else { 0 }
@@ -49,9 +49,9 @@ pub(crate) fn write_decision(relocation: &InputRelocation, decision: Decision, r
     match decision {
         Decision::Nothing | Decision::Partner => {}
         Decision::Field { size, value } => size.write_at(value, room, at),
-        Decision::Left { size, .. } => size.write_at(0, room, at),
-        Decision::Moved { value, packed } => {
-            ADDRESS.write_at(standing(value, packed), room, at);
+        Decision::DynamicField { size, .. } => size.write_at(0, room, at),
+        Decision::RelativeAddress { value, packed } => {
+            ADDRESS.write_at(relative_field_content(value, packed), room, at);
         }
         Decision::Rewritten { row, value } => write_template(relocation, row, value, room),
     }
@@ -59,7 +59,7 @@ pub(crate) fn write_decision(relocation: &InputRelocation, decision: Decision, r
 
 /// Writes a field if it begins at `reach` or after it, and returns its end; otherwise None.
 #[inline]
-fn field_behind(
+fn write_ascending_field(
     reach: u64,
     offset: u64,
     size: RelocationSize,
@@ -67,7 +67,7 @@ fn field_behind(
     room: &mut [u8],
 ) -> Option<u64>
     requires lies { offset + size_width size ≤ length room.old }
-    ensures reach { result ≡ reach_of_field reach offset size }
+    ensures reach { result ≡ end_of_field reach offset size }
     ensures written { (end : ℕ) → result ≡ Some end → room.new ≡ put_field room.old offset size value }
 {
     if offset < reach {
@@ -78,7 +78,7 @@ fn field_behind(
 }
 
 /// Writes a whole instruction if it begins at `reach` or after it, and returns its end; otherwise None.
-fn template_behind(
+fn write_ascending_template(
     reach: u64,
     relocation: &InputRelocation,
     row: Row,
@@ -86,7 +86,7 @@ fn template_behind(
     room: &mut [u8],
 ) -> Option<u64>
     requires lies { TemplateLies (length room.old) relocation.now row }
-    ensures reach { result ≡ reach_of_template reach (template_start row relocation.now) row }
+    ensures reach { result ≡ end_of_template reach (template_start row relocation.now) row }
     ensures written { (end : ℕ) → result ≡ Some end → room.new ≡ put_template room.old (template_start row relocation.now) row value }
 {
     let start = template_start(row, relocation);
@@ -99,7 +99,7 @@ fn template_behind(
 
 /// Writes the four low bytes of a value.
 #[inline(always)]
-#[tactic(auto, using(crate::proofs::FourLemmas::low_four))]
+#[tactic(auto, using(crate::proofs::FourByteLemmas::low_four))]
 fn put_four(value: u64, room: &mut [u8], at: usize)
     requires { at + 4 ≤ length room.old }
     ensures { room.new ≡ place at (word 4 value) room.old }
@@ -110,9 +110,14 @@ fn put_four(value: u64, room: &mut [u8], at: usize)
 
 /// Writes a four-byte field if it begins at `reach` or after it, and returns its end; otherwise None.
 #[inline(always)]
-pub(crate) fn four_behind(reach: u64, offset: u64, value: u64, room: &mut [u8]) -> Option<u64>
+pub(crate) fn write_ascending_u32(
+    reach: u64,
+    offset: u64,
+    value: u64,
+    room: &mut [u8],
+) -> Option<u64>
     requires lies { offset + 4 ≤ length room.old }
-    ensures reach { result ≡ reach_of_field reach offset (ByteSize Four) }
+    ensures reach { result ≡ end_of_field reach offset (ByteSize Four) }
     ensures written { (end : ℕ) → result ≡ Some end → room.new ≡ put_field room.old offset (ByteSize Four) value }
 {
     if reach > offset {
@@ -124,24 +129,32 @@ pub(crate) fn four_behind(reach: u64, offset: u64, value: u64, room: &mut [u8]) 
 
 /// Writes a decided relocation if its field or instruction begins at `reach` or after it, and returns its end; otherwise None.
 #[inline]
-pub(crate) fn write_behind(
+pub(crate) fn write_ascending_decision(
     reach: u64,
     relocation: &InputRelocation,
     decision: Decision,
     room: &mut [u8],
 ) -> Option<u64>
     requires lies { DecisionLies (length room.old) relocation.now decision }
-    ensures reach { result ≡ reach_behind reach relocation.now decision }
+    ensures reach { result ≡ end_of_decision reach relocation.now decision }
     ensures written { (end : ℕ) → result ≡ Some end → room.new ≡ put_decision room.old relocation.now decision }
 {
     let offset = relocation.offset;
     match decision {
         Decision::Nothing | Decision::Partner => Some(reach),
-        Decision::Field { size, value } => field_behind(reach, offset, size, value, room),
-        Decision::Left { size, .. } => field_behind(reach, offset, size, 0, room),
-        Decision::Moved { value, packed } => {
-            field_behind(reach, offset, ADDRESS, standing(value, packed), room)
+        Decision::Field { size, value } => write_ascending_field(reach, offset, size, value, room),
+        Decision::DynamicField { size, .. } => write_ascending_field(reach, offset, size, 0, room),
+        Decision::RelativeAddress { value, packed } => {
+            write_ascending_field(
+                reach,
+                offset,
+                ADDRESS,
+                relative_field_content(value, packed),
+                room,
+            )
         }
-        Decision::Rewritten { row, value } => template_behind(reach, relocation, row, value, room),
+        Decision::Rewritten { row, value } => write_ascending_template(
+            reach, relocation, row, value, room,
+        ),
     }
 }

@@ -1,8 +1,8 @@
 //! Addresses of PLT stubs and GOT entries that relocations use (x86-64 psABI, "Procedure Linkage Table", "Global Offset
 //! Table (GOT)").
 ghost use Rattle.std.specs.Prelude.{◌≡◌};
-ghost use Rattle.wild_layout.specs.SymbolValues.{address_or};
-ghost use Rattle.wild_layout.specs.SlotValues.{resolution_of, index_of, decided_address, stub_of, is_chosen, stub_address, has_second_slot, behind_word, behind_pair, slot_among, slot_decided, slot_of, slot_address};
+ghost use Rattle.wild_layout.specs.SymbolValues.{resolved_address};
+ghost use Rattle.wild_layout.specs.SlotValues.{resolution_of, index_of, decided_address, stub_of, symbol_is_ifunc, stub_address, has_second_slot, after_word, after_pair, slot_among, slot_decided, slot_of, slot_address};
 
 use wild_reloc::SlotSort;
 use wild_slot::{flags_at, next_word};
@@ -10,12 +10,12 @@ use wild_types::{Fault, Layout, Missing, Resolution, SymbolIndex, ValueFlags, ha
 
 /// An address, or the fault that the symbol has none of this kind.
 #[inline]
-pub(crate) fn address_or(
+pub(crate) fn resolved_address(
     what: Missing,
     symbol: SymbolIndex,
     address: Option<u64>,
 ) -> Result<u64, Fault>
-    ensures { result ≡ address_or what symbol address }
+    ensures { result ≡ resolved_address what symbol address }
 {
     match address {
         Some(address) => Ok(address),
@@ -54,13 +54,13 @@ pub fn decided_address(layout: &Layout, symbol: SymbolIndex) -> Result<u64, Faul
         Some(resolution) => Some(resolution.raw_value),
         None => None,
     };
-    address_or(Missing::Address, symbol, decided)
+    resolved_address(Missing::Address, symbol, decided)
 }
 
 /// Whether the symbol is an IFUNC: a resolver chooses the function at load time.
 #[inline]
-pub(crate) fn is_chosen(layout: &Layout, symbol: SymbolIndex) -> bool
-    ensures { result ≡ is_chosen layout.now symbol }
+pub(crate) fn symbol_is_ifunc(layout: &Layout, symbol: SymbolIndex) -> bool
+    ensures { result ≡ symbol_is_ifunc layout.now symbol }
 {
     flags_at(layout, symbol).is_ifunc()
 }
@@ -80,7 +80,7 @@ pub(crate) fn stub_address(layout: &Layout, symbol: Option<SymbolIndex>) -> Resu
     ensures { result ≡ stub_address layout.now symbol }
 {
     match symbol {
-        Some(symbol) => address_or(Missing::Stub, symbol, stub_of(layout, symbol)),
+        Some(symbol) => resolved_address(Missing::Stub, symbol, stub_of(layout, symbol)),
         None => Ok(0),
     }
 }
@@ -93,15 +93,15 @@ fn has_second_slot(flags: ValueFlags) -> bool
 }
 
 /// The place after a word, if there is one at `place`.
-fn behind_word(word: bool, place: u64) -> u64
-    ensures { result ≡ behind_word word place }
+fn after_word(word: bool, place: u64) -> u64
+    ensures { result ≡ after_word word place }
 {
     if word { next_word(place) } else { place }
 }
 
 /// The place after a pair of words, if there is one at `place`.
-fn behind_pair(pair: bool, place: u64) -> u64
-    ensures { result ≡ behind_pair pair place }
+fn after_pair(pair: bool, place: u64) -> u64
+    ensures { result ≡ after_pair pair place }
 {
     if pair { place.wrapping_add(16) } else { place }
 }
@@ -114,13 +114,13 @@ fn slot_among(sort: SlotSort, flags: ValueFlags, first: u64) -> Option<u64>
     let module = flags.needs_got_tls_module();
     match sort {
         SlotSort::Offset if offset => Some(first),
-        SlotSort::Pair if module => Some(behind_word(offset, first)),
+        SlotSort::Pair if module => Some(after_word(offset, first)),
         SlotSort::Descriptor if flags.needs_got_tls_descriptor() => {
-            Some(behind_pair(module, behind_word(offset, first)))
+            Some(after_pair(module, after_word(offset, first)))
         }
         SlotSort::Offset | SlotSort::Pair | SlotSort::Descriptor => None,
         _ if has_thread_slot(flags) => None,
-        _ => Some(behind_word(has_second_slot(flags), first)),
+        _ => Some(after_word(has_second_slot(flags), first)),
     }
 }
 
@@ -151,7 +151,7 @@ pub(crate) fn slot_address(
     ensures { result ≡ slot_address layout.now sort symbol }
 {
     match symbol {
-        Some(symbol) => address_or(Missing::Slot, symbol, slot_of(layout, sort, symbol)),
+        Some(symbol) => resolved_address(Missing::Slot, symbol, slot_of(layout, sort, symbol)),
         None => Ok(0),
     }
 }

@@ -5,8 +5,8 @@ ghost use Rattle.wild_types.specs.declared.file.File.{File};
 ghost use Rattle.wild_types.specs.declared.file.Group.{Group};
 ghost use Rattle.wild_types.specs.declared.input.InputSection.{InputSection};
 ghost use Rattle.wild_layout.specs.Merged.{is_section_symbol, is_plain_own, strings_in, string_before, string_place};
-ghost use Rattle.wild_sections.specs.Strings.{offsets_ascend, section_ascends, later};
-ghost use Rattle.wild_clauses.specs.Survey.{is_unmerged};
+ghost use Rattle.wild_sections.specs.Strings.{offsets_ascend, section_ascends, last_string_up_to};
+ghost use Rattle.wild_plan_rules.specs.MergedSections.{is_unmerged};
 
 use wild_records::abi::symbol::STT_SECTION;
 use wild_types::{
@@ -124,8 +124,12 @@ pub(crate) fn merged_section<'f>(file: &'f File, symbol: &Symbol) -> Option<&'f 
 }
 
 /// The string if it begins at `byte` or before it, otherwise the previous one.
-fn later(last: Option<MergedString>, string: MergedString, byte: u64) -> Option<MergedString>
-    ensures { result ≡ later last string byte }
+fn last_string_up_to(
+    last: Option<MergedString>,
+    string: MergedString,
+    byte: u64,
+) -> Option<MergedString>
+    ensures { result ≡ last_string_up_to last string byte }
 {
     if string.offset <= byte {
         Some(string)
@@ -135,18 +139,18 @@ fn later(last: Option<MergedString>, string: MergedString, byte: u64) -> Option<
 }
 
 /// The last of the strings that begins at `byte` or before it. Time n.
-fn walk_to(strings: &[MergedString], byte: u64) -> Option<MergedString>
+fn find_by_walk(strings: &[MergedString], byte: u64) -> Option<MergedString>
     ensures { result ≡ string_before strings.now byte }
 {
     let mut last = None;
     for string in strings {
-        last = later(last, *string, byte);
+        last = last_string_up_to(last, *string, byte);
     }
     last
 }
 
 /// The same for strings that are sorted by offset. Time log n.
-fn halve_to(strings: &[MergedString], byte: u64) -> Option<MergedString>
+fn find_by_halving(strings: &[MergedString], byte: u64) -> Option<MergedString>
     requires { offsets_ascend 0 strings.now ≡ true }
     ensures { result ≡ string_before strings.now byte }
 {
@@ -164,9 +168,9 @@ pub(crate) fn string_place(strings: &[MergedString], ascends: bool, byte: u64) -
     ensures { result ≡ string_place strings.now byte }
 {
     let string = if ascends {
-        halve_to(strings, byte)
+        find_by_halving(strings, byte)
     } else {
-        walk_to(strings, byte)
+        find_by_walk(strings, byte)
     };
     match string {
         Some(string) => Some(

@@ -1,7 +1,7 @@
 //! Detects relocations whose fields overlap in the input, and reports the lowest such byte.
 ghost use Rattle.std.specs.Prelude.{◌≡◌, ◌<◌, length, IfOk, option_to_list};
 ghost use Rattle.wild_words.specs.Extents.{least_extent};
-ghost use Rattle.wild_sections.specs.Decided.{field_extent, template_extent, decided_extent, extent_at, decided_extents, ascends};
+ghost use Rattle.wild_sections.specs.WrittenDecisions.{field_extent, template_extent, decided_extent, extent_at, decided_extents, ascends};
 
 use crate::fields::template_start;
 use crate::relocation::ADDRESS;
@@ -42,10 +42,10 @@ fn extent_of(offset: u64, relocation: &InputRelocation, decision: Decision) -> O
 {
     match decision {
         Decision::Nothing | Decision::Partner => None,
-        Decision::Field { size, .. } | Decision::Left { size, .. } => {
+        Decision::Field { size, .. } | Decision::DynamicField { size, .. } => {
             Some(field_extent(offset, size))
         }
-        Decision::Moved { .. } => Some(field_extent(offset, ADDRESS)),
+        Decision::RelativeAddress { .. } => Some(field_extent(offset, ADDRESS)),
         Decision::Rewritten { row, .. } => Some(template_extent(offset, relocation, row)),
     }
 }
@@ -68,7 +68,7 @@ fn extent_at(
 }
 
 /// Whether the fields are sorted and disjoint: each begins at the end of the previous ones or after it.
-#[tactic(auto, unfolding(crate::specs::Decided::ascends, crate::specs::Decided::decided_extents))]
+#[tactic(auto, unfolding(crate::specs::WrittenDecisions::ascends, crate::specs::WrittenDecisions::decided_extents))]
 fn is_ascending(
     relocations: &[InputRelocation],
     origins: &[InputRelocation],
@@ -91,7 +91,7 @@ fn is_ascending(
 }
 
 /// The bytes of the input that the relocations write.
-#[tactic(auto, unfolding(crate::specs::Decided::decided_extents))]
+#[tactic(auto, unfolding(crate::specs::WrittenDecisions::decided_extents))]
 fn extents_of(
     alloc: Global,
     relocations: &[InputRelocation],

@@ -5,8 +5,8 @@ ghost use Rattle.wild_words.specs.Record.{spell};
 ghost use Rattle.wild_records.specs.Relocations.{rela_fields, rela_size};
 ghost use Rattle.wild_types.specs.Kinds.{is_partial_link};
 ghost use Rattle.wild_types.specs.Lookups.{file_of, files_of};
-ghost use Rattle.wild_laid.specs.Laid.{base_of};
-ghost use Rattle.wild_symbols.specs.SectionSymbols.{symbol_section, section_at, is_section_type};
+ghost use Rattle.wild_placement.specs.PlacedSections.{base_of};
+ghost use Rattle.wild_table_formats.specs.SectionSymbols.{symbol_section, section_at, is_section_type};
 ghost use Rattle.wild_layout.specs.Partial.{shift_of, shift, rela_of, rela_bytes_of, group_words};
 
 use crate::resolve::sum;

@@ -7,22 +7,22 @@ ghost use Rattle.wild_layout.specs.SlotValues.{index_of, decided_address};
 ghost use Rattle.wild_layout.specs.Merged.{address_for};
 ghost use Rattle.wild_layout.specs.Values.{term_at};
 ghost use Rattle.wild_types.specs.Lookups.{place_of};
-ghost use Rattle.wild_slot.specs.Treatment.{suited};
+ghost use Rattle.wild_slot.specs.Treatment.{row_that_accepts};
 ghost use Rattle.wild_types.specs.declared.kind.Machine.TheVariants.{X86_64};
 ghost use Rattle.wild_slot.specs.SlotParts.{type_of};
-ghost use Rattle.wild_layout.specs.Decide.{field, reached, field_for, moved_to, left_to, sized_to, chosen_to, added, decided};
+ghost use Rattle.wild_layout.specs.Decide.{field, field_or_thunk, field_for, relative_decision, dynamic_decision, size_decision, ifunc_decision, addend_bits, decided};
 ghost use Rattle.wild_types.specs.Item.{item_now};
 
 use crate::indirect::{decided_address, index_of};
 use crate::resolve::{address_for, displacement, sum, symbol_size, term_at, value_in};
-use crate::thunk::reached;
+use crate::thunk::field_or_thunk;
 use crate::values::Resolved;
 use wild_layout::Decision;
 use wild_relax::Arch;
 use wild_reloc::{
     DynamicRelocationKind, RelocationKind, RelocationKindInfo, RelocationSize, Width,
 };
-use wild_slot::{Treatment, flags_at, is_replaceable, row_treatment, suited, type_of};
+use wild_slot::{Treatment, flags_at, is_replaceable, row_that_accepts, row_treatment, type_of};
 use wild_types::{Fault, InputRelocation, ItemRef, Layout, Machine, Missing, SymbolIndex};
 
 /// The field of an address in memory, 8 bytes.
@@ -56,48 +56,48 @@ fn field_for<A: Arch>(
     let place = relocation.place_from(item.address);
     let term = term_at(resolved, relocation, row, place)?;
     let value = value_in(resolved.layout, row, term, relocation.addend, place);
-    reached(resolved, item, relocation, row, value)
+    field_or_thunk(resolved, item, relocation, row, value)
 }
 
 /// An address that moves with the load bias: packed in `.relr.dyn`, or with a RELATIVE entry.
 #[inline]
-fn moved_to<A: Arch>(
+fn relative_decision<A: Arch>(
     resolved: &Resolved<A>,
     item: &ItemRef,
     relocation: &InputRelocation,
 ) -> Result<Decision, Fault>
-    ensures { result ≡ moved_to resolved.now.layout.now (item_now item.now) relocation.now (address_for resolved.now.layout.now relocation.now) }
+    ensures { result ≡ relative_decision resolved.now.layout.now (item_now item.now) relocation.now (address_for resolved.now.layout.now relocation.now) }
 {
     let address = address_for(resolved, relocation)?;
-    Ok(Decision::Moved {
+    Ok(Decision::RelativeAddress {
         value: sum(address, relocation.addend),
         packed: resolved.layout.packs(relocation.place_from(item.address)),
     })
 }
 
 /// The addend as a RELA entry has it, modulo 2^64.
-pub fn added(relocation: &InputRelocation) -> u64
-    ensures { result ≡ added relocation.now }
+pub fn addend_bits(relocation: &InputRelocation) -> u64
+    ensures { result ≡ addend_bits relocation.now }
 {
     relocation.addend.cast_unsigned()
 }
 
 /// The dynamic linker fills the field, by an entry of type `number` that names the symbol by its index in the dynamic symbol table.
-fn left_to(
+fn dynamic_decision(
     layout: &Layout,
     size: RelocationSize,
     number: u32,
     relocation: &InputRelocation,
     symbol: SymbolIndex,
 ) -> Result<Decision, Fault>
-    ensures { result ≡ left_to size number relocation.now symbol (index_of layout.now symbol) }
+    ensures { result ≡ dynamic_decision size number relocation.now symbol (index_of layout.now symbol) }
 {
     match index_of(layout, symbol) {
-        Some(index) => Ok(Decision::Left {
+        Some(index) => Ok(Decision::DynamicField {
             size,
             number,
             symbol: index,
-            addend: added(relocation),
+            addend: addend_bits(relocation),
         }),
         None => Err(Fault::MissingResolution {
             what: Missing::DynamicSymbol,
@@ -107,15 +107,15 @@ fn left_to(
 }
 
 /// The dynamic linker fills the field with the symbol's size. If the symbol is not interposable, its size is known and must fit.
-fn sized_to(
+fn size_decision(
     layout: &Layout,
     relocation: &InputRelocation,
     row: &RelocationKindInfo,
     symbol: SymbolIndex,
 ) -> Result<Decision, Fault>
-    ensures { result ≡ sized_to layout.now relocation.now row.now symbol (left_to row.now.size relocation.now.number relocation.now symbol (index_of layout.now symbol)) }
+    ensures { result ≡ size_decision layout.now relocation.now row.now symbol (dynamic_decision row.now.size relocation.now.number relocation.now symbol (index_of layout.now symbol)) }
 {
-    let left = left_to(layout, row.size, relocation.number, relocation, symbol)?;
+    let left = dynamic_decision(layout, row.size, relocation.number, relocation, symbol)?;
     let value = sum(symbol_size(layout, symbol), relocation.addend);
     if is_replaceable(layout.kind, flags_at(layout, symbol)) || row.allows(value) {
         Ok(left)
@@ -125,20 +125,20 @@ fn sized_to(
 }
 
 /// The dynamic linker fills the field by an IRELATIVE entry with the resolver's address. An addend other than 0 is refused.
-fn chosen_to(
+fn ifunc_decision(
     layout: &Layout,
     relocation: &InputRelocation,
     symbol: SymbolIndex,
 ) -> Result<Decision, Fault>
-    ensures { result ≡ chosen_to layout.now relocation.now (decided_address layout.now symbol) }
+    ensures { result ≡ ifunc_decision layout.now relocation.now (decided_address layout.now symbol) }
 {
     let resolver = decided_address(layout, symbol)?;
-    if added(relocation) != 0 {
+    if addend_bits(relocation) != 0 {
         return Err(Fault::IfuncAddend {
             addend: relocation.addend,
         });
     }
-    Ok(Decision::Left {
+    Ok(Decision::DynamicField {
         size: ADDRESS,
         number: type_of(layout.machine, DynamicRelocationKind::Irelative),
         symbol: 0,
@@ -148,7 +148,7 @@ fn chosen_to(
 
 /// The value S + A - P for a row of x86-64 without thunks.
 #[inline]
-#[tactic(auto, unfolding(wild_layout::specs::Decide::reached))]
+#[tactic(auto, unfolding(wild_layout::specs::Decide::field_or_thunk))]
 pub(crate) fn distance_for<A: Arch>(
     resolved: &Resolved<A>,
     item: &ItemRef,
@@ -197,7 +197,7 @@ pub(crate) fn decided<A: Arch>(
             distance_for(resolved, item, relocation, found)
         }
         _ => {
-            let row = suited(resolved.layout.machine, relocation, row);
+            let row = row_that_accepts(resolved.layout.machine, relocation, row);
             decided_by(resolved, item, relocation, row)
         }
     }
@@ -211,7 +211,7 @@ fn decided_by<A: Arch>(
     relocation: &InputRelocation,
     row: Option<RelocationKindInfo>,
 ) -> Result<Decision, Fault>
-    requires row { row ≡ suited resolved.now.layout.now.machine relocation.now (row_of resolved.now.layout.now.machine relocation.now.number) }
+    requires row { row ≡ row_that_accepts resolved.now.layout.now.machine relocation.now (row_of resolved.now.layout.now.machine relocation.now.number) }
     ensures { result ≡ decided resolved.now.layout.now (item_now item.now) relocation.now }
 {
     match row_treatment(
@@ -223,13 +223,13 @@ fn decided_by<A: Arch>(
     ) {
         Treatment::Nothing => Ok(Decision::Nothing),
         Treatment::Value(row) => field_for(resolved, item, relocation, &row),
-        Treatment::BaseRelative => moved_to(resolved, item, relocation),
+        Treatment::BaseRelative => relative_decision(resolved, item, relocation),
         Treatment::Symbolic(symbol) => {
             let number = type_of(resolved.layout.machine, DynamicRelocationKind::Absolute);
-            left_to(resolved.layout, ADDRESS, number, relocation, symbol)
+            dynamic_decision(resolved.layout, ADDRESS, number, relocation, symbol)
         }
-        Treatment::Indirect(symbol) => chosen_to(resolved.layout, relocation, symbol),
-        Treatment::Extent(row, symbol) => sized_to(resolved.layout, relocation, &row, symbol),
+        Treatment::Indirect(symbol) => ifunc_decision(resolved.layout, relocation, symbol),
+        Treatment::Extent(row, symbol) => size_decision(resolved.layout, relocation, &row, symbol),
         Treatment::Recompile => Err(Fault::RecompileWithPic {
             number: relocation.number,
         }),

@@ -1,16 +1,16 @@
 //! Computes the value that a relocation writes.
 ghost use Rattle.std.specs.Prelude.{◌≡◌};
-ghost use Rattle.wild_layout.specs.SymbolValues.{sum, displacement, less, storage_start, is_undefined, symbol_size, raw_address};
+ghost use Rattle.wild_layout.specs.SymbolValues.{sum, displacement, minus, storage_start, is_undefined, symbol_size, raw_address};
 ghost use Rattle.wild_layout.specs.SlotValues.{address_of};
-ghost use Rattle.wild_layout.specs.Values.{behind, pointer_offset, size_of, term_value, value_less, term_by, value_in, is_absent, is_place, is_symbol, is_own_place, undefined_weak_target, term_at};
+ghost use Rattle.wild_layout.specs.Values.{offset_from, pointer_offset, size_of, term_value, value_less, term_by, value_in, is_absent, is_place, is_symbol, is_own_place, undefined_weak_target, term_at};
 ghost use Rattle.wild_layout.specs.Merged.{merged_byte, address_for};
-ghost use Rattle.wild_layout.specs.Moved.{or_zero, moved_value};
+ghost use Rattle.wild_layout.specs.RelativeRelocations.{value_or_0, relative_value};
 
-use crate::indirect::{address_or, is_chosen, slot_address, stub_address};
+use crate::indirect::{resolved_address, slot_address, stub_address, symbol_is_ifunc};
 use crate::values::Resolved;
 use wild_relax::Arch;
 use wild_reloc::aarch64::is_branch;
-use wild_reloc::{RelocationKindInfo, Taken, Term};
+use wild_reloc::{RelocationKindInfo, Subtrahend, Term};
 use wild_slot::{flags_at, page_of, thread_pointer};
 use wild_types::{Fault, InputRelocation, Layout, Machine, Missing, Place, SymbolIndex};
 
@@ -24,7 +24,7 @@ pub fn raw_address<A: Arch>(
     ensures { result ≡ raw_address resolved.now.layout.now symbol }
 {
     match symbol {
-        Some(symbol) => address_or(Missing::Address, symbol, resolved.address(symbol)),
+        Some(symbol) => resolved_address(Missing::Address, symbol, resolved.address(symbol)),
         None => Ok(0),
     }
 }
@@ -38,7 +38,10 @@ pub(crate) fn address_of<A: Arch>(
     ensures { result ≡ address_of resolved.now.layout.now symbol }
 {
     match symbol {
-        Some(named) if is_chosen(resolved.layout, named) => stub_address(resolved.layout, symbol),
+        Some(named) if symbol_is_ifunc(resolved.layout, named) => stub_address(
+            resolved.layout,
+            symbol,
+        ),
         _ => raw_address(resolved, symbol),
     }
 }
@@ -70,7 +73,7 @@ fn address_among<A: Arch>(
     let byte = merged_byte(resolved.layout, symbol, relocation);
     match resolved.string_place(symbol, byte) {
         Some(place) => {
-            let place = address_or(Missing::Address, symbol, place)?;
+            let place = resolved_address(Missing::Address, symbol, place)?;
             Ok(place.wrapping_sub(relocation.addend.cast_unsigned()))
         }
         None => address_of(resolved, relocation.symbol),
@@ -103,8 +106,8 @@ pub fn sum(symbol: u64, addend: i64) -> u64
 
 /// The address, or 0 if there is none.
 #[inline]
-pub fn or_zero(address: Result<u64, Fault>) -> u64
-    ensures { result ≡ or_zero address }
+pub fn value_or_0(address: Result<u64, Fault>) -> u64
+    ensures { result ≡ value_or_0 address }
 {
     match address {
         Ok(address) => address,
@@ -114,11 +117,11 @@ pub fn or_zero(address: Result<u64, Fault>) -> u64
 
 /// S + A of a relocation whose address moves with the load bias; A if the symbol has no address.
 #[inline]
-pub fn moved_value<A: Arch>(resolved: &Resolved<A>, relocation: &InputRelocation) -> u64
-    ensures { result ≡ moved_value resolved.now.layout.now relocation.now }
+pub fn relative_value<A: Arch>(resolved: &Resolved<A>, relocation: &InputRelocation) -> u64
+    ensures { result ≡ relative_value resolved.now.layout.now relocation.now }
 {
     sum(
-        or_zero(address_for(resolved, relocation)),
+        value_or_0(address_for(resolved, relocation)),
         relocation.addend,
     )
 }
@@ -133,8 +136,8 @@ pub(crate) fn displacement(symbol: u64, addend: i64, place: u64) -> u64
 
 /// The difference of two addresses.
 #[inline]
-pub(crate) fn less(address: u64, start: u64) -> u64
-    ensures { result ≡ less address start }
+pub(crate) fn minus(address: u64, start: u64) -> u64
+    ensures { result ≡ minus address start }
 {
     address.wrapping_sub(start)
 }
@@ -182,11 +185,11 @@ fn size_of(layout: &Layout, symbol: Option<SymbolIndex>) -> u64
 
 /// The offset of an address from a start, or the fault that there is no address.
 #[inline]
-pub fn behind(start: u64, address: Result<u64, Fault>) -> Result<u64, Fault>
-    ensures { result ≡ behind start address }
+pub fn offset_from(start: u64, address: Result<u64, Fault>) -> Result<u64, Fault>
+    ensures { result ≡ offset_from start address }
 {
     match address {
-        Ok(address) => Ok(less(address, start)),
+        Ok(address) => Ok(minus(address, start)),
         Err(fault) => Err(fault),
     }
 }
@@ -205,7 +208,7 @@ pub fn pointer_offset<A: Arch>(
         return Ok(0);
     }
     let pointer = thread_pointer(resolved.layout.machine, resolved.layout.tls);
-    behind(pointer, raw_address(resolved, symbol))
+    offset_from(pointer, raw_address(resolved, symbol))
 }
 
 /// The term of a row's formula that A is added to: GOT, Z, S, L, G, or an offset. Fails if the symbol lacks it.
@@ -222,7 +225,7 @@ fn term_value<A: Arch>(
         Term::Size => Ok(size_of(resolved.layout, symbol)),
         Term::PointerOffset => pointer_offset(resolved, symbol),
         Term::ModuleOffset => {
-            behind(
+            offset_from(
                 storage_start(resolved.layout),
                 raw_address(resolved, symbol),
             )
@@ -250,15 +253,15 @@ fn term_by<A: Arch>(
 
 /// The term plus A, minus what the formula subtracts (P, GOT, or a page).
 #[inline]
-fn value_less(layout: &Layout, taken: Taken, term: u64, addend: i64, place: u64) -> u64
+fn value_less(layout: &Layout, taken: Subtrahend, term: u64, addend: i64, place: u64) -> u64
     ensures { result ≡ value_less layout.now taken term addend place }
 {
     match taken {
-        Taken::Nothing => sum(term, addend),
-        Taken::Place => displacement(term, addend, place),
-        Taken::Table => displacement(term, addend, layout.got_base),
-        Taken::PagePlace => less(page_of(sum(term, addend)), page_of(place)),
-        Taken::PageTable => displacement(term, addend, page_of(layout.got_base)),
+        Subtrahend::Nothing => sum(term, addend),
+        Subtrahend::Place => displacement(term, addend, place),
+        Subtrahend::Table => displacement(term, addend, layout.got_base),
+        Subtrahend::PagePlace => minus(page_of(sum(term, addend)), page_of(place)),
+        Subtrahend::PageTable => displacement(term, addend, page_of(layout.got_base)),
     }
 }
 
@@ -288,10 +291,10 @@ fn is_absent(layout: &Layout, symbol: Option<SymbolIndex>) -> bool
 }
 
 /// Whether the formula subtracts P, or its page.
-fn is_place(taken: Taken) -> bool
+fn is_place(taken: Subtrahend) -> bool
     ensures { result ≡ is_place taken }
 {
-    matches!(taken, Taken::Place | Taken::PagePlace)
+    matches!(taken, Subtrahend::Place | Subtrahend::PagePlace)
 }
 
 /// Whether A is added to S or L.

@@ -1,7 +1,7 @@
 //! Writes items: input bytes with their relocations applied.
 ghost use Rattle.std.specs.Prelude.{◌≡◌, [], length, Ok, None, OnOk, IfOk, IfErr, All, true, slice_get, ◌<◌, ◌^◌};
 ghost use Rattle.std.specs.List.{flat_map, range_with_len};
-ghost use Rattle.wild_words.specs.Overlay.{overlay, AreApart};
+ghost use Rattle.wild_words.specs.Overlay.{overlay, AreDisjoint};
 ghost use Rattle.wild_words.specs.Extents.{least_extent};
 ghost use Rattle.wild_types.specs.Faults.{Answers, Refuses};
 ghost use Rattle.wild_types.specs.Item.{item_now};
@@ -11,14 +11,14 @@ ghost use Rattle.wild_layout.specs.Image.{offset_in};
 ghost use Rattle.wild_layout.specs.Faults.{at_section, relocation_errors, overlap_errors, relocations_errors, item_errors};
 ghost use Rattle.wild_layout.specs.SectionPlaces.{FieldLies};
 ghost use Rattle.wild_sections.specs.Origins.{ending_errors};
-ghost use Rattle.wild_sections.specs.Decided.{AreDecided, DecisionsLie, IsNext, decided_sites, decided_extents};
+ghost use Rattle.wild_sections.specs.WrittenDecisions.{AreDecided, DecisionsLie, IsNext, decided_sites, decided_extents};
 
 use crate::choice::may_take_next;
-use crate::common::common_value;
-use crate::fields::{four_behind, write_behind, write_decision};
+use crate::decide::decide;
+use crate::fields::{write_ascending_decision, write_ascending_u32, write_decision};
 use crate::origin::{Origin, check_ending};
 use crate::overlap::shared_byte;
-use crate::rewritten::decide;
+use crate::pc32::pc32_value;
 use crate::values::Resolved;
 use std::alloc::Global;
 use wild_layout::Decision;
@@ -94,7 +94,7 @@ fn write_decisions(item: &ItemRef, decisions: &[Decision], room: &mut [u8])
     requires count { length decisions.now ≡ length item.now.relocations.now }
     requires bytes { room.old ≡ item.now.bytes.now }
     requires lie { DecisionsLie (length room.old) item.now.relocations.now decisions.now }
-    requires apart { AreApart (length room.old) (decided_sites (item_now item.now) item.now.relocations.now decisions.now) }
+    requires apart { AreDisjoint (length room.old) (decided_sites (item_now item.now) item.now.relocations.now decisions.now) }
     ensures { room.new ≡ overlay (decided_sites (item_now item.now) item.now.relocations.now decisions.now) room.old }
 {
     let relocations = item.relocations;
@@ -123,7 +123,7 @@ fn write_decided<A: Arch>(
     let decision = decide_at(resolved, origin, item, index)?;
     let relocations = item.relocations;
     let relocation = &relocations[index];
-    Ok(write_behind(reach, relocation, decision, room))
+    Ok(write_ascending_decision(reach, relocation, decision, room))
 }
 
 /// Writes the relocations of an item over its bytes, as long as the bytes of each begin at the end of the previous ones or after it.
@@ -149,10 +149,10 @@ fn write_ascending<A: Arch>(
     let mut partner = false;
     for index in 0..relocations.len() {
         let relocation = &relocations[index];
-        let end = match common_value(resolved, targets, item, index, relocation, partner) {
+        let end = match pc32_value(resolved, targets, item, index, relocation, partner) {
             Some(value) => {
                 partner = false;
-                four_behind(reach, relocation.offset, value, room)
+                write_ascending_u32(reach, relocation.offset, value, room)
             }
             None => {
                 partner = may_take_next(relocation.number);

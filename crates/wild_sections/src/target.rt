@@ -1,10 +1,10 @@
 //! A table of symbol addresses for the fast path of S + A - P, where the address depends on the symbol only.
 ghost use Rattle.std.specs.Prelude.{◌≡◌, ℕ, ◌<◌, length, Some, IfOk, slice_get};
-ghost use Rattle.wild_sections.specs.Owners.{asks_owners};
+ghost use Rattle.wild_sections.specs.DefiningFiles.{layout_needs_owner_files};
 ghost use Rattle.wild_sections.specs.Targets.{has_targets, may_be_merged, target_of, HasTargets, IsTarget};
 ghost use Rattle.wild_sections.specs.Values.{HasValues};
 
-use crate::indirect::is_chosen;
+use crate::indirect::symbol_is_ifunc;
 use crate::merged::is_section_symbol;
 use crate::values::Resolved;
 use std::alloc::{AllocError, Global};
@@ -19,24 +19,32 @@ fn has_targets(layout: &Layout) -> bool
 }
 
 /// Whether the symbol may be the section symbol of merged strings.
-fn may_be_merged(asks: bool, layout: &Layout, index: usize) -> bool
-    ensures { result ≡ may_be_merged asks (slice_get layout.now.symbols index) }
+fn may_be_merged(needs_owner_files: bool, layout: &Layout, index: usize) -> bool
+    ensures { result ≡ may_be_merged needs_owner_files (slice_get layout.now.symbols index) }
 {
-    asks && match layout.symbols.as_slice().get(index) {
-        Some(symbol) => is_section_symbol(symbol),
-        None => true,
-    }
+    needs_owner_files
+        && match layout.symbols.as_slice().get(index) {
+            Some(symbol) => is_section_symbol(symbol),
+            None => true,
+        }
 }
 
 /// The address of a symbol; None for an IFUNC, and for a symbol that may name merged strings.
 #[tactic(auto, using(crate::proofs::ValueLemmas::table_values))]
-fn target_of(layout: &Layout, values: &[Option<u64>], asks: bool, index: usize) -> Option<u64>
-    requires asks { asks ≡ asks_owners layout.now }
+fn target_of(
+    layout: &Layout,
+    values: &[Option<u64>],
+    needs_owner_files: bool,
+    index: usize,
+) -> Option<u64>
+    requires needs_owner_files { needs_owner_files ≡ layout_needs_owner_files layout.now }
     requires values { HasValues layout.now values.now }
     requires index { index < length values.now }
     ensures { result ≡ target_of layout.now index }
 {
-    if is_chosen(layout, SymbolIndex(index)) || may_be_merged(asks, layout, index) {
+    if symbol_is_ifunc(layout, SymbolIndex(index))
+        || may_be_merged(needs_owner_files, layout, index)
+    {
         None
     } else {
         values[index]
@@ -49,9 +57,9 @@ pub(crate) fn targets_of(
     alloc: Global,
     layout: &Layout,
     values: &[Option<u64>],
-    asks: bool,
+    needs_owner_files: bool,
 ) -> Result<Vec<Option<u64>>, AllocError>
-    requires asks { asks ≡ asks_owners layout.now }
+    requires needs_owner_files { needs_owner_files ≡ layout_needs_owner_files layout.now }
     requires values { HasValues layout.now values.now }
     ensures { IfOk result (λ v. HasTargets layout.now v.items) }
 {
@@ -61,7 +69,7 @@ pub(crate) fn targets_of(
     let count = values.len();
     let mut targets = Vec::with_capacity(alloc, count)?;
     for i in 0..count {
-        targets.push(target_of(layout, values, asks, i))?;
+        targets.push(target_of(layout, values, needs_owner_files, i))?;
     }
     Ok(targets)
 }

@@ -3,13 +3,13 @@
 ghost use Rattle.std.specs.Prelude.{◌≡◌, ◌<◌, ◌≤◌, All, length};
 ghost use Rattle.wild_types.specs.Item.{item_now};
 ghost use Rattle.wild_types.specs.Lookups.{place_of};
-ghost use Rattle.wild_layout.specs.SymbolValues.{less};
-ghost use Rattle.wild_layout.specs.Thunks.{Ascend, thunk_of, goes_by_definition, thunk_for};
-ghost use Rattle.wild_layout.specs.Decide.{carried, carried_by, reached};
+ghost use Rattle.wild_layout.specs.SymbolValues.{minus};
+ghost use Rattle.wild_layout.specs.Thunks.{Ascend, thunk_of, uses_definition, thunk_for};
+ghost use Rattle.wild_layout.specs.Decide.{thunk_field, field_by_thunk, field_or_thunk};
 
 use crate::indirect::resolution_of;
-use crate::relocation::{added, field};
-use crate::resolve::less;
+use crate::relocation::{addend_bits, field};
+use crate::resolve::minus;
 use crate::values::Resolved;
 use wild_layout::Decision;
 use wild_relax::Arch;
@@ -49,8 +49,8 @@ fn thunk_of(thunks: &[Thunk], symbol: SymbolIndex) -> Option<Thunk>
 }
 
 /// Whether references to a symbol use its definition's resolution.
-fn goes_by_definition(layout: &Layout, symbol: SymbolIndex) -> bool
-    ensures { result ≡ goes_by_definition layout.now symbol }
+fn uses_definition(layout: &Layout, symbol: SymbolIndex) -> bool
+    ensures { result ≡ uses_definition layout.now symbol }
 {
     layout.canonical(symbol) == symbol || resolution_of(layout, symbol).is_some()
 }
@@ -61,7 +61,7 @@ fn thunk_for(layout: &Layout, block: usize, symbol: Option<SymbolIndex>) -> Opti
     ensures { result ≡ thunk_for layout.now block symbol }
 {
     let symbol = symbol?;
-    if goes_by_definition(layout, symbol) {
+    if uses_definition(layout, symbol) {
         thunk_of(layout.block_of(block), layout.canonical(symbol))
     } else {
         None
@@ -69,17 +69,17 @@ fn thunk_for(layout: &Layout, block: usize, symbol: Option<SymbolIndex>) -> Opti
 }
 
 /// The distance to a thunk, in the field of a branch. An addend other than 0 is refused.
-fn carried(
+fn thunk_field(
     relocation: &InputRelocation,
     row: &RelocationKindInfo,
     distance: u64,
 ) -> Result<Decision, Fault>
-    ensures { result ≡ carried relocation.now row.now distance }
+    ensures { result ≡ thunk_field relocation.now row.now distance }
 {
     if !row.range.contains(distance) {
         return Err(Fault::ThunkOutOfRange { value: distance });
     }
-    if added(relocation) != 0 {
+    if addend_bits(relocation) != 0 {
         return Err(Fault::ThunkAddend {
             addend: relocation.addend,
         });
@@ -89,7 +89,7 @@ fn carried(
 
 /// The distance to the thunk of a branch whose target is out of range. Fails if there is no thunk.
 #[inline(never)]
-fn carried_by(
+fn field_by_thunk(
     layout: &Layout,
     item: &ItemRef,
     relocation: &InputRelocation,
@@ -97,12 +97,12 @@ fn carried_by(
     value: u64,
 ) -> Result<Decision, Fault>
     requires { All Ascend layout.now.thunk_blocks }
-    ensures { result ≡ carried_by relocation.now row.now (place_of item.now.address relocation.now) value (thunk_for layout.now item.now.thunk_block relocation.now.symbol) }
+    ensures { result ≡ field_by_thunk relocation.now row.now (place_of item.now.address relocation.now) value (thunk_for layout.now item.now.thunk_block relocation.now.symbol) }
 {
     match thunk_for(layout, item.thunk_block, relocation.symbol) {
         Some(thunk) => {
             let place = relocation.place_from(item.address);
-            carried(relocation, row, less(thunk.address, place))
+            thunk_field(relocation, row, minus(thunk.address, place))
         }
         None => Err(Fault::NoThunk { value }),
     }
@@ -110,18 +110,18 @@ fn carried_by(
 
 /// A value in the field of a row. A branch whose target is out of range uses a thunk.
 #[inline]
-#[tactic(auto, unfolding(wild_layout::specs::Decide::reached))]
-pub(crate) fn reached<A: Arch>(
+#[tactic(auto, unfolding(wild_layout::specs::Decide::field_or_thunk))]
+pub(crate) fn field_or_thunk<A: Arch>(
     resolved: &Resolved<A>,
     item: &ItemRef,
     relocation: &InputRelocation,
     row: &RelocationKindInfo,
     value: u64,
 ) -> Result<Decision, Fault>
-    ensures { result ≡ reached resolved.now.layout.now (item_now item.now) relocation.now row.now value }
+    ensures { result ≡ field_or_thunk resolved.now.layout.now (item_now item.now) relocation.now row.now value }
 {
     if row.thunkable && !row.range.contains(value) {
-        carried_by(resolved.layout, item, relocation, row, value)
+        field_by_thunk(resolved.layout, item, relocation, row, value)
     } else {
         field(row, value)
     }

@@ -3,11 +3,11 @@
 ghost use Rattle.std.specs.Prelude.{◌≡◌, ℕ, ◌<◌, true, false, List, [], length, map, Option, IfOk, IfSome, Some, None, replicate, slice_get, option_copied, option_map, option_and_then};
 ghost use Rattle.std.specs.List.{range_with_len};
 ghost use Rattle.wild_types.specs.Kinds.{needs_dynsym, is_partial_link};
-ghost use Rattle.wild_symbols.specs.SectionSymbols.{symbol_index};
+ghost use Rattle.wild_table_formats.specs.SectionSymbols.{symbol_index};
 ghost use Rattle.wild_types.specs.Lookups.{files_of, file_of};
-ghost use Rattle.wild_symbols.specs.DynamicFields.{named_sections};
-ghost use Rattle.wild_sections.specs.Placed.{address_in, decided};
-ghost use Rattle.wild_sections.specs.Homes.{home_of, HasHomes};
+ghost use Rattle.wild_table_formats.specs.DynamicFields.{named_sections};
+ghost use Rattle.wild_sections.specs.SymbolAddresses.{address_in, decided};
+ghost use Rattle.wild_sections.specs.SymbolFiles.{symbol_file_of, HasSymbolFiles};
 ghost use Rattle.wild_types.specs.Addresses.{raw_value};
 ghost use Rattle.wild_sections.specs.Values.{HasValues};
 ghost use Rattle.wild_sections.specs.Fits.{FieldsFit};
@@ -16,21 +16,21 @@ ghost use Rattle.wild_layout.specs.Merged.{is_plain_own, merged_strings, names_m
 ghost use Rattle.wild_types.specs.declared.input.MergedString.{MergedString};
 ghost use Rattle.wild_types.specs.declared.input.InputSection.{InputSection};
 ghost use Rattle.wild_sections.specs.Strings.{all_ascend, section_ascends};
-ghost use Rattle.wild_clauses.specs.Survey.{are_unmerged};
-ghost use Rattle.wild_sections.specs.Owners.{HasOwners, owner_among, asks_owners};
+ghost use Rattle.wild_plan_rules.specs.MergedSections.{are_unmerged};
+ghost use Rattle.wild_sections.specs.DefiningFiles.{HasDefiningFiles, defining_file_among, layout_needs_owner_files};
 ghost use Rattle.wild_sections.specs.Targets.{HasTargets};
 ghost use Rattle.wild_sections.specs.Indexes.{HasIndexes};
 
-use crate::home::Home;
+use crate::defining_file::{DefiningFile, file_at, find_defining_files};
+use crate::file_of_symbol::SymbolFile;
 use crate::merged::{IsUnmerged, StringsAscend, is_plain_own, merged_section, string_place};
-use crate::owner::{Owner, file_at, own_groups};
-use crate::placed::place_groups;
+use crate::per_symbol::place_groups;
 use crate::target::targets_of;
 use std::alloc::{AllocError, Global};
 use std::marker::PhantomData;
 use wild_relax::Arch;
 use wild_slot::flags_at;
-use wild_symbols::{NamedSections, build_sym_index_map};
+use wild_symbols::{NamedSections, build_sym_index_map, named_sections};
 use wild_types::{File, InputSection, Layout, Symbol, SymbolIndex, all_pass};
 
 /// The value in the resolution of the symbol's definition.
@@ -87,8 +87,8 @@ fn values_of(alloc: Global, layout: &Layout) -> Result<Vec<Option<u64>>, AllocEr
 }
 
 /// The files and sections of the symbols of an output with a dynamic symbol table; empty for other outputs.
-fn homes_of(alloc: Global, layout: &Layout) -> Result<Vec<Option<Home>>, AllocError>
-    ensures { IfOk result (λ v. HasHomes layout.now v.items) }
+fn symbol_files_of(alloc: Global, layout: &Layout) -> Result<Vec<Option<SymbolFile>>, AllocError>
+    ensures { IfOk result (λ v. HasSymbolFiles layout.now v.items) }
 {
     let count = if layout.kind.needs_dynsym() {
         layout.symbols.len()
@@ -117,22 +117,26 @@ fn all_ascend(layout: &Layout) -> bool
 }
 
 /// Whether relocations depend on the file that defines a symbol: if there are merged sections, and in a relocatable output.
-fn asks_owners(layout: &Layout) -> bool
-    ensures { result ≡ asks_owners layout.now }
+fn layout_needs_owner_files(layout: &Layout) -> bool
+    ensures { result ≡ layout_needs_owner_files layout.now }
 {
     layout.kind.is_partial_link() || !are_unmerged(layout)
 }
 
 /// The files of all symbols; empty if relocations do not depend on them.
-fn owners_of(alloc: Global, layout: &Layout, asks: bool) -> Result<Vec<Option<Owner>>, AllocError>
-    requires { asks ≡ asks_owners layout.now }
-    ensures { IfOk result (λ v. HasOwners layout.now v.items) }
+fn defining_files_of(
+    alloc: Global,
+    layout: &Layout,
+    needs_owner_files: bool,
+) -> Result<Vec<Option<DefiningFile>>, AllocError>
+    requires { needs_owner_files ≡ layout_needs_owner_files layout.now }
+    ensures { IfOk result (λ v. HasDefiningFiles layout.now v.items) }
 {
-    if !asks {
+    if !needs_owner_files {
         return Ok(Vec::new(alloc));
     }
     let mut owners = vec![in alloc; None; layout.symbols.len()]?;
-    own_groups(layout.groups.as_slice(), &mut owners);
+    find_defining_files(layout.groups.as_slice(), &mut owners);
     Ok(owners)
 }
 
@@ -155,8 +159,8 @@ pub struct Resolved<'a, A: Arch> {
     pub named: NamedSections,
     values: Vec<Option<u64>>,
     targets: Vec<Option<u64>>,
-    homes: Vec<Option<Home>>,
-    owners: Vec<Option<Owner>>,
+    homes: Vec<Option<SymbolFile>>,
+    owners: Vec<Option<DefiningFile>>,
     indexes: Vec<Option<usize>>,
     ascend: bool,
     arch: PhantomData<A>,
@@ -164,8 +168,8 @@ pub struct Resolved<'a, A: Arch> {
     ghost named_are: { named ≡ named_sections layout.now },
     ghost values_are: { HasValues layout.now values.items },
     ghost targets_are: { HasTargets layout.now targets.items },
-    ghost homes_are: { HasHomes layout.now homes.items },
-    ghost owners_are: { HasOwners layout.now owners.items },
+    ghost homes_are: { HasSymbolFiles layout.now homes.items },
+    ghost owners_are: { HasDefiningFiles layout.now owners.items },
     ghost indexes_are: { HasIndexes layout.now indexes.items },
     ghost ascend_is: { ascend ≡ true → all_ascend layout.now ≡ true },
     ghost fits: { FieldsFit layout.now },
@@ -178,30 +182,34 @@ impl<'a, A: Arch> Resolved<'a, A> {
         requires fits { FieldsFit layout.now }
         ensures { IfOk result (λ r. r.layout.now ≡ layout.now) }
     {
-        Self::asking(alloc, layout, asks_owners(layout))
+        Self::with_survey(alloc, layout, layout_needs_owner_files(layout))
     }
 
     /// The same; the caller knows whether relocations depend on the file that defines a symbol.
-    pub fn asking(alloc: Global, layout: &'a Layout, asks: bool) -> Result<Self, AllocError>
+    pub fn with_survey(
+        alloc: Global,
+        layout: &'a Layout,
+        needs_owner_files: bool,
+    ) -> Result<Self, AllocError>
         requires machine { layout.now.machine ≡ A.machine }
         requires fits { FieldsFit layout.now }
-        requires asks { asks ≡ asks_owners layout.now }
+        requires needs_owner_files { needs_owner_files ≡ layout_needs_owner_files layout.now }
         ensures { IfOk result (λ r. r.layout.now ≡ layout.now) }
     {
         let values = values_of(alloc, layout)?;
-        let targets = targets_of(alloc, layout, &values, asks)?;
-        let homes = homes_of(alloc, layout)?;
-        let owners = owners_of(alloc, layout, asks)?;
+        let targets = targets_of(alloc, layout, &values, needs_owner_files)?;
+        let homes = symbol_files_of(alloc, layout)?;
+        let owners = defining_files_of(alloc, layout, needs_owner_files)?;
         let indexes = indexes_of(alloc, layout)?;
         Ok(Resolved {
             layout,
-            named: NamedSections::of(layout),
+            named: named_sections(layout),
             values,
             targets,
             homes,
             owners,
             indexes,
-            ascend: asks && all_ascend(layout),
+            ascend: needs_owner_files && all_ascend(layout),
             arch: PhantomData,
         })
     }
@@ -229,7 +237,7 @@ impl<'a, A: Arch> Resolved<'a, A> {
 
     /// Whether relocations may name merged strings.
     #[inline]
-    #[tactic(auto, using(crate::proofs::OwnerLemmas::nothing_merged))]
+    #[tactic(auto, using(crate::proofs::DefiningFileLemmas::nothing_merged))]
     pub(crate) fn has_strings(&self) -> bool
         ensures { result ≡ false → (o : Option ℕ) → names_merged self.now.layout.now o ≡ false }
     {
@@ -237,7 +245,7 @@ impl<'a, A: Arch> Resolved<'a, A> {
     }
 
     /// The file of a symbol.
-    #[tactic(auto, using(crate::proofs::OwnerLemmas::owner_there, crate::proofs::OwnerLemmas::owner_missing))]
+    #[tactic(auto, using(crate::proofs::DefiningFileLemmas::owner_there, crate::proofs::DefiningFileLemmas::owner_missing))]
     pub(crate) fn file(&self, symbol: SymbolIndex) -> Option<&'a File>
         requires { symbol < length self.now.owners.items }
         ensures { option_copied result ≡ file_of (files_of self.now.layout.now.groups) symbol }
@@ -257,7 +265,7 @@ impl<'a, A: Arch> Resolved<'a, A> {
     }
 
     /// The merged section of which a symbol, which the output defines, is the section symbol.
-    #[tactic(auto, using(crate::proofs::OwnerLemmas::merged_is, crate::proofs::OwnerLemmas::merged_fileless))]
+    #[tactic(auto, using(crate::proofs::DefiningFileLemmas::merged_is, crate::proofs::DefiningFileLemmas::merged_fileless))]
     fn section_in(&self, index: SymbolIndex, symbol: &Symbol) -> Option<&'a InputSection>
         requires known { index < length self.now.owners.items }
         requires plain { is_plain_own (flags_at self.now.layout.now index) ≡ true }
@@ -271,7 +279,7 @@ impl<'a, A: Arch> Resolved<'a, A> {
     }
 
     /// The same for any symbol whose file is known.
-    #[tactic(auto, using(crate::proofs::OwnerLemmas::merged_plain, crate::proofs::OwnerLemmas::merged_missing))]
+    #[tactic(auto, using(crate::proofs::DefiningFileLemmas::merged_plain, crate::proofs::DefiningFileLemmas::merged_missing))]
     fn section_of(&self, symbol: SymbolIndex) -> Option<&'a InputSection>
         requires { symbol < length self.now.owners.items }
         ensures { option_map (λ (s : InputSection). s.strings) (option_copied result) ≡ merged_strings self.now.layout.now symbol }
@@ -286,7 +294,7 @@ impl<'a, A: Arch> Resolved<'a, A> {
     }
 
     /// The merged section of which a symbol is the section symbol.
-    #[tactic(auto, using(crate::proofs::OwnerLemmas::merged_past))]
+    #[tactic(auto, using(crate::proofs::DefiningFileLemmas::merged_past))]
     fn merged_section(&self, symbol: SymbolIndex) -> Option<&'a InputSection>
         ensures { option_map (λ (s : InputSection). s.strings) (option_copied result) ≡ merged_strings self.now.layout.now symbol }
     {
@@ -305,7 +313,7 @@ impl<'a, A: Arch> Resolved<'a, A> {
     }
 
     /// The address of a byte of the merged section whose section symbol this is; None if it is no such symbol.
-    #[tactic(auto, using(crate::proofs::OwnerLemmas::its_strings_ascend))]
+    #[tactic(auto, using(crate::proofs::DefiningFileLemmas::its_strings_ascend))]
     pub(crate) fn string_place(&self, symbol: SymbolIndex, byte: u64) -> Option<Option<u64>>
         ensures { result ≡ option_map (λ (ss : List MergedString). string_place ss byte) (merged_strings self.now.layout.now symbol) }
     {
@@ -316,15 +324,15 @@ impl<'a, A: Arch> Resolved<'a, A> {
     }
 
     /// The file role and output section of a symbol, in an output with a dynamic symbol table.
-    #[tactic(auto, using(crate::proofs::HomeLemmas::home_below, crate::proofs::HomeLemmas::home_there, crate::proofs::HomeLemmas::home_missing))]
-    pub fn home(&self, index: usize, symbol: &Symbol) -> Home
+    #[tactic(auto, using(crate::proofs::SymbolFileLemmas::home_below, crate::proofs::SymbolFileLemmas::home_there, crate::proofs::SymbolFileLemmas::home_missing))]
+    pub fn home(&self, index: usize, symbol: &Symbol) -> SymbolFile
         requires table { needs_dynsym self.now.layout.now.kind ≡ true }
         requires symbol { slice_get self.now.layout.now.symbols index ≡ Some symbol.now }
-        ensures { result ≡ home_of self.now.layout.now symbol.now.place (file_of (files_of self.now.layout.now.groups) index) }
+        ensures { result ≡ symbol_file_of self.now.layout.now symbol.now.place (file_of (files_of self.now.layout.now.groups) index) }
     {
         match self.homes[index] {
             Some(home) => home,
-            None => Home::without_file(symbol.place),
+            None => SymbolFile::without_file(symbol.place),
         }
     }
 }

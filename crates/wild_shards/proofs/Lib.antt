@@ -1,4 +1,4 @@
 pub mod CutLemmas
 pub mod PartLemmas
 pub mod TileLemmas
-pub mod GivenLemmas
+pub mod ByIndexLemmas

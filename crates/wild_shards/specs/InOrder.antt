@@ -2,7 +2,7 @@
 --   Rule                        the widths of fields, and the bytes that are written to them
 --   in_order rule base rs xs    the bytes xs, which begin at offset base, with the relocations applied one by one; or the first
 --                               fault
---   Came result ys outcome      a call returned this outcome, and left its bytes in ys if there is no fault
+--   ResultIs result ys outcome      a call returned this outcome, and left its bytes in ys if there is no fault
 --   FieldWithin rule a e r      the field of a relocation begins at or after a and ends at or before e
 --   Tiles rule ranges rs base end   the ranges are consecutive from base to end, each takes the next relocations, and each field of a
 --                               range is within its part of the output
@@ -34,27 +34,27 @@ abbrev pub KeepsLength : Rule → Type 0
 KeepsLength rule = (r : InputRelocation) (xs : List ℕ) → length xs ≡ width rule r → IfOk (rule.written r xs) (λ ys. length ys ≡ length xs)
 
 -- the next step on the value; a fault is passed on
-abbrev pub then_on : {A B : Type 0} → Result A Error → (A → Result B Error) → Result B Error
-then_on (Ok x) f = f x
-then_on (Err e) f = Err e
+abbrev pub then_apply : {A B : Type 0} → Result A Error → (A → Result B Error) → Result B Error
+then_apply (Ok x) f = f x
+then_apply (Err e) f = Err e
 
 -- the bytes of the field that begins at that index
 abbrev pub field_at : Rule → ℕ → InputRelocation → List ℕ → List ℕ
 field_at rule at r xs = slice_range xs at (at + width rule r)
 
 -- one relocation applied to bytes that begin at offset base
-abbrev pub step_on : Rule → ℕ → InputRelocation → List ℕ → Result (List ℕ) Error
-step_on rule base r xs = then_on (rule.written r (field_at rule (r.offset - base) r xs)) (λ ys. Ok (place (r.offset - base) ys xs))
+abbrev pub apply_step : Rule → ℕ → InputRelocation → List ℕ → Result (List ℕ) Error
+apply_step rule base r xs = then_apply (rule.written r (field_at rule (r.offset - base) r xs)) (λ ys. Ok (place (r.offset - base) ys xs))
 
 -- the relocations applied one by one, or the first fault
 abbrev pub in_order : Rule → ℕ → List InputRelocation → List ℕ → Result (List ℕ) Error
 in_order rule base [] xs = Ok xs
-in_order rule base (r ∷ rs) xs = then_on (step_on rule base r xs) (in_order rule base rs)
+in_order rule base (r ∷ rs) xs = then_apply (apply_step rule base r xs) (in_order rule base rs)
 
 -- a call returned this outcome, and left its bytes in ys if there is no fault
-abbrev pub Came : Result (Unit {0}) Error → List ℕ → Result (List ℕ) Error → Type 0
-Came (Ok _) ys outcome = outcome ≡ Ok ys
-Came (Err e) ys outcome = outcome ≡ Err e
+abbrev pub ResultIs : Result (Unit {0}) Error → List ℕ → Result (List ℕ) Error → Type 0
+ResultIs (Ok _) ys outcome = outcome ≡ Ok ys
+ResultIs (Err e) ys outcome = outcome ≡ Err e
 
 -- the combined result of two parts: the fault of the first, else the result of the second
 abbrev pub first_of : Result (Unit {0}) Error → Result (Unit {0}) Error → Result (Unit {0}) Error

@@ -1,3 +1,3 @@
 pub mod InOrder
 pub mod Ranges
-pub mod Given
+pub mod ByIndex

@@ -1,6 +1,6 @@
 //! Relocations applied in sequence.
 ghost use Rattle.std.specs.Prelude.{◌≡◌, ◌+◌, ◌≤◌, length, All, true};
-ghost use Rattle.wild_shards.specs.InOrder.{in_order, step_on, width, Came, FieldWithin, OthersStay};
+ghost use Rattle.wild_shards.specs.InOrder.{in_order, apply_step, width, ResultIs, FieldWithin, OthersStay};
 
 use crate::step::{Step, steps_stay_in_fields};
 use wild_types::{Error, InputRelocation};
@@ -13,7 +13,7 @@ fn apply<S: Step>(
     out: &mut [u8],
 ) -> Result<(), Error>
     requires { FieldWithin (S.rule step.now) base (base + length out.old) relocation.now }
-    ensures { Came result out.new (step_on (S.rule step.now) base relocation.now out.old) }
+    ensures { ResultIs result out.new (apply_step (S.rule step.now) base relocation.now out.old) }
 {
     steps_stay_in_fields(step);
     let at = (relocation.offset - base) as usize;
@@ -29,7 +29,7 @@ pub fn apply_in_order<S: Step>(
     out: &mut [u8],
 ) -> Result<(), Error>
     requires { All (FieldWithin (S.rule step.now) base (base + length out.old)) relocations.now }
-    ensures { Came result out.new (in_order (S.rule step.now) base relocations.now out.old) }
+    ensures { ResultIs result out.new (in_order (S.rule step.now) base relocations.now out.old) }
 {
     for relocation in relocations {
         apply(step, relocation, base, out)?;

@@ -6,7 +6,7 @@ use std::alloc::{AllocError, Global};
 use std::ops::Range;
 
 /// The greatest width of a relocation's field, in bytes.
-const WIDEST: u64 = 10;
+const MAX_FIELD_WIDTH: u64 = 10;
 
 /// The relocations of a shard, and its part of the output.
 #[derive(Debug, PartialEq, Eq, Drop)]
@@ -64,7 +64,8 @@ fn fits<S: Sizes>(sizes: &S, index: usize, offset: u64, limit: u64) -> bool
     ensures no { Fits limit offset (S.size sizes.now index) → result ≡ true }
 {
     match sizes.write_size_at(index) {
-        Some(size) => size as u64 <= WIDEST && offset as u128 + size as u128 <= limit as u128,
+        Some(size) => size as u64 <= MAX_FIELD_WIDTH
+            && offset as u128 + size as u128 <= limit as u128,
         None => false,
     }
 }
@@ -87,7 +88,7 @@ fn tail_fits<O: Offsets, S: Sizes>(
     let last = offsets.offset_at(end - 1);
     for index in (start..end).rev() {
         let offset = offsets.offset_at(index);
-        if offset as u128 + WIDEST as u128 <= last as u128 {
+        if offset as u128 + MAX_FIELD_WIDTH as u128 <= last as u128 {
             return true;
         }
         if !fits(sizes, index, offset, limit) {

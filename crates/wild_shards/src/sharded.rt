@@ -1,9 +1,9 @@
 //! Relocations applied in parallel shards.
 ghost use Rattle.std.specs.Prelude.{◌≡◌, ◌+◌, ◌≤◌, length, All, Some, IfOk, min, option_map, IfSome};
 ghost use Rattle.std.specs.Thread.{IsSync};
-ghost use Rattle.wild_shards.specs.Given.{offset_in, size_in};
+ghost use Rattle.wild_shards.specs.ByIndex.{offset_in, size_in};
 ghost use Rattle.wild_shards.specs.Ranges.{AreRanges};
-ghost use Rattle.wild_shards.specs.InOrder.{in_order, Came, FieldWithin, KeepsLength, Tiles, first_of};
+ghost use Rattle.wild_shards.specs.InOrder.{in_order, ResultIs, FieldWithin, KeepsLength, Tiles, first_of};
 
 use crate::in_order::apply_in_order;
 use crate::ranges::{
@@ -36,7 +36,7 @@ pub(crate) fn run_shards<R: Threads + Sync, S: Step + Sync>(
 ) -> Result<(), Error>
     requires keeps { KeepsLength (S.rule step.now) }
     requires tiles { Tiles (S.rule step.now) ranges.now relocations.now base (base + length out.old) }
-    ensures { Came result out.new (in_order (S.rule step.now) base relocations.now out.old) }
+    ensures { ResultIs result out.new (in_order (S.rule step.now) base relocations.now out.old) }
 {
     let Some((first, rest)) = ranges.split_first() else {
         return Ok(());
@@ -48,11 +48,11 @@ pub(crate) fn run_shards<R: Threads + Sync, S: Step + Sync>(
         rt,
         &mut || -> Result<(), Error>
             requires { All (FieldWithin (S.rule step.now) base (base + length front.now)) mine.now }
-            ensures { Came result front.exit.now (in_order (S.rule step.entry.now) base mine.entry.now front.entry.now) }
+            ensures { ResultIs result front.exit.now (in_order (S.rule step.entry.now) base mine.entry.now front.entry.now) }
         { apply_in_order(step, mine, base, front) },
         &mut || -> Result<(), Error>
             requires { IsSync R.row × IsSync S.row × KeepsLength (S.rule step.now) × Tiles (S.rule step.now) rest.now others.now middle (middle + length back.now) }
-            ensures { Came result back.exit.now (in_order (S.rule step.entry.now) middle others.entry.now back.entry.now) }
+            ensures { ResultIs result back.exit.now (in_order (S.rule step.entry.now) middle others.entry.now back.entry.now) }
         { run_shards(rt, step, rest, others, middle, back) },
     );
     first_of(one, two)
@@ -60,11 +60,11 @@ pub(crate) fn run_shards<R: Threads + Sync, S: Step + Sync>(
 
 /// The offsets of relocations in memory.
 #[derive(Drop)]
-struct InMemory<'a>(&'a [InputRelocation]);
+struct InMemoryOffsets<'a>(&'a [InputRelocation]);
 
-impl Offsets for InMemory<'_> {
+impl Offsets for InMemoryOffsets<'_> {
     ghost use Rattle.std.specs.Prelude.{length};
-    ghost use Rattle.wild_shards.specs.Given.{offset_in};
+    ghost use Rattle.wild_shards.specs.ByIndex.{offset_in};
 
     ghost count = { λ o. length o.0.now };
 
@@ -77,11 +77,11 @@ impl Offsets for InMemory<'_> {
 
 /// The sizes of the fields of relocations in memory.
 #[derive(Drop)]
-struct Told<'a, S>(&'a S, &'a [InputRelocation]);
+struct InMemorySizes<'a, S>(&'a S, &'a [InputRelocation]);
 
-impl<S: Step> Sizes for Told<'_, S> {
+impl<S: Step> Sizes for InMemorySizes<'_, S> {
     ghost use Rattle.std.specs.Prelude.{length};
-    ghost use Rattle.wild_shards.specs.Given.{size_in};
+    ghost use Rattle.wild_shards.specs.ByIndex.{size_in};
 
     ghost count = { λ t. length t.1.now };
 
@@ -105,8 +105,8 @@ pub fn ranges_of<S: Step>(
     ensures tiles { IfOk result (λ o. IfSome o (λ v. Tiles (S.rule step.now) v.items relocations.now 0 output)) }
 {
     steps_stay_in_fields(step);
-    let offsets = InMemory(relocations);
-    let sizes = Told(step, relocations);
+    let offsets = InMemoryOffsets(relocations);
+    let sizes = InMemorySizes(step, relocations);
     debug_relocation_shard_ranges_parallel(
         alloc,
         relocations.len(),
@@ -128,7 +128,7 @@ pub fn apply_sharded<R: Threads + Sync, S: Step + Sync>(
     out: &mut [u8],
 ) -> Result<Result<(), Error>, AllocError>
     requires lie { All (FieldWithin (S.rule step.now) 0 (length out.old)) relocations.now }
-    ensures { IfOk result (λ r. Came r out.new (in_order (S.rule step.now) 0 relocations.now out.old)) }
+    ensures { IfOk result (λ r. ResultIs r out.new (in_order (S.rule step.now) 0 relocations.now out.old)) }
 {
     let ranges = ranges_of(alloc, step, relocations, out.len(), shards)?;
     match ranges {
@@ -141,7 +141,7 @@ pub fn apply_sharded<R: Threads + Sync, S: Step + Sync>(
 }
 
 /// A section with fewer relocations is not split.
-const LEAST: usize = 65536;
+const MIN_RELOCATIONS_TO_SHARD: usize = 65536;
 
 /// Applies relocations with that number of workers. From 65,536 relocations on it uses shards: at most one per worker, and at most
 /// one for each 65,536 relocations or part of them.
@@ -154,11 +154,11 @@ pub fn apply_by_workers<R: Threads + Sync, S: Step + Sync>(
     out: &mut [u8],
 ) -> Result<Result<(), Error>, AllocError>
     requires lie { All (FieldWithin (S.rule step.now) 0 (length out.old)) relocations.now }
-    ensures { IfOk result (λ r. Came r out.new (in_order (S.rule step.now) 0 relocations.now out.old)) }
+    ensures { IfOk result (λ r. ResultIs r out.new (in_order (S.rule step.now) 0 relocations.now out.old)) }
 {
-    if relocations.len() < LEAST {
+    if relocations.len() < MIN_RELOCATIONS_TO_SHARD {
         return Ok(apply_in_order(step, relocations, 0, out));
     }
-    let shards = workers.min(relocations.len().div_ceil(LEAST));
+    let shards = workers.min(relocations.len().div_ceil(MIN_RELOCATIONS_TO_SHARD));
     apply_sharded(rt, alloc, step, relocations, shards, out)
 }

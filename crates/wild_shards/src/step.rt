@@ -1,6 +1,6 @@
 //! The effect of one relocation.
 ghost use Rattle.std.specs.Prelude.{◌≡◌, ◌≤◌, List, ℕ, length, IfOk};
-ghost use Rattle.wild_shards.specs.InOrder.{Rule, width, AreSmall, Came, KeepsLength};
+ghost use Rattle.wild_shards.specs.InOrder.{Rule, width, AreSmall, ResultIs, KeepsLength};
 
 use wild_types::{Error, InputRelocation};
 
@@ -18,7 +18,7 @@ pub trait Step {
     /// Writes the field, or returns the fault.
     fn write(&self, relocation: &InputRelocation, field: &mut [u8]) -> Result<(), Error>
         requires { length field.old ≡ width (rule self.now) relocation.now }
-        ensures { Came result field.new ((rule self.now).written relocation.now field.old) };
+        ensures { ResultIs result field.new ((rule self.now).written relocation.now field.old) };
 
     ghost small: { (s : Self) (r : InputRelocation) → width (rule s) r ≤ 10 };
 

@@ -21,7 +21,7 @@ use Rattle.wild_reloc.specs.declared.info.RelocationKind.TheVariants as kinds
 use Rattle.wild_reloc.specs.declared.info.RelocationKindInfo.{RelocationKindInfo}
 use Rattle.wild_slot.specs.declared.treatment.Treatment.{Treatment}
 use Rattle.wild_slot.specs.declared.treatment.Treatment.TheVariants as treatments
-use Rattle.wild_slot.specs.Treatment.{flags_at, is_left, is_barred, is_narrow, is_chosen, is_sized, moves, address_treatment, distance_treatment, pointer_treatment, size_treatment, named, where_there, class_treatment, row_treatment, suits, suited, treatment}
+use Rattle.wild_slot.specs.Treatment.{flags_at, needs_symbolic, is_barred, is_narrow, needs_irelative, is_sized, moves, address_treatment, distance_treatment, pointer_treatment, size_treatment, named, if_defined, class_treatment, row_treatment, row_accepts, row_that_accepts, treatment}
 
 -- ---- kinds by their class
 
@@ -72,8 +72,8 @@ pub record IsLeftBy (flags : ℕ) (symbol : Option ℕ) (row : RelocationKindInf
 
 -- one that is left to a resolver is not left to an index, and a resolver chooses the symbol
 pub record IsLeftToResolver (l : Layout) (flags : ℕ) (row : RelocationKindInfo) (i : ℕ) : Type 0 where
-  pub own : is_left l flags row i ≡ false
-  pub chosen : is_chosen l flags i ≡ true
+  pub own : needs_symbolic l flags row i ≡ false
+  pub chosen : needs_irelative l flags i ≡ true
 
 -- a size of symbol i that an entry fills stands in an allocated section
 pub record IsSizedBy (l : Layout) (flags : ℕ) (symbol : Option ℕ) (row : RelocationKindInfo) (i : ℕ) : Type 0 where
@@ -87,7 +87,7 @@ abbrev pub Says : Layout → ℕ → Option ℕ → RelocationKindInfo → Treat
 Says l flags symbol row treatments.Nothing = IsSilent row.kind
 Says l flags symbol row (treatments.Value r) = (row ≡ r) × HasValue row.kind
 Says l flags symbol row treatments.BaseRelative = IsMovedBy l flags symbol row
-Says l flags symbol row (treatments.Symbolic i) = IsLeftBy flags symbol row i × (is_left l flags row i ≡ true)
+Says l flags symbol row (treatments.Symbolic i) = IsLeftBy flags symbol row i × (needs_symbolic l flags row i ≡ true)
 Says l flags symbol row (treatments.Indirect i) = IsLeftBy flags symbol row i × IsLeftToResolver l flags row i
 Says l flags symbol row (treatments.Extent r i) = (row ≡ r) × IsSizedBy l flags symbol row i
 Says l flags symbol row other = ⊤
@@ -114,9 +114,9 @@ said_address l flags n row i k =
     let P = Says l flags (Some i) row in
     let value : HasValue row.kind = ap has_value k in
     of_if P (is_barred l flags n i || is_narrow l flags n) _ _ (λ e. tt) (λ e.
-    of_if P (is_left l flags row i) _ _
+    of_if P (needs_symbolic l flags row i) _ _
     (λ left. (let both = left_true (allocated flags) (writable flags) (field_width row == 8) (interposable (flags_at l i)) left in (record { kind = k; width = eqb-true (field_width row) 8 both.1; named = refl; room = both.0 }, left)))
-    (λ own. of_if P (is_chosen l flags i) _ _
+    (λ own. of_if P (needs_irelative l flags i) _ _
     (λ chosen. of_if P (field_width row == 8) _ _
     (λ w. (record { kind = k; width = eqb-true (field_width row) 8 w; named = refl; room = first_of_four (allocated flags) (writable flags) (is_position_independent l.kind) (has_flag (flags_at l i) ifunc) chosen }, record { own = own; chosen = chosen }))
     (λ w. tt))
@@ -139,7 +139,7 @@ said_named l flags row None by h = tt
 said_named l flags row (Some i) by h = h i
 
 -- of a symbol that is there; of another the value is written, which it has not
-said_there : (l : Layout) (flags : ℕ) (row : RelocationKindInfo) (i : ℕ) (t : Treatment) → HasValue row.kind → Says l flags (Some i) row t → Says l flags (Some i) row (where_there l row i t)
+said_there : (l : Layout) (flags : ℕ) (row : RelocationKindInfo) (i : ℕ) (t : Treatment) → HasValue row.kind → Says l flags (Some i) row t → Says l flags (Some i) row (if_defined l row i t)
 said_there l flags row i t v h = of_if (Says l flags (Some i) row) (nat_lt (canonical l i) (length l.symbols)) _ _ (λ there. h) (λ there. (refl, v))
 
 class_says : (l : Layout) (flags : ℕ) (n : ℕ) (symbol : Option ℕ) (row : RelocationKindInfo) (c : Class) → (expression_of row.kind).class ≡ c → Says l flags symbol row (class_treatment l flags n symbol row c)
@@ -147,10 +147,10 @@ class_says l flags n symbol row class.Nothing e = inl (nothing_kind row.kind e)
 class_says l flags n symbol row class.Mark e = said_named l flags row symbol (λ i. treatments.Nothing) (λ i. inr (mark_kind row.kind e))
 class_says l flags n symbol row class.Free e = (refl, ap classes.has_value e)
 class_says l flags n symbol row class.Plain e = said_named l flags row symbol (λ i. treatments.Value row) (λ i. (refl, ap classes.has_value e))
-class_says l flags n symbol row class.Address e = said_named l flags row symbol (λ i. where_there l row i (address_treatment l flags n row i)) (λ i. said_there l flags row i (address_treatment l flags n row i) (ap classes.has_value e) (said_address l flags n row i (address_kind row.kind e)))
+class_says l flags n symbol row class.Address e = said_named l flags row symbol (λ i. if_defined l row i (address_treatment l flags n row i)) (λ i. said_there l flags row i (address_treatment l flags n row i) (ap classes.has_value e) (said_address l flags n row i (address_kind row.kind e)))
 class_says l flags n symbol row class.Distance e = said_distance l flags n row symbol (ap classes.has_value e)
 class_says l flags n symbol row class.Pointer e = said_named l flags row symbol (λ i. pointer_treatment l flags row) (λ i. of_if (Says l flags (Some i) row) (allocated flags && is_shared_object l.kind) _ _ (λ p. tt) (λ p. (refl, ap classes.has_value e)))
-class_says l flags n symbol row class.Extent e = said_named l flags row symbol (λ i. where_there l row i (size_treatment l flags row i)) (λ i. said_there l flags row i (size_treatment l flags row i) (ap classes.has_value e) (said_size l flags row i (extent_kind row.kind e)))
+class_says l flags n symbol row class.Extent e = said_named l flags row symbol (λ i. if_defined l row i (size_treatment l flags row i)) (λ i. said_there l flags row i (size_treatment l flags row i) (ap classes.has_value e) (said_size l flags row i (extent_kind row.kind e)))
 class_says l flags n symbol row class.Part e = said_named l flags row symbol (λ i. distance_treatment l flags n row (Some i)) (λ i. said_distance l flags n row (Some i) (ap classes.has_value e))
 
 -- ---- by row
@@ -160,11 +160,11 @@ unfolding row_treatment
 row_said l flags n symbol row = class_says l flags n symbol row (expression_of row.kind).class refl
 
 -- a row that takes the relocation is its type's
-pub suited_is : (m : Machine) (r : InputRelocation) (o : Option RelocationKindInfo) (row : RelocationKindInfo) → suited m r o ≡ Some row → o ≡ Some row
+pub suited_is : (m : Machine) (r : InputRelocation) (o : Option RelocationKindInfo) (row : RelocationKindInfo) → row_that_accepts m r o ≡ Some row → o ≡ Some row
 suited_is m r None row h = cc
-suited_is m r (Some k) row h = of_if (λ (x : Option RelocationKindInfo). x ≡ Some row → Some k ≡ Some row) (suits m r k) (Some k) None (λ t e. e) (λ f e. cc) h
+suited_is m r (Some k) row h = of_if (λ (x : Option RelocationKindInfo). x ≡ Some row → Some k ≡ Some row) (row_accepts m r k) (Some k) None (λ t e. e) (λ f e. cc) h
 
-pub suited_x86_64 : (m : Machine) (r : InputRelocation) (o : Option RelocationKindInfo) → m ≡ machine.X86_64 → suited m r o ≡ o
+pub suited_x86_64 : (m : Machine) (r : InputRelocation) (o : Option RelocationKindInfo) → m ≡ machine.X86_64 → row_that_accepts m r o ≡ o
 suited_x86_64 machine.AArch64 r o h = cc
 suited_x86_64 machine.X86_64 r None h = refl
 suited_x86_64 machine.X86_64 r (Some row) h = refl
@@ -174,8 +174,8 @@ pub treated_says : (l : Layout) (flags : ℕ) (r : InputRelocation) (row : Reloc
 unfolding treatment row_treatment
 treated_says l flags r row t known is =
     let P : Option RelocationKindInfo → Type 0 = λ (o : Option RelocationKindInfo). Says l flags r.symbol row (row_treatment l flags r.number r.symbol o) in
-    let both = of_if P (suits l.machine r row) (Some row) None (λ e. row_said l flags r.number r.symbol row) (λ e. tt) in
-    subst (Says l flags r.symbol row) is (subst (λ (o : Option RelocationKindInfo). P (suited l.machine r o)) (sym known) both)
+    let both = of_if P (row_accepts l.machine r row) (Some row) None (λ e. row_said l flags r.number r.symbol row) (λ e. tt) in
+    subst (Says l flags r.symbol row) is (subst (λ (o : Option RelocationKindInfo). P (row_that_accepts l.machine r o)) (sym known) both)
 
 -- a row whose treatment is t, and what that says
 pub record HasRow (l : Layout) (flags : ℕ) (symbol : Option ℕ) (o : Option RelocationKindInfo) (t : Treatment) : Type 0 where
@@ -197,7 +197,7 @@ row_says l flags n symbol (Some row) t some h = record { row = row; known = refl
 treated_row : (l : Layout) (flags : ℕ) (r : InputRelocation) (t : Treatment) → Speaks t → treatment l flags r ≡ t → HasRow l flags r.symbol (row_of l.machine r.number) t
 unfolding treatment
 treated_row l flags r t some h =
-    let k = row_says l flags r.number r.symbol (suited l.machine r (row_of l.machine r.number)) t some h in
+    let k = row_says l flags r.number r.symbol (row_that_accepts l.machine r (row_of l.machine r.number)) t some h in
     record { row = k.row; known = suited_is l.machine r (row_of l.machine r.number) k.row k.known; says = k.says }
 
 pub known_value : (l : Layout) (flags : ℕ) (r : InputRelocation) (row : RelocationKindInfo) → treatment l flags r ≡ treatments.Value row → (row_of l.machine r.number ≡ Some row) × HasValue row.kind

@@ -1,7 +1,7 @@
 -- The stubs of each machine.
 --   stub_of m bti slot stub   the stub at address stub for the slot at address slot; with bti it begins with a landing pad
 --   stub_in l slot stub       the stub for the machine and options of a layout
---   far_of l r                the distance of a resolution's stub from its slot if that is too large
+--   distance_if_too_far l r                the distance of a resolution's stub from its slot if that is too large
 use Rattle.std.specs.Prelude.{ℕ, Bool, if◌then◌else◌, Option, Some, None}
 use Rattle.wild_types.specs.declared.kind.Machine.{Machine}
 use Rattle.wild_types.specs.declared.kind.Machine.TheVariants as machine
@@ -27,5 +27,5 @@ far_between l (Some slot) (Some stub) = too_far (stub_in l slot stub)
 far_between l slot stub = None
 
 -- the same for the stub of a resolution, which jumps to its first slot
-abbrev pub far_of : Layout → Resolution → Option ℕ
-far_of l r = far_between l r.got_address r.plt_address
+abbrev pub distance_if_too_far : Layout → Resolution → Option ℕ
+distance_if_too_far l r = far_between l r.got_address r.plt_address

@@ -1,8 +1,8 @@
 -- What slots contribute to the parts of an image, one list a part. A word is 8 bytes after the one before it.
 --   slot_words t relr at ws     the words of `got` or `got_relr`
 --   slot_entries t m relr at ws the entries of `rela_plt`, `rela_dyn_relative` or `rela_dyn_general`, each with its word's place
---   flat_places relr at ws      the places that have a RELR word of their own
---   begins_block ws    the first word belongs to the group's run of words that are packed together
+--   relr_slot_places relr at ws      the places that have a RELR word of their own
+--   begins_relr_got ws    the first word belongs to the group's run of words that are packed together
 use Rattle.std.specs.Prelude.{ℕ, ◌+◌, ◌%◌, ◌^◌, ◌==◌, ◌&&◌, Bool, if◌then◌else◌, List, [], ◌∷◌, ◌++◌, Option, Some, None, option_to_list, true, false}
 use Rattle.std.specs.Int.{cast_signed, w64}
 use Rattle.wild_records.specs.declared.relocations.Rela.{Rela}
@@ -13,7 +13,7 @@ use Rattle.wild_types.specs.declared.kind.Machine.{Machine}
 use Rattle.wild_types.specs.declared.kind.Machine.TheVariants as machine
 use Rattle.wild_slot.specs.declared.slot.SlotEntry.{SlotEntry}
 use Rattle.wild_slot.specs.declared.slot.SlotWord.{SlotWord}
-use Rattle.wild_slot.specs.declared.slot.SlotWord.TheVariants.{Number, Address, InBlock, General, Plt}
+use Rattle.wild_slot.specs.declared.slot.SlotWord.TheVariants.{Number, Address, InRelrGot, General, Plt}
 use Rattle.wild_slot.specs.declared.slot_parts.WordPart.{WordPart}
 use Rattle.wild_slot.specs.declared.slot_parts.WordPart.TheVariants as words
 use Rattle.wild_slot.specs.declared.slot_parts.EntryPart.{EntryPart}
@@ -38,11 +38,11 @@ is_packed relr at = relr && at % 2 == 0
 abbrev pub word_of : WordPart → Bool → ℕ → SlotWord → Option ℕ
 word_of words.Got relr at (Number n) = Some n
 word_of words.Got relr at (Address a) = Some (if is_packed relr at then a else 0)
-word_of words.Got relr at (InBlock a) = None
+word_of words.Got relr at (InRelrGot a) = None
 word_of words.Got relr at (General e) = Some 0
 word_of words.Got relr at (Plt e) = Some 0
-word_of words.Block relr at (InBlock a) = Some a
-word_of words.Block relr at other = None
+word_of words.RelrGot relr at (InRelrGot a) = Some a
+word_of words.RelrGot relr at other = None
 
 abbrev pub slot_words : WordPart → Bool → ℕ → List SlotWord → List ℕ
 slot_words part relr at ws = at_places (word_of part relr) at ws
@@ -73,14 +73,14 @@ slot_entries part m relr at ws = at_places (entry_of part m relr) at ws
 
 -- ---- packed places
 
-abbrev pub flat_place : Bool → ℕ → SlotWord → Option ℕ
-flat_place relr at (Address a) = if is_packed relr at then Some at else None
-flat_place relr at other = None
+abbrev pub relr_slot_place : Bool → ℕ → SlotWord → Option ℕ
+relr_slot_place relr at (Address a) = if is_packed relr at then Some at else None
+relr_slot_place relr at other = None
 
-abbrev pub flat_places : Bool → ℕ → List SlotWord → List ℕ
-flat_places relr at ws = at_places (flat_place relr) at ws
+abbrev pub relr_slot_places : Bool → ℕ → List SlotWord → List ℕ
+relr_slot_places relr at ws = at_places (relr_slot_place relr) at ws
 
 -- the first word belongs to the group's run of words that are packed together
-abbrev pub begins_block : List SlotWord → Bool
-begins_block (InBlock a ∷ ws) = true
-begins_block other = false
+abbrev pub begins_relr_got : List SlotWord → Bool
+begins_relr_got (InRelrGot a ∷ ws) = true
+begins_relr_got other = false

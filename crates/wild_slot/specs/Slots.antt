@@ -16,13 +16,13 @@ use Rattle.wild_types.specs.Flags.{has_flag, interposable, has_link_time_address
 use Rattle.wild_types.specs.Kinds.{is_executable, is_static_executable, is_shared_object, is_position_independent}
 use Rattle.wild_slot.specs.declared.slot.Setting.{Setting}
 use Rattle.wild_slot.specs.declared.slot.SlotWord.{SlotWord}
-use Rattle.wild_slot.specs.declared.slot.SlotWord.TheVariants.{Number, Address, InBlock, General, Plt}
+use Rattle.wild_slot.specs.declared.slot.SlotWord.TheVariants.{Number, Address, InRelrGot, General, Plt}
 use Rattle.wild_slot.specs.declared.slot.SlotFault.{SlotFault}
 use Rattle.wild_slot.specs.declared.slot.SlotFault.TheVariants.{NoDynamicSymbol, NoStub, PltTooFar, TlsOutOfSegment, StaticTlsDesc}
 use Rattle.wild_slot.specs.declared.slot.SlotItem.{SlotItem}
 use Rattle.wild_slot.specs.declared.slot.SlotItem.TheVariants.{Word, Stub, Fault}
 use Rattle.wild_types.specs.SymbolSlots.{has_dynamic_symbol, has_thread_slot}
-use Rattle.wild_slot.specs.Storage.{less, thread_pointer, is_outside}
+use Rattle.wild_slot.specs.Storage.{minus, thread_pointer, is_outside}
 
 -- the properties of a layout on which the contents of slots depend
 abbrev pub setting_of : Layout → Setting
@@ -66,8 +66,8 @@ offset_item s r =
     if has_dynamic_symbol r.flags then named r.dynamic_symbol_index (λ d. general TpOff d 0)
     else if r.raw_value == 0 then number 0
     else if is_outside s.tls r.raw_value then Fault (TlsOutOfSegment r.raw_value)
-    else if is_executable s.kind then number (less r.raw_value s.thread_pointer)
-    else general TpOff 0 (less r.raw_value s.tls.start)
+    else if is_executable s.kind then number (minus r.raw_value s.thread_pointer)
+    else general TpOff 0 (minus r.raw_value s.tls.start)
 
 -- the module: an executable is module 1 (section 4.1, General Dynamic)
 abbrev pub module_item : Setting → Resolution → SlotItem
@@ -78,7 +78,7 @@ module_item s r =
 
 abbrev pub module_offset : Setting → ℕ → Option ℕ → SlotItem
 module_offset s raw (Some d) = general DtpOff d 0
-module_offset s raw None = number (less raw s.tls.start)
+module_offset s raw None = number (minus raw s.tls.start)
 
 -- the offset in the module's thread-local data
 abbrev pub module_offset_item : Setting → Resolution → SlotItem
@@ -90,24 +90,24 @@ described s f raw None =
     if is_replaceable s.kind f then Fault NoDynamicSymbol
     else if is_outside s.tls raw then Fault (TlsOutOfSegment raw)
     else if is_static_executable s.kind then Fault StaticTlsDesc
-    else general TlsDesc 0 (less raw s.tls.start)
+    else general TlsDesc 0 (minus raw s.tls.start)
 
 -- the TLS descriptor, whose two words one entry fills
 abbrev pub descriptor_item : Setting → Resolution → SlotItem
 descriptor_item s r = described s r.flags r.raw_value r.dynamic_symbol_index
 
-abbrev pub where_so : Bool → List SlotItem → List SlotItem
-where_so true xs = xs
-where_so false xs = []
+abbrev pub items_if : Bool → List SlotItem → List SlotItem
+items_if true xs = xs
+items_if false xs = []
 
 abbrev pub offset_items : Setting → Resolution → List SlotItem
-offset_items s r = where_so (has_flag r.flags got_tls_offset) (offset_item s r ∷ [])
+offset_items s r = items_if (has_flag r.flags got_tls_offset) (offset_item s r ∷ [])
 
 abbrev pub module_items : Setting → Resolution → List SlotItem
-module_items s r = where_so (has_flag r.flags got_tls_module) (module_item s r ∷ module_offset_item s r ∷ [])
+module_items s r = items_if (has_flag r.flags got_tls_module) (module_item s r ∷ module_offset_item s r ∷ [])
 
 abbrev pub descriptor_items : Setting → Resolution → List SlotItem
-descriptor_items s r = where_so (has_flag r.flags got_tls_descriptor) (descriptor_item s r ∷ number 0 ∷ [])
+descriptor_items s r = items_if (has_flag r.flags got_tls_descriptor) (descriptor_item s r ∷ number 0 ∷ [])
 
 -- ---- the slot for an address, and the stub that jumps to it
 
@@ -122,7 +122,7 @@ plain_item s r =
     if has_flag r.flags canonical_plt then named r.dynamic_symbol_index (λ d. plt JumpSlot d 0)
     else if has_dynamic_symbol r.flags then named r.dynamic_symbol_index (λ d. general GotEntry d 0)
     else if has_flag r.flags ifunc then plt Irelative 0 r.raw_value
-    else if is_position_independent s.kind && has_link_time_address r.flags then Word (if s.relr then InBlock r.raw_value else Address r.raw_value)
+    else if is_position_independent s.kind && has_link_time_address r.flags then Word (if s.relr then InRelrGot r.raw_value else Address r.raw_value)
     else number r.raw_value
 
 abbrev pub stub_item : Option ℕ → SlotItem
@@ -139,11 +139,11 @@ stub_address s (Some stub) = if is_position_independent s.kind then Word (Addres
 
 -- a second word, for references to the address of an IFUNC: it is the stub's, so that all references agree
 abbrev pub ifunc_address_items : Setting → Resolution → List SlotItem
-ifunc_address_items s r = where_so (has_flag r.flags ifunc_got_for_address) (stub_address s r.plt_address ∷ [])
+ifunc_address_items s r = items_if (has_flag r.flags ifunc_got_for_address) (stub_address s r.plt_address ∷ [])
 
 -- a second word, for references to the address of a function with a canonical stub: the loader looks it up
 abbrev pub canonical_address_items : Setting → Resolution → List SlotItem
-canonical_address_items s r = where_so (has_flag r.flags canonical_plt_got_for_address) (named r.dynamic_symbol_index (λ d. general GotEntry d 0) ∷ [])
+canonical_address_items s r = items_if (has_flag r.flags canonical_plt_got_for_address) (named r.dynamic_symbol_index (λ d. general GotEntry d 0) ∷ [])
 
 -- ---- the slots of a symbol
 
@@ -197,5 +197,5 @@ slot s far r = with_items no_slot (slot_items s far r)
 -- rewritten to count from the thread pointer (section 5.5, Local Dynamic to Local Exec)
 abbrev pub storage_pair : Setting → List SlotWord
 storage_pair s =
-    if is_executable s.kind then Number 1 ∷ Number (less s.thread_pointer s.tls.start) ∷ []
+    if is_executable s.kind then Number 1 ∷ Number (minus s.thread_pointer s.tls.start) ∷ []
     else General (record { kind = DtpMod; symbol = 0; addend = 0 }) ∷ Number 0 ∷ []

@@ -5,7 +5,7 @@
 use Rattle.std.specs.Prelude.{ℕ, ◌+◌, ◌-◌, ◌*◌, ◌/◌, ◌%◌, ◌^◌, Bool, ◌&&◌, nat_le, nat_lt, if◌then◌else◌, List, [], ◌∷◌, ◌++◌}
 use Rattle.std.specs.List.{flat_map}
 use Rattle.wild_words.specs.Words.{word}
-use Rattle.wild_reloc.specs.Immediate.{inserted}
+use Rattle.wild_reloc.specs.Immediate.{word_with_immediate}
 use Rattle.wild_reloc.specs.declared.instruction.AArch64Instruction.TheVariants.{Adr, Imm12}
 use Rattle.wild_slot.specs.Stub.{Stub}
 
@@ -23,7 +23,7 @@ distance_from p s = (s + (2 ^ 64 - p)) % 2 ^ 64
 
 -- `adrp x16; ldr x17, [x16]; br x17`, for a slot k bytes after the start of the page of `adrp`
 abbrev pub jump_to_slot : ℕ → List ℕ
-jump_to_slot k = inserted Adr (k / 4096) 0x90000010 ∷ inserted Imm12 (k % 4096 / 8) 0xf9400211 ∷ 0xd61f0220 ∷ []
+jump_to_slot k = word_with_immediate Adr (k / 4096) 0x90000010 ∷ word_with_immediate Imm12 (k % 4096 / 8) 0xf9400211 ∷ 0xd61f0220 ∷ []
 
 -- followed by `nop`, or after `bti c`
 abbrev pub stub_words : Bool → ℕ → List ℕ

@@ -1,6 +1,6 @@
 //! The contents of a symbol's GOT slots, by cases over its flags.
 ghost use Rattle.std.specs.Prelude.{◌≡◌, ◌+◌, ◌<◌, ◌≤◌, length};
-ghost use Rattle.wild_slot.specs.Storage.{less, rounded_up, thread_pointer, is_outside};
+ghost use Rattle.wild_slot.specs.Storage.{minus, rounded_up, thread_pointer, is_outside};
 ghost use Rattle.wild_slot.specs.Slots.{setting_of, is_replaceable, number, general, plt, named, offset_item, module_item, module_offset_item, descriptor_item, offset_items, module_items, descriptor_items, plain_item, stub_item, stub_items, stub_address, ifunc_address_items, canonical_address_items, thread_items, address_items, with_items, slot, storage_pair};
 
 use crate::slot::{Setting, SlotEntry, SlotFault, SlotItem, SlotWord};
@@ -11,8 +11,8 @@ use wild_types::{
 };
 
 /// The difference of two addresses, modulo 2^64.
-fn less(address: u64, start: u64) -> u64
-    ensures { result ≡ less address start }
+fn minus(address: u64, start: u64) -> u64
+    ensures { result ≡ minus address start }
 {
     address.wrapping_sub(start)
 }
@@ -35,7 +35,7 @@ pub fn thread_pointer(machine: Machine, tls: Tls) -> u64
 {
     match machine {
         Machine::X86_64 => rounded_up(tls.end, tls.align),
-        Machine::AArch64 => less(tls.start, rounded_up(16, tls.align)),
+        Machine::AArch64 => minus(tls.start, rounded_up(16, tls.align)),
     }
 }
 
@@ -122,12 +122,12 @@ fn offset_item(setting: &Setting, resolution: &Resolution) -> SlotItem
     } else if is_outside(setting.tls, value) {
         SlotItem::Fault(SlotFault::TlsOutOfSegment { value })
     } else if setting.kind.is_executable() {
-        number(less(value, setting.thread_pointer))
+        number(minus(value, setting.thread_pointer))
     } else {
         general(
             DynamicRelocationKind::TpOff,
             0,
-            less(value, setting.tls.start),
+            minus(value, setting.tls.start),
         )
     }
 }
@@ -156,7 +156,7 @@ fn module_offset_item(setting: &Setting, resolution: &Resolution) -> SlotItem
         Some(symbol) if resolution.flags.is_interposable() => {
             general(DynamicRelocationKind::DtpOff, symbol, 0)
         }
-        _ => number(less(resolution.raw_value, setting.tls.start)),
+        _ => number(minus(resolution.raw_value, setting.tls.start)),
     }
 }
 
@@ -174,7 +174,7 @@ fn descriptor_item(setting: &Setting, resolution: &Resolution) -> SlotItem
             if is_outside(setting.tls, value) {
                 return SlotItem::Fault(SlotFault::TlsOutOfSegment { value });
             }
-            (0, less(value, setting.tls.start))
+            (0, minus(value, setting.tls.start))
         }
     };
     if setting.kind.is_static_executable() {
@@ -203,7 +203,7 @@ fn plain_item(setting: &Setting, resolution: &Resolution) -> SlotItem
         plt(DynamicRelocationKind::Irelative, 0, value)
     } else if setting.kind.is_position_independent() && flags.has_link_time_address() {
         SlotItem::Word(if setting.relr {
-            SlotWord::InBlock(value)
+            SlotWord::InRelrGot(value)
         } else {
             SlotWord::Address(value)
         })
@@ -346,7 +346,7 @@ pub fn storage_pair(setting: &Setting) -> [SlotWord; 2]
     ensures { result ≡ storage_pair setting.now }
 {
     if setting.kind.is_executable() {
-        let offset = less(setting.thread_pointer, setting.tls.start);
+        let offset = minus(setting.thread_pointer, setting.tls.start);
         [SlotWord::Number(1), SlotWord::Number(offset)]
     } else {
         let module = SlotEntry {

@@ -39,14 +39,14 @@ pub enum SlotWord {
     /// the file has 0.
     Address(u64),
     /// An address to which the loader adds the load bias, in the group's run of consecutive words that are packed as RELR together.
-    InBlock(u64),
+    InRelrGot(u64),
     /// 0 in the file; an entry of `rela_dyn_general` fills it.
     General(SlotEntry),
     /// 0 in the file; an entry of `rela_plt` fills it.
     Plt(SlotEntry),
 }
 
-/// Why a slot cannot be written.
+/// FrameFault a slot cannot be written.
 #[derive(Clone, Copy, Debug, PartialEq, Eq)]
 pub enum SlotFault {
     /// The symbol needs an index in the dynamic symbol table and has none.

@@ -1,6 +1,6 @@
 //! What slots contribute to the parts of an image: GOT words, dynamic relocations and RELR words.
 ghost use Rattle.std.specs.Prelude.{◌≡◌, ◌%◌, ◌≤◌, true, length, IfSome};
-ghost use Rattle.wild_slot.specs.SlotParts.{begins_block, next, is_packed, word_of, slot_words, type_of, entry_at, address_entry, entry_of, slot_entries, flat_place, flat_places};
+ghost use Rattle.wild_slot.specs.SlotParts.{begins_relr_got, next, is_packed, word_of, slot_words, type_of, entry_at, address_entry, entry_of, slot_entries, relr_slot_place, relr_slot_places};
 
 use crate::slot::{SlotEntry, SlotWord};
 use wild_records::Rela;
@@ -13,7 +13,7 @@ pub enum WordPart {
     /// `got`.
     Got,
     /// `got_relr`.
-    Block,
+    RelrGot,
 }
 
 /// A part that contains the dynamic relocations of slots.
@@ -88,7 +88,7 @@ pub fn word_of(part: WordPart, relr: bool, place: u64, word: SlotWord) -> Option
             0
         }),
         (WordPart::Got, SlotWord::General(_) | SlotWord::Plt(_)) => Some(0),
-        (WordPart::Block, SlotWord::InBlock(address)) => Some(address),
+        (WordPart::RelrGot, SlotWord::InRelrGot(address)) => Some(address),
         _ => None,
     }
 }
@@ -114,8 +114,8 @@ pub fn entry_of(
 }
 
 /// The place, if the word has a RELR word of its own.
-pub fn flat_place(relr: bool, place: u64, word: SlotWord) -> Option<u64>
-    ensures is { result ≡ flat_place relr place word }
+pub fn relr_slot_place(relr: bool, place: u64, word: SlotWord) -> Option<u64>
+    ensures is { result ≡ relr_slot_place relr place word }
     ensures even { IfSome result (λ p. p % 2 ≡ 0) }
 {
     match word {
@@ -163,14 +163,14 @@ pub fn count_entries(
 }
 
 /// The number of these words that have a RELR word of their own.
-pub fn count_flat(relr: bool, place: u64, words: &[SlotWord]) -> usize
-    ensures is { result ≡ length (flat_places relr place words.now) }
+pub fn count_relr_slots(relr: bool, place: u64, words: &[SlotWord]) -> usize
+    ensures is { result ≡ length (relr_slot_places relr place words.now) }
     ensures few { result ≤ length words.now }
 {
     let mut count = 0;
     let mut place = place;
     for word in words {
-        if flat_place(relr, place, *word).is_some() {
+        if relr_slot_place(relr, place, *word).is_some() {
             count += 1;
         }
         place = next_word(place);
@@ -179,8 +179,8 @@ pub fn count_flat(relr: bool, place: u64, words: &[SlotWord]) -> usize
 }
 
 /// Whether the first word belongs to the group's run of words that are packed together.
-pub fn begins_block(words: &[SlotWord]) -> bool
-    ensures { result ≡ begins_block words.now }
+pub fn begins_relr_got(words: &[SlotWord]) -> bool
+    ensures { result ≡ begins_relr_got words.now }
 {
-    matches!(words.first(), Some(SlotWord::InBlock(_)))
+    matches!(words.first(), Some(SlotWord::InRelrGot(_)))
 }

@@ -8,7 +8,7 @@
 //! - A distance is modulo 2^64, so that a slot before the stub has a large one.
 ghost use Rattle.std.specs.Prelude.{◌≡◌, length, is_ok, IfErr, OnOk, OnErr};
 ghost use Rattle.wild_slot.specs.Stub.{displacement_x86_64, stub_x86_64};
-ghost use Rattle.wild_slot.specs.MachineStub.{stub_of, far_of};
+ghost use Rattle.wild_slot.specs.MachineStub.{stub_of, distance_if_too_far};
 
 use crate::stub_aarch64;
 use wild_reloc::{AllowedRange, RelocationSize, Sign, Width};
@@ -115,8 +115,8 @@ pub fn write_stub(
 }
 
 /// The distance of a resolution's stub from its slot if that is too large.
-pub fn far_of(layout: &Layout, resolution: &Resolution) -> Option<u64>
-    ensures { result ≡ far_of layout.now resolution.now }
+pub fn distance_if_too_far(layout: &Layout, resolution: &Resolution) -> Option<u64>
+    ensures { result ≡ distance_if_too_far layout.now resolution.now }
 {
     let bti = layout.options.bti;
     match (resolution.got_address, resolution.plt_address) {

@@ -6,7 +6,7 @@ ghost use Rattle.wild_slot.specs.Slots.{no_slot, with_item};
 
 use crate::cases::slot_of;
 use crate::slot::{MAX_WORDS, Setting, SlotFault, SlotItem, SlotWord};
-use crate::stub::far_of;
+use crate::stub::distance_if_too_far;
 use std::marker::Model;
 use wild_types::{Layout, Symbol};
 
@@ -38,7 +38,7 @@ impl SymbolSlots {
     {
         match &symbol.resolution {
             Some(resolution) => {
-                let far = far_of(layout, resolution);
+                let far = distance_if_too_far(layout, resolution);
                 slot_of(&Setting::of(layout), far, resolution)
             }
             None => SymbolSlots::empty(),

@@ -1,6 +1,6 @@
 //! The treatment of each relocation, as far as the layout alone decides it: no value is computed.
 ghost use Rattle.std.specs.Prelude.{◌≡◌};
-ghost use Rattle.wild_slot.specs.Treatment.{flags_at, is_left, is_elsewhere, is_barred_type, is_barred_in_shared, is_barred, is_narrow, is_chosen, chosen_treatment, moves, moved_treatment, address_treatment, distance_treatment, pointer_treatment, is_sized, size_treatment, where_there, class_treatment, row_treatment, is_slot, suits, suited, treatment};
+ghost use Rattle.wild_slot.specs.Treatment.{flags_at, needs_symbolic, has_no_local_address, is_barred_type, is_barred_in_shared, is_barred, is_narrow, needs_irelative, irelative_treatment, moves, relative_treatment, address_treatment, distance_treatment, pointer_treatment, is_sized, size_treatment, if_defined, class_treatment, row_treatment, is_slot, row_accepts, row_that_accepts, treatment};
 
 use wild_reloc::{Class, RelocationKindInfo, Term, aarch64, x86_64};
 use wild_types::{
@@ -40,13 +40,13 @@ pub fn flags_at(layout: &Layout, symbol: SymbolIndex) -> ValueFlags
 
 /// Whether a dynamic relocation against the symbol fills in its address.
 #[inline]
-fn is_left(
+fn needs_symbolic(
     layout: &Layout,
     section_flags: u64,
     row: &RelocationKindInfo,
     symbol: SymbolIndex,
 ) -> bool
-    ensures { result ≡ is_left layout.now section_flags row.now symbol }
+    ensures { result ≡ needs_symbolic layout.now section_flags row.now symbol }
 {
     is_allocated(section_flags)
         && is_writable(section_flags)
@@ -55,8 +55,8 @@ fn is_left(
 }
 
 /// Whether another module may define the symbol, and neither a copy relocation nor a stub gives it an address in this output.
-fn is_elsewhere(flags: ValueFlags) -> bool
-    ensures { result ≡ is_elsewhere flags }
+fn has_no_local_address(flags: ValueFlags) -> bool
+    ensures { result ≡ has_no_local_address flags }
 {
     (flags.is_interposable() || flags.is_dynamic())
         && !(flags.needs_copy_relocation() || flags.needs_plt())
@@ -92,7 +92,7 @@ fn is_barred(layout: &Layout, section_flags: u64, number: u32, symbol: SymbolInd
     is_allocated(section_flags)
         && layout.kind.is_position_independent()
         && is_barred_type(layout.machine, number)
-        && is_elsewhere(flags_at(layout, symbol))
+        && has_no_local_address(flags_at(layout, symbol))
 }
 
 /// Whether the output is a shared object, and a field of that type cannot hold an address in it.
@@ -115,8 +115,8 @@ fn moves(layout: &Layout, symbol: SymbolIndex) -> bool
 
 /// The treatment of an address that changes with the load bias.
 #[inline]
-fn moved_treatment(row: &RelocationKindInfo) -> Treatment
-    ensures { result ≡ moved_treatment row.now }
+fn relative_treatment(row: &RelocationKindInfo) -> Treatment
+    ensures { result ≡ relative_treatment row.now }
 {
     if row.width() == 8 {
         Treatment::BaseRelative
@@ -127,8 +127,8 @@ fn moved_treatment(row: &RelocationKindInfo) -> Treatment
 
 /// Whether the symbol is an IFUNC whose address a loader stores.
 #[inline]
-fn is_chosen(layout: &Layout, section_flags: u64, symbol: SymbolIndex) -> bool
-    ensures { result ≡ is_chosen layout.now section_flags symbol }
+fn needs_irelative(layout: &Layout, section_flags: u64, symbol: SymbolIndex) -> bool
+    ensures { result ≡ needs_irelative layout.now section_flags symbol }
 {
     is_allocated(section_flags)
         && is_writable(section_flags)
@@ -138,8 +138,8 @@ fn is_chosen(layout: &Layout, section_flags: u64, symbol: SymbolIndex) -> bool
 
 /// The treatment of an IFUNC's address that a loader stores.
 #[inline]
-fn chosen_treatment(row: &RelocationKindInfo, symbol: SymbolIndex) -> Treatment
-    ensures { result ≡ chosen_treatment row.now symbol }
+fn irelative_treatment(row: &RelocationKindInfo, symbol: SymbolIndex) -> Treatment
+    ensures { result ≡ irelative_treatment row.now symbol }
 {
     if row.width() != 8 {
         Treatment::Recompile
@@ -163,12 +163,12 @@ fn address_treatment(
         || is_narrow(layout, section_flags, number)
     {
         Treatment::Recompile
-    } else if is_left(layout, section_flags, &row, symbol) {
+    } else if needs_symbolic(layout, section_flags, &row, symbol) {
         Treatment::Symbolic(symbol)
-    } else if is_chosen(layout, section_flags, symbol) {
-        chosen_treatment(&row, symbol)
+    } else if needs_irelative(layout, section_flags, symbol) {
+        irelative_treatment(&row, symbol)
     } else if is_allocated(section_flags) && moves(layout, symbol) {
-        moved_treatment(&row)
+        relative_treatment(&row)
     } else {
         Treatment::Value(row)
     }
@@ -239,13 +239,13 @@ fn size_treatment(
 /// The treatment, if the symbol's definition is in the list of symbols. Else a value is written, which the symbol does not have, so
 /// that the relocation is refused later.
 #[inline]
-fn where_there(
+fn if_defined(
     layout: &Layout,
     row: RelocationKindInfo,
     symbol: SymbolIndex,
     treatment: Treatment,
 ) -> Treatment
-    ensures { result ≡ where_there layout.now row symbol treatment }
+    ensures { result ≡ if_defined layout.now row symbol treatment }
 {
     if layout.canonical(symbol).0 < layout.symbols.len() {
         treatment
@@ -270,7 +270,7 @@ fn class_treatment(
         (Class::Nothing, _) | (Class::Mark, Some(_)) => Treatment::Nothing,
         (Class::Free, _) | (Class::Plain, Some(_)) => Treatment::Value(row),
         (Class::Address, Some(symbol)) => {
-            where_there(
+            if_defined(
                 layout,
                 row,
                 symbol,
@@ -281,7 +281,7 @@ fn class_treatment(
         (Class::Part, Some(_)) => distance_treatment(layout, section_flags, number, row, symbol),
         (Class::Pointer, Some(_)) => pointer_treatment(layout, section_flags, row),
         (Class::Extent, Some(symbol)) => {
-            where_there(
+            if_defined(
                 layout,
                 row,
                 symbol,
@@ -328,8 +328,8 @@ fn is_slot(term: Term) -> bool
 /// Whether the row accepts the relocation's symbol and addend. On AArch64 the address of a slot has no addend, and a page is that of a
 /// symbol.
 #[inline]
-fn suits(machine: Machine, relocation: &InputRelocation, row: &RelocationKindInfo) -> bool
-    ensures { result ≡ suits machine relocation.now row.now }
+fn row_accepts(machine: Machine, relocation: &InputRelocation, row: &RelocationKindInfo) -> bool
+    ensures { result ≡ row_accepts machine relocation.now row.now }
 {
     match machine {
         Machine::X86_64 => true,
@@ -342,15 +342,15 @@ fn suits(machine: Machine, relocation: &InputRelocation, row: &RelocationKindInf
 
 /// The row, if it accepts the relocation's symbol and addend.
 #[inline]
-pub fn suited(
+pub fn row_that_accepts(
     machine: Machine,
     relocation: &InputRelocation,
     row: Option<RelocationKindInfo>,
 ) -> Option<RelocationKindInfo>
-    ensures { result ≡ suited machine relocation.now row }
+    ensures { result ≡ row_that_accepts machine relocation.now row }
 {
     match row {
-        Some(row) if suits(machine, relocation, &row) => Some(row),
+        Some(row) if row_accepts(machine, relocation, &row) => Some(row),
         _ => None,
     }
 }
@@ -361,7 +361,7 @@ pub fn treatment_of(layout: &Layout, section_flags: u64, relocation: &InputReloc
     ensures { result ≡ treatment layout.now section_flags relocation.now }
 {
     let row = row_of(layout.machine, relocation.number);
-    let row = suited(layout.machine, relocation, row);
+    let row = row_that_accepts(layout.machine, relocation, row);
     row_treatment(
         layout,
         section_flags,

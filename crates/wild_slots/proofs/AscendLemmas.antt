@@ -4,11 +4,11 @@ use Rattle.std.specs.List.{flat_map}
 use Rattle.std.proofs.lemmas.List.Elements.{All-nil, All-cons, All-head, All-tail, All-append, All-weaker}
 use Rattle.std.proofs.lemmas.List.Kept.{AllPairs-cons}
 use Rattle.wild_words.proofs.ListLemmas.{AllPairs-nil, AllPairs-append}
-use Rattle.wild_relr.specs.Packed.{slots}
+use Rattle.wild_relr.specs.RunWords.{slots}
 use Rattle.wild_types.specs.declared.symbol.Symbol.{Symbol}
 use Rattle.wild_types.specs.declared.layout.Layout.{Layout}
 use Rattle.wild_types.specs.Lists.{total}
-use Rattle.wild_slots.specs.Ascend.{LiesWithin, Ascend}
+use Rattle.wild_slots.specs.AscendingPlaces.{LiesWithin, Ascend}
 use Rattle.wild_slots.proofs.WalkLemmas.{AllBehind}
 use Rattle.wild_slots.proofs.OrderLemmas.{StandsBehind, total-push}
 

@@ -5,7 +5,7 @@ use Rattle.std.specs.List.{flat_map}
 use Rattle.std.proofs.lemmas.Bool.{cases_Bool, or_cases, not-true, eqb-true, eqb-false}
 use Rattle.std.proofs.lemmas.List.Elements.{All-nil, All-cons, All-head, All-tail, All-weaker}
 use Rattle.wild_words.proofs.ListLemmas.{All-flat_map, flat_map-flat_map}
-use Rattle.wild_relr.specs.Packed.{slots}
+use Rattle.wild_relr.specs.RunWords.{slots}
 use Rattle.wild_relr.proofs.BlockLemmas.{slots-append}
 use Rattle.wild_types.specs.declared.part.Part.{Part}
 use Rattle.wild_types.specs.declared.part.Role.{Role}
@@ -14,21 +14,21 @@ use Rattle.wild_types.specs.declared.file.Group.{Group}
 use Rattle.wild_types.specs.declared.symbol.Symbol.{Symbol}
 use Rattle.wild_types.specs.declared.layout.Layout.{Layout}
 use Rattle.wild_slot.specs.declared.slot.SlotWord.{SlotWord}
-use Rattle.wild_slot.specs.declared.slot.SlotWord.TheVariants.{Number, Address, InBlock, General, Plt}
+use Rattle.wild_slot.specs.declared.slot.SlotWord.TheVariants.{Number, Address, InRelrGot, General, Plt}
 use Rattle.wild_slot.specs.declared.slot_parts.WordPart.TheVariants as words
 use Rattle.wild_types.specs.Lists.{total}
 use Rattle.wild_types.specs.Parts.{has_role, part_with}
 use Rattle.wild_slot.specs.SlotParts.{next, at_places}
-use Rattle.wild_types.specs.SymbolSlots.{got_of, slots_at}
+use Rattle.wild_types.specs.SymbolSlots.{got_of, slots_address}
 use Rattle.wild_types.specs.FileSymbols.{own_symbols}
 use Rattle.wild_slot.specs.SymbolWords.{slots_of}
-use Rattle.wild_needs.specs.SlotShares.{words_in, symbol_share, block_places, group_block, block_of}
-use Rattle.wild_clauses.specs.SlotPlaces.{address_of_part, start_of, first_free, is_even_slot, slot_is_even, block_has_base}
+use Rattle.wild_needs.specs.SlotShares.{words_in, symbol_share, relr_got_places, group_relr_got, block_of}
+use Rattle.wild_plan_rules.specs.SlotPlaces.{address_of_part, start_of, first_free, is_even_slot, slot_is_even, block_has_base}
 use Rattle.wild_types.proofs.ListLemmas.{total-append}
 use Rattle.wild_layout.specs.TablePlaces.{table_bytes}
 use Rattle.wild_layout.specs.SlotOrder.{SlotsFollow, HasSlotsInOrder}
 use Rattle.wild_slots.specs.Order.{group_symbols, end_of}
-use Rattle.wild_slots.specs.Ascend.{place_in, word_places}
+use Rattle.wild_slots.specs.AscendingPlaces.{place_in, word_places}
 use Rattle.wild_slots.specs.Blocks.{IsWhole}
 use Rattle.wild_slots.proofs.WalkLemmas.{AllBehind, Piece-from_contains}
 use Rattle.wild_slots.proofs.OrderLemmas.{StandsBehind, total-push, AreInOrder-from_test}
@@ -40,9 +40,9 @@ use Rattle.wild_slots.proofs.PlacesLemmas.{headless_end}
 -- ---- the places of symbols that follow each other
 
 abbrev pub block_count : Layout → Symbol → ℕ
-block_count l s = length (words_in words.Block l s)
+block_count l s = length (words_in words.RelrGot l s)
 
-blocks_follow : (l : Layout) (ss front : List Symbol) (base : ℕ) → base ≡ (first_free l).block + total (symbol_share l role.GotRelr) front → AllBehind (StandsBehind l) front ss → flat_map (word_places words.Block l) ss ≡ slots base (total (block_count l) ss)
+blocks_follow : (l : Layout) (ss front : List Symbol) (base : ℕ) → base ≡ (first_free l).block + total (symbol_share l role.GotRelr) front → AllBehind (StandsBehind l) front ss → flat_map (word_places words.RelrGot l) ss ≡ slots base (total (block_count l) ss)
 unfolding slots
 blocks_follow l [] front base e a = refl
 blocks_follow l (s ∷ ss) front base e a =
@@ -53,7 +53,7 @@ blocks_follow l (s ∷ ss) front base e a =
     let i : a.0.free.block ≡ base = omega (arith, e, free) in
     let here = block_slots l s a.0.free (IsAt-from l front s a.0) ∙ ap (λ (b : ℕ). slots b n) i in
     let rest = blocks_follow l ss (front ++ s ∷ []) (base + 8 * n) (omega (arith, e, p)) a.1 in
-    ap (λ (ps : List ℕ). ps ++ flat_map (word_places words.Block l) ss) here
+    ap (λ (ps : List ℕ). ps ++ flat_map (word_places words.RelrGot l) ss) here
     ∙ ap (λ (ps : List ℕ). slots base n ++ ps) rest
     ∙ sym (slots-append base n m)
 
@@ -64,22 +64,22 @@ shares_counted l (s ∷ ss) = let e = shares_counted l ss in omega (arith, e)
 
 -- ---- even places
 
-even_at : (at : ℕ) (ws : List SlotWord) → FirstAlone ws → at % 2 ≡ 0 → All (λ p. p % 2 ≡ 0) (at_places (place_in words.Block) at ws)
+even_at : (at : ℕ) (ws : List SlotWord) → FirstAlone ws → at % 2 ≡ 0 → All (λ p. p % 2 ≡ 0) (at_places (place_in words.RelrGot) at ws)
 even_at at ws a h = by_first ws a
   where
-    behind : (vs : List SlotWord) → All NotInBlock vs → All (λ p. p % 2 ≡ 0) (at_places (place_in words.Block) (next at) vs)
+    behind : (vs : List SlotWord) → All NotInBlock vs → All (λ p. p % 2 ≡ 0) (at_places (place_in words.RelrGot) (next at) vs)
     behind vs n = let e = no_places (next at) vs n in rw e (All-nil (λ (p : ℕ). p % 2 ≡ 0))
 
-    by_first : (vs : List SlotWord) → FirstAlone vs → All (λ p. p % 2 ≡ 0) (at_places (place_in words.Block) at vs)
+    by_first : (vs : List SlotWord) → FirstAlone vs → All (λ p. p % 2 ≡ 0) (at_places (place_in words.RelrGot) at vs)
     by_first [] n = All-nil (λ (p : ℕ). p % 2 ≡ 0)
-    by_first (InBlock v ∷ vs) n = All-cons (λ (p : ℕ). p % 2 ≡ 0) at (at_places (place_in words.Block) (next at) vs) h (behind vs n)
+    by_first (InRelrGot v ∷ vs) n = All-cons (λ (p : ℕ). p % 2 ≡ 0) at (at_places (place_in words.RelrGot) (next at) vs) h (behind vs n)
     by_first (Number v ∷ vs) n = behind vs n
     by_first (Address v ∷ vs) n = behind vs n
     by_first (General g ∷ vs) n = behind vs n
     by_first (Plt g ∷ vs) n = behind vs n
 
-even_places : (l : Layout) (s : Symbol) → slot_is_even s ≡ true → All (λ p. p % 2 ≡ 0) (word_places words.Block l s)
-even_places l s h = even_at (slots_at s) (slots_of l s).words (first_alone l s) (even (got_of s) h)
+even_places : (l : Layout) (s : Symbol) → slot_is_even s ≡ true → All (λ p. p % 2 ≡ 0) (word_places words.RelrGot l s)
+even_places l s h = even_at (slots_address s) (slots_of l s).words (first_alone l s) (even (got_of s) h)
   where
     even : (o : Option ℕ) → is_even_slot o ≡ true → unwrap_or o 0 % 2 ≡ 0
     even None e = refl
@@ -130,11 +130,11 @@ whole_slots base (suc n) h even nonzero =
       based = λ some. nonzero (omega arith);
     }
 
-group_places : (l : Layout) (g : Group) → group_block l g ≡ flat_map (word_places words.Block l) (group_symbols l g)
-unfolding group_block
-group_places l g = sym (flat_map-flat_map (block_places l) (own_symbols l) g.files)
+group_places : (l : Layout) (g : Group) → group_relr_got l g ≡ flat_map (word_places words.RelrGot l) (group_symbols l g)
+unfolding group_relr_got
+group_places l g = sym (flat_map-flat_map (relr_got_places l) (own_symbols l) g.files)
 
-pub whole : (l : Layout) → HasSlotsInOrder l → end_of l role.GotRelr ≤ 2 ^ 64 → (part_with role.GotRelr l.parts ≡ None → table_bytes l role.GotRelr ≡ []) → (g : Group) → Contains l.groups g → IsWhole (block_of (group_block l g)) (group_block l g)
+pub whole : (l : Layout) → HasSlotsInOrder l → end_of l role.GotRelr ≤ 2 ^ 64 → (part_with role.GotRelr l.parts ≡ None → table_bytes l role.GotRelr ≡ []) → (g : Group) → Contains l.groups g → IsWhole (block_of (group_relr_got l g)) (group_relr_got l g)
 whole l h small missing g c =
     let order = AreInOrder-from_test l h.slots.placed in
     let piece = Piece-from_contains (StandsBehind l) (group_symbols l) l.groups g c order.each in
@@ -142,14 +142,14 @@ whole l h small missing g c =
     let share = symbol_share l role.GotRelr in
     let base = (first_free l).block + total share piece.before in
     let n = total (block_count l) own in
-    let places : group_block l g ≡ slots base n = group_places l g ∙ blocks_follow l own piece.before base refl piece.each in
+    let places : group_relr_got l g ≡ slots base n = group_places l g ∙ blocks_follow l own piece.before base refl piece.each in
     let a = ap (total share) piece.is in
     let b = total-append share piece.before (own ++ piece.after) in
     let d = total-append share own piece.after in
     let counted = shares_counted l own in
     let end = headless_end l role.GotRelr (block_table l) in
     let within : base + 8 * n ≤ end_of l role.GotRelr = omega (arith, a, b, d, counted, end) in
-    let each = All-flat_map (λ (p : ℕ). p % 2 ≡ 0) (word_places words.Block l) own (All-weaker (λ (s : Symbol). slot_is_even s ≡ true) (λ (s : Symbol). All (λ (p : ℕ). p % 2 ≡ 0) (word_places words.Block l s)) (λ s e. even_places l s e) own (All-group l (λ (s : Symbol). slot_is_even s ≡ true) h.slots.even g)) in
+    let each = All-flat_map (λ (p : ℕ). p % 2 ≡ 0) (word_places words.RelrGot l) own (All-weaker (λ (s : Symbol). slot_is_even s ≡ true) (λ (s : Symbol). All (λ (p : ℕ). p % 2 ≡ 0) (word_places words.RelrGot l s)) (λ s e. even_places l s e) own (All-group l (λ (s : Symbol). slot_is_even s ≡ true) h.slots.even g)) in
     let even = subst (All (λ (p : ℕ). p % 2 ≡ 0)) (blocks_follow l own piece.before base refl piece.each) each in
     let P : List ℕ → Type 0 = λ (ps : List ℕ). IsWhole (block_of ps) ps in
     subst P (sym places) (whole_slots base n (omega (arith, within, small)) even (λ some z. by_part base n (omega arith) within some z (part_with role.GotRelr l.parts) refl))

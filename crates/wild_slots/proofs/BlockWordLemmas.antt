@@ -10,7 +10,7 @@ use Rattle.wild_types.specs.declared.symbol.ValueFlags.{ValueFlags}
 use Rattle.wild_types.specs.declared.layout.Layout.{Layout}
 use Rattle.wild_slot.specs.declared.slot.Setting.{Setting}
 use Rattle.wild_slot.specs.declared.slot.SlotWord.{SlotWord}
-use Rattle.wild_slot.specs.declared.slot.SlotWord.TheVariants.{Number, Address, InBlock, General, Plt}
+use Rattle.wild_slot.specs.declared.slot.SlotWord.TheVariants.{Number, Address, InRelrGot, General, Plt}
 use Rattle.wild_slot.specs.declared.slot.SlotItem.{SlotItem}
 use Rattle.wild_slot.specs.declared.slot.SlotItem.TheVariants.{Word, Stub, Fault}
 use Rattle.wild_types.specs.Kinds.{is_position_independent}
@@ -18,9 +18,9 @@ use Rattle.wild_types.specs.Flags.{has_flag, has_link_time_address, ifunc, canon
 use Rattle.wild_types.specs.SymbolSlots.{got_of, has_thread_slot, has_dynamic_symbol}
 use Rattle.wild_slot.specs.Slots.{setting_of, slot, items_at, with_items, no_slot, add_item, thread_items, plain_item, named, stub_items, address_items}
 use Rattle.wild_slot.specs.SymbolWords.{slots_of, resolved_slots}
-use Rattle.wild_slot.specs.SlotParts.{begins_block}
-use Rattle.wild_clauses.specs.SlotFlags.{takes_block_word, second_slot_fits}
-use Rattle.wild_slot.specs.MachineStub.{far_of}
+use Rattle.wild_slot.specs.SlotParts.{begins_relr_got}
+use Rattle.wild_plan_rules.specs.SlotFlags.{takes_block_word, second_slot_fits}
+use Rattle.wild_slot.specs.MachineStub.{distance_if_too_far}
 use Rattle.wild_types.specs.ResolvedFlags.{HasItsFlags}
 use Rattle.wild_needs.proofs.SlotBlockLemmas.{behind_plain}
 use Rattle.wild_slots.proofs.ItemLemmas.{ItemHas, More-items, All-words, none_more, of_stub}
@@ -28,7 +28,7 @@ use Rattle.wild_slots.proofs.SlotLemmas.{IsOther, Shape, shape, threads_other}
 
 -- the word is none of a block
 abbrev pub NotInBlock : SlotWord → Type 0
-NotInBlock (InBlock a) = ⊥
+NotInBlock (InRelrGot a) = ⊥
 NotInBlock other = Unit {0}
 
 -- no word behind the first one is of a block
@@ -39,7 +39,7 @@ FirstAlone (w ∷ ws) = All NotInBlock ws
 others_not : (s : Setting) (r : Resolution) (w : SlotWord) → IsOther s r w → NotInBlock w
 others_not s r (Number n) h = tt
 others_not s r (Address a) h = tt
-others_not s r (InBlock a) h = h
+others_not s r (InRelrGot a) h = h
 others_not s r (General e) h = tt
 others_not s r (Plt e) h = tt
 
@@ -57,14 +57,14 @@ first_alone l s = by_resolution s.resolution
   where
     by_resolution : (o : Option Resolution) → FirstAlone (resolved_slots l o).words
     by_resolution None = tt
-    by_resolution (Some r) = alone_by (setting_of l) (far_of l r) r (slot (setting_of l) (far_of l r) r).words (shape (setting_of l) (far_of l r) r)
+    by_resolution (Some r) = alone_by (setting_of l) (distance_if_too_far l r) r (slot (setting_of l) (distance_if_too_far l r) r).words (shape (setting_of l) (distance_if_too_far l r) r)
 
 -- words that do not begin with one of the block have none
-pub none_in_block : (ws : List SlotWord) → begins_block ws ≡ false → FirstAlone ws → All NotInBlock ws
+pub none_in_block : (ws : List SlotWord) → begins_relr_got ws ≡ false → FirstAlone ws → All NotInBlock ws
 none_in_block [] h a = All-nil NotInBlock
 none_in_block (Number n ∷ ws) h a = All-cons NotInBlock (Number n) ws tt a
 none_in_block (Address n ∷ ws) h a = All-cons NotInBlock (Address n) ws tt a
-none_in_block (InBlock n ∷ ws) h a = cc
+none_in_block (InRelrGot n ∷ ws) h a = cc
 none_in_block (General e ∷ ws) h a = All-cons NotInBlock (General e) ws tt a
 none_in_block (Plt e ∷ ws) h a = All-cons NotInBlock (Plt e) ws tt a
 
@@ -72,11 +72,11 @@ none_in_block (Plt e ∷ ws) h a = All-cons NotInBlock (Plt e) ws tt a
 pub record Begins (ws : List SlotWord) : Type 0 where
   pub value : ℕ
   pub rest : List SlotWord
-  pub is : ws ≡ InBlock value ∷ rest
+  pub is : ws ≡ InRelrGot value ∷ rest
 
-pub begins : (ws : List SlotWord) → begins_block ws ≡ true → Begins ws
+pub begins : (ws : List SlotWord) → begins_relr_got ws ≡ true → Begins ws
 begins [] h = cc
-begins (InBlock a ∷ ws) h = record { value = a; rest = ws; is = refl }
+begins (InRelrGot a ∷ ws) h = record { value = a; rest = ws; is = refl }
 begins (Number n ∷ ws) h = cc
 begins (Address n ∷ ws) h = cc
 begins (General e ∷ ws) h = cc
@@ -92,11 +92,11 @@ pub record Packs (s : Setting) (r : Resolution) : Type 0 where
   pub moves : (is_position_independent s.kind && has_link_time_address r.flags) ≡ true
   pub packed : s.relr ≡ true
 
-not_word : (o : Option ℕ) (by : ℕ → SlotWord) (a : ℕ) → ((d : ℕ) → NotInBlock (by d)) → named o (λ d. Word (by d)) ≡ Word (InBlock a) → ⊥
+not_word : (o : Option ℕ) (by : ℕ → SlotWord) (a : ℕ) → ((d : ℕ) → NotInBlock (by d)) → named o (λ d. Word (by d)) ≡ Word (InRelrGot a) → ⊥
 not_word None by a h e = cc
 not_word (Some d) by a h e = let P : SlotItem → Type 0 = ItemHas NotInBlock in subst P e (h d)
 
-packs : (s : Setting) (r : Resolution) (a : ℕ) → plain_item s r ≡ Word (InBlock a) → Packs s r
+packs : (s : Setting) (r : Resolution) (a : ℕ) → plain_item s r ≡ Word (InRelrGot a) → Packs s r
 packs s r a h =
     elim (cases_Bool (has_flag r.flags canonical_plt)) [
       | inl t ↦ absurd (not_word r.dynamic_symbol_index _ a (λ d. tt) (rw t at h))
@@ -144,8 +144,8 @@ single s far r a = by_place r.got_address
 
 -- ---- the only word
 
-not_other : (s : Setting) (r : Resolution) (ws rest : List SlotWord) (a : ℕ) → ws ≡ InBlock a ∷ rest → All (IsOther s r) ws → ⊥
-not_other s r ws rest a e h = All-head (IsOther s r) (InBlock a) rest (subst (All (IsOther s r)) e h)
+not_other : (s : Setting) (r : Resolution) (ws rest : List SlotWord) (a : ℕ) → ws ≡ InRelrGot a ∷ rest → All (IsOther s r) ws → ⊥
+not_other s r ws rest a e h = All-head (IsOther s r) (InRelrGot a) rest (subst (All (IsOther s r)) e h)
 
 first_is : (w v : SlotWord) (ws vs us : List SlotWord) → us ≡ w ∷ ws → us ≡ v ∷ vs → w ≡ v
 first_is w v ws vs us h k = cc
@@ -171,30 +171,30 @@ no_second l s t h =
     ]
 
 -- a symbol whose words begin with one of the block has no other
-pub only_word : (l : Layout) (s : Symbol) (at a : ℕ) (rest : List SlotWord) → HasItsFlags s → second_slot_fits l s ≡ true → got_of s ≡ Some at → (slots_of l s).words ≡ InBlock a ∷ rest → rest ≡ []
+pub only_word : (l : Layout) (s : Symbol) (at a : ℕ) (rest : List SlotWord) → HasItsFlags s → second_slot_fits l s ≡ true → got_of s ≡ Some at → (slots_of l s).words ≡ InRelrGot a ∷ rest → rest ≡ []
 unfolding slots_of
 only_word l s at a rest f second g h = by_resolution s.resolution refl h
   where
-    short : (ws : List SlotWord) → ws ≡ InBlock a ∷ rest → length ws ≤ 1 → rest ≡ []
+    short : (ws : List SlotWord) → ws ≡ InRelrGot a ∷ rest → length ws ≤ 1 → rest ≡ []
     short ws e lt = let n = ap (λ (vs : List SlotWord). length vs) e in nil_from_length rest (omega (arith, n, lt))
 
-    by_single : (r : Resolution) (ws : List SlotWord) → ws ≡ InBlock a ∷ rest → Single (setting_of l) r ws → rest ≡ []
+    by_single : (r : Resolution) (ws : List SlotWord) → ws ≡ InRelrGot a ∷ rest → Single (setting_of l) r ws → rest ≡ []
     by_single r ws e (inl others) = absurd (not_other (setting_of l) r ws rest a e others)
     by_single r ws e (inr lt) = short ws e lt
 
-    by_shape : (r : Resolution) → s.resolution ≡ Some r → (ws : List SlotWord) → ws ≡ InBlock a ∷ rest → Shape (setting_of l) (far_of l r) r ws → Single (setting_of l) r (slot (setting_of l) (far_of l r) r).words
+    by_shape : (r : Resolution) → s.resolution ≡ Some r → (ws : List SlotWord) → ws ≡ InRelrGot a ∷ rest → Shape (setting_of l) (distance_if_too_far l r) r ws → Single (setting_of l) r (slot (setting_of l) (distance_if_too_far l r) r).words
     by_shape r is ws e (inl others) = absurd (not_other (setting_of l) r ws rest a e others)
     by_shape r is ws e (inr led) =
-        let w : led.first ≡ InBlock a = first_is led.first (InBlock a) led.rest rest ws led.is e in
+        let w : led.first ≡ InRelrGot a = first_is led.first (InRelrGot a) led.rest rest ws led.is e in
         let p = packs (setting_of l) r a (led.plain ∙ ap Word w) in
         let t = takes l s r at g (f r is) led.slot p in
         let n = no_second l s t second in
         let i = ap (λ (v : ValueFlags). has_flag v ifunc_got_for_address) (f r is) ∙ n.0 in
         let c = ap (λ (v : ValueFlags). has_flag v canonical_plt_got_for_address) (f r is) ∙ n.1 in
-        single (setting_of l) (far_of l r) r (no_seconds (setting_of l) (far_of l r) r i c)
+        single (setting_of l) (distance_if_too_far l r) r (no_seconds (setting_of l) (distance_if_too_far l r) r i c)
 
-    by_resolution : (o : Option Resolution) → s.resolution ≡ o → (resolved_slots l o).words ≡ InBlock a ∷ rest → rest ≡ []
+    by_resolution : (o : Option Resolution) → s.resolution ≡ o → (resolved_slots l o).words ≡ InRelrGot a ∷ rest → rest ≡ []
     by_resolution None is e = cc
     by_resolution (Some r) is e =
-        let ws = (slot (setting_of l) (far_of l r) r).words in
-        by_single r ws e (by_shape r is ws e (shape (setting_of l) (far_of l r) r))
+        let ws = (slot (setting_of l) (distance_if_too_far l r) r).words in
+        by_single r ws e (by_shape r is ws e (shape (setting_of l) (distance_if_too_far l r) r))

@@ -7,7 +7,7 @@ use Rattle.wild_slot.specs.declared.slot.SlotWord.{SlotWord}
 use Rattle.wild_slot.specs.declared.slot.SlotFault.{SlotFault}
 use Rattle.wild_slot.specs.declared.slot.SlotItem.{SlotItem}
 use Rattle.wild_slot.specs.declared.slot.SlotItem.TheVariants.{Word, Stub, Fault}
-use Rattle.wild_slot.specs.Slots.{SlotContent, no_slot, with_item_by, with_item, with_items, named, where_so, stub_item, stub_items}
+use Rattle.wild_slot.specs.Slots.{SlotContent, no_slot, with_item_by, with_item, with_items, named, items_if, stub_item, stub_items}
 use Rattle.wild_slot.proofs.SlotLemmas.{fault_stays}
 
 -- an item that is a word has what is said of it
@@ -62,7 +62,7 @@ pub of_named : (P : SlotWord → Type 0) (o : Option ℕ) (by : ℕ → SlotItem
 of_named P None by h = tt
 of_named P (Some d) by h = h d refl
 
-pub of_where : (P : SlotWord → Type 0) (b : Bool) (xs : List SlotItem) → (b ≡ true → All (ItemHas P) xs) → All (ItemHas P) (where_so b xs)
+pub of_where : (P : SlotWord → Type 0) (b : Bool) (xs : List SlotItem) → (b ≡ true → All (ItemHas P) xs) → All (ItemHas P) (items_if b xs)
 of_where P true xs h = h refl
 of_where P false xs h = All-nil (ItemHas P)
 

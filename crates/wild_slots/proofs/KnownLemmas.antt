@@ -13,15 +13,15 @@ use Rattle.wild_types.specs.declared.layout.Layout.{Layout}
 use Rattle.wild_slot.specs.declared.slot.Setting.{Setting}
 use Rattle.wild_slot.specs.declared.slot.SlotEntry.{SlotEntry}
 use Rattle.wild_slot.specs.declared.slot.SlotWord.{SlotWord}
-use Rattle.wild_slot.specs.declared.slot.SlotWord.TheVariants.{Number, Address, InBlock, General, Plt}
+use Rattle.wild_slot.specs.declared.slot.SlotWord.TheVariants.{Number, Address, InRelrGot, General, Plt}
 use Rattle.wild_slot.specs.declared.slot_parts.EntryPart.{EntryPart}
 use Rattle.wild_types.specs.Flags.{has_flag, ifunc}
 use Rattle.wild_types.specs.Kinds.{is_executable}
 use Rattle.wild_types.specs.ResolvedFlags.{HasItsFlags}
-use Rattle.wild_slot.specs.Storage.{less}
+use Rattle.wild_slot.specs.Storage.{minus}
 use Rattle.wild_slot.specs.SlotParts.{next, at_places, entry_of}
 use Rattle.wild_slot.specs.Slots.{setting_of, storage_pair}
-use Rattle.wild_types.specs.SymbolSlots.{got_of, slots_at}
+use Rattle.wild_types.specs.SymbolSlots.{got_of, slots_address}
 use Rattle.wild_types.specs.FileSymbols.{own_symbols}
 use Rattle.wild_types.proofs.FileLemmas.{All-own}
 use Rattle.wild_slot.specs.SymbolWords.{slots_of}
@@ -42,14 +42,14 @@ Knows r other = Unit {0}
 knows_other : (s : Setting) (r : Resolution) (w : SlotWord) → IsOther s r w → Knows r w
 knows_other s r (Number n) h = tt
 knows_other s r (Address a) h = tt
-knows_other s r (InBlock a) h = tt
+knows_other s r (InRelrGot a) h = tt
 knows_other s r (General e) h = h
 knows_other s r (Plt e) h = absurd h
 
 knows_first : (s : Setting) (r : Resolution) (w : SlotWord) → IsFirst s r w → Knows r w
 knows_first s r (Number n) h = tt
 knows_first s r (Address a) h = tt
-knows_first s r (InBlock a) h = tt
+knows_first s r (InRelrGot a) h = tt
 knows_first s r (General e) h = h
 knows_first s r (Plt e) h = h
 
@@ -75,7 +75,7 @@ known_entry s r e f is (inr (inr m)) = inr (inr m)
 known_word : (s : Symbol) (r : Resolution) (w : SlotWord) → HasItsFlags s → s.resolution ≡ Some r → Knows r w → IsKnownWord s w
 known_word s r (Number n) f is k e h = cc
 known_word s r (Address a) f is k e h = cc
-known_word s r (InBlock a) f is k e h = cc
+known_word s r (InRelrGot a) f is k e h = cc
 known_word s r (General x) f is k e h = let q : x ≡ e = cc in known_entry s r e f is (subst (IsEntry r) q k)
 known_word s r (Plt x) f is k e h = let q : x ≡ e = cc in known_entry s r e f is (subst (IsEntry r) q k)
 
@@ -105,7 +105,7 @@ own_two v n h = All-cons IsOwnWord v (Number n ∷ []) h (All-cons IsOwnWord (Nu
 
 own_pair : (s : Setting) → All IsOwnWord (storage_pair s)
 own_pair s =
-    of_if (All IsOwnWord) (is_executable s.kind) _ _ (λ t. own_two (Number 1) (less s.thread_pointer s.tls.start) (own_number 1)) (λ f. own_two own_word 0 own_module)
+    of_if (All IsOwnWord) (is_executable s.kind) _ _ (λ t. own_two (Number 1) (minus s.thread_pointer s.tls.start) (own_number 1)) (λ f. own_two own_word 0 own_module)
 
 own_storage : (s : Setting) (o : Option ℕ) → All IsOwnWord (storage_at s o)
 own_storage s None = All-nil IsOwnWord
@@ -163,6 +163,6 @@ entries_of_words l f part low =
   where
     one : (s : Symbol) → Contains (own_symbols l f) s → IsLow s → All (IsOfWord l f part) (symbol_entries part l s)
     one s c h =
-        All-weaker (IsGiven (entry_of part l.machine l.options.relr) (slots_at s) (slots_of l s).words) (IsOfWord l f part)
+        All-weaker (IsGiven (entry_of part l.machine l.options.relr) (slots_address s) (slots_of l s).words) (IsOfWord l f part)
         (λ e g. record { symbol = s; own = c; number = g.number; word = g.word; there = g.there; is = g.is })
-        (symbol_entries part l s) (given (entry_of part l.machine l.options.relr) (slots_at s) (slots_of l s).words (low_place (got_of s) h))
+        (symbol_entries part l s) (given (entry_of part l.machine l.options.relr) (slots_address s) (slots_of l s).words (low_place (got_of s) h))

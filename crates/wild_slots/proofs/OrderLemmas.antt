@@ -9,29 +9,29 @@ use Rattle.wild_types.specs.declared.part.Role.TheVariants as role
 use Rattle.wild_types.specs.declared.file.File.{File}
 use Rattle.wild_types.specs.declared.symbol.Symbol.{Symbol}
 use Rattle.wild_types.specs.declared.layout.Layout.{Layout}
-use Rattle.wild_clauses.specs.declared.slots.Free.{Free}
+use Rattle.wild_plan_rules.specs.declared.slot_places.SlotCursor.{SlotCursor}
 use Rattle.wild_types.specs.Lists.{total}
-use Rattle.wild_types.specs.SymbolSlots.{got_of, is_without}
+use Rattle.wild_types.specs.SymbolSlots.{got_of, lacks_slots}
 use Rattle.wild_needs.specs.SlotShares.{stub_size, symbol_share}
 use Rattle.wild_types.specs.FileRoles.{writes_slots}
 use Rattle.wild_types.specs.FileSymbols.{own_symbols}
 use Rattle.wild_slot.specs.SymbolWords.{slots_of}
-use Rattle.wild_clauses.specs.SlotPlaces.{first_free, stands_next, behind, walk, symbol_step, slot_before, unless_some, range_step, file_step, group_step, last_astray, slots_astray}
+use Rattle.wild_plan_rules.specs.SlotPlaces.{first_free, has_next_places, free_after, walk, symbol_step, slot_before, unless_some, range_step, file_step, group_step, last_astray, slots_astray}
 use Rattle.wild_types.proofs.ListLemmas.{All-from_none_fails, total-append}
 use Rattle.wild_slots.specs.Order.{group_symbols, written_symbols}
 use Rattle.wild_slots.proofs.WalkLemmas.{AllBehind, Walked, Walked-none, Walked-more, through_both, same_Ok, walk_through}
 
 -- the free places behind those of the symbols so far
-pub record IsBehind (l : Layout) (front : List Symbol) (n : Free) : Type 0 where
+pub record IsBehind (l : Layout) (front : List Symbol) (n : SlotCursor) : Type 0 where
   pub got : n.got ≡ (first_free l).got + total (symbol_share l role.Got) front
   pub block : n.block ≡ (first_free l).block + total (symbol_share l role.GotRelr) front
   pub stub : n.stub ≡ (first_free l).stub + total (symbol_share l role.PltGot) front
 
 -- the symbol stands at such places
 pub record StandsBehind (l : Layout) (front : List Symbol) (s : Symbol) : Type 0 where
-  pub free : Free
+  pub free : SlotCursor
   pub behind : IsBehind l front free
-  pub next : stands_next l free s ≡ true
+  pub next : has_next_places l free s ≡ true
 
 -- ---- one symbol more
 
@@ -42,7 +42,7 @@ stub_more : (b : Bool) (n k : ℕ) → (if b then n + k else n) ≡ n + (if b th
 stub_more true n k = refl
 stub_more false n k = omega arith
 
-IsBehind-more : (l : Layout) (front : List Symbol) (n : Free) (s : Symbol) → IsBehind l front n → IsBehind l (front ++ s ∷ []) (behind l n s)
+IsBehind-more : (l : Layout) (front : List Symbol) (n : SlotCursor) (s : Symbol) → IsBehind l front n → IsBehind l (front ++ s ∷ []) (free_after l n s)
 IsBehind-more l front n s h = record {
   got = let a = h.got in let e = total-push (symbol_share l role.Got) front s in omega (arith, a, e);
   block = let a = h.block in let e = total-push (symbol_share l role.GotRelr) front s in omega (arith, a, e);
@@ -50,18 +50,18 @@ IsBehind-more l front n s h = record {
 }
 
 -- a step that does not fail
-pub record Stepped (l : Layout) (n m : Free) (s : Symbol) : Type 0 where
-  pub next : stands_next l n s ≡ true
-  pub is : behind l n s ≡ m
+pub record Stepped (l : Layout) (n m : SlotCursor) (s : Symbol) : Type 0 where
+  pub next : has_next_places l n s ≡ true
+  pub is : free_after l n s ≡ m
 
-stepped : (l : Layout) (n m : Free) (s : Symbol) → symbol_step l n s ≡ Ok m → Stepped l n m s
+stepped : (l : Layout) (n m : SlotCursor) (s : Symbol) → symbol_step l n s ≡ Ok m → Stepped l n m s
 stepped l n m s h =
-    elim (cases_Bool (stands_next l n s)) [
-      | inl t ↦ record { next = t; is = same_Ok (behind l n s) m (rw t at h) }
+    elim (cases_Bool (has_next_places l n s)) [
+      | inl t ↦ record { next = t; is = same_Ok (free_after l n s) m (rw t at h) }
       | inr f ↦ cc (rw f at h)
     ]
 
-symbols_walked : (l : Layout) (ss front : List Symbol) (n m : Free) → IsBehind l front n → walk (symbol_step l) n ss ≡ Ok m → Walked (StandsBehind l) (IsBehind l) front ss m
+symbols_walked : (l : Layout) (ss front : List Symbol) (n m : SlotCursor) → IsBehind l front n → walk (symbol_step l) n ss ≡ Ok m → Walked (StandsBehind l) (IsBehind l) front ss m
 unfolding walk
 symbols_walked l [] front n m b h = Walked-none (StandsBehind l) (IsBehind l) front m (subst (IsBehind l front) (same_Ok n m h) b)
 symbols_walked l (s ∷ ss) front n m b h =
@@ -72,13 +72,13 @@ symbols_walked l (s ∷ ss) front n m b h =
     Walked-more (StandsBehind l) (IsBehind l) front (s ∷ []) ss two.state m here (symbols_walked l ss (front ++ s ∷ []) two.state m more two.rest)
 
 -- each symbol takes a number
-symbols_counted : (l : Layout) (ss : List Symbol) (n m : Free) → walk (symbol_step l) n ss ≡ Ok m → m.symbol ≡ n.symbol + length ss
+symbols_counted : (l : Layout) (ss : List Symbol) (n m : SlotCursor) → walk (symbol_step l) n ss ≡ Ok m → m.symbol ≡ n.symbol + length ss
 unfolding walk
-symbols_counted l [] n m h = let e = ap (λ (f : Free). f.symbol) (same_Ok n m h) in omega (arith, e)
+symbols_counted l [] n m h = let e = ap (λ (f : SlotCursor). f.symbol) (same_Ok n m h) in omega (arith, e)
 symbols_counted l (s ∷ ss) n m h =
     let two = through_both (symbol_step l n s) (λ t. walk (symbol_step l) t ss) m h in
     let one = stepped l n two.state s two.first in
-    let e = ap (λ (f : Free). f.symbol) one.is in
+    let e = ap (λ (f : SlotCursor). f.symbol) one.is in
     let rest = symbols_counted l ss two.state m two.rest in
     omega (arith, e, rest)
 
@@ -98,24 +98,24 @@ in_range xs a b i s low high e =
     (i - a, within, get_or-take (b - a) (drop a xs) (i - a) s short ∙ get_or-drop a xs (i - a) s ∙ ap (λ (j : ℕ). get_or xs j s) k ∙ get_or_from_slice_get xs i s s e)
 
 -- symbols that no file writes have no slots
-none_before : (l : Layout) (n : Free) (to i at : ℕ) (s : Symbol) → slot_before l n to ≡ None → n.symbol ≤ i → i < to → slice_get l.symbols i ≡ Some s → got_of s ≡ Some at → ⊥
+none_before : (l : Layout) (n : SlotCursor) (to i at : ℕ) (s : Symbol) → slot_before l n to ≡ None → n.symbol ≤ i → i < to → slice_get l.symbols i ≡ Some s → got_of s ≡ Some at → ⊥
 none_before l n to i at s h low high e g =
-    let all = All-from_none_fails is_without n.symbol (slice_range l.symbols n.symbol to) h in
+    let all = All-from_none_fails lacks_slots n.symbol (slice_range l.symbols n.symbol to) h in
     let there = slice_get_within l.symbols i s e in
     let len = length-take (to - n.symbol) (drop n.symbol l.symbols) in
     let rest = length-drop n.symbol l.symbols in
     let c = in_range l.symbols n.symbol to i s low (omega (arith, len, rest, there, low, high)) e in
-    let w = All-contains (λ (x : Symbol). is_without x ≡ true) (slice_range l.symbols n.symbol to) s all c in
+    let w = All-contains (λ (x : Symbol). lacks_slots x ≡ true) (slice_range l.symbols n.symbol to) s all c in
     cc
 
 -- ---- files
 
 -- what the walk keeps: the free places, and that the symbols so far are listed
-pub record Keeps (l : Layout) (front : List Symbol) (n : Free) : Type 0 where
+pub record Keeps (l : Layout) (front : List Symbol) (n : SlotCursor) : Type 0 where
   pub behind : IsBehind l front n
   pub listed : AreListed l front n.symbol
 
-AreListed-more : (l : Layout) (front : List Symbol) (f : File) (n : Free) → AreListed l front n.symbol → n.symbol ≤ f.first_symbol → slot_before l n f.first_symbol ≡ None → AreListed l (front ++ slice_range l.symbols f.first_symbol (f.first_symbol + f.symbol_count)) (f.first_symbol + length (slice_range l.symbols f.first_symbol (f.first_symbol + f.symbol_count)))
+AreListed-more : (l : Layout) (front : List Symbol) (f : File) (n : SlotCursor) → AreListed l front n.symbol → n.symbol ≤ f.first_symbol → slot_before l n f.first_symbol ≡ None → AreListed l (front ++ slice_range l.symbols f.first_symbol (f.first_symbol + f.symbol_count)) (f.first_symbol + length (slice_range l.symbols f.first_symbol (f.first_symbol + f.symbol_count)))
 AreListed-more l front f n h low none i at s lt e g =
     let own = slice_range l.symbols f.first_symbol (f.first_symbol + f.symbol_count) in
     elim (cases_lt i n.symbol) [
@@ -126,15 +126,15 @@ AreListed-more l front f n h low none i at s lt e g =
       ]
     ]
 
-pub record Ranged (l : Layout) (n m : Free) (f : File) : Type 0 where
+pub record Ranged (l : Layout) (n m : SlotCursor) (f : File) : Type 0 where
   pub low : n.symbol ≤ f.first_symbol
   pub none : slot_before l n f.first_symbol ≡ None
   pub walked : walk (symbol_step l) (record n { symbol = f.first_symbol }) (own_symbols l f) ≡ Ok m
 
-ranged : (l : Layout) (n m : Free) (f : File) → range_step l n f ≡ Ok m → Ranged l n m f
+ranged : (l : Layout) (n m : SlotCursor) (f : File) → range_step l n f ≡ Ok m → Ranged l n m f
 ranged l n m f h = by_order (nat_lt f.first_symbol n.symbol) refl h
   where
-    unless_none : (o : Option ℕ) (r : Result Free ℕ) → unless_some o r ≡ Ok m → (o ≡ None) × (r ≡ Ok m)
+    unless_none : (o : Option ℕ) (r : Result SlotCursor ℕ) → unless_some o r ≡ Ok m → (o ≡ None) × (r ≡ Ok m)
     unless_none None r e = (refl, e)
     unless_none (Some i) r e = cc
 
@@ -145,7 +145,7 @@ ranged l n m f h = by_order (nat_lt f.first_symbol n.symbol) refl h
         record { low = ltb-false f.first_symbol n.symbol t; none = u.0; walked = u.1 }
 
 -- a file with symbols whose slots it writes
-range_walked : (l : Layout) (front : List Symbol) (n m : Free) (f : File) → Keeps l front n → writes_slots f.role ≡ true → range_step l n f ≡ Ok m → Walked (StandsBehind l) (Keeps l) front (own_symbols l f) m
+range_walked : (l : Layout) (front : List Symbol) (n m : SlotCursor) (f : File) → Keeps l front n → writes_slots f.role ≡ true → range_step l n f ≡ Ok m → Walked (StandsBehind l) (Keeps l) front (own_symbols l f) m
 range_walked l front n m f k w h =
     let r = ranged l n m f h in
     let b : IsBehind l front (record n { symbol = f.first_symbol }) = record { got = k.behind.got; block = k.behind.block; stub = k.behind.stub } in
@@ -170,7 +170,7 @@ none_own l f h =
       ]
     ]
 
-file_walked : (l : Layout) (front : List Symbol) (n m : Free) (f : File) → Keeps l front n → file_step l n f ≡ Ok m → Walked (StandsBehind l) (Keeps l) front (own_symbols l f) m
+file_walked : (l : Layout) (front : List Symbol) (n m : SlotCursor) (f : File) → Keeps l front n → file_step l n f ≡ Ok m → Walked (StandsBehind l) (Keeps l) front (own_symbols l f) m
 file_walked l front n m f k h =
     elim (cases_Bool (writes_slots f.role && not (f.symbol_count == 0))) [
       | inl t ↦ range_walked l front n m f k (and_parts (writes_slots f.role) (not (f.symbol_count == 0)) t).0 (rw t at h)
@@ -195,7 +195,7 @@ pub record AreInOrder (l : Layout) : Type 0 where
 pub AreInOrder-from_test : (l : Layout) → slots_astray l ≡ None → AreInOrder l
 AreInOrder-from_test l h = by_end (walk (group_step l) (first_free l) l.groups) refl h
   where
-    by_end : (r : Result Free ℕ) → walk (group_step l) (first_free l) l.groups ≡ r → last_astray l r ≡ None → AreInOrder l
+    by_end : (r : Result SlotCursor ℕ) → walk (group_step l) (first_free l) l.groups ≡ r → last_astray l r ≡ None → AreInOrder l
     by_end (Err i) e none = cc
     by_end (Ok m) e none =
         let w = walk_through (StandsBehind l) (Keeps l) (group_symbols l) (group_step l)

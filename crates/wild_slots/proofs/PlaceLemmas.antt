@@ -3,13 +3,13 @@ use Rattle.std.proofs.Common.{◌≡◌, ℕ, zero, suc, ◌+◌, ◌*◌, ◌%�
 use Rattle.std.specs.Prelude.{Option, option_to_list}
 use Rattle.std.proofs.lemmas.List.{length-append}
 use Rattle.std.proofs.lemmas.List.Elements.{All-head, All-tail}
-use Rattle.wild_relr.specs.Packed.{slots}
+use Rattle.wild_relr.specs.RunWords.{slots}
 use Rattle.wild_slot.specs.declared.slot.SlotWord.{SlotWord}
-use Rattle.wild_slot.specs.declared.slot.SlotWord.TheVariants.{Number, Address, InBlock, General, Plt}
+use Rattle.wild_slot.specs.declared.slot.SlotWord.TheVariants.{Number, Address, InRelrGot, General, Plt}
 use Rattle.wild_slot.specs.declared.slot_parts.WordPart.{WordPart}
 use Rattle.wild_slot.specs.declared.slot_parts.WordPart.TheVariants as words
 use Rattle.wild_slot.specs.SlotParts.{next, at_places, word_of, slot_words}
-use Rattle.wild_slots.specs.Ascend.{place_in}
+use Rattle.wild_slots.specs.AscendingPlaces.{place_in}
 use Rattle.wild_slots.proofs.BlockWordLemmas.{NotInBlock}
 
 -- words that give nothing
@@ -19,30 +19,30 @@ nothing_given f P none at (w ∷ ws) a =
     let e = none at w (All-head P w ws a) in
     rw e (nothing_given f P none (next at) ws (All-tail P w ws a))
 
-block_of_none : (relr : Bool) (at : ℕ) (w : SlotWord) → NotInBlock w → word_of words.Block relr at w ≡ None
+block_of_none : (relr : Bool) (at : ℕ) (w : SlotWord) → NotInBlock w → word_of words.RelrGot relr at w ≡ None
 block_of_none relr at (Number n) h = refl
 block_of_none relr at (Address a) h = refl
-block_of_none relr at (InBlock a) h = absurd h
+block_of_none relr at (InRelrGot a) h = absurd h
 block_of_none relr at (General e) h = refl
 block_of_none relr at (Plt e) h = refl
 
 -- no word of the block among others
-pub no_block_words : (relr : Bool) (at : ℕ) (ws : List SlotWord) → All NotInBlock ws → slot_words words.Block relr at ws ≡ []
-no_block_words relr at ws a = nothing_given (word_of words.Block relr) NotInBlock (λ p w h. block_of_none relr p w h) at ws a
+pub no_block_words : (relr : Bool) (at : ℕ) (ws : List SlotWord) → All NotInBlock ws → slot_words words.RelrGot relr at ws ≡ []
+no_block_words relr at ws a = nothing_given (word_of words.RelrGot relr) NotInBlock (λ p w h. block_of_none relr p w h) at ws a
 
 -- ---- as many places as words
 
 same_count : (part : WordPart) (relr : Bool) (at : ℕ) (w : SlotWord) → length (option_to_list (place_in part at w)) ≡ length (option_to_list (word_of part relr at w))
 same_count words.Got relr at (Number n) = refl
 same_count words.Got relr at (Address a) = refl
-same_count words.Got relr at (InBlock a) = refl
+same_count words.Got relr at (InRelrGot a) = refl
 same_count words.Got relr at (General e) = refl
 same_count words.Got relr at (Plt e) = refl
-same_count words.Block relr at (Number n) = refl
-same_count words.Block relr at (Address a) = refl
-same_count words.Block relr at (InBlock a) = refl
-same_count words.Block relr at (General e) = refl
-same_count words.Block relr at (Plt e) = refl
+same_count words.RelrGot relr at (Number n) = refl
+same_count words.RelrGot relr at (Address a) = refl
+same_count words.RelrGot relr at (InRelrGot a) = refl
+same_count words.RelrGot relr at (General e) = refl
+same_count words.RelrGot relr at (Plt e) = refl
 
 pub length-places : (part : WordPart) (relr : Bool) (at : ℕ) (ws : List SlotWord) → length (at_places (place_in part) at ws) ≡ length (slot_words part relr at ws)
 length-places part relr at [] = refl
@@ -58,7 +58,7 @@ length-places part relr at (w ∷ ws) =
 place_is : (at : ℕ) (w : SlotWord) → NotInBlock w → place_in words.Got at w ≡ Some at
 place_is at (Number n) h = refl
 place_is at (Address a) h = refl
-place_is at (InBlock a) h = absurd h
+place_is at (InRelrGot a) h = absurd h
 place_is at (General e) h = refl
 place_is at (Plt e) h = refl
 
@@ -91,7 +91,7 @@ all_words relr at (w ∷ ws) a =
 value_at : (relr : Bool) (p q : ℕ) (w : SlotWord) → p % 2 ≡ q % 2 → word_of words.Got relr p w ≡ word_of words.Got relr q w
 value_at relr p q (Number n) e = refl
 value_at relr p q (Address a) e = rw e refl
-value_at relr p q (InBlock a) e = refl
+value_at relr p q (InRelrGot a) e = refl
 value_at relr p q (General g) e = refl
 value_at relr p q (Plt g) e = refl
 
@@ -109,7 +109,7 @@ pub record Valued (relr : Bool) (at : ℕ) (w : SlotWord) : Type 0 where
 valued : (relr : Bool) (at : ℕ) (w : SlotWord) → NotInBlock w → Valued relr at w
 valued relr at (Number n) h = record { value = n; is = refl }
 valued relr at (Address a) h = record { value = _; is = refl }
-valued relr at (InBlock a) h = absurd h
+valued relr at (InRelrGot a) h = absurd h
 valued relr at (General e) h = record { value = 0; is = refl }
 valued relr at (Plt e) h = record { value = 0; is = refl }
 

@@ -4,8 +4,8 @@ use Rattle.std.specs.List.{flat_map}
 use Rattle.std.proofs.lemmas.Bool.{cases_lt}
 use Rattle.std.proofs.lemmas.List.{length-append, nil_from_length}
 use Rattle.std.proofs.lemmas.Option.{slice_get-get_or}
-use Rattle.wild_relr.specs.Packed.{slots}
-use Rattle.wild_relr.specs.Written.{word_bytes}
+use Rattle.wild_relr.specs.RunWords.{slots}
+use Rattle.wild_relr.specs.WriterState.{word_bytes}
 use Rattle.wild_relr.proofs.SpellLemmas.{length-word_bytes}
 use Rattle.wild_types.specs.declared.part.Role.{Role}
 use Rattle.wild_types.specs.declared.part.Role.TheVariants as role
@@ -15,10 +15,10 @@ use Rattle.wild_types.specs.declared.layout.Layout.{Layout}
 use Rattle.wild_slot.specs.declared.slot_parts.WordPart.TheVariants as words
 use Rattle.wild_types.specs.Lists.{total}
 use Rattle.wild_needs.specs.SlotShares.{stub_size, words_in, symbol_share, header_words}
-use Rattle.wild_clauses.specs.SlotPlaces.{start_of, first_free}
+use Rattle.wild_plan_rules.specs.SlotPlaces.{start_of, first_free}
 use Rattle.wild_layout.specs.SlotOrder.{HasSlotsInOrder}
 use Rattle.wild_slots.specs.Order.{group_symbols, written_symbols, end_of}
-use Rattle.wild_slots.specs.Ascend.{Ascend, word_places, stub_places, HasAscendingPlaces}
+use Rattle.wild_slots.specs.AscendingPlaces.{Ascend, word_places, stub_places, HasAscendingPlaces}
 use Rattle.wild_slots.proofs.OrderLemmas.{AreInOrder-from_test}
 use Rattle.wild_slots.proofs.TableLemmas.{IsTable, symbol_bytes, got_table, block_table, stub_table, length-symbols, headless, headed}
 use Rattle.wild_slots.proofs.AscendLemmas.{Ascend-none, Ascend-wider, Ascend-slots, AscendAt, ascend_all}
@@ -58,9 +58,9 @@ words_ascend l limit small front s fit h low =
     slots_ascend h.free.got (length (words_in words.Got l s)) ((first_free l).got + total (symbol_share l role.Got) front) (word_places words.Got l s)
     (other_slots l s h.free fit (IsAt-from l front s h) (omega (arith, e, low, small))) e
 
-blocks_ascend : (l : Layout) (limit : ℕ) → AscendAt l (IsFit l) 8 (first_free l).block limit (symbol_share l role.GotRelr) (word_places words.Block l)
+blocks_ascend : (l : Layout) (limit : ℕ) → AscendAt l (IsFit l) 8 (first_free l).block limit (symbol_share l role.GotRelr) (word_places words.RelrGot l)
 blocks_ascend l limit front s fit h low =
-    slots_ascend h.free.block (length (words_in words.Block l s)) ((first_free l).block + total (symbol_share l role.GotRelr) front) (word_places words.Block l s)
+    slots_ascend h.free.block (length (words_in words.RelrGot l s)) ((first_free l).block + total (symbol_share l role.GotRelr) front) (word_places words.RelrGot l s)
     (block_slots l s h.free (IsAt-from l front s h)) h.behind.block
 
 stubs_ascend : (l : Layout) (limit : ℕ) → AscendAt l (IsFit l) stub_size (first_free l).stub limit (symbol_share l role.PltGot) (stub_places l)
@@ -89,6 +89,6 @@ table_ascends l h small =
 pub ascending : (l : Layout) → HasSlotsInOrder l → end_of l role.Got ≤ 2 ^ 64 → HasAscendingPlaces l
 ascending l h small = record {
   table = table_ascends l h small;
-  blocks = to_end l h 8 (first_free l).block (end_of l role.GotRelr) (symbol_share l role.GotRelr) (word_places words.Block l) (blocks_ascend l (end_of l role.GotRelr)) (headless_end l role.GotRelr (block_table l));
+  blocks = to_end l h 8 (first_free l).block (end_of l role.GotRelr) (symbol_share l role.GotRelr) (word_places words.RelrGot l) (blocks_ascend l (end_of l role.GotRelr)) (headless_end l role.GotRelr (block_table l));
   stubs = to_end l h stub_size (first_free l).stub (end_of l role.PltGot) (symbol_share l role.PltGot) (stub_places l) (stubs_ascend l (end_of l role.PltGot)) (headless_end l role.PltGot (stub_table l));
 }

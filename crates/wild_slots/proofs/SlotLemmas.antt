@@ -10,7 +10,7 @@ use Rattle.wild_types.specs.declared.symbol.Resolution.{Resolution}
 use Rattle.wild_slot.specs.declared.slot.Setting.{Setting}
 use Rattle.wild_slot.specs.declared.slot.SlotEntry.{SlotEntry}
 use Rattle.wild_slot.specs.declared.slot.SlotWord.{SlotWord}
-use Rattle.wild_slot.specs.declared.slot.SlotWord.TheVariants.{Number, Address, InBlock, General, Plt}
+use Rattle.wild_slot.specs.declared.slot.SlotWord.TheVariants.{Number, Address, InRelrGot, General, Plt}
 use Rattle.wild_slot.specs.declared.slot.SlotItem.{SlotItem}
 use Rattle.wild_slot.specs.declared.slot.SlotItem.TheVariants.{Word, Stub, Fault}
 use Rattle.wild_types.specs.Kinds.{is_executable, is_static_executable, is_position_independent}
@@ -42,7 +42,7 @@ IsEntry r e = IsNamed r e ⊎ (IsIndirect r e ⊎ (NamesModules e.kind × (e.sym
 abbrev pub IsOther : Setting → Resolution → SlotWord → Type 0
 IsOther s r (Number n) = Unit {0}
 IsOther s r (Address a) = is_position_independent s.kind ≡ true
-IsOther s r (InBlock a) = ⊥
+IsOther s r (InRelrGot a) = ⊥
 IsOther s r (General e) = IsEntry r e
 IsOther s r (Plt e) = ⊥
 
@@ -50,7 +50,7 @@ IsOther s r (Plt e) = ⊥
 abbrev pub IsFirst : Setting → Resolution → SlotWord → Type 0
 IsFirst s r (Number n) = Unit {0}
 IsFirst s r (Address a) = is_position_independent s.kind ≡ true
-IsFirst s r (InBlock a) = is_position_independent s.kind ≡ true
+IsFirst s r (InRelrGot a) = is_position_independent s.kind ≡ true
 IsFirst s r (General e) = IsEntry r e
 IsFirst s r (Plt e) = IsEntry r e
 
@@ -114,7 +114,7 @@ first_item s r =
     of_if P (has_flag r.flags ifunc) _ _ (λ t. inr (inl (record { indirect = t; is = refl }))) (λ h.
     of_if P (is_position_independent s.kind && has_link_time_address r.flags) _ _ (λ t. moves s.relr (and_parts _ _ t).0) (λ i. tt))))
   where
-    moves : (b : Bool) → is_position_independent s.kind ≡ true → ItemHas (IsFirst s r) (Word (if b then InBlock r.raw_value else Address r.raw_value))
+    moves : (b : Bool) → is_position_independent s.kind ≡ true → ItemHas (IsFirst s r) (Word (if b then InRelrGot r.raw_value else Address r.raw_value))
     moves true h = h
     moves false h = h
 

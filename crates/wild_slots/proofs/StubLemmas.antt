@@ -12,9 +12,9 @@ use Rattle.wild_slot.specs.declared.slot.SlotItem.TheVariants.{Stub}
 use Rattle.wild_types.specs.SymbolSlots.{got_of, resolved_got, plt_of, resolved_plt, has_thread_slot}
 use Rattle.wild_slot.specs.Slots.{SlotContent, setting_of, slot, items_at, no_slot, add_item, with_item, with_item_by, with_items, thread_items, plain_item, stub_item, stub_items, ifunc_address_items, canonical_address_items, address_items}
 use Rattle.wild_slot.specs.SymbolWords.{slots_of, resolved_slots}
-use Rattle.wild_slot.specs.MachineStub.{far_of}
+use Rattle.wild_slot.specs.MachineStub.{distance_if_too_far}
 use Rattle.wild_types.specs.ResolvedFlags.{HasItsFlags}
-use Rattle.wild_clauses.proofs.ClauseLemmas.{not_thread}
+use Rattle.wild_plan_rules.proofs.ClauseLemmas.{not_thread}
 use Rattle.wild_layout.specs.SlotOrder.{HasSlotsInOrder}
 use Rattle.wild_slots.proofs.Resolved.{has_resolution}
 use Rattle.wild_slots.proofs.ItemLemmas.{fault_first, stub_stays}
@@ -60,4 +60,4 @@ stub_there l h i at p s e g q n =
   where
     by_resolution : HasItsFlags s → has_thread_slot s.flags ≡ false → (o : Option Resolution) → s.resolution ≡ o → resolved_got o ≡ Some at → resolved_plt o ≡ Some p → (resolved_slots l o).fault ≡ None → (resolved_slots l o).has_stub ≡ true
     by_resolution own t None is a b m = cc
-    by_resolution own t (Some r) is a b m = made (setting_of l) (far_of l r) r at p a b (ap has_thread_slot (own r is) ∙ t) m
+    by_resolution own t (Some r) is a b m = made (setting_of l) (distance_if_too_far l r) r at p a b (ap has_thread_slot (own r is) ∙ t) m

@@ -4,29 +4,29 @@ use Rattle.std.specs.Prelude.{Option, if◌then◌else◌, option_to_list, unwra
 use Rattle.std.proofs.lemmas.Bool.{and_parts, eqb-true}
 use Rattle.std.proofs.lemmas.List.Elements.{All-nil}
 use Rattle.wild_words.proofs.ListLemmas.{All-flat_map}
-use Rattle.wild_relr.specs.Packed.{slots}
+use Rattle.wild_relr.specs.RunWords.{slots}
 use Rattle.wild_types.specs.declared.part.Role.TheVariants as role
 use Rattle.wild_types.specs.declared.file.Group.{Group}
 use Rattle.wild_types.specs.declared.symbol.Resolution.{Resolution}
 use Rattle.wild_types.specs.declared.symbol.Symbol.{Symbol}
 use Rattle.wild_types.specs.declared.layout.Layout.{Layout}
-use Rattle.wild_clauses.specs.declared.slots.Free.{Free}
+use Rattle.wild_plan_rules.specs.declared.slot_places.SlotCursor.{SlotCursor}
 use Rattle.wild_slot.specs.declared.slot.SlotWord.{SlotWord}
-use Rattle.wild_slot.specs.declared.slot.SlotWord.TheVariants.{Number, Address, InBlock, General, Plt}
+use Rattle.wild_slot.specs.declared.slot.SlotWord.TheVariants.{Number, Address, InRelrGot, General, Plt}
 use Rattle.wild_slot.specs.declared.slot_parts.WordPart.TheVariants as words
-use Rattle.wild_slot.specs.SlotParts.{next, at_places, slot_words, begins_block}
-use Rattle.wild_types.specs.SymbolSlots.{got_of, resolved_got, plt_of, slots_at}
+use Rattle.wild_slot.specs.SlotParts.{next, at_places, slot_words, begins_relr_got}
+use Rattle.wild_types.specs.SymbolSlots.{got_of, resolved_got, plt_of, slots_address}
 use Rattle.wild_slot.specs.Slots.{setting_of, slot, with_items, no_slot, items_at}
-use Rattle.wild_clauses.specs.SlotFlags.{second_slot_fits}
+use Rattle.wild_plan_rules.specs.SlotFlags.{second_slot_fits}
 use Rattle.wild_needs.specs.SlotShares.{stub_size, words_in, symbol_share}
 use Rattle.wild_types.specs.FileSymbols.{own_symbols}
 use Rattle.wild_slot.specs.SymbolWords.{slots_of, resolved_slots}
-use Rattle.wild_clauses.specs.SlotPlaces.{stands_at}
-use Rattle.wild_slot.specs.MachineStub.{far_of}
+use Rattle.wild_plan_rules.specs.SlotPlaces.{is_free_place}
+use Rattle.wild_slot.specs.MachineStub.{distance_if_too_far}
 use Rattle.wild_types.specs.ResolvedFlags.{HasItsFlags}
 use Rattle.wild_types.proofs.FileLemmas.{All-own}
 use Rattle.wild_slots.specs.Order.{group_symbols, written_symbols}
-use Rattle.wild_slots.specs.Ascend.{Ascend, place_in, word_places, stub_places}
+use Rattle.wild_slots.specs.AscendingPlaces.{Ascend, place_in, word_places, stub_places}
 use Rattle.wild_slots.proofs.Resolved.{has_resolution}
 use Rattle.wild_slots.proofs.OrderLemmas.{StandsBehind}
 use Rattle.wild_slots.proofs.BlockWordLemmas.{NotInBlock, FirstAlone, first_alone, none_in_block, begins, only_word}
@@ -46,7 +46,7 @@ no_words : (l : Layout) (s : Symbol) → got_of s ≡ None → (slots_of l s).wo
 unfolding slots_of slot
 no_words l s g = by_resolution s.resolution g
   where
-    by_place : (r : Resolution) (o : Option ℕ) → o ≡ None → (with_items no_slot (items_at (setting_of l) (far_of l r) r o)).words ≡ []
+    by_place : (r : Resolution) (o : Option ℕ) → o ≡ None → (with_items no_slot (items_at (setting_of l) (distance_if_too_far l r) r o)).words ≡ []
     by_place r None e = refl
     by_place r (Some at) e = cc
 
@@ -56,17 +56,17 @@ no_words l s g = by_resolution s.resolution g
 
 -- ---- its place
 
-pub record IsAt (l : Layout) (s : Symbol) (free : Free) : Type 0 where
-  pub words : (at : ℕ) → got_of s ≡ Some at → slots_at s ≡ (if begins_block (slots_of l s).words then free.block else free.got)
+pub record IsAt (l : Layout) (s : Symbol) (free : SlotCursor) : Type 0 where
+  pub words : (at : ℕ) → got_of s ≡ Some at → slots_address s ≡ (if begins_relr_got (slots_of l s).words then free.block else free.got)
   pub stub : (p : ℕ) → plt_of s ≡ Some p → p ≡ free.stub
 
-pub stood : (free at : ℕ) (o : Option ℕ) → stands_at free o ≡ true → o ≡ Some at → at ≡ free
+pub stood : (free at : ℕ) (o : Option ℕ) → is_free_place free o ≡ true → o ≡ Some at → at ≡ free
 stood free at None h e = cc
 stood free at (Some a) h e = let i : a ≡ at = cc in sym i ∙ eqb-true a free h
 
 pub IsAt-from : (l : Layout) (front : List Symbol) (s : Symbol) (h : StandsBehind l front s) → IsAt l s h.free
 IsAt-from l front s h =
-    let p = and_parts (stands_at (if begins_block (slots_of l s).words then h.free.block else h.free.got) (got_of s)) (stands_at h.free.stub (plt_of s)) h.next in
+    let p = and_parts (is_free_place (if begins_relr_got (slots_of l s).words then h.free.block else h.free.got) (got_of s)) (is_free_place h.free.stub (plt_of s)) h.next in
     record {
       words = λ at g. ap (λ (o : Option ℕ). unwrap_or o 0) g ∙ stood _ at (got_of s) p.0 g;
       stub = λ q e. stood h.free.stub q (plt_of s) p.1 e;
@@ -74,28 +74,28 @@ IsAt-from l front s h =
 
 -- ---- the words of blocks
 
-no_place : (at : ℕ) (w : SlotWord) → NotInBlock w → place_in words.Block at w ≡ None
+no_place : (at : ℕ) (w : SlotWord) → NotInBlock w → place_in words.RelrGot at w ≡ None
 no_place at (Number n) h = refl
 no_place at (Address a) h = refl
-no_place at (InBlock a) h = absurd h
+no_place at (InRelrGot a) h = absurd h
 no_place at (General e) h = refl
 no_place at (Plt e) h = refl
 
-pub no_places : (at : ℕ) (ws : List SlotWord) → All NotInBlock ws → at_places (place_in words.Block) at ws ≡ []
-no_places at ws h = nothing_given (place_in words.Block) NotInBlock (λ p w n. no_place p w n) at ws h
+pub no_places : (at : ℕ) (ws : List SlotWord) → All NotInBlock ws → at_places (place_in words.RelrGot) at ws ≡ []
+no_places at ws h = nothing_given (place_in words.RelrGot) NotInBlock (λ p w n. no_place p w n) at ws h
 
 -- they have one place, the first, where they begin with one
-block_begins : (relr : Bool) (at free : ℕ) (ws : List SlotWord) → begins_block ws ≡ true → at ≡ free → FirstAlone ws → at_places (place_in words.Block) at ws ≡ slots free (length (slot_words words.Block relr at ws))
+block_begins : (relr : Bool) (at free : ℕ) (ws : List SlotWord) → begins_relr_got ws ≡ true → at ≡ free → FirstAlone ws → at_places (place_in words.RelrGot) at ws ≡ slots free (length (slot_words words.RelrGot relr at ws))
 unfolding slots
 block_begins relr at free ws t e a =
     let b = begins ws t in
-    let P : List SlotWord → Type 0 = λ vs. at_places (place_in words.Block) at vs ≡ slots free (length (slot_words words.Block relr at vs)) in
+    let P : List SlotWord → Type 0 = λ vs. at_places (place_in words.RelrGot) at vs ≡ slots free (length (slot_words words.RelrGot relr at vs)) in
     let rest = subst FirstAlone b.is a in
     let n = no_places (next at) b.rest rest in
     let m = no_block_words relr (next at) b.rest rest in
     subst P (sym b.is) (rw (n, m, e) refl)
 
-block_none : (relr : Bool) (at free : ℕ) (ws : List SlotWord) → All NotInBlock ws → at_places (place_in words.Block) at ws ≡ slots free (length (slot_words words.Block relr at ws))
+block_none : (relr : Bool) (at free : ℕ) (ws : List SlotWord) → All NotInBlock ws → at_places (place_in words.RelrGot) at ws ≡ slots free (length (slot_words words.RelrGot relr at ws))
 unfolding slots
 block_none relr at free ws a =
     let n = no_places at ws a in
@@ -106,16 +106,16 @@ none_nil : (ws : List SlotWord) → ws ≡ [] → All NotInBlock ws
 none_nil ws e = subst (All NotInBlock) (sym e) (All-nil NotInBlock)
 
 -- the places of a symbol's words of the block: the free ones
-pub block_slots : (l : Layout) (s : Symbol) (free : Free) → IsAt l s free → word_places words.Block l s ≡ slots free.block (length (words_in words.Block l s))
+pub block_slots : (l : Layout) (s : Symbol) (free : SlotCursor) → IsAt l s free → word_places words.RelrGot l s ≡ slots free.block (length (words_in words.RelrGot l s))
 block_slots l s free h = by_place (got_of s) refl
   where
-    by_start : (at : ℕ) → got_of s ≡ Some at → (b : Bool) → begins_block (slots_of l s).words ≡ b → word_places words.Block l s ≡ slots free.block (length (words_in words.Block l s))
-    by_start at g true t = block_begins l.options.relr (slots_at s) free.block (slots_of l s).words t (rw t at (h.words at g)) (first_alone l s)
-    by_start at g false t = block_none l.options.relr (slots_at s) free.block (slots_of l s).words (none_in_block (slots_of l s).words t (first_alone l s))
+    by_start : (at : ℕ) → got_of s ≡ Some at → (b : Bool) → begins_relr_got (slots_of l s).words ≡ b → word_places words.RelrGot l s ≡ slots free.block (length (words_in words.RelrGot l s))
+    by_start at g true t = block_begins l.options.relr (slots_address s) free.block (slots_of l s).words t (rw t at (h.words at g)) (first_alone l s)
+    by_start at g false t = block_none l.options.relr (slots_address s) free.block (slots_of l s).words (none_in_block (slots_of l s).words t (first_alone l s))
 
-    by_place : (o : Option ℕ) → got_of s ≡ o → word_places words.Block l s ≡ slots free.block (length (words_in words.Block l s))
-    by_place None g = block_none l.options.relr (slots_at s) free.block (slots_of l s).words (none_nil (slots_of l s).words (no_words l s g))
-    by_place (Some at) g = by_start at g (begins_block (slots_of l s).words) refl
+    by_place : (o : Option ℕ) → got_of s ≡ o → word_places words.RelrGot l s ≡ slots free.block (length (words_in words.RelrGot l s))
+    by_place None g = block_none l.options.relr (slots_address s) free.block (slots_of l s).words (none_nil (slots_of l s).words (no_words l s g))
+    by_place (Some at) g = by_start at g (begins_relr_got (slots_of l s).words) refl
 
 -- ---- the words of no block
 
@@ -124,10 +124,10 @@ pub record IsFit (l : Layout) (s : Symbol) : Type 0 where
   pub flags : HasItsFlags s
   pub second : is_some s.resolution ≡ true → second_slot_fits l s ≡ true
 
-other_none : (l : Layout) (s : Symbol) (free a : ℕ) (ws : List SlotWord) → ws ≡ InBlock a ∷ [] → at_places (place_in words.Got) (slots_at s) ws ≡ slots free (length (slot_words words.Got l.options.relr (slots_at s) ws))
+other_none : (l : Layout) (s : Symbol) (free a : ℕ) (ws : List SlotWord) → ws ≡ InRelrGot a ∷ [] → at_places (place_in words.Got) (slots_address s) ws ≡ slots free (length (slot_words words.Got l.options.relr (slots_address s) ws))
 unfolding slots
 other_none l s free a ws e =
-    let P : List SlotWord → Type 0 = λ vs. at_places (place_in words.Got) (slots_at s) vs ≡ slots free (length (slot_words words.Got l.options.relr (slots_at s) vs)) in
+    let P : List SlotWord → Type 0 = λ vs. at_places (place_in words.Got) (slots_address s) vs ≡ slots free (length (slot_words words.Got l.options.relr (slots_address s) vs)) in
     subst P (sym e) refl
 
 others_follow : (relr : Bool) (at free : ℕ) (ws : List SlotWord) → All NotInBlock ws → (1 ≤ length ws → at ≡ free) → free + 8 * length (slot_words words.Got relr at ws) ≤ 2 ^ 64 → at_places (place_in words.Got) at ws ≡ slots free (length (slot_words words.Got relr at ws))
@@ -141,21 +141,21 @@ others_follow relr at free (w ∷ ws) a e h =
     subst P (sym n) (subst Q i (places_follow at (w ∷ ws) a (omega (arith, n, i, h))))
 
 -- the places of a symbol's other words: the free ones
-pub other_slots : (l : Layout) (s : Symbol) (free : Free) → IsFit l s → IsAt l s free → free.got + 8 * length (words_in words.Got l s) ≤ 2 ^ 64 → word_places words.Got l s ≡ slots free.got (length (words_in words.Got l s))
+pub other_slots : (l : Layout) (s : Symbol) (free : SlotCursor) → IsFit l s → IsAt l s free → free.got + 8 * length (words_in words.Got l s) ≤ 2 ^ 64 → word_places words.Got l s ≡ slots free.got (length (words_in words.Got l s))
 other_slots l s free fit h low = by_place (got_of s) refl
   where
-    by_start : (at : ℕ) → got_of s ≡ Some at → (b : Bool) → begins_block (slots_of l s).words ≡ b → word_places words.Got l s ≡ slots free.got (length (words_in words.Got l s))
+    by_start : (at : ℕ) → got_of s ≡ Some at → (b : Bool) → begins_relr_got (slots_of l s).words ≡ b → word_places words.Got l s ≡ slots free.got (length (words_in words.Got l s))
     by_start at g true t =
         let b = begins (slots_of l s).words t in
         let rest = only_word l s at b.value b.rest fit.flags (fit.second (has_resolution s at g)) g b.is in
-        other_none l s free.got b.value (slots_of l s).words (b.is ∙ ap (λ (ws : List SlotWord). InBlock b.value ∷ ws) rest)
-    by_start at g false t = others_follow l.options.relr (slots_at s) free.got (slots_of l s).words (none_in_block (slots_of l s).words t (first_alone l s)) (λ some. rw t at (h.words at g)) low
+        other_none l s free.got b.value (slots_of l s).words (b.is ∙ ap (λ (ws : List SlotWord). InRelrGot b.value ∷ ws) rest)
+    by_start at g false t = others_follow l.options.relr (slots_address s) free.got (slots_of l s).words (none_in_block (slots_of l s).words t (first_alone l s)) (λ some. rw t at (h.words at g)) low
 
     by_place : (o : Option ℕ) → got_of s ≡ o → word_places words.Got l s ≡ slots free.got (length (words_in words.Got l s))
     by_place None g =
         let none = no_words l s g in
-        others_follow l.options.relr (slots_at s) free.got (slots_of l s).words (none_nil (slots_of l s).words none) (λ some. let n = ap (λ (ws : List SlotWord). length ws) none in absurd (omega (arith, n, some))) low
-    by_place (Some at) g = by_start at g (begins_block (slots_of l s).words) refl
+        others_follow l.options.relr (slots_address s) free.got (slots_of l s).words (none_nil (slots_of l s).words none) (λ some. let n = ap (λ (ws : List SlotWord). length ws) none in absurd (omega (arith, n, some))) low
+    by_place (Some at) g = by_start at g (begins_relr_got (slots_of l s).words) refl
 
 -- ---- stubs
 
@@ -166,5 +166,5 @@ stub_ascends true (Some p) free h =
     let P : ℕ → Type 0 = λ (q : ℕ). Ascend stub_size free (free + stub_size) (q ∷ []) in
     subst P (sym (h p refl)) (Ascend-one stub_size free (free + stub_size) (omega arith))
 
-pub stub_place : (l : Layout) (s : Symbol) (free : Free) → IsAt l s free → Ascend stub_size free.stub (free.stub + symbol_share l role.PltGot s) (stub_places l s)
+pub stub_place : (l : Layout) (s : Symbol) (free : SlotCursor) → IsAt l s free → Ascend stub_size free.stub (free.stub + symbol_share l role.PltGot s) (stub_places l s)
 stub_place l s free h = stub_ascends (slots_of l s).has_stub (plt_of s) free.stub h.stub

@@ -8,7 +8,7 @@ use Rattle.std.proofs.lemmas.List.Concat.{flat_map-append}
 use Rattle.std.proofs.lemmas.List.Elements.{All-nil, All-cons, All-head, All-tail}
 use Rattle.wild_words.specs.Words.{word}
 use Rattle.wild_words.proofs.ListLemmas.{flat_map-flat_map}
-use Rattle.wild_relr.specs.Written.{word_bytes}
+use Rattle.wild_relr.specs.WriterState.{word_bytes}
 use Rattle.wild_relr.proofs.SpellLemmas.{length-word_bytes}
 use Rattle.wild_types.specs.declared.part.Role.{Role}
 use Rattle.wild_types.specs.declared.part.Role.TheVariants as role
@@ -19,13 +19,13 @@ use Rattle.wild_types.specs.declared.layout.Layout.{Layout}
 use Rattle.wild_slot.specs.declared.slot_parts.WordPart.TheVariants as words
 use Rattle.wild_types.specs.Lists.{total}
 use Rattle.wild_types.specs.FileRoles.{is_prelude, is_epilogue}
-use Rattle.wild_types.specs.FilePlaces.{bool_eq, file_placed, later_placed, files_placed, file_misplaced}
+use Rattle.wild_types.specs.FilePlaces.{bool_eq, file_position_fits, later_positions_fit, group_positions_fit, first_misplaced_file}
 use Rattle.wild_needs.specs.SlotShares.{stub_size, words_in, symbol_share, header_words}
 use Rattle.wild_types.specs.FileSymbols.{own_symbols}
 use Rattle.wild_slot.specs.SymbolWords.{slots_of}
-use Rattle.wild_types.specs.SymbolSlots.{slots_at}
-use Rattle.wild_laid.specs.Laid.{laid_files}
-use Rattle.wild_laid.proofs.LaidFiles.{ReadsNoSection, laid_same}
+use Rattle.wild_types.specs.SymbolSlots.{slots_address}
+use Rattle.wild_placement.specs.PlacedSections.{placed_files}
+use Rattle.wild_placement.proofs.PlacedFiles.{ReadsNoSection, laid_same}
 use Rattle.wild_layout.specs.SlotBytes.{stub_bytes, slot_words_of, stubs_of, slot_bytes}
 use Rattle.wild_layout.specs.Content.{file_content, group_bytes, content}
 use Rattle.wild_layout.specs.TablePlaces.{table_bytes}
@@ -36,7 +36,7 @@ use Rattle.wild_slot.proofs.StubLemmas.{length-stub_of}
 -- what a symbol gives to the table of a role
 abbrev pub symbol_bytes : Layout → Role → Symbol → List ℕ
 symbol_bytes l role.Got s = word_bytes (words_in words.Got l s)
-symbol_bytes l role.GotRelr s = word_bytes (words_in words.Block l s)
+symbol_bytes l role.GotRelr s = word_bytes (words_in words.RelrGot l s)
 symbol_bytes l role.PltGot s = stub_bytes l s
 symbol_bytes l other s = []
 
@@ -69,10 +69,10 @@ got_table l = record {
 pub block_table : (l : Layout) → IsTable l role.GotRelr []
 unfolding slot_words_of
 block_table l = record {
-  file = λ f. behind_head (is_prelude f.role) [] (slot_bytes l role.GotRelr f) (flat_map (symbol_bytes l role.GotRelr) (own_symbols l f)) (flat_map-flat_map (λ (w : ℕ). word 8 w) (words_in words.Block l) (own_symbols l f));
+  file = λ f. behind_head (is_prelude f.role) [] (slot_bytes l role.GotRelr f) (flat_map (symbol_bytes l role.GotRelr) (own_symbols l f)) (flat_map-flat_map (λ (w : ℕ). word 8 w) (words_in words.RelrGot l) (own_symbols l f));
   block = λ g. refl;
   stays = λ at f. refl;
-  share = λ s. length-word_bytes (words_in words.Block l s);
+  share = λ s. length-word_bytes (words_in words.RelrGot l s);
 }
 
 pub stub_table : (l : Layout) → IsTable l role.PltGot []
@@ -81,7 +81,7 @@ stub_table l = record {
   file = λ f. behind_head (is_prelude f.role) [] (slot_bytes l role.PltGot f) (flat_map (symbol_bytes l role.PltGot) (own_symbols l f)) refl;
   block = λ g. refl;
   stays = λ at f. refl;
-  share = λ s. stub_length l (slots_of l s).has_stub (slots_at s) _;
+  share = λ s. stub_length l (slots_of l s).has_stub (slots_address s) _;
 }
 
 -- ---- the length of what symbols give
@@ -110,7 +110,7 @@ files_given l r head (f ∷ fs) t a =
 
 group_given : (l : Layout) (r : Role) (head : List ℕ) (g : Group) (front : List ℕ) → IsTable l r head → flat_map (file_content l r) g.files ≡ front ++ flat_map (symbol_bytes l r) (group_symbols l g) → content l r g ≡ front ++ flat_map (symbol_bytes l r) (group_symbols l g)
 group_given l r head g front t e =
-    ap (λ (bs : List ℕ). flat_map (file_content l r) (laid_files l g) ++ bs) (t.block g) ∙ append-nil (flat_map (file_content l r) (laid_files l g)) ∙ laid_same l (file_content l r) g t.stays ∙ e
+    ap (λ (bs : List ℕ). flat_map (file_content l r) (placed_files l g) ++ bs) (t.block g) ∙ append-nil (flat_map (file_content l r) (placed_files l g)) ∙ laid_same l (file_content l r) g t.stays ∙ e
 
 abbrev pub FilesGiveNoHead : List ℕ → Group → Type 0
 FilesGiveNoHead head g = All (GivesNoHead head) g.files
@@ -134,30 +134,30 @@ headless l r t = groups_given l r [] l.groups t (λ k d lt j e m. none (is_prelu
 
 -- ---- the first file
 
-not_first : (head : List ℕ) (last : Bool) (f : File) → file_placed false last f ≡ true → GivesNoHead head f
+not_first : (head : List ℕ) (last : Bool) (f : File) → file_position_fits false last f ≡ true → GivesNoHead head f
 not_first head last f h = none (is_prelude f.role) (and_parts (bool_eq (is_prelude f.role) false) (bool_eq (is_epilogue f.role) last) h).0
   where
     none : (b : Bool) → bool_eq b false ≡ true → (if b then head else []) ≡ []
     none true e = cc
     none false e = refl
 
-later_files : (head : List ℕ) (last : Bool) (fs : List File) → later_placed last fs ≡ true → All (GivesNoHead head) fs
+later_files : (head : List ℕ) (last : Bool) (fs : List File) → later_positions_fit last fs ≡ true → All (GivesNoHead head) fs
 later_files head last [] h = All-nil (GivesNoHead head)
 later_files head last (f ∷ fs) h =
-    let p = and_parts (file_placed false (last && length fs == 0) f) (later_placed last fs) h in
+    let p = and_parts (file_position_fits false (last && length fs == 0) f) (later_positions_fit last fs) h in
     All-cons (GivesNoHead head) f fs (not_first head (last && length fs == 0) f p.0) (later_files head last fs p.1)
 
-later_group : (head : List ℕ) (last : Bool) (fs : List File) → files_placed false last fs ≡ true → All (GivesNoHead head) fs
+later_group : (head : List ℕ) (last : Bool) (fs : List File) → group_positions_fit false last fs ≡ true → All (GivesNoHead head) fs
 later_group head last [] h = All-nil (GivesNoHead head)
 later_group head last (f ∷ fs) h =
-    let p = and_parts (file_placed false (last && length fs == 0) f) (later_placed last fs) h in
+    let p = and_parts (file_position_fits false (last && length fs == 0) f) (later_positions_fit last fs) h in
     All-cons (GivesNoHead head) f fs (not_first head (last && length fs == 0) f p.0) (later_files head last fs p.1)
 
-first_group : (l : Layout) (r : Role) (head : List ℕ) (last : Bool) (fs : List File) → IsTable l r head → files_placed true last fs ≡ true → flat_map (file_content l r) fs ≡ head ++ flat_map (symbol_bytes l r) (flat_map (own_symbols l) fs)
+first_group : (l : Layout) (r : Role) (head : List ℕ) (last : Bool) (fs : List File) → IsTable l r head → group_positions_fit true last fs ≡ true → flat_map (file_content l r) fs ≡ head ++ flat_map (symbol_bytes l r) (flat_map (own_symbols l) fs)
 first_group l r head last [] t h = cc
 first_group l r head last (f ∷ fs) t h =
     let own = flat_map (symbol_bytes l r) (own_symbols l f) in
-    let p = and_parts (file_placed true (last && length fs == 0) f) (later_placed last fs) h in
+    let p = and_parts (file_position_fits true (last && length fs == 0) f) (later_positions_fit last fs) h in
     let first = whole (is_prelude f.role) (and_parts (bool_eq (is_prelude f.role) true) (bool_eq (is_epilogue f.role) (last && length fs == 0)) p.0).0 in
     let here = t.file f ∙ ap (λ (bs : List ℕ). bs ++ own) first in
     let rest = files_given l r head fs t (later_files head last fs p.1) in
@@ -172,24 +172,24 @@ first_group l r head last (f ∷ fs) t h =
 
 -- where a group is out of its place, the test says so
 record Placed (first : Bool) (i : ℕ) (g : Group) (gs : List Group) : Type 0 where
-  here : files_placed first (length gs == 0) g.files ≡ true
-  rest : file_misplaced false (i + 1) gs ≡ None
+  here : group_positions_fit first (length gs == 0) g.files ≡ true
+  rest : first_misplaced_file false (i + 1) gs ≡ None
 
-placed : (first : Bool) (i : ℕ) (g : Group) (gs : List Group) → file_misplaced first i (g ∷ gs) ≡ None → Placed first i g gs
+placed : (first : Bool) (i : ℕ) (g : Group) (gs : List Group) → first_misplaced_file first i (g ∷ gs) ≡ None → Placed first i g gs
 placed first i g gs h =
-    elim (cases_Bool (files_placed first (length gs == 0) g.files)) [
+    elim (cases_Bool (group_positions_fit first (length gs == 0) g.files)) [
       | inl t ↦ record { here = t; rest = rw t at h }
       | inr f ↦ cc (rw f at h)
     ]
 
-later_groups : (head : List ℕ) (i : ℕ) (gs : List Group) → file_misplaced false i gs ≡ None → All (FilesGiveNoHead head) gs
+later_groups : (head : List ℕ) (i : ℕ) (gs : List Group) → first_misplaced_file false i gs ≡ None → All (FilesGiveNoHead head) gs
 later_groups head i [] h = All-nil (FilesGiveNoHead head)
 later_groups head i (g ∷ gs) h =
     let p = placed false i g gs h in
     All-cons (FilesGiveNoHead head) g gs (later_group head (length gs == 0) g.files p.here) (later_groups head (i + 1) gs p.rest)
 
 -- a table of several groups, whose front the first file gives
-headed_groups : (l : Layout) (r : Role) (head : List ℕ) (gs : List Group) → IsTable l r head → file_misplaced true 0 gs ≡ None → 1 ≤ length gs → flat_map (content l r) gs ≡ head ++ flat_map (symbol_bytes l r) (flat_map (group_symbols l) gs)
+headed_groups : (l : Layout) (r : Role) (head : List ℕ) (gs : List Group) → IsTable l r head → first_misplaced_file true 0 gs ≡ None → 1 ≤ length gs → flat_map (content l r) gs ≡ head ++ flat_map (symbol_bytes l r) (flat_map (group_symbols l) gs)
 headed_groups l r head [] t h some = absurd (omega arith)
 headed_groups l r head (g ∷ gs) t h some =
     let own = flat_map (symbol_bytes l r) (group_symbols l g) in
@@ -201,5 +201,5 @@ headed_groups l r head (g ∷ gs) t h some =
     ∙ append_assoc head own (flat_map (symbol_bytes l r) (flat_map (group_symbols l) gs))
     ∙ ap (λ (bs : List ℕ). head ++ bs) (sym (flat_map-append (symbol_bytes l r) (group_symbols l g) (flat_map (group_symbols l) gs)))
 
-pub headed : (l : Layout) (r : Role) (head : List ℕ) → IsTable l r head → file_misplaced true 0 l.groups ≡ None → 1 ≤ length l.groups → table_bytes l r ≡ head ++ flat_map (symbol_bytes l r) (written_symbols l)
+pub headed : (l : Layout) (r : Role) (head : List ℕ) → IsTable l r head → first_misplaced_file true 0 l.groups ≡ None → 1 ≤ length l.groups → table_bytes l r ≡ head ++ flat_map (symbol_bytes l r) (written_symbols l)
 headed l r head t h some = headed_groups l r head l.groups t h some

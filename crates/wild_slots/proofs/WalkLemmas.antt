@@ -3,7 +3,7 @@ use Rattle.std.proofs.Common.{◌≡◌, ℕ, zero, suc, ◌<◌, List, [], ◌�
 use Rattle.std.specs.Prelude.{Result}
 use Rattle.std.specs.List.{flat_map}
 use Rattle.std.proofs.lemmas.List.{append-nil, append_assoc}
-use Rattle.wild_clauses.specs.SlotPlaces.{and_then, walk}
+use Rattle.wild_plan_rules.specs.SlotPlaces.{and_then, walk}
 
 -- each item stands in that relation to the items before it, and those of front
 abbrev pub AllBehind : {Y : Type 0} → (List Y → Y → Type 0) → List Y → List Y → Type 0

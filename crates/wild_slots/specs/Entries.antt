@@ -22,9 +22,9 @@ use Rattle.wild_slot.specs.declared.slot_parts.EntryPart.TheVariants as entries
 use Rattle.wild_types.specs.Flags.{has_flag, ifunc}
 use Rattle.wild_types.specs.Kinds.{is_position_independent}
 use Rattle.wild_types.specs.ResolvedFlags.{HasItsFlags}
-use Rattle.wild_types.specs.SymbolSlots.{got_of, slots_at}
+use Rattle.wild_types.specs.SymbolSlots.{got_of, slots_address}
 use Rattle.wild_slot.specs.SlotParts.{entry_of}
-use Rattle.wild_needs.specs.SlotShares.{word_size, storage_words, group_block}
+use Rattle.wild_needs.specs.SlotShares.{word_size, storage_words, group_relr_got}
 use Rattle.wild_types.specs.FileSymbols.{own_symbols}
 use Rattle.wild_slot.specs.SymbolWords.{slots_of}
 use Rattle.wild_layout.specs.SlotBytes.{slot_words_of, slot_entries_of, flat_places_of}
@@ -88,7 +88,7 @@ pub record IsOfWord (l : Layout) (f : File) (part : EntryPart) (e : Rela) : Type
   pub number : ℕ
   pub word : SlotWord
   pub there : slice_get (slots_of l symbol).words number ≡ Some word
-  pub is : entry_of part l.machine l.options.relr ((slots_at symbol + word_size * number) % 2 ^ 64) word ≡ Some e
+  pub is : entry_of part l.machine l.options.relr ((slots_address symbol + word_size * number) % 2 ^ 64) word ≡ Some e
 
 -- if the slots' places are numbers of 64 bits
 abbrev pub EntriesAreOfWords : Type 0
@@ -98,8 +98,8 @@ EntriesAreOfWords = (l : Layout) (f : File) (part : EntryPart) → All (λ (s : 
 pub record MovesNothing (l : Layout) : Type 0 where
   pub relative : (f : File) → slot_entries_of entries.Relative l f ≡ []
   pub flat : (f : File) → flat_places_of l f ≡ []
-  pub block : (f : File) → slot_words_of words.Block l f ≡ []
-  pub groups : (g : Group) → group_block l g ≡ []
+  pub block : (f : File) → slot_words_of words.RelrGot l f ≡ []
+  pub groups : (g : Group) → group_relr_got l g ≡ []
 
 -- in an output with a fixed base
 abbrev pub FixedOutputsMoveNothing : Type 0

@@ -1,5 +1,5 @@
 pub mod Order
-pub mod Stand
-pub mod Ascend
+pub mod SlotPlaces
+pub mod AscendingPlaces
 pub mod Blocks
 pub mod Entries

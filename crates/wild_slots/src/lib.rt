@@ -1,19 +1,19 @@
 //! The places of slots' words in their tables, and their relocation entries. All functions are laws without code.
 #![tactic(auto)]
 
-ghost use Rattle.wild_slots.specs.Stand.{SlotsStand, EachWordStands, StubsAreThere, PairStands};
-ghost use Rattle.wild_slots.specs.Ascend.{PlacesAscend};
+ghost use Rattle.wild_slots.specs.SlotPlaces.{SlotsArePlaced, EachWordIsPlaced, StubsAreThere, PairIsPlaced};
+ghost use Rattle.wild_slots.specs.AscendingPlaces.{PlacesAscend};
 ghost use Rattle.wild_slots.specs.Blocks.{BlocksAreWhole};
 ghost use Rattle.wild_slots.specs.Entries.{EntriesAreKnown, EntriesAreOfWords, FixedOutputsMoveNothing};
 
 /// A file writes the words and the stub of each symbol with slots, at their addresses in the tables.
-pub fn slots_stand()
-    ensures { SlotsStand }
+pub fn slots_are_placed()
+    ensures { SlotsArePlaced }
 {}
 
 /// Each word is 8 bytes after the one before it.
-pub fn each_word_stands()
-    ensures { EachWordStands }
+pub fn each_word_is_placed()
+    ensures { EachWordIsPlaced }
 {}
 
 /// A symbol with slots whose stub has an address has a stub, if its slots have no fault.
@@ -22,8 +22,8 @@ pub fn stubs_are_there()
 {}
 
 /// The pair of the output's own thread-local data is at its address.
-pub fn pair_stands()
-    ensures { PairStands }
+pub fn pair_is_placed()
+    ensures { PairIsPlaced }
 {}
 
 /// The places of words and of stubs are in ascending order.

@@ -1,10 +1,7 @@
-pub mod StringLemmas
-pub mod SymbolLemmas
 pub mod RunLemmas
 pub mod RoomLemmas
 pub mod EntryRunLemmas
 pub mod TableRunLemmas
-pub mod TableLemmas
 pub mod SideLemmas
 pub mod SlotNameLemmas
 pub mod WalkLemmas

@@ -13,8 +13,8 @@ use Rattle.wild_types.specs.declared.file.File.{File}
 use Rattle.wild_types.specs.declared.file.Group.{Group}
 use Rattle.wild_types.specs.declared.layout.Layout.{Layout}
 use Rattle.wild_types.specs.Lookups.{file_of, files_of}
-use Rattle.wild_symbols.specs.SectionSymbols.{entry_index, section_at, section_number, symbol_index, is_section_type}
-use Rattle.wild_symbols.specs.SymbolNumbers.{told_of, number_told, found}
+use Rattle.wild_table_formats.specs.SectionSymbols.{entry_index, section_at, section_number, symbol_index, is_section_type}
+use Rattle.wild_symbols.specs.SymbolNumbers.{section_symbol_number, section_symbol_number_at, found}
 
 -- one more symbol of a file, noted
 pub note_more : {T : Type 0} (told : ℕ → File → T) (f : File) (first i : ℕ) (before now : List (Option T)) (v : Option T) → first ≤ i → i < length now
@@ -87,19 +87,19 @@ never false o h = refl
 
 told_is : (l : Layout) (o : Option Symbol) (p : Option File)
     → option_and_then (λ (s : Symbol). if is_section_type s then option_and_then (section_number l) (option_and_then (λ (t : Symbol). option_and_then (section_at t.place) p) o) else None) o
-    ≡ option_flatten (option_map (λ (f : File). option_and_then (told_of l f) o) p)
+    ≡ option_flatten (option_map (λ (f : File). option_and_then (section_symbol_number l f) o) p)
 told_is l None None = refl
 told_is l None (Some f) = refl
 told_is l (Some s) None = never (is_section_type s) None refl
 told_is l (Some s) (Some f) = refl
 
 -- that of its own entry, else what was noted
-symbol_index_is : (l : Layout) (i : ℕ) → symbol_index l i ≡ option_or (entry_index l i) (option_flatten (found (number_told l) (files_of l.groups) i))
+symbol_index_is : (l : Layout) (i : ℕ) → symbol_index l i ≡ option_or (entry_index l i) (option_flatten (found (section_symbol_number_at l) (files_of l.groups) i))
 symbol_index_is l i = ap (option_or (entry_index l i)) (told_is l (slice_get l.symbols i) (file_of (files_of l.groups) i))
 
 -- one more number of the table
 pub number_more : (l : Layout) (i : ℕ) (numbers next : List (Option ℕ)) (own v : Option ℕ) (noted : Option (Option ℕ)) → numbers ≡ map (symbol_index l) (range_with_len 0 i) → next ≡ numbers ++ v ∷ []
-    → own ≡ entry_index l i → noted ≡ found (number_told l) (files_of l.groups) i → v ≡ option_or own (option_flatten noted) → next ≡ map (symbol_index l) (range_with_len 0 (i + 1))
+    → own ≡ entry_index l i → noted ≡ found (section_symbol_number_at l) (files_of l.groups) i → v ≡ option_or own (option_flatten noted) → next ≡ map (symbol_index l) (range_with_len 0 (i + 1))
 number_more l i numbers next own v noted before pushed o is e =
     pushed ∙ ap (λ (xs : List (Option ℕ)). xs ++ v ∷ []) before
     ∙ ap (λ (x : Option ℕ). map (symbol_index l) (range_with_len 0 i) ++ x ∷ []) (e ∙ ap (λ (x : Option ℕ). option_or x (option_flatten noted)) o ∙ ap (λ (x : Option (Option ℕ)). option_or (entry_index l i) (option_flatten x)) is ∙ sym (symbol_index_is l i))

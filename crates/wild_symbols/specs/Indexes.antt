@@ -3,7 +3,7 @@
 --   index_of each n      the bytes of an index: for every symbol, or only if its section does not fit in st_shndx
 --   with_index n t       with one symbol's index appended
 --   room_for_index n t   it fits, or InsufficientAllocation
---   left_of_indexes t    the share is full, or ExcessiveAllocation
+--   indexes_full_or_fault t    the share is full, or ExcessiveAllocation
 --   room_for_indexes n t the indexes of n more symbols fit, or InsufficientAllocation
 --   front_indexes n t    with room for those of n more symbols only; kept_indexes n t bytes are then reserved
 --   indexes_joined k t   with k of the reserved bytes usable again
@@ -54,8 +54,8 @@ room_for_index n t =
     else Ok tt
 
 -- the share is full
-abbrev pub left_of_indexes : Indexes → Result (Unit {0}) Error
-left_of_indexes t =
+abbrev pub indexes_full_or_fault : Indexes → Result (Unit {0}) Error
+indexes_full_or_fault t =
     if nat_lt (length t.bytes) t.room
     then Err (record { fault = faults.ExcessiveAllocation t.part t.group t.room (length t.bytes); at = nowhere })
     else Ok tt

@@ -1,17 +1,9 @@
-pub mod Strings
-pub mod Symbols
 pub mod Indexes
 pub mod Tables
 pub mod TableRoom
-pub mod DynamicFields
-pub mod DynamicEntries
-pub mod TableEntries
 pub mod Lending
 pub mod SlotNames
 pub mod Runs
-pub mod Laws
-pub mod TableLaws
 pub mod SectionCalls
-pub mod SectionSymbols
 pub mod SectionWalk
 pub mod SymbolNumbers

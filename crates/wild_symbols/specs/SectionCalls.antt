@@ -6,9 +6,9 @@ use Rattle.wild_types.specs.declared.fault.Fault.{Fault}
 use Rattle.wild_types.specs.declared.fault.Error.{Error}
 use Rattle.wild_types.specs.declared.layout.Layout.{Layout}
 use Rattle.wild_needs.specs.TableSymbols.{section_symbols}
-use Rattle.wild_symbols.specs.TableEntries.{NamedEntry, section_entry}
-use Rattle.wild_symbols.specs.Runs.{called}
-use Rattle.wild_symbols.specs.SlotNames.{offered}
+use Rattle.wild_table_formats.specs.TableEntries.{NamedEntry, section_entry}
+use Rattle.wild_symbols.specs.Runs.{after_call}
+use Rattle.wild_symbols.specs.SlotNames.{entry_result}
 use Rattle.wild_symbols.specs.declared.writer.SymbolTableWriter.{SymbolTableWriter}
 
 abbrev pub section_call : ℕ → Result NamedEntry Fault
@@ -18,9 +18,9 @@ abbrev pub section_calls : Layout → List (Result NamedEntry Fault)
 section_calls l = map section_call (section_symbols l)
 
 pub record SectionWritten (a : SymbolTableWriter) (k : ℕ) (b : SymbolTableWriter) : Type 0 where
-  pub fits : offered (section_call k) a ≡ Ok tt
-  pub is : b ≡ called (section_entry k) a
+  pub fits : entry_result (section_call k) a ≡ Ok tt
+  pub is : b ≡ after_call (section_entry k) a
 
 pub record SectionRefused (a : SymbolTableWriter) (k : ℕ) (e : Error) (b : SymbolTableWriter) : Type 0 where
-  pub fault : offered (section_call k) a ≡ Err e
+  pub fault : entry_result (section_call k) a ≡ Err e
   pub kept : b ≡ a

@@ -6,8 +6,8 @@ use Rattle.wild_types.specs.declared.file.File.{File}
 use Rattle.wild_types.specs.declared.file.Group.{Group}
 use Rattle.wild_types.specs.declared.layout.Layout.{Layout}
 
-abbrev pub alone_in : File → List ℕ
-alone_in f = flat_map (λ (s : InputSection). option_to_list s.singleton) f.sections
+abbrev pub singletons_in : File → List ℕ
+singletons_in f = flat_map (λ (s : InputSection). option_to_list s.singleton) f.sections
 
-abbrev pub alone_in_groups : Layout → List ℕ
-alone_in_groups l = flat_map (λ (g : Group). flat_map alone_in g.files) l.groups
+abbrev pub singletons_in_groups : Layout → List ℕ
+singletons_in_groups l = flat_map (λ (g : Group). flat_map singletons_in g.files) l.groups

@@ -2,7 +2,7 @@
 --   number_in i p q xs    the index of symbol i's first own entry in xs, if the next local entry has index p and the next other q
 --   Numbered a x b        an entry gets its index; SectionNumbered, SectionSought: a section symbol gets its index, or is compared
 --   HasOwnNumbers l v     a table with the index of each symbol's own entry
---   number_told l i f     if symbol i is a section symbol of file f, the index of its output section's symbol
+--   section_symbol_number_at l i f     if symbol i is a section symbol of file f, the index of its output section's symbol
 --   found told fs i       the value that the first file with symbol i in its range gives; none without such a file
 use Rattle.std.specs.Prelude.{◌≡◌, ℕ, ◌+◌, ◌<◌, Bool, true, false, if◌then◌else◌, List, [], ◌∷◌, length, Option, Some, None, option_and_then, option_map, slice_get, slice_index_or}
 use Rattle.std.specs.Option.{option_or}
@@ -10,8 +10,8 @@ use Rattle.wild_types.specs.declared.symbol.Symbol.{Symbol}
 use Rattle.wild_types.specs.declared.file.File.{File}
 use Rattle.wild_types.specs.declared.layout.Layout.{Layout}
 use Rattle.wild_types.specs.Lookups.{file_of}
-use Rattle.wild_needs.specs.TableSymbols.{TableSymbol, is_local, asked_from, kept_alone}
-use Rattle.wild_symbols.specs.SectionSymbols.{is_own_entry, entry_index, number_from, section_at, is_section_type, section_number}
+use Rattle.wild_needs.specs.TableSymbols.{TableSymbol, is_local, marked_sections, singleton_sections}
+use Rattle.wild_table_formats.specs.SectionSymbols.{is_own_entry, entry_index, number_from, section_at, is_section_type, section_number}
 use Rattle.wild_symbols.specs.declared.numbers.Numbers.{Numbers}
 use Rattle.wild_symbols.specs.declared.section_index.SectionTable.{SectionTable}
 use Rattle.wild_symbols.specs.declared.section_index.SectionSearch.{SectionSearch}
@@ -24,23 +24,23 @@ number_at true p q = p
 number_at false p q = q
 
 -- the next indexes after an entry
-abbrev pub local_behind : Bool → ℕ → ℕ
-local_behind true p = p + 1
-local_behind false p = p
+abbrev pub local_after : Bool → ℕ → ℕ
+local_after true p = p + 1
+local_after false p = p
 
-abbrev pub other_behind : Bool → ℕ → ℕ
-other_behind true q = q
-other_behind false q = q + 1
+abbrev pub other_after : Bool → ℕ → ℕ
+other_after true q = q
+other_after false q = q + 1
 
 abbrev pub number_in : ℕ → ℕ → ℕ → List TableSymbol → Option ℕ
 number_in i p q [] = None
-number_in i p q (x ∷ xs) = if is_own_entry i x then Some (number_at (is_local x) p q) else number_in i (local_behind (is_local x) p) (other_behind (is_local x) q) xs
+number_in i p q (x ∷ xs) = if is_own_entry i x then Some (number_at (is_local x) p q) else number_in i (local_after (is_local x) p) (other_after (is_local x) q) xs
 
 -- an entry gets its index: with any entries still to come, each symbol has the same index before and after this step
 pub record Numbered (a : Numbers) (x : TableSymbol) (b : Numbers) : Type 0 where
   pub on : (xs : List TableSymbol) (k : ℕ) → k < length a.numbers.items
       → option_or (slice_index_or b.numbers.items k None) (number_in k b.local b.other xs) ≡ option_or (slice_index_or a.numbers.items k None) (number_in k a.local a.other (x ∷ xs))
-  pub local : b.local ≡ local_behind (is_local x) a.local
+  pub local : b.local ≡ local_after (is_local x) a.local
   pub same : length b.numbers.items ≡ length a.numbers.items
 
 -- a table with the index of each symbol's own entry
@@ -63,22 +63,22 @@ pub record SectionSought (a : SectionSearch) (m : ℕ) (b : SectionSearch) : Typ
   pub same : b.header ≡ a.header
 
 -- a table of the symbol indexes of the output sections with the flag section_symbol
-pub record HasAskedNumbers (l : Layout) (numbers : List (Option ℕ)) : Type 0 where
+pub record HasFlaggedNumbers (l : Layout) (numbers : List (Option ℕ)) : Type 0 where
   pub count : length numbers ≡ length l.sections
-  pub all : (k : ℕ) → k < length numbers → slice_index_or numbers k None ≡ number_from k 1 (asked_from 0 l.sections)
+  pub all : (k : ℕ) → k < length numbers → slice_index_or numbers k None ≡ number_from k 1 (marked_sections 0 l.sections)
 
 -- a table of the symbol indexes of the input sections that the object keeps as sections of their own
-pub record HasAloneNumbers (l : Layout) (front : ℕ) (numbers : List (Option ℕ)) : Type 0 where
-  pub all : (k : ℕ) → k < length numbers → slice_index_or numbers k None ≡ number_from k front (kept_alone l)
+pub record HasSingletonNumbers (l : Layout) (front : ℕ) (numbers : List (Option ℕ)) : Type 0 where
+  pub all : (k : ℕ) → k < length numbers → slice_index_or numbers k None ≡ number_from k front (singleton_sections l)
 
 -- ---- symbols of sections
 
-abbrev pub told_of : Layout → File → Symbol → Option ℕ
-told_of l f s = if is_section_type s then option_and_then (section_number l) (section_at s.place f) else None
+abbrev pub section_symbol_number : Layout → File → Symbol → Option ℕ
+section_symbol_number l f s = if is_section_type s then option_and_then (section_number l) (section_at s.place f) else None
 
 -- if symbol i is a section symbol of file f, the index of its output section's symbol
-abbrev pub number_told : Layout → ℕ → File → Option ℕ
-number_told l i f = option_and_then (told_of l f) (slice_get l.symbols i)
+abbrev pub section_symbol_number_at : Layout → ℕ → File → Option ℕ
+section_symbol_number_at l i f = option_and_then (section_symbol_number l f) (slice_get l.symbols i)
 
 -- the value that the first file with symbol i in its range gives
 abbrev pub found : {T : Type 0} → (ℕ → File → T) → List File → ℕ → Option T

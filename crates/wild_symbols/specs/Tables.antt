@@ -1,7 +1,7 @@
 -- The symbol tables of a group (gABI, "Symbol Table").
 --   no_dynamic_symbols l group    empty tables with the sizes of the group's shares of .dynsym and .dynstr
 --   no_symbols l group            empty tables with the sizes of the group's shares of .symtab and .strtab
---   placed name fields            the entry of a symbol; name is the offset of its name
+--   entry_with_name name fields            the entry of a symbol; name is the offset of its name
 --   long_of s                     the extended section index, if the header index does not fit in st_shndx
 --   with_fields local name t w    with a symbol, its extended section index and its name appended
 --   with_symbol local name s value a w    the same for a symbol with this value in a section
@@ -21,13 +21,13 @@ use Rattle.wild_types.specs.declared.layout.Layout.{Layout}
 use Rattle.wild_types.specs.Flags.{has_flag, downgrade_to_local}
 use Rattle.wild_types.specs.Shares.{part_of, share_of}
 use Rattle.wild_needs.specs.TableSymbols.{has_long}
-use Rattle.wild_symbols.specs.Strings.{offset_of, with_strings}
+use Rattle.wild_table_formats.specs.Strings.{offset_of, with_strings}
 use Rattle.wild_symbols.specs.Indexes.{Indexes, with_index}
-use Rattle.wild_symbols.specs.Symbols.{Symbols, with_entry}
-use Rattle.wild_symbols.specs.TableEntries.{name_at}
-use Rattle.wild_symbols.specs.declared.dynamic.SymbolFields.{SymbolFields}
-use Rattle.wild_symbols.specs.declared.table.TableFields.{TableFields}
-use Rattle.wild_symbols.specs.declared.writer.SymbolAttributes.{SymbolAttributes}
+use Rattle.wild_table_formats.specs.Symbols.{Symbols, with_entry}
+use Rattle.wild_table_formats.specs.TableEntries.{name_at}
+use Rattle.wild_table_formats.specs.declared.symbols.SymbolFields.{SymbolFields}
+use Rattle.wild_table_formats.specs.declared.symbols.TableFields.{TableFields}
+use Rattle.wild_table_formats.specs.declared.symbols.SymbolAttributes.{SymbolAttributes}
 use Rattle.wild_symbols.specs.declared.writer.SymbolTableWriter.{SymbolTableWriter}
 
 -- ---- empty tables
@@ -89,12 +89,12 @@ long_of (Raw n) = 0
 long_of (Index i) = (split_index i).1
 
 -- the fields of an entry, from the section, the value and the other attributes
-abbrev pub told : SymbolSection → ℕ → SymbolAttributes → TableFields
-told s value a = record { fields = record { section = section_number s; value = value; attributes = a }; long = long_of s }
+abbrev pub fields_in_section : SymbolSection → ℕ → SymbolAttributes → TableFields
+fields_in_section s value a = record { fields = record { section = section_number s; value = value; attributes = a }; long = long_of s }
 
 -- the entry; name is the offset of its name
-abbrev pub placed : ℕ → SymbolFields → SymtabEntry
-placed name fields = record {
+abbrev pub entry_with_name : ℕ → SymbolFields → SymtabEntry
+entry_with_name name fields = record {
   name = name;
   info = fields.attributes.info;
   other = fields.attributes.other;
@@ -124,10 +124,10 @@ with_name name w = record w { strtab = with_strings (option_to_list name) w.strt
 
 -- with a symbol with these fields appended; its name, if it has one, is the next string
 abbrev pub with_fields : Bool → Option (List ℕ) → TableFields → SymbolTableWriter → SymbolTableWriter
-with_fields local name t w = with_listed local (placed (name_at (offset_of w.strtab) name) t.fields) t.long (with_name name w)
+with_fields local name t w = with_listed local (entry_with_name (name_at (offset_of w.strtab) name) t.fields) t.long (with_name name w)
 
 abbrev pub with_symbol : Bool → List ℕ → SymbolSection → ℕ → SymbolAttributes → SymbolTableWriter → SymbolTableWriter
-with_symbol local name s value a w = with_fields local (Some name) (told s value a) w
+with_symbol local name s value a w = with_fields local (Some name) (fields_in_section s value a) w
 
 -- with an undefined symbol appended (SHN_UNDEF, value 0)
 abbrev pub with_undefined : Bool → List ℕ → SymbolAttributes → SymbolTableWriter → SymbolTableWriter

@@ -3,50 +3,23 @@ ghost use Rattle.std.specs.Prelude.{◌≡◌, ◌<◌};
 ghost use Rattle.wild_records.specs.SymbolSections.{split_index};
 ghost use Rattle.wild_types.specs.Parts.{part_with};
 ghost use Rattle.wild_types.specs.SymbolSlots.{plt_of};
-ghost use Rattle.wild_symbols.specs.DynamicFields.{own_attributes, with_type, library_info, library_attributes, nowhere_with, undefined_fields, section_named, some_section, part_section, named_sections, in_section, decided_value, is_thread_symbol, value_in, stands_as_stub, as_function, common_section, placed_fields, fields_at, canonical_fields, copied_fields, listed_by};
-ghost use Rattle.wild_symbols.specs.DynamicEntries.{no_fields, entry_at};
+ghost use Rattle.wild_table_formats.specs.DynamicFields.{own_attributes, with_type, library_info, library_attributes, undefined_with, undefined_fields, section_named, some_section, part_section, named_sections, in_section, resolved_value, is_thread_symbol, value_in, has_stub_address, as_function, common_section, placed_fields, fields_at, canonical_fields, copied_fields, exported_fields_in};
+ghost use Rattle.wild_table_formats.specs.DynamicEntries.{no_fields, entry_at};
 
-use crate::writer::SymbolAttributes;
 use wild_records::SymtabEntry;
 use wild_records::abi::section::{SHN_ABS, SHN_LORESERVE, SHN_UNDEF, SHN_XINDEX};
 use wild_records::abi::symbol::{STT_FUNC, STT_GNU_IFUNC, STT_TLS};
+use wild_table_formats::{NamedSections, SymbolAttributes, SymbolFields};
 use wild_types::{Fault, FileRole, Layout, Missing, Part, Place, Role, Symbol, has_role};
 
-/// The fields of an entry without `st_name`.
-#[derive(Clone, Copy)]
-pub struct SymbolFields {
-    /// `st_shndx`.
-    pub section: u16,
-    /// `st_value`.
-    pub value: u64,
-    pub attributes: SymbolAttributes,
-}
-
-/// The header indexes of the output sections of symbols that no input section defines; `None` for a section that is missing.
-#[derive(Clone, Copy)]
-pub struct NamedSections {
-    /// `.bss`, for common symbols and for copies of a library's data.
-    pub bss: Option<usize>,
-    /// `.tbss`, for thread-local common symbols.
-    pub tbss: Option<usize>,
-    /// The section of the PLT stubs.
-    pub stubs: Option<usize>,
-    /// The section of the GOT words.
-    pub got: Option<usize>,
-    /// The section of the GOT words that are relocated by RELR.
-    pub block: Option<usize>,
-}
-
-impl SymbolAttributes {
-    /// Type, binding, visibility and size that the layout has for a symbol.
-    pub fn of(symbol: &Symbol) -> SymbolAttributes
-        ensures { result ≡ own_attributes symbol.now }
-    {
-        SymbolAttributes {
-            info: symbol.info,
-            other: symbol.other,
-            size: symbol.size,
-        }
+/// Type, binding, visibility and size that the layout has for a symbol.
+fn own_attributes(symbol: &Symbol) -> SymbolAttributes
+    ensures { result ≡ own_attributes symbol.now }
+{
+    SymbolAttributes {
+        info: symbol.info,
+        other: symbol.other,
+        size: symbol.size,
     }
 }
 
@@ -81,8 +54,8 @@ fn library_attributes(info: u8) -> SymbolAttributes
 }
 
 /// The fields of an undefined symbol: `SHN_UNDEF`, and the value 0.
-pub(crate) fn nowhere_with(attributes: SymbolAttributes) -> SymbolFields
-    ensures { result ≡ nowhere_with attributes }
+pub(crate) fn undefined_with(attributes: SymbolAttributes) -> SymbolFields
+    ensures { result ≡ undefined_with attributes }
 {
     SymbolFields {
         section: SHN_UNDEF,
@@ -96,9 +69,9 @@ pub fn undefined_fields(role: FileRole, symbol: &Symbol) -> SymbolFields
     ensures { result ≡ undefined_fields role symbol.now }
 {
     if role.is_library() {
-        nowhere_with(library_attributes(library_info(symbol.info)))
+        undefined_with(library_attributes(library_info(symbol.info)))
     } else {
-        nowhere_with(SymbolAttributes::of(symbol))
+        undefined_with(own_attributes(symbol))
     }
 }
 
@@ -132,18 +105,16 @@ fn section_of_role(role: Role, parts: &[Part]) -> Option<usize>
     None
 }
 
-impl NamedSections {
-    /// Finds the sections in a layout.
-    pub fn of(layout: &Layout) -> NamedSections
-        ensures { result ≡ named_sections layout.now }
-    {
-        NamedSections {
-            bss: section_named(layout, b".bss"),
-            tbss: section_named(layout, b".tbss"),
-            stubs: section_of_role(Role::PltGot, layout.parts.as_slice()),
-            got: section_of_role(Role::Got, layout.parts.as_slice()),
-            block: section_of_role(Role::GotRelr, layout.parts.as_slice()),
-        }
+/// Finds the sections in a layout.
+pub fn named_sections(layout: &Layout) -> NamedSections
+    ensures { result ≡ named_sections layout.now }
+{
+    NamedSections {
+        bss: section_named(layout, b".bss"),
+        tbss: section_named(layout, b".tbss"),
+        stubs: section_of_role(Role::PltGot, layout.parts.as_slice()),
+        got: section_of_role(Role::Got, layout.parts.as_slice()),
+        block: section_of_role(Role::GotRelr, layout.parts.as_slice()),
     }
 }
 
@@ -190,8 +161,8 @@ pub(crate) fn stub_of(symbol: &Symbol) -> Option<u64>
 }
 
 /// The resolved address of a symbol; 0 if it has none.
-fn decided_value(symbol: &Symbol) -> u64
-    ensures { result ≡ decided_value symbol.now }
+fn resolved_value(symbol: &Symbol) -> u64
+    ensures { result ≡ resolved_value symbol.now }
 {
     match symbol.resolution {
         Some(resolution) => resolution.raw_value,
@@ -209,7 +180,7 @@ pub(crate) fn is_thread_symbol(symbol: &Symbol) -> bool
 fn value_in(layout: &Layout, symbol: &Symbol) -> u64
     ensures { result ≡ value_in layout.now symbol.now }
 {
-    let value = decided_value(symbol);
+    let value = resolved_value(symbol);
     if is_thread_symbol(symbol) {
         value.wrapping_sub(layout.tls.start)
     } else {
@@ -219,8 +190,8 @@ fn value_in(layout: &Layout, symbol: &Symbol) -> u64
 
 /// Whether the entry of an ifunc has the address of its PLT stub. This is so in an output with a fixed load address, where
 /// pointers to the function must compare equal in all modules.
-pub(crate) fn stands_as_stub(layout: &Layout, symbol: &Symbol) -> bool
-    ensures { result ≡ stands_as_stub layout.now symbol.now }
+pub(crate) fn has_stub_address(layout: &Layout, symbol: &Symbol) -> bool
+    ensures { result ≡ has_stub_address layout.now symbol.now }
 {
     symbol.flags.is_ifunc() && (stub_of(symbol).is_some() && layout.kind.has_fixed_load_address())
 }
@@ -261,12 +232,12 @@ fn placed_fields(
     requires { named ≡ named_sections layout.now }
     ensures { result ≡ placed_fields layout.now index symbol.now section }
 {
-    if stands_as_stub(layout, symbol) {
+    if has_stub_address(layout, symbol) {
         let stub = stub_of(symbol).unwrap_or(0);
         in_section(index, named.stubs, stub, as_function(symbol))
     } else {
         let value = value_in(layout, symbol);
-        in_section(index, section, value, SymbolAttributes::of(symbol))
+        in_section(index, section, value, own_attributes(symbol))
     }
 }
 
@@ -282,11 +253,11 @@ fn fields_at(
     ensures { result ≡ fields_at layout.now index symbol.now section symbol.now.place }
 {
     match symbol.place {
-        Place::Undefined => Ok(nowhere_with(SymbolAttributes::of(symbol))),
+        Place::Undefined => Ok(undefined_with(own_attributes(symbol))),
         Place::Absolute => Ok(SymbolFields {
             section: SHN_ABS,
             value: symbol.value,
-            attributes: SymbolAttributes::of(symbol),
+            attributes: own_attributes(symbol),
         }),
         Place::Common => {
             let section = common_section(named, layout, symbol);
@@ -304,7 +275,7 @@ fn canonical_fields(index: usize, symbol: &Symbol) -> Result<SymbolFields, Fault
     ensures { result ≡ canonical_fields index symbol.now symbol.now.place (plt_of symbol.now) }
 {
     match (symbol.place, stub_of(symbol)) {
-        (Place::Undefined, _) => Ok(nowhere_with(library_attributes(symbol.info))),
+        (Place::Undefined, _) => Ok(undefined_with(library_attributes(symbol.info))),
         (_, Some(stub)) => Ok(SymbolFields {
             section: SHN_UNDEF,
             value: stub,
@@ -330,8 +301,8 @@ fn copied_fields(
     in_section(
         index,
         named.bss,
-        decided_value(symbol),
-        SymbolAttributes::of(symbol),
+        resolved_value(symbol),
+        own_attributes(symbol),
     )
 }
 
@@ -342,7 +313,7 @@ fn copied_fields(
 ///
 /// `MissingResolution` exactly if the symbol has no output section (`Section`), or needs a canonical PLT entry and has no
 /// stub (`Stub`).
-pub fn listed_fields(
+pub fn exported_symbol_fields(
     layout: &Layout,
     named: NamedSections,
     index: usize,
@@ -351,7 +322,7 @@ pub fn listed_fields(
     symbol: &Symbol,
 ) -> Result<SymbolFields, Fault>
     requires { named ≡ named_sections layout.now }
-    ensures { result ≡ listed_by layout.now index role symbol.now section }
+    ensures { result ≡ exported_fields_in layout.now index role symbol.now section }
 {
     if role.is_library() && symbol.flags.needs_canonical_plt() {
         canonical_fields(index, symbol)
@@ -366,7 +337,7 @@ pub fn listed_fields(
 pub fn no_fields() -> SymbolFields
     ensures { result ≡ no_fields }
 {
-    nowhere_with(library_attributes(0))
+    undefined_with(library_attributes(0))
 }
 
 /// The entry of a symbol whose name is at `offset` of the string table. `st_name` is the offset modulo 2^32.

@@ -1,6 +1,6 @@
 //! A group's extended section indexes (gABI, `SHT_SYMTAB_SHNDX`).
 ghost use Rattle.std.specs.Prelude.{◌≡◌, ◌+◌, ◌≤◌, [], length, take, IfOk};
-ghost use Rattle.wild_symbols.specs.Indexes.{has_index, index_room, with_index, room_for_index, left_of_indexes, indexes_room, room_for_indexes, kept_indexes, front_indexes, indexes_joined};
+ghost use Rattle.wild_symbols.specs.Indexes.{has_index, index_room, with_index, room_for_index, indexes_full_or_fault, indexes_room, room_for_indexes, kept_indexes, front_indexes, indexes_joined};
 
 use std::alloc::{AllocError, Global};
 use std::marker::Model;
@@ -119,7 +119,7 @@ impl IndexTable {
     ///
     /// `ExcessiveAllocation` exactly if unwritten bytes are left.
     pub fn check_exhausted(&self) -> Result<(), Error>
-        ensures { result ≡ left_of_indexes self.now }
+        ensures { result ≡ indexes_full_or_fault self.now }
     {
         let room = self.room();
         if self.used < room {

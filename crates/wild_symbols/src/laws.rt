@@ -1,8 +1,8 @@
 //! Laws of the symbol tables.
-ghost use Rattle.wild_symbols.specs.Runs.{RunsAreRead, RunsCount, RunsStandBehind, RunsKeepIndexes, RunsWithRoomAreWhole, RunsAreEntries, RunsAreTables, PrefixesAreTheWriters};
-ghost use Rattle.wild_symbols.specs.Laws.{LengthsOfSymbols, SymbolsAreRead, LengthsOfStrings, StringsAreBehind, StringsStand};
+ghost use Rattle.wild_symbols.specs.Runs.{RunsAreRead, RunsCount, RunsKeepEarlierContent, RunsKeepIndexes, RunsWithRoomAreWhole, RunsAreEntries, RunsAreTables, PrefixesAreTheWriters};
+ghost use Rattle.wild_table_formats.specs.SymbolLaws.{LengthsOfSymbols, SymbolsAreRead, LengthsOfStrings, StringsAreAppended, StringsAreAtOffsets};
 ghost use Rattle.wild_symbols.specs.SlotNames.{SlotNamesAreItems};
-ghost use Rattle.wild_symbols.specs.TableLaws.{LengthsOfSides, SidesOfFiles, SidesOfGroups, LengthsOfIndexes, IndexesHave4Bytes, NamesOfFiles, NamesOfGroups, LengthsOfTexts, SidesStand, SidesAreRead};
+ghost use Rattle.wild_table_formats.specs.TableLaws.{LengthsOfSides, SidesOfFiles, SidesOfGroups, LengthsOfIndexes, IndexesHave4Bytes, NamesOfFiles, NamesOfGroups, LengthsOfTexts, SideEntriesAreAtOffsets, SidesAreRead};
 
 use wild_records::symtab_entry_is_read;
 
@@ -16,10 +16,10 @@ pub fn symbols_are_read()
 
 /// A string has its bytes and a zero. Strings are written consecutively, and each is at the offset that was returned for
 /// it.
-pub fn strings_stand()
+pub fn strings_are_at_offsets()
     ensures lengths { LengthsOfStrings }
-    ensures behind { StringsAreBehind }
-    ensures stand { StringsStand }
+    ensures behind { StringsAreAppended }
+    ensures stand { StringsAreAtOffsets }
 {}
 
 /// For any list of calls of `define_symbol` and `undefined_symbol`, each successful call appends one symbol. That symbol is
@@ -28,7 +28,7 @@ pub fn strings_stand()
 pub fn runs_are_read()
     ensures read { RunsAreRead }
     ensures count { RunsCount }
-    ensures behind { RunsStandBehind }
+    ensures behind { RunsKeepEarlierContent }
     ensures indexes { RunsKeepIndexes }
     ensures whole { RunsWithRoomAreWhole }
     ensures entries { RunsAreEntries }
@@ -64,7 +64,7 @@ pub fn names_are_strings()
 
 /// Local entry k, and other entry k, is read at offset 24 k of its list, and its `st_name` is the offset of its name.
 pub fn sides_are_read()
-    ensures stand { SidesStand }
+    ensures stand { SideEntriesAreAtOffsets }
     ensures read { SidesAreRead }
 {
     symtab_entry_is_read();

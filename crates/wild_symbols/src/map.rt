@@ -3,8 +3,8 @@ ghost use Rattle.std.specs.Prelude.{◌≡◌, ℕ, ◌<◌, [], ◌∷◌, map,
 ghost use Rattle.std.specs.List.{range_with_len};
 ghost use Rattle.std.specs.Option.{option_or};
 ghost use Rattle.wild_types.specs.Lookups.{files_of};
-ghost use Rattle.wild_symbols.specs.SectionSymbols.{symbol_index, named_index, front_count};
-ghost use Rattle.wild_symbols.specs.SymbolNumbers.{HasOwnNumbers, number_told, found};
+ghost use Rattle.wild_table_formats.specs.SectionSymbols.{symbol_index, named_index, front_count};
+ghost use Rattle.wild_symbols.specs.SymbolNumbers.{HasOwnNumbers, section_symbol_number_at, found};
 
 use crate::numbers::own_numbers;
 use crate::section_index::SectionNumbers;
@@ -13,11 +13,15 @@ use wild_types::{File, Layout, SymbolIndex};
 
 impl SectionNumbers<'_> {
     /// For a section symbol of the input, the index of the symbol of its output section. `index` is its number in the layout.
-    fn tell_of(&self, index: usize, file: &File) -> Result<Option<usize>, AllocError>
-        ensures { IfOk result (λ n. n ≡ number_told self.now.layout.now index file.now) }
+    fn section_symbol_number_at(
+        &self,
+        index: usize,
+        file: &File,
+    ) -> Result<Option<usize>, AllocError>
+        ensures { IfOk result (λ n. n ≡ section_symbol_number_at self.now.layout.now index file.now) }
     {
         match self.layout.symbols.as_slice().get(index) {
-            Some(symbol) => self.tell(file, symbol),
+            Some(symbol) => self.section_symbol_number(file, symbol),
             None => Ok(None),
         }
     }
@@ -25,12 +29,12 @@ impl SectionNumbers<'_> {
     /// Notes the index of each symbol of a file, unless an earlier file has the symbol.
     fn note_file(&self, file: &File, notes: &mut [Option<Option<usize>>]) -> Result<(), AllocError>
         ensures { OnOk result ((k : ℕ) → k < length notes.old → slice_index_or notes.new k None
-            ≡ option_or (slice_index_or notes.old k None) (found (number_told self.now.layout.now) (file.now ∷ []) k)) }
+            ≡ option_or (slice_index_or notes.old k None) (found (section_symbol_number_at self.now.layout.now) (file.now ∷ []) k)) }
     {
         let first = file.first_symbol.0;
         let end = first.saturating_add(file.symbol_count).min(notes.len());
         for i in first..end {
-            notes[i] = notes[i].or(Some(self.tell_of(i, file)?));
+            notes[i] = notes[i].or(Some(self.section_symbol_number_at(i, file)?));
         }
         Ok(())
     }
@@ -42,7 +46,7 @@ impl SectionNumbers<'_> {
         notes: &mut [Option<Option<usize>>],
     ) -> Result<(), AllocError>
         ensures { OnOk result ((k : ℕ) → k < length notes.old → slice_index_or notes.new k None
-            ≡ option_or (slice_index_or notes.old k None) (found (number_told self.now.layout.now) files.now k)) }
+            ≡ option_or (slice_index_or notes.old k None) (found (section_symbol_number_at self.now.layout.now) files.now k)) }
     {
         for file in files {
             self.note_file(file, notes)?;
@@ -53,7 +57,7 @@ impl SectionNumbers<'_> {
     /// Notes the indexes of the symbols of all files.
     fn note_groups(&self, notes: &mut [Option<Option<usize>>]) -> Result<(), AllocError>
         ensures { OnOk result ((k : ℕ) → k < length notes.old → slice_index_or notes.new k None
-            ≡ option_or (slice_index_or notes.old k None) (found (number_told self.now.layout.now) (files_of self.now.layout.now.groups) k)) }
+            ≡ option_or (slice_index_or notes.old k None) (found (section_symbol_number_at self.now.layout.now) (files_of self.now.layout.now.groups) k)) }
     {
         for group in self.layout.groups.as_slice() {
             self.note_files(group.files.as_slice(), notes)?;
@@ -63,7 +67,7 @@ impl SectionNumbers<'_> {
 }
 
 /// The index of each symbol: that of its own entry, otherwise the noted one.
-fn joined(
+fn join_indexes(
     alloc: Global,
     layout: &Layout,
     own: &[Option<usize>],
@@ -71,7 +75,7 @@ fn joined(
 ) -> Result<Vec<Option<usize>>, AllocError>
     requires own { HasOwnNumbers layout.now own.now }
     requires count { length notes.now ≡ length layout.now.symbols }
-    requires notes { (k : ℕ) → k < length notes.now → slice_index_or notes.now k None ≡ found (number_told layout.now) (files_of layout.now.groups) k }
+    requires notes { (k : ℕ) → k < length notes.now → slice_index_or notes.now k None ≡ found (section_symbol_number_at layout.now) (files_of layout.now.groups) k }
     ensures { IfOk result (λ v. v.items ≡ map (symbol_index layout.now) (range_with_len 0 (length layout.now.symbols))) }
 {
     let mut numbers = Vec::with_capacity(alloc, own.len())?;
@@ -94,7 +98,7 @@ pub fn build_sym_index_map(alloc: Global, layout: &Layout) -> Result<Vec<Option<
     let own = own_numbers(alloc, layout, sections.front_count())?;
     let mut notes = vec![in alloc; None; layout.symbols.len()]?;
     sections.note_groups(&mut notes)?;
-    joined(alloc, layout, &own, &notes)
+    join_indexes(alloc, layout, &own, &notes)
 }
 
 /// The index of a symbol, looked up in the map.

@@ -3,13 +3,13 @@ ghost use Rattle.std.specs.Prelude.{◌≡◌, ℕ, ◌+◌, ◌<◌, ◌&&◌, 
 ghost use Rattle.std.specs.List.{flat_map};
 ghost use Rattle.std.specs.Option.{option_or};
 ghost use Rattle.wild_types.specs.declared.symbol.Symbol.{Symbol};
-ghost use Rattle.wild_walk.specs.Runs.{Ran};
+ghost use Rattle.wild_words.specs.Runs.{SinkRun};
 ghost use Rattle.wild_needs.specs.TableSymbols.{file_items, item, side};
-ghost use Rattle.wild_symbols.specs.SectionSymbols.{all_items, is_own_entry, front_count};
-ghost use Rattle.wild_symbols.specs.SymbolNumbers.{number_at, local_behind, other_behind, Numbered, HasOwnNumbers};
+ghost use Rattle.wild_table_formats.specs.SectionSymbols.{all_items, is_own_entry, front_count};
+ghost use Rattle.wild_symbols.specs.SymbolNumbers.{number_at, local_after, other_after, Numbered, HasOwnNumbers};
 
 use std::alloc::{AllocError, Global};
-use wild_needs::{Named, TableSink, give_table, is_local};
+use wild_needs::{SymtabName, TableSink, give_table, is_local};
 use wild_types::{Group, Layout, Symbol};
 
 /// Stores a number at position `at` if `asked` is set and no number is there.
@@ -23,10 +23,10 @@ pub(crate) fn note(asked: bool, at: usize, number: usize, table: &mut [Option<us
 }
 
 /// Whether an entry is a symbol's own, not one for its slot, stub or thunk.
-fn is_itself(named: Named) -> bool
+fn is_itself(named: SymtabName) -> bool
     ensures { (i k : ℕ) (s : Symbol) → is_own_entry k (item named i s) ≡ (result && i == k) }
 {
-    matches!(named, Named::Itself)
+    matches!(named, SymtabName::Itself)
 }
 
 /// The indexes of the entries so far, and the indexes of the next local and the next other entry.
@@ -59,8 +59,8 @@ impl Numbers {
     /// Advances to the next index. Fails on overflow, since no memory could hold so many entries.
     fn step(&mut self, local: bool) -> Result<(), AllocError>
         ensures numbers { self.new.numbers ≡ self.old.numbers }
-        ensures local { IfOk result (λ u. self.new.local ≡ local_behind local self.old.local) }
-        ensures other { IfOk result (λ u. self.new.other ≡ other_behind local self.old.other) }
+        ensures local { IfOk result (λ u. self.new.local ≡ local_after local self.old.local) }
+        ensures other { IfOk result (λ u. self.new.other ≡ other_after local self.old.other) }
     {
         if local {
             self.local = self.local.checked_add(1).ok_or(AllocError)?;
@@ -80,7 +80,7 @@ impl TableSink for Numbers {
 
     ghost refuses = { λ a x e b. Unit {0} };
 
-    fn take(&mut self, named: Named, index: usize, symbol: &Symbol) -> Result<(), AllocError> {
+    fn take(&mut self, named: SymtabName, index: usize, symbol: &Symbol) -> Result<(), AllocError> {
         let local = is_local(named, symbol);
         let number = self.number(local);
         self.note(is_itself(named), index, number);
@@ -89,9 +89,9 @@ impl TableSink for Numbers {
 }
 
 /// Passes the entries of a group to the sink.
-#[tactic(auto, using(wild_walk::proofs::RunLemmas::listed_loops))]
+#[tactic(auto, using(wild_words::proofs::RunLemmas::listed_loops))]
 fn give_group<S: TableSink>(layout: &Layout, group: &Group, sink: &mut S) -> Result<(), S::Error>
-    ensures { Ran S.goes S.refuses sink.old (flat_map (file_items layout.now) group.now.files) result sink.new }
+    ensures { SinkRun S.goes S.refuses sink.old (flat_map (file_items layout.now) group.now.files) result sink.new }
 {
     for file in group.files.as_slice() {
         give_table(layout, file, sink)?;
@@ -100,9 +100,9 @@ fn give_group<S: TableSink>(layout: &Layout, group: &Group, sink: &mut S) -> Res
 }
 
 /// Passes the entries of all groups to the sink.
-#[tactic(auto, using(wild_walk::proofs::RunLemmas::listed_loops))]
+#[tactic(auto, using(wild_words::proofs::RunLemmas::listed_loops))]
 fn give_groups<S: TableSink>(layout: &Layout, sink: &mut S) -> Result<(), S::Error>
-    ensures { Ran S.goes S.refuses sink.old (flat_map (λ (g : Group). flat_map (file_items layout.now) g.files) layout.now.groups) result sink.new }
+    ensures { SinkRun S.goes S.refuses sink.old (flat_map (λ (g : Group). flat_map (file_items layout.now) g.files) layout.now.groups) result sink.new }
 {
     for group in layout.groups.as_slice() {
         give_group(layout, group, sink)?;
@@ -112,14 +112,14 @@ fn give_groups<S: TableSink>(layout: &Layout, sink: &mut S) -> Result<(), S::Err
 
 /// Passes all entries to the sink.
 fn give_all<S: TableSink>(layout: &Layout, sink: &mut S) -> Result<(), S::Error>
-    ensures { Ran S.goes S.refuses sink.old (all_items layout.now) result sink.new }
+    ensures { SinkRun S.goes S.refuses sink.old (all_items layout.now) result sink.new }
 {
     give_groups(layout, sink)
 }
 
 /// The index after all local entries. The first counted entry has index `front`.
 #[tactic(auto, using(crate::proofs::NumberLemmas::counted))]
-fn behind_locals(alloc: Global, layout: &Layout, front: usize) -> Result<usize, AllocError>
+fn end_of_locals(alloc: Global, layout: &Layout, front: usize) -> Result<usize, AllocError>
     ensures { IfOk result (λ n. n ≡ front + length (side true (all_items layout.now))) }
 {
     let mut count = Numbers {
@@ -144,7 +144,7 @@ pub(crate) fn own_numbers(
     let mut table = Numbers {
         numbers: vec![in alloc; None; layout.symbols.len()]?,
         local: front,
-        other: behind_locals(alloc, layout, front)?,
+        other: end_of_locals(alloc, layout, front)?,
     };
     give_all(layout, &mut table)?;
     Ok(table.numbers)

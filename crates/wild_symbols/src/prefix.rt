@@ -2,8 +2,8 @@
 ghost use Rattle.std.specs.Prelude.{◌≡◌, ◌+◌, ◌*◌, ◌≤◌, length, IfOk, IfErr, Ok, Err};
 ghost use Rattle.std.specs.Borrow.{sem};
 ghost use Rattle.wild_records.specs.SymtabEntry.{symtab_entry_size};
-ghost use Rattle.wild_symbols.specs.Symbols.{symbols_used};
-ghost use Rattle.wild_symbols.specs.TableRoom.{room_for_prefix, kept_behind, prefix_of, joined};
+ghost use Rattle.wild_table_formats.specs.Symbols.{symbols_used};
+ghost use Rattle.wild_symbols.specs.TableRoom.{room_for_prefix, reserved_bytes, prefix_of, with_reserved_room};
 ghost use Rattle.wild_symbols.specs.Lending.{PrefixOrNone};
 
 use crate::writer::SymbolTableWriter;
@@ -11,7 +11,7 @@ use wild_types::Error;
 
 /// The number of bytes of each table that are reserved after a prefix.
 #[derive(Clone, Copy)]
-pub struct KeptBehind {
+pub struct ReservedBytes {
     pub locals: usize,
     pub globals: usize,
     pub local_indexes: usize,
@@ -25,12 +25,12 @@ pub struct KeptBehind {
 pub struct SymbolTablePrefix<'a> {
     /// The writer, limited to the prefix.
     pub writer: &'a mut SymbolTableWriter,
-    kept: KeptBehind,
+    kept: ReservedBytes,
 }
 
 impl<'a> Drop for SymbolTablePrefix<'a> {
     fn drop(self)
-        ensures { self.exit.0.now ≡ joined self.entry.kept self.entry.writer.now }
+        ensures { self.exit.0.now ≡ with_reserved_room self.entry.kept self.entry.writer.now }
     {
         let SymbolTablePrefix { writer, kept } = self;
         writer.join(kept);
@@ -48,12 +48,12 @@ impl SymbolTableWriter {
     }
 
     /// Limits the room to these, and returns the number of bytes reserved after them.
-    fn take_front(&mut self, symbols: u32, strings: u32) -> KeptBehind
+    fn take_front(&mut self, symbols: u32, strings: u32) -> ReservedBytes
         requires { room_for_prefix symbols strings self.old ≡ Ok tt }
         ensures front { self.new ≡ prefix_of symbols strings self.old }
-        ensures kept { result ≡ kept_behind symbols strings self.old }
+        ensures kept { result ≡ reserved_bytes symbols strings self.old }
     {
-        KeptBehind {
+        ReservedBytes {
             locals: self.locals.close(),
             globals: self.globals.take_front(symbols),
             local_indexes: self.local_indexes.close(),
@@ -63,8 +63,8 @@ impl SymbolTableWriter {
     }
 
     /// Makes the reserved bytes usable again.
-    fn join(&mut self, kept: KeptBehind)
-        ensures { self.new ≡ joined kept self.old }
+    fn join(&mut self, kept: ReservedBytes)
+        ensures { self.new ≡ with_reserved_room kept self.old }
     {
         self.locals.join(kept.locals);
         self.globals.join(kept.globals);
@@ -90,7 +90,7 @@ impl SymbolTableWriter {
         ensures taken { IfOk result (λ p. room_for_prefix symbols strings self.old ≡ Ok tt) }
         ensures same_reference { IfOk result (λ p. p.writer.ghost_name ≡ self.entry.ghost_name) }
         ensures front { IfOk result (λ p. p.writer.now ≡ prefix_of symbols strings self.old) }
-        ensures behind { IfOk result (λ p. p.kept ≡ kept_behind symbols strings self.old) }
+        ensures behind { IfOk result (λ p. p.kept ≡ reserved_bytes symbols strings self.old) }
     {
         self.check_prefix(symbols, strings)?;
         let kept = self.take_front(symbols, strings);

@@ -2,16 +2,16 @@
 ghost use Rattle.std.specs.Prelude.{◌≡◌, ℕ, ◌+◌, ◌<◌, ◌==◌, IfOk, Some, None, if◌then◌else◌, unwrap_or, length, slice_index_or};
 ghost use Rattle.std.specs.Option.{option_or};
 ghost use Rattle.wild_types.specs.Kinds.{is_partial_link};
-ghost use Rattle.wild_needs.specs.TableSymbols.{asked_from, kept_alone};
-ghost use Rattle.wild_symbols.specs.SectionSymbols.{number_from, section_at, section_index, section_number, front_count};
-ghost use Rattle.wild_symbols.specs.SymbolNumbers.{SectionNumbered, SectionSought, HasAskedNumbers, HasAloneNumbers, told_of};
+ghost use Rattle.wild_needs.specs.TableSymbols.{marked_sections, singleton_sections};
+ghost use Rattle.wild_table_formats.specs.SectionSymbols.{number_from, section_at, section_index, section_number, front_count};
+ghost use Rattle.wild_symbols.specs.SymbolNumbers.{SectionNumbered, SectionSought, HasFlaggedNumbers, HasSingletonNumbers, section_symbol_number};
 
 use crate::numbers::note;
-use crate::section_walk::{give_asked_sections, give_kept_alone};
+use crate::section_walk::{give_flagged_sections, give_singletons};
 use std::alloc::{AllocError, Global};
 use wild_records::abi::symbol::STT_SECTION;
 use wild_types::{File, InputSection, Layout, Place, Symbol};
-use wild_walk::Sink;
+use wild_words::Sink;
 
 /// The number plus 1. Fails on overflow, since no memory could hold so many entries.
 fn behind(number: usize) -> Result<usize, AllocError>
@@ -111,35 +111,38 @@ impl Sink<usize> for SectionSearch {
 }
 
 /// The symbol indexes of the output sections with the flag `section_symbol`, and the index after them.
-#[tactic(auto, using(crate::proofs::NumberLemmas::asked_numbers))]
-fn asked_numbers(alloc: Global, layout: &Layout) -> Result<(Vec<Option<usize>>, usize), AllocError>
-    ensures numbers { IfOk result (λ r. HasAskedNumbers layout.now r.0.items) }
-    ensures behind { IfOk result (λ r. r.1 ≡ 1 + length (asked_from 0 layout.now.sections)) }
+#[tactic(auto, using(crate::proofs::NumberLemmas::flagged_numbers))]
+fn flagged_numbers(
+    alloc: Global,
+    layout: &Layout,
+) -> Result<(Vec<Option<usize>>, usize), AllocError>
+    ensures numbers { IfOk result (λ r. HasFlaggedNumbers layout.now r.0.items) }
+    ensures behind { IfOk result (λ r. r.1 ≡ 1 + length (marked_sections 0 layout.now.sections)) }
 {
     let sections = layout.sections.as_slice();
     let mut table = SectionTable {
         numbers: vec![in alloc; None; sections.len()]?,
         next: 1,
     };
-    give_asked_sections(sections, &mut table)?;
+    give_flagged_sections(sections, &mut table)?;
     Ok((table.numbers, table.next))
 }
 
 /// The symbol indexes of the input sections that the object keeps as sections of their own, and the index after them.
-#[tactic(auto, using(crate::proofs::NumberLemmas::alone_numbers))]
-fn alone_numbers(
+#[tactic(auto, using(crate::proofs::NumberLemmas::singleton_numbers))]
+fn singleton_numbers(
     alloc: Global,
     layout: &Layout,
     front: usize,
 ) -> Result<(Vec<Option<usize>>, usize), AllocError>
-    ensures numbers { IfOk result (λ r. HasAloneNumbers layout.now front r.0.items) }
-    ensures behind { IfOk result (λ r. r.1 ≡ front + length (kept_alone layout.now)) }
+    ensures numbers { IfOk result (λ r. HasSingletonNumbers layout.now front r.0.items) }
+    ensures behind { IfOk result (λ r. r.1 ≡ front + length (singleton_sections layout.now)) }
 {
     let mut table = SectionTable {
         numbers: vec![in alloc; None; layout.sections.len()]?,
         next: front,
     };
-    give_kept_alone(layout, &mut table)?;
+    give_singletons(layout, &mut table)?;
     Ok((table.numbers, table.next))
 }
 
@@ -151,10 +154,10 @@ pub(crate) struct SectionNumbers<'a> {
     alone: Vec<Option<usize>>,
     front: usize,
     behind: usize,
-    ghost asked_are: { HasAskedNumbers layout.now asked.items },
-    ghost front_is: { front ≡ 1 + length (asked_from 0 layout.now.sections) },
-    ghost alone_are: { HasAloneNumbers layout.now front alone.items },
-    ghost behind_is: { behind ≡ front + length (kept_alone layout.now) },
+    ghost asked_are: { HasFlaggedNumbers layout.now asked.items },
+    ghost front_is: { front ≡ 1 + length (marked_sections 0 layout.now.sections) },
+    ghost alone_are: { HasSingletonNumbers layout.now front alone.items },
+    ghost behind_is: { behind ≡ front + length (singleton_sections layout.now) },
 }
 
 impl<'a> SectionNumbers<'a> {
@@ -162,8 +165,8 @@ impl<'a> SectionNumbers<'a> {
     pub(crate) fn of(alloc: Global, layout: &'a Layout) -> Result<SectionNumbers<'a>, AllocError>
         ensures { IfOk result (λ n. n.layout.now ≡ layout.now) }
     {
-        let (asked, front) = asked_numbers(alloc, layout)?;
-        let (alone, behind) = alone_numbers(alloc, layout, front)?;
+        let (asked, front) = flagged_numbers(alloc, layout)?;
+        let (alone, behind) = singleton_numbers(alloc, layout, front)?;
         Ok(SectionNumbers {
             layout,
             asked,
@@ -187,8 +190,8 @@ impl<'a> SectionNumbers<'a> {
 
     /// The symbol index of an output section with the flag `section_symbol`.
     #[tactic(auto, using(crate::proofs::NumberLemmas::asked_looked_up))]
-    fn asked_number(&self, header: usize) -> Option<usize>
-        ensures { result ≡ number_from header 1 (asked_from 0 self.now.layout.now.sections) }
+    fn flagged_number(&self, header: usize) -> Option<usize>
+        ensures { result ≡ number_from header 1 (marked_sections 0 self.now.layout.now.sections) }
     {
         match self.asked.get(header) {
             Some(number) => *number,
@@ -199,21 +202,21 @@ impl<'a> SectionNumbers<'a> {
     /// The symbol index of a section that the object keeps as one of its own, found by a walk over all of them.
     #[tactic(auto, using(crate::proofs::NumberLemmas::sought))]
     fn sought_number(&self, header: usize) -> Result<Option<usize>, AllocError>
-        ensures { IfOk result (λ n. n ≡ number_from header self.now.front (kept_alone self.now.layout.now)) }
+        ensures { IfOk result (λ n. n ≡ number_from header self.now.front (singleton_sections self.now.layout.now)) }
     {
         let mut search = SectionSearch {
             header,
             found: None,
             next: self.front,
         };
-        give_kept_alone(self.layout, &mut search)?;
+        give_singletons(self.layout, &mut search)?;
         Ok(search.found)
     }
 
     /// The same from the table. Only for a header index that is not in the table a walk is needed.
     #[tactic(auto, using(crate::proofs::NumberLemmas::alone_looked_up))]
-    fn alone_number(&self, header: usize) -> Result<Option<usize>, AllocError>
-        ensures { IfOk result (λ n. n ≡ number_from header self.now.front (kept_alone self.now.layout.now)) }
+    fn singleton_number(&self, header: usize) -> Result<Option<usize>, AllocError>
+        ensures { IfOk result (λ n. n ≡ number_from header self.now.front (singleton_sections self.now.layout.now)) }
     {
         match self.alone.get(header) {
             Some(number) => Ok(*number),
@@ -226,8 +229,8 @@ impl<'a> SectionNumbers<'a> {
         ensures { IfOk result (λ n. n ≡ section_index self.now.layout.now section.now) }
     {
         let number = match section.singleton {
-            Some(header) => self.alone_number(header.0)?,
-            None => self.asked_number(self.layout.section_of(section.part).0),
+            Some(header) => self.singleton_number(header.0)?,
+            None => self.flagged_number(self.layout.section_of(section.part).0),
         };
         Ok(number.unwrap_or(0))
     }
@@ -243,8 +246,12 @@ impl<'a> SectionNumbers<'a> {
     }
 
     /// For a section symbol of an input file, the index of the symbol of its output section; otherwise `None`.
-    pub(crate) fn tell(&self, file: &File, symbol: &Symbol) -> Result<Option<usize>, AllocError>
-        ensures { IfOk result (λ n. n ≡ told_of self.now.layout.now file.now symbol.now) }
+    pub(crate) fn section_symbol_number(
+        &self,
+        file: &File,
+        symbol: &Symbol,
+    ) -> Result<Option<usize>, AllocError>
+        ensures { IfOk result (λ n. n ≡ section_symbol_number self.now.layout.now file.now symbol.now) }
     {
         let Place::Section(index) = symbol.place else {
             return Ok(None);

@@ -1,7 +1,7 @@
 //! A group's share of a string table (gABI, "String Table").
 ghost use Rattle.std.specs.Prelude.{◌≡◌, ◌+◌, ◌^◌, ◌<◌, ◌≤◌, [], ◌∷◌, ◌++◌, length, take, OnOk, OnErr, IfOk};
 ghost use Rattle.wild_words.specs.Words.{place};
-ghost use Rattle.wild_symbols.specs.Strings.{string, with_string, room_for_string, left_of_strings, room_for_bytes, kept_strings, front_strings, strings_joined};
+ghost use Rattle.wild_table_formats.specs.Strings.{string, with_string, room_for_string, strings_full_or_fault, room_for_bytes, kept_strings, front_strings, strings_joined};
 
 use std::alloc::{AllocError, Global};
 use std::marker::Model;
@@ -21,7 +21,7 @@ pub struct StrTabWriter {
 }
 
 impl Model for StrTabWriter {
-    ghost use Rattle.wild_symbols.specs.Strings.{Strings, strings_in, IsStrings};
+    ghost use Rattle.wild_table_formats.specs.Strings.{Strings, strings_in, IsStrings};
 
     ghost Value = { Strings };
 
@@ -31,7 +31,7 @@ impl Model for StrTabWriter {
 }
 
 /// Writes a string, given in two pieces, and its zero at an offset.
-#[tactic(auto, using(crate::proofs::StringLemmas::front_of_joined))]
+#[tactic(auto, using(wild_table_formats::proofs::StringLemmas::front_of_joined))]
 fn put_string(out: &mut [u8], at: usize, front: &[u8], back: &[u8])
     requires { at + (length front.now + length back.now + 1) ≤ length out.old }
     ensures { take (at + (length front.now + length back.now + 1)) out.new ≡ take at out.old ++ string (front.now ++ back.now) }
@@ -68,7 +68,7 @@ impl StrTabWriter {
     /// # Errors
     ///
     /// `InsufficientAllocation` exactly if the two do not fit in the rest of the share; then nothing changes.
-    #[tactic(auto, using(crate::proofs::StringLemmas::joined_with_none))]
+    #[tactic(auto, using(wild_table_formats::proofs::StringLemmas::joined_with_none))]
     pub fn write_str(&mut self, bytes: &[u8]) -> Result<u32, Error>
         ensures answered { result ≡ room_for_string bytes.now self.old }
         ensures written { OnOk result (self.new ≡ with_string bytes.now self.old) }
@@ -101,7 +101,7 @@ impl StrTabWriter {
     ///
     /// `ExcessiveAllocation` exactly if unwritten bytes are left.
     pub fn check_exhausted(&self) -> Result<(), Error>
-        ensures { result ≡ left_of_strings self.now }
+        ensures { result ≡ strings_full_or_fault self.now }
     {
         let room = self.room();
         if self.used < room {

@@ -4,7 +4,7 @@ ghost use Rattle.wild_words.specs.Words.{place};
 ghost use Rattle.wild_words.specs.Record.{spell};
 ghost use Rattle.wild_records.specs.SymtabEntry.{symtab_entry_size, symtab_entry_fields, symtab_entry_at};
 ghost use Rattle.wild_records.specs.declared.symtab_entry.SymtabEntry.{SymtabEntry as Entry};
-ghost use Rattle.wild_symbols.specs.Symbols.{symbol_bytes, symbols_in, IsSpelled, symbols_used, with_entry, room_for_entry, left_of_symbols, room_for_entries, kept_symbols, front_symbols, symbols_joined};
+ghost use Rattle.wild_table_formats.specs.Symbols.{symbol_bytes, symbols_in, IsSpelled, symbols_used, with_entry, room_for_entry, symbols_full_or_fault, room_for_entries, kept_symbols, front_symbols, symbols_joined};
 
 use std::alloc::{AllocError, Global};
 use std::marker::Model;
@@ -23,7 +23,7 @@ pub struct SymbolTable {
 }
 
 impl Model for SymbolTable {
-    ghost use Rattle.wild_symbols.specs.Symbols.{Symbols, symbols_of, IsSymbols};
+    ghost use Rattle.wild_table_formats.specs.Symbols.{Symbols, symbols_of, IsSymbols};
 
     ghost Value = { Symbols };
 
@@ -34,7 +34,7 @@ impl Model for SymbolTable {
 
 impl SymbolTable {
     /// An empty table for a share of `room` bytes. `part` is the index of its part in the layout.
-    #[tactic(auto, unfolding(crate::specs::Symbols::symbols_in, crate::specs::Symbols::IsSpelled))]
+    #[tactic(auto, unfolding(wild_table_formats::specs::Symbols::symbols_in, wild_table_formats::specs::Symbols::IsSpelled))]
     pub(crate) fn new(
         alloc: Global,
         part: usize,
@@ -53,7 +53,7 @@ impl SymbolTable {
     }
 
     /// The number of bytes of all symbols.
-    #[tactic(auto, using(crate::proofs::SymbolLemmas::length_symbols_in))]
+    #[tactic(auto, using(wild_table_formats::proofs::SymbolLemmas::length_symbols_in))]
     fn used(&self) -> usize
         ensures used { result ≡ symbols_used self.now }
         ensures fits { result ≤ self.now.room }
@@ -90,7 +90,7 @@ impl SymbolTable {
     }
 
     /// Appends a symbol that fits.
-    #[tactic(auto, using(crate::proofs::SymbolLemmas::length_symbols_in))]
+    #[tactic(auto, using(wild_table_formats::proofs::SymbolLemmas::length_symbols_in))]
     pub(crate) fn push(&mut self, entry: SymtabEntry)
         requires { symbols_used self.old + symtab_entry_size ≤ self.old.room }
         ensures { self.new ≡ with_entry entry self.old }
@@ -107,7 +107,7 @@ impl SymbolTable {
     ///
     /// `ExcessiveAllocation` exactly if unwritten bytes are left.
     pub fn check_exhausted(&self) -> Result<(), Error>
-        ensures { result ≡ left_of_symbols self.now }
+        ensures { result ≡ symbols_full_or_fault self.now }
     {
         let given = self.room();
         let used = self.used();
@@ -134,7 +134,7 @@ impl SymbolTable {
     }
 
     /// Reserves all of the share after the next `count` symbols, and returns the number of bytes reserved.
-    #[tactic(auto, using(crate::proofs::SymbolLemmas::length_symbols_in))]
+    #[tactic(auto, using(wild_table_formats::proofs::SymbolLemmas::length_symbols_in))]
     pub(crate) fn take_front(&mut self, count: u32) -> usize
         requires { symbols_used self.old + symtab_entry_size * count ≤ self.old.room }
         ensures front { self.new ≡ front_symbols count self.old }
@@ -163,7 +163,7 @@ impl SymbolTable {
     }
 
     /// The bytes of the share: those of the symbols, then the unwritten rest. Symbol k is read at offset 24 k.
-    #[tactic(auto, using(crate::proofs::SymbolLemmas::symbols_stand, crate::proofs::SymbolLemmas::symbol_in))]
+    #[tactic(auto, using(wild_table_formats::proofs::SymbolLemmas::symbols_stand, wild_table_formats::proofs::SymbolLemmas::symbol_in))]
     pub fn bytes(&self) -> &[u8]
         ensures written { take (symbols_used self.now) result.now ≡ symbol_bytes self.now.symbols }
         ensures read { (k : ℕ) (d : Entry) → k < length self.now.symbols → symtab_entry_at result.now (symtab_entry_size * k) ≡ slice_index_or self.now.symbols k d }
@@ -184,7 +184,7 @@ fn put_entry(out: &mut [u8], at: usize, entry: SymtabEntry)
 }
 
 /// Writes a symbol after the first `count` symbols.
-#[tactic(auto, using(crate::proofs::SymbolLemmas::symbols_in_more, crate::proofs::SymbolLemmas::spelled_more))]
+#[tactic(auto, using(wild_table_formats::proofs::SymbolLemmas::symbols_in_more, wild_table_formats::proofs::SymbolLemmas::spelled_more))]
 fn add_entry(out: &mut [u8], count: usize, entry: SymtabEntry)
     requires { symtab_entry_size * count + symtab_entry_size ≤ length out.old }
     ensures symbols { symbols_in out.new (count + 1) ≡ symbols_in out.old count ++ entry ∷ [] }

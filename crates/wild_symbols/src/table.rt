@@ -4,34 +4,26 @@ ghost use Rattle.wild_records.specs.SymbolSections.{split_index};
 ghost use Rattle.wild_types.specs.declared.layout.Layout.{Layout};
 ghost use Rattle.wild_types.specs.Addresses.{raw_value};
 ghost use Rattle.wild_types.specs.Kinds.{is_partial_link};
-ghost use Rattle.wild_symbols.specs.SectionSymbols.{symbol_section};
+ghost use Rattle.wild_table_formats.specs.SectionSymbols.{symbol_section};
 ghost use Rattle.wild_needs.specs.DynamicSymbols.{output_section};
-ghost use Rattle.wild_slot.specs.SlotParts.{begins_block};
+ghost use Rattle.wild_slot.specs.SlotParts.{begins_relr_got};
 ghost use Rattle.wild_slot.specs.SymbolWords.{slots_of};
 ghost use Rattle.wild_types.specs.SymbolSlots.{got_of, plt_of};
 ghost use Rattle.wild_types.specs.Parts.{part_with};
-ghost use Rattle.wild_symbols.specs.DynamicFields.{named_sections, part_section};
-ghost use Rattle.wild_symbols.specs.TableEntries.{table_info, table_attributes, with_function, short, in_table_section, counted_from, at_address, offset_within, offset_by, table_value, table_placed, undefined_attributes, section_fields, first_or, table_at, table_canonical, table_by, no_attributes, slot_role, thunk_attributes, thunk_fields, fields_of, no_table_fields};
+ghost use Rattle.wild_table_formats.specs.DynamicFields.{named_sections, part_section};
+ghost use Rattle.wild_table_formats.specs.TableEntries.{table_info, table_attributes, with_function, short, in_table_section, counted_from, at_address, offset_within, offset_by, table_value, table_placed, undefined_attributes, section_fields, first_or, table_at, table_canonical, table_by, no_attributes, slot_role, thunk_attributes, thunk_fields, fields_of, no_table_fields};
 ghost use Rattle.wild_symbols.specs.SlotNames.{slot_fields};
 
 use crate::dynamic::{
-    NamedSections, SymbolFields, common_section, is_thread_symbol, no_fields, nowhere_with,
-    section_number, some_section, stands_as_stub, stub_of, with_type,
+    common_section, has_stub_address, is_thread_symbol, no_fields, section_number, some_section,
+    stub_of, undefined_with, with_type,
 };
-use crate::writer::SymbolAttributes;
-use wild_needs::Named;
+use wild_needs::SymtabName;
 use wild_records::abi::section::{SHN_ABS, SHN_LORESERVE, SHN_UNDEF};
 use wild_records::abi::symbol::{STT_FUNC, STT_SECTION};
 use wild_slot::{SlotWord, SymbolSlots};
+use wild_table_formats::{NamedSections, SymbolAttributes, SymbolFields, TableFields};
 use wild_types::{Fault, File, FileRole, InputSection, Layout, Missing, Place, Symbol, THUNK_SIZE};
-
-/// The fields of an entry of `.symtab` without `st_name`.
-#[derive(Clone, Copy)]
-pub struct TableFields {
-    pub fields: SymbolFields,
-    /// The extended section index: the header index modulo 2^32 if it does not fit in `st_shndx`, otherwise 0.
-    pub long: u32,
-}
 
 /// `st_info`, with binding `STB_LOCAL` for a symbol that was made local.
 fn table_info(symbol: &Symbol) -> u8
@@ -126,12 +118,12 @@ fn first_or(section: usize) -> usize
 }
 
 /// Whether the first slot of a symbol is in `got_relr`.
-fn begins_block(layout: &Layout, symbol: &Symbol) -> bool
-    ensures { result ≡ begins_block (slots_of layout.now symbol.now).words }
+fn begins_relr_got(layout: &Layout, symbol: &Symbol) -> bool
+    ensures { result ≡ begins_relr_got (slots_of layout.now symbol.now).words }
 {
     matches!(
         SymbolSlots::of(layout, symbol).words().first(),
-        Some(SlotWord::InBlock(_))
+        Some(SlotWord::InRelrGot(_))
     )
 }
 
@@ -250,7 +242,7 @@ impl Subject<'_> {
     fn placed(&self, section: Option<usize>) -> Result<TableFields, Fault>
         ensures { result ≡ table_placed self.now.layout.now self.now.index self.now.role self.now.symbol.now section }
     {
-        if stands_as_stub(self.layout, self.symbol) {
+        if has_stub_address(self.layout, self.symbol) {
             let stub = stub_of(self.symbol).unwrap_or(0);
             in_table_section(
                 self.index,
@@ -268,7 +260,7 @@ impl Subject<'_> {
         ensures { result ≡ table_at self.now.layout.now self.now.index self.now.role self.now.symbol.now section self.now.symbol.now.place }
     {
         match self.symbol.place {
-            Place::Undefined => Ok(short(nowhere_with(self.undefined_attributes()))),
+            Place::Undefined => Ok(short(undefined_with(self.undefined_attributes()))),
             Place::Absolute => Ok(short(SymbolFields {
                 section: SHN_ABS,
                 value: self.symbol.value,
@@ -285,7 +277,7 @@ impl Subject<'_> {
         ensures { result ≡ table_canonical self.now.index self.now.role self.now.symbol.now self.now.symbol.now.place (plt_of self.now.symbol.now) }
     {
         match (self.symbol.place, stub_of(self.symbol)) {
-            (Place::Undefined, _) => Ok(short(nowhere_with(self.attributes()))),
+            (Place::Undefined, _) => Ok(short(undefined_with(self.attributes()))),
             (_, Some(stub)) => Ok(short(SymbolFields {
                 section: SHN_UNDEF,
                 value: stub,
@@ -317,7 +309,7 @@ fn slot_section(layout: &Layout, sections: &NamedSections, symbol: &Symbol) -> O
     requires { sections.now ≡ named_sections layout.now }
     ensures { result ≡ part_section (part_with (slot_role layout.now symbol.now) layout.now.parts) }
 {
-    if begins_block(layout, symbol) {
+    if begins_relr_got(layout, symbol) {
         sections.block
     } else {
         sections.got
@@ -330,13 +322,13 @@ pub(crate) fn slot_fields(
     sections: &NamedSections,
     index: usize,
     symbol: &Symbol,
-    named: Named,
+    named: SymtabName,
 ) -> Result<TableFields, Fault>
     requires { sections.now ≡ named_sections layout.now }
     ensures { result ≡ slot_fields layout.now index symbol.now named }
 {
     let (section, address) = match named {
-        Named::Stub => (sections.stubs, stub_of(symbol)),
+        SymtabName::Stub => (sections.stubs, stub_of(symbol)),
         _ => (slot_section(layout, sections, symbol), slot_of(symbol)),
     };
     in_table_section(index, section, address.unwrap_or(0), no_attributes())
@@ -400,7 +392,7 @@ pub fn section_fields(section: usize) -> TableFields
 pub fn table_fields(
     layout: &Layout,
     file: &File,
-    named: Named,
+    named: SymtabName,
     index: usize,
     symbol: &Symbol,
     section: usize,
@@ -415,7 +407,7 @@ pub fn table_fields(
     ensures { result ≡ fields_of layout.now file.now named index symbol.now }
 {
     match named {
-        Named::Itself => {
+        SymtabName::Itself => {
             let subject = Subject {
                 layout,
                 sections,
@@ -427,8 +419,8 @@ pub fn table_fields(
             };
             subject.fields(section)
         }
-        Named::Slot | Named::Stub => slot_fields(layout, sections, index, symbol, named),
-        Named::Thunk(address) => thunk_fields(layout, index, address),
+        SymtabName::Slot | SymtabName::Stub => slot_fields(layout, sections, index, symbol, named),
+        SymtabName::Thunk(address) => thunk_fields(layout, index, address),
     }
 }
 

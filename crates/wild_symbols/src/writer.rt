@@ -7,39 +7,28 @@ ghost use Rattle.wild_types.specs.Shares.{share_of};
 ghost use Rattle.wild_needs.specs.TableSymbols.{has_long};
 ghost use Rattle.wild_records.specs.declared.symbol_section.SymbolSection.TheVariants.{Raw, Index};
 ghost use Rattle.wild_records.specs.Abi.Section.{shn_abs, shn_undef};
-ghost use Rattle.wild_symbols.specs.Symbols.{symbol_bytes, symbols_used};
+ghost use Rattle.wild_table_formats.specs.Symbols.{symbol_bytes, symbols_used};
 ghost use Rattle.wild_symbols.specs.Indexes.{index_room};
-ghost use Rattle.wild_symbols.specs.Tables.{dynstr_start, placed, strtab_start, symbols_with, indexes_with, no_dynamic_symbols, no_symbols, section_number, long_of, told, list_of, indexes_of, with_listed, with_fields, with_symbol, with_undefined, is_local, copied_attributes, with_copied};
-ghost use Rattle.wild_symbols.specs.TableRoom.{room_in_lists, room_for_fields, room_for_symbol, left_over};
-ghost use Rattle.wild_symbols.specs.DynamicFields.{named_sections};
-ghost use Rattle.wild_symbols.specs.SlotNames.{slot_entry, slot_names, offered, given, all_offered, all_given};
+ghost use Rattle.wild_symbols.specs.Tables.{dynstr_start, entry_with_name, strtab_start, symbols_with, indexes_with, no_dynamic_symbols, no_symbols, section_number, long_of, fields_in_section, list_of, indexes_of, with_listed, with_fields, with_symbol, with_undefined, is_local, copied_attributes, with_copied};
+ghost use Rattle.wild_symbols.specs.TableRoom.{room_in_lists, room_for_fields, room_for_symbol, tables_full_or_fault};
+ghost use Rattle.wild_table_formats.specs.DynamicFields.{named_sections};
+ghost use Rattle.wild_symbols.specs.SlotNames.{slot_entry, slot_names, entry_result, after_entry, entries_result, after_entries};
 ghost use Rattle.wild_symbols.specs.SectionCalls.{section_calls};
-ghost use Rattle.wild_symbols.specs.Runs.{defined, undefined, called};
+ghost use Rattle.wild_symbols.specs.Runs.{defined, undefined, after_call};
 
-use crate::dynamic::{NamedSections, SymbolFields};
 use crate::index_table::IndexTable;
 use crate::section_walk::give_section_symbols;
 use crate::strtab::StrTabWriter;
 use crate::symbol_table::SymbolTable;
-use crate::table::{TableFields, section_fields, slot_fields};
+use crate::table::{section_fields, slot_fields};
 use std::alloc::{AllocError, Global};
-use wild_needs::{Named, has_long, suffix};
+use wild_needs::{SymtabName, has_long, suffix};
 use wild_records::abi::section::{SHN_ABS, SHN_UNDEF};
 use wild_records::abi::symbol::STB_LOCAL;
 use wild_records::{SymbolSection, SymtabEntry};
+use wild_table_formats::{NamedSections, SymbolAttributes, SymbolFields, TableFields};
 use wild_types::{At, Error, Layout, Role, SectionIndex, Symbol, part_of, share_of};
-use wild_walk::Sink;
-
-/// The fields of a symbol that do not depend on where it is placed.
-#[derive(Clone, Copy)]
-pub struct SymbolAttributes {
-    /// `st_info`: binding and type.
-    pub info: u8,
-    /// `st_other`: visibility.
-    pub other: u8,
-    /// `st_size`.
-    pub size: u64,
-}
+use wild_words::Sink;
 
 /// A group's symbols and their names. Each table is written from the start of the group's share. All memory is allocated by
 /// `new` or `new_dynamic`.
@@ -88,8 +77,12 @@ fn long_of(section: SymbolSection) -> u32
 }
 
 /// The fields of a symbol with this value in a section.
-fn told(section: SymbolSection, value: u64, attributes: SymbolAttributes) -> TableFields
-    ensures { result ≡ told section value attributes }
+fn fields_in_section(
+    section: SymbolSection,
+    value: u64,
+    attributes: SymbolAttributes,
+) -> TableFields
+    ensures { result ≡ fields_in_section section value attributes }
 {
     TableFields {
         fields: SymbolFields {
@@ -112,8 +105,8 @@ fn section_number(section: SymbolSection) -> u16
 }
 
 /// The entry of a symbol whose name is at offset `name` of the string table.
-fn placed(name: u32, fields: SymbolFields) -> SymtabEntry
-    ensures { result ≡ placed name fields }
+fn entry_with_name(name: u32, fields: SymbolFields) -> SymtabEntry
+    ensures { result ≡ entry_with_name name fields }
 {
     SymtabEntry {
         name,
@@ -286,7 +279,7 @@ impl SymbolTableWriter {
         ensures kept { OnErr result (self.new ≡ self.old) }
     {
         self.check_room(is_local, told.long)?;
-        let entry = placed(self.strtab.write_joined(name, suffix)?, told.fields);
+        let entry = entry_with_name(self.strtab.write_joined(name, suffix)?, told.fields);
         self.push(is_local, entry, told.long);
         Ok(())
     }
@@ -298,7 +291,7 @@ impl SymbolTableWriter {
     ///
     /// `InsufficientAllocation` exactly if the symbol does not fit in the rest of its share, or otherwise its extended section
     /// index, or otherwise its name. Then nothing changes.
-    #[tactic(auto, using(crate::proofs::StringLemmas::joined_with_none))]
+    #[tactic(auto, using(wild_table_formats::proofs::StringLemmas::joined_with_none))]
     pub fn write_entry(
         &mut self,
         is_local: bool,
@@ -308,7 +301,7 @@ impl SymbolTableWriter {
         ensures answered { result ≡ room_for_fields is_local (Some name.now) told.long self.old }
         ensures written { OnOk result (self.new ≡ with_fields is_local (Some name.now) told self.old) }
         ensures kept { OnErr result (self.new ≡ self.old) }
-        ensures call { self.new ≡ called (record { name = Some name.now; local = is_local; fields = told }) self.old }
+        ensures call { self.new ≡ after_call (record { name = Some name.now; local = is_local; fields = told }) self.old }
     {
         self.write_named(is_local, name, b"", told)
     }
@@ -324,10 +317,10 @@ impl SymbolTableWriter {
         ensures answered { result ≡ room_for_fields is_local None told.long self.old }
         ensures written { OnOk result (self.new ≡ with_fields is_local None told self.old) }
         ensures kept { OnErr result (self.new ≡ self.old) }
-        ensures call { self.new ≡ called (record { name = None; local = is_local; fields = told }) self.old }
+        ensures call { self.new ≡ after_call (record { name = None; local = is_local; fields = told }) self.old }
     {
         self.check_room(is_local, told.long)?;
-        self.push(is_local, placed(0, told.fields), told.long);
+        self.push(is_local, entry_with_name(0, told.fields), told.long);
         Ok(())
     }
 
@@ -339,8 +332,8 @@ impl SymbolTableWriter {
     /// index. Only the symbols before it are then written.
     #[tactic(auto, using(crate::proofs::SectionRunLemmas::sections_written))]
     pub fn write_section_symbols(&mut self, layout: &Layout) -> Result<(), Error>
-        ensures answered { result ≡ all_offered (section_calls layout.now) self.old }
-        ensures left { self.new ≡ all_given (section_calls layout.now) self.old }
+        ensures answered { result ≡ entries_result (section_calls layout.now) self.old }
+        ensures left { self.new ≡ after_entries (section_calls layout.now) self.old }
     {
         give_section_symbols(layout, self)
     }
@@ -352,18 +345,18 @@ impl SymbolTableWriter {
         sections: &NamedSections,
         index: usize,
         symbol: &Symbol,
-        named: Named,
+        named: SymtabName,
     ) -> Result<(), Error>
         requires { sections.now ≡ named_sections layout.now }
-        ensures answered { result ≡ offered (slot_entry layout.now index symbol.now named) self.old }
-        ensures left { self.new ≡ given (slot_entry layout.now index symbol.now named) self.old }
+        ensures answered { result ≡ entry_result (slot_entry layout.now index symbol.now named) self.old }
+        ensures left { self.new ≡ after_entry (slot_entry layout.now index symbol.now named) self.old }
         ensures kept { OnErr result (self.new ≡ self.old) }
     {
         match slot_fields(layout, sections, index, symbol, named) {
             Ok(told) => self.write_named(true, symbol.name.as_slice(), suffix(named), told),
             Err(fault) => Err(Error {
                 fault,
-                at: At::NOWHERE,
+                at: At::NO_PLACE,
             }),
         }
     }
@@ -384,14 +377,14 @@ impl SymbolTableWriter {
         symbol: &Symbol,
     ) -> Result<(), Error>
         requires { sections.now ≡ named_sections layout.now }
-        ensures answered { result ≡ all_offered (slot_names layout.now index symbol.now) self.old }
-        ensures left { self.new ≡ all_given (slot_names layout.now index symbol.now) self.old }
+        ensures answered { result ≡ entries_result (slot_names layout.now index symbol.now) self.old }
+        ensures left { self.new ≡ after_entries (slot_names layout.now index symbol.now) self.old }
     {
         if layout.names_slot(index, symbol) {
-            self.write_slot_name(layout, sections, index, symbol, Named::Slot)?;
+            self.write_slot_name(layout, sections, index, symbol, SymtabName::Slot)?;
         }
         if layout.names_stub(index, symbol) {
-            self.write_slot_name(layout, sections, index, symbol, Named::Stub)?;
+            self.write_slot_name(layout, sections, index, symbol, SymtabName::Stub)?;
         }
         Ok(())
     }
@@ -414,9 +407,13 @@ impl SymbolTableWriter {
         ensures answered { result ≡ room_for_symbol is_local name.now section self.old }
         ensures written { OnOk result (self.new ≡ with_symbol is_local name.now section value attributes self.old) }
         ensures kept { OnErr result (self.new ≡ self.old) }
-        ensures call { self.new ≡ called (defined is_local name.now section value attributes) self.old }
+        ensures call { self.new ≡ after_call (defined is_local name.now section value attributes) self.old }
     {
-        self.write_entry(is_local, name, told(section, value, attributes))
+        self.write_entry(
+            is_local,
+            name,
+            fields_in_section(section, value, attributes),
+        )
     }
 
     /// Appends an undefined symbol (`SHN_UNDEF`, value 0) and its name.
@@ -434,7 +431,7 @@ impl SymbolTableWriter {
         ensures answered { result ≡ room_for_symbol is_local name.now (Raw shn_undef) self.old }
         ensures written { OnOk result (self.new ≡ with_undefined is_local name.now attributes self.old) }
         ensures kept { OnErr result (self.new ≡ self.old) }
-        ensures call { self.new ≡ called (undefined is_local name.now attributes) self.old }
+        ensures call { self.new ≡ after_call (undefined is_local name.now attributes) self.old }
     {
         self.define_symbol(is_local, name, SymbolSection::Raw(SHN_UNDEF), 0, attributes)
     }
@@ -456,7 +453,7 @@ impl SymbolTableWriter {
         ensures answered { result ≡ room_for_symbol (is_local symbol.now) name.now (Raw shndx) self.old }
         ensures written { OnOk result (self.new ≡ with_copied name.now (Raw shndx) value symbol.now self.old) }
         ensures kept { OnErr result (self.new ≡ self.old) }
-        ensures call { self.new ≡ called (defined (is_local symbol.now) name.now (Raw shndx) value (copied_attributes symbol.now)) self.old }
+        ensures call { self.new ≡ after_call (defined (is_local symbol.now) name.now (Raw shndx) value (copied_attributes symbol.now)) self.old }
     {
         let attributes = copied_attributes(symbol);
         self.define_symbol(
@@ -486,7 +483,7 @@ impl SymbolTableWriter {
         ensures answered { result ≡ room_for_symbol (is_local symbol.now) name.now (Index section) self.old }
         ensures written { OnOk result (self.new ≡ with_copied name.now (Index section) value symbol.now self.old) }
         ensures kept { OnErr result (self.new ≡ self.old) }
-        ensures call { self.new ≡ called (defined (is_local symbol.now) name.now (Index section) value (copied_attributes symbol.now)) self.old }
+        ensures call { self.new ≡ after_call (defined (is_local symbol.now) name.now (Index section) value (copied_attributes symbol.now)) self.old }
     {
         let attributes = copied_attributes(symbol);
         let section = SymbolSection::Index(section.0 as u32);
@@ -504,7 +501,7 @@ impl SymbolTableWriter {
         ensures answered { result ≡ room_for_symbol (is_local symbol.now) name.now (Raw shn_abs) self.old }
         ensures written { OnOk result (self.new ≡ with_copied name.now (Raw shn_abs) symbol.now.value symbol.now self.old) }
         ensures kept { OnErr result (self.new ≡ self.old) }
-        ensures call { self.new ≡ called (defined (is_local symbol.now) name.now (Raw shn_abs) symbol.now.value (copied_attributes symbol.now)) self.old }
+        ensures call { self.new ≡ after_call (defined (is_local symbol.now) name.now (Raw shn_abs) symbol.now.value (copied_attributes symbol.now)) self.old }
     {
         self.copy_symbol_shndx(symbol, name, SHN_ABS, symbol.value)
     }
@@ -515,7 +512,7 @@ impl SymbolTableWriter {
     ///
     /// `ExcessiveAllocation` for the first table with unwritten bytes, in the order of the roles of parts.
     pub fn check_exhausted(&self) -> Result<(), Error>
-        ensures { result ≡ left_over self.now }
+        ensures { result ≡ tables_full_or_fault self.now }
     {
         self.locals.check_exhausted()?;
         self.globals.check_exhausted()?;

@@ -7,12 +7,12 @@ use Rattle.wild_relr.specs.Laws.{WordsAreRead}
 use Rattle.wild_records.specs.declared.relocations.Rela.{Rela}
 use Rattle.wild_types.specs.declared.kind.Machine.{Machine}
 use Rattle.wild_slot.specs.declared.slot.SlotWord.{SlotWord}
-use Rattle.wild_slot.specs.declared.slot.SlotWord.TheVariants.{Number, Address, InBlock, General, Plt}
+use Rattle.wild_slot.specs.declared.slot.SlotWord.TheVariants.{Number, Address, InRelrGot, General, Plt}
 use Rattle.wild_slot.specs.declared.slot_parts.WordPart.TheVariants as words
 use Rattle.wild_slot.specs.declared.slot_parts.EntryPart.{EntryPart}
 use Rattle.wild_slot.specs.declared.slot_parts.EntryPart.TheVariants as entries
-use Rattle.wild_slot.specs.SlotParts.{next, is_packed, address_entry, entry_at, at_places, word_of, entry_of, flat_place, slot_words, slot_entries}
-use Rattle.wild_tables.specs.SlotLaws.{EachWordStands, EachFillingIsThere, WordsStandInOrder, EntriesFillWords, CountsAreOfAnyMachine, Fills, filled, is_in_block, word_place}
+use Rattle.wild_slot.specs.SlotParts.{next, is_packed, address_entry, entry_at, at_places, word_of, entry_of, relr_slot_place, slot_words, slot_entries}
+use Rattle.wild_tables.specs.SlotLaws.{EachWordIsInOnePart, EachFilledWordHasOneEntry, WordsAreReadInOrder, EntriesFillWords, CountsDoNotDependOnMachine, Fills, filled, is_in_relr_got, word_place}
 
 count : {X : Type 0} → Option X → ℕ
 count o = length (option_to_list o)
@@ -23,20 +23,20 @@ placed-count f at w ws = length-append (option_to_list (f at w)) (at_places f (n
 
 -- ---- each word
 
-stands-once : (relr : Bool) (at : ℕ) (w : SlotWord) → count (word_of words.Got relr at w) + count (word_of words.Block relr at w) ≡ 1
+stands-once : (relr : Bool) (at : ℕ) (w : SlotWord) → count (word_of words.Got relr at w) + count (word_of words.RelrGot relr at w) ≡ 1
 unfolding count
 stands-once relr at (Number n) = refl
 stands-once relr at (Address a) = refl
-stands-once relr at (InBlock a) = refl
+stands-once relr at (InRelrGot a) = refl
 stands-once relr at (General e) = refl
 stands-once relr at (Plt e) = refl
 
-pub words_stand : EachWordStands
+pub words_stand : EachWordIsInOnePart
 words_stand relr at [] = refl
 words_stand relr at (w ∷ ws) =
     let once = stands-once relr at w in
     let got = placed-count (word_of words.Got relr) at w ws in
-    let block = placed-count (word_of words.Block relr) at w ws in
+    let block = placed-count (word_of words.RelrGot relr) at w ws in
     let rest = words_stand relr (next at) ws in
     omega (arith, once, got, block, rest)
 
@@ -48,22 +48,22 @@ one_of_two true x y = refl
 one_of_two false x y = refl
 
 filled-once : (m : Machine) (relr : Bool) (at : ℕ) (w : SlotWord)
-    → count (entry_of entries.Plt m relr at w) + count (entry_of entries.Relative m relr at w) + count (entry_of entries.General m relr at w) + count (flat_place relr at w) ≡ count (filled w)
+    → count (entry_of entries.Plt m relr at w) + count (entry_of entries.Relative m relr at w) + count (entry_of entries.General m relr at w) + count (relr_slot_place relr at w) ≡ count (filled w)
 unfolding count
 filled-once m relr at (Number n) = refl
 filled-once m relr at (Address a) = let e = one_of_two (is_packed relr at) (address_entry m at a) at in omega (arith, e)
-filled-once m relr at (InBlock a) = refl
+filled-once m relr at (InRelrGot a) = refl
 filled-once m relr at (General e) = refl
 filled-once m relr at (Plt e) = refl
 
-pub fillings_are_there : EachFillingIsThere
+pub fillings_are_there : EachFilledWordHasOneEntry
 fillings_are_there m relr at [] = refl
 fillings_are_there m relr at (w ∷ ws) =
     let once = filled-once m relr at w in
     let a = placed-count (entry_of entries.Plt m relr) at w ws in
     let b = placed-count (entry_of entries.Relative m relr) at w ws in
     let c = placed-count (entry_of entries.General m relr) at w ws in
-    let d = placed-count (flat_place relr) at w ws in
+    let d = placed-count (relr_slot_place relr) at w ws in
     let e = placed-count (λ (at : ℕ). filled) at w ws in
     let rest = fillings_are_there m relr (next at) ws in
     omega (arith, once, a, b, c, d, e, rest)
@@ -71,10 +71,10 @@ fillings_are_there m relr at (w ∷ ws) =
 -- ---- words in order
 
 -- the word of a slot in `got` that is not in the block
-got_value : (relr : Bool) (at : ℕ) (w : SlotWord) → is_in_block w ≡ false → (v : ℕ) × (word_of words.Got relr at w ≡ Some v)
+got_value : (relr : Bool) (at : ℕ) (w : SlotWord) → is_in_relr_got w ≡ false → (v : ℕ) × (word_of words.Got relr at w ≡ Some v)
 got_value relr at (Number n) h = (n, refl)
 got_value relr at (Address a) h = (if is_packed relr at then a else 0, refl)
-got_value relr at (InBlock a) h = cc
+got_value relr at (InRelrGot a) h = cc
 got_value relr at (General e) h = (0, refl)
 got_value relr at (Plt e) h = (0, refl)
 
@@ -87,28 +87,28 @@ place-zero at l = omega arith
 place-suc : (at k : ℕ) → word_place at (suc k) ≡ word_place (next at) k
 place-suc at k = omega arith
 
-got_words-length : (relr : Bool) (at : ℕ) (ws : List SlotWord) → All (λ w. is_in_block w ≡ false) ws → length (slot_words words.Got relr at ws) ≡ length ws
+got_words-length : (relr : Bool) (at : ℕ) (ws : List SlotWord) → All (λ w. is_in_relr_got w ≡ false) ws → length (slot_words words.Got relr at ws) ≡ length ws
 got_words-length relr at [] h = refl
 got_words-length relr at (w ∷ ws) h =
-    let v = got_value relr at w (All-head (λ (w : SlotWord). is_in_block w ≡ false) w ws h) in
-    let rest = got_words-length relr (next at) ws (All-tail (λ (w : SlotWord). is_in_block w ≡ false) w ws h) in
+    let v = got_value relr at w (All-head (λ (w : SlotWord). is_in_relr_got w ≡ false) w ws h) in
+    let rest = got_words-length relr (next at) ws (All-tail (λ (w : SlotWord). is_in_relr_got w ≡ false) w ws h) in
     let e = ap length (got_words-cons relr at v.0 w ws v.1) in
     omega (arith, e, rest)
 
-in_order : (relr : Bool) (at : ℕ) (ws : List SlotWord) (k : ℕ) (d : SlotWord) → at < 2 ^ 64 → All (λ w. is_in_block w ≡ false) ws → k < length ws
+in_order : (relr : Bool) (at : ℕ) (ws : List SlotWord) (k : ℕ) (d : SlotWord) → at < 2 ^ 64 → All (λ w. is_in_relr_got w ≡ false) ws → k < length ws
     → word_of words.Got relr (word_place at k) (get_or ws k d) ≡ Some (get_or (slot_words words.Got relr at ws) k 0)
 in_order relr at [] k d l h n = absurd (omega (arith, n))
 in_order relr at (w ∷ ws) zero d l h n =
-    let v = got_value relr at w (All-head (λ (w : SlotWord). is_in_block w ≡ false) w ws h) in
+    let v = got_value relr at w (All-head (λ (w : SlotWord). is_in_relr_got w ≡ false) w ws h) in
     let p = place-zero at l in
     ap (λ (x : ℕ). word_of words.Got relr x w) p ∙ v.1 ∙ sym (ap (λ (xs : List ℕ). Some (get_or xs 0 0)) (got_words-cons relr at v.0 w ws v.1))
 in_order relr at (w ∷ ws) (suc k) d l h n =
-    let v = got_value relr at w (All-head (λ (w : SlotWord). is_in_block w ≡ false) w ws h) in
+    let v = got_value relr at w (All-head (λ (w : SlotWord). is_in_relr_got w ≡ false) w ws h) in
     let low : next at < 2 ^ 64 = omega arith in
-    let rest = in_order relr (next at) ws k d low (All-tail (λ (w : SlotWord). is_in_block w ≡ false) w ws h) (omega (arith, n)) in
+    let rest = in_order relr (next at) ws k d low (All-tail (λ (w : SlotWord). is_in_relr_got w ≡ false) w ws h) (omega (arith, n)) in
     ap (λ (x : ℕ). word_of words.Got relr x (get_or ws k d)) (place-suc at k) ∙ rest ∙ sym (ap (λ (xs : List ℕ). Some (get_or xs (suc k) 0)) (got_words-cons relr at v.0 w ws v.1))
 
-pub words_in_order : WordsAreRead → WordsStandInOrder
+pub words_in_order : WordsAreRead → WordsAreReadInOrder
 words_in_order read relr at ws whole from k d l h small s n =
     let len = got_words-length relr at ws h in
     let r = read whole (slot_words words.Got relr at ws) from k 0 small s (omega (arith, len, n)) in
@@ -161,7 +161,7 @@ entry-count entries.Plt m n relr at w = refl
 entry-count entries.General m n relr at w = refl
 entry-count entries.Relative m n relr at w = refl
 
-pub counts_same : CountsAreOfAnyMachine
+pub counts_same : CountsDoNotDependOnMachine
 counts_same part m n relr at [] = refl
 counts_same part m n relr at (w ∷ ws) =
     let once = entry-count part m n relr at w in

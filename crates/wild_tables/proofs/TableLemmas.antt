@@ -4,19 +4,19 @@ use Rattle.std.proofs.lemmas.List.{length-append}
 use Rattle.std.proofs.lemmas.Bool.{lt-ltb}
 use Rattle.wild_relr.specs.declared.run.Choice.{Choice}
 use Rattle.wild_relr.specs.declared.run.Choice.TheVariants.{Joins, Adds}
-use Rattle.wild_relr.specs.Packing.{choice, chosen, State, after}
-use Rattle.wild_relr.specs.Written.{word_bytes, state, Lies, IsSpelled}
+use Rattle.wild_relr.specs.Encoding.{choice, chosen, State, after}
+use Rattle.wild_relr.specs.WriterState.{word_bytes, state, ContainsWords, IsSpelled}
 use Rattle.wild_relr.specs.declared.writer.RelrWriter.{RelrWriter}
 use Rattle.wild_relr.proofs.WriterLemmas.{length_words_in}
 use Rattle.wild_records.specs.Relocations.{relr_size}
 use Rattle.wild_types.specs.declared.layout.Layout.{Layout}
 use Rattle.wild_types.specs.declared.part.Role.TheVariants.{RelrDyn}
-use Rattle.wild_tables.specs.Tables.{Tables, packed_used, with_words, room_for_words}
+use Rattle.wild_table_formats.specs.GroupTables.{Tables, packed_used, with_words, room_for_words}
 use Rattle.wild_types.specs.Shares.{part_of, insufficient}
-use Rattle.wild_relr.proofs.PackedLemmas.{length-joined}
+use Rattle.wild_relr.proofs.PackedLemmas.{length-with_last_bit}
 
 grows_by_one : (c : Choice) (s : State) (room : ℕ) → 8 * length s.words ≤ room → room < 8 * length (chosen c s).words → 8 * length (chosen c s).words ≡ 8 * length s.words + 8
-grows_by_one (Joins i) s room h l = let e = length-joined i s.words in absurd (omega (arith, e, h, l))
+grows_by_one (Joins i) s room h l = let e = length-with_last_bit i s.words in absurd (omega (arith, e, h, l))
 grows_by_one (Adds w r) s room h l = let e = length-append s.words (w ∷ []) in omega (arith, e)
 
 -- where words do not fit with a place more, one word was missing
@@ -31,6 +31,6 @@ after_short l t p h m =
     rw (short, e) refl
 
 -- the bytes of words that stand in a part
-pub words_stand : (bs : List ℕ) (w : RelrWriter) → Lies bs w → take (relr_size * length (state bs w).words) bs ≡ word_bytes (state bs w).words
+pub words_stand : (bs : List ℕ) (w : RelrWriter) → ContainsWords bs w → take (relr_size * length (state bs w).words) bs ≡ word_bytes (state bs w).words
 unfolding IsSpelled
 words_stand bs w s = let e = length_words_in bs w.count in rw e s.spelled

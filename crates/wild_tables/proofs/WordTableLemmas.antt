@@ -2,7 +2,7 @@
 use Rattle.std.proofs.Common.{◌≡◌, ℕ, ◌+◌, ◌*◌, ◌≤◌, List, ◌++◌, length, take, refl, arith}
 use Rattle.wild_words.specs.Words.{place}
 use Rattle.wild_words.proofs.WordLemmas.{front-place}
-use Rattle.wild_relr.specs.Written.{word_bytes, words_in, IsSpelled}
+use Rattle.wild_relr.specs.WriterState.{word_bytes, words_in, IsSpelled}
 use Rattle.wild_relr.proofs.WriterLemmas.{length_words_in}
 
 pub words_stand : (bs : List ℕ) (n : ℕ) → IsSpelled bs n → take (8 * length (words_in bs n)) bs ≡ word_bytes (words_in bs n)

@@ -1,10 +1,4 @@
-pub mod Entries
-pub mod Words
-pub mod GotWords
-pub mod Tables
 pub mod SlotTables
 pub mod Rooms
 pub mod Verify
-pub mod Laws
 pub mod SlotLaws
-pub mod Dynamic

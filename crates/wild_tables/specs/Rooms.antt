@@ -1,7 +1,7 @@
 -- Sizes and uses of the tables of a group.
 --   rooms t            size and use of each table, in the order of roles
 --   room_for_all l t   each table fits in its share, or InsufficientAllocation for the first that does not
---   left_over l t      each share is full, or ExcessiveAllocation for the first that is not
+--   tables_full_or_fault l t      each share is full, or ExcessiveAllocation for the first that is not
 --   Fit t              each table fits in its share
 --   slot_answer, copy_answer   the result for a slot, and for a COPY entry
 use Rattle.std.specs.Prelude.{ℕ, ◌-◌, ◌*◌, ◌^◌, ◌≤◌, nat_lt, min, if◌then◌else◌, List, [], ◌∷◌, length, Option, Some, None, Result, Ok, Err}
@@ -15,14 +15,14 @@ use Rattle.wild_types.specs.declared.fault.Fault.TheVariants as faults
 use Rattle.wild_types.specs.Faults.{nowhere}
 use Rattle.wild_types.specs.declared.layout.Layout.{Layout}
 use Rattle.wild_types.specs.Shares.{part_of, insufficient, excessive}
-use Rattle.wild_tables.specs.Entries.{Entries}
-use Rattle.wild_tables.specs.Words.{Words}
-use Rattle.wild_tables.specs.GotWords.{GotWords, Stubs}
+use Rattle.wild_table_formats.specs.RelativeEntries.{Entries}
+use Rattle.wild_table_formats.specs.RelrWords.{Words}
+use Rattle.wild_table_formats.specs.GotWords.{GotWords, Stubs}
 use Rattle.wild_slot.specs.declared.slot.SlotFault.{SlotFault}
-use Rattle.wild_tables.specs.declared.refused.Refused.{Refused}
-use Rattle.wild_tables.specs.declared.refused.Refused.TheVariants as refused
+use Rattle.wild_tables.specs.declared.slot_write_error.SlotWriteError.{SlotWriteError}
+use Rattle.wild_tables.specs.declared.slot_write_error.SlotWriteError.TheVariants as refused
 use Rattle.wild_tables.specs.declared.room.Room.{Room}
-use Rattle.wild_tables.specs.Tables.{Tables, packed_used}
+use Rattle.wild_table_formats.specs.GroupTables.{Tables, packed_used}
 
 -- size and use of a table
 abbrev pub words_room : Role → GotWords → Room
@@ -50,30 +50,30 @@ rooms t =
     ∷ []
 
 -- the first share that is too small
-abbrev pub first_short : Layout → ℕ → List Room → Result (Unit {0}) Error
-first_short l group [] = Ok tt
-first_short l group (r ∷ rs) = if nat_lt r.given r.used then Err (insufficient (part_of l r.role) group r.given r.used) else first_short l group rs
+abbrev pub first_too_small : Layout → ℕ → List Room → Result (Unit {0}) Error
+first_too_small l group [] = Ok tt
+first_too_small l group (r ∷ rs) = if nat_lt r.given r.used then Err (insufficient (part_of l r.role) group r.given r.used) else first_too_small l group rs
 
 -- the first share that is too large
-abbrev pub first_left : Layout → ℕ → List Room → Result (Unit {0}) Error
-first_left l group [] = Ok tt
-first_left l group (r ∷ rs) = if nat_lt r.used r.given then Err (excessive (part_of l r.role) group r.given r.used) else first_left l group rs
+abbrev pub first_too_large : Layout → ℕ → List Room → Result (Unit {0}) Error
+first_too_large l group [] = Ok tt
+first_too_large l group (r ∷ rs) = if nat_lt r.used r.given then Err (excessive (part_of l r.role) group r.given r.used) else first_too_large l group rs
 
 -- each table fits in its share; otherwise the fault has both sizes of the first that does not
 abbrev pub room_for_all : Layout → Tables → Result (Unit {0}) Error
-room_for_all l t = first_short l t.group (rooms t)
+room_for_all l t = first_too_small l t.group (rooms t)
 
 -- each share is full; otherwise the fault has both sizes of the first that is not, in the order of roles
-abbrev pub left_over : Layout → Tables → Result (Unit {0}) Error
-left_over l t = first_left l t.group (rooms t)
+abbrev pub tables_full_or_fault : Layout → Tables → Result (Unit {0}) Error
+tables_full_or_fault l t = first_too_large l t.group (rooms t)
 
 -- the number of used bytes, at most 2^64 - 1
-abbrev pub capped : Room → Room
-capped r = record r { used = min (2 ^ 64 - 1) r.used }
+abbrev pub capped_room : Room → Room
+capped_room r = record r { used = min (2 ^ 64 - 1) r.used }
 
 -- the two tables with the reserved words and the module pair fit in their shares
 abbrev pub room_for_header : Layout → Tables → Result (Unit {0}) Error
-room_for_header l t = first_short l t.group (capped (words_room role.Got t.got) ∷ entries_room role.RelaDynGeneral t.general ∷ [])
+room_for_header l t = first_too_small l t.group (capped_room (words_room role.Got t.got) ∷ entries_room role.RelaDynGeneral t.general ∷ [])
 
 -- got and rela_dyn_general fit in their shares
 pub record HeaderFits (t : Tables) : Type 0 where
@@ -82,7 +82,7 @@ pub record HeaderFits (t : Tables) : Type 0 where
 
 -- the entries of rela_dyn_general fit in their share
 abbrev pub room_for_general : Layout → Tables → Result (Unit {0}) Error
-room_for_general l t = first_short l t.group (entries_room role.RelaDynGeneral t.general ∷ [])
+room_for_general l t = first_too_small l t.group (entries_room role.RelaDynGeneral t.general ∷ [])
 
 -- the RELR words fit in their share; the fault has the part that the tables were created with
 abbrev pub room_for_block : Tables → Result (Unit {0}) Error
@@ -102,7 +102,7 @@ pub record Fit (t : Tables) : Type 0 where
   pub packed : packed_used t ≤ t.packed.room
 
 -- the result for a slot: the fault of a share that is too small, otherwise the slot's own fault
-abbrev pub slot_answer : Result (Unit {0}) Error → Option SlotFault → Result (Unit {0}) Refused
+abbrev pub slot_answer : Result (Unit {0}) Error → Option SlotFault → Result (Unit {0}) SlotWriteError
 slot_answer (Err e) fault = Err (refused.Room e)
 slot_answer (Ok u) (Some f) = Err (refused.Fault f)
 slot_answer (Ok u) None = Ok tt

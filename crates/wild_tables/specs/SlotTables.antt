@@ -1,10 +1,10 @@
 -- The tables of a group with something appended.
---   with_placed l at ws t   the words of a slot at address at, and their entries, each in its part
+--   with_slot_words l at ws t   the words of a slot at address at, and their entries, each in its part
 --   with_slot l r stub t    the slots of a resolution, and its stub, given by its bytes or by a distance that is out of range
 --   with_header l t         the reserved words of the GOT and the module pair
 --   with_block base n t     the RELR words of n slots in `got_relr`
 --   with_general e t        an entry of `rela_dyn_general`
---   copied_by l i           the COPY entry of symbol i, or the fault of a symbol without resolution or index
+--   copy_entry_of l i           the COPY entry of symbol i, or the fault of a symbol without resolution or index
 --   with_copy l i t         the COPY entry of symbol i
 use Rattle.std.specs.Prelude.{ℕ, ℤ, if◌then◌else◌, List, [], ◌∷◌, Option, Some, None, option_and_then, unwrap_or, Result, Ok, Err, slice_get}
 use Rattle.wild_records.specs.declared.relocations.Rela.{Rela}
@@ -17,34 +17,34 @@ use Rattle.wild_types.specs.declared.layout.Layout.{Layout}
 use Rattle.wild_types.specs.declared.symbol.Resolution.{Resolution}
 use Rattle.wild_types.specs.declared.symbol.Symbol.{Symbol}
 use Rattle.wild_types.specs.Lookups.{canonical}
-use Rattle.wild_relr.specs.Packing.{State}
-use Rattle.wild_relr.specs.Packed.{after_flat, after_block}
-use Rattle.wild_tables.specs.Words.{Words}
+use Rattle.wild_relr.specs.Encoding.{State}
+use Rattle.wild_relr.specs.RunWords.{after_relr_slot, after_block}
+use Rattle.wild_table_formats.specs.RelrWords.{Words}
 use Rattle.wild_slot.specs.declared.slot.SlotWord.{SlotWord}
 use Rattle.wild_slot.specs.declared.slot_parts.WordPart.TheVariants as words
 use Rattle.wild_slot.specs.declared.slot_parts.EntryPart.TheVariants as entries
 use Rattle.wild_slot.specs.Slots.{SlotContent, setting_of, slot}
 use Rattle.wild_needs.specs.SlotShares.{storage_words, header_words}
-use Rattle.wild_slot.specs.SlotParts.{type_of, entry_at, slot_words, slot_entries, flat_places}
-use Rattle.wild_tables.specs.Tables.{Tables, more_words, more_stubs, more_entries, with_words}
+use Rattle.wild_slot.specs.SlotParts.{type_of, entry_at, slot_words, slot_entries, relr_slot_places}
+use Rattle.wild_table_formats.specs.GroupTables.{Tables, more_words, more_stubs, more_entries, with_words}
 
 -- each place recorded by its own address word
-abbrev pub after_flats : State → List ℕ → State
-after_flats s [] = s
-after_flats s (p ∷ ps) = after_flats (after_flat s p) ps
+abbrev pub after_relr_slots : State → List ℕ → State
+after_relr_slots s [] = s
+after_relr_slots s (p ∷ ps) = after_relr_slots (after_relr_slot s p) ps
 
 abbrev pub more_places : List ℕ → Words → Words
-more_places ps t = record { state = after_flats t.state ps; room = t.room }
+more_places ps t = record { state = after_relr_slots t.state ps; room = t.room }
 
 -- the words of a slot at address at, and their entries, each in its part
-abbrev pub with_placed : Layout → ℕ → List SlotWord → Tables → Tables
-with_placed l at ws t = record t {
+abbrev pub with_slot_words : Layout → ℕ → List SlotWord → Tables → Tables
+with_slot_words l at ws t = record t {
   got = more_words (slot_words words.Got l.options.relr at ws) t.got;
-  block = more_words (slot_words words.Block l.options.relr at ws) t.block;
+  block = more_words (slot_words words.RelrGot l.options.relr at ws) t.block;
   plt = more_entries (slot_entries entries.Plt l.machine l.options.relr at ws) t.plt;
   relative = more_entries (slot_entries entries.Relative l.machine l.options.relr at ws) t.relative;
   general = more_entries (slot_entries entries.General l.machine l.options.relr at ws) t.general;
-  packed = more_places (flat_places l.options.relr at ws) t.packed;
+  packed = more_places (relr_slot_places l.options.relr at ws) t.packed;
 }
 
 -- the stub's distance from its slot if that is out of range; bytes_of has the stub's bytes otherwise
@@ -65,7 +65,7 @@ stub_of c stub = if c.has_stub then bytes_of stub else []
 
 -- the words of a slot at address at, and a stub
 abbrev pub with_content : Layout → ℕ → List SlotWord → List ℕ → Tables → Tables
-with_content l at ws stub t = record (with_placed l at ws t) { stubs = more_stubs stub t.stubs }
+with_content l at ws stub t = record (with_slot_words l at ws t) { stubs = more_stubs stub t.stubs }
 
 -- the slots of a resolution, and its stub
 abbrev pub with_slot : Layout → Resolution → Result (List ℕ) ℕ → Tables → Tables
@@ -101,22 +101,22 @@ copy_entry l r d = entry_at l.machine r.raw_value (record { kind = Copy; symbol 
 abbrev pub resolution_of : Layout → ℕ → Option Resolution
 resolution_of l i = option_and_then (λ (s : Symbol). s.resolution) (slice_get l.symbols (canonical l i))
 
-abbrev pub copied_at : Layout → ℕ → Resolution → Option ℕ → Result Rela Fault
-copied_at l i r None = Err (faults.MissingResolution missing.DynamicSymbol i)
-copied_at l i r (Some d) = Ok (copy_entry l r d)
+abbrev pub copy_entry_at : Layout → ℕ → Resolution → Option ℕ → Result Rela Fault
+copy_entry_at l i r None = Err (faults.MissingResolution missing.DynamicSymbol i)
+copy_entry_at l i r (Some d) = Ok (copy_entry l r d)
 
-abbrev pub copied_as : Layout → ℕ → Option Resolution → Result Rela Fault
-copied_as l i None = Err (faults.MissingResolution missing.Address i)
-copied_as l i (Some r) = copied_at l i r r.dynamic_symbol_index
+abbrev pub copy_entry_for : Layout → ℕ → Option Resolution → Result Rela Fault
+copy_entry_for l i None = Err (faults.MissingResolution missing.Address i)
+copy_entry_for l i (Some r) = copy_entry_at l i r r.dynamic_symbol_index
 
 -- the COPY entry of symbol i, or the fault of a symbol without a resolution or without a dynamic symbol index
-abbrev pub copied_by : Layout → ℕ → Result Rela Fault
-copied_by l i = copied_as l i (resolution_of l i)
+abbrev pub copy_entry_of : Layout → ℕ → Result Rela Fault
+copy_entry_of l i = copy_entry_for l i (resolution_of l i)
 
-abbrev pub with_copied : Result Rela Fault → Tables → Tables
-with_copied (Err f) t = t
-with_copied (Ok e) t = with_general e t
+abbrev pub with_copy_result : Result Rela Fault → Tables → Tables
+with_copy_result (Err f) t = t
+with_copy_result (Ok e) t = with_general e t
 
 -- the COPY entry of symbol i appended; nothing for a symbol with a fault
 abbrev pub with_copy : Layout → ℕ → Tables → Tables
-with_copy l i t = with_copied (copied_by l i) t
+with_copy l i t = with_copy_result (copy_entry_of l i) t

@@ -17,7 +17,7 @@ use Rattle.wild_slot.specs.declared.slot_parts.WordPart.TheVariants as words
 use Rattle.wild_slot.specs.declared.slot_parts.EntryPart.{EntryPart}
 use Rattle.wild_slot.specs.declared.slot_parts.EntryPart.TheVariants as entries
 use Rattle.wild_slot.specs.Slots.{SlotContent, slot}
-use Rattle.wild_slot.specs.SlotParts.{slot_words, slot_entries, flat_places}
+use Rattle.wild_slot.specs.SlotParts.{slot_words, slot_entries, relr_slot_places}
 
 -- sizes do not depend on the bounds of the TLS segment, as long as the symbol lies in it
 abbrev pub open_setting : OutputKind → Options → Setting
@@ -34,12 +34,12 @@ unfoldable pub content_sizes : Options → ℕ → SlotContent → List ℕ
 content_sizes options at c =
     0 ∷ 0 ∷ 0 ∷ 0 ∷ 0
     ∷ words_size words.Got options at c.words
-    ∷ words_size words.Block options at c.words
+    ∷ words_size words.RelrGot options at c.words
     ∷ (if c.has_stub then 16 else 0)
     ∷ entries_size entries.Plt options at c.words
     ∷ entries_size entries.Relative options at c.words
     ∷ entries_size entries.General options at c.words
-    ∷ relr_size * length (flat_places options.relr at c.words)
+    ∷ relr_size * length (relr_slot_places options.relr at c.words)
     ∷ 0 ∷ 0 ∷ 0 ∷ 0 ∷ 0 ∷ 0 ∷ 0 ∷ 0 ∷ 0 ∷ 0 ∷ 0 ∷ 0 ∷ 0 ∷ 0 ∷ 0 ∷ 0 ∷ 0 ∷ 0 ∷ []
 
 -- the bytes that the slots before the first fault need

@@ -2,8 +2,8 @@
 ghost use Rattle.std.specs.Prelude.{◌≡◌, ◌+◌, ◌*◌, ◌≤◌, ◌++◌, [], ◌∷◌, length, take, replicate};
 ghost use Rattle.wild_records.specs.Dynamic.{dynamic_entry_size};
 ghost use Rattle.wild_needs.specs.Dynamic.{entry_of, tag_entries, dynamic_count};
-ghost use Rattle.wild_needs.specs.DynamicStrings.{named, behind_text, string_entries, auxiliary_strings, named_strings, string_start};
-ghost use Rattle.wild_tables.specs.Dynamic.{dynamic_bytes, entries_bytes, behind_strings, NeededAreOfLibraries, LengthsOfRecords, LengthsOfDynamic, RecordsStand, RecordsFit, BehindNullIsNotRead, EntriesAreFound, TablesAreNamed};
+ghost use Rattle.wild_needs.specs.DynamicStrings.{named, offset_after_string, string_entries, auxiliary_strings, named_strings, string_start};
+ghost use Rattle.wild_table_formats.specs.DynamicSection.{dynamic_bytes, entries_bytes, offset_after_strings};
 
 use wild_needs::{DynamicTag, dynamic_entry, string_start};
 use wild_records::DynamicEntry;
@@ -19,7 +19,7 @@ pub fn write_unused(out: &mut [u8])
 }
 
 /// Writes an entry at an offset, and returns the offset after it.
-#[tactic(auto, using(crate::proofs::DynamicLemmas::entry_put, crate::proofs::DynamicLemmas::entry_room))]
+#[tactic(auto, using(wild_table_formats::proofs::DynamicLemmas::entry_put, wild_table_formats::proofs::DynamicLemmas::entry_room))]
 fn write_entry(out: &mut [u8], at: usize, entry: DynamicEntry) -> usize
     requires { at + dynamic_entry_size ≤ length out.old }
     ensures at { result ≡ at + dynamic_entry_size }
@@ -53,7 +53,7 @@ fn write_tag(layout: &Layout, tag: DynamicTag, out: &mut [u8], at: usize) -> usi
 }
 
 /// Writes the entries whose values are not offsets of strings, and returns the offset after them.
-#[tactic(auto, using(crate::proofs::DynamicLemmas::tag_more, crate::proofs::DynamicLemmas::tag_count), unfolding(wild_needs::specs::Dynamic::tag_entries, wild_needs::specs::Dynamic::all_tags))]
+#[tactic(auto, using(wild_table_formats::proofs::DynamicLemmas::tag_more, wild_table_formats::proofs::DynamicLemmas::tag_count), unfolding(wild_needs::specs::Dynamic::tag_entries, wild_needs::specs::Dynamic::all_tags))]
 fn write_tags(layout: &Layout, out: &mut [u8], at: usize) -> usize
     requires { at + dynamic_entry_size * length (tag_entries layout.now) ≤ length out.old }
     ensures at { result ≡ at + dynamic_entry_size * length (tag_entries layout.now) }
@@ -80,7 +80,7 @@ struct Cursor {
 fn write_string(out: &mut [u8], cursor: Cursor, number: u64, text: &[u8]) -> Cursor
     requires { cursor.at + dynamic_entry_size ≤ length out.old }
     ensures at { result.at ≡ cursor.at + dynamic_entry_size }
-    ensures offset { result.offset ≡ behind_text cursor.offset text.now }
+    ensures offset { result.offset ≡ offset_after_string cursor.offset text.now }
     ensures written { take result.at out.new ≡ take cursor.at out.old ++ entries_bytes (record { tag = number; value = cursor.offset } ∷ []) }
     ensures room { length out.new ≡ length out.old }
 {
@@ -95,11 +95,11 @@ fn write_string(out: &mut [u8], cursor: Cursor, number: u64, text: &[u8]) -> Cur
 }
 
 /// Writes the entry of a string if there is one.
-#[tactic(auto, using(crate::proofs::DynamicLemmas::option_none, crate::proofs::DynamicLemmas::option_some))]
+#[tactic(auto, using(wild_table_formats::proofs::DynamicLemmas::option_none, wild_table_formats::proofs::DynamicLemmas::option_some))]
 fn write_option(out: &mut [u8], cursor: Cursor, number: u64, text: &Option<Bytes>) -> Cursor
     requires { cursor.at + dynamic_entry_size * length (named number text.now) ≤ length out.old }
     ensures at { result.at ≡ cursor.at + dynamic_entry_size * length (named number text.now) }
-    ensures offset { result.offset ≡ behind_strings cursor.offset (named number text.now) }
+    ensures offset { result.offset ≡ offset_after_strings cursor.offset (named number text.now) }
     ensures written { take result.at out.new ≡ take cursor.at out.old ++ entries_bytes (string_entries cursor.offset (named number text.now)) }
     ensures room { length out.new ≡ length out.old }
 {
@@ -110,11 +110,11 @@ fn write_option(out: &mut [u8], cursor: Cursor, number: u64, text: &Option<Bytes
 }
 
 /// Writes the `DT_AUXILIARY` entries.
-#[tactic(auto, using(crate::proofs::DynamicLemmas::string_more, crate::proofs::DynamicLemmas::strings_end))]
+#[tactic(auto, using(wild_table_formats::proofs::DynamicLemmas::string_more, wild_table_formats::proofs::DynamicLemmas::strings_end))]
 fn write_auxiliary(out: &mut [u8], cursor: Cursor, texts: &[Bytes]) -> Cursor
     requires { cursor.at + dynamic_entry_size * length texts.now ≤ length out.old }
     ensures at { result.at ≡ cursor.at + dynamic_entry_size * length texts.now }
-    ensures offset { result.offset ≡ behind_strings cursor.offset (auxiliary_strings texts.now) }
+    ensures offset { result.offset ≡ offset_after_strings cursor.offset (auxiliary_strings texts.now) }
     ensures written { take result.at out.new ≡ take cursor.at out.old ++ entries_bytes (string_entries cursor.offset (auxiliary_strings texts.now)) }
     ensures room { length out.new ≡ length out.old }
 {
@@ -126,7 +126,7 @@ fn write_auxiliary(out: &mut [u8], cursor: Cursor, texts: &[Bytes]) -> Cursor
 }
 
 /// Writes the entries that refer to strings, at the start of `out`, and returns the offset after them.
-#[tactic(auto, using(crate::proofs::DynamicLemmas::option_bytes, crate::proofs::DynamicLemmas::option_count, crate::proofs::DynamicLemmas::no_strings), unfolding(wild_needs::specs::DynamicStrings::named_strings))]
+#[tactic(auto, using(wild_table_formats::proofs::DynamicLemmas::option_bytes, wild_table_formats::proofs::DynamicLemmas::option_count, wild_table_formats::proofs::DynamicLemmas::no_strings), unfolding(wild_needs::specs::DynamicStrings::named_strings))]
 fn write_strings(layout: &Layout, out: &mut [u8]) -> usize
     requires { dynamic_entry_size * length (named_strings layout.now) ≤ length out.old }
     ensures at { result ≡ dynamic_entry_size * length (named_strings layout.now) }
@@ -152,7 +152,7 @@ fn write_strings(layout: &Layout, out: &mut [u8]) -> usize
 }
 
 /// Writes the entries of the last file, and fills the rest of `out` with zeros.
-#[tactic(auto, using(wild_needs::proofs::DynamicLemmas::length_dynamic_entries, crate::proofs::DynamicLemmas::whole_entries))]
+#[tactic(auto, using(wild_needs::proofs::DynamicLemmas::length_dynamic_entries, wild_table_formats::proofs::DynamicLemmas::whole_entries))]
 pub fn write_dynamic(layout: &Layout, out: &mut [u8])
     requires { dynamic_entry_size * dynamic_count layout.now ≤ length out.old }
     ensures { out.new ≡ dynamic_bytes layout.now (length out.old) }
@@ -161,16 +161,3 @@ pub fn write_dynamic(layout: &Layout, out: &mut [u8])
     let at = write_tags(layout, out, at);
     write_unused(&mut out[at..]);
 }
-
-/// The entries of libraries are `DT_NEEDED` entries. After them come the last file's entries and zeros, which fill their
-/// share exactly. A reader finds these entries there, ignores all after `DT_NULL`, and finds by each tag its entry's value.
-pub fn dynamic_sections_are_read()
-    ensures needed { NeededAreOfLibraries }
-    ensures records { LengthsOfRecords }
-    ensures lengths { LengthsOfDynamic }
-    ensures stand { RecordsStand }
-    ensures fit { RecordsFit }
-    ensures behind { BehindNullIsNotRead }
-    ensures found { EntriesAreFound }
-    ensures named { TablesAreNamed }
-{}

@@ -3,22 +3,22 @@
 
 mod dynamic;
 mod laws;
-mod refused;
 mod rela;
 mod relr;
 mod room;
 mod slot_words;
+mod slot_write_error;
 mod stub;
 mod verify;
 mod word;
 mod writer;
 
-pub use dynamic::{dynamic_sections_are_read, write_dynamic, write_unused};
-pub use laws::{entries_are_read, loaders_agree, places_are_loaded, slots_are_filled};
-pub use refused::Refused;
+pub use dynamic::{write_dynamic, write_unused};
+pub use laws::slots_are_filled;
 pub use rela::RelaTable;
 pub use relr::RelrTable;
 pub use room::Room;
+pub use slot_write_error::SlotWriteError;
 pub use stub::StubTable;
 pub use verify::{ROLES, verify_resolution_allocation};
 pub use word::WordTable;

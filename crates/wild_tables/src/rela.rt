@@ -3,7 +3,7 @@ ghost use Rattle.std.specs.Prelude.{◌≡◌, ◌+◌, ◌*◌, ◌^◌, ◌<�
 ghost use Rattle.wild_words.specs.Words.{place};
 ghost use Rattle.wild_words.specs.Record.{spell};
 ghost use Rattle.wild_records.specs.Relocations.{rela_size, rela_fields};
-ghost use Rattle.wild_tables.specs.Entries.{rela_bytes, entries_in, IsSpelled};
+ghost use Rattle.wild_table_formats.specs.RelativeEntries.{rela_bytes, entries_in, IsSpelled};
 
 use std::alloc::{AllocError, Global};
 use std::marker::Model;
@@ -19,7 +19,7 @@ pub struct RelaTable {
 }
 
 impl Model for RelaTable {
-    ghost use Rattle.wild_tables.specs.Entries.{Entries, entries_of_table, IsTable};
+    ghost use Rattle.wild_table_formats.specs.RelativeEntries.{Entries, entries_of_table, IsTable};
 
     ghost Value = { Entries };
 
@@ -30,7 +30,7 @@ impl Model for RelaTable {
 
 impl RelaTable {
     /// An empty table for a share of `room` bytes. Fails only if out of memory.
-    #[tactic(auto, unfolding(crate::specs::Entries::entries_in, crate::specs::Entries::IsSpelled))]
+    #[tactic(auto, unfolding(wild_table_formats::specs::RelativeEntries::entries_in, wild_table_formats::specs::RelativeEntries::IsSpelled))]
     pub fn new(alloc: Global, room: usize) -> Result<Self, AllocError>
         ensures { IfOk result (λ t. (t.entries ≡ []) × (t.room ≡ room)) }
     {
@@ -41,7 +41,7 @@ impl RelaTable {
     }
 
     /// Appends an entry. Fails exactly if it does not fit; then nothing changes.
-    #[tactic(auto, using(crate::proofs::EntryLemmas::length_entries_in))]
+    #[tactic(auto, using(wild_table_formats::proofs::EntryLemmas::length_entries_in))]
     pub fn write(&mut self, entry: Rela) -> Result<(), Full>
         ensures ok { OnOk result (self.new.entries ≡ self.old.entries ++ entry ∷ []) }
         ensures fits { OnOk result (rela_size * (length self.old.entries + 1) ≤ self.old.room) }
@@ -57,7 +57,7 @@ impl RelaTable {
     }
 
     /// Appends an entry that fits.
-    #[tactic(auto, using(crate::proofs::EntryLemmas::length_entries_in))]
+    #[tactic(auto, using(wild_table_formats::proofs::EntryLemmas::length_entries_in))]
     pub fn push(&mut self, entry: Rela)
         requires { rela_size * (length self.old.entries + 1) ≤ self.old.room }
         ensures entries { self.new.entries ≡ self.old.entries ++ entry ∷ [] }
@@ -77,7 +77,7 @@ impl RelaTable {
     }
 
     /// The number of bytes of all entries.
-    #[tactic(auto, using(crate::proofs::EntryLemmas::length_entries_in))]
+    #[tactic(auto, using(wild_table_formats::proofs::EntryLemmas::length_entries_in))]
     pub fn used(&self) -> usize
         ensures used { result ≡ rela_size * length self.now.entries }
         ensures fits { result ≤ self.now.room }
@@ -86,7 +86,7 @@ impl RelaTable {
     }
 
     /// The bytes of the share: those of the entries, then the unwritten rest.
-    #[tactic(auto, using(crate::proofs::EntryLemmas::entries_stand))]
+    #[tactic(auto, using(wild_table_formats::proofs::EntryLemmas::entries_stand))]
     pub fn bytes(&self) -> &[u8]
         ensures written { take (rela_size * length self.now.entries) result.now ≡ rela_bytes self.now.entries }
         ensures room { length result.now ≡ self.now.room }
@@ -106,7 +106,7 @@ fn put_entry(out: &mut [u8], at: usize, entry: Rela)
 }
 
 /// Writes an entry after the first `count` entries.
-#[tactic(auto, using(crate::proofs::EntryLemmas::entries_in_more, crate::proofs::EntryLemmas::spelled_more))]
+#[tactic(auto, using(wild_table_formats::proofs::EntryLemmas::entries_in_more, wild_table_formats::proofs::EntryLemmas::spelled_more))]
 fn add_entry(out: &mut [u8], count: usize, entry: Rela)
     requires { rela_size * count + rela_size ≤ length out.old }
     ensures entries { entries_in out.new (count + 1) ≡ entries_in out.old count ++ entry ∷ [] }

@@ -2,9 +2,9 @@
 ghost use Rattle.std.specs.Prelude.{◌≡◌, ◌≢◌, ◌+◌, ◌*◌, ◌%◌, ◌^◌, ◌<◌, ◌≤◌, ◌++◌, length, take, Contains, OnOk, OnErr, IfOk};
 ghost use Rattle.wild_records.specs.Relocations.{relr_size};
 ghost use Rattle.wild_relr.specs.Places.{places};
-ghost use Rattle.wild_relr.specs.Packing.{after, Follows, Records};
-ghost use Rattle.wild_relr.specs.Packed.{after_flat, after_block, reset, nothing, slots};
-ghost use Rattle.wild_relr.specs.Written.{word_bytes};
+ghost use Rattle.wild_relr.specs.Encoding.{after, Follows, Records};
+ghost use Rattle.wild_relr.specs.RunWords.{after_relr_slot, after_block, reset, nothing, slots};
+ghost use Rattle.wild_relr.specs.WriterState.{word_bytes};
 
 use std::alloc::{AllocError, Global};
 use std::marker::Model;
@@ -19,7 +19,7 @@ pub struct RelrTable {
 }
 
 impl Model for RelrTable {
-    ghost use Rattle.wild_tables.specs.Words.{Words, words_of_table, IsTable};
+    ghost use Rattle.wild_table_formats.specs.RelrWords.{Words, words_of_table, IsTable};
 
     ghost Value = { Words };
 
@@ -75,39 +75,39 @@ impl RelrTable {
 
     /// Records an even place by its own address word, and ends the run. Fails exactly if the words including it do not fit;
     /// then nothing changes.
-    pub fn write_flat(&mut self, place: u64) -> Result<(), Full>
+    pub fn write_relr_slot(&mut self, place: u64) -> Result<(), Full>
         requires { place % 2 ≡ 0 }
-        ensures ok { OnOk result (self.new.state ≡ after_flat self.old.state place) }
+        ensures ok { OnOk result (self.new.state ≡ after_relr_slot self.old.state place) }
         ensures recorded { OnOk result ((Contains (places self.old.state.words) place → ⊥) → Records self.old.state.words self.new.state.words place) }
-        ensures fits { OnOk result (relr_size * length (after_flat self.old.state place).words ≤ self.old.room) }
-        ensures full { OnErr result (self.old.room < relr_size * length (after_flat self.old.state place).words) }
+        ensures fits { OnOk result (relr_size * length (after_relr_slot self.old.state place).words ≤ self.old.room) }
+        ensures full { OnErr result (self.old.room < relr_size * length (after_relr_slot self.old.state place).words) }
         ensures kept { OnErr result (self.new ≡ self.old) }
         ensures room { self.new.room ≡ self.old.room }
     {
         each_place_is_recorded();
-        self.put_flat(place)
+        self.put_relr_slot(place)
     }
 
     /// Records an even place by its own address word.
-    fn put_flat(&mut self, place: u64) -> Result<(), Full>
+    fn put_relr_slot(&mut self, place: u64) -> Result<(), Full>
         requires { place % 2 ≡ 0 }
-        ensures ok { OnOk result (self.new.state ≡ after_flat self.old.state place) }
-        ensures fits { OnOk result (relr_size * length (after_flat self.old.state place).words ≤ self.old.room) }
-        ensures full { OnErr result (self.old.room < relr_size * length (after_flat self.old.state place).words) }
+        ensures ok { OnOk result (self.new.state ≡ after_relr_slot self.old.state place) }
+        ensures fits { OnOk result (relr_size * length (after_relr_slot self.old.state place).words ≤ self.old.room) }
+        ensures full { OnErr result (self.old.room < relr_size * length (after_relr_slot self.old.state place).words) }
         ensures kept { OnErr result (self.new ≡ self.old) }
         ensures room { self.new.room ≡ self.old.room }
     {
-        self.writer.write_flat(self.part.as_mut_slice(), place)
+        self.writer.write_relr_slot(self.part.as_mut_slice(), place)
     }
 
     /// Records an even place by its own address word, which fits, and ends the run.
-    pub fn push_flat(&mut self, place: u64)
+    pub fn push_relr_slot(&mut self, place: u64)
         requires even { place % 2 ≡ 0 }
         requires fits { relr_size * (length self.old.state.words + 1) ≤ self.old.room }
-        ensures state { self.new.state ≡ after_flat self.old.state place }
+        ensures state { self.new.state ≡ after_relr_slot self.old.state place }
         ensures room { self.new.room ≡ self.old.room }
     {
-        match self.put_flat(place) {
+        match self.put_relr_slot(place) {
             Ok(()) => {}
             Err(_) => unreachable!(),
         }

@@ -1,9 +1,9 @@
 //! Sizes and uses of a group's shares of parts, and the faults of shares that are too small or too large.
 ghost use Rattle.std.specs.Prelude.{◌≡◌, ℕ, ◌≤◌, List, length};
 ghost use Rattle.wild_records.specs.declared.relocations.Rela.{Rela};
-ghost use Rattle.wild_tables.specs.Tables.{more_words, more_stubs, more_entries};
+ghost use Rattle.wild_table_formats.specs.GroupTables.{more_words, more_stubs, more_entries};
 ghost use Rattle.wild_tables.specs.SlotTables.{more_places};
-ghost use Rattle.wild_tables.specs.Rooms.{words_room, stubs_room, entries_room, packed_room, first_short, first_left};
+ghost use Rattle.wild_tables.specs.Rooms.{words_room, stubs_room, entries_room, packed_room, first_too_small, first_too_large};
 
 use crate::rela::RelaTable;
 use crate::relr::RelrTable;
@@ -22,8 +22,8 @@ pub struct Room {
 }
 
 /// `InsufficientAllocation` for the first share that is too small.
-pub(crate) fn first_short(layout: &Layout, group: usize, rooms: &[Room]) -> Result<(), Error>
-    ensures { result ≡ first_short layout.now group rooms.now }
+pub(crate) fn first_too_small(layout: &Layout, group: usize, rooms: &[Room]) -> Result<(), Error>
+    ensures { result ≡ first_too_small layout.now group rooms.now }
 {
     for room in rooms {
         if room.given < room.used {
@@ -39,8 +39,8 @@ pub(crate) fn first_short(layout: &Layout, group: usize, rooms: &[Room]) -> Resu
 }
 
 /// `ExcessiveAllocation` for the first share that is too large.
-pub(crate) fn first_left(layout: &Layout, group: usize, rooms: &[Room]) -> Result<(), Error>
-    ensures { result ≡ first_left layout.now group rooms.now }
+pub(crate) fn first_too_large(layout: &Layout, group: usize, rooms: &[Room]) -> Result<(), Error>
+    ensures { result ≡ first_too_large layout.now group rooms.now }
 {
     for room in rooms {
         if room.used < room.given {

@@ -1,12 +1,12 @@
 //! Adds the words of slots, their RELA entries and their RELR words to the tables.
 ghost use Rattle.std.specs.Prelude.{◌≡◌, ◌+◌, ◌*◌, ◌≤◌, ◌++◌, length, replicate};
-ghost use Rattle.wild_slot.specs.SlotParts.{slot_words, slot_entries, flat_places};
-ghost use Rattle.wild_tables.specs.SlotTables.{after_flats};
+ghost use Rattle.wild_slot.specs.SlotParts.{slot_words, slot_entries, relr_slot_places};
+ghost use Rattle.wild_tables.specs.SlotTables.{after_relr_slots};
 
 use crate::rela::RelaTable;
 use crate::relr::RelrTable;
 use crate::word::WordTable;
-use wild_slot::{EntryPart, SlotWord, WordPart, entry_of, flat_place, next_word, word_of};
+use wild_slot::{EntryPart, SlotWord, WordPart, entry_of, next_word, relr_slot_place, word_of};
 use wild_types::Machine;
 
 /// Appends `n` words of 0.
@@ -64,15 +64,15 @@ pub(crate) fn add_entries(
 }
 
 /// Records the places of a slot's words that have their own RELR word.
-pub(crate) fn add_flat(table: &mut RelrTable, relr: bool, place: u64, words: &[SlotWord])
-    requires { 8 * (length table.old.state.words + length (flat_places relr place words.now)) ≤ table.old.room }
-    ensures state { table.new.state ≡ after_flats table.old.state (flat_places relr place words.now) }
+pub(crate) fn add_relr_slots(table: &mut RelrTable, relr: bool, place: u64, words: &[SlotWord])
+    requires { 8 * (length table.old.state.words + length (relr_slot_places relr place words.now)) ≤ table.old.room }
+    ensures state { table.new.state ≡ after_relr_slots table.old.state (relr_slot_places relr place words.now) }
     ensures room { table.new.room ≡ table.old.room }
 {
     let mut place = place;
     for word in words {
-        if let Some(packed) = flat_place(relr, place, *word) {
-            table.push_flat(packed);
+        if let Some(packed) = relr_slot_place(relr, place, *word) {
+            table.push_relr_slot(packed);
         }
         place = next_word(place);
     }

@@ -14,7 +14,7 @@ pub struct StubTable {
 
 impl Model for StubTable {
     ghost use Rattle.std.specs.Prelude.{◌≤◌, length};
-    ghost use Rattle.wild_tables.specs.GotWords.{Stubs, stubs_of_part};
+    ghost use Rattle.wild_table_formats.specs.GotWords.{Stubs, stubs_of_part};
 
     ghost Value = { Stubs };
 

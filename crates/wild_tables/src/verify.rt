@@ -6,7 +6,7 @@ ghost use Rattle.wild_tables.specs.Verify.{open_setting, words_size, entries_siz
 use wild_records::{Rela, Relr};
 use wild_slot::{
     EntryPart, STUB_SIZE, Setting, SlotWord, SymbolSlots, WORD_SIZE, WordPart, count_entries,
-    count_flat, count_words, slot_of,
+    count_relr_slots, count_words, slot_of,
 };
 use wild_types::{Error, Machine, Options, OutputKind, Resolution, Tls, excessive, insufficient};
 
@@ -53,12 +53,12 @@ fn content_sizes(options: &Options, place: u64, slot: &SymbolSlots) -> [u64; ROL
 {
     let words = slot.words();
     let got = words_size(WordPart::Got, options, place, words);
-    let block = words_size(WordPart::Block, options, place, words);
+    let block = words_size(WordPart::RelrGot, options, place, words);
     let stub = if slot.has_stub() { STUB_SIZE as u64 } else { 0 };
     let plt = entries_size(EntryPart::Plt, options, place, words);
     let relative = entries_size(EntryPart::Relative, options, place, words);
     let general = entries_size(EntryPart::General, options, place, words);
-    let packed = (Relr::SIZE * count_flat(options.relr, place, words)) as u64;
+    let packed = (Relr::SIZE * count_relr_slots(options.relr, place, words)) as u64;
     [
         0, 0, 0, 0, 0, got, block, stub, plt, relative, general, packed, 0, 0, 0, 0, 0, 0, 0, 0, 0,
         0, 0, 0, 0, 0, 0, 0, 0, 0,

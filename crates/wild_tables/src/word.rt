@@ -1,6 +1,6 @@
 //! A group's share of the GOT.
 ghost use Rattle.std.specs.Prelude.{◌≡◌, ◌+◌, ◌*◌, ◌^◌, ◌<◌, ◌≤◌, [], ◌∷◌, ◌++◌, length, take, IfOk};
-ghost use Rattle.wild_relr.specs.Written.{word_bytes, words_in, IsSpelled};
+ghost use Rattle.wild_relr.specs.WriterState.{word_bytes, words_in, IsSpelled};
 
 use std::alloc::{AllocError, Global};
 use std::marker::Model;
@@ -15,7 +15,7 @@ pub struct WordTable {
 }
 
 impl Model for WordTable {
-    ghost use Rattle.wild_tables.specs.GotWords.{GotWords, words_of_part, IsWordTable};
+    ghost use Rattle.wild_table_formats.specs.GotWords.{GotWords, words_of_part, IsWordTable};
 
     ghost Value = { GotWords };
 
@@ -26,7 +26,7 @@ impl Model for WordTable {
 
 impl WordTable {
     /// An empty table for a share of `room` bytes. Fails only if out of memory.
-    #[tactic(auto, unfolding(wild_relr::specs::Written::words_in, wild_relr::specs::Written::IsSpelled))]
+    #[tactic(auto, unfolding(wild_relr::specs::WriterState::words_in, wild_relr::specs::WriterState::IsSpelled))]
     pub fn new(alloc: Global, room: usize) -> Result<Self, AllocError>
         ensures { IfOk result (λ t. (t.words ≡ []) × (t.room ≡ room)) }
     {

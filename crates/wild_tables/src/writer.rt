@@ -3,12 +3,12 @@ ghost use Rattle.std.specs.Prelude.{◌≡◌, ◌*◌, ◌+◌, ◌%◌, ◌≤
 ghost use Rattle.wild_words.specs.Words.{word};
 ghost use Rattle.wild_records.specs.Relocations.{rela_size, relr_size};
 ghost use Rattle.wild_relr.specs.Places.{places};
-ghost use Rattle.wild_relr.specs.Packing.{after, Records};
-ghost use Rattle.wild_relr.specs.Packed.{after_flat, reset};
-ghost use Rattle.wild_relr.specs.Written.{word_bytes};
-ghost use Rattle.wild_tables.specs.Entries.{rela_bytes};
-ghost use Rattle.wild_tables.specs.Tables.{no_entries, relative_used, packed_used, relative_entry, with_entry, with_words, with_address, with_flat, site_word, room_for_entries, room_for_words, room_for};
-ghost use Rattle.wild_tables.specs.Rooms.{rooms, left_over};
+ghost use Rattle.wild_relr.specs.Encoding.{after, Records};
+ghost use Rattle.wild_relr.specs.RunWords.{after_relr_slot, reset};
+ghost use Rattle.wild_relr.specs.WriterState.{word_bytes};
+ghost use Rattle.wild_table_formats.specs.RelativeEntries.{rela_bytes};
+ghost use Rattle.wild_table_formats.specs.GroupTables.{no_entries, relative_used, packed_used, relative_entry, with_entry, with_words, with_address, with_relr_slot, site_word, room_for_entries, room_for_words, room_for};
+ghost use Rattle.wild_tables.specs.Rooms.{rooms, tables_full_or_fault};
 ghost use Rattle.wild_types.specs.Lookups.{packs};
 ghost use Rattle.wild_types.specs.Shares.{part_of, insufficient};
 ghost use Rattle.wild_types.specs.declared.part.Role.TheVariants.{RelrDyn};
@@ -17,7 +17,7 @@ mod slots;
 
 use crate::rela::RelaTable;
 use crate::relr::RelrTable;
-use crate::room::{Room, entries_room, first_left, words_room};
+use crate::room::{Room, entries_room, first_too_large, words_room};
 use crate::stub::StubTable;
 use crate::word::WordTable;
 use std::alloc::{AllocError, Global};
@@ -47,7 +47,7 @@ pub struct TableWriter {
 }
 
 impl Model for TableWriter {
-    ghost use Rattle.wild_tables.specs.Tables.{Tables};
+    ghost use Rattle.wild_table_formats.specs.GroupTables.{Tables};
 
     ghost Value = { Tables };
 
@@ -133,14 +133,14 @@ impl TableWriter {
     }
 
     /// Records a place in RELR by its own address word.
-    fn pack_flat(&mut self, layout: &Layout, place: u64) -> Result<(), Error>
+    fn pack_relr_slot(&mut self, layout: &Layout, place: u64) -> Result<(), Error>
         requires { place % 2 ≡ 0 }
-        ensures answered { result ≡ room_for_words layout.now (with_words (after_flat self.old.packed.state place) self.old) }
-        ensures written { OnOk result (self.new ≡ with_words (after_flat self.old.packed.state place) self.old) }
+        ensures answered { result ≡ room_for_words layout.now (with_words (after_relr_slot self.old.packed.state place) self.old) }
+        ensures written { OnOk result (self.new ≡ with_words (after_relr_slot self.old.packed.state place) self.old) }
         ensures recorded { OnOk result ((Contains (places self.old.packed.state.words) place → ⊥) → Records self.old.packed.state.words self.new.packed.state.words place) }
         ensures kept { OnErr result (self.new ≡ self.old) }
     {
-        match self.packed.write_flat(place) {
+        match self.packed.write_relr_slot(place) {
             Ok(()) => Ok(()),
             Err(_) => Err(self.no_room_for_word(layout)),
         }
@@ -189,13 +189,13 @@ impl TableWriter {
         place: u64,
         value: u64,
     ) -> Result<(), Error>
-        ensures answered { result ≡ room_for layout.now place (with_flat layout.now place value self.old) }
-        ensures written { OnOk result (self.new ≡ with_flat layout.now place value self.old) }
+        ensures answered { result ≡ room_for layout.now place (with_relr_slot layout.now place value self.old) }
+        ensures written { OnOk result (self.new ≡ with_relr_slot layout.now place value self.old) }
         ensures recorded { OnOk result (packs layout.now place ≡ true → (Contains (places self.old.packed.state.words) place → ⊥) → Records self.old.packed.state.words self.new.packed.state.words place) }
         ensures kept { OnErr result (self.new ≡ self.old) }
     {
         if layout.packs(place) {
-            self.pack_flat(layout, place)
+            self.pack_relr_slot(layout, place)
         } else {
             self.list(layout, place, value)
         }
@@ -237,9 +237,9 @@ impl TableWriter {
     ///
     /// `ExcessiveAllocation` for the first table with unwritten bytes, in the order of the roles of parts.
     pub fn validate_empty(&self, layout: &Layout) -> Result<(), Error>
-        ensures { result ≡ left_over layout.now self.now }
+        ensures { result ≡ tables_full_or_fault layout.now self.now }
     {
-        first_left(layout, self.group, &self.rooms())
+        first_too_large(layout, self.group, &self.rooms())
     }
 
     /// The bytes of the group's share of `got`: those of the words, then the unwritten rest.

@@ -2,10 +2,10 @@
 #![tactic(auto)]
 
 #[cfg(test)]
-mod linked;
+mod linked_outputs;
 #[cfg(test)]
-mod loaded;
+mod loaded_images;
 #[cfg(test)]
 mod pieces;
 #[cfg(test)]
-mod written;
+mod plans;

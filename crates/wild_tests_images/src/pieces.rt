@@ -2,7 +2,7 @@
 ghost use Rattle.std.specs.Prelude.{◌≡◌};
 ghost use Rattle.wild_types.specs.declared.kind.Machine.TheVariants as machine;
 
-use crate::written::layout_of;
+use crate::plans::layout_of;
 use std::alloc::Global;
 use std::sync::atomic::{AtomicU64, Ordering};
 use std::test::*;
@@ -11,8 +11,8 @@ use wild_crew::Gate;
 use wild_image::{
     ElfX86_64, GroupPiece, SizedOutput, check_shares, write, write_gated, write_group,
 };
-use wild_made::make_plan;
 use wild_plan::{Error, Layout, Part, well_formed};
+use wild_sample_layouts::make_plan;
 use wild_tests_plans::{LINKED, MOVED, PACKED, SLOTTED, SMALLEST, THREE, VERSIONED};
 
 /// The piece of each group.
@@ -99,7 +99,11 @@ fn are_pieces(
 }
 
 /// The image of a layout by one worker.
-fn written(rt: &(impl Threads + Sync), alloc: Global, layout: &Layout) -> Result<SizedOutput, Error>
+fn image_by_one_worker(
+    rt: &(impl Threads + Sync),
+    alloc: Global,
+    layout: &Layout,
+) -> Result<SizedOutput, Error>
     requires { layout.now.machine ≡ machine.X86_64 }
 {
     write::<ElfX86_64>(rt, alloc, layout, 1)
@@ -109,7 +113,7 @@ fn written(rt: &(impl Threads + Sync), alloc: Global, layout: &Layout) -> Result
 fn pieces_of_groups(rt: HostRuntime) -> Result<(), Fail> {
     for plan in [SMALLEST, THREE, SLOTTED, MOVED, PACKED, LINKED, VERSIONED] {
         let layout = layout_of(rt.alloc(), plan)?;
-        let image = written(&rt, rt.alloc(), &layout)?;
+        let image = image_by_one_worker(&rt, rt.alloc(), &layout)?;
         assert!(rt; are_pieces(&rt, rt.alloc(), &layout, &image)?);
     }
     Ok(())
@@ -117,12 +121,12 @@ fn pieces_of_groups(rt: HostRuntime) -> Result<(), Fail> {
 
 /// Counts the workers that enter; the first waits for a second.
 #[derive(Drop)]
-struct Meeting {
+struct MeetingGate {
     entered: AtomicU64,
     met: AtomicU64,
 }
 
-impl Gate for Meeting {
+impl Gate for MeetingGate {
     fn enter(&self, _group: u32) {
         if self.entered.fetch_add(1, Ordering::SeqCst) > 0 {
             return;
@@ -139,7 +143,7 @@ impl Gate for Meeting {
 #[test]
 fn two_workers_meet(rt: HostRuntime) -> Result<(), Fail> {
     let layout = make_plan(rt.alloc(), 2)?;
-    let gate = Meeting {
+    let gate = MeetingGate {
         entered: AtomicU64::new(0),
         met: AtomicU64::new(0),
     };

@@ -9,7 +9,7 @@ fn is_put(row: &RelocationKindInfo, value: u64, bytes: &mut [u8]) -> bool {
 }
 
 // The 8 bytes after a write of the field at their front; None where the value is refused.
-fn written(row: &RelocationKindInfo, value: u64, before: u64) -> Option<u64> {
+fn bytes_after_write(row: &RelocationKindInfo, value: u64, before: u64) -> Option<u64> {
     let mut bytes = before.to_le_bytes();
     if is_put(row, value, &mut bytes) {
         Some(u64::from_le_bytes(bytes))
@@ -161,23 +161,23 @@ fn fields(rt: HostRuntime) -> Result<(), Fail> {
     for (number, value, field) in &X86_64 {
         let row = x86_64::relocation_from_raw(*number).ok_or("no row")?;
         assert!(rt;
-            written(&row, *value, PLAIN) == *field,
+            bytes_after_write(&row, *value, PLAIN) == *field,
             "{number} of {value:x}"
         );
     }
     for (number, value, field) in &WORDS_OF_AARCH64 {
         let row = aarch64::relocation_type_from_raw(*number).ok_or("no row")?;
-        let found = written(&row, *value, PLAIN);
+        let found = bytes_after_write(&row, *value, PLAIN);
         assert!(rt; found == Some(*field), "{number} of {value:x}");
     }
     for (number, value) in &REFUSED_OF_AARCH64 {
         let row = aarch64::relocation_type_from_raw(*number).ok_or("no row")?;
-        let found = written(&row, *value, PLAIN);
+        let found = bytes_after_write(&row, *value, PLAIN);
         assert!(rt; found.is_none(), "{number} of {value:x}");
     }
     for (number, value, before, after) in &INSTRUCTIONS_OF_AARCH64 {
         let row = aarch64::relocation_type_from_raw(*number).ok_or("no row")?;
-        let found = written(&row, *value, u64::from(*before));
+        let found = bytes_after_write(&row, *value, u64::from(*before));
         assert!(rt; found == Some(u64::from(*after)), "{number} of {value:x}");
     }
     Ok(())

@@ -9,7 +9,7 @@ use wild_frames::{
     BadFrame, Fde, FrameError, FrameSource, TableError, Target, count_frames, write_eh_frame_data,
     write_search_table,
 };
-use wild_types::{InputRelocation, SymbolIndex, Why};
+use wild_types::{FrameFault, InputRelocation, SymbolIndex};
 
 /// A section whose fields have 4 bytes. Symbol 0 is in a discarded section, and every other symbol in a loaded one.
 #[derive(Clone, Copy)]
@@ -20,9 +20,9 @@ struct Example<'a> {
 
 impl FrameSource for Example<'_> {
     ghost use Rattle.std.specs.Prelude.{◌≡◌};
-    ghost use Rattle.wild_tests_low.specs.Worked.{target_by};
+    ghost use Rattle.wild_tests_low.specs.Examples.{symbol_target};
 
-    ghost frames = { λ e. record { bytes = e.bytes.now; relocations = e.relocations.now; width = λ r. 4; target = λ r. target_by r.symbol } };
+    ghost frames = { λ e. record { bytes = e.bytes.now; relocations = e.relocations.now; width = λ r. 4; target = λ r. symbol_target r.symbol } };
 
     fn bytes(&self) -> &[u8] {
         self.bytes
@@ -49,7 +49,7 @@ const DISCARDED: u8 = 0;
 
 const LOADED: u8 = 1;
 
-const NOWHERE: u8 = 2;
+const NO_PLACE: u8 = 2;
 
 const MALFORMED: u8 = 3;
 
@@ -74,7 +74,11 @@ fn relocations_of(alloc: Global, fields: &[(u64, u8)]) -> Result<Vec<InputReloca
 }
 
 /// The bytes of a section with such fields that are kept, and how many FDEs are.
-fn kept(alloc: Global, bytes: &[u8], fields: &[(u64, u8)]) -> Result<(Vec<u8>, u64), FrameError> {
+fn kept_bytes(
+    alloc: Global,
+    bytes: &[u8],
+    fields: &[(u64, u8)],
+) -> Result<(Vec<u8>, u64), FrameError> {
     let relocations = relocations_of(alloc, fields)?;
     let frames = Example {
         bytes,
@@ -113,31 +117,51 @@ const TAILS: [(&[u8], usize); 4] = [
 ];
 
 /// Sections and fields that are refused.
-const REFUSED: [(&[u8], &[(u64, u8)], Why, u64); 10] = [
-    (&[16, 0, 0, 0, 0, 0, 0, 0], &[], Why::Cut, 0),
-    (&[3, 0, 0, 0, 0, 0, 0, 0], &[], Why::Short, 0),
-    (&[0; 24], &[(16, LOADED), (8, LOADED)], Why::Unsorted, 8),
-    (&[0; 24], &[(16, LOADED), (8, MALFORMED)], Why::Malformed, 8),
-    (&THREE_FDES, &[(24, NOWHERE)], Why::PcBegin, 16),
-    (&THREE_FDES, &[(14, LOADED)], Why::Field, 0),
-    (&THREE_FDES, &[(24, LOADED), (30, LOADED)], Why::Field, 16),
-    (&[4, 0, 0, 0, 4, 0, 0, 0], &[], Why::Cie, 0),
+const REFUSED: [(&[u8], &[(u64, u8)], FrameFault, u64); 10] = [
+    (&[16, 0, 0, 0, 0, 0, 0, 0], &[], FrameFault::Cut, 0),
+    (&[3, 0, 0, 0, 0, 0, 0, 0], &[], FrameFault::Short, 0),
+    (
+        &[0; 24],
+        &[(16, LOADED), (8, LOADED)],
+        FrameFault::Unsorted,
+        8,
+    ),
+    (
+        &[0; 24],
+        &[(16, LOADED), (8, MALFORMED)],
+        FrameFault::Malformed,
+        8,
+    ),
+    (&THREE_FDES, &[(24, NO_PLACE)], FrameFault::PcBegin, 16),
+    (&THREE_FDES, &[(14, LOADED)], FrameFault::Field, 0),
+    (
+        &THREE_FDES,
+        &[(24, LOADED), (30, LOADED)],
+        FrameFault::Field,
+        16,
+    ),
+    (&[4, 0, 0, 0, 4, 0, 0, 0], &[], FrameFault::Cie, 0),
     (
         &[4, 0, 0, 0, 0, 0, 0, 0, 4, 0, 0, 0, 8, 0, 0, 0],
         &[],
-        Why::Cie,
+        FrameFault::Cie,
         8,
     ),
-    (&[5, 0, 0, 0, 1, 0, 0, 0, 0], &[(8, LOADED)], Why::Short, 0),
+    (
+        &[5, 0, 0, 0, 1, 0, 0, 0, 0],
+        &[(8, LOADED)],
+        FrameFault::Short,
+        0,
+    ),
 ];
 
 #[test]
 fn kept_frames(rt: HostRuntime) -> Result<(), Fail> {
     let fields = [(24, LOADED), (40, DISCARDED), (56, LOADED)];
-    let (bytes, fdes) = kept(rt.alloc(), &THREE_FDES, &fields)?;
+    let (bytes, fdes) = kept_bytes(rt.alloc(), &THREE_FDES, &fields)?;
     assert!(rt; bytes.as_slice() == TWO_FDES.as_slice() && fdes == 2);
     for (section, count) in &TAILS {
-        let (bytes, _) = kept(rt.alloc(), *section, &[])?;
+        let (bytes, _) = kept_bytes(rt.alloc(), *section, &[])?;
         assert!(rt; bytes.len() == *count);
     }
     for (section, fields, why, offset) in &REFUSED {
@@ -145,7 +169,7 @@ fn kept_frames(rt: HostRuntime) -> Result<(), Fail> {
             why: *why,
             offset: *offset,
         };
-        let found = kept(rt.alloc(), *section, *fields).err();
+        let found = kept_bytes(rt.alloc(), *section, *fields).err();
         assert_eq!(rt; found, Some(FrameError::Bad(bad)));
     }
     Ok(())

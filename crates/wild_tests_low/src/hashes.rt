@@ -133,7 +133,7 @@ const EXIT_NAMES: &[&[u8]] = &[b"", b"exit", b"exit"];
 const LD_NAMES: &[&[u8]] = &[b"delta", b"beta", b"printf_", b"alpha", b"gamma_"];
 
 #[test]
-fn written(rt: HostRuntime) -> Result<(), AllocError> {
+fn tables_of_ld(rt: HostRuntime) -> Result<(), AllocError> {
     let exits = definitions(rt.alloc(), EXIT_NAMES)?;
     assert!(rt; is_gnu(&mut [0xff; 40], &SHAPE, exits.as_slice(), &GNU));
     assert!(rt; is_sysv(&mut [0xff; 28], exits.as_slice(), &SYSV));
@@ -143,7 +143,7 @@ fn written(rt: HostRuntime) -> Result<(), AllocError> {
 }
 
 /// A GNU table, its symbols, their strings, a name, and its index.
-const LOOKED_UP: &[(&[u8], &[u8], &[u8], &[u8], Option<u64>)] = &[
+const GNU_NAMES: &[(&[u8], &[u8], &[u8], &[u8], Option<u64>)] = &[
     (&GNU, &SYMBOLS, b"\0exit\0", b"exit", Some(2)),
     (&GNU, &SYMBOLS, b"\0exit\0", b"", Some(1)),
     (&GNU, &SYMBOLS, b"\0exit\0", b"exim", None),
@@ -153,7 +153,7 @@ const LOOKED_UP: &[(&[u8], &[u8], &[u8], &[u8], Option<u64>)] = &[
 ];
 
 /// The same for System V tables.
-const LOOKED_UP_SYSV: &[(&[u8], &[u8], &[u8], &[u8], Option<u64>)] = &[
+const SYSV_NAMES: &[(&[u8], &[u8], &[u8], &[u8], Option<u64>)] = &[
     (&SYSV, &SYMBOLS, b"\0exit\0", b"exit", Some(2)),
     (&SYSV, &SYMBOLS, b"\0exit\0", b"", Some(1)),
     (&SYSV, &SYMBOLS, b"\0exit\0", b"exim", None),
@@ -163,8 +163,8 @@ const LOOKED_UP_SYSV: &[(&[u8], &[u8], &[u8], &[u8], Option<u64>)] = &[
 ];
 
 #[test]
-fn looked_up(rt: HostRuntime) {
-    for (hashes, symbols, strings, name, index) in LOOKED_UP {
+fn names_that_are_found(rt: HostRuntime) {
+    for (hashes, symbols, strings, name, index) in GNU_NAMES {
         let tables = LookupTables {
             hashes,
             symbols,
@@ -173,7 +173,7 @@ fn looked_up(rt: HostRuntime) {
         let found = find_gnu_symbol(&tables, name).ok();
         assert!(rt; found == Some(*index), "GNU, {name:?}");
     }
-    for (hashes, symbols, strings, name, index) in LOOKED_UP_SYSV {
+    for (hashes, symbols, strings, name, index) in SYSV_NAMES {
         let tables = LookupTables {
             hashes,
             symbols,
@@ -185,7 +185,7 @@ fn looked_up(rt: HostRuntime) {
 }
 
 #[test]
-fn not_looked_up(rt: HostRuntime) {
+fn names_that_are_not_found(rt: HostRuntime) {
     let cut = LookupTables {
         hashes: &GNU[..32],
         symbols: &SYMBOLS,

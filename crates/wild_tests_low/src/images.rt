@@ -56,7 +56,7 @@ const IMAGE: [u8; 640] = [
 ];
 
 #[test]
-fn looked_up(rt: HostRuntime) {
+fn names_that_are_found(rt: HostRuntime) {
     let rows: [(&[u8], Option<u64>); 3] = [
         (b"beta", Some(2)),
         (b"delta", Some(1)),
@@ -75,7 +75,7 @@ fn looked_up(rt: HostRuntime) {
 }
 
 #[test]
-fn not_looked_up(rt: HostRuntime) {
+fn names_that_are_not_found(rt: HostRuntime) {
     let short = lookup_gnu(&IMAGE[..63], b"beta");
     assert!(rt; matches!(short, Err(ImageFault::NotElf)));
     let cut = lookup_gnu(&IMAGE[..600], b"beta");

@@ -14,11 +14,11 @@ mod images;
 #[cfg(test)]
 mod instructions;
 #[cfg(test)]
+mod io;
+#[cfg(test)]
 mod loader;
 #[cfg(test)]
 mod names;
-#[cfg(test)]
-mod outside;
 #[cfg(test)]
 mod records;
 #[cfg(test)]

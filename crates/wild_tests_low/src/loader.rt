@@ -55,7 +55,7 @@ pub fn world(alloc: Global, base: u64) -> Result<World, Fail> {
 }
 
 /// The image with this many more copies of its program header after it, and some bytes replaced.
-fn changed(alloc: Global, more: u8, edits: &[(usize, u8)]) -> Result<Vec<u8>, Fail> {
+fn changed_image(alloc: Global, more: u8, edits: &[(usize, u8)]) -> Result<Vec<u8>, Fail> {
     let mut image = IMAGE.to_vec(alloc)?;
     for _ in 0..more {
         image.extend_from_slice(&IMAGE[64..120])?;
@@ -188,7 +188,7 @@ const IMAGES: &[(u8, &[(usize, u8)], u64, Option<LoadFault>)] = &[
 #[test]
 fn refused_images(rt: HostRuntime) -> Result<(), Fail> {
     for (more, edits, base, fault) in IMAGES {
-        let image = changed(rt.alloc(), *more, edits)?;
+        let image = changed_image(rt.alloc(), *more, edits)?;
         let found = load(rt.alloc(), image.as_slice(), *base)?.err();
         assert!(rt; found == *fault, "{edits:?} at {base}");
     }

@@ -45,7 +45,7 @@ pub struct Setting {
 }
 
 /// A relocation whose field is the last four bytes of an instruction.
-pub fn at_the_end(number: u32, instruction: &[u8]) -> RelocationInfo {
+pub fn relocation_at_the_end(number: u32, instruction: &[u8]) -> RelocationInfo {
     RelocationInfo {
         number,
         offset: instruction.len().saturating_sub(4) as u64,
@@ -100,7 +100,7 @@ pub fn link(
 }
 
 // The bytes of an instruction that is rewritten.
-fn rewritten(
+fn rewritten_bytes(
     alloc: Global,
     relocations: &[RelocationInfo],
     input: &[u8],
@@ -191,7 +191,7 @@ const OF_ADDRESSES: &[Instruction] = &[
 ];
 
 #[test]
-fn of_addresses(rt: HostRuntime) -> Result<(), Fail> {
+fn rewrites_of_addresses(rt: HostRuntime) -> Result<(), Fail> {
     for (kind, flags, address, symbol, number, input, output) in OF_ADDRESSES {
         let setting = Setting {
             kind: *kind,
@@ -201,7 +201,12 @@ fn of_addresses(rt: HostRuntime) -> Result<(), Fail> {
             symbol: Some(*symbol),
             target: *symbol,
         };
-        let found = rewritten(rt.alloc(), &[at_the_end(*number, input)], input, setting)?;
+        let found = rewritten_bytes(
+            rt.alloc(),
+            &[relocation_at_the_end(*number, input)],
+            input,
+            setting,
+        )?;
         assert!(rt; found.as_slice() == *output, "{number} at {address:x}");
     }
     Ok(())
@@ -250,7 +255,7 @@ const OF_THREADS: &[Instruction] = &[
 ];
 
 #[test]
-fn of_threads(rt: HostRuntime) -> Result<(), Fail> {
+fn rewrites_of_thread_local_references(rt: HostRuntime) -> Result<(), Fail> {
     for (kind, flags, address, target, number, input, output) in OF_THREADS {
         let setting = Setting {
             kind: *kind,
@@ -260,7 +265,12 @@ fn of_threads(rt: HostRuntime) -> Result<(), Fail> {
             symbol: None,
             target: *target,
         };
-        let found = rewritten(rt.alloc(), &[at_the_end(*number, input)], input, setting)?;
+        let found = rewritten_bytes(
+            rt.alloc(),
+            &[relocation_at_the_end(*number, input)],
+            input,
+            setting,
+        )?;
         assert!(rt; found.as_slice() == *output, "{number} at {address:x}");
     }
     Ok(())

@@ -1,7 +1,8 @@
 //! Sequences of two relocations as other tools write them, and what is rewritten at all.
 
 use crate::rewrites::{
-    ABSOLUTE, DYNAMIC, FIXED, LAST, MOVABLE, OTHERS, OWN, SHARED, Setting, at_the_end, link,
+    ABSOLUTE, DYNAMIC, FIXED, LAST, MOVABLE, OTHERS, OWN, SHARED, Setting, link,
+    relocation_at_the_end,
 };
 use std::test::Fail;
 use wild_relax::{RelaxationKind, RelocationInfo};
@@ -91,7 +92,7 @@ fn call_of(number: u32, offset: u64, addend: i64) -> RelocationInfo {
 }
 
 #[test]
-fn of_two_relocations(rt: HostRuntime) -> Result<(), Fail> {
+fn sequences_with_two_relocations(rt: HostRuntime) -> Result<(), Fail> {
     for (kind, flags, address, target, first, call, input, made, output) in SEQUENCES {
         let setting = Setting {
             kind: *kind,
@@ -148,7 +149,7 @@ const INSTRUCTIONS: &[Instruction] = &[
 ];
 
 #[test]
-fn what_is_rewritten(rt: HostRuntime) -> Result<(), Fail> {
+fn rewritten_sequences(rt: HostRuntime) -> Result<(), Fail> {
     for (kind, flags, number, input, wanted) in INSTRUCTIONS {
         let setting = Setting {
             kind: *kind,
@@ -159,7 +160,11 @@ fn what_is_rewritten(rt: HostRuntime) -> Result<(), Fail> {
             target: 0x3008,
         };
         let mut bytes = input.to_vec(rt.alloc())?;
-        let found = link(&mut bytes, &[at_the_end(*number, input)], setting)?;
+        let found = link(
+            &mut bytes,
+            &[relocation_at_the_end(*number, input)],
+            setting,
+        )?;
         let is_changed = bytes.as_slice() != *input;
         let is_so = found == *wanted && is_changed == matches!(wanted, Ok(Some(_)));
         assert!(rt; is_so, "{number} of {input:?}");
@@ -168,9 +173,9 @@ fn what_is_rewritten(rt: HostRuntime) -> Result<(), Fail> {
 }
 
 #[test]
-fn nothing_is_rewritten(rt: HostRuntime) -> Result<(), Fail> {
+fn unchanged_sequences(rt: HostRuntime) -> Result<(), Fail> {
     let mut bytes = *b"\x48\x8b\x2d\0\0\0\0";
-    let relocation = at_the_end(42, &bytes);
+    let relocation = relocation_at_the_end(42, &bytes);
     let off = Setting {
         kind: DYNAMIC,
         flags: OWN,

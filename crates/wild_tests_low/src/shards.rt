@@ -14,9 +14,9 @@ use wild_words::put_u32;
 
 /// Offsets in a list.
 #[derive(Drop)]
-struct Listed<'a>(&'a [u64]);
+struct ListedOffsets<'a>(&'a [u64]);
 
-impl Offsets for Listed<'_> {
+impl Offsets for ListedOffsets<'_> {
     ghost use Rattle.std.specs.Prelude.{length, slice_index};
 
     ghost count = { λ a. length a.0.now };
@@ -30,12 +30,12 @@ impl Offsets for Listed<'_> {
 
 /// Counts how often a size is read.
 #[derive(Drop)]
-struct Counting<'a> {
+struct CountedSizes<'a> {
     sizes: &'a [Option<usize>],
     reads: Cell<u32>,
 }
 
-impl Sizes for Counting<'_> {
+impl Sizes for CountedSizes<'_> {
     ghost use Rattle.std.specs.Prelude.{length, slice_index_or, None};
 
     ghost count = { λ s. length s.sizes.now };
@@ -95,12 +95,12 @@ fn are_shards(ranges: &[DebugRelocationShardRange], shards: &[Shard]) -> bool {
 #[test]
 fn ranges_of_shards(rt: HostRuntime) -> Result<(), Fail> {
     for (offsets, sizes, output, shards, wanted) in RANGES {
-        let sizes = Counting {
+        let sizes = CountedSizes {
             sizes: *sizes,
             reads: Cell::new(0),
         };
         let count = offsets.len().min(sizes.sizes.len());
-        let offsets = Listed(*offsets);
+        let offsets = ListedOffsets(*offsets);
         let ranges = debug_relocation_shard_ranges_parallel(
             rt.alloc(),
             count,
@@ -125,7 +125,7 @@ fn sizes_are_read_near_the_ends_of_shards(rt: HostRuntime) -> Result<(), AllocEr
     for i in 0..32 {
         offsets[i] = 4 * i as u64;
     }
-    let sizes = Counting {
+    let sizes = CountedSizes {
         sizes: &[Some(4); 32],
         reads: Cell::new(0),
     };
@@ -134,7 +134,7 @@ fn sizes_are_read_near_the_ends_of_shards(rt: HostRuntime) -> Result<(), AllocEr
         32,
         128,
         4,
-        &Listed(&offsets),
+        &ListedOffsets(&offsets),
         &sizes,
     )?;
     assert!(rt; ranges.is_some());

@@ -140,7 +140,7 @@ const BOTH: &[(u64, u64)] = &[
 ];
 
 /// What such an image is at base 0x10000.
-fn loaded(
+fn load_tables(
     alloc: Global,
     machine: u16,
     tags: &[(u64, u64)],
@@ -160,7 +160,7 @@ fn memory_of(
     words: &[u64],
     entries: &[Entry],
 ) -> Result<Memory, Fail> {
-    let loaded = loaded(alloc, machine, tags, words, entries)?;
+    let loaded = load_tables(alloc, machine, tags, words, entries)?;
     Ok(loaded.ok().ok_or("refused")?)
 }
 
@@ -339,7 +339,7 @@ const REFUSED: &[(&[Entry], LoadFault)] = &[
 #[test]
 fn refused_entries(rt: HostRuntime) -> Result<(), Fail> {
     for (entries, fault) in REFUSED {
-        let found = loaded(rt.alloc(), EM_X86_64, ENTRIES, &[], entries)?.err();
+        let found = load_tables(rt.alloc(), EM_X86_64, ENTRIES, &[], entries)?.err();
         assert!(rt; found == Some(*fault), "{entries:?}");
     }
     Ok(())
@@ -377,7 +377,7 @@ fn refused_tables(rt: HostRuntime) -> Result<(), Fail> {
         (0x420, R_X86_64_RELATIVE, 0, 0),
     ];
     for (tags, fault) in REFUSED_TABLES {
-        let found = loaded(rt.alloc(), EM_X86_64, tags, &[0x400, 1], entries)?.err();
+        let found = load_tables(rt.alloc(), EM_X86_64, tags, &[0x400, 1], entries)?.err();
         assert!(rt; found == Some(*fault), "{tags:?}");
     }
     Ok(())

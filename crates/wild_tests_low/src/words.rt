@@ -50,7 +50,7 @@ fn write_word(row: Row, value: u64, bytes: &mut [u8], start: usize) -> Result<()
 }
 
 #[test]
-fn of_sequences(rt: HostRuntime) -> Result<(), Fail> {
+fn sequences_of_words(rt: HostRuntime) -> Result<(), Fail> {
     for (types, flags, symbol, address, values, input, output) in WORDS {
         let mut relocations = Vec::new(rt.alloc());
         let mut offset = 0u64;

@@ -7,12 +7,12 @@ use wild_crew::{Core, Counted, Gate, Job, OpenGate, Step, gather};
 
 // A group's number, with the relocations of section 1 that it read.
 #[derive(Drop)]
-struct Reads {
+struct GroupReads {
     group: u32,
     counts: [(u32, u64); 1],
 }
 
-impl Counted for Reads {
+impl Counted for GroupReads {
     ghost use Rattle.std.specs.Prelude.{[], ◌∷◌};
 
     ghost listed = { λ r. r.counts };
@@ -24,13 +24,13 @@ impl Counted for Reads {
 
 // Three groups, one of which may run out of memory, and how often each was entered and run.
 #[derive(Drop)]
-struct Marks {
+struct Counters {
     lacking: u32,
     entered: [AtomicU64; 3],
     ran: [AtomicU64; 3],
 }
 
-impl Gate for Marks {
+impl Gate for Counters {
     fn enter(&self, group: u32) {
         if let Some(mark) = self.entered.get(group as usize) {
             mark.fetch_add(1, Ordering::SeqCst);
@@ -38,15 +38,15 @@ impl Gate for Marks {
     }
 }
 
-impl Job<Reads> for Marks {
+impl Job<GroupReads> for Counters {
     ghost use Rattle.std.specs.Prelude.{◌≡◌, [], ◌∷◌};
-    ghost use Rattle.wild_tests_low.specs.Worked.{read_by};
+    ghost use Rattle.wild_tests_low.specs.Examples.{relocations_of_group};
 
     ghost number = { λ _. 3 };
 
     ghost gives = { λ _ g p. p.group ≡ g };
 
-    ghost counts_of = { λ _ g. (1, read_by g) ∷ [] };
+    ghost counts_of = { λ _ g. (1, relocations_of_group g) ∷ [] };
 
     ghost ready = { λ _. Unit {0} };
 
@@ -54,7 +54,7 @@ impl Job<Reads> for Marks {
         3
     }
 
-    fn run(&self, group: u32) -> Result<Reads, AllocError> {
+    fn run(&self, group: u32) -> Result<GroupReads, AllocError> {
         self.ran[group as usize].fetch_add(1, Ordering::SeqCst);
         if group == self.lacking {
             return Err(AllocError);
@@ -64,16 +64,16 @@ impl Job<Reads> for Marks {
             1 => 0,
             _ => 5,
         };
-        Ok(Reads {
+        Ok(GroupReads {
             group,
             counts: [(1, n)],
         })
     }
 }
 
-impl Marks {
-    fn new(lacking: u32) -> Marks {
-        Marks {
+impl Counters {
+    fn new(lacking: u32) -> Counters {
+        Counters {
             lacking,
             entered: [AtomicU64::new(0), AtomicU64::new(0), AtomicU64::new(0)],
             ran: [AtomicU64::new(0), AtomicU64::new(0), AtomicU64::new(0)],
@@ -93,7 +93,7 @@ impl Marks {
 }
 
 // Whether there is a piece for each of the three groups, in order.
-fn are_pieces(pieces: &[Reads]) -> bool {
+fn are_pieces(pieces: &[GroupReads]) -> bool {
     matches!(pieces, [a, b, c] if a.group == 0 && b.group == 1 && c.group == 2)
 }
 
@@ -105,7 +105,7 @@ fn has_claims(core: &Core, workers: u32) -> bool {
 #[test]
 fn each_group_is_entered_and_run_once(rt: HostRuntime) -> Result<(), Fail> {
     for workers in [1, 2, 64] {
-        let job = Marks::new(3);
+        let job = Counters::new(3);
         let got = gather(&rt, rt.alloc(), &job, 2, workers, &job)?;
         assert!(rt; are_pieces(got.pieces.as_slice()) && has_claims(&got.core, workers));
         assert!(rt;
@@ -119,7 +119,7 @@ fn each_group_is_entered_and_run_once(rt: HostRuntime) -> Result<(), Fail> {
 #[test]
 fn a_worker_without_memory_is_joined(rt: HostRuntime) {
     for workers in [1, 2, 64] {
-        let got = gather(&rt, rt.alloc(), &Marks::new(1), 2, workers, &OpenGate);
+        let got = gather(&rt, rt.alloc(), &Counters::new(1), 2, workers, &OpenGate);
         assert!(rt; got.is_err());
     }
 }
@@ -167,7 +167,7 @@ fn two_workers_meet(rt: HostRuntime) -> Result<(), Fail> {
         entered: AtomicU64::new(0),
         met: AtomicU64::new(0),
     };
-    let got = gather(&rt, rt.alloc(), &Marks::new(3), 2, 2, &gate)?;
+    let got = gather(&rt, rt.alloc(), &Counters::new(3), 2, 2, &gate)?;
     let met = gate.met.load(Ordering::SeqCst);
     assert!(rt;
         got.pieces.len() == 3 && met == 1,

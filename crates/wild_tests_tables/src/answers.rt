@@ -36,7 +36,7 @@ fn an_image(rt: HostRuntime) -> Result<(), Fail> {
 /// In a group.
 const GROUP: At = At {
     group: Some(0),
-    ..At::NOWHERE
+    ..At::NO_PLACE
 };
 
 /// In a section of a file of that number.
@@ -59,7 +59,7 @@ const REFUSALS: &[(Fault, At, &str)] = &[
             clause: 2,
             index: 0,
         },
-        At::NOWHERE,
+        At::NO_PLACE,
         "refused MalformedLayout clause=2 index=0\n",
     ),
     (
@@ -69,7 +69,7 @@ const REFUSALS: &[(Fault, At, &str)] = &[
             given: 8,
             needed: 16,
         },
-        At::NOWHERE,
+        At::NO_PLACE,
         "refused InsufficientAllocation part=3 group=0 given=8 needed=16\n",
     ),
     (
@@ -79,7 +79,7 @@ const REFUSALS: &[(Fault, At, &str)] = &[
             given: 16,
             needed: 8,
         },
-        At::NOWHERE,
+        At::NO_PLACE,
         "refused ExcessiveAllocation part=3 group=1 given=16 needed=8\n",
     ),
     (
@@ -111,7 +111,7 @@ const REFUSALS: &[(Fault, At, &str)] = &[
             what: Missing::DynamicSymbol,
             symbol: 7,
         },
-        At::NOWHERE,
+        At::NO_PLACE,
         "refused MissingResolution what=dynsym symbol=7\n",
     ),
     (
@@ -130,7 +130,7 @@ const REFUSALS: &[(Fault, At, &str)] = &[
             what: Missing::Stub,
             symbol: 2,
         },
-        At::NOWHERE,
+        At::NO_PLACE,
         "refused MissingResolution what=stub symbol=2\n",
     ),
     (
@@ -150,12 +150,12 @@ const REFUSALS: &[(Fault, At, &str)] = &[
     ),
     (
         Fault::TlsOutOfSegment { value: u64::MAX },
-        At::NOWHERE,
+        At::NO_PLACE,
         "refused TlsOutOfSegment value=18446744073709551615\n",
     ),
     (
         Fault::StaticTlsDesc { symbol: 3 },
-        At::NOWHERE,
+        At::NO_PLACE,
         "refused StaticTlsDesc symbol=3\n",
     ),
     (

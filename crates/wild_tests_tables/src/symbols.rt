@@ -14,17 +14,16 @@ use crate::layouts::{layout_of, symbol_of};
 use std::alloc::{AllocError, Global};
 use std::test::*;
 use wild_plan::{
-    Error, File, FileRole, Layout, Named, Place, Role, SectionIndex, Symbol, SymbolIndex, is_local,
-    share_of,
+    Error, File, FileRole, Layout, Place, Role, SectionIndex, Symbol, SymbolIndex, SymtabName,
+    is_local, share_of,
 };
 use wild_records::SymbolSection;
 use wild_symbols::{
-    NamedSections, SymbolAttributes, SymbolTableWriter, dynstr_start, entry_at, listed_fields,
-    null_table_fields, strtab_start, table_fields,
+    SymbolAttributes, SymbolTableWriter, dynstr_start, entry_at, exported_symbol_fields,
+    named_sections, null_table_fields, strtab_start, table_fields,
 };
 
 /// A call of the writer.
-#[derive(Clone, Copy)]
 enum Call {
     /// Puts a symbol that is not defined: whether it is local, its name, and its `st_info`.
     Undefined(bool, &'static [u8], u8),
@@ -277,14 +276,14 @@ fn put_entry(writer: &mut SymbolTableWriter, layout: &Layout, index: usize) -> R
     }
     let group = layout.groups.as_slice().get(0).ok_or("no group")?;
     let file = group.files.as_slice().get(0).ok_or("no file")?;
-    let sections = NamedSections::of(layout);
+    let sections = named_sections(layout);
     let symbol = symbol_of(layout, index)?;
     let section = section_of(symbol)?;
     let raw = layout.raw_value(SymbolIndex(index));
     let fields = table_fields(
         layout,
         file,
-        Named::Itself,
+        SymtabName::Itself,
         index,
         symbol,
         section,
@@ -294,7 +293,7 @@ fn put_entry(writer: &mut SymbolTableWriter, layout: &Layout, index: usize) -> R
     )
     .ok()
     .ok_or("no fields")?;
-    let is_local = is_local(Named::Itself, symbol);
+    let is_local = is_local(SymtabName::Itself, symbol);
     Ok(
         writer
             .write_entry(is_local, symbol.name.as_slice(), fields)
@@ -323,43 +322,43 @@ fn put_copy(
 /// The bytes of the entry of a library's symbol whose name is at an offset.
 fn entry_of(layout: &Layout, index: usize, name: u64) -> Result<[u8; 24], Fail> {
     let symbol = symbol_of(layout, index)?;
-    let sections = NamedSections::of(layout);
-    let fields = listed_fields(layout, sections, 0, FileRole::Dynamic, 0, symbol)?;
+    let sections = named_sections(layout);
+    let fields = exported_symbol_fields(layout, sections, 0, FileRole::Dynamic, 0, symbol)?;
     let mut bytes = [0; 24];
     entry_at(name, fields).put(&mut bytes);
     Ok(bytes)
 }
 
 /// Whether a call succeeds.
-fn succeeds(writer: &mut SymbolTableWriter, layout: &Layout, call: Call) -> Result<bool, Fail> {
+fn succeeds(writer: &mut SymbolTableWriter, layout: &Layout, call: &Call) -> Result<bool, Fail> {
     match call {
         Call::Undefined(is_local, name, info) => {
-            Ok(put_undefined(writer, is_local, name, info).is_ok())
+            Ok(put_undefined(writer, *is_local, *name, *info).is_ok())
         }
         Call::Finish => Ok(put_finish(writer).is_ok()),
         Call::Prefix => Ok(put_prefix(writer).is_ok()),
         Call::OneMore => Ok(writer.take_prefix_global(1, 0).is_ok()),
         Call::Null => Ok(writer.write_entry(true, b"", null_table_fields()).is_ok()),
-        Call::Entry(index) => put_entry(writer, layout, index),
+        Call::Entry(index) => put_entry(writer, layout, *index),
         Call::Copy(index, name, section, value) => {
-            put_copy(writer, symbol_of(layout, index)?, name, section, value)
+            put_copy(writer, symbol_of(layout, *index)?, *name, *section, *value)
         }
         Call::CopyAbsolute(index, name) => {
             Ok(
                 writer
-                    .copy_absolute_symbol(symbol_of(layout, index)?, name)
+                    .copy_absolute_symbol(symbol_of(layout, *index)?, *name)
                     .is_ok(),
             )
         }
         Call::CopyShndx(index, name, section, value) => {
-            let symbol = symbol_of(layout, index)?;
+            let symbol = symbol_of(layout, *index)?;
             Ok(
                 writer
-                    .copy_symbol_shndx(symbol, name, section, value)
+                    .copy_symbol_shndx(symbol, *name, *section, *value)
                     .is_ok(),
             )
         }
-        Call::Name(name, offset) => Ok(writer.strtab.write_str(name).ok() == Some(offset)),
+        Call::Name(name, offset) => Ok(writer.strtab.write_str(*name).ok() == Some(*offset)),
         Call::Far => {
             let section = SymbolSection::Index(0xff00);
             let attributes = SymbolAttributes {
@@ -374,7 +373,7 @@ fn succeeds(writer: &mut SymbolTableWriter, layout: &Layout, call: Call) -> Resu
             )
         }
         Call::Slots => {
-            let sections = NamedSections::of(layout);
+            let sections = named_sections(layout);
             let symbol = symbol_of(layout, 0)?;
             Ok(
                 writer
@@ -383,7 +382,7 @@ fn succeeds(writer: &mut SymbolTableWriter, layout: &Layout, call: Call) -> Resu
             )
         }
         Call::Listed(index, name, wanted) => {
-            Ok(entry_of(layout, index, name)?.as_slice() == wanted)
+            Ok(entry_of(layout, *index, *name)?.as_slice() == *wanted)
         }
         Call::FullStrings => Ok(writer.strtab.check_exhausted().is_ok()),
         Call::Full => Ok(writer.check_exhausted().is_ok()),
@@ -395,7 +394,7 @@ fn are_filled(alloc: Global, layout: &Layout, row: &Row) -> Result<bool, Fail> {
     let (_, group, dynamic, calls, tables) = row;
     let mut writer = writer(alloc, layout, *group, *dynamic)?;
     for (call, wanted) in *calls {
-        if succeeds(&mut writer, layout, *call)? != *wanted {
+        if succeeds(&mut writer, layout, call)? != *wanted {
             return Ok(false);
         }
     }

@@ -7,13 +7,12 @@ use wild_records::Rela;
 use wild_reloc::DynamicRelocationKind;
 use wild_relr::{block_words, count_words};
 use wild_tables::{
-    ROLES, Refused, TableWriter, relative_entry, verify_resolution_allocation, write_dynamic,
+    ROLES, SlotWriteError, TableWriter, relative_entry, verify_resolution_allocation, write_dynamic,
 };
 use wild_tests_plans::{MOVED, PACKED, SLOTTED};
 use wild_words::read_u64;
 
 /// A call of the writer.
-#[derive(Clone, Copy)]
 enum Call {
     /// Puts the address 0x1040 at a place, which then has this word.
     Address(u64, u64),
@@ -166,7 +165,9 @@ fn put_offset(tables: &mut TableWriter, layout: &Layout, address: u64) -> Result
     own.raw_value = address;
     match tables.process_resolution(layout, &own, Err(0)) {
         Ok(()) => Ok(true),
-        Err(Refused::Fault(SlotFault::TlsOutOfSegment { value })) if value == address => Ok(false),
+        Err(SlotWriteError::Fault(SlotFault::TlsOutOfSegment { value })) if value == address => Ok(
+            false,
+        ),
         Err(_) => Err("another fault".into()),
     }
 }
@@ -183,23 +184,23 @@ fn fault_of(layout: &Layout, resolution: &Resolution, got: u64) -> Option<Fault>
 }
 
 /// Whether a call succeeds.
-fn succeeds(tables: &mut TableWriter, layout: &Layout, call: Call) -> Result<bool, Fail> {
+fn succeeds(tables: &mut TableWriter, layout: &Layout, call: &Call) -> Result<bool, Fail> {
     match call {
         Call::Address(place, word) => {
-            let (is_put, found) = put_address(tables, layout, place);
-            if found != word {
+            let (is_put, found) = put_address(tables, layout, *place);
+            if found != *word {
                 return Err("another word".into());
             }
             Ok(is_put)
         }
-        Call::Relr(place) => Ok(tables.write_relr_entry_flat(layout, place, 0x1040).is_ok()),
+        Call::Relr(place) => Ok(tables.write_relr_entry_flat(layout, *place, 0x1040).is_ok()),
         Call::EndRun => {
             tables.reset_relr_run();
             Ok(true)
         }
-        Call::Bitmap(count) => Ok(tables.write_got_relr_bitmap(0x3000, count).is_ok()),
+        Call::Bitmap(count) => Ok(tables.write_got_relr_bitmap(0x3000, *count).is_ok()),
         Call::Reserved => Ok(tables.write_plt_got_entries(layout).is_ok()),
-        Call::Slots(index) => put_slots(tables, layout, index),
+        Call::Slots(index) => put_slots(tables, layout, *index),
         Call::Symbol => {
             let kind = DynamicRelocationKind::Absolute;
             let result = tables.write_dynamic_symbol_relocation(layout, 0x3000, 5, 2, kind);
@@ -210,8 +211,8 @@ fn succeeds(tables: &mut TableWriter, layout: &Layout, call: Call) -> Result<boo
             Ok(result.is_ok())
         }
         Call::Copy => Ok(tables.write_copy_relocation(layout, SymbolIndex(0)).is_ok()),
-        Call::Offset(address) => put_offset(tables, layout, address),
-        Call::Size(got, fault) => Ok(fault_of(layout, &resolution_of(layout, 0)?, got) == fault),
+        Call::Offset(address) => put_offset(tables, layout, *address),
+        Call::Size(got, fault) => Ok(fault_of(layout, &resolution_of(layout, 0)?, *got) == *fault),
         Call::Full => Ok(tables.validate_empty(layout).is_ok()),
     }
 }
@@ -224,7 +225,7 @@ fn are_filled(alloc: Global, layout: &Layout, row: &Row) -> Result<bool, Fail> {
     }
     let mut tables = TableWriter::new(alloc, layout, 0)?;
     for (call, wanted) in *calls {
-        if succeeds(&mut tables, layout, *call)? != *wanted {
+        if succeeds(&mut tables, layout, call)? != *wanted {
             return Ok(false);
         }
     }

@@ -4,7 +4,7 @@ ghost use Rattle.wild_text.specs.Reads.{Gives};
 ghost use Rattle.wild_text.specs.Extras.{sorted_section_in, merged_in, identity_in, authentication_in, word_property_in, property_in};
 
 use crate::fault::PlanFault;
-use crate::members::{Planned, closed, member, members, object};
+use crate::members::{Planned, member, members, object, without_other_members};
 use serde_json::Value;
 use std::alloc::Global;
 use wild_types::{Identity, Merged, Property, PropertyValue, SortedSection};
@@ -56,7 +56,7 @@ fn read_authentication(alloc: Global, json: &Value) -> std::result::Result<Prope
     let platform = member(alloc, json, "platform", 0)?;
     let version = member(alloc, json, "version", 0)?;
     let value = PropertyValue::PointerAuthentication { platform, version };
-    closed(
+    without_other_members(
         alloc,
         json,
         &["ptype", "platform", "version"],
@@ -72,7 +72,7 @@ fn read_word_property(alloc: Global, json: &Value) -> std::result::Result<Proper
     let ptype = member(alloc, json, "ptype", 0)?;
     let word = member(alloc, json, "value", 0)?;
     let value = PropertyValue::Word(word);
-    closed(alloc, json, &["ptype", "value"], Property { ptype, value })
+    without_other_members(alloc, json, &["ptype", "value"], Property { ptype, value })
 }
 
 impl Planned for Property {

@@ -1,7 +1,6 @@
 //! The texts of the program: which JSON value encodes which layout, and what the program writes.
 #![tactic(auto)]
 
-mod ahead;
 mod answer;
 mod extras;
 mod fault;
@@ -10,6 +9,7 @@ mod laws;
 mod lists;
 mod members;
 mod options;
+mod ordered_members;
 mod output;
 mod plan;
 mod refusal;

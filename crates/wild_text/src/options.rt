@@ -4,7 +4,7 @@ ghost use Rattle.wild_text.specs.Reads.{Gives};
 ghost use Rattle.wild_text.specs.Options.{output_options, dynamic_options, options_in};
 
 use crate::fault::PlanFault;
-use crate::members::{Planned, closed, member, object};
+use crate::members::{Planned, member, object, without_other_members};
 use serde_json::Value;
 use std::alloc::Global;
 use wild_types::Options;
@@ -84,7 +84,7 @@ impl Planned for Options {
         object(alloc, json)?;
         let before = output_options(alloc, json)?;
         let asked = dynamic_options(alloc, json, before)?;
-        closed(
+        without_other_members(
             alloc,
             json,
             &[

@@ -2,7 +2,7 @@
 ghost use Rattle.wild_text.specs.Shapes.{sysv_hash_in, gnu_hash_in, thunk_in};
 
 use crate::fault::PlanFault;
-use crate::members::{Planned, closed, member, members, object};
+use crate::members::{Planned, member, members, object, without_other_members};
 use serde_json::Value;
 use std::alloc::Global;
 use wild_types::{GnuHash, SymbolIndex, SysvHash, Thunk};

@@ -10,8 +10,8 @@ use Rattle.wild_types.specs.declared.layout.Layout.{Layout}
 use Rattle.wild_types.specs.declared.part.Role.{Role}
 use Rattle.wild_types.specs.declared.part.Role.TheVariants as role
 use Rattle.wild_types.specs.declared.section.Section.{Section}
-use Rattle.wild_types.specs.Hollow.{is_hollow_role, is_dropped, KeepsAll}
-use Rattle.wild_types.specs.Lookups.{is_read, is_loaded, has_relocations, is_frame, section_of, section_of_part, is_hollow, hollow, is_hollow_at, is_hollow_part}
+use Rattle.wild_types.specs.HeaderOnly.{is_header_only_role, is_omitted, KeepsAll}
+use Rattle.wild_types.specs.Lookups.{is_read, is_loaded, has_relocations, is_frame, section_of, section_of_part, is_header_only, header_only, is_header_only_at, is_header_only_part}
 use Rattle.wild_types.specs.Parts.{part_with}
 use Rattle.wild_types.specs.declared.kind.OutputKind.{OutputKind}
 use Rattle.wild_types.specs.Kinds.{is_position_independent, needs_dynamic}
@@ -46,26 +46,26 @@ row_here machine.X86_64 n info is h = h
 
 -- ---- where all is written
 
-pub not_hollow : (l : Layout) (s : Section) → KeepsAll l → is_hollow l s ≡ false
+pub not_hollow : (l : Layout) (s : Section) → KeepsAll l → is_header_only l s ≡ false
 not_hollow l s h = rw h refl
 
-pub not_hollow_at : (l : Layout) (k : ℕ) → KeepsAll l → is_hollow_at l k ≡ false
+pub not_hollow_at : (l : Layout) (k : ℕ) → KeepsAll l → is_header_only_at l k ≡ false
 not_hollow_at l k h = by (not (k == 0)) (slice_get l.sections k)
   where
-    by : (b : Bool) (s : Option Section) → (b && hollow l s) ≡ false
+    by : (b : Bool) (s : Option Section) → (b && header_only l s) ≡ false
     by false s = refl
     by true None = refl
     by true (Some s) = not_hollow l s h
 
-pub not_hollow_part : (l : Layout) (part : ℕ) → KeepsAll l → is_hollow_part l part ≡ false
+pub not_hollow_part : (l : Layout) (part : ℕ) → KeepsAll l → is_header_only_part l part ≡ false
 not_hollow_part l part h = not_hollow_at l (section_of l part) h
 
-pub not_hollow_role : (l : Layout) (r : Role) → KeepsAll l → is_hollow_role l r ≡ false
+pub not_hollow_role : (l : Layout) (r : Role) → KeepsAll l → is_header_only_role l r ≡ false
 not_hollow_role l r h = not_hollow_at l (section_of_part (part_with r l.parts)) h
 
-pub not_dropped : (l : Layout) (s : InputSection) → KeepsAll l → is_dropped l s ≡ false
+pub not_dropped : (l : Layout) (s : InputSection) → KeepsAll l → is_omitted l s ≡ false
 not_dropped l s h = by (is_frame s.slot) (not_hollow_role l role.EhFrame h) (not_hollow_part l s.part h)
   where
-    by : (b : Bool) → is_hollow_role l role.EhFrame ≡ false → is_hollow_part l s.part ≡ false → (if b then is_hollow_role l role.EhFrame else is_hollow_part l s.part) ≡ false
+    by : (b : Bool) → is_header_only_role l role.EhFrame ≡ false → is_header_only_part l s.part ≡ false → (if b then is_header_only_role l role.EhFrame else is_header_only_part l s.part) ≡ false
     by true e f = e
     by false e f = f

@@ -3,7 +3,7 @@
 --   own_symbols l f       those whose slots it writes
 --   loaded_symbols l f    the symbols of a file, if it is loaded
 --   copies_of f           the symbols that are copied from a library
---   copied_again l ..     the first group that copies a symbol a second time
+--   first_double_copy l ..     the first group that copies a symbol a second time
 use Rattle.std.specs.Prelude.{ℕ, ◌+◌, ◌==◌, ◌&&◌, if◌then◌else◌, List, [], ◌∷◌, take, drop, Option, Some, None, Bool, true, not, ◌++◌, map, flat_map, slice_range}
 use Rattle.wild_types.specs.declared.symbol.Symbol.{Symbol}
 use Rattle.wild_types.specs.declared.file.File.{File}
@@ -30,15 +30,15 @@ abbrev pub copies_of : File → List ℕ
 copies_of f = if is_library f.role then f.copies else []
 
 -- the definitions of the symbols that the files of a group copy
-abbrev pub copied_in : Layout → Group → List ℕ
-copied_in l g = flat_map (λ (f : File). map (canonical l) f.copies) g.files
+abbrev pub copied_definitions : Layout → Group → List ℕ
+copied_definitions l g = flat_map (λ (f : File). map (canonical l) f.copies) g.files
 
 -- the items are distinct, and none is in the first list
-abbrev pub are_new : List ℕ → List ℕ → Bool
-are_new earlier [] = true
-are_new earlier (c ∷ cs) = not (list_any (λ d. d == c) earlier) && are_new (earlier ++ c ∷ []) cs
+abbrev pub are_distinct_from : List ℕ → List ℕ → Bool
+are_distinct_from earlier [] = true
+are_distinct_from earlier (c ∷ cs) = not (list_any (λ d. d == c) earlier) && are_distinct_from (earlier ++ c ∷ []) cs
 
 -- the first group that copies a definition which it, or a group before it, has copied already
-abbrev pub copied_again : Layout → List ℕ → ℕ → List Group → Option ℕ
-copied_again l earlier i [] = None
-copied_again l earlier i (g ∷ gs) = if are_new earlier (copied_in l g) then copied_again l (earlier ++ copied_in l g) (i + 1) gs else Some i
+abbrev pub first_double_copy : Layout → List ℕ → ℕ → List Group → Option ℕ
+first_double_copy l earlier i [] = None
+first_double_copy l earlier i (g ∷ gs) = if are_distinct_from earlier (copied_definitions l g) then first_double_copy l (earlier ++ copied_definitions l g) (i + 1) gs else Some i

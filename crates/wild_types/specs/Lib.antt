@@ -7,7 +7,7 @@ pub mod FileRoles
 pub mod FileSymbols
 pub mod FileThunks
 pub mod Flags
-pub mod Hollow
+pub mod HeaderOnly
 pub mod Item
 pub mod Kinds
 pub mod Lists

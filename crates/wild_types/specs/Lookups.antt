@@ -3,14 +3,14 @@
 --   kind_at l k            the type of the section with header index k; SHT_NULL if there is none
 --   is_allocated_part l p  the part is in a section other than section 0 that is allocated (SHF_ALLOC)
 --   is_without_data s      the section's type is that of sections without bytes in the file
---   is_hollow l s          only the section's header is written: the image is a debug file, and the section is allocated and no note
+--   is_header_only l s          only the section's header is written: the image is a debug file, and the section is allocated and no note
 --   fills_file l s         the section has bytes in the file
 --   has_data l k           the type of the section with header index k is that of sections with bytes in the file
 --   takes_file_bytes l k   that section has bytes in the file
---   is_given l s           the input section is placed in its part in file order, and contributes bytes
+--   has_range_bytes l s           the input section is placed in its part in file order, and contributes bytes
 --   is_filled l s          these bytes are in the image
 --   is_read s              the relocations are read: the section is loaded or holds frames, and has data
---   is_written s           they are applied to its bytes
+--   has_written_relocations s           they are applied to its bytes
 --   is_counted s           they are counted
 --   image_size l           the greatest end of a file range of a part or a section
 --   has_address l s        the input section has an address
@@ -18,7 +18,7 @@
 --   file_of files i        the first file whose range of symbols contains i
 --   place_of address r     the address of the field of a relocation, if the section's bytes are at address, modulo 2^64
 --   packs l at             a relative relocation of that place is packed as RELR
---   has_table l            the output has a `.symtab`
+--   has_symtab l            the output has a `.symtab`
 use Rattle.std.specs.Prelude.{ℕ, ◌+◌, ◌%◌, ◌^◌, ◌==◌, ◌&&◌, ◌||◌, Bool, true, false, not, if◌then◌else◌, List, [], length, Option, Some, None, nat_lt, nat_le, max, ◌∷◌, drop, option_and_then, unwrap_or, slice_get}
 use Rattle.std.specs.List.{flat_map}
 use Rattle.wild_types.specs.declared.input.InputRelocation.{InputRelocation}
@@ -92,24 +92,24 @@ without_data (Some s) = is_without_data s
 
 -- of an allocated section a debug file has the header only; notes are kept, because debuggers identify the image by them (gABI,
 -- "Sections": SHF_ALLOC, SHT_NOTE)
-abbrev pub is_hollow : Layout → Section → Bool
-is_hollow l s = l.options.only_keep_debug && (allocated s.flags && not (s.kind == sht_note))
+abbrev pub is_header_only : Layout → Section → Bool
+is_header_only l s = l.options.only_keep_debug && (allocated s.flags && not (s.kind == sht_note))
 
-abbrev pub hollow : Layout → Option Section → Bool
-hollow l None = false
-hollow l (Some s) = is_hollow l s
+abbrev pub header_only : Layout → Option Section → Bool
+header_only l None = false
+header_only l (Some s) = is_header_only l s
 
 -- only the header is written of the section with index k; false for section 0
-abbrev pub is_hollow_at : Layout → ℕ → Bool
-is_hollow_at l k = not (k == 0) && hollow l (slice_get l.sections k)
+abbrev pub is_header_only_at : Layout → ℕ → Bool
+is_header_only_at l k = not (k == 0) && header_only l (slice_get l.sections k)
 
 -- the part is in a section of which only the header is written
-abbrev pub is_hollow_part : Layout → ℕ → Bool
-is_hollow_part l part = is_hollow_at l (section_of l part)
+abbrev pub is_header_only_part : Layout → ℕ → Bool
+is_header_only_part l part = is_header_only_at l (section_of l part)
 
 -- a section other than section 0 has bytes in the file
 abbrev pub fills_file : Layout → Section → Bool
-fills_file l s = not (is_without_data s) && not (is_hollow l s)
+fills_file l s = not (is_without_data s) && not (is_header_only l s)
 
 -- the section with header index k has data: its type is not SHT_NOBITS; the file has these bytes unless only the header is written
 abbrev pub has_data : Layout → ℕ → Bool
@@ -117,7 +117,7 @@ has_data l k = not (without_data (slice_get l.sections k))
 
 -- the contents of the section take bytes of the file
 abbrev pub takes_file_bytes : Layout → ℕ → Bool
-takes_file_bytes l k = has_data l k && not (is_hollow_at l k)
+takes_file_bytes l k = has_data l k && not (is_header_only_at l k)
 
 abbrev pub is_loaded : Slot → Bool
 is_loaded slot.Loaded = true
@@ -165,12 +165,12 @@ has_range slot.Group = true
 has_range other = false
 
 -- the input section is placed in file order and contributes bytes: its own, zeros, or generated ones
-abbrev pub is_given : Layout → InputSection → Bool
-is_given l s = has_range s.slot && has_bytes l s
+abbrev pub has_range_bytes : Layout → InputSection → Bool
+has_range_bytes l s = has_range s.slot && has_bytes l s
 
 -- and these bytes are in the image
 abbrev pub is_filled : Layout → InputSection → Bool
-is_filled l s = is_given l s && not (is_hollow_part l s.part)
+is_filled l s = has_range_bytes l s && not (is_header_only_part l s.part)
 
 -- a loader may apply relocations to a loaded section and to frames
 abbrev pub has_relocations : Slot → Bool
@@ -189,8 +189,8 @@ has_fields slot.Frame = true
 has_fields slot.Debug = true
 has_fields other = false
 
-abbrev pub is_written : InputSection → Bool
-is_written s = has_fields s.slot && not s.nobits
+abbrev pub has_written_relocations : InputSection → Bool
+has_written_relocations s = has_fields s.slot && not s.nobits
 
 -- the relocations are counted for the output section
 abbrev pub is_counted : InputSection → Bool
@@ -202,7 +202,7 @@ brings_bytes l s = (has_range s.slot || has_counted s.slot) && has_bytes l s
 
 -- and these bytes are in the image
 abbrev pub owns_bytes : Layout → InputSection → Bool
-owns_bytes l s = brings_bytes l s && not (is_hollow_part l s.part)
+owns_bytes l s = brings_bytes l s && not (is_header_only_part l s.part)
 
 abbrev pub file_end : Bool → ℕ → ℕ → ℕ
 file_end takes offset size = if takes && not (size == 0) then offset + size else 0
@@ -245,12 +245,12 @@ abbrev pub packs : Layout → ℕ → Bool
 packs l place = l.options.relr && place % 2 == 0
 
 -- no address of a fixed output changes, and only the relocations of loaded sections and frames with data are read
-abbrev pub has_moved : Layout → InputSection → Bool
-has_moved l s = is_position_independent l.kind && is_read s
+abbrev pub may_have_relative : Layout → InputSection → Bool
+may_have_relative l s = is_position_independent l.kind && is_read s
 
 -- the output has a `.symtab`: a relocatable object always has one (gABI, "Symbol Table")
-abbrev pub has_table : Layout → Bool
-has_table l = is_partial_link l.kind || not l.options.strip_all
+abbrev pub has_symtab : Layout → Bool
+has_symtab l = is_partial_link l.kind || not l.options.strip_all
 
 -- more sections than a 16-bit index can number (gABI, "Special Section Indexes", SHN_LORESERVE)
 abbrev pub has_many_sections : Layout → Bool

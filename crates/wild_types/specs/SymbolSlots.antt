@@ -2,8 +2,8 @@
 --   got_of s, plt_of s      the address of the first slot and of the stub; none if there is none
 --   has_dynamic_symbol f    a loader looks the symbol up by name
 --   has_thread_slot f       a slot or pair for a thread-local symbol
---   slots_at s           the address of the symbol's first slot; 0 without one
---   is_without s         the symbol has no slot
+--   slots_address s           the address of the symbol's first slot; 0 without one
+--   lacks_slots s         the symbol has no slot
 --   names_slot, names_stub   its slot, or its stub, has a name in `.symtab`
 use Rattle.std.specs.Prelude.{ℕ, ◌==◌, Bool, true, not, ◌&&◌, ◌||◌, Option, Some, None, is_some, unwrap_or}
 use Rattle.wild_types.specs.declared.symbol.Symbol.{Symbol}
@@ -37,12 +37,12 @@ abbrev pub has_thread_slot : ValueFlags → Bool
 has_thread_slot f = has_flag f got_tls_offset || (has_flag f got_tls_module || has_flag f got_tls_descriptor)
 
 -- the symbol has no slot, so no file writes one for it
-abbrev pub is_without : Symbol → Bool
-is_without s = not (is_some (got_of s))
+abbrev pub lacks_slots : Symbol → Bool
+lacks_slots s = not (is_some (got_of s))
 
 -- the address of its first slot; 0 without one
-abbrev pub slots_at : Symbol → ℕ
-slots_at s = unwrap_or (got_of s) 0
+abbrev pub slots_address : Symbol → ℕ
+slots_address s = unwrap_or (got_of s) 0
 
 -- no other symbol defines it
 abbrev pub is_own : Option ℕ → ℕ → Bool

@@ -7,7 +7,7 @@ use crate::part::Part;
 use crate::section::Section;
 
 /// All items but the first.
-pub fn behind_first<T>(items: &[T]) -> &[T]
+pub fn all_but_first<T>(items: &[T]) -> &[T]
     ensures { result.now ≡ drop 1 items.now }
 {
     match items {
@@ -62,7 +62,7 @@ impl Layout {
         ensures { result ≡ image_size self.now }
     {
         let parts = parts_end(self, self.parts.as_slice());
-        let sections = sections_end(self, behind_first(self.sections.as_slice()));
+        let sections = sections_end(self, all_but_first(self.sections.as_slice()));
         parts.max(sections)
     }
 }

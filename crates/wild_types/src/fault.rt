@@ -1,4 +1,4 @@
-//! Why a layout has no image.
+//! FrameFault a layout has no image.
 use std::alloc::{AllocError, AllocFailed};
 
 /// A clause of a well-formed layout that fails, with the index of the first item that fails it.
@@ -21,7 +21,7 @@ pub enum Missing {
 
 /// What is wrong with a section of frames (LSB, "The .eh_frame section").
 #[derive(Clone, Copy, Debug, PartialEq, Eq)]
-pub enum Why {
+pub enum FrameFault {
     /// The reader of the input failed at a relocation.
     Malformed,
     /// The offset of a relocation is below that of the relocation before it.
@@ -38,7 +38,7 @@ pub enum Why {
     Field,
 }
 
-/// Why a layout has no image. Parts, groups and symbols are indexes into their lists, in the form in which they are printed; sizes
+/// FrameFault a layout has no image. Parts, groups and symbols are indexes into their lists, in the form in which they are printed; sizes
 /// are in bytes.
 #[derive(Clone, Copy, Debug, PartialEq, Eq)]
 pub enum Fault {
@@ -109,7 +109,7 @@ pub enum Fault {
     },
     /// A section of frames cannot be read: its list of relocations is bad, or the entry at that offset.
     BadFrameData {
-        why: Why,
+        why: FrameFault,
     },
     /// The distance of an address from the search table of frames does not fit a signed 32-bit field.
     FrameOffsetOverflow {
@@ -140,7 +140,7 @@ pub struct At {
 
 impl At {
     /// No location.
-    pub const NOWHERE: At = At {
+    pub const NO_PLACE: At = At {
         group: None,
         file: None,
         section: None,
@@ -148,7 +148,7 @@ impl At {
     };
 }
 
-/// Why no image was written, and where.
+/// FrameFault no image was written, and where.
 #[derive(Clone, Copy, Debug, PartialEq, Eq)]
 pub struct Error {
     pub fault: Fault,
@@ -164,7 +164,7 @@ impl From<AllocError> for Error {
     fn from(_: AllocError) -> Error {
         Error {
             fault: Fault::OutOfMemory,
-            at: At::NOWHERE,
+            at: At::NO_PLACE,
         }
     }
 }
@@ -178,7 +178,7 @@ impl<T: Drop> From<AllocFailed<T>> for Error {
     fn from(_: AllocFailed<T>) -> Error {
         Error {
             fault: Fault::OutOfMemory,
-            at: At::NOWHERE,
+            at: At::NO_PLACE,
         }
     }
 }

@@ -2,8 +2,8 @@
 ghost use Rattle.std.specs.Prelude.{◌≡◌, ◌+◌, ◌^◌, ◌%◌, ◌<◌, true, length, drop, take, slice_range};
 ghost use Rattle.wild_types.specs.FileSymbols.{range_of, own_symbols, loaded_symbols};
 ghost use Rattle.wild_types.specs.FileThunks.{block_of, thunks_of};
-ghost use Rattle.wild_types.specs.Lookups.{place_of, packs, has_moved, writable, allocated, executable, thread_local, kind_at, section_of, is_allocated_section, is_allocated_part, is_without_data, is_hollow, is_hollow_at, is_hollow_part, fills_file, has_data, takes_file_bytes, is_loaded, is_discarded, is_given, is_filled, is_read, is_written, is_frame, is_debug, is_counted, has_range, has_counted, has_bytes, brings_bytes, owns_bytes, has_address, canonical, has_table, has_many_sections};
-ghost use Rattle.wild_types.specs.Hollow.{is_hollow_role, is_dropped};
+ghost use Rattle.wild_types.specs.Lookups.{place_of, packs, may_have_relative, writable, allocated, executable, thread_local, kind_at, section_of, is_allocated_section, is_allocated_part, is_without_data, is_header_only, is_header_only_at, is_header_only_part, fills_file, has_data, takes_file_bytes, is_loaded, is_discarded, has_range_bytes, is_filled, is_read, has_written_relocations, is_frame, is_debug, is_counted, has_range, has_counted, has_bytes, brings_bytes, owns_bytes, has_address, canonical, has_symtab, has_many_sections};
+ghost use Rattle.wild_types.specs.HeaderOnly.{is_header_only_role, is_omitted};
 ghost use Rattle.wild_types.specs.SymbolSlots.{names_slot, names_stub};
 
 use crate::file::File;
@@ -134,8 +134,8 @@ impl Layout {
 
     /// Whether only the section's header is written: the image is a debug file (`--only-keep-debug`), and the section is allocated. Notes
     /// are written nevertheless, because debuggers identify the image by them.
-    pub fn is_hollow(&self, section: &Section) -> bool
-        ensures { result ≡ is_hollow self.now section.now }
+    pub fn is_header_only(&self, section: &Section) -> bool
+        ensures { result ≡ is_header_only self.now section.now }
     {
         self.options.only_keep_debug && is_allocated(section.flags) && section.kind != SHT_NOTE
     }
@@ -143,36 +143,36 @@ impl Layout {
     /// Whether only the header is written of the section with that index; false for section 0. The section is looked up only for a debug
     /// file.
     #[tactic(auto, using(crate::proofs::LookupLemmas::not_hollow_at))]
-    pub fn is_hollow_at(&self, index: SectionIndex) -> bool
-        ensures { result ≡ is_hollow_at self.now index }
+    pub fn is_header_only_at(&self, index: SectionIndex) -> bool
+        ensures { result ≡ is_header_only_at self.now index }
     {
         if !self.options.only_keep_debug {
             return false;
         }
         match self.sections.as_slice().get(index.0) {
-            Some(section) => index.0 != 0 && self.is_hollow(section),
+            Some(section) => index.0 != 0 && self.is_header_only(section),
             None => false,
         }
     }
 
     /// Whether a part is in a section of which only the header is written.
     #[tactic(auto, using(crate::proofs::LookupLemmas::not_hollow_part))]
-    pub fn is_hollow_part(&self, part: usize) -> bool
-        ensures { result ≡ is_hollow_part self.now part }
+    pub fn is_header_only_part(&self, part: usize) -> bool
+        ensures { result ≡ is_header_only_part self.now part }
     {
-        self.options.only_keep_debug && self.is_hollow_at(self.section_of(part))
+        self.options.only_keep_debug && self.is_header_only_at(self.section_of(part))
     }
 
     /// Whether the first part of a role is in a section of which only the header is written.
     #[tactic(auto, using(crate::proofs::LookupLemmas::not_hollow_role))]
-    pub fn is_hollow_role(&self, role: Role) -> bool
-        ensures { result ≡ is_hollow_role self.now role }
+    pub fn is_header_only_role(&self, role: Role) -> bool
+        ensures { result ≡ is_header_only_role self.now role }
     {
         if !self.options.only_keep_debug {
             return false;
         }
         match part_with(role, self.parts.as_slice()) {
-            Some(part) => self.is_hollow_at(part.section),
+            Some(part) => self.is_header_only_at(part.section),
             None => false,
         }
     }
@@ -181,7 +181,7 @@ impl Layout {
     pub fn fills_file(&self, section: &Section) -> bool
         ensures { result ≡ fills_file self.now section.now }
     {
-        !section.is_without_data() && !self.is_hollow(section)
+        !section.is_without_data() && !self.is_header_only(section)
     }
 
     /// Whether the section with that header index has data: its type is not `SHT_NOBITS`. The file has these bytes unless only the section's
@@ -199,7 +199,7 @@ impl Layout {
     pub fn takes_file_bytes(&self, index: SectionIndex) -> bool
         ensures { result ≡ takes_file_bytes self.now index }
     {
-        self.has_data(index) && !self.is_hollow_at(index)
+        self.has_data(index) && !self.is_header_only_at(index)
     }
 
     /// The symbol that defines a symbol.
@@ -262,7 +262,7 @@ impl Layout {
         ensures are { result.now ≡ range_of self.now.symbols file.now }
         ensures few { file.now.first_symbol + length result.now < 2 ^ 64 }
     {
-        some_from(
+        symbols_in_range(
             self.symbols.as_slice(),
             file.first_symbol.0,
             file.symbol_count,
@@ -270,8 +270,8 @@ impl Layout {
     }
 
     /// Whether the output has a `.symtab`.
-    pub fn has_table(&self) -> bool
-        ensures { result ≡ has_table self.now }
+    pub fn has_symtab(&self) -> bool
+        ensures { result ≡ has_symtab self.now }
     {
         self.kind.is_partial_link() || !self.options.strip_all
     }
@@ -295,8 +295,8 @@ impl Layout {
 
     /// Whether a section may hold addresses that need relative relocations: the output is position-independent, and the section's
     /// relocations are read.
-    pub fn has_moved(&self, section: &InputSection) -> bool
-        ensures { result ≡ has_moved self.now section.now }
+    pub fn may_have_relative(&self, section: &InputSection) -> bool
+        ensures { result ≡ may_have_relative self.now section.now }
     {
         self.kind.is_position_independent() && section.is_read()
     }
@@ -353,17 +353,17 @@ impl InputSection {
     }
 
     /// Whether the section is placed in its part in file order and contributes bytes: its own, zeros, or generated ones.
-    pub fn is_given(&self, layout: &Layout) -> bool
-        ensures { result ≡ is_given layout.now self.now }
+    pub fn has_range_bytes(&self, layout: &Layout) -> bool
+        ensures { result ≡ has_range_bytes layout.now self.now }
     {
         self.slot.has_range() && self.has_bytes(layout)
     }
 
-    /// As `is_given`, and these bytes are in the image.
+    /// As `has_range_bytes`, and these bytes are in the image.
     pub fn is_filled(&self, layout: &Layout) -> bool
         ensures { result ≡ is_filled layout.now self.now }
     {
-        self.is_given(layout) && !layout.is_hollow_part(self.part)
+        self.has_range_bytes(layout) && !layout.is_header_only_part(self.part)
     }
 
     /// Whether the section is placed, in file order or in sort order, and contributes bytes.
@@ -377,18 +377,18 @@ impl InputSection {
     pub fn owns_bytes(&self, layout: &Layout) -> bool
         ensures { result ≡ owns_bytes layout.now self.now }
     {
-        self.brings_bytes(layout) && !layout.is_hollow_part(self.part)
+        self.brings_bytes(layout) && !layout.is_header_only_part(self.part)
     }
 
     /// Whether the input section is omitted: only the header is written of the section that contains its part. Frames belong to the part
     /// of frames.
-    pub fn is_dropped(&self, layout: &Layout) -> bool
-        ensures { result ≡ is_dropped layout.now self.now }
+    pub fn is_omitted(&self, layout: &Layout) -> bool
+        ensures { result ≡ is_omitted layout.now self.now }
     {
         if self.slot.is_frame() {
-            layout.is_hollow_role(Role::EhFrame)
+            layout.is_header_only_role(Role::EhFrame)
         } else {
-            layout.is_hollow_part(self.part)
+            layout.is_header_only_part(self.part)
         }
     }
 
@@ -401,8 +401,8 @@ impl InputSection {
 
     /// Whether the relocations are applied to the section's bytes: those of a loaded section, of frames or of a debug section, if it has
     /// data.
-    pub fn is_written(&self) -> bool
-        ensures { result ≡ is_written self.now }
+    pub fn has_written_relocations(&self) -> bool
+        ensures { result ≡ has_written_relocations self.now }
     {
         matches!(self.slot, Slot::Loaded | Slot::Frame | Slot::Debug) && !self.nobits
     }
@@ -433,7 +433,7 @@ impl InputRelocation {
 }
 
 /// At most `count` symbols from `first` on.
-pub fn some_from(symbols: &[Symbol], first: usize, count: usize) -> &[Symbol]
+pub fn symbols_in_range(symbols: &[Symbol], first: usize, count: usize) -> &[Symbol]
     ensures { result.now ≡ take count (drop first symbols.now) }
 {
     let later = if first < symbols.len() {

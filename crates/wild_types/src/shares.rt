@@ -39,7 +39,7 @@ pub fn insufficient(part: usize, group: usize, given: u64, needed: u64) -> Error
             given,
             needed,
         },
-        at: At::NOWHERE,
+        at: At::NO_PLACE,
     }
 }
 
@@ -54,6 +54,6 @@ pub fn excessive(part: usize, group: usize, given: u64, needed: u64) -> Error
             given,
             needed,
         },
-        at: At::NOWHERE,
+        at: At::NO_PLACE,
     }
 }

@@ -1,7 +1,7 @@
 //! Symbols and their resolutions.
 ghost use Rattle.std.specs.Prelude.{⊤, ◌≡◌, ◌∷◌, [], codes};
 ghost use Rattle.wild_types.specs.Flags.{has_flag, interposable, has_link_time_address, absolute, dynamic, ifunc, undefined_weak, got_slot, plt_stub, got_tls_offset, got_tls_module, got_tls_descriptor, copy_relocation, export_dynamic, downgrade_to_local, canonical_plt, ifunc_got_for_address, canonical_plt_got_for_address};
-ghost use Rattle.wild_types.specs.SymbolSlots.{is_without, slots_at, got_of, plt_of, has_dynamic_symbol, has_thread_slot, is_own};
+ghost use Rattle.wild_types.specs.SymbolSlots.{lacks_slots, slots_address, got_of, plt_of, has_dynamic_symbol, has_thread_slot, is_own};
 
 use crate::index::{SectionIndex, SymbolIndex};
 use crate::search::Test;
@@ -265,16 +265,16 @@ pub fn has_thread_slot(flags: ValueFlags) -> bool
 }
 
 /// Whether a symbol has no slot.
-pub fn is_without(symbol: &Symbol) -> bool
-    ensures { result ≡ is_without symbol.now }
+pub fn lacks_slots(symbol: &Symbol) -> bool
+    ensures { result ≡ lacks_slots symbol.now }
 {
     got_of(symbol).is_none()
 }
 
 impl Symbol {
     /// The address of the first of the symbol's slots; 0 if it has none.
-    pub fn slots_at(&self) -> u64
-        ensures { result ≡ slots_at self.now }
+    pub fn slots_address(&self) -> u64
+        ensures { result ≡ slots_address self.now }
     {
         got_of(self).unwrap_or(0)
     }
@@ -291,12 +291,12 @@ pub(crate) fn is_own(symbol: &Symbol, index: usize) -> bool
 }
 
 /// The test that a symbol has no slot.
-pub struct IsWithout;
+pub struct LacksSlots;
 
-impl Test<Symbol> for IsWithout {
-    ghost test = { λ t. is_without };
+impl Test<Symbol> for LacksSlots {
+    ghost test = { λ t. lacks_slots };
 
     fn passes(&self, symbol: &Symbol) -> bool {
-        is_without(symbol)
+        lacks_slots(symbol)
     }
 }

@@ -4,30 +4,30 @@ use Rattle.std.proofs.lemmas.List.{append_assoc, append-nil, length-append, drop
 use Rattle.std.proofs.lemmas.Grind.{flat_map-append}
 use Rattle.wild_types.specs.declared.file.File.{File}
 use Rattle.wild_types.specs.declared.layout.Layout.{Layout}
-use Rattle.wild_needs.specs.DynamicStrings.{behind_text, behind_file}
-use Rattle.wild_versions.specs.Room.{Filled, with_bytes, IsFull}
-use Rattle.wild_versions.specs.Symbols.{spelled, version_bytes}
-use Rattle.wild_versions.proofs.LawLemmas.{length-versym, length-definition_table, length-need_bytes}
-use Rattle.wild_versions.specs.Names.{told, offsets_from, need_of, needs_from}
+use Rattle.wild_needs.specs.DynamicStrings.{offset_after_string, next_dynstr}
+use Rattle.wild_table_formats.specs.VersionRoom.{BufferContent, with_bytes, IsFull}
+use Rattle.wild_table_formats.specs.SymbolVersions.{spelled, version_bytes}
+use Rattle.wild_table_formats.proofs.VersionLengths.{length-versym, length-definition_table, length-need_bytes}
+use Rattle.wild_table_formats.specs.VersionNames.{offset_u32, offsets_from, need_of, needs_from}
 
 pub ruleset sizes = (length-definition_table)
 
 -- bytes that fill the room that was made for them
-pub full_with : (bs : List ℕ) (n : ℕ) (t : Filled) → length bs ≡ n → IsFull t → IsFull (with_bytes bs (record t { room = t.room + n }))
+pub full_with : (bs : List ℕ) (n : ℕ) (t : BufferContent) → length bs ≡ n → IsFull t → IsFull (with_bytes bs (record t { room = t.room + n }))
 full_with bs n t e h = let a = length-append t.bytes bs in omega (arith, a, e, h)
 
 -- ---- offsets
 
-pub offset_more : (front : List ℕ) (at : ℕ) (n : List ℕ) (ns : List (List ℕ)) → (front ++ told at ∷ []) ++ offsets_from (behind_text at n) ns ≡ front ++ offsets_from at (n ∷ ns)
+pub offset_more : (front : List ℕ) (at : ℕ) (n : List ℕ) (ns : List (List ℕ)) → (front ++ offset_u32 at ∷ []) ++ offsets_from (offset_after_string at n) ns ≡ front ++ offsets_from at (n ∷ ns)
 unfolding offsets_from
-offset_more front at n ns = append_assoc front (told at ∷ []) (offsets_from (behind_text at n) ns)
+offset_more front at n ns = append_assoc front (offset_u32 at ∷ []) (offsets_from (offset_after_string at n) ns)
 
 pub offset_end : (front : List ℕ) (at : ℕ) → front ++ offsets_from at [] ≡ front
 unfolding offsets_from
 offset_end front at = append-nil front
 
 -- one name more, of items that have one each
-pub offsets_step : {X : Type 0} (name : X → List ℕ) (xs : List X) (i : ℕ) (x : X) (at next : ℕ) (front longer goal : List ℕ) → i < length xs → x ≡ get_or xs i x → next ≡ behind_text at (name x) → longer ≡ front ++ told at ∷ []
+pub offsets_step : {X : Type 0} (name : X → List ℕ) (xs : List X) (i : ℕ) (x : X) (at next : ℕ) (front longer goal : List ℕ) → i < length xs → x ≡ get_or xs i x → next ≡ offset_after_string at (name x) → longer ≡ front ++ offset_u32 at ∷ []
     → front ++ offsets_from at (map name (drop i xs)) ≡ goal → longer ++ offsets_from next (map name (drop (i + 1) xs)) ≡ goal
 offsets_step {X} name xs i x at next front longer goal l r n w h =
     let P : List X → Type 0 = λ ys. front ++ offsets_from at (map name ys) ≡ goal in
@@ -55,8 +55,8 @@ pub ruleset version_steps = (version_more, version_end)
 
 -- ---- versions that are needed
 
-pub need_more : (l : Layout) (front : List ℕ) (at : ℕ) (f : File) (fs : List File) → (front ++ need_of l at f) ++ needs_from l (behind_file l at f) fs ≡ front ++ needs_from l at (f ∷ fs)
-need_more l front at f fs = append_assoc front (need_of l at f) (needs_from l (behind_file l at f) fs)
+pub need_more : (l : Layout) (front : List ℕ) (at : ℕ) (f : File) (fs : List File) → (front ++ need_of l at f) ++ needs_from l (next_dynstr l at f) fs ≡ front ++ needs_from l at (f ∷ fs)
+need_more l front at f fs = append_assoc front (need_of l at f) (needs_from l (next_dynstr l at f) fs)
 
 pub need_end : (l : Layout) (front : List ℕ) (at : ℕ) → front ++ needs_from l at [] ≡ front
 need_end l front at = append-nil front

@@ -1,10 +1,2 @@
-pub mod Room
 pub mod Table
-pub mod Chain
-pub mod Symbols
-pub mod Definitions
-pub mod Needs
-pub mod Names
 pub mod Writer
-pub mod Reading
-pub mod Laws

@@ -3,9 +3,9 @@ ghost use Rattle.std.specs.Prelude.{◌≡◌, ℕ, ◌+◌, ◌*◌, ◌^◌, �
 ghost use Rattle.wild_words.specs.Record.{spell};
 ghost use Rattle.wild_records.specs.Hashes.{sysv_hash};
 ghost use Rattle.wild_records.specs.Verdefs.{verdef_size, verdaux_size, verdef_fields, verdaux_fields};
-ghost use Rattle.wild_versions.specs.Room.{with_bytes};
-ghost use Rattle.wild_versions.specs.Chain.{next_of, name_at};
-ghost use Rattle.wild_versions.specs.Definitions.{names_of, known_as, verdef_of, verdauxes_of, verdaux_bytes, definition_bytes, definition_table};
+ghost use Rattle.wild_table_formats.specs.VersionRoom.{with_bytes};
+ghost use Rattle.wild_table_formats.specs.VersionChain.{next_of, name_at};
+ghost use Rattle.wild_table_formats.specs.VersionDefinitions.{names_of, version_name, verdef_of, verdauxes_of, verdaux_bytes, definition_bytes, definition_table};
 ghost use Rattle.wild_needs.specs.Versions.{definition_size, definitions_size};
 
 use crate::room::FilledRoom;
@@ -41,7 +41,7 @@ fn names_of(parent: Option<usize>) -> u16
 
 /// `vd_hash` of version i: the hash of its name. Version 0 has the soname as its name, if there is one.
 fn hash_of(soname: &Option<Bytes>, i: usize, name: &Bytes) -> u32
-    ensures { result ≡ sysv_hash (known_as soname.now i name.now) }
+    ensures { result ≡ sysv_hash (version_name soname.now i name.now) }
 {
     match soname {
         Some(own) if i == 0 => sysv_hash(own.as_slice()),
@@ -88,7 +88,7 @@ fn push_verdaux(table: &mut FilledRoom, entry: Verdaux)
 }
 
 /// Appends the records of the names of version i: its own, then its parent's.
-#[tactic(auto, using(crate::proofs::ChainLemmas::name_steps))]
+#[tactic(auto, using(wild_table_formats::proofs::VersionChains::name_steps))]
 fn push_names(table: &mut FilledRoom, names: &[u32], i: usize, definition: &VersionDefinition)
     requires { length table.old.bytes + definition_size definition.now ≤ table.old.room + verdef_size }
     ensures added { table.new ≡ with_bytes (verdaux_bytes (verdauxes_of names.now i definition.now)) table.old }
@@ -107,7 +107,7 @@ fn push_names(table: &mut FilledRoom, names: &[u32], i: usize, definition: &Vers
 }
 
 /// Appends version i with its names.
-#[tactic(auto, using(crate::proofs::ChainLemmas::behind))]
+#[tactic(auto, using(wild_table_formats::proofs::VersionChains::behind))]
 fn push_definition(
     table: &mut FilledRoom,
     names: &[u32],
@@ -126,7 +126,7 @@ fn push_definition(
 }
 
 /// Appends all versions, each with its names.
-#[tactic(auto, using(crate::proofs::ChainLemmas::definition_steps))]
+#[tactic(auto, using(wild_table_formats::proofs::VersionChains::definition_steps))]
 pub(crate) fn push_definitions(
     table: &mut FilledRoom,
     names: &[u32],

@@ -4,18 +4,20 @@ ghost use Rattle.std.specs.List.{filter};
 ghost use Rattle.wild_types.specs.declared.file.File.{File};
 ghost use Rattle.wild_needs.specs.DynamicSymbols.{is_undefined_entry};
 ghost use Rattle.wild_needs.specs.Versions.{length_of, needs_of};
-ghost use Rattle.wild_versions.specs.Needs.{need_bytes};
-ghost use Rattle.wild_versions.specs.Room.{IsFull};
-ghost use Rattle.wild_versions.specs.Symbols.{spelled, version_bytes, version_of, listed_version, null_versions, entry_versions};
-ghost use Rattle.wild_versions.specs.Names.{symbol_versions, file_definitions, need_of, group_needs};
+ghost use Rattle.wild_table_formats.specs.VersionNeeds.{need_bytes};
+ghost use Rattle.wild_table_formats.specs.VersionRoom.{IsFull};
+ghost use Rattle.wild_table_formats.specs.SymbolVersions.{spelled, version_bytes, version_of, exported_version, null_versions, entry_versions};
+ghost use Rattle.wild_table_formats.specs.VersionNames.{symbol_versions, file_definitions, need_of, group_needs};
 
 use crate::definitions::push_definitions;
-use crate::names::{behind_entries, behind_text, definition_offsets, needed_offsets, told};
+use crate::names::{
+    definition_offsets, needed_offsets, offset_after_entry_names, offset_after_string, offset_u32,
+};
 use crate::needs::push_need;
 use crate::room::FilledRoom;
 use crate::symbols::{push_version, version_of};
 use std::alloc::{AllocError, Global};
-use wild_needs::{behind_file, definitions_size, is_undefined_entry, need_size, needs_of};
+use wild_needs::{definitions_size, is_undefined_entry, need_size, needs_of, next_dynstr};
 use wild_records::Versym;
 use wild_records::abi::version::VER_NDX_LOCAL;
 use wild_types::{DynamicSymbol, File, FileRole, Group, Layout, Symbol, VersionNeeds};
@@ -36,7 +38,7 @@ fn add_version(version: u16, filled: &mut FilledRoom) -> Result<(), AllocError>
 fn add_listed(symbols: &[DynamicSymbol], filled: &mut FilledRoom) -> Result<(), AllocError>
     requires { IsFull filled.old }
     ensures full { OnOk result (IsFull filled.new) }
-    ensures added { OnOk result (filled.new.bytes ≡ filled.old.bytes ++ version_bytes (map listed_version symbols.now)) }
+    ensures added { OnOk result (filled.new.bytes ≡ filled.old.bytes ++ version_bytes (map exported_version symbols.now)) }
 {
     for symbol in symbols {
         add_version(symbol.version, filled)?;
@@ -103,7 +105,7 @@ pub fn file_versions(alloc: Global, layout: &Layout, file: &File) -> Result<Vec<
 }
 
 /// The versions that the output defines. They belong to the last file, and only if the output has a `.dynsym`.
-#[tactic(auto, unfolding(crate::specs::Names::file_definitions), using(crate::proofs::NameLemmas::sizes))]
+#[tactic(auto, unfolding(wild_table_formats::specs::VersionNames::file_definitions), using(crate::proofs::NameLemmas::sizes))]
 pub fn file_definitions(alloc: Global, layout: &Layout, file: &File) -> Result<Vec<u8>, AllocError>
     requires few { length layout.now.verdefs < 2 ^ 16 }
     ensures { IfOk result (λ bytes. bytes.items ≡ file_definitions layout.now file.now) }
@@ -150,16 +152,16 @@ fn add_need(
     ensures added { OnOk result (filled.new.bytes ≡ filled.old.bytes ++ need_of layout.now at file.now) }
 {
     if let Some(needs) = needs_of(file) {
-        let at = behind_entries(layout, at, file);
+        let at = offset_after_entry_names(layout, at, file);
         let versions = needs.versions.as_slice();
-        let names = needed_offsets(alloc, behind_text(at, &file.lib_name), versions)?;
-        add_library(told(at), names.as_slice(), needs, filled)?;
+        let names = needed_offsets(alloc, offset_after_string(at, &file.lib_name), versions)?;
+        add_library(offset_u32(at), names.as_slice(), needs, filled)?;
     }
     Ok(())
 }
 
 /// The versions that are needed of a group's libraries; empty if the output has no `.dynsym`.
-#[tactic(auto, unfolding(crate::specs::Names::group_needs), using(crate::proofs::NameLemmas::need_steps))]
+#[tactic(auto, unfolding(wild_table_formats::specs::VersionNames::group_needs), using(crate::proofs::NameLemmas::need_steps))]
 pub fn group_needs(alloc: Global, layout: &Layout, group: &Group) -> Result<Vec<u8>, AllocError>
     requires few { All (λ (f : File). length_of (needs_of f) < 2 ^ 16) group.now.files }
     ensures { IfOk result (λ bytes. bytes.items ≡ group_needs layout.now group.now) }
@@ -169,7 +171,7 @@ pub fn group_needs(alloc: Global, layout: &Layout, group: &Group) -> Result<Vec<
         let mut at = group.dynstr_start;
         for file in group.files.as_slice() {
             add_need(alloc, layout, at, file, &mut filled)?;
-            at = behind_file(layout, at, file);
+            at = next_dynstr(layout, at, file);
         }
     }
     Ok(filled.into_bytes())

@@ -1,5 +1,5 @@
 //! What a reader finds in the tables of versions.
-ghost use Rattle.wild_versions.specs.Laws.{LengthsOfSymbolVersions, LengthsOfFileDefinitions, LengthsOfGroupNeeds, DefinitionsAreNamed, NeedsAreNamed, LengthsOfVersions, LengthsOfDefinitions, LengthsOfNeeds, VersionsAreBesideSymbols, VersionsAreRead, DefinitionsAreRead, NeedsAreRead};
+ghost use Rattle.wild_table_formats.specs.VersionLaws.{LengthsOfSymbolVersions, LengthsOfFileDefinitions, LengthsOfGroupNeeds, LengthsOfVersions, LengthsOfDefinitions, LengthsOfNeeds, VersionsAreRead, DefinitionsAreRead, NeedsAreRead};
 
 use wild_records::{
     verdaux_is_read, verdef_is_read, vernaux_is_read, verneed_is_read, versym_is_read,
@@ -9,7 +9,6 @@ use wild_records::{
 /// in `.dynsym`.
 pub fn symbol_versions_are_read()
     ensures lengths { LengthsOfVersions }
-    ensures beside { VersionsAreBesideSymbols }
     ensures read { VersionsAreRead }
 {
     versym_is_read();
@@ -40,11 +39,4 @@ pub fn version_tables_have_their_lengths()
     ensures symbols { LengthsOfSymbolVersions }
     ensures definitions { LengthsOfFileDefinitions }
     ensures needs { LengthsOfGroupNeeds }
-{}
-
-/// If the strings of a file are in `.dynstr` where the layout places them, the name offsets in the records of its
-/// versions point to the names.
-pub fn versions_are_named()
-    ensures definitions { DefinitionsAreNamed }
-    ensures needs { NeedsAreNamed }
 {}

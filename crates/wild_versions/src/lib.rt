@@ -15,7 +15,7 @@ mod writer;
 pub use files::{file_definitions, file_versions, group_needs};
 pub use laws::{
     definitions_are_read, needs_are_read, symbol_versions_are_read,
-    version_tables_have_their_lengths, versions_are_named,
+    version_tables_have_their_lengths,
 };
 pub use table::VersionTable;
 pub use writer::VersionWriter;

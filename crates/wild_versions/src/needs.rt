@@ -2,9 +2,9 @@
 ghost use Rattle.std.specs.Prelude.{◌≡◌, ℕ, ◌+◌, ◌*◌, ◌^◌, ◌<◌, ◌≤◌, length};
 ghost use Rattle.wild_words.specs.Record.{spell};
 ghost use Rattle.wild_records.specs.Verneeds.{verneed_size, vernaux_size, verneed_fields, vernaux_fields};
-ghost use Rattle.wild_versions.specs.Room.{with_bytes};
-ghost use Rattle.wild_versions.specs.Chain.{chain};
-ghost use Rattle.wild_versions.specs.Needs.{verneed_of, vernaux_of, needed_bytes, need_bytes};
+ghost use Rattle.wild_table_formats.specs.VersionRoom.{with_bytes};
+ghost use Rattle.wild_table_formats.specs.VersionChain.{chain};
+ghost use Rattle.wild_table_formats.specs.VersionNeeds.{verneed_of, vernaux_of, needed_bytes, need_bytes};
 ghost use Rattle.wild_needs.specs.Versions.{need_size};
 
 use crate::definitions::{name_at, next_of};
@@ -64,7 +64,7 @@ fn push_vernaux(table: &mut FilledRoom, entry: Vernaux)
 }
 
 /// Appends the records of the versions that are needed of a library.
-#[tactic(auto, using(crate::proofs::ChainLemmas::need_steps))]
+#[tactic(auto, using(wild_table_formats::proofs::VersionChains::need_steps))]
 fn push_versions(table: &mut FilledRoom, names: &[u32], versions: &[NeededVersion])
     requires room { length table.old.bytes + vernaux_size * length versions.now ≤ table.old.room }
     ensures { table.new ≡ with_bytes (chain (needed_bytes names.now) 0 versions.now) table.old }
@@ -76,7 +76,7 @@ fn push_versions(table: &mut FilledRoom, names: &[u32], versions: &[NeededVersio
 }
 
 /// Appends the record of a library and those of the versions that are needed of it.
-#[tactic(auto, using(crate::proofs::ChainLemmas::behind))]
+#[tactic(auto, using(wild_table_formats::proofs::VersionChains::behind))]
 pub(crate) fn push_need(table: &mut FilledRoom, file: u32, names: &[u32], needs: &VersionNeeds)
     requires few { length needs.now.versions < 2 ^ 16 }
     requires room { length table.old.bytes + need_size needs.now ≤ table.old.room }

@@ -1,6 +1,6 @@
 //! A buffer of fixed size that is filled from its front.
 ghost use Rattle.std.specs.Prelude.{◌≡◌, ◌+◌, ◌++◌, ◌^◌, ◌<◌, ◌≤◌, length, take, [], IfOk, OnOk};
-ghost use Rattle.wild_versions.specs.Room.{with_bytes, IsFull};
+ghost use Rattle.wild_table_formats.specs.VersionRoom.{with_bytes, IsFull};
 
 use std::alloc::{AllocError, Global};
 use std::marker::Model;
@@ -14,18 +14,18 @@ pub struct FilledRoom {
 }
 
 impl Model for FilledRoom {
-    ghost use Rattle.wild_versions.specs.Room.{Filled, filled_in, IsFilled};
+    ghost use Rattle.wild_table_formats.specs.VersionRoom.{BufferContent, buffer_content, FitsBuffer};
 
-    ghost Value = { Filled };
+    ghost Value = { BufferContent };
 
-    ghost view = { λ t. filled_in t.room.items t.used };
+    ghost view = { λ t. buffer_content t.room.items t.used };
 
-    ghost invariant = { λ t. IsFilled t.room.items t.used };
+    ghost invariant = { λ t. FitsBuffer t.room.items t.used };
 }
 
 /// Writes bytes at an offset, after those already written.
-#[tactic(auto, using(crate::proofs::ChainLemmas::front_of))]
-fn put_behind(out: &mut [u8], at: usize, bytes: &[u8])
+#[tactic(auto, using(wild_table_formats::proofs::VersionChains::front_of))]
+fn append_at(out: &mut [u8], at: usize, bytes: &[u8])
     requires { at + length bytes.now ≤ length out.old }
     ensures { take (at + length bytes.now) out.new ≡ take at out.old ++ bytes.now }
 {
@@ -58,7 +58,7 @@ impl FilledRoom {
         ensures added { self.new ≡ with_bytes bytes.now self.old }
         ensures used { length self.new.bytes ≡ length self.old.bytes + length bytes.now }
     {
-        put_behind(self.room.as_mut_slice(), self.used, bytes);
+        append_at(self.room.as_mut_slice(), self.used, bytes);
         self.used += bytes.len();
     }
 

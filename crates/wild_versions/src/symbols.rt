@@ -1,8 +1,8 @@
 //! The versions of dynamic symbols (LSB, "Symbol Version Table").
 ghost use Rattle.std.specs.Prelude.{◌≡◌, ◌+◌, ◌≤◌, length};
 ghost use Rattle.wild_records.specs.Versyms.{versym_size};
-ghost use Rattle.wild_versions.specs.Room.{with_bytes};
-ghost use Rattle.wild_versions.specs.Symbols.{spelled, version_of};
+ghost use Rattle.wild_table_formats.specs.VersionRoom.{with_bytes};
+ghost use Rattle.wild_table_formats.specs.SymbolVersions.{spelled, version_of};
 
 use crate::room::FilledRoom;
 use wild_records::Versym;

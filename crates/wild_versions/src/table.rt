@@ -1,6 +1,6 @@
 //! One table of versions: a buffer with the size of a group's share of a part.
 ghost use Rattle.std.specs.Prelude.{◌≡◌, ◌^◌, ◌<◌, length, take, IfOk};
-ghost use Rattle.wild_versions.specs.Table.{room_for, left_of, empty_table};
+ghost use Rattle.wild_versions.specs.Table.{room_for, table_full_or_fault, empty_table};
 
 use crate::room::FilledRoom;
 use std::alloc::{AllocError, Global};
@@ -55,7 +55,7 @@ impl VersionTable {
     ///
     /// `ExcessiveAllocation` exactly if unwritten bytes are left.
     pub(crate) fn check_exhausted(&self) -> Result<(), Error>
-        ensures { result ≡ left_of self.now }
+        ensures { result ≡ table_full_or_fault self.now }
     {
         let given = self.filled.room();
         let used = self.filled.used();

@@ -2,9 +2,9 @@
 ghost use Rattle.std.specs.Prelude.{◌≡◌, ◌∷◌, [], ◌^◌, ◌<◌, length, take, OnOk, OnErr, IfOk};
 ghost use Rattle.wild_records.specs.Versyms.{versym_size};
 ghost use Rattle.wild_versions.specs.Table.{room_for};
-ghost use Rattle.wild_versions.specs.Symbols.{version_of};
+ghost use Rattle.wild_table_formats.specs.SymbolVersions.{version_of};
 ghost use Rattle.wild_needs.specs.Versions.{definitions_size, need_size};
-ghost use Rattle.wild_versions.specs.Writer.{no_versions, with_versions, with_definitions, with_need, left_over};
+ghost use Rattle.wild_versions.specs.Writer.{no_versions, with_versions, with_definitions, with_need, tables_full_or_fault};
 
 use crate::definitions::push_definitions;
 use crate::needs::push_need;
@@ -44,7 +44,7 @@ impl VersionWriter {
     /// # Errors
     ///
     /// `InsufficientAllocation` exactly if it does not fit in the rest of its share; then nothing changes.
-    #[tactic(auto, using(crate::proofs::ChainLemmas::alone))]
+    #[tactic(auto, using(wild_table_formats::proofs::VersionChains::alone))]
     pub fn set_next_symbol_version(&mut self, version: u16) -> Result<(), Error>
         ensures answered { result ≡ room_for versym_size self.old.symbols }
         ensures written { OnOk result (self.new ≡ with_versions (version ∷ []) self.old) }
@@ -120,7 +120,7 @@ impl VersionWriter {
     ///
     /// `ExcessiveAllocation` for the first table with unwritten bytes, in the order of the roles of parts.
     pub fn check_exhausted(&self) -> Result<(), Error>
-        ensures { result ≡ left_over self.now }
+        ensures { result ≡ tables_full_or_fault self.now }
     {
         self.symbols.check_exhausted()?;
         self.definitions.check_exhausted()?;

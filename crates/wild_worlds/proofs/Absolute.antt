@@ -4,7 +4,7 @@ use Rattle.std.specs.Prelude.{◌||◌, not, slice_get, Some}
 use Rattle.wild_meaning.proofs.SymbolLemmas.{canonical_is}
 use Rattle.wild_types.specs.declared.symbol.Symbol.{Symbol}
 use Rattle.wild_types.specs.Flags.{has_flag, absolute, ifunc}
-use Rattle.wild_clauses.specs.SlotFlags.{resolver_moves}
+use Rattle.wild_plan_rules.specs.SlotFlags.{resolver_moves}
 use Rattle.wild_layout.specs.Geometry.{LayoutsAreLaidOut}
 use Rattle.wild_layout.proofs.FaultLemmas.{laid_out}
 use Rattle.wild_laws.proofs.Symbols.{one_symbol}

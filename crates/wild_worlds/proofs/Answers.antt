@@ -15,9 +15,9 @@ use Rattle.wild_layout.specs.Geometry.{IsLaidOut}
 use Rattle.wild_loader.specs.declared.world.Answer.{Answer}
 use Rattle.wild_loader.specs.declared.world.World.{World}
 use Rattle.wild_loader.specs.Changes.{answer_at}
-use Rattle.wild_meaning.specs.Value.{IsSymbol, IsDefinedBy, IsResolved, IsUnresolved, StandsAt, HasRaw, IsReplaceable, IsValue, HasAnswer, moved, may_be_replaced}
-use Rattle.wild_meaning.specs.World.{IsKnownModule, IsAnswer, IsOwnAnswer, HasCopy, HasRoomFor, AreBeside, AnswersSymbols, first_module}
-use Rattle.wild_worlds.specs.Worlds.{AreAnswered, AreAddresses, Others, AreNumbers, IsOthers, CopiesHaveRoom, IsTold, other_module}
+use Rattle.wild_meaning.specs.Value.{IsSymbol, IsDefinedBy, IsResolved, IsUnresolved, IsLocatedAt, HasRaw, IsReplaceable, IsValue, HasAnswer, with_base, may_be_replaced}
+use Rattle.wild_meaning.specs.World.{IsKnownModule, IsAnswer, IsOwnAnswer, HasCopy, HasRoomFor, DoNotOverlap, AnswersSymbols, first_module}
+use Rattle.wild_worlds.specs.Worlds.{AreAnswered, AreAddresses, OtherModule, AreNumbers, IsOtherAnswer, CopiesHaveRoom, IsConsistent, other_module}
 use Rattle.wild_laws.proofs.Symbols.{one_definition, one_symbol}
 
 -- ---- the answers
@@ -41,12 +41,12 @@ abbrev index_of : Option ℕ → ℕ
 index_of None = 0
 index_of (Some p) = p
 
-abbrev others_answer : Others → ℕ → Answer
+abbrev others_answer : OtherModule → ℕ → Answer
 others_answer o p = record { address = o.address p; «module» = other_module; offset = o.offset p; size = o.size p; bytes = [] }
 
 abbrev address_by : (indirect still : Bool) → (ℕ → ℕ) → ℕ → ℕ → ℕ
 address_by true still answers base raw = answers ((base + raw) % 2 ^ 64)
-address_by false still answers base raw = moved still base raw
+address_by false still answers base raw = with_base still base raw
 
 -- as many zeros as the size says, in case the symbol is copied
 abbrev own_answer : Layout → ℕ → (ℕ → ℕ) → Symbol → Resolution → Answer
@@ -62,20 +62,20 @@ abbrev one_of : Bool → Answer → Answer → Answer
 one_of true x y = x
 one_of false x y = y
 
-abbrev answer_by : Layout → ℕ → (ℕ → ℕ) → Others → Symbol → Option Resolution → Answer
+abbrev answer_by : Layout → ℕ → (ℕ → ℕ) → OtherModule → Symbol → Option Resolution → Answer
 answer_by l base answers o s None = null_answer
 answer_by l base answers o s (Some r) = one_of (may_be_replaced l.kind s.flags) (others_answer o (index_of r.dynamic_symbol_index)) (own_answer l base answers s r)
 
-abbrev answer_to : Layout → ℕ → (ℕ → ℕ) → Others → Option Symbol → Answer
+abbrev answer_to : Layout → ℕ → (ℕ → ℕ) → OtherModule → Option Symbol → Answer
 answer_to l base answers o None = null_answer
 answer_to l base answers o (Some s) = answer_by l base answers o s s.resolution
 
 -- one for each entry of the dynamic symbol table
-abbrev pub answers_of : Layout → ℕ → (ℕ → ℕ) → Others → List Answer
+abbrev pub answers_of : Layout → ℕ → (ℕ → ℕ) → OtherModule → List Answer
 answers_of l base answers o = null_answer ∷ map (λ (c : ℕ). answer_to l base answers o (slice_get l.symbols c)) (dynamic_symbols l)
 
 -- a world with these answers, with pairs of the resolvers and of two modules
-pub record HasAnswers (l : Layout) (w : World) (answers : ℕ → ℕ) (o : Others) : Type 0 where
+pub record HasAnswers (l : Layout) (w : World) (answers : ℕ → ℕ) (o : OtherModule) : Type 0 where
   pub symbols : w.symbols ≡ answers_of l w.base answers o
   pub own : w.own_module ≡ first_module
   pub near : IsKnownModule w first_module
@@ -84,7 +84,7 @@ pub record HasAnswers (l : Layout) (w : World) (answers : ℕ → ℕ) (o : Othe
 
 -- ---- what the world answers for a symbol
 
-answer_is : (l : Layout) (w : World) (answers : ℕ → ℕ) (o : Others) (i : ℕ) (x : Answer) → IsLaidOut l → HasAnswers l w answers o → (h : HasAnswer l w i x) → x ≡ answer_by l w.base answers o h.symbol (Some h.resolution)
+answer_is : (l : Layout) (w : World) (answers : ℕ → ℕ) (o : OtherModule) (i : ℕ) (x : Answer) → IsLaidOut l → HasAnswers l w answers o → (h : HasAnswer l w i x) → x ≡ answer_by l w.base answers o h.symbol (Some h.resolution)
 answer_is l w answers o i x laid has h =
     let e = laid.dynsyms.indexed h.definition h.index h.symbol h.resolution h.listed h.decided h.told in
     let f : ℕ → Answer = λ (c : ℕ). answer_to l w.base answers o (slice_get l.symbols c) in
@@ -95,17 +95,17 @@ answer_is l w answers o i x laid has h =
     same ∙ ap (λ (q : Option Symbol). answer_to l w.base answers o q) h.listed ∙ ap (λ (q : Option Resolution). answer_by l w.base answers o h.symbol q) h.decided
 
 -- whether it is another module's
-chosen : (l : Layout) (w : World) (answers : ℕ → ℕ) (o : Others) (i : ℕ) (x : Answer) (b : Bool) → IsLaidOut l → HasAnswers l w answers o → (h : HasAnswer l w i x) → IsReplaceable l i b
+chosen : (l : Layout) (w : World) (answers : ℕ → ℕ) (o : OtherModule) (i : ℕ) (x : Answer) (b : Bool) → IsLaidOut l → HasAnswers l w answers o → (h : HasAnswer l w i x) → IsReplaceable l i b
     → x ≡ one_of b (others_answer o (index_of h.resolution.dynamic_symbol_index)) (own_answer l w.base answers h.symbol h.resolution)
 chosen l w answers o i x b laid has h is =
     let same = one_symbol l i is.definition h.definition is.symbol h.symbol is.defined h.defined is.listed h.listed in
     let told : may_be_replaced l.kind h.symbol.flags ≡ b = subst (λ (s : Symbol). may_be_replaced l.kind s.flags ≡ b) same is.told in
     answer_is l w answers o i x laid has h ∙ ap (λ (c : Bool). one_of c (others_answer o (index_of h.resolution.dynamic_symbol_index)) (own_answer l w.base answers h.symbol h.resolution)) told
 
-pub others_found : (l : Layout) (w : World) (answers : ℕ → ℕ) (o : Others) (i : ℕ) (x : Answer) → IsLaidOut l → HasAnswers l w answers o → IsReplaceable l i true → (h : HasAnswer l w i x) → IsOthers o h.index x
+pub others_found : (l : Layout) (w : World) (answers : ℕ → ℕ) (o : OtherModule) (i : ℕ) (x : Answer) → IsLaidOut l → HasAnswers l w answers o → IsReplaceable l i true → (h : HasAnswer l w i x) → IsOtherAnswer o h.index x
 others_found l w answers o i x laid has is h =
     let e = chosen l w answers o i x true laid has h is ∙ ap (λ (q : Option ℕ). others_answer o (index_of q)) h.told in
-    subst (λ (y : Answer). IsOthers o h.index y) (sym e) (record { address = refl; owner = refl; offset = refl; size = refl })
+    subst (λ (y : Answer). IsOtherAnswer o h.index y) (sym e) (record { address = refl; owner = refl; offset = refl; size = refl })
 
 -- ---- the own answers
 
@@ -117,7 +117,7 @@ value_by w answers false still raw h = refl
 pub raw_is : (l : Layout) (i c raw : ℕ) (s : Symbol) (r : Resolution) → IsDefinedBy l i c → IsSymbol l c s → s.resolution ≡ Some r → HasRaw l i raw → raw ≡ r.raw_value
 raw_is l i c raw s r defined listed decided h = by_given l i c raw s r h.definition defined h.defined listed decided h.given
   where
-    by_given : (l : Layout) (i c raw : ℕ) (s : Symbol) (r : Resolution) (d : ℕ) → IsDefinedBy l i c → IsDefinedBy l i d → IsSymbol l c s → s.resolution ≡ Some r → IsResolved l d raw ⊎ (IsUnresolved l d × StandsAt l i raw) → raw ≡ r.raw_value
+    by_given : (l : Layout) (i c raw : ℕ) (s : Symbol) (r : Resolution) (d : ℕ) → IsDefinedBy l i c → IsDefinedBy l i d → IsSymbol l c s → s.resolution ≡ Some r → IsResolved l d raw ⊎ (IsUnresolved l d × IsLocatedAt l i raw) → raw ≡ r.raw_value
     by_given l i c raw s r d defined other listed decided (inl h) =
         let same = one_symbol l i c d s h.symbol defined other listed h.listed in
         let both : Some r ≡ Some h.resolution = sym decided ∙ ap (λ (t : Symbol). t.resolution) same ∙ h.decided in
@@ -128,7 +128,7 @@ raw_is l i c raw s r defined listed decided h = by_given l i c raw s r h.definit
         let both : Some r ≡ None = sym decided ∙ h.0 s there in
         cc
 
-own_given : (l : Layout) (w : World) (answers : ℕ → ℕ) (o : Others) (i c : ℕ) (s : Symbol) (r : Resolution) → HasAnswers l w answers o → IsDefinedBy l i c → IsSymbol l c s → s.resolution ≡ Some r → IsOwnAnswer l w i (own_answer l w.base answers s r)
+own_given : (l : Layout) (w : World) (answers : ℕ → ℕ) (o : OtherModule) (i c : ℕ) (s : Symbol) (r : Resolution) → HasAnswers l w answers o → IsDefinedBy l i c → IsSymbol l c s → s.resolution ≡ Some r → IsOwnAnswer l w i (own_answer l w.base answers s r)
 own_given l w answers o i c s r has defined listed decided = record {
   address = record {
     raw = r.raw_value;
@@ -144,30 +144,30 @@ own_given l w answers o i c s r has defined listed decided = record {
   size = record { definition = c; defined = defined; symbol = s; listed = listed; size = refl };
 }
 
-owned : (l : Layout) (w : World) (answers : ℕ → ℕ) (o : Others) (i : ℕ) (x : Answer) → IsLaidOut l → HasAnswers l w answers o → IsReplaceable l i false → HasAnswer l w i x → IsOwnAnswer l w i x
+owned : (l : Layout) (w : World) (answers : ℕ → ℕ) (o : OtherModule) (i : ℕ) (x : Answer) → IsLaidOut l → HasAnswers l w answers o → IsReplaceable l i false → HasAnswer l w i x → IsOwnAnswer l w i x
 owned l w answers o i x laid has is h = subst (λ (y : Answer). IsOwnAnswer l w i y) (sym (chosen l w answers o i x false laid has h is)) (own_given l w answers o i h.definition h.symbol h.resolution has h.defined h.listed h.decided)
 
 -- ---- copies
 
 -- an own answer has as many bytes as its size says
-whole : (l : Layout) (w : World) (answers : ℕ → ℕ) (o : Others) (i : ℕ) (x : Answer) → IsLaidOut l → HasAnswers l w answers o → IsReplaceable l i false → HasAnswer l w i x → length x.bytes ≡ x.size
+whole : (l : Layout) (w : World) (answers : ℕ → ℕ) (o : OtherModule) (i : ℕ) (x : Answer) → IsLaidOut l → HasAnswers l w answers o → IsReplaceable l i false → HasAnswer l w i x → length x.bytes ≡ x.size
 whole l w answers o i x laid has is h = subst (λ (y : Answer). length y.bytes ≡ y.size) (sym (chosen l w answers o i x false laid has h is)) (length-zeros h.symbol.size)
 
-copied : (l : Layout) (w : World) (answers : ℕ → ℕ) (o : Others) (i raw : ℕ) (x : Answer) → IsLaidOut l → CopiesHaveRoom l → HasAnswers l w answers o → HasCopy l w i raw x → HasRoomFor l raw x
+copied : (l : Layout) (w : World) (answers : ℕ → ℕ) (o : OtherModule) (i raw : ℕ) (x : Answer) → IsLaidOut l → CopiesHaveRoom l → HasAnswers l w answers o → HasCopy l w i raw x → HasRoomFor l raw x
 copied l w answers o i raw x laid room has h =
     let own = room.own i h.copied in
     let long = whole l w answers o i x laid has own h.answer in
     record { whole = long; behind = λ k lt. room.behind i raw x.size k h.copied h.given (owned l w answers o i x laid has own h.answer).size (omega (arith, long, lt)) }
 
-copies_apart : (l : Layout) (w : World) (answers : ℕ → ℕ) (o : Others) (i j c d raw other : ℕ) (x y : Answer) → IsLaidOut l → CopiesHaveRoom l → HasAnswers l w answers o → IsDefinedBy l i c → IsDefinedBy l j d → (c ≡ d → ⊥)
-    → HasCopy l w i raw x → HasCopy l w j other y → AreBeside raw (length x.bytes) other (length y.bytes)
+copies_apart : (l : Layout) (w : World) (answers : ℕ → ℕ) (o : OtherModule) (i j c d raw other : ℕ) (x y : Answer) → IsLaidOut l → CopiesHaveRoom l → HasAnswers l w answers o → IsDefinedBy l i c → IsDefinedBy l j d → (c ≡ d → ⊥)
+    → HasCopy l w i raw x → HasCopy l w j other y → DoNotOverlap raw (length x.bytes) other (length y.bytes)
 copies_apart l w answers o i j c d raw other x y laid room has first second differ h g =
     let own = room.own i h.copied in
     let owns = room.own j g.copied in
     let a = sym (whole l w answers o i x laid has own h.answer) in
     let b = sym (whole l w answers o j y laid has owns g.answer) in
     let apart = room.apart i j c d raw other x.size y.size h.copied g.copied first second differ h.given g.given (owned l w answers o i x laid has own h.answer).size (owned l w answers o j y laid has owns g.answer).size in
-    subst (λ (m : ℕ). AreBeside raw (length x.bytes) other m) b (subst (λ (n : ℕ). AreBeside raw n other y.size) a apart)
+    subst (λ (m : ℕ). DoNotOverlap raw (length x.bytes) other m) b (subst (λ (n : ℕ). DoNotOverlap raw n other y.size) a apart)
 
 -- ---- numbers
 
@@ -184,7 +184,7 @@ address_small false false answers base raw small low = omega arith
 null_fits : (w : World) → IsKnownModule w first_module → IsAnswer w null_answer
 null_fits w near = record { address = omega arith; offset = omega arith; size = omega arith; bytes = All-nil (λ (b : ℕ). b < 256); owner = omega arith; known = near }
 
-others_fit : (w : World) (o : Others) (p : ℕ) → AreNumbers o → IsKnownModule w other_module → IsAnswer w (others_answer o p)
+others_fit : (w : World) (o : OtherModule) (p : ℕ) → AreNumbers o → IsKnownModule w other_module → IsAnswer w (others_answer o p)
 others_fit w o p numbers far = record { address = numbers.address p; offset = numbers.offset p; size = numbers.size p; bytes = All-nil (λ (b : ℕ). b < 256); owner = omega arith; known = far }
 
 own_fits : (l : Layout) (w : World) (answers : ℕ → ℕ) (s : Symbol) (r : Resolution) → AreAddresses answers → IsSmall s → s.resolution ≡ Some r → IsKnownModule w first_module → IsAnswer w (own_answer l w.base answers s r)
@@ -197,7 +197,7 @@ own_fits l w answers s r small is decided near = record {
   known = near;
 }
 
-answer_fits : (l : Layout) (w : World) (answers : ℕ → ℕ) (o : Others) (q : Option Symbol) → AreAddresses answers → AreNumbers o → HasAnswers l w answers o → ((s : Symbol) → q ≡ Some s → IsSmall s) → IsAnswer w (answer_to l w.base answers o q)
+answer_fits : (l : Layout) (w : World) (answers : ℕ → ℕ) (o : OtherModule) (q : Option Symbol) → AreAddresses answers → AreNumbers o → HasAnswers l w answers o → ((s : Symbol) → q ≡ Some s → IsSmall s) → IsAnswer w (answer_to l w.base answers o q)
 answer_fits l w answers o None small numbers has each = null_fits w has.near
 answer_fits l w answers o (Some s) small numbers has each = by_resolution l w answers o s s.resolution refl small numbers has (each s refl)
   where
@@ -205,7 +205,7 @@ answer_fits l w answers o (Some s) small numbers has each = by_resolution l w an
     by_choice w true x y h g = h
     by_choice w false x y h g = g
 
-    by_resolution : (l : Layout) (w : World) (answers : ℕ → ℕ) (o : Others) (s : Symbol) (q : Option Resolution) → s.resolution ≡ q → AreAddresses answers → AreNumbers o → HasAnswers l w answers o → IsSmall s → IsAnswer w (answer_by l w.base answers o s q)
+    by_resolution : (l : Layout) (w : World) (answers : ℕ → ℕ) (o : OtherModule) (s : Symbol) (q : Option Resolution) → s.resolution ≡ q → AreAddresses answers → AreNumbers o → HasAnswers l w answers o → IsSmall s → IsAnswer w (answer_by l w.base answers o s q)
     by_resolution l w answers o s None e small numbers has is = null_fits w has.near
     by_resolution l w answers o s (Some r) e small numbers has is =
         by_choice w (may_be_replaced l.kind s.flags) (others_answer o (index_of r.dynamic_symbol_index)) (own_answer l w.base answers s r)
@@ -217,7 +217,7 @@ each_fits P f (x ∷ xs) h = All-cons P (f x) (map f xs) (h x) (each_fits P f xs
 
 -- ---- the whole
 
-index_within : (l : Layout) (w : World) (answers : ℕ → ℕ) (o : Others) (c p : ℕ) (s : Symbol) (r : Resolution) → IsLaidOut l → HasAnswers l w answers o → IsSymbol l c s → s.resolution ≡ Some r → r.dynamic_symbol_index ≡ Some p → p < length w.symbols
+index_within : (l : Layout) (w : World) (answers : ℕ → ℕ) (o : OtherModule) (c p : ℕ) (s : Symbol) (r : Resolution) → IsLaidOut l → HasAnswers l w answers o → IsSymbol l c s → s.resolution ≡ Some r → r.dynamic_symbol_index ≡ Some p → p < length w.symbols
 index_within l w answers o c p s r laid has there decided told =
     let e = laid.dynsyms.indexed c p s r there decided told in
     let low = slice_get_within (dynamic_symbols l) e.0 c e.2 in
@@ -227,7 +227,7 @@ index_within l w answers o c p s r laid has there decided told =
     let inside : p < length (answers_of l w.base answers o) = omega (arith, low, is, long) in
     subst (λ (xs : List Answer). p < length xs) (sym has.symbols) inside
 
-pub answers_symbols : (l : Layout) (w : World) (answers : ℕ → ℕ) (o : Others) → IsLaidOut l → IsTold l → AreAddresses answers → AreNumbers o → HasAnswers l w answers o → AnswersSymbols l w
+pub answers_symbols : (l : Layout) (w : World) (answers : ℕ → ℕ) (o : OtherModule) → IsLaidOut l → IsConsistent l → AreAddresses answers → AreNumbers o → HasAnswers l w answers o → AnswersSymbols l w
 answers_symbols l w answers o laid told small numbers has = record {
   owner = subst (λ (n : ℕ). n < 2 ^ 64) (sym has.own) (omega arith);
   known = subst (λ (n : ℕ). IsKnownModule w n) (sym has.own) has.near;

@@ -34,16 +34,16 @@ use Rattle.wild_types.specs.Flags.{has_flag, absolute, ifunc}
 use Rattle.wild_types.specs.Item.{Item, item_with}
 use Rattle.wild_types.specs.ResolvedFlags.{HasItsFlags, HaveTheirFlags}
 use Rattle.wild_needs.specs.Dynamic.{dynamic_entries}
-use Rattle.wild_headers.specs.Headers.{entry_address}
+use Rattle.wild_table_formats.specs.Headers.{entry_address}
 use Rattle.wild_loader.specs.declared.memory.Memory.{Memory}
 use Rattle.wild_loader.specs.declared.world.World.{World}
 use Rattle.wild_loader.specs.Memory.{number_in}
-use Rattle.wild_loader.proofs.Held.{number-held}
+use Rattle.wild_loader.proofs.HeldBytes.{number-held}
 use Rattle.wild_layout.specs.Faults.{errors}
 use Rattle.wild_layout.specs.Image.{bytes}
 use Rattle.wild_layout.specs.Geometry.{LayoutsAreLaidOut}
 use Rattle.wild_layout.specs.Numbers.{NumbersFit, AddendFits, InputNumbers, InputsFit, SegmentNumbers, SectionNumbers, ResolutionNumbers, SymbolNumbers}
-use Rattle.wild_meaning.specs.Section.{IsSet, IsHollow}
+use Rattle.wild_meaning.specs.Section.{IsSet, IsHeaderOnly}
 use Rattle.wild_meaning.specs.World.{IsCopied}
 use Rattle.wild_meaning.specs.Value.{IsAbsolute, HasFlag, HasRaw, IsReplaceable}
 use Rattle.wild_meaning.specs.Denotes.{HasStub, Denotes}
@@ -52,21 +52,21 @@ use Rattle.wild_meaning.specs.Formula.{TakesString, Gives}
 use Rattle.wild_meaning.specs.Frames.{IsFrameInput}
 use Rattle.wild_meaning.specs.Sequence.{Instruction}
 use Rattle.wild_meaning.specs.Template.{IsTemplate}
-use Rattle.wild_meaning.specs.Item.{IsInput, IsKept, IsKeptSection, IsReference, OfSection, OfFrames, stood_item, place_at}
-use Rattle.wild_meaning.specs.Reference.{ReferenceHolds, IsExcepted, IsLinkedAlone, IsFilled, TakesEntry, IsSlotValue, NamesSlot, TakesStub, IsByStub, GoesAside, IsLeftOut}
-use Rattle.wild_meaning.specs.Linked.{IsLinked}
-use Rattle.wild_meaning.specs.Worked.{Refuses}
-use Rattle.wild_meaning.specs.Refusals.{HasWrongNumber}
+use Rattle.wild_meaning.specs.Item.{IsInput, IsKept, IsKeptSection, IsReference, OfSection, OfFrames, placed_item, place_at}
+use Rattle.wild_meaning.specs.Reference.{ReferenceHolds, IsCheckedAtZeroOnly, UsesOwnSymbolOnly, IsFilled, TakesEntry, IsSlotValue, NamesSlot, TakesStub, UsesStubAddress, UsesStubOrThunk, IsOmitted}
+use Rattle.wild_meaning.specs.LinkedImage.{IsLinked}
+use Rattle.wild_meaning.specs.Worked.Builders.{Refuses}
+use Rattle.wild_meaning.specs.Worked.Refusals.{HasWrongNumber}
 use Rattle.wild_meaning.proofs.StringLemmas.{nothing_named}
 use Rattle.wild_meaning.proofs.SymbolLemmas.{referent_stands}
 use Rattle.wild_laws.specs.Laws.{ImagesAreSound}
 use Rattle.wild_laws.proofs.Symbols.{not_both, one_symbol, own_value, moved_value}
-use Rattle.wild_made.specs.Made.{section_with}
-use Rattle.wild_worlds.specs.Worlds.{IsRoomy, Others, AreNumbers, IsTold, HasWorld}
+use Rattle.wild_sample_layouts.specs.PlanOfGroups.{section_with}
+use Rattle.wild_worlds.specs.Worlds.{HasRoomAbove, OtherModule, AreNumbers, IsConsistent, HasWorld}
 use Rattle.wild_worlds.specs.DebugFile.{function, note_distance, note_address, note_bytes, note, code_call, code, note_part, code_part, note_section, code_section, debug_sections, debug_segments, debug_object, debug_files, debug_group, debug_file}
-use Rattle.wild_worlds.specs.Joined.{HasNote, HasHollow, IsJoinedForDebuggers, IsMetForDebuggers}
+use Rattle.wild_worlds.specs.Joined.{HasNote, HasOmittedSection, IsJoinedForDebuggers, IsMetForDebuggers}
 use Rattle.wild_worlds.proofs.Answers.{raw_is}
-use Rattle.wild_made.proofs.OnLiterals.{errors_on_literals}
+use Rattle.wild_sample_layouts.proofs.OnLiterals.{errors_on_literals}
 use Rattle.wild_worlds.proofs.Premises.{few_alone}
 use Rattle.wild_worlds.proofs.Worlds.{worlds_there}
 
@@ -198,7 +198,7 @@ no_library i h =
     epilogue : file_role.Epilogue ≡ file_role.Dynamic → ⊥
     epilogue d = cc
 
-told : IsTold debug_file
+told : IsConsistent debug_file
 unfolding debug_file
 told = record {
   faultless = faultless;
@@ -212,14 +212,14 @@ told = record {
 }
 
 -- no symbol is another module's
-others : Others
+others : OtherModule
 others = record { address = λ i. 0; offset = λ i. 0; size = λ i. 0; distance = pos 0; own = pos 0 }
 
 numbers_of : AreNumbers others
 unfolding others
 numbers_of = record { address = λ i. omega arith; offset = λ i. omega arith; size = λ i. omega arith; distance = omega arith; own = omega arith }
 
-roomy : IsRoomy debug_file 0x10000
+roomy : HasRoomAbove debug_file 0x10000
 unfolding debug_file
 roomy = record { aligned = refl; ends = All-from_recursion (λ (g : Segment). 0x10000 + g.address + g.mem_size ≤ 2 ^ 64) debug_segments (omega arith, (omega arith, tt)) }
 
@@ -270,7 +270,7 @@ own_address w m a (inr h) = absurd (no_stub h.stub h.given)
 abbrev note_item : Item
 note_item = item_with 0 note
 
-not_hollow : (p : Part) → slice_get debug_file.parts note.part ≡ Some p → IsHollow debug_file p → ⊥
+not_hollow : (p : Part) → slice_get debug_file.parts note.part ≡ Some p → IsHeaderOnly debug_file p → ⊥
 unfolding debug_file
 not_hollow p at h =
     let one : note_part ≡ p = some_is _ p at in
@@ -307,10 +307,10 @@ named_is i h = cc
 not_still : (i : ℕ) → Some 0 ≡ Some i → IsAbsolute debug_file i → ⊥
 not_still i named h = not_both debug_file 0 absolute (subst (λ (k : ℕ). IsAbsolute debug_file k) (named_is i named) h) moves
 
-ordinary : IsExcepted debug_file note_item note_distance → ⊥
+ordinary : IsCheckedAtZeroOnly debug_file note_item note_distance → ⊥
 ordinary x = not_still x.symbol x.named x.absolute
 
-followed : IsLinkedAlone debug_file note_item note_distance → ⊥
+followed : UsesOwnSymbolOnly debug_file note_item note_distance → ⊥
 followed x = few_alone.own debug_file note_item note_distance 0 refl own x
 
 -- the distance goes by no entry, no slot, no stub and no thunk
@@ -333,23 +333,23 @@ no_slot : NamesSlot debug_file note_item note_distance → ⊥
 no_slot (inl h) = subst (λ (f : Formula). IsSlotValue f.value) (distance_is h.formula h.known) h.slot
 no_slot (inr h) = no_code h.of.sequence.stands.code
 
-not_aside : GoesAside debug_file note_item note_distance → ⊥
+not_aside : UsesStubOrThunk debug_file note_item note_distance → ⊥
 unfolding debug_file
 not_aside (inl h) = by h.symbol h.formula (named_is h.symbol h.named) (distance_is h.formula h.known) h.stub
   where
-    by : (i : ℕ) (f : Formula) → i ≡ 0 → f ≡ formula Distance (Plain 32 Signed) → IsByStub debug_file note_item note_distance i f.value → ⊥
+    by : (i : ℕ) (f : Formula) → i ≡ 0 → f ≡ formula Distance (Plain 32 Signed) → UsesStubAddress debug_file note_item note_distance i f.value → ⊥
     by i f e is (inl h) = no_stub h.1.stub (subst (λ (k : ℕ). HasStub debug_file k h.1.stub) e h.1.there)
     by i f e is (inr h) = subst (λ (g : Formula). TakesStub g.value) is h.0
 not_aside (inr (inl h)) = let no : machine.X86_64 ≡ machine.AArch64 = h.on in cc
 not_aside (inr (inr h)) = let no : machine.X86_64 ≡ machine.AArch64 = h.on in cc
 
-there : IsLeftOut debug_file note_item note_distance → ⊥
+there : IsOmitted debug_file note_item note_distance → ⊥
 there (bare, inl h) = no_entry h
 there (bare, inr (inl h)) = no_slot h
 there (bare, inr (inr h)) = not_aside h
 
 -- the address takes an entry
-left : IsLeftOut debug_file note_item note_address
+left : IsOmitted debug_file note_item note_address
 unfolding debug_file
 left = (refl, inl (record { formula = formula SymbolAddress Full; known = address_formula; filled = inr (inl (tt, refl, refl, λ n. not_still n.symbol n.named n.absolute)) }))
 
@@ -422,7 +422,7 @@ reads w m at h =
 
 -- ---- the code
 
-code_hollow : IsHollow debug_file code_part
+code_hollow : IsHeaderOnly debug_file code_part
 unfolding debug_file
 code_hollow = record { bare = refl; named = λ e. (let no : 5 ≡ 0 = e in omega (arith, no)); section = code_section; found = refl; room = refl; other = λ e. (let no : 1 ≡ 7 = e in omega (arith, no)) }
 
@@ -470,12 +470,12 @@ unasked : (item : Item) → IsKept debug_file item → IsReference item code_cal
 unfolding debug_file
 unasked item (OfSection s k e) r = by s k.input.file e k.written (input_is s k.input)
   where
-    by : (s : InputSection) (f : File) → item ≡ stood_item debug_file f s → ((p : Part) → slice_get debug_file.parts s.part ≡ Some p → IsHollow debug_file p → ⊥) → IsOne s → ⊥
-    by s f e written (inl h) = not_of_note (subst (λ (i : Item). Contains i.relocations code_call) (e ∙ ap (λ (x : InputSection). stood_item debug_file f x) h) r.listed)
-    by s f e written (inr h) = subst (λ (x : InputSection). (p : Part) → slice_get debug_file.parts x.part ≡ Some p → IsHollow debug_file p → ⊥) h written code_part refl code_hollow
+    by : (s : InputSection) (f : File) → item ≡ placed_item debug_file f s → ((p : Part) → slice_get debug_file.parts s.part ≡ Some p → IsHeaderOnly debug_file p → ⊥) → IsOne s → ⊥
+    by s f e written (inl h) = not_of_note (subst (λ (i : Item). Contains i.relocations code_call) (e ∙ ap (λ (x : InputSection). placed_item debug_file f x) h) r.listed)
+    by s f e written (inr h) = subst (λ (x : InputSection). (p : Part) → slice_get debug_file.parts x.part ≡ Some p → IsHeaderOnly debug_file p → ⊥) h written code_part refl code_hollow
 unasked item (OfFrames s k e) r = no_frame s k.frame (frame_is s k)
 
-hollow_there : HasHollow debug_file
+hollow_there : HasOmittedSection debug_file
 unfolding debug_file
 hollow_there = record {
   section = code;
@@ -485,7 +485,7 @@ hollow_there = record {
   has_data = refl;
   part = code_part;
   listed = refl;
-  hollow = code_hollow;
+  header_only = code_hollow;
   reference = code_call;
   has = (0, omega arith, refl);
   refers = λ e. (let no : 2 ≡ 0 = e in omega (arith, no));
@@ -524,7 +524,7 @@ joined laws sound =
       number = 74;
       reads = reads w.world linked.memory w.at (has_distance w.world linked.memory holds);
       refused = refused w.world w.at;
-      hollow = hollow_there;
+      header_only = hollow_there;
     }
 
 pub debuggers_joined : LayoutsAreLaidOut → ImagesAreSound → IsMetForDebuggers machine.X86_64 (output.StaticExecutable model.Relocatable)

@@ -3,8 +3,8 @@ mod Premises
 mod OneSlot
 mod Worked
 mod Resolvers
-mod Indirect
+mod AnsweredValues
 mod Answers
 mod Worlds
 mod DebugFile
-mod Joined
+mod JointPremises

@@ -4,17 +4,17 @@ use Rattle.wild_types.specs.declared.symbol.Resolution.{Resolution}
 use Rattle.wild_types.specs.declared.symbol.Symbol.{Symbol}
 use Rattle.wild_types.specs.declared.layout.Layout.{Layout}
 use Rattle.wild_reloc.specs.Formula.{Slot, AddressSlot, ModulePair, OwnModulePair, ThreadOffset, Descriptor}
-use Rattle.wild_meaning.specs.Slot.{behind_first, IsDecidedSlot, HasSlot}
+use Rattle.wild_meaning.specs.Slot.{offset_from_first, HasSlotAddress, HasSlot}
 use Rattle.wild_meaning.specs.Value.{IsReplaceable}
 use Rattle.wild_laws.proofs.Symbols.{one_symbol, not_replaceable}
 use Rattle.wild_worlds.specs.Symbols.{SlotsAreOne, SizesAreWhole}
 
-decided_one : (sort : Slot) (l : Layout) (i p q : ℕ) → IsDecidedSlot sort l i p → IsDecidedSlot sort l i q → p ≡ q
+decided_one : (sort : Slot) (l : Layout) (i p q : ℕ) → HasSlotAddress sort l i p → HasSlotAddress sort l i q → p ≡ q
 decided_one sort l i p q a b =
     let same : a.symbol ≡ b.symbol = one_symbol l i a.definition b.definition a.symbol b.symbol a.defined b.defined a.listed b.listed in
     let resolution : a.resolution ≡ b.resolution = (let e : Some a.resolution ≡ Some b.resolution = sym a.decided ∙ (ap (λ (s : Symbol). s.resolution) same ∙ b.decided) in cc) in
     let first : a.first ≡ b.first = (let e : Some a.first ≡ Some b.first = sym a.given ∙ (ap (λ (r : Resolution). r.got_address) resolution ∙ b.given) in cc) in
-    a.place ∙ ap (λ (n : ℕ). n + behind_first sort a.symbol.flags) first ∙ ap (λ (s : Symbol). b.first + behind_first sort s.flags) same ∙ sym b.place
+    a.place ∙ ap (λ (n : ℕ). n + offset_from_first sort a.symbol.flags) first ∙ ap (λ (s : Symbol). b.first + offset_from_first sort s.flags) same ∙ sym b.place
 
 place_one : (sort : Slot) (l : Layout) (i p q : ℕ) → HasSlot sort l i p → HasSlot sort l i q → p ≡ q
 place_one AddressSlot l i p q a b = decided_one AddressSlot l i p q a b

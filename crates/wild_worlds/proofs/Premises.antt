@@ -28,13 +28,13 @@ use Rattle.wild_meaning.specs.Formula.{IsPlaceRelative, TakesAddress, TakesOffse
 use Rattle.wild_meaning.specs.Section.{IsSet}
 use Rattle.wild_meaning.specs.Sequence.{Sort, TargetInSlot, Address, Partner, Instruction, instructions_of}
 use Rattle.wild_meaning.specs.Template.{IsTemplate}
-use Rattle.wild_meaning.specs.Reference.{HasPlace, CountsFromPlace, GoesByPlace, IsExcepted, IsAsked, IsLeftToLoader, IsStubbed, TakesItself, IsLinkedAlone}
+use Rattle.wild_meaning.specs.Reference.{HasPlace, CountsFromPlace, HasRelativeInstruction, IsCheckedAtZeroOnly, MustHold, IsFilledByLoader, HasStubAddress, UsesOwnDefinition, UsesOwnSymbolOnly}
 use Rattle.wild_meaning.proofs.BitLemmas.{bit_alloc, thread_local_bit}
 use Rattle.wild_meaning.proofs.PairLemmas.{are_several, as_double, counts_by_slot}
 use Rattle.wild_meaning.proofs.OneReference.{has}
 use Rattle.wild_meaning.proofs.InstructionsAArch64.{numbers_in, numbered}
 use Rattle.wild_worlds.specs.Worlds.{KindsAreLoaded}
-use Rattle.wild_worlds.specs.References.{SectionsAreKept, RelocationsRefer, ReferencesAreAsked, SlotsAreAsked, FewAreLinkedAlone, BlanksAreAsked, ResolversAreNotAbsolute}
+use Rattle.wild_worlds.specs.References.{SectionsAreKept, RelocationsRefer, ReferencesAreChecked, SlotsAreChecked, FewUseOwnSymbolOnly, ZerosAreChecked, ResolversAreNotAbsolute}
 use Rattle.wild_worlds.specs.Symbols.{AddressesMove}
 use Rattle.wild_laws.proofs.FirstPath.{kept}
 use Rattle.wild_laws.proofs.Symbols.{not_both, not_replaceable, own_value, moved_value}
@@ -67,20 +67,20 @@ pub relocations_refer : RelocationsRefer
 relocations_refer = λ item r c n. record { listed = c; refers = n }
 
 -- the symbol of an excepted reference is absolute
-named_absolute : (l : Layout) (item : Item) (r : InputRelocation) (i : ℕ) → r.symbol ≡ Some i → IsExcepted l item r → IsAbsolute l i
+named_absolute : (l : Layout) (item : Item) (r : InputRelocation) (i : ℕ) → r.symbol ≡ Some i → IsCheckedAtZeroOnly l item r → IsAbsolute l i
 named_absolute l item r i n e = subst (λ (j : ℕ). IsAbsolute l j) (let both : Some e.symbol ≡ Some i = sym e.named ∙ n in let same : e.symbol ≡ i = cc in same) e.absolute
 
-neither : (l : Layout) (item : Item) (r : InputRelocation) → (HasPlace l r → ⊥) → (GoesByPlace l item r → ⊥) → HasPlace l r ⊎ GoesByPlace l item r → ⊥
+neither : (l : Layout) (item : Item) (r : InputRelocation) → (HasPlace l r → ⊥) → (HasRelativeInstruction l item r → ⊥) → HasPlace l r ⊎ HasRelativeInstruction l item r → ⊥
 neither l item r p s (inl h) = p h
 neither l item r p s (inr h) = s h
 
-pub fixed_asked : (l : Layout) (w : World) (item : Item) (r : InputRelocation) → IsFixed l.kind → IsAsked l w item r
+pub fixed_asked : (l : Layout) (w : World) (item : Item) (r : InputRelocation) → IsFixed l.kind → MustHold l w item r
 fixed_asked l w item r f = λ e. absurd (apart_kinds l.kind f e.movable)
 
-placeless_asked : (l : Layout) (w : World) (item : Item) (r : InputRelocation) → (HasPlace l r → ⊥) → (GoesByPlace l item r → ⊥) → IsAsked l w item r
+placeless_asked : (l : Layout) (w : World) (item : Item) (r : InputRelocation) → (HasPlace l r → ⊥) → (HasRelativeInstruction l item r → ⊥) → MustHold l w item r
 placeless_asked l w item r p s = λ e. absurd (neither l item r p s e.relative)
 
-pub references_asked : ResolversAreNotAbsolute → ReferencesAreAsked
+pub references_asked : ResolversAreNotAbsolute → ReferencesAreChecked
 references_asked law = record {
   zero = λ l w item r z e. z;
   fixed = fixed_asked;
@@ -128,7 +128,7 @@ slot_numbers n h =
     other false b h f = h
 
 -- such an instruction of a reference
-slot_number : (l : Layout) (item : Item) (r : InputRelocation) → l.machine ≡ machine.X86_64 → GoesByPlace l item r → Contains (r_x86_64_gotpcrel ∷ r_x86_64_gotpcrelx ∷ []) r.number
+slot_number : (l : Layout) (item : Item) (r : InputRelocation) → l.machine ≡ machine.X86_64 → HasRelativeInstruction l item r → Contains (r_x86_64_gotpcrel ∷ r_x86_64_gotpcrelx ∷ []) r.number
 slot_number l item r x h = by_template l item r h.start h.instruction h.first x h.counts h.template
   where
     parts : (l : Layout) (o : Instruction) → l.machine ≡ machine.X86_64 → Contains (instructions_of l.machine) o → o.sort ≡ TargetInSlot → (not (are_several o.partners) ≡ true) × (list_all is_slot_number o.numbers ≡ true)
@@ -184,7 +184,7 @@ has_passes t n (x ∷ xs) all h =
     ]
 
 -- such an instruction of a reference
-address_number : (l : Layout) (item : Item) (r : InputRelocation) → l.machine ≡ machine.AArch64 → GoesByPlace l item r → Contains (r_aarch64_adr_prel_pg_hi21 ∷ r_aarch64_add_abs_lo12_nc ∷ []) r.number
+address_number : (l : Layout) (item : Item) (r : InputRelocation) → l.machine ≡ machine.AArch64 → HasRelativeInstruction l item r → Contains (r_aarch64_adr_prel_pg_hi21 ∷ r_aarch64_add_abs_lo12_nc ∷ []) r.number
 address_number l item r x h = by_template h.start h.instruction h.first h.counts h.template
   where
     parts : (o : Instruction) → Contains (instructions_of l.machine) o → CountsFromPlace o.sort → (list_all is_address_number o.numbers ≡ true) × (list_all is_address_number (numbers_in o) ≡ true)
@@ -200,7 +200,7 @@ template_code : (l : Layout) (item : Item) (r : InputRelocation) (start : ℕ) (
 template_code l item r start o one (inl t) = t.0.stands.code
 template_code l item r start o one (inr t) = t.sequence.stands.code
 
-pub slots_asked : SlotsAreAsked
+pub slots_asked : SlotsAreChecked
 slots_asked = record {
   numbers = λ l w item r f x known none other. placeless_asked l w item r (no_place l r f known none) (λ h. other (slot_number l item r x h));
   words = λ l w item r f x known none other. placeless_asked l w item r (no_place l r f known none) (λ h. other (address_number l item r x h));
@@ -210,31 +210,31 @@ slots_asked = record {
 -- ---- references to the output's own symbols
 
 -- the symbol and the formula of such a reference
-named_symbol : (l : Layout) (item : Item) (r : InputRelocation) (i : ℕ) → r.symbol ≡ Some i → (a : IsLinkedAlone l item r) → a.symbol ≡ i
+named_symbol : (l : Layout) (item : Item) (r : InputRelocation) (i : ℕ) → r.symbol ≡ Some i → (a : UsesOwnSymbolOnly l item r) → a.symbol ≡ i
 named_symbol l item r i n a = let both : Some a.symbol ≡ Some i = sym a.named ∙ n in cc
 
-known_formula : (l : Layout) (item : Item) (r : InputRelocation) (f : Formula) → formula_of l.machine r.number ≡ Some f → (a : IsLinkedAlone l item r) → a.formula ≡ f
+known_formula : (l : Layout) (item : Item) (r : InputRelocation) (f : Formula) → formula_of l.machine r.number ≡ Some f → (a : UsesOwnSymbolOnly l item r) → a.formula ≡ f
 known_formula l item r f known a = let both : Some a.formula ≡ Some f = sym a.known ∙ known in cc
 
-taken : (l : Layout) (item : Item) (r : InputRelocation) (i : ℕ) (f : Formula) → r.symbol ≡ Some i → formula_of l.machine r.number ≡ Some f → IsLinkedAlone l item r → TakesItself l item i f
-taken l item r i f n known a = subst (λ (g : Formula). TakesItself l item i g) (known_formula l item r f known a) (subst (λ (j : ℕ). TakesItself l item j a.formula) (named_symbol l item r i n a) a.takes)
+taken : (l : Layout) (item : Item) (r : InputRelocation) (i : ℕ) (f : Formula) → r.symbol ≡ Some i → formula_of l.machine r.number ≡ Some f → UsesOwnSymbolOnly l item r → UsesOwnDefinition l item i f
+taken l item r i f n known a = subst (λ (g : Formula). UsesOwnDefinition l item i g) (known_formula l item r f known a) (subst (λ (j : ℕ). UsesOwnDefinition l item j a.formula) (named_symbol l item r i n a) a.takes)
 
-takes_value : (l : Layout) (item : Item) (i : ℕ) (f : Formula) → (TakesOffset f.value → ⊥) → (TakesAddress f.value → ⊥) → TakesItself l item i f → ⊥
+takes_value : (l : Layout) (item : Item) (i : ℕ) (f : Formula) → (TakesOffset f.value → ⊥) → (TakesAddress f.value → ⊥) → UsesOwnDefinition l item i f → ⊥
 takes_value l item i f o a (inl t) = o t
 takes_value l item i f o a (inr t) = a t.0
 
-takes_left : (l : Layout) (item : Item) (i : ℕ) (f : Formula) → IsLeftToLoader l item i f → TakesItself l item i f → ⊥
+takes_left : (l : Layout) (item : Item) (i : ℕ) (f : Formula) → IsFilledByLoader l item i f → UsesOwnDefinition l item i f → ⊥
 takes_left l item i f h (inl t) = by_value f.value h.value t
   where
     by_value : (v : Value) → v ≡ SymbolAddress → TakesOffset v → ⊥
     by_value v e t = subst TakesOffset e t
 takes_left l item i f h (inr t) = t.1 h
 
-takes_stub : (l : Layout) (item : Item) (i : ℕ) (f : Formula) → (TakesOffset f.value → ⊥) → IsStubbed l i → TakesItself l item i f → ⊥
+takes_stub : (l : Layout) (item : Item) (i : ℕ) (f : Formula) → (TakesOffset f.value → ⊥) → HasStubAddress l i → UsesOwnDefinition l item i f → ⊥
 takes_stub l item i f o h (inl t) = o t
 takes_stub l item i f o h (inr t) = t.2 h
 
-pub few_alone : FewAreLinkedAlone
+pub few_alone : FewUseOwnSymbolOnly
 few_alone = record {
   own = λ l item r i n own a. not_replaceable l i (subst (λ (j : ℕ). IsReplaceable l j true) (named_symbol l item r i n a) a.replaceable) own;
   unnamed = λ l item r n a. (let both : Some a.symbol ≡ None = sym a.named ∙ n in cc);
@@ -246,7 +246,7 @@ few_alone = record {
 
 -- ---- zeros
 
-pub blanks_asked : BlanksAreAsked
+pub blanks_asked : ZerosAreChecked
 blanks_asked = record {
   sections = λ l s input loaded room own blank. record { input = input; loaded = subst IsLoadedSlot (sym loaded) tt; room = bit_alloc s.flags room; shared = λ t. (let both : true ≡ false = sym (thread_local_bit s.flags t) ∙ own in cc); blank = blank };
   behind = λ l g a c k from to. record { segment = g; listed = c; loads = k; from = from; to = to };

@@ -10,10 +10,10 @@ use Rattle.wild_types.specs.declared.layout.Layout.{Layout}
 use Rattle.wild_types.specs.Flags.{has_flag, ifunc}
 use Rattle.wild_loader.specs.declared.fault.LoadFault.TheVariants as faults
 use Rattle.wild_loader.specs.declared.world.World.{World}
-use Rattle.wild_loader.specs.Given.{known}
+use Rattle.wild_loader.specs.Outcome.{known}
 use Rattle.wild_loader.specs.Changes.{first_value, answer_at}
 use Rattle.wild_meaning.specs.World.{HasResolver}
-use Rattle.wild_worlds.specs.Worlds.{HasResolvers, AreAnswered, AreAddresses, NoneHasNone}
+use Rattle.wild_worlds.specs.Worlds.{HasResolvers, AreAnswered, AreAddresses, NoResolversNeeded}
 
 -- ---- one pair for a key
 
@@ -122,5 +122,5 @@ has_resolvers l w f small h = All-weaker (HasPair f w.base w.resolvers) (HasReso
 pub are_answered : (l : Layout) (w : World) (f : ℕ → ℕ) → HasPairs l w f → AreAnswered l w f
 are_answered l w f h = All-weaker (HasPair f w.base w.resolvers) (λ (s : Symbol). (r : Resolution) → s.resolution ≡ Some r → answer_at w ((w.base + r.raw_value) % 2 ^ 64) ≡ Ok (f ((w.base + r.raw_value) % 2 ^ 64))) (λ (s : Symbol) p r e. once_answered w ((w.base + r.raw_value) % 2 ^ 64) (f ((w.base + r.raw_value) % 2 ^ 64)) (p r e)) l.symbols (there l w f h)
 
-pub none_needed : NoneHasNone
+pub none_needed : NoResolversNeeded
 none_needed = λ l w none. All-weaker (λ (s : Symbol). has_flag s.flags ifunc ≡ false) (HasResolver w) (λ (s : Symbol) f t r e. absurd (let both : true ≡ false = sym t ∙ f in cc)) l.symbols none

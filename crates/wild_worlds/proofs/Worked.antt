@@ -23,12 +23,12 @@ use Rattle.wild_meaning.specs.Value.{HasFlag}
 use Rattle.wild_meaning.specs.Sequence.{Instruction, size_of, instructions_of, IsOwnByte, address_pair_words, descriptor_call_words}
 use Rattle.wild_aarch64.specs.Effect.{words_of}
 use Rattle.wild_aarch64.specs.Code.{read, read_address, read_access, read_vector_access, read_literal, read_transfer, read_condition}
-use Rattle.wild_meaning.specs.Template.{AddsNothing, IsInstruction, IsSequence}
+use Rattle.wild_meaning.specs.Template.{HasOriginAddend, IsInstruction, IsSequence}
 use Rattle.wild_meaning.proofs.PairLemmas.{as_its_call}
 use Rattle.wild_meaning.proofs.InstructionsAArch64.{IsAlone, alone_template}
 use Rattle.wild_laws.proofs.Symbols.{not_both}
-use Rattle.wild_made.specs.Calling.{branch_reference, branch_bytes}
-use Rattle.wild_worlds.specs.Worked.{WorkedBranchesAreAsked, WorkedAddressesAreAsked, IsWorked, IsPaired, AsksForThreadAddress, worked_relocation, worked_item, direct_code, indirect_code, load_code, direct_branch, indirect_branch, load, general, branch_word, jump_word, jump_code, word_relocation, address_code, page_relocation, address_relocations, descriptor_code, descriptor_relocation, descriptor_relocations, AreOfRun, pair_relocation, getter_relocation, general_item}
+use Rattle.wild_sample_layouts.specs.CallingPlans.{branch_reference, branch_bytes}
+use Rattle.wild_worlds.specs.Worked.{WorkedBranchesAreChecked, WorkedAddressesAreChecked, IsWorked, IsPaired, ComputesThreadAddress, worked_relocation, worked_item, direct_code, indirect_code, load_code, direct_branch, indirect_branch, load, general, branch_word, jump_word, jump_code, word_relocation, address_code, page_relocation, address_relocations, descriptor_code, descriptor_relocation, descriptor_relocations, AreOfRun, pair_relocation, getter_relocation, general_item}
 
 -- ---- one instruction
 
@@ -63,7 +63,7 @@ within number offset n from o all known filled e =
     not_itself m h = let same : (m == m) ≡ true = eq-eqb m m refl in cc (rw same at h)
 
 -- code of an instruction at its beginning
-at_start : (l : Layout) (address : ℕ) (bytes : List ℕ) (r : InputRelocation) (o : Instruction) → l.machine ≡ machine.X86_64 → Contains (instructions_of machine.X86_64) o → Contains o.numbers r.number → r.offset ≡ 0 + o.field → 0 + size_of o ≤ length bytes → stands o.template.cells (slice_range bytes 0 (0 + size_of o)) ≡ true → AddsNothing machine.X86_64 o.sort r
+at_start : (l : Layout) (address : ℕ) (bytes : List ℕ) (r : InputRelocation) (o : Instruction) → l.machine ≡ machine.X86_64 → Contains (instructions_of machine.X86_64) o → Contains o.numbers r.number → r.offset ≡ 0 + o.field → 0 + size_of o ≤ length bytes → stands o.template.cells (slice_range bytes 0 (0 + size_of o)) ≡ true → HasOriginAddend machine.X86_64 o.sort r
     → ((k : ℕ) → IsOwnByte o k → k < r.offset) → IsInstruction l (worked_item address bytes (r ∷ [])) r 0 o
 at_start l address bytes r o x known number field inside standing counts own = record {
   code = refl;
@@ -73,7 +73,7 @@ at_start l address bytes r o x known number field inside standing counts own = r
   inside = inside;
   stands = standing;
   words = listed_passes (λ (p : Instruction). p.words (words_of (slice_range bytes 0 (0 + size_of o)))) (instructions_of machine.X86_64) o refl known;
-  counts = subst (λ (m : Machine). AddsNothing m o.sort r) (sym x) counts;
+  counts = subst (λ (m : Machine). HasOriginAddend m o.sort r) (sym x) counts;
   alone = λ k h. subst (λ (j : ℕ). InNoField l (worked_item address bytes (r ∷ [])) j) (let e : k ≡ 0 + k = omega arith in e) (before l address bytes r k (own k h));
 }
 
@@ -163,11 +163,11 @@ general_stands l address x = record {
   inside = omega arith;
   stands = refl;
   words = refl;
-  counts = subst (λ (m : Machine). AddsNothing m general.sort pair_relocation) (sym x) refl;
+  counts = subst (λ (m : Machine). HasOriginAddend m general.sort pair_relocation) (sym x) refl;
   alone = λ k h. subst (λ (j : ℕ). InNoField l (general_item address) j) (let e : k ≡ 0 + k = omega arith in e) (beside_both l address k x h.beside h.apart.0);
 }
 
-general_sequence : (l : Layout) (address : ℕ) → AsksForThreadAddress l → IsSequence l (general_item address) pair_relocation (getter_relocation ∷ []) 0 general
+general_sequence : (l : Layout) (address : ℕ) → ComputesThreadAddress l → IsSequence l (general_item address) pair_relocation (getter_relocation ∷ []) 0 general
 general_sequence l address h = record {
   stands = general_stands l address h.x86;
   several = omega arith;
@@ -179,10 +179,10 @@ general_sequence l address h = record {
   met = (h.executable, (h.plain, ((λ other. absurd (not_both l 0 non_interposable h.own other)), tt)));
 }
 
-paired : (l : Layout) (address : ℕ) → AsksForThreadAddress l → IsPaired l address pair_relocation
+paired : (l : Layout) (address : ℕ) → ComputesThreadAddress l → IsPaired l address pair_relocation
 paired l address h = (record { listed = (0, omega arith, refl); refers = not_none r_x86_64_tlsgd (omega arith) }, inr (record { rest = getter_relocation ∷ []; sequence = general_sequence l address h; one = (0, omega arith, refl) }))
 
-getter : (l : Layout) (address : ℕ) → AsksForThreadAddress l → IsPaired l address getter_relocation
+getter : (l : Layout) (address : ℕ) → ComputesThreadAddress l → IsPaired l address getter_relocation
 getter l address h = (record { listed = (1, omega arith, refl); refers = not_none r_x86_64_plt32 (omega arith) }, inr (record { rest = getter_relocation ∷ []; sequence = general_sequence l address h; one = (1, omega arith, refl) }))
 
 -- ---- AArch64
@@ -333,7 +333,7 @@ descriptor_stands l address x = record {
   inside = omega arith;
   stands = refl;
   words = refl;
-  counts = subst (λ (m : Machine). AddsNothing m descriptor_call_words.sort descriptor_relocation) (sym x) refl;
+  counts = subst (λ (m : Machine). HasOriginAddend m descriptor_call_words.sort descriptor_relocation) (sym x) refl;
   alone = λ k h. subst (λ (j : ℕ). InNoField l (worked_item address descriptor_code descriptor_relocations) j) (let e : k ≡ 0 + k = omega arith in e) (behind_all l address k x (own_last k h.beside h.apart.0 h.apart.1.0));
 }
 
@@ -359,8 +359,8 @@ worked_descriptor l address x = λ r c. (
   inr (record { rest = word_relocation 4 r_aarch64_tlsdesc_ld64_lo12 ∷ word_relocation 8 r_aarch64_tlsdesc_add_lo12 ∷ word_relocation 12 r_aarch64_tlsdesc_call ∷ []; sequence = descriptor_sequence l address x; one = c }),
 )
 
-pub branches_asked : WorkedBranchesAreAsked
+pub branches_asked : WorkedBranchesAreChecked
 branches_asked = record { call = worked_call; jump = worked_jump; slot_call = worked_slot_call; slot_jump = worked_slot_jump; word = worked_word; word_jump = worked_word_jump }
 
-pub addresses_asked : WorkedAddressesAreAsked
+pub addresses_asked : WorkedAddressesAreChecked
 addresses_asked = record { loads = worked_load; pairs = paired; getters = getter; words = worked_pair; descriptors = worked_descriptor }

@@ -17,11 +17,11 @@ use Rattle.wild_meaning.specs.World.{IsExecutable, IsFirstModule, IsLegal, Answe
 use Rattle.std.proofs.lemmas.Bool.{cases_Bool, eqb-true}
 use Rattle.wild_types.specs.declared.section.Segment.{Segment}
 use Rattle.wild_types.specs.Kinds.{is_partial_link}
-use Rattle.wild_clauses.specs.WellFormed.{first_clause}
+use Rattle.wild_plan_rules.specs.WellFormed.{first_clause}
 use Rattle.wild_layout.specs.Faults.{flat_map_from, clause_errors, part_errors, group_errors, errors}
 use Rattle.wild_layout.proofs.FaultLemmas.{clause_holds, first_empty, rest_empty, laid_out}
-use Rattle.wild_geometry.proofs.LaidLemmas.{Laid, Laid-from_clauses}
-use Rattle.wild_worlds.specs.Worlds.{KnowsModule, AreAddresses, Others, AreNumbers, IsTold, ZeroIsLegal, MovedIsLegal, HasWorld, WorldsAreThere, other_module}
+use Rattle.wild_geometry.proofs.PlacedSectionLemmas.{Laid, Laid-from_clauses}
+use Rattle.wild_worlds.specs.Worlds.{KnowsModule, AreAddresses, OtherModule, AreNumbers, IsConsistent, ZeroIsLegal, MovedIsLegal, HasWorld, WorldsAreThere, other_module}
 use Rattle.wild_worlds.specs.Symbols.{OffsetsCount}
 use Rattle.wild_worlds.proofs.Premises.{apart_kinds}
 use Rattle.wild_worlds.proofs.Resolvers.{pairs_of, HasPairs, has_resolvers, are_answered}
@@ -100,7 +100,7 @@ distance_by (output.StaticExecutable any) d free = d
 distance_by (output.DynamicExecutable any) d free = d
 distance_by other d free = free
 
-abbrev own_distance : Layout → Others → ℤ
+abbrev own_distance : Layout → OtherModule → ℤ
 own_distance l o = distance_by l.kind (cast_signed w64 (less l.tls.start (thread_pointer l))) o.own
 
 of_executable : (k : OutputKind) (d free : ℤ) → IsExecutable k → distance_by k d free ≡ d
@@ -122,7 +122,7 @@ distance_fits output.SharedObject d free h g = g
 distance_fits output.PartialObject d free h g = g
 
 -- a world that has two modules, the resolvers' answers and those for dynamic symbols
-abbrev world_at : Layout → ℕ → (ℕ → ℕ) → Others → World
+abbrev world_at : Layout → ℕ → (ℕ → ℕ) → OtherModule → World
 world_at l base answers o = record {
   base = base;
   symbols = answers_of l base answers o;
@@ -131,7 +131,7 @@ world_at l base answers o = record {
   own_module = first_module;
 }
 
-knows : (l : Layout) (base : ℕ) (answers : ℕ → ℕ) (o : Others) → l.tls.start < 2 ^ 64 → KnowsModule l (world_at l base answers o)
+knows : (l : Layout) (base : ℕ) (answers : ℕ → ℕ) (o : OtherModule) → l.tls.start < 2 ^ 64 → KnowsModule l (world_at l base answers o)
 knows l base answers o h = λ e. record {
   own = refl;
   distance = own_distance l o;
@@ -139,10 +139,10 @@ knows l base answers o h = λ e. record {
   is = subst (λ (d : ℤ). IsOwnDistance l d) (sym (of_executable l.kind (cast_signed w64 (less l.tls.start (thread_pointer l))) o.own e)) (distance l h);
 }
 
-has_pairs : (l : Layout) (base : ℕ) (answers : ℕ → ℕ) (o : Others) → HasPairs l (world_at l base answers o) answers
+has_pairs : (l : Layout) (base : ℕ) (answers : ℕ → ℕ) (o : OtherModule) → HasPairs l (world_at l base answers o) answers
 has_pairs l base answers o = record { pairs = refl }
 
-has_answers : (l : Layout) (base : ℕ) (answers : ℕ → ℕ) (o : Others) → l.tls.start < 2 ^ 64 → AreNumbers o → HasAnswers l (world_at l base answers o) answers o
+has_answers : (l : Layout) (base : ℕ) (answers : ℕ → ℕ) (o : OtherModule) → l.tls.start < 2 ^ 64 → AreNumbers o → HasAnswers l (world_at l base answers o) answers o
 has_answers l base answers o h numbers = record {
   symbols = refl;
   own = refl;
@@ -151,10 +151,10 @@ has_answers l base answers o h numbers = record {
   answered = are_answered l (world_at l base answers o) answers (has_pairs l base answers o);
 }
 
-answers_all : (l : Layout) (base : ℕ) (answers : ℕ → ℕ) (o : Others) → IsLaidOut l → IsTold l → AreAddresses answers → AreNumbers o → AnswersSymbols l (world_at l base answers o)
+answers_all : (l : Layout) (base : ℕ) (answers : ℕ → ℕ) (o : OtherModule) → IsLaidOut l → IsConsistent l → AreAddresses answers → AreNumbers o → AnswersSymbols l (world_at l base answers o)
 answers_all l base answers o laid told small numbers = answers_symbols l (world_at l base answers o) answers o laid told small numbers (has_answers l base answers o told.numbers.tls.start numbers)
 
-has_world : (l : Layout) (base : ℕ) (answers : ℕ → ℕ) (o : Others) → IsLaidOut l → l.tls.start < 2 ^ 64 → AreNumbers o → IsLegal l (world_at l base answers o) → HasWorld l base answers o
+has_world : (l : Layout) (base : ℕ) (answers : ℕ → ℕ) (o : OtherModule) → IsLaidOut l → l.tls.start < 2 ^ 64 → AreNumbers o → IsLegal l (world_at l base answers o) → HasWorld l base answers o
 has_world l base answers o laid h numbers legal = record {
   world = world_at l base answers o;
   at = refl;

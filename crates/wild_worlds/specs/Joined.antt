@@ -2,7 +2,7 @@
 --   HasCall l            a kept item of the layout calls a function
 --   IsJoined l           the layout has no faults, a legal world at a base other than 0, and such a call, which holds there
 --   HasNote l            an image only for debuggers has a note with a reference that is checked, and with one that is left out
---   HasHollow l          of a section that a program would load, it has only the header
+--   HasOmittedSection l          of a section that a program would load, it has only the header
 --   IsJoinedForDebuggers l   the same for such a layout, and for a reference in a note, whose field has only one right value
 --   PremisesAreJoined    this is so for a layout of each kind that can be loaded at any base, and for one only for debuggers
 use Rattle.std.specs.Prelude.{◌≡◌, ◌≢◌, ℕ, false, [], Some, Contains, slice_get}
@@ -22,21 +22,21 @@ use Rattle.wild_layout.specs.Faults.{errors}
 use Rattle.wild_layout.specs.Image.{bytes}
 use Rattle.wild_loader.specs.declared.world.World.{World}
 use Rattle.wild_loader.specs.Memory.{number_in}
-use Rattle.wild_meaning.specs.Section.{IsSet, IsForDebuggers, IsHollow}
+use Rattle.wild_meaning.specs.Section.{IsSet, IsForDebuggers, IsHeaderOnly}
 use Rattle.wild_meaning.specs.World.{IsLegal}
 use Rattle.wild_types.specs.Item.{Item}
-use Rattle.wild_meaning.specs.Item.{IsInput, IsLoadedSlot, IsKept, IsKeptSection, IsReference, stood_item, place_at}
+use Rattle.wild_meaning.specs.Item.{IsInput, IsLoadedSlot, IsKept, IsKeptSection, IsReference, placed_item, place_at}
 use Rattle.wild_meaning.specs.Sequence.{Sort, Target, TargetInSlot, Instruction}
 use Rattle.wild_meaning.specs.Template.{IsTemplate}
-use Rattle.wild_meaning.specs.Reference.{IsExcepted, IsLinkedAlone, IsLeftOut, ReferenceHolds}
-use Rattle.wild_meaning.specs.Linked.{IsLinked}
-use Rattle.wild_meaning.specs.Worked.{Refuses}
-use Rattle.wild_meaning.specs.Refusals.{HasWrongNumber}
+use Rattle.wild_meaning.specs.Reference.{IsCheckedAtZeroOnly, UsesOwnSymbolOnly, IsOmitted, ReferenceHolds}
+use Rattle.wild_meaning.specs.LinkedImage.{IsLinked}
+use Rattle.wild_meaning.specs.Worked.Builders.{Refuses}
+use Rattle.wild_meaning.specs.Worked.Refusals.{HasWrongNumber}
 
 -- how an instruction calls or jumps: on x86-64 through the slot that it names, on AArch64 by the distance in its word
-abbrev pub GoesBy : Machine → Sort → Type 0
-GoesBy machine.X86_64 sort = sort ≡ TargetInSlot
-GoesBy machine.AArch64 sort = sort ≡ Target
+abbrev pub IsCallSort : Machine → Sort → Type 0
+IsCallSort machine.X86_64 sort = sort ≡ TargetInSlot
+IsCallSort machine.AArch64 sort = sort ≡ Target
 
 -- a reference of a kept item that is not excepted and does not refer only to the output's own symbol, and its instruction, which
 -- calls or jumps in this way
@@ -45,12 +45,12 @@ pub record HasCall (l : Layout) : Type 0 where
   pub kept : IsKept l item
   pub reference : InputRelocation
   pub refers : IsReference item reference
-  pub ordinary : IsExcepted l item reference → ⊥
-  pub followed : IsLinkedAlone l item reference → ⊥
+  pub ordinary : IsCheckedAtZeroOnly l item reference → ⊥
+  pub followed : UsesOwnSymbolOnly l item reference → ⊥
   pub start : ℕ
   pub instruction : Instruction
   pub template : IsTemplate l item reference start instruction reference
-  pub goes : GoesBy l.machine instruction.sort
+  pub goes : IsCallSort l.machine instruction.sort
 
 -- all of this for one layout: a legal world at a base other than 0, in which the layout's image is linked, and the reference
 -- holds
@@ -81,19 +81,19 @@ pub record HasNote (l : Layout) : Type 0 where
   pub kept : IsKeptSection l section
   pub notes : IsOfNotes l section
   pub item : Item
-  pub is : item ≡ stood_item l kept.input.file section
+  pub is : item ≡ placed_item l kept.input.file section
   pub reference : InputRelocation
   pub refers : IsReference item reference
-  pub ordinary : IsExcepted l item reference → ⊥
-  pub followed : IsLinkedAlone l item reference → ⊥
-  pub there : IsLeftOut l item reference → ⊥
+  pub ordinary : IsCheckedAtZeroOnly l item reference → ⊥
+  pub followed : UsesOwnSymbolOnly l item reference → ⊥
+  pub there : IsOmitted l item reference → ⊥
   pub other : InputRelocation
   pub other_refers : IsReference item other
-  pub left : IsLeftOut l item other
+  pub left : IsOmitted l item other
 
 -- an input section with data that a program would load, of which only the header is written; and a relocation of it, which
 -- belongs to no kept item
-pub record HasHollow (l : Layout) : Type 0 where
+pub record HasOmittedSection (l : Layout) : Type 0 where
   pub section : InputSection
   pub input : IsInput l section
   pub loaded : IsLoadedSlot section.slot
@@ -101,7 +101,7 @@ pub record HasHollow (l : Layout) : Type 0 where
   pub has_data : section.nobits ≡ false
   pub part : Part
   pub listed : slice_get l.parts section.part ≡ Some part
-  pub hollow : IsHollow l part
+  pub header_only : IsHeaderOnly l part
   pub reference : InputRelocation
   pub has : Contains section.relocations reference
   pub refers : reference.number ≢ r_x86_64_none
@@ -121,7 +121,7 @@ pub record IsJoinedForDebuggers (l : Layout) : Type 0 where
   pub number : ℕ
   pub reads : number_in linked.memory (place_at world note.item note.reference.offset) 4 ≡ Some number
   pub refused : Refuses l world (HasWrongNumber (place_at world note.item note.reference.offset) 4 number)
-  pub hollow : HasHollow l
+  pub header_only : HasOmittedSection l
 
 -- ---- the layouts
 

@@ -1,9 +1,9 @@
 -- The premises of the headline can be met: items are kept, and their references are checked.
 --   SectionsAreKept        loaded, allocated input sections with data are kept
 --   RelocationsRefer       each of their relocations but NONE is a reference
---   ReferencesAreAsked, SlotsAreAsked   which references of an image are checked
---   FewAreLinkedAlone      few of them refer only to the output's own symbol
---   BlanksAreAsked         sections without data are checked for zeros
+--   ReferencesAreChecked, SlotsAreChecked   which references of an image are checked
+--   FewUseOwnSymbolOnly      few of them refer only to the output's own symbol
+--   ZerosAreChecked         sections without data are checked for zeros
 use Rattle.std.specs.Prelude.{◌≡◌, ◌≢◌, ℕ, ◌+◌, ◌<◌, ◌≤◌, true, false, [], ◌∷◌, Some, None, Contains}
 use Rattle.wild_records.specs.Abi.Relocation.{r_x86_64_none, r_x86_64_gotpcrel, r_x86_64_gotpcrelx, r_aarch64_adr_prel_pg_hi21, r_aarch64_add_abs_lo12_nc}
 use Rattle.wild_records.specs.Abi.Section.{shf_execinstr}
@@ -19,20 +19,20 @@ use Rattle.wild_types.specs.Lookups.{allocated, thread_local}
 use Rattle.wild_layout.specs.Faults.{errors}
 use Rattle.wild_loader.specs.declared.world.World.{World}
 use Rattle.wild_meaning.specs.Section.{IsSet}
-use Rattle.wild_meaning.specs.World.{IsFixed, IsBehind}
+use Rattle.wild_meaning.specs.World.{IsFixed, IsPastFileBytes}
 use Rattle.wild_meaning.specs.Value.{HasFlag, IsAbsolute, IsReplaceable}
 use Rattle.wild_meaning.specs.Field.{formula_of}
 use Rattle.wild_meaning.specs.Formula.{IsPlaceRelative, TakesAddress, TakesOffset}
 use Rattle.wild_types.specs.Item.{Item}
-use Rattle.wild_meaning.specs.Item.{IsInput, IsKept, IsReference, stood_item}
-use Rattle.wild_meaning.specs.Reference.{HasPlace, GoesByPlace, IsAsked, IsLeftToLoader, IsStubbed, GoesByStub, IsLinkedAlone}
-use Rattle.wild_meaning.specs.Linked.{IsBlank}
+use Rattle.wild_meaning.specs.Item.{IsInput, IsKept, IsReference, placed_item}
+use Rattle.wild_meaning.specs.Reference.{HasPlace, HasRelativeInstruction, MustHold, IsFilledByLoader, HasStubAddress, BranchesThroughStub, UsesOwnSymbolOnly}
+use Rattle.wild_meaning.specs.LinkedImage.{IsSectionWithoutData}
 use Rattle.wild_reloc.specs.Formula.{Formula}
 use Rattle.wild_laws.specs.FirstTypes.{IsLoadedSection}
 
 -- each loaded, allocated input section with data is kept, as its item
 abbrev pub SectionsAreKept : Type 0
-SectionsAreKept = (l : Layout) (s : InputSection) (k : IsLoadedSection l s) → IsKept l (stood_item l k.file s)
+SectionsAreKept = (l : Layout) (s : InputSection) (k : IsLoadedSection l s) → IsKept l (placed_item l k.file s)
 
 -- each of an item's relocations but NONE is a reference
 abbrev pub RelocationsRefer : Type 0
@@ -44,37 +44,37 @@ ResolversAreNotAbsolute = (l : Layout) (i : ℕ) → errors l ≡ [] → HasFlag
 
 -- A reference is checked at base 0. It is checked at every base if its symbol is not absolute, as for every IFUNC, or if neither
 -- its value nor its instruction is relative to a place. A call or jump through a slot is relative to its place.
-pub record ReferencesAreAsked : Type 0 where
-  pub zero : (l : Layout) (w : World) (item : Item) (r : InputRelocation) → w.base ≡ 0 → IsAsked l w item r
-  pub fixed : (l : Layout) (w : World) (item : Item) (r : InputRelocation) → IsFixed l.kind → IsAsked l w item r
-  pub unnamed : (l : Layout) (w : World) (item : Item) (r : InputRelocation) → r.symbol ≡ None → IsAsked l w item r
-  pub moving : (l : Layout) (w : World) (item : Item) (r : InputRelocation) (i : ℕ) → r.symbol ≡ Some i → HasFlag l i absolute false → IsAsked l w item r
-  pub resolved : (l : Layout) (w : World) (item : Item) (r : InputRelocation) (i : ℕ) → errors l ≡ [] → r.symbol ≡ Some i → HasFlag l i ifunc true → IsAsked l w item r
-  pub placeless : (l : Layout) (w : World) (item : Item) (r : InputRelocation) → (HasPlace l r → ⊥) → (GoesByPlace l item r → ⊥) → IsAsked l w item r
+pub record ReferencesAreChecked : Type 0 where
+  pub zero : (l : Layout) (w : World) (item : Item) (r : InputRelocation) → w.base ≡ 0 → MustHold l w item r
+  pub fixed : (l : Layout) (w : World) (item : Item) (r : InputRelocation) → IsFixed l.kind → MustHold l w item r
+  pub unnamed : (l : Layout) (w : World) (item : Item) (r : InputRelocation) → r.symbol ≡ None → MustHold l w item r
+  pub moving : (l : Layout) (w : World) (item : Item) (r : InputRelocation) (i : ℕ) → r.symbol ≡ Some i → HasFlag l i absolute false → MustHold l w item r
+  pub resolved : (l : Layout) (w : World) (item : Item) (r : InputRelocation) (i : ℕ) → errors l ≡ [] → r.symbol ≡ Some i → HasFlag l i ifunc true → MustHold l w item r
+  pub placeless : (l : Layout) (w : World) (item : Item) (r : InputRelocation) → (HasPlace l r → ⊥) → (HasRelativeInstruction l item r → ⊥) → MustHold l w item r
 
 -- So a value that is not relative to a place, such as the distance to a slot, is checked in every section without code. In code
 -- it is checked unless its type is one of calls and jumps through slots or, on AArch64, of the two instructions that form an
 -- address.
-pub record SlotsAreAsked : Type 0 where
-  pub numbers : (l : Layout) (w : World) (item : Item) (r : InputRelocation) (f : Formula) → l.machine ≡ machine.X86_64 → formula_of l.machine r.number ≡ Some f → (IsPlaceRelative f.value → ⊥) → (Contains (r_x86_64_gotpcrel ∷ r_x86_64_gotpcrelx ∷ []) r.number → ⊥) → IsAsked l w item r
-  pub words : (l : Layout) (w : World) (item : Item) (r : InputRelocation) (f : Formula) → l.machine ≡ machine.AArch64 → formula_of l.machine r.number ≡ Some f → (IsPlaceRelative f.value → ⊥) → (Contains (r_aarch64_adr_prel_pg_hi21 ∷ r_aarch64_add_abs_lo12_nc ∷ []) r.number → ⊥) → IsAsked l w item r
-  pub elsewhere : (l : Layout) (w : World) (item : Item) (r : InputRelocation) (f : Formula) → formula_of l.machine r.number ≡ Some f → (IsPlaceRelative f.value → ⊥) → (IsSet item.flags shf_execinstr → ⊥) → IsAsked l w item r
+pub record SlotsAreChecked : Type 0 where
+  pub numbers : (l : Layout) (w : World) (item : Item) (r : InputRelocation) (f : Formula) → l.machine ≡ machine.X86_64 → formula_of l.machine r.number ≡ Some f → (IsPlaceRelative f.value → ⊥) → (Contains (r_x86_64_gotpcrel ∷ r_x86_64_gotpcrelx ∷ []) r.number → ⊥) → MustHold l w item r
+  pub words : (l : Layout) (w : World) (item : Item) (r : InputRelocation) (f : Formula) → l.machine ≡ machine.AArch64 → formula_of l.machine r.number ≡ Some f → (IsPlaceRelative f.value → ⊥) → (Contains (r_aarch64_adr_prel_pg_hi21 ∷ r_aarch64_add_abs_lo12_nc ∷ []) r.number → ⊥) → MustHold l w item r
+  pub elsewhere : (l : Layout) (w : World) (item : Item) (r : InputRelocation) (f : Formula) → formula_of l.machine r.number ≡ Some f → (IsPlaceRelative f.value → ⊥) → (IsSet item.flags shf_execinstr → ⊥) → MustHold l w item r
 
 -- A reference does not refer only to the output's own symbol if:
 -- - its symbol is not replaceable, or it has none;
 -- - its expression has neither the symbol's address nor its offset, such as the distance to a slot or a stub;
 -- - its field is left to a loader, or the address is that of a stub;
 -- - it is a conditional branch through a stub.
-pub record FewAreLinkedAlone : Type 0 where
-  pub own : (l : Layout) (item : Item) (r : InputRelocation) (i : ℕ) → r.symbol ≡ Some i → IsReplaceable l i false → IsLinkedAlone l item r → ⊥
-  pub unnamed : (l : Layout) (item : Item) (r : InputRelocation) → r.symbol ≡ None → IsLinkedAlone l item r → ⊥
-  pub valued : (l : Layout) (item : Item) (r : InputRelocation) (f : Formula) → formula_of l.machine r.number ≡ Some f → (TakesOffset f.value → ⊥) → (TakesAddress f.value → ⊥) → IsLinkedAlone l item r → ⊥
-  pub left : (l : Layout) (item : Item) (r : InputRelocation) (i : ℕ) (f : Formula) → r.symbol ≡ Some i → formula_of l.machine r.number ≡ Some f → IsLeftToLoader l item i f → IsLinkedAlone l item r → ⊥
-  pub stubbed : (l : Layout) (item : Item) (r : InputRelocation) (i : ℕ) (f : Formula) → r.symbol ≡ Some i → formula_of l.machine r.number ≡ Some f → (TakesOffset f.value → ⊥) → IsStubbed l i → IsLinkedAlone l item r → ⊥
-  pub branched : (l : Layout) (item : Item) (r : InputRelocation) → GoesByStub l item r → IsLinkedAlone l item r → ⊥
+pub record FewUseOwnSymbolOnly : Type 0 where
+  pub own : (l : Layout) (item : Item) (r : InputRelocation) (i : ℕ) → r.symbol ≡ Some i → IsReplaceable l i false → UsesOwnSymbolOnly l item r → ⊥
+  pub unnamed : (l : Layout) (item : Item) (r : InputRelocation) → r.symbol ≡ None → UsesOwnSymbolOnly l item r → ⊥
+  pub valued : (l : Layout) (item : Item) (r : InputRelocation) (f : Formula) → formula_of l.machine r.number ≡ Some f → (TakesOffset f.value → ⊥) → (TakesAddress f.value → ⊥) → UsesOwnSymbolOnly l item r → ⊥
+  pub left : (l : Layout) (item : Item) (r : InputRelocation) (i : ℕ) (f : Formula) → r.symbol ≡ Some i → formula_of l.machine r.number ≡ Some f → IsFilledByLoader l item i f → UsesOwnSymbolOnly l item r → ⊥
+  pub stubbed : (l : Layout) (item : Item) (r : InputRelocation) (i : ℕ) (f : Formula) → r.symbol ≡ Some i → formula_of l.machine r.number ≡ Some f → (TakesOffset f.value → ⊥) → HasStubAddress l i → UsesOwnSymbolOnly l item r → ⊥
+  pub branched : (l : Layout) (item : Item) (r : InputRelocation) → BranchesThroughStub l item r → UsesOwnSymbolOnly l item r → ⊥
 
 -- Each loaded, allocated input section without data is checked for zeros, unless it is thread-local, at every address after the
 -- file bytes of a loaded segment.
-pub record BlanksAreAsked : Type 0 where
-  pub sections : (l : Layout) (s : InputSection) → IsInput l s → s.slot ≡ slot.Loaded → allocated s.flags ≡ true → thread_local s.flags ≡ false → s.nobits ≡ true → IsBlank l s
-  pub behind : (l : Layout) (g : Segment) (a : ℕ) → Contains l.segments g → g.kind ≡ pt_load → g.address + g.file_size ≤ a → a < g.address + g.mem_size → IsBehind l a
+pub record ZerosAreChecked : Type 0 where
+  pub sections : (l : Layout) (s : InputSection) → IsInput l s → s.slot ≡ slot.Loaded → allocated s.flags ≡ true → thread_local s.flags ≡ false → s.nobits ≡ true → IsSectionWithoutData l s
+  pub behind : (l : Layout) (g : Segment) (a : ℕ) → Contains l.segments g → g.kind ≡ pt_load → g.address + g.file_size ≤ a → a < g.address + g.mem_size → IsPastFileBytes l a

@@ -1,7 +1,7 @@
 -- The effects of worked code are checked.
 --   IsWorked ..               the code has a reference with that instruction
---   WorkedBranchesAreAsked    calls and jumps, direct and through slots, of either machine
---   WorkedAddressesAreAsked   an address in a slot or in two words, and a thread address, of either machine
+--   WorkedBranchesAreChecked    calls and jumps, direct and through slots, of either machine
+--   WorkedAddressesAreChecked   an address in a slot or in two words, and a thread address, of either machine
 use Rattle.std.specs.Prelude.{◌≡◌, ℕ, true, false, List, [], ◌∷◌, Some, Contains}
 use lib.IntN.{pos, negsuc}
 use Rattle.wild_records.specs.Abi.Relocation.{r_x86_64_pc32, r_x86_64_plt32, r_x86_64_gotpcrel, r_x86_64_gotpcrelx, r_x86_64_rex_gotpcrelx, r_x86_64_tlsgd, r_aarch64_jump26, r_aarch64_call26, r_aarch64_adr_prel_pg_hi21, r_aarch64_add_abs_lo12_nc, r_aarch64_tlsdesc_adr_page21, r_aarch64_tlsdesc_ld64_lo12, r_aarch64_tlsdesc_add_lo12, r_aarch64_tlsdesc_call}
@@ -21,7 +21,7 @@ use Rattle.wild_loader.specs.ThreadCodeX86_64.{general_call}
 use Rattle.wild_meaning.specs.Sequence.{Instruction, Target, TargetInSlot, AddressInSlot, SymbolPair, of_field, of_word, of_sequence, of_symbol, by_call, address_pair_words, descriptor_call_words}
 use Rattle.wild_meaning.specs.Partners.{NamesGetter}
 use Rattle.wild_meaning.specs.Template.{IsTemplate}
-use Rattle.wild_made.specs.Calling.{branch_reference, branch_bytes}
+use Rattle.wild_sample_layouts.specs.CallingPlans.{branch_reference, branch_bytes}
 
 -- the code of the worked examples: an instruction with four bytes that a relocation fills, and two returns; and a sequence with
 -- two such fields
@@ -75,7 +75,7 @@ jump_word = of_word Target r_aarch64_jump26
 abbrev pub IsWorked : Layout → ℕ → List ℕ → InputRelocation → Instruction → Type 0
 IsWorked l address bytes r o = IsReference (worked_item address bytes (r ∷ [])) r × IsTemplate l (worked_item address bytes (r ∷ [])) r 0 o r
 
-pub record WorkedBranchesAreAsked : Type 0 where
+pub record WorkedBranchesAreChecked : Type 0 where
   pub call : (l : Layout) (address : ℕ) → l.machine ≡ machine.X86_64 → IsWorked l address (direct_code 0xe8) (worked_relocation 1 r_x86_64_pc32 0) (direct_branch 0xe8 Call)
   pub jump : (l : Layout) (address : ℕ) → l.machine ≡ machine.X86_64 → IsWorked l address (direct_code 0xe9) (worked_relocation 1 r_x86_64_plt32 0) (direct_branch 0xe9 Jump)
   pub slot_call : (l : Layout) (address : ℕ) → l.machine ≡ machine.X86_64 → IsWorked l address (indirect_code 0x15) (worked_relocation 2 r_x86_64_gotpcrelx 0) (indirect_branch 0x15 Call)
@@ -94,7 +94,7 @@ abbrev pub general_item : ℕ → Item
 general_item address = worked_item address general_code (pair_relocation ∷ getter_relocation ∷ [])
 
 -- an executable whose symbol 0 is its own and not an IFUNC, and whose symbol 1 returns thread-local addresses
-pub record AsksForThreadAddress (l : Layout) : Type 0 where
+pub record ComputesThreadAddress (l : Layout) : Type 0 where
   pub x86 : l.machine ≡ machine.X86_64
   pub executable : IsExecutable l.kind
   pub plain : HasFlag l 0 ifunc false
@@ -131,9 +131,9 @@ abbrev pub AreOfRun : Layout → ℕ → List ℕ → List InputRelocation → I
 AreOfRun l address bytes rs first o = (r : InputRelocation) → Contains rs r → IsReference (worked_item address bytes rs) r × IsTemplate l (worked_item address bytes rs) r 0 o first
 
 -- code that sets a register to an address, and code that computes a thread-local address
-pub record WorkedAddressesAreAsked : Type 0 where
+pub record WorkedAddressesAreChecked : Type 0 where
   pub loads : (l : Layout) (address : ℕ) → l.machine ≡ machine.X86_64 → IsWorked l address load_code (worked_relocation 3 r_x86_64_rex_gotpcrelx 0) load
-  pub pairs : (l : Layout) (address : ℕ) → AsksForThreadAddress l → IsPaired l address pair_relocation
-  pub getters : (l : Layout) (address : ℕ) → AsksForThreadAddress l → IsPaired l address getter_relocation
+  pub pairs : (l : Layout) (address : ℕ) → ComputesThreadAddress l → IsPaired l address pair_relocation
+  pub getters : (l : Layout) (address : ℕ) → ComputesThreadAddress l → IsPaired l address getter_relocation
   pub words : (l : Layout) (address : ℕ) → l.machine ≡ machine.AArch64 → HasFlag l 0 undefined_weak false → AreOfRun l address address_code address_relocations page_relocation address_pair_words
   pub descriptors : (l : Layout) (address : ℕ) → l.machine ≡ machine.AArch64 → AreOfRun l address descriptor_code descriptor_relocations descriptor_relocation descriptor_call_words

@@ -1,7 +1,7 @@
 -- The premises of the headline can be met: there are legal worlds.
 --   ZeroIsLegal, MovedIsLegal   base 0 is legal; so is every base with enough room, if the output is movable
---   NoneHasNone        if no symbol is an IFUNC, a world needs no answers of resolvers
---   IsTold l           the conditions on a layout under which its worlds are given
+--   NoResolversNeeded        if no symbol is an IFUNC, a world needs no answers of resolvers
+--   IsConsistent l           the conditions on a layout under which its worlds are given
 --   WorldsAreThere     it has a legal world, whatever the resolvers answer and the other module defines
 --   KindsAreLoaded     every kind of output except a partial object can be loaded
 use Rattle.std.specs.Prelude.{◌≡◌, ◌≢◌, ℕ, ℤ, ◌+◌, ◌%◌, ◌^◌, ◌<◌, ◌≤◌, true, false, [], Some, Ok, All}
@@ -20,7 +20,7 @@ use Rattle.wild_layout.specs.Faults.{errors}
 use Rattle.wild_loader.specs.declared.world.World.{World}
 use Rattle.wild_loader.specs.declared.world.Answer.{Answer}
 use Rattle.wild_loader.specs.Changes.{answer_at, distance_of}
-use Rattle.wild_meaning.specs.World.{IsFixed, IsMovable, IsLoadable, IsExecutable, IsFirstModule, HasResolver, AnswersSymbols, IsCopied, IsBehind, AreBeside, IsLegal}
+use Rattle.wild_meaning.specs.World.{IsFixed, IsMovable, IsLoadable, IsExecutable, IsFirstModule, HasResolver, AnswersSymbols, IsCopied, IsPastFileBytes, DoNotOverlap, IsLegal}
 use Rattle.wild_meaning.specs.Value.{IsDefinedBy, HasRaw, HasOwnSize, IsReplaceable, HasAnswer}
 
 -- in the world an executable is the program's own module
@@ -32,11 +32,11 @@ abbrev pub HasResolvers : Layout → World → Type 0
 HasResolvers l w = All (HasResolver w) l.symbols
 
 -- if no symbol is an IFUNC, none is needed
-abbrev pub NoneHasNone : Type 0
-NoneHasNone = (l : Layout) (w : World) → All (λ (s : Symbol). has_flag s.flags ifunc ≡ false) l.symbols → HasResolvers l w
+abbrev pub NoResolversNeeded : Type 0
+NoResolversNeeded = (l : Layout) (w : World) → All (λ (s : Symbol). has_flag s.flags ifunc ≡ false) l.symbols → HasResolvers l w
 
 -- a page-aligned base at which no segment wraps
-pub record IsRoomy (l : Layout) (base : ℕ) : Type 0 where
+pub record HasRoomAbove (l : Layout) (base : ℕ) : Type 0 where
   pub aligned : base % l.page_size ≡ 0
   pub ends : All (λ (g : Segment). base + g.address + g.mem_size ≤ 2 ^ 64) l.segments
 
@@ -46,7 +46,7 @@ ZeroIsLegal = (l : Layout) (w : World) → errors l ≡ [] → w.base ≡ 0 → 
 
 -- if the output is movable, so is every base with enough room
 abbrev pub MovedIsLegal : Type 0
-MovedIsLegal = (l : Layout) (w : World) → IsMovable l.kind → IsRoomy l w.base → KnowsModule l w → HasResolvers l w → AnswersSymbols l w → IsLegal l w
+MovedIsLegal = (l : Layout) (w : World) → IsMovable l.kind → HasRoomAbove l w.base → KnowsModule l w → HasResolvers l w → AnswersSymbols l w → IsLegal l w
 
 -- the resolvers of a layout's symbols have these answers, each at its own address
 abbrev pub AreAnswered : Layout → World → (ℕ → ℕ) → Type 0
@@ -58,7 +58,7 @@ AreAddresses answers = (a : ℕ) → answers a < 2 ^ 64
 
 -- Another module's definitions for each index of the dynamic symbol table, and the distance of its thread-local data from the
 -- thread pointer. For a library also the distance of the output's own data.
-pub record Others : Type 0 where
+pub record OtherModule : Type 0 where
   pub address : ℕ → ℕ
   pub offset : ℕ → ℕ
   pub size : ℕ → ℕ
@@ -66,7 +66,7 @@ pub record Others : Type 0 where
   pub own : ℤ
 
 -- these numbers are in the machine's range
-pub record AreNumbers (o : Others) : Type 0 where
+pub record AreNumbers (o : OtherModule) : Type 0 where
   pub address : AreAddresses o.address
   pub offset : AreAddresses o.offset
   pub size : AreAddresses o.size
@@ -78,7 +78,7 @@ abbrev pub other_module : ℕ
 other_module = 2
 
 -- the answer for an index is the other module's definition
-pub record IsOthers (o : Others) (index : ℕ) (x : Answer) : Type 0 where
+pub record IsOtherAnswer (o : OtherModule) (index : ℕ) (x : Answer) : Type 0 where
   pub address : x.address ≡ o.address index
   pub owner : x.module ≡ other_module
   pub offset : x.offset ≡ o.offset index
@@ -88,21 +88,21 @@ pub record IsOthers (o : Others) (index : ℕ) (x : Answer) : Type 0 where
 -- overlap.
 pub record CopiesHaveRoom (l : Layout) : Type 0 where
   pub own : (i : ℕ) → IsCopied l i → IsReplaceable l i false
-  pub behind : (i raw z k : ℕ) → IsCopied l i → HasRaw l i raw → HasOwnSize l i z → k < z → IsBehind l (raw + k)
-  pub apart : (i j c d raw other z y : ℕ) → IsCopied l i → IsCopied l j → IsDefinedBy l i c → IsDefinedBy l j d → (c ≡ d → ⊥) → HasRaw l i raw → HasRaw l j other → HasOwnSize l i z → HasOwnSize l j y → AreBeside raw z other y
+  pub behind : (i raw z k : ℕ) → IsCopied l i → HasRaw l i raw → HasOwnSize l i z → k < z → IsPastFileBytes l (raw + k)
+  pub apart : (i j c d raw other z y : ℕ) → IsCopied l i → IsCopied l j → IsDefinedBy l i c → IsDefinedBy l j d → (c ≡ d → ⊥) → HasRaw l i raw → HasRaw l j other → HasOwnSize l i z → HasOwnSize l j y → DoNotOverlap raw z other y
 
 -- a legal world with that base, those answers of resolvers, and that other module
-pub record HasWorld (l : Layout) (base : ℕ) (answers : ℕ → ℕ) (others : Others) : Type 0 where
+pub record HasWorld (l : Layout) (base : ℕ) (answers : ℕ → ℕ) (others : OtherModule) : Type 0 where
   pub world : World
   pub at : world.base ≡ base
   pub legal : IsLegal l world
   pub answered : AreAnswered l world answers
-  pub found : (i : ℕ) (x : Answer) → IsReplaceable l i true → (h : HasAnswer l world i x) → IsOthers others h.index x
+  pub found : (i : ℕ) (x : Answer) → IsReplaceable l i true → (h : HasAnswer l world i x) → IsOtherAnswer others h.index x
   pub far : distance_of world other_module ≡ Ok (cast_unsigned w64 others.distance)
   pub near : (IsExecutable l.kind → ⊥) → distance_of world world.own_module ≡ Ok (cast_unsigned w64 others.own)
 
 -- the conditions on a layout under which its worlds are given
-pub record IsTold (l : Layout) : Type 0 where
+pub record IsConsistent (l : Layout) : Type 0 where
   pub faultless : errors l ≡ []
   pub numbers : NumbersFit l
   pub sizes : All (λ (s : Symbol). s.size < 2 ^ 64) l.symbols
@@ -111,8 +111,8 @@ pub record IsTold (l : Layout) : Type 0 where
 -- So there are legal worlds, whatever the resolvers answer and the other module defines: at base 0 and, if the output is movable,
 -- at every base with enough room.
 pub record WorldsAreThere : Type 0 where
-  pub zero : (l : Layout) (answers : ℕ → ℕ) (others : Others) → AreAddresses answers → AreNumbers others → IsTold l → HasWorld l 0 answers others
-  pub elsewhere : (l : Layout) (base : ℕ) (answers : ℕ → ℕ) (others : Others) → AreAddresses answers → AreNumbers others → IsMovable l.kind → IsRoomy l base → IsTold l → HasWorld l base answers others
+  pub zero : (l : Layout) (answers : ℕ → ℕ) (others : OtherModule) → AreAddresses answers → AreNumbers others → IsConsistent l → HasWorld l 0 answers others
+  pub elsewhere : (l : Layout) (base : ℕ) (answers : ℕ → ℕ) (others : OtherModule) → AreAddresses answers → AreNumbers others → IsMovable l.kind → HasRoomAbove l base → IsConsistent l → HasWorld l base answers others
 
 -- every kind except a partial object can be loaded, at its own addresses or at any base
 pub record KindsAreLoaded : Type 0 where

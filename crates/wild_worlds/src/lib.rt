@@ -1,16 +1,16 @@
 //! The premises of soundness can be met: there are legal worlds, and references that are checked in them.
 #![tactic(auto)]
 
-ghost use Rattle.wild_worlds.specs.Worlds.{ZeroIsLegal, MovedIsLegal, NoneHasNone, WorldsAreThere, KindsAreLoaded};
-ghost use Rattle.wild_worlds.specs.References.{SectionsAreKept, RelocationsRefer, ReferencesAreAsked, SlotsAreAsked, FewAreLinkedAlone, BlanksAreAsked};
+ghost use Rattle.wild_worlds.specs.Worlds.{ZeroIsLegal, MovedIsLegal, NoResolversNeeded, WorldsAreThere, KindsAreLoaded};
+ghost use Rattle.wild_worlds.specs.References.{SectionsAreKept, RelocationsRefer, ReferencesAreChecked, SlotsAreChecked, FewUseOwnSymbolOnly, ZerosAreChecked};
 ghost use Rattle.wild_worlds.specs.Joined.{PremisesAreJoined};
 ghost use Rattle.wild_worlds.specs.Symbols.{AddressesMove, ResolversAnswer, WorldsAnswer, OffsetsCount, SlotsAreOne, SizesAreWhole};
-ghost use Rattle.wild_worlds.specs.Worked.{WorkedAddressesAreAsked, WorkedBranchesAreAsked};
+ghost use Rattle.wild_worlds.specs.Worked.{WorkedAddressesAreChecked, WorkedBranchesAreChecked};
 
 use wild_geometry::layouts_are_laid_out;
 use wild_laws::images_are_sound;
-use wild_made::laws_of_calling_plans;
 use wild_references::thread_places_are_known;
+use wild_sample_layouts::laws_of_calling_plans;
 
 /// The premises of soundness can be met.
 ///
@@ -28,23 +28,23 @@ use wild_references::thread_places_are_known;
 pub fn premises_are_met()
     ensures zero { ZeroIsLegal }
     ensures elsewhere { MovedIsLegal }
-    ensures unresolved { NoneHasNone }
+    ensures unresolved { NoResolversNeeded }
     ensures worlds { WorldsAreThere }
     ensures kinds { KindsAreLoaded }
     ensures kept { SectionsAreKept }
     ensures references { RelocationsRefer }
-    ensures asked { ReferencesAreAsked }
-    ensures slots { SlotsAreAsked }
-    ensures linked { FewAreLinkedAlone }
-    ensures blanks { BlanksAreAsked }
+    ensures asked { ReferencesAreChecked }
+    ensures slots { SlotsAreChecked }
+    ensures linked { FewUseOwnSymbolOnly }
+    ensures blanks { ZerosAreChecked }
     ensures addresses { AddressesMove }
     ensures resolvers { ResolversAnswer }
     ensures answers { WorldsAnswer }
     ensures offsets { OffsetsCount }
     ensures one { SlotsAreOne }
     ensures whole { SizesAreWhole }
-    ensures branches { WorkedBranchesAreAsked }
-    ensures loads { WorkedAddressesAreAsked }
+    ensures branches { WorkedBranchesAreChecked }
+    ensures loads { WorkedAddressesAreChecked }
 {
     layouts_are_laid_out();
     thread_places_are_known();

@@ -1,4 +1,4 @@
-use Rattle.wild_loaded.proofs.Copied.{copies_there}
+use Rattle.wild_loaded.proofs.CopiedSymbols.{copies_there}
 use Rattle.wild_loaded.proofs.copies_are_there.Goals as goal
 
 pub returns : goal.returns

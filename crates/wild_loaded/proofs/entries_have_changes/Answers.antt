@@ -1,6 +1,6 @@
 use Rattle.wild_loaded.proofs.Fills.{slot_fills, pair_fills}
 use Rattle.wild_loaded.proofs.LeftFields.{left_fills}
-use Rattle.wild_loaded.proofs.Copied.{copy_fills}
+use Rattle.wild_loaded.proofs.CopiedSymbols.{copy_fills}
 use Rattle.wild_loaded.proofs.entries_have_changes.Goals as goal
 
 pub returns : goal.returns

@@ -1,4 +1,4 @@
-use Rattle.wild_loaded.proofs.Carried.{section_ends}
+use Rattle.wild_loaded.proofs.SectionBytesInMemory.{section_ends}
 use Rattle.wild_loaded.proofs.Loads.{one_owner_each}
 use Rattle.wild_loaded.proofs.owners_are_known.Goals as goal
 

@@ -1,4 +1,4 @@
-use Rattle.wild_loaded.proofs.Stored.{sections_stored, zeros_stored}
+use Rattle.wild_loaded.proofs.StoredParts.{sections_stored, zeros_stored}
 use Rattle.wild_loaded.proofs.Blanks.{blanks_stored}
 use Rattle.wild_loaded.proofs.sections_are_stored.Goals as goal
 

@@ -3,7 +3,7 @@ use Rattle.wild_loaded.proofs.tables_are_made.Goals as goal
 
 pub returns : goal.returns
 returns c = all_made (record {
-  carried = c.sections_are_carried.ensures;
+  carried = c.sections_are_in_segments.ensures;
   segments = c.segments_are_loadable.ensures;
   changes = record {
     read = c.numbers_are_read.ensures;
@@ -26,7 +26,7 @@ returns c = all_made (record {
     there = c.copies_are_there.ensures;
     zeros = c.sections_are_stored.ensures.zeros;
   };
-  flat = c.flat_is_a_run.ensures;
+  flat = c.relr_slot_is_a_run.ensures;
   found = c.places_are_loaded.ensures;
   ascend = c.places_ascend.ensures;
   blocks = c.blocks_are_whole.ensures;

@@ -26,4 +26,4 @@ returns c =
       own = c.offsets_in_the_module_are_given.ensures.linked;
       address = c.addresses_are_given.ensures.linked;
     })
-    c.thunks_go_on.ensures
+    c.thunks_jump_to_targets.ensures

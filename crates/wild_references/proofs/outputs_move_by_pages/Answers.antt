@@ -1,4 +1,4 @@
-use Rattle.wild_references.proofs.Paged.{moves_by_pages, have_bytes}
+use Rattle.wild_references.proofs.PageBases.{moves_by_pages, have_bytes}
 use Rattle.wild_references.proofs.outputs_move_by_pages.Goals as goal
 
 pub returns : goal.returns

@@ -12,7 +12,7 @@ use Rattle.wild_references.proofs.rewritten_instructions_hold.Goals as goal
 
 laws : goal.After-stubs_of_words_are_read → LawsBelow
 laws c = record {
-  alone = c.windows_are_alone.ensures;
+  alone = c.windows_have_no_other_field.ensures;
   keeps = c.rewrites_keep_the_effect.ensures;
   stand = c.rewrites_stay_in_their_patterns.ensures.stand;
   whole = c.rewrites_stay_in_their_patterns.ensures.whole;
@@ -24,8 +24,8 @@ laws c = record {
 
 words : goal.After-stubs_of_words_are_read → LawsOfWords
 words c = record {
-  alone = calls_alone c.aarch64_rows_stand_together.ensures.together c.windows_are_alone.ensures;
-  together = c.aarch64_rows_stand_together.ensures.together;
+  alone = calls_alone c.aarch64_rows_apply_together.ensures.together c.windows_have_no_other_field.ensures;
+  together = c.aarch64_rows_apply_together.ensures.together;
   keeps = c.aarch64_rewrites_keep_the_effect.ensures;
   stubs = record { value = c.stubs_are_read.ensures.value; plain = c.stubs_of_words_are_read.ensures.plain; marked = c.stubs_of_words_are_read.ensures.marked };
   pointer = c.offsets_from_the_thread_pointer_are_given.ensures.gives;

@@ -4,23 +4,23 @@ ghost use Rattle.std.specs.Int.{cast_signed, w64};
 ghost use Rattle.wild_reloc.specs.declared.dynamic.DynamicRelocationKind.TheVariants.{Irelative};
 ghost use Rattle.wild_types.specs.declared.fault.Fault.TheVariants.{MissingResolution};
 ghost use Rattle.wild_relr.specs.Places.{places};
-ghost use Rattle.wild_relr.specs.Packed.{slots};
+ghost use Rattle.wild_relr.specs.RunWords.{slots};
 ghost use Rattle.wild_needs.specs.SlotShares.{storage_words};
-ghost use Rattle.wild_tables.specs.SlotTables.{with_content, with_slot, content_of, with_header, with_block, with_general, symbol_entry, resolution_of, copied_by, with_copy};
+ghost use Rattle.wild_tables.specs.SlotTables.{with_content, with_slot, content_of, with_header, with_block, with_general, symbol_entry, resolution_of, copy_entry_of, with_copy};
 ghost use Rattle.wild_tables.specs.Rooms.{rooms, room_for_all, Fit, room_for_header, HeaderFits, room_for_block, room_for_general, slot_answer, copy_answer};
 
 use super::{TABLES, TableWriter};
-use crate::refused::Refused;
 use crate::room::{
-    Room, entries_room_with, first_short, packed_room_with, stubs_room_with, words_room_with,
+    Room, entries_room_with, first_too_small, packed_room_with, stubs_room_with, words_room_with,
 };
-use crate::slot_words::{add_entries, add_flat, add_words, add_zeros};
+use crate::slot_words::{add_entries, add_relr_slots, add_words, add_zeros};
+use crate::slot_write_error::SlotWriteError;
 use wild_records::Rela;
 use wild_reloc::DynamicRelocationKind;
 use wild_relr::block_words;
 use wild_slot::{
     EntryPart, STUB_SIZE, Setting, SlotEntry, SlotWord, WORD_SIZE, WordPart, count_entries,
-    count_flat, count_words, entry_at, slot_of, storage_pair, type_of,
+    count_relr_slots, count_words, entry_at, slot_of, storage_pair, type_of,
 };
 use wild_types::{
     At, Error, Fault, Layout, Missing, Resolution, Role, SymbolIndex, insufficient, part_of,
@@ -43,7 +43,7 @@ impl TableWriter {
         let relr = layout.options.relr;
         let machine = layout.machine;
         let got = count_words(WordPart::Got, relr, place, words);
-        let block = count_words(WordPart::Block, relr, place, words);
+        let block = count_words(WordPart::RelrGot, relr, place, words);
         let plt = count_entries(EntryPart::Plt, machine, relr, place, words);
         let relative = count_entries(EntryPart::Relative, machine, relr, place, words);
         let general = count_entries(EntryPart::General, machine, relr, place, words);
@@ -54,7 +54,7 @@ impl TableWriter {
             entries_room_with(Role::RelaPlt, &self.plt, plt),
             entries_room_with(Role::RelaDynRelative, &self.relative, relative),
             entries_room_with(Role::RelaDynGeneral, &self.general, general),
-            packed_room_with(&self.packed, count_flat(relr, place, words)),
+            packed_room_with(&self.packed, count_relr_slots(relr, place, words)),
         ]
     }
 
@@ -73,7 +73,7 @@ impl TableWriter {
         ensures fit { OnOk result (Fit (with_content layout.now place words.now stub.now self.now)) }
     {
         let rooms = self.rooms_with(layout, place, words, stub);
-        first_short(layout, self.group, &rooms)
+        first_too_small(layout, self.group, &rooms)
     }
 
     /// Writes the words of a slot at `place`, their entries and a stub, each into its table.
@@ -85,7 +85,7 @@ impl TableWriter {
         let relr = layout.options.relr;
         let machine = layout.machine;
         add_words(&mut self.got, WordPart::Got, relr, place, words);
-        add_words(&mut self.block, WordPart::Block, relr, place, words);
+        add_words(&mut self.block, WordPart::RelrGot, relr, place, words);
         self.stubs.push(stub);
         add_entries(&mut self.plt, EntryPart::Plt, machine, relr, place, words);
         add_entries(
@@ -104,7 +104,7 @@ impl TableWriter {
             place,
             words,
         );
-        add_flat(&mut self.packed, relr, place, words);
+        add_relr_slots(&mut self.packed, relr, place, words);
     }
 
     /// Writes the slots of a resolution: its words from the slot's place on, the RELA entries that fill them, the RELR words
@@ -113,14 +113,14 @@ impl TableWriter {
     ///
     /// # Errors
     ///
-    /// `Refused::Room` if a part has too little room for what comes before a fault. Otherwise `Refused::Fault` if the slots
+    /// `SlotWriteError::Room` if a part has too little room for what comes before a fault. Otherwise `SlotWriteError::Fault` if the slots
     /// have a fault. In both cases nothing changes.
     pub fn process_resolution(
         &mut self,
         layout: &Layout,
         resolution: &Resolution,
         stub: Result<[u8; STUB_SIZE], u64>,
-    ) -> Result<(), Refused>
+    ) -> Result<(), SlotWriteError>
         ensures answered { result ≡ slot_answer (room_for_all layout.now (with_slot layout.now resolution.now stub self.old)) (content_of layout.now resolution.now stub).fault }
         ensures written { OnOk result (self.new ≡ with_slot layout.now resolution.now stub self.old) }
         ensures kept { OnErr result (self.new ≡ self.old) }
@@ -137,7 +137,7 @@ impl TableWriter {
         let place = resolution.got_address.unwrap_or(0);
         self.room_for_content(layout, place, slot.words(), bytes)?;
         if let Some(fault) = slot.fault() {
-            return Err(Refused::Fault(fault));
+            return Err(SlotWriteError::Fault(fault));
         }
         self.put_content(layout, place, slot.words(), bytes);
         Ok(())
@@ -162,7 +162,7 @@ impl TableWriter {
             given,
         };
         let general = entries_room_with(Role::RelaDynGeneral, &self.general, entries);
-        first_short(layout, self.group, &[got, general])
+        first_too_small(layout, self.group, &[got, general])
     }
 
     /// Writes the reserved words and the module pair.
@@ -232,7 +232,7 @@ impl TableWriter {
     }
 
     /// Appends an entry to `rela_dyn_general`.
-    fn list_general(&mut self, layout: &Layout, entry: Rela) -> Result<(), Error>
+    fn add_general_entry(&mut self, layout: &Layout, entry: Rela) -> Result<(), Error>
         ensures answered { result ≡ room_for_general layout.now (with_general entry self.old) }
         ensures written { OnOk result (self.new ≡ with_general entry self.old) }
         ensures kept { OnErr result (self.new ≡ self.old) }
@@ -275,7 +275,7 @@ impl TableWriter {
             symbol,
             addend,
         };
-        self.list_general(layout, entry)
+        self.add_general_entry(layout, entry)
     }
 
     /// Appends the `IRELATIVE` entry with which a loader stores the result of a resolver at a place.
@@ -308,22 +308,22 @@ impl TableWriter {
         layout: &Layout,
         symbol: SymbolIndex,
     ) -> Result<(), Error>
-        ensures answered { result ≡ copy_answer (copied_by layout.now symbol) (room_for_general layout.now (with_copy layout.now symbol self.old)) }
+        ensures answered { result ≡ copy_answer (copy_entry_of layout.now symbol) (room_for_general layout.now (with_copy layout.now symbol self.old)) }
         ensures written { OnOk result (self.new ≡ with_copy layout.now symbol self.old) }
         ensures kept { OnErr result (self.new ≡ self.old) }
     {
-        match copied_by(layout, symbol) {
-            Ok(entry) => self.list_general(layout, entry),
+        match copy_entry_of(layout, symbol) {
+            Ok(entry) => self.add_general_entry(layout, entry),
             Err(fault) => Err(Error {
                 fault,
-                at: At::NOWHERE,
+                at: At::NO_PLACE,
             }),
         }
     }
 }
 
 /// The fault of a symbol that has no address or no dynamic symbol index.
-fn lacks(what: Missing, symbol: SymbolIndex) -> Fault
+fn missing_resolution(what: Missing, symbol: SymbolIndex) -> Fault
     ensures { result ≡ MissingResolution what symbol }
 {
     Fault::MissingResolution {
@@ -343,14 +343,14 @@ fn resolution_of(layout: &Layout, symbol: SymbolIndex) -> Option<Resolution>
 }
 
 /// The `COPY` entry of a symbol. Fails if the symbol has no resolution or no dynamic symbol index.
-fn copied_by(layout: &Layout, symbol: SymbolIndex) -> Result<Rela, Fault>
-    ensures { result ≡ copied_by layout.now symbol }
+fn copy_entry_of(layout: &Layout, symbol: SymbolIndex) -> Result<Rela, Fault>
+    ensures { result ≡ copy_entry_of layout.now symbol }
 {
     let Some(resolution) = resolution_of(layout, symbol) else {
-        return Err(lacks(Missing::Address, symbol));
+        return Err(missing_resolution(Missing::Address, symbol));
     };
     let Some(index) = resolution.dynamic_symbol_index else {
-        return Err(lacks(Missing::DynamicSymbol, symbol));
+        return Err(missing_resolution(Missing::DynamicSymbol, symbol));
     };
     let copy = SlotEntry {
         kind: DynamicRelocationKind::Copy,

@@ -1,4 +1,4 @@
-use Rattle.wild_worlds.proofs.Joined.{premises_joined}
+use Rattle.wild_worlds.proofs.JointPremises.{premises_joined}
 use Rattle.wild_worlds.proofs.premises_are_joined.Goals as goal
 
 pub returns : goal.returns

@@ -2,7 +2,7 @@ use Rattle.wild_worlds.proofs.Absolute.{not_absolute}
 use Rattle.wild_worlds.proofs.Worlds.{zero_legal, moved_legal, worlds_there, offsets_count}
 use Rattle.wild_worlds.proofs.Resolvers.{none_needed}
 use Rattle.wild_worlds.proofs.Premises.{kinds_loaded, sections_kept, relocations_refer, references_asked, slots_asked, few_alone, blanks_asked, addresses_move}
-use Rattle.wild_worlds.proofs.Indirect.{resolvers_answer, worlds_answer}
+use Rattle.wild_worlds.proofs.AnsweredValues.{resolvers_answer, worlds_answer}
 use Rattle.wild_worlds.proofs.OneSlot.{slots_one, sizes_whole}
 use Rattle.wild_worlds.proofs.Worked.{branches_asked, addresses_asked}
 use Rattle.wild_worlds.proofs.premises_are_met.Goals as goal

@@ -1,6 +1,6 @@
 use Rattle.std.proofs.Common.{◌≡◌, ◌+◌, ◌-◌, ◌^◌, ◌<◌, drop, min}
 use Rattle.wild_types.specs.Lists.{total}
-use Rattle.wild_clauses.specs.Counts.{symbols_in}
+use Rattle.wild_plan_rules.specs.Counts.{symbols_in}
 use Rattle.wild_clauses.proofs.counts.symbols_of_group.Given as goal
 
 abbrev pub invariant-loop-file : goal.invariant-loop-file

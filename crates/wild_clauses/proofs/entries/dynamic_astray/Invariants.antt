@@ -1,5 +1,5 @@
 use Rattle.std.proofs.Common.{◌≡◌, drop}
-use Rattle.wild_clauses.specs.Segments.{dynamic_astray}
+use Rattle.wild_plan_rules.specs.Segments.{dynamic_astray}
 use Rattle.wild_types.specs.Parts.{part_with}
 use Rattle.wild_clauses.proofs.entries.dynamic_astray.Given as goal
 use Rattle.wild_types.specs.declared.part.Role.TheVariants as role

@@ -1,6 +1,6 @@
 use Rattle.std.proofs.Common.{◌≡◌, drop}
 use Rattle.std.specs.List.{list_any}
-use Rattle.wild_clauses.specs.LoadedTables.{carries_table}
+use Rattle.wild_plan_rules.specs.LoadedTables.{carries_table}
 use Rattle.wild_clauses.proofs.entries.is_carried.Given as goal
 
 abbrev pub invariant-loop-segment : goal.invariant-loop-segment

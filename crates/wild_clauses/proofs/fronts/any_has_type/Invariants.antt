@@ -1,6 +1,6 @@
 use Rattle.std.proofs.Common.{◌≡◌, drop}
 use Rattle.std.specs.List.{list_any}
-use Rattle.wild_clauses.specs.Fronts.{has_type}
+use Rattle.wild_plan_rules.specs.Fronts.{has_type}
 use Rattle.wild_clauses.proofs.fronts.any_has_type.Given as goal
 
 abbrev pub invariant-loop-property : goal.invariant-loop-property

@@ -1,5 +1,5 @@
 use Rattle.std.proofs.Common.{◌≡◌, drop}
-use Rattle.wild_clauses.specs.Fronts.{front_shared}
+use Rattle.wild_plan_rules.specs.Fronts.{front_shared}
 use Rattle.wild_clauses.proofs.fronts.front_shared.Given as goal
 
 abbrev pub invariant-loop-i : goal.invariant-loop-i

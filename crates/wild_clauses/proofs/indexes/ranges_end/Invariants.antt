@@ -1,5 +1,5 @@
 use Rattle.std.proofs.Common.{◌≡◌, drop}
-use Rattle.wild_clauses.specs.Indexes.{range_follows}
+use Rattle.wild_plan_rules.specs.Indexes.{range_follows}
 use Rattle.wild_types.specs.Lists.{through}
 use Rattle.wild_clauses.proofs.indexes.ranges_end.Given as goal
 

@@ -1,7 +1,7 @@
 use Rattle.std.proofs.Common.{sym, ap, ◌∙◌}
 use Rattle.wild_types.specs.Lists.{first_failing}
-use Rattle.wild_clauses.specs.ClauseTests.{fails}
-use Rattle.wild_clauses.specs.Contents.{names_sorted}
+use Rattle.wild_plan_rules.specs.ClauseTests.{fails}
+use Rattle.wild_plan_rules.specs.Contents.{names_sorted}
 use Rattle.wild_clauses.proofs.PassedLemmas.{inputs_pass}
 use Rattle.wild_clauses.proofs.inputs.check_inputs.Goals as goal
 

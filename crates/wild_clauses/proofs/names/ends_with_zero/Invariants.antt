@@ -1,5 +1,5 @@
 use Rattle.std.proofs.Common.{◌≡◌, drop}
-use Rattle.wild_clauses.specs.ZeroFree.{ends_with_zero}
+use Rattle.wild_plan_rules.specs.ZeroFree.{ends_with_zero}
 use Rattle.wild_clauses.proofs.names.ends_with_zero.Given as goal
 
 abbrev pub invariant-loop-i : goal.invariant-loop-i

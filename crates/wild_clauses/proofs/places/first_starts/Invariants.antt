@@ -1,5 +1,5 @@
 use Rattle.std.proofs.Common.{◌≡◌, ℕ, ◌<◌, get_or}
-use Rattle.wild_clauses.specs.Contents.{addresses}
+use Rattle.wild_plan_rules.specs.Contents.{addresses}
 use Rattle.wild_clauses.proofs.places.first_starts.Given as goal
 
 abbrev pub invariant-loop-k : goal.invariant-loop-k

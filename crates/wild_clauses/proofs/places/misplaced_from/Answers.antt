@@ -1,8 +1,8 @@
 use Rattle.std.proofs.Common.{◌≡◌, ◌+◌, get_or, sym, ◌∙◌, true, false}
-use Rattle.wild_clauses.proofs.BlockLemmas.{group_placed}
+use Rattle.wild_plan_rules.proofs.BlockLemmas.{group_placed}
 use Rattle.wild_clauses.proofs.MisplacedLemmas.{misplaced-here, misplaced-next}
 use Rattle.wild_clauses.proofs.RoomLemmas.{room_here, room_behind}
-use Rattle.wild_clauses.specs.Contents.{parts_placed}
+use Rattle.wild_plan_rules.specs.Contents.{parts_placed}
 use Rattle.wild_clauses.proofs.places.misplaced_from.Goals as goal
 
 pub returns-then-not-pass_files : goal.returns-then-not-pass_files

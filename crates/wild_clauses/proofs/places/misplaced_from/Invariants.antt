@@ -1,7 +1,7 @@
 use Rattle.std.proofs.Common.{◌≡◌, ℕ, ◌+◌, ◌^◌, ◌<◌, drop, get_or, length}
 use Rattle.wild_types.specs.Lists.{total}
 use Rattle.wild_types.specs.FilePlaces.{given}
-use Rattle.wild_clauses.specs.Misplaced.{misplaced}
+use Rattle.wild_plan_rules.specs.MisplacedSections.{misplaced}
 use Rattle.wild_clauses.proofs.places.misplaced_from.Given as goal
 
 abbrev pub invariant-loop-i : goal.invariant-loop-i

@@ -1,6 +1,6 @@
 use Rattle.std.proofs.Common.{arith}
 use Rattle.std.proofs.lemmas.List.{ext_get_or}
-use Rattle.wild_clauses.proofs.BlockLemmas.{is_ends_of}
+use Rattle.wild_plan_rules.proofs.BlockLemmas.{is_ends_of}
 use Rattle.wild_clauses.proofs.places.move_starts.Goals as goal
 
 pub returns-clause-ends : goal.returns-clause-ends

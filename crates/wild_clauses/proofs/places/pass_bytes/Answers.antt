@@ -1,5 +1,5 @@
 use Rattle.std.proofs.Common.{◌-◌, inl, inr, arith}
-use Rattle.wild_clauses.proofs.BlockLemmas.{at_part_in, at_part_out}
+use Rattle.wild_plan_rules.proofs.BlockLemmas.{at_part_in, at_part_out}
 use Rattle.wild_clauses.proofs.places.pass_bytes.Goals as goal
 use Rattle.wild_clauses.proofs.places.pass_bytes.Goals.{then-section-cursors-via-then-section-cursors, then-section-cursors-via-else-section-cursors+then-from-behind}
 

@@ -1,6 +1,6 @@
 use Rattle.std.proofs.Common.{◌≡◌, drop, length}
 use Rattle.wild_types.specs.Lists.{through}
-use Rattle.wild_clauses.specs.Misplaced.{file_all_placed}
+use Rattle.wild_plan_rules.specs.MisplacedSections.{file_all_placed}
 use Rattle.wild_clauses.proofs.places.pass_files.Given as goal
 
 abbrev pub invariant-loop-file : goal.invariant-loop-file

@@ -1,5 +1,5 @@
 use Rattle.std.proofs.Common.{sym, ◌∙◌}
-use Rattle.wild_clauses.specs.Misplaced.{all_placed}
+use Rattle.wild_plan_rules.specs.MisplacedSections.{all_placed}
 use Rattle.wild_clauses.proofs.OrderedLemmas.{ordered_next, ordered_out}
 use Rattle.wild_clauses.proofs.places.pass_order.Goals as goal
 

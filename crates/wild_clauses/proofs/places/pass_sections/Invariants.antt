@@ -1,6 +1,6 @@
 use Rattle.std.proofs.Common.{◌≡◌, drop, length}
 use Rattle.wild_types.specs.Lists.{through}
-use Rattle.wild_clauses.specs.Misplaced.{all_placed}
+use Rattle.wild_plan_rules.specs.MisplacedSections.{all_placed}
 use Rattle.wild_clauses.proofs.places.pass_sections.Given as goal
 
 abbrev pub invariant-loop-section : goal.invariant-loop-section

@@ -1,6 +1,6 @@
 use Rattle.std.proofs.Common.{◌≡◌, ◌-◌, drop, length}
-use Rattle.wild_clauses.specs.Contents.{addresses}
-use Rattle.wild_clauses.specs.Misplaced.{earlier, misplaced}
+use Rattle.wild_plan_rules.specs.Contents.{addresses}
+use Rattle.wild_plan_rules.specs.MisplacedSections.{earlier, misplaced}
 use Rattle.wild_clauses.proofs.places.section_misplaced.Given as goal
 
 abbrev pub invariant-loop-part : goal.invariant-loop-part

@@ -1,5 +1,5 @@
 use Rattle.std.proofs.Common.{◌≡◌, drop}
-use Rattle.wild_clauses.specs.Places.{role_not_at}
+use Rattle.wild_plan_rules.specs.Places.{role_not_at}
 use Rattle.wild_clauses.proofs.roles.role_not_at.Given as goal
 
 abbrev pub invariant-loop-i : goal.invariant-loop-i

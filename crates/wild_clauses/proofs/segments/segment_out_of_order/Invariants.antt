@@ -1,5 +1,5 @@
 use Rattle.std.proofs.Common.{◌≡◌, drop}
-use Rattle.wild_clauses.specs.Segments.{segment_out_of_order}
+use Rattle.wild_plan_rules.specs.Segments.{segment_out_of_order}
 use Rattle.wild_clauses.proofs.segments.segment_out_of_order.Given as goal
 
 abbrev pub invariant-loop-i : goal.invariant-loop-i

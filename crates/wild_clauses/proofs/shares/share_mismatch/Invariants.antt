@@ -1,5 +1,5 @@
 use Rattle.std.proofs.Common.{◌≡◌, drop}
-use Rattle.wild_clauses.specs.Contents.{share_mismatch}
+use Rattle.wild_plan_rules.specs.Contents.{share_mismatch}
 use Rattle.wild_clauses.proofs.shares.share_mismatch.Given as goal
 
 abbrev pub invariant-loop-i : goal.invariant-loop-i

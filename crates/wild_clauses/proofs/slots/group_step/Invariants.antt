@@ -1,5 +1,5 @@
 use Rattle.std.proofs.Common.{◌≡◌, drop}
-use Rattle.wild_clauses.specs.SlotPlaces.{IsBounded, walk, file_step}
+use Rattle.wild_plan_rules.specs.SlotPlaces.{IsBounded, walk, file_step}
 use Rattle.wild_clauses.proofs.slots.group_step.Given as goal
 
 abbrev pub invariant-loop-file : goal.invariant-loop-file

@@ -1,5 +1,5 @@
 use Rattle.std.proofs.Common.{◌≡◌, drop}
-use Rattle.wild_clauses.specs.SlotPlaces.{IsBounded, walk, group_step}
+use Rattle.wild_plan_rules.specs.SlotPlaces.{IsBounded, walk, group_step}
 use Rattle.wild_clauses.proofs.slots.walk_groups.Given as goal
 
 abbrev pub invariant-loop-group : goal.invariant-loop-group

@@ -1,5 +1,5 @@
 use Rattle.std.proofs.Common.{◌≡◌, ◌*◌, ◌^◌, drop}
-use Rattle.wild_clauses.specs.GroupStarts.{AreBelow, no_starts, start_astray}
+use Rattle.wild_plan_rules.specs.GroupStarts.{AreBelow, no_starts, start_astray}
 use Rattle.wild_clauses.proofs.starts.start_astray.Given as goal
 
 abbrev pub invariant-loop-i : goal.invariant-loop-i

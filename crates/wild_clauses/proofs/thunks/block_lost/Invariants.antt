@@ -1,5 +1,5 @@
 use Rattle.std.proofs.Common.{◌≡◌, drop}
-use Rattle.wild_clauses.specs.Thunks.{block_lost}
+use Rattle.wild_plan_rules.specs.Thunks.{block_lost}
 use Rattle.wild_clauses.proofs.thunks.block_lost.Given as goal
 
 abbrev pub invariant-loop-i : goal.invariant-loop-i

@@ -1,7 +1,7 @@
 use Rattle.std.proofs.Common.{◌≡◌, drop}
 use Rattle.std.specs.List.{list_any}
 use Rattle.wild_types.specs.declared.file.Group.{Group}
-use Rattle.wild_clauses.specs.Thunks.{owns}
+use Rattle.wild_plan_rules.specs.Thunks.{owns}
 use Rattle.wild_clauses.proofs.thunks.is_owned.Given as goal
 
 abbrev pub invariant-loop-group : goal.invariant-loop-group

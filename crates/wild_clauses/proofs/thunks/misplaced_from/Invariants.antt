@@ -1,5 +1,5 @@
 use Rattle.std.proofs.Common.{◌≡◌, ◌≤◌, ◌^◌, drop}
-use Rattle.wild_clauses.specs.Thunks.{misplaced_from}
+use Rattle.wild_plan_rules.specs.Thunks.{misplaced_from}
 use Rattle.wild_clauses.proofs.thunks.misplaced_from.Given as goal
 
 abbrev pub invariant-loop-i : goal.invariant-loop-i

@@ -1,6 +1,6 @@
 use Rattle.std.proofs.Common.{◌≡◌, drop}
 use Rattle.std.specs.List.{list_any}
-use Rattle.wild_clauses.specs.Thunks.{owns}
+use Rattle.wild_plan_rules.specs.Thunks.{owns}
 use Rattle.wild_clauses.proofs.thunks.own.Given as goal
 
 abbrev pub invariant-loop-file : goal.invariant-loop-file

@@ -1,5 +1,5 @@
 use Rattle.std.proofs.Common.{◌≡◌, ◌≤◌, ◌^◌, drop}
-use Rattle.wild_clauses.specs.Thunks.{ascends_from}
+use Rattle.wild_plan_rules.specs.Thunks.{ascends_from}
 use Rattle.wild_clauses.proofs.thunks.symbols_ascend.Given as goal
 
 abbrev pub invariant-loop-thunk : goal.invariant-loop-thunk

@@ -1,6 +1,6 @@
 use Rattle.std.proofs.Common.{◌≡◌, ◌≤◌, ◌^◌, drop}
-use Rattle.wild_clauses.specs.SlotPlaces.{walk}
-use Rattle.wild_clauses.specs.Thunks.{file_step}
+use Rattle.wild_plan_rules.specs.SlotPlaces.{walk}
+use Rattle.wild_plan_rules.specs.Thunks.{file_step}
 use Rattle.wild_clauses.proofs.thunks.walk_files.Given as goal
 
 abbrev pub invariant-loop-file : goal.invariant-loop-file

@@ -1,5 +1,5 @@
 use Rattle.std.proofs.Common.{rules, sym, ◌∙◌}
-use Rattle.wild_clauses.specs.Thunks.{section_step}
+use Rattle.wild_plan_rules.specs.Thunks.{section_step}
 use Rattle.wild_clauses.proofs.OrderedLemmas.{walk_next, walk_out}
 use Rattle.wild_clauses.proofs.thunks.walk_order.Goals as goal
 

@@ -1,6 +1,6 @@
 use Rattle.std.proofs.Common.{◌≡◌, ◌≤◌, ◌^◌, drop}
-use Rattle.wild_clauses.specs.SlotPlaces.{walk}
-use Rattle.wild_clauses.specs.Thunks.{section_step}
+use Rattle.wild_plan_rules.specs.SlotPlaces.{walk}
+use Rattle.wild_plan_rules.specs.Thunks.{section_step}
 use Rattle.wild_clauses.proofs.thunks.walk_sections.Given as goal
 
 abbrev pub invariant-loop-section : goal.invariant-loop-section

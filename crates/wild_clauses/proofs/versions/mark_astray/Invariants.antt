@@ -1,5 +1,5 @@
 use Rattle.std.proofs.Common.{◌≡◌, drop}
-use Rattle.wild_clauses.specs.VersionTables.{mark_astray}
+use Rattle.wild_plan_rules.specs.VersionTables.{mark_astray}
 use Rattle.wild_clauses.proofs.versions.mark_astray.Given as goal
 
 abbrev pub invariant-loop-i : goal.invariant-loop-i

@@ -1,7 +1,7 @@
 use Rattle.std.proofs.Common.{sym, ◌∙◌, arith}
 use Rattle.std.proofs.lemmas.List.{at_drop_all}
 use Rattle.wild_types.specs.Lists.{through}
-use Rattle.wild_clauses.specs.VersionTables.{mark_step}
+use Rattle.wild_plan_rules.specs.VersionTables.{mark_step}
 use Rattle.wild_clauses.proofs.VersionLemmas.{left_behind}
 use Rattle.wild_clauses.proofs.versions.marks_left.Goals as goal
 

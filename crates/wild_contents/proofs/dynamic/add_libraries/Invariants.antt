@@ -1,6 +1,6 @@
 use Rattle.std.proofs.Common.{◌≡◌, ◌++◌, drop}
 use Rattle.wild_needs.specs.DynamicStrings.{needed_from}
-use Rattle.wild_tables.specs.Dynamic.{entries_bytes}
+use Rattle.wild_table_formats.specs.DynamicSection.{entries_bytes}
 use Rattle.wild_contents.proofs.dynamic.add_libraries.Given as goal
 
 abbrev pub invariant-loop-file : goal.invariant-loop-file

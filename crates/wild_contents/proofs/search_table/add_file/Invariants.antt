@@ -1,7 +1,7 @@
 use Rattle.std.proofs.Common.{◌≡◌, ◌++◌, drop}
 use Rattle.wild_types.specs.Lists.{total}
-use Rattle.wild_laid.specs.FrameInputs.{kept_size}
-use Rattle.wild_laid.specs.Laid.{file_frames, behind}
+use Rattle.wild_placement.specs.FrameInputs.{kept_size}
+use Rattle.wild_placement.specs.PlacedSections.{file_frames, behind}
 use Rattle.wild_layout.specs.SearchTable.{sections_fdes}
 use Rattle.wild_contents.proofs.search_table.add_file.Given as goal
 

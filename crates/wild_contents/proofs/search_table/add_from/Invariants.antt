@@ -2,7 +2,7 @@ use Rattle.std.proofs.Common.{◌≡◌, ◌++◌, ◌-◌, length}
 use Rattle.std.specs.List.{flat_map}
 use Rattle.wild_frames.specs.Frames.{start, rest_of}
 use Rattle.wild_frames.specs.Walks.{state_of, Fits}
-use Rattle.wild_laid.specs.FrameInputs.{frames_of}
+use Rattle.wild_placement.specs.FrameInputs.{frames_of}
 use Rattle.wild_contents.specs.SearchTable.{found_fdes}
 use Rattle.wild_contents.proofs.search_table.add_from.Given as goal
 

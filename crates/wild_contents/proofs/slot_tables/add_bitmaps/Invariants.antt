@@ -1,6 +1,6 @@
 use Rattle.std.proofs.Common.{◌≡◌, ◌++◌}
-use Rattle.wild_relr.specs.Packed.{bitmaps, bitmap_count}
-use Rattle.wild_relr.specs.Written.{word_bytes}
+use Rattle.wild_relr.specs.RunWords.{bitmaps, bitmap_count}
+use Rattle.wild_relr.specs.WriterState.{word_bytes}
 use Rattle.wild_contents.proofs.slot_tables.add_bitmaps.Given as goal
 
 abbrev pub invariant-loop-rest : goal.invariant-loop-rest

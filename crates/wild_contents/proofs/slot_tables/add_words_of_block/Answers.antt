@@ -1,7 +1,7 @@
 use Rattle.std.proofs.Common.{ap, arith}
 use Rattle.std.proofs.lemmas.Result.{on_ok_weaker}
-use Rattle.wild_relr.specs.Written.{word_bytes}
-use Rattle.wild_contents.proofs.OwnLemmas.{none_added}
+use Rattle.wild_relr.specs.WriterState.{word_bytes}
+use Rattle.wild_contents.proofs.FileTableLemmas.{none_added}
 use Rattle.wild_contents.proofs.SlotLemmas.{no_base, no_slots, block_added}
 use Rattle.wild_contents.proofs.slot_tables.add_words_of_block.Goals as goal
 use Rattle.wild_contents.proofs.slot_tables.add_words_of_block.Goals.{then-block-eq0-via-then-block-eq0, then-block-eq0-via-else-block-eq0+then-block-eq0-2}

@@ -1,5 +1,5 @@
 use Rattle.std.proofs.Common.{◌≡◌, ◌++◌, drop}
-use Rattle.wild_tables.specs.Entries.{rela_bytes}
+use Rattle.wild_table_formats.specs.RelativeEntries.{rela_bytes}
 use Rattle.wild_slot.specs.SlotParts.{slot_entries}
 use Rattle.wild_contents.proofs.slot_words.add_slot_entries.Given as goal
 

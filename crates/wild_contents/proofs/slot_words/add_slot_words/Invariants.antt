@@ -1,5 +1,5 @@
 use Rattle.std.proofs.Common.{◌≡◌, ◌++◌, drop}
-use Rattle.wild_relr.specs.Written.{word_bytes}
+use Rattle.wild_relr.specs.WriterState.{word_bytes}
 use Rattle.wild_slot.specs.SlotParts.{slot_words}
 use Rattle.wild_contents.proofs.slot_words.add_slot_words.Given as goal
 

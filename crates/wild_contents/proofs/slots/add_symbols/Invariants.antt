@@ -1,6 +1,6 @@
 use Rattle.std.proofs.Common.{◌≡◌, ◌++◌, take}
 use Rattle.std.specs.List.{flat_map}
-use Rattle.wild_contents.specs.Own.{symbol_slot_bytes}
+use Rattle.wild_contents.specs.FileTables.{symbol_slot_bytes}
 use Rattle.wild_contents.proofs.slots.add_symbols.Given as goal
 
 abbrev pub invariant-loop-symbol : goal.invariant-loop-symbol

@@ -1,5 +1,5 @@
 use Rattle.std.proofs.Common.{◌∙◌, sym}
-use Rattle.wild_contents.proofs.OwnLemmas.{none_added}
+use Rattle.wild_contents.proofs.FileTableLemmas.{none_added}
 use Rattle.wild_contents.proofs.StringLemmas.{no_strings, strings_added}
 use Rattle.wild_contents.proofs.strings.add_dynamic_strings.Goals as goal
 

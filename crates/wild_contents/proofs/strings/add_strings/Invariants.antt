@@ -1,5 +1,5 @@
 use Rattle.std.proofs.Common.{◌≡◌, ◌++◌, take}
-use Rattle.wild_symbols.specs.Strings.{string_bytes}
+use Rattle.wild_table_formats.specs.Strings.{string_bytes}
 use Rattle.wild_contents.proofs.strings.add_strings.Given as goal
 
 abbrev pub invariant-loop-text : goal.invariant-loop-text

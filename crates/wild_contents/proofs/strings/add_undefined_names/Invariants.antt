@@ -2,7 +2,7 @@ use Rattle.std.proofs.Common.{◌≡◌, ◌++◌, drop}
 use Rattle.std.specs.List.{filter}
 use Rattle.wild_needs.specs.DynamicStrings.{symbol_names}
 use Rattle.wild_needs.specs.DynamicSymbols.{is_undefined_entry}
-use Rattle.wild_symbols.specs.Strings.{string_bytes}
+use Rattle.wild_table_formats.specs.Strings.{string_bytes}
 use Rattle.wild_contents.proofs.strings.add_undefined_names.Given as goal
 
 abbrev pub invariant-loop-symbol : goal.invariant-loop-symbol

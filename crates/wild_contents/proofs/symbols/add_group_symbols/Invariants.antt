@@ -1,6 +1,6 @@
 use Rattle.std.proofs.Common.{◌≡◌, ◌++◌, drop}
-use Rattle.wild_symbols.specs.DynamicEntries.{entries_from}
-use Rattle.wild_symbols.specs.Symbols.{symbol_bytes}
+use Rattle.wild_table_formats.specs.DynamicEntries.{entries_from}
+use Rattle.wild_table_formats.specs.Symbols.{symbol_bytes}
 use Rattle.wild_contents.proofs.symbols.add_group_symbols.Given as goal
 
 abbrev pub invariant-loop-file : goal.invariant-loop-file

@@ -1,6 +1,6 @@
 use Rattle.std.proofs.Common.{◌≡◌, ◌++◌, drop, map}
-use Rattle.wild_symbols.specs.DynamicEntries.{listed, entries_at}
-use Rattle.wild_symbols.specs.Symbols.{symbol_bytes}
+use Rattle.wild_table_formats.specs.DynamicEntries.{listed, entries_at}
+use Rattle.wild_table_formats.specs.Symbols.{symbol_bytes}
 use Rattle.wild_contents.proofs.symbols.add_listed.Given as goal
 
 abbrev pub invariant-loop-symbol : goal.invariant-loop-symbol

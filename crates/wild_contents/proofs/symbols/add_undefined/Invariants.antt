@@ -1,8 +1,8 @@
 use Rattle.std.proofs.Common.{◌≡◌, ◌++◌, drop, map}
 use Rattle.std.specs.List.{filter}
 use Rattle.wild_needs.specs.DynamicSymbols.{is_undefined_entry}
-use Rattle.wild_symbols.specs.DynamicEntries.{undefined, entries_at}
-use Rattle.wild_symbols.specs.Symbols.{symbol_bytes}
+use Rattle.wild_table_formats.specs.DynamicEntries.{undefined, entries_at}
+use Rattle.wild_table_formats.specs.Symbols.{symbol_bytes}
 use Rattle.wild_contents.proofs.symbols.add_undefined.Given as goal
 
 abbrev pub invariant-loop-symbol : goal.invariant-loop-symbol

@@ -2,7 +2,7 @@ use Rattle.std.proofs.Common.{List, arith, ◌∙◌, subst}
 use Rattle.std.specs.List.{flat_map}
 use Rattle.std.proofs.lemmas.List.{take_all}
 use Rattle.wild_types.specs.declared.file.File.{File}
-use Rattle.wild_symbols.specs.TableEntries.{file_table}
+use Rattle.wild_table_formats.specs.TableEntries.{file_table}
 use Rattle.wild_contents.specs.Walks.{Walks}
 use Rattle.wild_needs.specs.declared.table.TablePart.TheVariants.{Side}
 use Rattle.wild_contents.proofs.WalkLemmas.{table_walked}

@@ -1,6 +1,6 @@
 use Rattle.std.proofs.Common.{take}
 use Rattle.std.specs.List.{flat_map}
-use Rattle.wild_symbols.specs.TableEntries.{file_table}
+use Rattle.wild_table_formats.specs.TableEntries.{file_table}
 use Rattle.wild_contents.specs.Walks.{Walks}
 use Rattle.wild_needs.specs.declared.table.TablePart.TheVariants.{Side}
 use Rattle.wild_contents.proofs.symtab.add_group_table.Given as goal

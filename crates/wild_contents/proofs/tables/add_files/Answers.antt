@@ -3,7 +3,7 @@ use Rattle.std.specs.List.{flat_map}
 use Rattle.std.specs.Prelude.{OnOk}
 use Rattle.std.proofs.lemmas.Result.{IfOk-weaker}
 use Rattle.wild_types.specs.declared.file.File.{File}
-use Rattle.wild_contents.specs.Laid.{first_given}
+use Rattle.wild_contents.specs.PlacedSections.{first_given}
 use Rattle.wild_contents.proofs.FileLemmas.{files_table}
 use Rattle.wild_contents.proofs.tables.add_files.Goals as goal
 

@@ -1,6 +1,6 @@
 use Rattle.std.proofs.Common.{◌≡◌, ◌++◌, take}
 use Rattle.std.specs.List.{flat_map}
-use Rattle.wild_contents.specs.Laid.{first_given}
+use Rattle.wild_contents.specs.PlacedSections.{first_given}
 use Rattle.wild_contents.proofs.tables.add_search_table.Given as goal
 
 abbrev pub invariant-loop-file : goal.invariant-loop-file

@@ -8,26 +8,26 @@ loop-walk-init g c = counted_start (g.F.FrameSource.frames c.args.frames.now) c.
 pub overflow_add-bytes : goal.overflow_add-bytes
 overflow_add-bytes g c =
     let i = c.loop-walk.invariant in
-    let m = small_last (g.F.FrameSource.frames c.args.frames.now) c.loop-walk.walk c.step-found.new.self c.loop-walk.fdes c.step-found.result i (c.step-found.ensures i.state i.on) (sym c.goes_on.ensures ∙ c.if-not-goes_on.true) in
+    let m = small_last (g.F.FrameSource.frames c.args.frames.now) c.loop-walk.walk c.step-found.new.self c.loop-walk.fdes c.step-found.result i (c.step-found.ensures i.state i.on) (sym c.walk_continues.ensures ∙ c.if-not-walk_continues.true) in
     let e = c.count_bytes.ensures in
     let h = c.byte_count-length.type_inv in
     let b = c.byte_count-length.ensures in
     omega (arith, m, e)
 
-pub returns-then-not-goes_on-clause-bytes : goal.returns-then-not-goes_on-clause-bytes
-returns-then-not-goes_on-clause-bytes g c =
+pub returns-then-not-walk_continues-clause-bytes : goal.returns-then-not-walk_continues-clause-bytes
+returns-then-not-walk_continues-clause-bytes g c =
     let i = c.loop-walk.invariant in
-    let m = counted_bytes (g.F.FrameSource.frames c.args.frames.now) c.loop-walk.walk c.step-found.new.self c.loop-walk.fdes c.step-found.result i (c.step-found.ensures i.state i.on) (sym c.goes_on.ensures ∙ c.if-not-goes_on.true) in
+    let m = counted_bytes (g.F.FrameSource.frames c.args.frames.now) c.loop-walk.walk c.step-found.new.self c.loop-walk.fdes c.step-found.result i (c.step-found.ensures i.state i.on) (sym c.walk_continues.ensures ∙ c.if-not-walk_continues.true) in
     let e = c.count_bytes.ensures in
     omega (arith, m, e)
 
-pub returns-then-not-goes_on-clause-fdes : goal.returns-then-not-goes_on-clause-fdes
-returns-then-not-goes_on-clause-fdes g c =
+pub returns-then-not-walk_continues-clause-fdes : goal.returns-then-not-walk_continues-clause-fdes
+returns-then-not-walk_continues-clause-fdes g c =
     let i = c.loop-walk.invariant in
-    counted_fdes (g.F.FrameSource.frames c.args.frames.now) c.loop-walk.walk c.step-found.new.self c.loop-walk.fdes c.step-found.result i (c.step-found.ensures i.state i.on) (sym c.goes_on.ensures ∙ c.if-not-goes_on.true)
+    counted_fdes (g.F.FrameSource.frames c.args.frames.now) c.loop-walk.walk c.step-found.new.self c.loop-walk.fdes c.step-found.result i (c.step-found.ensures i.state i.on) (sym c.walk_continues.ensures ∙ c.if-not-walk_continues.true)
 
 pub loop-walk-preserved : goal.loop-walk-preserved
 loop-walk-preserved g c =
     let i = c.loop-walk.invariant in
-    counted_on (g.F.FrameSource.frames c.args.frames.now) c.loop-walk.walk c.step-found.new.self c.loop-walk.fdes _ c.step-found.result i (c.step-found.ensures i.state i.on) (sym c.goes_on.ensures ∙ c.if-not-goes_on.false)
+    counted_on (g.F.FrameSource.frames c.args.frames.now) c.loop-walk.walk c.step-found.new.self c.loop-walk.fdes _ c.step-found.result i (c.step-found.ensures i.state i.on) (sym c.walk_continues.ensures ∙ c.if-not-walk_continues.false)
     (ap (λ n. c.loop-walk.fdes + n) c.count_fdes-fdes.ensures)

@@ -1,6 +1,6 @@
 use Rattle.std.proofs.Common.{◌≡◌, drop}
 use Rattle.wild_types.specs.declared.part.Role.TheVariants.{SectionHeaders}
-use Rattle.wild_headers.specs.Headers.{offset_of_role}
+use Rattle.wild_table_formats.specs.Headers.{offset_of_role}
 use Rattle.wild_headers.proofs.numbers.section_headers_offset.Given as goal
 
 abbrev pub invariant-loop-part : goal.invariant-loop-part

@@ -1,5 +1,5 @@
 use Rattle.std.proofs.Common.{◌≡◌, drop}
-use Rattle.wild_headers.specs.Headers.{section_of_role}
+use Rattle.wild_table_formats.specs.Headers.{section_of_role}
 use Rattle.wild_headers.proofs.numbers.section_of_role.Given as goal
 
 abbrev pub invariant-loop-part : goal.invariant-loop-part

@@ -2,8 +2,8 @@ use Rattle.std.proofs.Common.{ℕ, List, arith}
 use Rattle.wild_words.specs.Record.{spell}
 use Rattle.wild_records.specs.ProgramHeader.{program_header_fields}
 use Rattle.wild_types.specs.declared.section.Segment.{Segment}
-use Rattle.wild_headers.specs.Headers.{program_header}
-use Rattle.wild_headers.proofs.HeaderLemmas.{table-more, length-program_header}
+use Rattle.wild_table_formats.specs.Headers.{program_header}
+use Rattle.wild_table_formats.proofs.HeaderLemmas.{table-more, length-program_header}
 use Rattle.wild_headers.proofs.program_headers.write_program_headers.Goals as goal
 
 pub loop-i-preserved : goal.loop-i-preserved

@@ -1,5 +1,5 @@
 use Rattle.std.proofs.Common.{arith}
-use Rattle.wild_headers.proofs.HeaderLemmas.{named_fits, total_read, section_table_read}
+use Rattle.wild_table_formats.proofs.HeaderLemmas.{named_fits, total_read, section_table_read}
 use Rattle.wild_headers.proofs.section_headers.write_section_headers.Goals as goal
 
 pub put_section_header-requires-clause-name : goal.put_section_header-requires-clause-name

@@ -3,7 +3,7 @@ use Rattle.std.specs.List.{flat_map}
 use Rattle.wild_words.specs.Record.{spell}
 use Rattle.wild_types.specs.Lists.{total}
 use Rattle.wild_records.specs.SectionHeader.{section_header_size, section_header_fields}
-use Rattle.wild_headers.specs.Headers.{section_headers_of}
+use Rattle.wild_table_formats.specs.Headers.{section_headers_of}
 use Rattle.wild_headers.proofs.section_headers.write_section_headers.Given as goal
 
 abbrev pub invariant-loop-i : goal.invariant-loop-i

@@ -1,5 +1,5 @@
 use Rattle.std.proofs.Common.{arith}
-use Rattle.wild_headers.proofs.HeaderLemmas.{named_fits, total_read, names_read}
+use Rattle.wild_table_formats.proofs.HeaderLemmas.{named_fits, total_read, names_read}
 use Rattle.wild_headers.proofs.section_names.write_section_names.Goals as goal
 
 pub put_name-requires : goal.put_name-requires

@@ -2,7 +2,7 @@ use Rattle.std.proofs.Common.{◌+◌, ◌≤◌, ◌∙◌, length, arith, subs
 use Rattle.std.specs.Prelude.{List}
 use Rattle.wild_image.specs.Owners.{ranged_piece}
 use Rattle.wild_image.specs.Pieces.{ranged_owned}
-use Rattle.wild_image.specs.Append.{RangedLies, GoesOn}
+use Rattle.wild_image.specs.Append.{RangedLies, HasRest}
 use Rattle.wild_sections.proofs.PieceLemmas.{overlay_read}
 use Rattle.wild_image.proofs.AppendLemmas.{next_begins, stands_more, lies_read, ranged_taken}
 use Rattle.wild_image.proofs.append.append_sections.Goals as goal

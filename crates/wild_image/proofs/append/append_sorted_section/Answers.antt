@@ -1,5 +1,5 @@
 use Rattle.std.proofs.Common.{◌+◌, ◌≤◌, ◌∙◌, length, refl, sym, ap, arith}
-use Rattle.wild_laid.specs.Stood.{inputs}
+use Rattle.wild_placement.specs.PlacedInputs.{inputs}
 use Rattle.wild_image.proofs.AppendLemmas.{sorted_taken}
 use Rattle.wild_image.proofs.append.append_sorted_section.Goals as goal
 

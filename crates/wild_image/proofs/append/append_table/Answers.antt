@@ -1,6 +1,6 @@
 use Rattle.std.proofs.Common.{ℕ, ◌+◌, ◌≤◌, ◌∙◌, ap, arith}
 use Rattle.wild_types.specs.FilePlaces.{given}
-use Rattle.wild_layout.specs.Image.{given_before}
+use Rattle.wild_layout.specs.Image.{shares_before}
 use Rattle.wild_image.specs.Pieces.{table_given}
 use Rattle.wild_image.proofs.AppendLemmas.{cut_off}
 use Rattle.wild_image.proofs.TableLemmas.{in_part, start_given, table_put, table_not_put, table_stays}
@@ -15,7 +15,7 @@ pub overflow_add-part : goal.overflow_add-part
 overflow_add-part c =
     let h = in_part c.args.layout.now c.args.i c.args.index c.args.size c.args.part.now c.args.group.now c.requires.parts c.requires.part c.requires.group c.requires.size in
     let some : 1 ≤ c.args.size = omega (arith, c.if-size-eq0.false) in
-    let start = start_given c.args.layout.now c.args.part.now (given c.args.i c.args.group.now) (given_before c.args.layout.now c.args.i c.args.index) c.args.size c.args.start c.requires.size some c.requires.start in
+    let start = start_given c.args.layout.now c.args.part.now (given c.args.i c.args.group.now) (shares_before c.args.layout.now c.args.i c.args.index) c.args.size c.args.start c.requires.size some c.requires.start in
     let fits = h.fits some in
     omega (arith, fits, start, c.requires.room.1)
 
@@ -23,7 +23,7 @@ pub put-requires : goal.put-requires
 put-requires c =
     let h = in_part c.args.layout.now c.args.i c.args.index c.args.size c.args.part.now c.args.group.now c.requires.parts c.requires.part c.requires.group c.requires.size in
     let some : 1 ≤ c.args.size = omega (arith, c.if-size-eq0.false) in
-    let start = start_given c.args.layout.now c.args.part.now (given c.args.i c.args.group.now) (given_before c.args.layout.now c.args.i c.args.index) c.args.size c.args.start c.requires.size some c.requires.start in
+    let start = start_given c.args.layout.now c.args.part.now (given c.args.i c.args.group.now) (shares_before c.args.layout.now c.args.i c.args.index) c.args.size c.args.start c.requires.size some c.requires.start in
     let fits = h.fits some in
     omega (arith, fits, start, c.requires.room.0, c.split_at.ensures.front_len)
 
@@ -31,7 +31,7 @@ pub returns-clause-image : goal.returns-clause-image
 returns-clause-image c =
     let h = in_part c.args.layout.now c.args.i c.args.index c.args.size c.args.part.now c.args.group.now c.requires.parts c.requires.part c.requires.group c.requires.size in
     let some : 1 ≤ c.args.size = omega (arith, c.if-size-eq0.false) in
-    let start = start_given c.args.layout.now c.args.part.now (given c.args.i c.args.group.now) (given_before c.args.layout.now c.args.i c.args.index) c.args.size c.args.start c.requires.size some c.requires.start in
+    let start = start_given c.args.layout.now c.args.part.now (given c.args.i c.args.group.now) (shares_before c.args.layout.now c.args.i c.args.index) c.args.size c.args.start c.requires.size some c.requires.start in
     let cut = cut_off (table_given c.args.layout.now c.args.group.now c.args.part.now) c.args.bytes.now c.args.size h.size c.requires.own in
     table_put c.args.layout.now c.args.i c.args.index _ c.args.size c.args.part.now c.args.group.now _ c.args.out.now c.put.new.out h some (ap (λ (n : ℕ). c.args.part.now.offset + n) start) (c.split_at.ensures.front ∙ cut.front) c.put.ensures
 

@@ -2,45 +2,45 @@ use Rattle.std.proofs.Common.{◌≡◌, true, false, List, ℕ, sym, ap, ◌∙
 use Rattle.std.specs.List.{flat_map}
 use Rattle.wild_words.specs.Overlay.{Piece, overlay}
 use Rattle.wild_types.specs.FileThunks.{thunks_of}
-use Rattle.wild_types.specs.Lookups.{is_hollow_part}
+use Rattle.wild_types.specs.Lookups.{is_header_only_part}
 use Rattle.wild_layout.specs.Image.{thunk_piece}
 use Rattle.wild_layout.specs.Thunks.{file_thunks}
-use Rattle.wild_image.specs.Append.{BeginsWith, GoesOn}
+use Rattle.wild_image.specs.Append.{BeginsWith, HasRest}
 use Rattle.wild_image.proofs.AppendLemmas.{all_written, none_written}
 use Rattle.wild_image.proofs.append.append_thunks.Goals as goal
 
-pub returns-then-is_hollow_part-clause-image : goal.returns-then-is_hollow_part-clause-image
-returns-then-is_hollow_part-clause-image c =
+pub returns-then-is_header_only_part-clause-image : goal.returns-then-is_header_only_part-clause-image
+returns-then-is_header_only_part-clause-image c =
     let l = c.args.layout.now in
-    let hollow : is_hollow_part l l.primary_part ≡ true = sym c.is_hollow_part.ensures ∙ c.if-is_hollow_part.true in
-    sym (ap (λ (ps : List Piece). overlay ps c.args.out.now) (none_written l l.primary_part (flat_map (thunk_piece l) (thunks_of l c.args.file.now)) hollow))
+    let header_only : is_header_only_part l l.primary_part ≡ true = sym c.is_header_only_part.ensures ∙ c.if-is_header_only_part.true in
+    sym (ap (λ (ps : List Piece). overlay ps c.args.out.now) (none_written l l.primary_part (flat_map (thunk_piece l) (thunks_of l c.args.file.now)) header_only))
 
-pub returns-then-is_hollow_part-clause-rest : goal.returns-then-is_hollow_part-clause-rest
-returns-then-is_hollow_part-clause-rest c =
+pub returns-then-is_header_only_part-clause-rest : goal.returns-then-is_header_only_part-clause-rest
+returns-then-is_header_only_part-clause-rest c =
     let l = c.args.layout.now in
-    let hollow : is_hollow_part l l.primary_part ≡ true = sym c.is_hollow_part.ensures ∙ c.if-is_hollow_part.true in
-    subst (λ (own : List ℕ). GoesOn own c.args.bytes.now c.args.bytes.now) (sym (none_written l l.primary_part (file_thunks l c.args.file.now) hollow)) (λ rest e. e)
+    let header_only : is_header_only_part l l.primary_part ≡ true = sym c.is_header_only_part.ensures ∙ c.if-is_header_only_part.true in
+    subst (λ (own : List ℕ). HasRest own c.args.bytes.now c.args.bytes.now) (sym (none_written l l.primary_part (file_thunks l c.args.file.now) header_only)) (λ rest e. e)
 
 pub append_all_thunks-requires-clause-lies : goal.append_all_thunks-requires-clause-lies
 append_all_thunks-requires-clause-lies c =
     let l = c.args.layout.now in
-    let written : is_hollow_part l l.primary_part ≡ false = sym c.is_hollow_part.ensures ∙ c.if-is_hollow_part.false in
+    let written : is_header_only_part l l.primary_part ≡ false = sym c.is_header_only_part.ensures ∙ c.if-is_header_only_part.false in
     c.requires.lies written
 
 pub append_all_thunks-requires-clause-own : goal.append_all_thunks-requires-clause-own
 append_all_thunks-requires-clause-own c =
     let l = c.args.layout.now in
-    let written : is_hollow_part l l.primary_part ≡ false = sym c.is_hollow_part.ensures ∙ c.if-is_hollow_part.false in
+    let written : is_header_only_part l l.primary_part ≡ false = sym c.is_header_only_part.ensures ∙ c.if-is_header_only_part.false in
     subst (λ (own : List ℕ). BeginsWith own c.args.bytes.now) (all_written l l.primary_part (file_thunks l c.args.file.now) written) c.requires.own
 
 pub returns-clause-image : goal.returns-clause-image
 returns-clause-image c =
     let l = c.args.layout.now in
-    let written : is_hollow_part l l.primary_part ≡ false = sym c.is_hollow_part.ensures ∙ c.if-is_hollow_part.false in
+    let written : is_header_only_part l l.primary_part ≡ false = sym c.is_header_only_part.ensures ∙ c.if-is_header_only_part.false in
     c.append_all_thunks.ensures.image ∙ sym (ap (λ (ps : List Piece). overlay ps c.args.out.now) (all_written l l.primary_part (flat_map (thunk_piece l) (thunks_of l c.args.file.now)) written))
 
 pub returns-clause-rest : goal.returns-clause-rest
 returns-clause-rest c =
     let l = c.args.layout.now in
-    let written : is_hollow_part l l.primary_part ≡ false = sym c.is_hollow_part.ensures ∙ c.if-is_hollow_part.false in
-    subst (λ (own : List ℕ). GoesOn own c.args.bytes.now c.append_all_thunks.result.now) (sym (all_written l l.primary_part (file_thunks l c.args.file.now) written)) c.append_all_thunks.ensures.rest
+    let written : is_header_only_part l l.primary_part ≡ false = sym c.is_header_only_part.ensures ∙ c.if-is_header_only_part.false in
+    subst (λ (own : List ℕ). HasRest own c.args.bytes.now c.append_all_thunks.result.now) (sym (all_written l l.primary_part (file_thunks l c.args.file.now) written)) c.append_all_thunks.ensures.rest

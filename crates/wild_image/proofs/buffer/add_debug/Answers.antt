@@ -1,4 +1,4 @@
-use Rattle.wild_image.proofs.MadeLemmas.{debug_added}
+use Rattle.wild_image.proofs.RelaOrGroupLemmas.{debug_added}
 use Rattle.wild_image.proofs.buffer.add_debug.Goals as goal
 
 pub returns-clause-bytes : goal.returns-clause-bytes

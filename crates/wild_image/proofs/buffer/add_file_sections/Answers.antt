@@ -1,40 +1,40 @@
 use Rattle.std.proofs.Common.{◌∙◌, sym, ap, arith, subst}
 use Rattle.std.proofs.lemmas.Result.{err_from_is_err_and}
 use Rattle.wild_layout.specs.Content.{frame_bytes_of}
-use Rattle.wild_image.specs.Append.{IsTurned}
+use Rattle.wild_image.specs.Append.{CanBeReversed}
 use Rattle.wild_image.specs.Pieces.{section_owned}
-use Rattle.wild_contents.proofs.LaidLemmas.{reach_more, reach_done, behind_small}
-use Rattle.wild_image.proofs.StoodLemmas.{faults_more, faults_refuse, lies_head, lies_tail, given_more}
-use Rattle.wild_image.proofs.SoLemmas.{told, so_laid, so_refuses, Adds, so_adds}
+use Rattle.wild_contents.proofs.PlacedLemmas.{reach_more, reach_done, behind_small}
+use Rattle.wild_image.proofs.PlacedLemmas.{faults_more, faults_refuse, lies_head, lies_tail, given_more}
+use Rattle.wild_image.proofs.UnchangedLemmas.{unchanged_parts, so_laid, so_refuses, Adds, so_adds}
 use Rattle.wild_image.specs.declared.buffer.GroupBytes.{GroupBytes}
 use Rattle.wild_layout.specs.SectionPlaces.{SectionLies}
 use Rattle.wild_image.proofs.buffer.add_file_sections.Goals as goal
-use Rattle.wild_image.proofs.buffer.add_file_sections.Goals.{then-stands_so+in_ok-add_so, else-stands_so+in_ok-next}
+use Rattle.wild_image.proofs.buffer.add_file_sections.Goals.{then-is_written_unchanged+in_ok-add_unchanged, else-is_written_unchanged+in_ok-next}
 
 pub add_section-requires-clause-lies : goal.add_section-requires-clause-lies
 add_section-requires-clause-lies g c κs within = lies_head c.args.resolved.now.layout.now c.args.file.now c.as_slice-section-items.result.now c.loop-i.i c.loop-i.next c.section-item.result c.loop-i-test.true c.section-item.is c.loop-i.invariant.lies
 
-pub add_section-requires-clause-turned : goal.add_section-requires-clause-turned
-add_section-requires-clause-turned g c κs within =
+pub add_section-requires-clause-reversed_section : goal.add_section-requires-clause-reversed_section
+add_section-requires-clause-reversed_section g c κs within =
     let h = rw c.as_slice-section-items.ensures at c.loop-i-test.true in
     let read = rw c.as_slice-section-items.ensures at c.section-item.is in
-    subst (IsTurned c.args.resolved.now.layout.now) (sym read) (c.requires.turned c.loop-i.i c.section-item.result h)
+    subst (CanBeReversed c.args.resolved.now.layout.now) (sym read) (c.requires.reversed_section c.loop-i.i c.section-item.result h)
 
-pub add_so-requires-clause-lies : goal.add_so-requires-clause-lies
-add_so-requires-clause-lies g c =
+pub add_unchanged-requires-clause-lies : goal.add_unchanged-requires-clause-lies
+add_unchanged-requires-clause-lies g c =
     let l = c.args.resolved.now.layout.now in
     let f = c.args.file.now in
     let s = c.section-item.result in
     let here = lies_head l f c.as_slice-section-items.result.now c.loop-i.i c.loop-i.next s c.loop-i-test.true c.section-item.is c.loop-i.invariant.lies in
-    subst (SectionLies l) (so_laid l f c.loop-i.next s (told l s (sym c.stands_so.ensures ∙ c.if-stands_so.true))) here
+    subst (SectionLies l) (so_laid l f c.loop-i.next s (unchanged_parts l s (sym c.is_written_unchanged.ensures ∙ c.if-is_written_unchanged.true))) here
 
-pub returns-in_err-add_so-clause-faults : goal.returns-in_err-add_so-clause-faults
-returns-in_err-add_so-clause-faults g c =
+pub returns-in_err-add_unchanged-clause-faults : goal.returns-in_err-add_unchanged-clause-faults
+returns-in_err-add_unchanged-clause-faults g c =
     let l = c.args.resolved.now.layout.now in
     let f = c.args.file.now in
     let s = c.section-item.result in
     let p = err_from_is_err_and c.from_residual.result c.from_residual.ensures.1 in
-    let refused = so_refuses l c.args.place.group c.args.place.file f c.loop-i.next c.loop-i.i s _ (told l s (sym c.stands_so.ensures ∙ c.if-stands_so.true)) c.in_err-add_so.ensures.faults in
+    let refused = so_refuses l c.args.place.group c.args.place.file f c.loop-i.next c.loop-i.i s _ (unchanged_parts l s (sym c.is_written_unchanged.ensures ∙ c.if-is_written_unchanged.true)) c.in_err-add_unchanged.ensures.faults in
     rw (p.1, p.2) (faults_refuse l c.args.place.group c.args.place.file f c.as_slice-section-items.result.now c.loop-i.i c.loop-i.next s _ _ c.loop-i-test.true c.section-item.is c.loop-i.invariant.faults refused)
 
 pub loop-i-preserved : goal.loop-i-preserved
@@ -46,10 +46,10 @@ loop-i-preserved g c =
     let s = c.section-item.result in
     let low = c.loop-i-test.true in
     let read = c.section-item.is in
-    let now = c.if-stands_so.bytes in
-    let added : Adds l c.args.place.group c.args.place.file i c.loop-i.next c.if-stands_so.next f s c.loop-i.bytes now = elim c.if-stands_so.branch [
-      | then-stands_so+in_ok-add_so w ↦ so_adds l c.args.place.group c.args.place.file i c.loop-i.next c.if-stands_so.next f s c.loop-i.bytes now (sym c.stands_so.ensures ∙ w.if-stands_so.true) c.loop-i.invariant.small w.in_ok-add_so.ensures.faults w.next-is (ap (λ (b : GroupBytes). b.files) w.bytes-is ∙ w.in_ok-add_so.ensures.bytes) (ap (λ (b : GroupBytes). b.frames) w.bytes-is) (ap (λ (b : GroupBytes). b.tables) w.bytes-is)
-      | else-stands_so+in_ok-next w ↦ rw (w.next-is, w.bytes-is) (record {
+    let now = c.if-is_written_unchanged.bytes in
+    let added : Adds l c.args.place.group c.args.place.file i c.loop-i.next c.if-is_written_unchanged.next f s c.loop-i.bytes now = elim c.if-is_written_unchanged.branch [
+      | then-is_written_unchanged+in_ok-add_unchanged w ↦ so_adds l c.args.place.group c.args.place.file i c.loop-i.next c.if-is_written_unchanged.next f s c.loop-i.bytes now (sym c.is_written_unchanged.ensures ∙ w.if-is_written_unchanged.true) c.loop-i.invariant.small w.in_ok-add_unchanged.ensures.faults w.next-is (ap (λ (b : GroupBytes). b.files) w.bytes-is ∙ w.in_ok-add_unchanged.ensures.bytes) (ap (λ (b : GroupBytes). b.frames) w.bytes-is) (ap (λ (b : GroupBytes). b.tables) w.bytes-is)
+      | else-is_written_unchanged+in_ok-next w ↦ rw (w.next-is, w.bytes-is) (record {
         faults = w.in_ok-next.ensures.faults;
         place = w.in_ok-next.ensures.next;
         files = w.in_ok-next.ensures.files;

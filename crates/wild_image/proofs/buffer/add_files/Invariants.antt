@@ -1,8 +1,8 @@
 use Rattle.std.proofs.Common.{◌≡◌, false, ◌++◌, drop, take}
 use Rattle.std.specs.List.{flat_map}
 use Rattle.wild_types.specs.declared.part.Role.TheVariants as role
-use Rattle.wild_types.specs.Hollow.{is_hollow_role}
-use Rattle.wild_laid.specs.Laid.{laid_from, laid_files, frames_at}
+use Rattle.wild_types.specs.HeaderOnly.{is_header_only_role}
+use Rattle.wild_placement.specs.PlacedSections.{placed_from, placed_files, frames_at}
 use Rattle.wild_layout.specs.Content.{frames_bytes}
 use Rattle.wild_layout.specs.Faults.{files_errors}
 use Rattle.wild_image.specs.Pieces.{file_bytes}
@@ -13,7 +13,7 @@ abbrev pub invariant-loop-i : goal.invariant-loop-i
 invariant-loop-i g l = record {
   faults : files_errors l.resolved.layout.now l.index l.next l.i (drop l.i l.file-items) ≡ files_errors l.resolved.layout.now l.index (frames_at l.resolved.layout.now l.group) 0 l.group.files;
   files : l.bytes.files ≡ l.initial.bytes.files ++ flat_map (file_bytes l.resolved.layout.now) (take l.i l.file-items);
-  frames : is_hollow_role l.resolved.layout.now role.EhFrame ≡ false → l.bytes.frames ++ flat_map (frames_bytes l.resolved.layout.now) (laid_from l.resolved.layout.now l.next (drop l.i l.file-items)) ≡ l.initial.bytes.frames ++ flat_map (frames_bytes l.resolved.layout.now) (laid_from l.resolved.layout.now (frames_at l.resolved.layout.now l.group) l.group.files);
+  frames : is_header_only_role l.resolved.layout.now role.EhFrame ≡ false → l.bytes.frames ++ flat_map (frames_bytes l.resolved.layout.now) (placed_from l.resolved.layout.now l.next (drop l.i l.file-items)) ≡ l.initial.bytes.frames ++ flat_map (frames_bytes l.resolved.layout.now) (placed_from l.resolved.layout.now (frames_at l.resolved.layout.now l.group) l.group.files);
   tables : l.bytes.tables ≡ l.initial.bytes.tables;
   stands : StandFrom l.resolved.layout.now l.next (drop l.i l.file-items);
 }

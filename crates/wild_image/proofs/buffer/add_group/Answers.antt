@@ -1,6 +1,6 @@
 use Rattle.std.proofs.Common.{List, ℕ, sym, subst}
-use Rattle.wild_contents.specs.Laid.{HaveSearchTable}
-use Rattle.wild_image.proofs.StoodLemmas.{table_of_group}
+use Rattle.wild_contents.specs.PlacedSections.{HaveSearchTable}
+use Rattle.wild_image.proofs.PlacedLemmas.{table_of_group}
 use Rattle.wild_image.proofs.buffer.add_group.Goals as goal
 
 pub add_group_tables-requires-clause-table : goal.add_group_tables-requires-clause-table

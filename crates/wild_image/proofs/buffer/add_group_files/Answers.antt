@@ -4,5 +4,5 @@ use Rattle.wild_image.proofs.buffer.add_group_files.Goals as goal
 
 pub returns-then-known-clause-faults : goal.returns-then-known-clause-faults
 returns-then-known-clause-faults g c =
-    let bare : c.args.known.bare ≡ true = search rules in
-    group_fine c.args.resolved.now.layout.now c.args.index c.args.group.now (sym c.requires.known.bare ∙ bare) c.in_ok-add_files.ensures.faults
+    let bare : c.args.known.needs_no_dynamic_tables ≡ true = search rules in
+    group_fine c.args.resolved.now.layout.now c.args.index c.args.group.now (sym c.requires.known.needs_no_dynamic_tables ∙ bare) c.in_ok-add_files.ensures.faults

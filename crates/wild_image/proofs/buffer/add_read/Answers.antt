@@ -1,6 +1,6 @@
 use Rattle.std.proofs.Common.{◌≡◌, false, rules}
 use Rattle.wild_types.specs.Lookups.{is_frame, is_filled}
-use Rattle.wild_image.proofs.StoodLemmas.{none_given}
+use Rattle.wild_image.proofs.PlacedLemmas.{none_given}
 use Rattle.wild_image.proofs.buffer.add_read.Goals as goal
 
 pub check_data-requires-clause-none : goal.check_data-requires-clause-none

@@ -9,7 +9,7 @@ use Rattle.wild_image.proofs.OwnedLemmas.{bytes_read}
 use Rattle.wild_image.specs.Append.{GivesItsShares}
 use Rattle.wild_image.proofs.AppendLemmas.{lies_read}
 use Rattle.wild_image.proofs.TableLemmas.{none_told, gives_nothing}
-use Rattle.wild_image.proofs.StoodLemmas.{table_of_all}
+use Rattle.wild_image.proofs.PlacedLemmas.{table_of_all}
 use Rattle.wild_image.proofs.buffer.bytes_of_batch.Goals as goal
 
 pub add_batch_group-requires-clause-table : goal.add_batch_group-requires-clause-table

@@ -1,9 +1,9 @@
 use Rattle.std.proofs.Common.{◌≡◌, ℕ, List, [], ◌<◌, ◌^◌, length, ap, arith, rules, subst, sym}
-use Rattle.wild_crew.specs.Ended.{AreTotals}
+use Rattle.wild_crew.specs.FinalCore.{AreTotals}
 use Rattle.wild_types.specs.declared.part.Role.TheVariants as role
 use Rattle.wild_types.specs.declared.file.Group.{Group}
 use Rattle.wild_types.specs.declared.layout.Layout.{Layout}
-use Rattle.wild_clauses.specs.Places.{relocation_count}
+use Rattle.wild_plan_rules.specs.Places.{relocation_count}
 use Rattle.wild_layout.specs.Faults.{flat_map_from, part_errors}
 use Rattle.wild_layout.specs.Geometry.{IsLaidOut}
 use Rattle.wild_image.specs.declared.batch.Batch.{Batch}
@@ -12,11 +12,11 @@ use Rattle.wild_image.specs.Known.{IsKnown}
 use Rattle.wild_image.proofs.OutputLemmas.{FieldsFit-IsLaidOut, role_address}
 use Rattle.wild_image.proofs.GatherLemmas.{pairs_below, sums_fit, totals_are}
 use Rattle.wild_image.proofs.JobLemmas.{few_groups}
-use Rattle.wild_image.proofs.StoodLemmas.{made}
+use Rattle.wild_image.proofs.PlacedLemmas.{made}
 use Rattle.wild_image.proofs.output.write_laid_out.Goals as goal
 
-pub asking-requires-clause-fits : goal.asking-requires-clause-fits
-asking-requires-clause-fits g c = FieldsFit-IsLaidOut c.args.layout.now c.requires.laid_out
+pub with_survey-requires-clause-fits : goal.with_survey-requires-clause-fits
+with_survey-requires-clause-fits g c = FieldsFit-IsLaidOut c.args.layout.now c.requires.laid_out
 
 pub invariant_of-job-clause-shares : goal.invariant_of-job-clause-shares
 invariant_of-job-clause-shares g c = subst (λ (l : Layout). flat_map_from (part_errors l) 0 l.parts ≡ []) (sym c.in_ok-resolved.ensures) c.requires.shares

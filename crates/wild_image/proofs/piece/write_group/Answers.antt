@@ -12,7 +12,7 @@ use Rattle.wild_image.proofs.OutputLemmas.{FieldsFit-IsLaidOut, role_address}
 use Rattle.wild_image.proofs.StandingLemmas.{each_file_lies, each_stands}
 use Rattle.wild_image.proofs.TableLemmas.{gives_its_shares}
 use Rattle.wild_words.proofs.ListLemmas.{holds_at}
-use Rattle.wild_contents.specs.Given.{NeedsFit}
+use Rattle.wild_contents.specs.VersionCounts.{NeedsFit}
 use Rattle.wild_image.proofs.JobLemmas.{piece_found}
 use Rattle.wild_contents.proofs.VersionLemmas.{needs_fit}
 use Rattle.wild_image.proofs.piece.write_group.Goals as goal

@@ -1,6 +1,6 @@
 use Rattle.std.proofs.Common.{◌≡◌, ◌+◌, ◌-◌, ◌^◌, ◌<◌, drop, min}
 use Rattle.wild_types.specs.Lists.{total}
-use Rattle.wild_laid.specs.FrameInputs.{kept_size}
+use Rattle.wild_placement.specs.FrameInputs.{kept_size}
 use Rattle.wild_needs.proofs.rooms.kept_of.Given as goal
 
 abbrev pub invariant-loop-section : goal.invariant-loop-section

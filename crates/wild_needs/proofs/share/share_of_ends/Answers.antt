@@ -1,5 +1,5 @@
 use Rattle.std.proofs.Common.{arith}
-use Rattle.wild_needs.proofs.BareLemmas.{ends_need}
+use Rattle.wild_needs.proofs.NoTableLemmas.{ends_need}
 use Rattle.wild_needs.proofs.share.share_of_ends.Goals as goal
 
 pub returns-in-len2-up : goal.returns-in-len2-up

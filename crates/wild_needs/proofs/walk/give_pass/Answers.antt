@@ -1,5 +1,5 @@
 use Rattle.wild_needs.specs.TableSymbols.{symbol_items}
-use Rattle.wild_walk.proofs.RunLemmas.{numbered_next}
+use Rattle.wild_words.proofs.RunLemmas.{numbered_next}
 use Rattle.wild_needs.proofs.walk.give_pass.Goals as goal
 
 pub loop-i-preserved : goal.loop-i-preserved

@@ -1,5 +1,5 @@
 use Rattle.wild_needs.specs.TableSymbols.{thunk_item}
-use Rattle.wild_walk.proofs.RunLemmas.{listed_next}
+use Rattle.wild_words.proofs.RunLemmas.{listed_next}
 use Rattle.wild_needs.proofs.walk.give_thunks.Goals as goal
 
 pub loop-thunk-preserved : goal.loop-thunk-preserved

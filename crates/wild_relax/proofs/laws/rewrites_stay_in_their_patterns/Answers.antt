@@ -8,4 +8,4 @@ pub returns-clause-whole : goal.returns-clause-whole
 returns-clause-whole c = chosen_are_whole
 
 pub returns-clause-linked : goal.returns-clause-linked
-returns-clause-linked c = sections_are_linked c.owners_of_bytes.ensures.inside
+returns-clause-linked c = sections_are_linked c.overlays_keep_pieces.ensures.inside

@@ -2,7 +2,7 @@ use Rattle.std.proofs.Common.{◌≡◌, ◌+◌, ◌-◌, length, ap, ◌∙◌
 use Rattle.wild_reloc.specs.declared.info.RelocationKindInfo.{RelocationKindInfo}
 use Rattle.wild_relax.specs.Pattern.{field_of}
 use Rattle.wild_relax.specs.RewriteX86_64.{rewrite_of}
-use Rattle.wild_relax.specs.Linked.{pattern_of, with_field}
+use Rattle.wild_relax.specs.LinkedPattern.{pattern_of, with_field}
 use Rattle.wild_relax.proofs.TemplateLemmas.{room_after, written_is, length-template}
 use Rattle.wild_relax.proofs.template.write_part.Goals as goal
 

@@ -1,6 +1,6 @@
 use Rattle.std.proofs.Common.{◌≡◌, ◌+◌, ◌≤◌, drop}
 use Rattle.wild_relr.specs.declared.run.Run.TheVariants.{Closed}
-use Rattle.wild_relr.specs.Packed.{counted}
+use Rattle.wild_relr.specs.RunWords.{counted}
 use Rattle.wild_relr.proofs.count.count_words.Given as goal
 
 abbrev pub invariant-loop-place : goal.invariant-loop-place

@@ -1,6 +1,6 @@
 use Rattle.std.proofs.Common.{◌≡◌, ℕ, ◌+◌, ◌-◌, ◌*◌, ◌≤◌, ◌++◌, get_or}
-use Rattle.wild_relr.specs.Packed.{bitmaps}
-use Rattle.wild_relr.specs.Written.{words_in, IsSpelled}
+use Rattle.wild_relr.specs.RunWords.{bitmaps}
+use Rattle.wild_relr.specs.WriterState.{words_in, IsSpelled}
 use Rattle.wild_relr.proofs.words.add_bitmaps.Given as goal
 
 abbrev pub invariant-loop-i : goal.invariant-loop-i

@@ -1,5 +1,5 @@
 use Rattle.std.proofs.Common.{◌∙◌, sym}
-use Rattle.wild_layout.proofs.AskedLemmas.{none_before}
+use Rattle.wild_layout.proofs.QuestionLemmas.{none_before}
 use Rattle.wild_types.specs.Item.{item_now}
 use Rattle.wild_sections.proofs.choice.is_partner.Goals as goal
 

@@ -1,4 +1,4 @@
-use Rattle.wild_sections.specs.Decided.{extent_at}
+use Rattle.wild_sections.specs.WrittenDecisions.{extent_at}
 use Rattle.wild_sections.proofs.DecidedLemmas.{extents-some, extents-none}
 use Rattle.wild_sections.proofs.overlap.extents_of.Goals as goal
 use Rattle.wild_sections.proofs.overlap.extents_of.Goals.{in-Some+in_ok-push, in_default}

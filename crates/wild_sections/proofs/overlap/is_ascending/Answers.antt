@@ -1,5 +1,5 @@
 use Rattle.std.proofs.Common.{length}
-use Rattle.wild_sections.specs.Decided.{extent_at}
+use Rattle.wild_sections.specs.WrittenDecisions.{extent_at}
 use Rattle.wild_sections.proofs.DecidedLemmas.{ascends-some, ascends-none}
 use Rattle.wild_sections.proofs.overlap.is_ascending.Goals as goal
 use Rattle.wild_sections.proofs.overlap.is_ascending.Goals.{in-Some+else-extent-reach, in_default}

@@ -1,6 +1,6 @@
 use Rattle.std.proofs.Common.{◌≡◌, ◌-◌, length}
 use Rattle.std.specs.List.{flat_map, range_with_len}
-use Rattle.wild_sections.specs.Decided.{extent_at, decided_extents, ascends}
+use Rattle.wild_sections.specs.WrittenDecisions.{extent_at, decided_extents, ascends}
 use Rattle.wild_sections.proofs.overlap.is_ascending.Given as goal
 
 abbrev pub invariant-loop-i : goal.invariant-loop-i

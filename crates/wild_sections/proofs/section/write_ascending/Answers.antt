@@ -11,8 +11,8 @@ use Rattle.wild_sections.proofs.AscendingLemmas.{ascended_more, ascended_next, a
 use Rattle.wild_sections.proofs.section.write_ascending.Goals as goal
 use Rattle.wild_sections.proofs.section.write_ascending.Goals.{in-Some, in-None+in_ok-end-in-None}
 
-pub four_behind-end-requires : goal.four_behind-end-requires
-four_behind-end-requires g c =
+pub write_ascending_u32-end-requires : goal.write_ascending_u32-end-requires
+write_ascending_u32-end-requires g c =
     let s = item_now c.args.item.now in
     let test = c.loop-index-test.true in
     let below : c.loop-index.index < length c.args.item.now.relocations.now = omega (arith, test) in
@@ -39,12 +39,12 @@ loop-index-preserved g c =
     let below : c.loop-index.index < length c.args.item.now.relocations.now = omega (arith, test) in
     let listed = read_at s.relocations c.loop-index.index _ below c.index-relocations-index.is in
     let lies = subst (λ (n : ℕ). All (FieldLies l.machine n) s.relocations) (ap length c.requires.bytes) c.requires.lies in
-    elim c.match-common_value.branch [
+    elim c.match-pc32_value.branch [
       | in-Some w ↦
           (let d = w.in-Some.ensures.is w.in-Some.value refl in
           let ends = sym w.end-is ∙ c.in-Some-end.is in
           record {
-            ascended = rw w.room-is (ascended_more l place.group place.file place.section s os c.loop-index.index c.loop-index.reach c.in-Some-end.end _ _ c.loop-index.room _ listed lies c.loop-index.invariant.ascended (ok_has_none l place.group place.file place.section s os c.loop-index.index _ d) d (sym w.four_behind-end.ensures.reach ∙ ends) (w.four_behind-end.ensures.written c.in-Some-end.end ends));
+            ascended = rw w.room-is (ascended_more l place.group place.file place.section s os c.loop-index.index c.loop-index.reach c.in-Some-end.end _ _ c.loop-index.room _ listed lies c.loop-index.invariant.ascended (ok_has_none l place.group place.file place.section s os c.loop-index.index _ d) d (sym w.write_ascending_u32-end.ensures.reach ∙ ends) (w.write_ascending_u32-end.ensures.written c.in-Some-end.end ends));
             partner = rw w.partner-is (partner_next s.relocations c.loop-index.index _ false listed (sym (w.in-Some.ensures.alone w.in-Some.value refl)));
           })
       | in-None+in_ok-end-in-None w ↦ record {

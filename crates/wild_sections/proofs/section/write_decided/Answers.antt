@@ -3,8 +3,8 @@ use Rattle.wild_sections.proofs.DecisionLemmas.{read_at}
 use Rattle.wild_sections.proofs.InstructionLemmas.{decision_lies}
 use Rattle.wild_sections.proofs.section.write_decided.Goals as goal
 
-pub write_behind-requires : goal.write_behind-requires
-write_behind-requires g c =
+pub write_ascending_decision-requires : goal.write_ascending_decision-requires
+write_ascending_decision-requires g c =
     let s = item_now c.args.item.now in
     let listed = read_at s.relocations c.args.index _ c.requires.index c.index-relocations-index.is in
     record { lies = decision_lies c.args.resolved.now.layout.now s c.args.index _ _ c.in_ok-decision.decision listed c.requires.whole c.requires.lies c.in_ok-decision.ensures.decision }
@@ -17,6 +17,6 @@ returns-clause-next g c =
       listed = read_at s.relocations c.args.index _ c.requires.index c.index-relocations-index.is;
       decision = c.in_ok-decision.decision;
       is = c.in_ok-decision.ensures.decision;
-      reached = c.write_behind.ensures.reach;
-      written = c.write_behind.ensures.written;
+      reached = c.write_ascending_decision.ensures.reach;
+      written = c.write_ascending_decision.ensures.written;
     }

@@ -1,6 +1,6 @@
 use Rattle.std.proofs.Common.{refl}
 use Rattle.wild_types.specs.Item.{item_now}
-use Rattle.wild_sections.specs.Decided.{decided_sites}
+use Rattle.wild_sections.specs.WrittenDecisions.{decided_sites}
 use Rattle.wild_sections.proofs.DecidedLemmas.{step_lies, step_put}
 use Rattle.wild_sections.proofs.section.write_decisions.Goals as goal
 

@@ -1,7 +1,7 @@
 use Rattle.std.proofs.Common.{◌≡◌, take}
 use Rattle.wild_words.specs.Overlay.{overlay}
 use Rattle.wild_types.specs.Item.{item_now}
-use Rattle.wild_sections.specs.Decided.{decided_sites}
+use Rattle.wild_sections.specs.WrittenDecisions.{decided_sites}
 use Rattle.wild_sections.proofs.section.write_decisions.Given as goal
 
 abbrev pub invariant-loop-i : goal.invariant-loop-i

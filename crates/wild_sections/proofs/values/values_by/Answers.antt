@@ -1,7 +1,7 @@
 use Rattle.std.proofs.Common.{◌<◌, arith, ◌∙◌, ap, length, Option, None, ℕ}
 use Rattle.std.specs.Option.{option_or}
 use Rattle.std.proofs.lemmas.List.{length-replicate}
-use Rattle.wild_sections.specs.Placed.{decided}
+use Rattle.wild_sections.specs.SymbolAddresses.{decided}
 use Rattle.wild_symbols.proofs.NoteLemmas.{first_noted}
 use Rattle.wild_sections.proofs.ValueLemmas.{value_more}
 use Rattle.wild_sections.proofs.values.values_by.Goals as goal

@@ -1,4 +1,4 @@
-use Rattle.wild_shards.proofs.GivenLemmas.{answer_tiles}
+use Rattle.wild_shards.proofs.ByIndexLemmas.{answer_tiles}
 use Rattle.wild_shards.proofs.sharded.ranges_of.Goals as goal
 
 pub returns-clause-tiles : goal.returns-clause-tiles

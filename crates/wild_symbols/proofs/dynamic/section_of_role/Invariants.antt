@@ -1,6 +1,6 @@
 use Rattle.std.proofs.Common.{◌≡◌, drop}
 use Rattle.wild_types.specs.Parts.{part_with}
-use Rattle.wild_symbols.specs.DynamicFields.{part_section}
+use Rattle.wild_table_formats.specs.DynamicFields.{part_section}
 use Rattle.wild_symbols.proofs.dynamic.section_of_role.Given as goal
 
 abbrev pub invariant-loop-part : goal.invariant-loop-part

@@ -1,4 +1,4 @@
-use Rattle.wild_symbols.proofs.TableLemmas.{length-side_entries, length-file_side, length-table_entries, length-long_indexes, length-index_bytes}
+use Rattle.wild_table_formats.proofs.SymtabLemmas.{length-side_entries, length-file_side, length-table_entries, length-long_indexes, length-index_bytes}
 use Rattle.wild_symbols.proofs.laws.entries_are_counted.Goals as goal
 
 pub returns-clause-sides : goal.returns-clause-sides

@@ -1,4 +1,4 @@
-use Rattle.wild_symbols.proofs.TableLemmas.{names_of-file, names_of-group, length-texts}
+use Rattle.wild_table_formats.proofs.SymtabLemmas.{names_of-file, names_of-group, length-texts}
 use Rattle.wild_symbols.proofs.SlotNameLemmas.{slot_names_are}
 use Rattle.wild_symbols.proofs.laws.names_are_strings.Goals as goal
 

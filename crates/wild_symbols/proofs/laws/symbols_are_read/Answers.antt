@@ -1,4 +1,4 @@
-use Rattle.wild_symbols.proofs.SymbolLemmas.{length-symbol_bytes, symbol_read}
+use Rattle.wild_table_formats.proofs.SymbolLemmas.{length-symbol_bytes, symbol_read}
 use Rattle.wild_symbols.proofs.laws.symbols_are_read.Goals as goal
 
 pub returns-clause-lengths : goal.returns-clause-lengths

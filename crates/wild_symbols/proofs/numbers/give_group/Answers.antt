@@ -1,5 +1,5 @@
 use Rattle.wild_needs.specs.TableSymbols.{file_items}
-use Rattle.wild_walk.proofs.RunLemmas.{listed_next}
+use Rattle.wild_words.proofs.RunLemmas.{listed_next}
 use Rattle.wild_symbols.proofs.numbers.give_group.Goals as goal
 
 pub loop-file-preserved : goal.loop-file-preserved

@@ -1,7 +1,7 @@
 use Rattle.std.specs.List.{flat_map}
 use Rattle.wild_types.specs.declared.file.Group.{Group}
 use Rattle.wild_needs.specs.TableSymbols.{file_items}
-use Rattle.wild_walk.proofs.RunLemmas.{listed_next}
+use Rattle.wild_words.proofs.RunLemmas.{listed_next}
 use Rattle.wild_symbols.proofs.numbers.give_groups.Goals as goal
 
 pub loop-group-preserved : goal.loop-group-preserved

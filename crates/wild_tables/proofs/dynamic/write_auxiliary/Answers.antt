@@ -1,7 +1,7 @@
 use Rattle.std.proofs.Common.{◌+◌, List, ℕ, arith, ap, take, ◌∙◌}
 use Rattle.std.proofs.lemmas.List.{length-drop}
-use Rattle.wild_needs.specs.DynamicStrings.{behind_text}
-use Rattle.wild_tables.proofs.DynamicLemmas.{auxiliary_offset, auxiliary_written, auxiliary_done}
+use Rattle.wild_needs.specs.DynamicStrings.{offset_after_string}
+use Rattle.wild_table_formats.proofs.DynamicLemmas.{auxiliary_offset, auxiliary_written, auxiliary_done}
 use Rattle.wild_tables.proofs.dynamic.write_auxiliary.Goals as goal
 
 pub loop-text-preserved : goal.loop-text-preserved
@@ -12,7 +12,7 @@ loop-text-preserved c =
     let next = length-drop (i + 1) xs in
     let l = c.loop-text-test.true in
     let a = c.write_string-cursor.ensures in
-    let o = a.offset ∙ ap (λ (x : List ℕ). behind_text c.loop-text.cursor.offset x) c.as_slice.ensures in
+    let o = a.offset ∙ ap (λ (x : List ℕ). offset_after_string c.loop-text.cursor.offset x) c.as_slice.ensures in
     record {
       at = omega (arith, now, next, l, a.at, c.loop-text.invariant.at);
       offset = auxiliary_offset xs i c.text-item.result c.loop-text.cursor.offset _ _ l c.text-item.is o c.loop-text.invariant.offset;

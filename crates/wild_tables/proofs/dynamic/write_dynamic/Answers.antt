@@ -1,7 +1,7 @@
 use Rattle.std.proofs.Common.{◌∙◌, ap, ◌++◌, List, ℕ}
 use Rattle.wild_needs.specs.Dynamic.{tag_entries}
-use Rattle.wild_tables.specs.Dynamic.{entries_bytes}
-use Rattle.wild_tables.proofs.DynamicLemmas.{dynamic_written}
+use Rattle.wild_table_formats.specs.DynamicSection.{entries_bytes}
+use Rattle.wild_table_formats.proofs.DynamicLemmas.{dynamic_written}
 use Rattle.wild_tables.proofs.dynamic.write_dynamic.Goals as goal
 
 pub returns : goal.returns

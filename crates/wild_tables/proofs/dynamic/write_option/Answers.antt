@@ -1,5 +1,5 @@
 use Rattle.std.proofs.Common.{take, sym}
-use Rattle.wild_tables.proofs.DynamicLemmas.{option_none}
+use Rattle.wild_table_formats.proofs.DynamicLemmas.{option_none}
 use Rattle.wild_tables.proofs.dynamic.write_option.Goals as goal
 
 pub returns-in-None-clause-written : goal.returns-in-None-clause-written

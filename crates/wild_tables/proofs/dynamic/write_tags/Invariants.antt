@@ -2,7 +2,7 @@ use Rattle.std.proofs.Common.{◌≡◌, ◌+◌, ◌*◌, ◌++◌, drop, take,
 use Rattle.std.specs.Prelude.{flat_map}
 use Rattle.wild_records.specs.Dynamic.{dynamic_entry_size}
 use Rattle.wild_needs.specs.Dynamic.{all_tags, entry_of}
-use Rattle.wild_tables.specs.Dynamic.{entries_bytes}
+use Rattle.wild_table_formats.specs.DynamicSection.{entries_bytes}
 use Rattle.wild_tables.proofs.dynamic.write_tags.Given as goal
 
 abbrev pub invariant-loop-tag : goal.invariant-loop-tag

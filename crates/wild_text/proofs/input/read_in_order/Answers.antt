@@ -1,5 +1,5 @@
 use Rattle.std.proofs.Common.{rules, w64, SFits, to_z-of_z}
-use Rattle.wild_text.proofs.AheadLemmas.{relocation_read}
+use Rattle.wild_text.proofs.OrderedMemberLemmas.{relocation_read}
 use Rattle.wild_text.proofs.input.read_in_order.Goals as goal
 
 pub returns-then-is_done : goal.returns-then-is_done

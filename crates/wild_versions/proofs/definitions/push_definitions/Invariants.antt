@@ -1,7 +1,7 @@
 use Rattle.std.proofs.Common.{◌≡◌, ◌+◌, ◌≤◌, length, drop}
-use Rattle.wild_versions.specs.Room.{with_bytes}
-use Rattle.wild_versions.specs.Chain.{chain}
-use Rattle.wild_versions.specs.Definitions.{definition_bytes, definition_table}
+use Rattle.wild_table_formats.specs.VersionRoom.{with_bytes}
+use Rattle.wild_table_formats.specs.VersionChain.{chain}
+use Rattle.wild_table_formats.specs.VersionDefinitions.{definition_bytes, definition_table}
 use Rattle.wild_needs.specs.Versions.{definitions_size}
 use Rattle.wild_versions.proofs.definitions.push_definitions.Given as goal
 

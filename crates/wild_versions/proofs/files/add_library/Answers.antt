@@ -1,6 +1,6 @@
 use Rattle.std.proofs.Common.{◌≡◌, length, arith}
-use Rattle.wild_versions.specs.Needs.{need_bytes}
-use Rattle.wild_versions.proofs.LawLemmas.{length-need_bytes}
+use Rattle.wild_table_formats.specs.VersionNeeds.{need_bytes}
+use Rattle.wild_table_formats.proofs.VersionLengths.{length-need_bytes}
 use Rattle.wild_versions.proofs.NameLemmas.{full_with}
 use Rattle.wild_versions.proofs.files.add_library.Goals as goal
 

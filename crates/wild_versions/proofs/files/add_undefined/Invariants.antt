@@ -1,8 +1,8 @@
 use Rattle.std.proofs.Common.{◌≡◌, ◌++◌, drop, map}
 use Rattle.std.specs.List.{filter}
 use Rattle.wild_needs.specs.DynamicSymbols.{is_undefined_entry}
-use Rattle.wild_versions.specs.Room.{IsFull}
-use Rattle.wild_versions.specs.Symbols.{version_bytes, version_of}
+use Rattle.wild_table_formats.specs.VersionRoom.{IsFull}
+use Rattle.wild_table_formats.specs.SymbolVersions.{version_bytes, version_of}
 use Rattle.wild_versions.proofs.files.add_undefined.Given as goal
 
 abbrev pub invariant-loop-symbol : goal.invariant-loop-symbol

@@ -1,5 +1,5 @@
-use Rattle.wild_versions.specs.Symbols.{spelled}
-use Rattle.wild_versions.proofs.LawLemmas.{length-versym}
+use Rattle.wild_table_formats.specs.SymbolVersions.{spelled}
+use Rattle.wild_table_formats.proofs.VersionLengths.{length-versym}
 use Rattle.wild_versions.proofs.NameLemmas.{full_with}
 use Rattle.wild_versions.proofs.files.add_version.Goals as goal
 

@@ -1,6 +1,6 @@
 use Rattle.std.proofs.Common.{◌≡◌, ◌++◌, drop}
-use Rattle.wild_versions.specs.Room.{IsFull}
-use Rattle.wild_versions.specs.Names.{needs_from}
+use Rattle.wild_table_formats.specs.VersionRoom.{IsFull}
+use Rattle.wild_table_formats.specs.VersionNames.{needs_from}
 use Rattle.wild_versions.proofs.files.group_needs.Given as goal
 
 abbrev pub invariant-loop-file : goal.invariant-loop-file

@@ -1,4 +1,4 @@
-use Rattle.wild_versions.proofs.LawLemmas.{length-definition_table}
+use Rattle.wild_table_formats.proofs.VersionLengths.{length-definition_table}
 use Rattle.wild_versions.proofs.WalkLemmas.{definitions_read}
 use Rattle.wild_versions.proofs.laws.definitions_are_read.Goals as goal
 

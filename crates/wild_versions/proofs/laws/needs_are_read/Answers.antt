@@ -1,4 +1,4 @@
-use Rattle.wild_versions.proofs.LawLemmas.{length-need_bytes}
+use Rattle.wild_table_formats.proofs.VersionLengths.{length-need_bytes}
 use Rattle.wild_versions.proofs.WalkLemmas.{needs_read}
 use Rattle.wild_versions.proofs.laws.needs_are_read.Goals as goal
 

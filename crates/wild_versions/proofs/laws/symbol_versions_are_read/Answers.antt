@@ -1,5 +1,4 @@
-use Rattle.wild_versions.proofs.LawLemmas.{length-version_bytes, version_read}
-use Rattle.wild_versions.proofs.BesideLemmas.{versions_beside}
+use Rattle.wild_table_formats.proofs.VersionLengths.{length-version_bytes, version_read}
 use Rattle.wild_versions.proofs.laws.symbol_versions_are_read.Goals as goal
 
 pub returns-clause-lengths : goal.returns-clause-lengths
@@ -7,6 +6,3 @@ returns-clause-lengths c = length-version_bytes
 
 pub returns-clause-read : goal.returns-clause-read
 returns-clause-read c = version_read c.versym_is_read.ensures
-
-pub returns-clause-beside : goal.returns-clause-beside
-returns-clause-beside c = versions_beside

@@ -1,4 +1,4 @@
-use Rattle.wild_versions.proofs.RoomLemmas.{length-symbol_versions, length-file_definitions, length-group_needs}
+use Rattle.wild_table_formats.proofs.VersionRooms.{length-symbol_versions, length-file_definitions, length-group_needs}
 use Rattle.wild_versions.proofs.laws.version_tables_have_their_lengths.Goals as goal
 
 pub returns-clause-symbols : goal.returns-clause-symbols

@@ -1,6 +1,6 @@
 use Rattle.std.proofs.Common.{◌≡◌, ◌++◌, drop}
 use Rattle.wild_needs.specs.Versions.{needed_names}
-use Rattle.wild_versions.specs.Names.{offsets_from}
+use Rattle.wild_table_formats.specs.VersionNames.{offsets_from}
 use Rattle.wild_versions.proofs.names.needed_offsets.Given as goal
 
 abbrev pub invariant-loop-version : goal.invariant-loop-version

@@ -1,8 +1,8 @@
 use Rattle.std.proofs.Common.{◌≡◌, ◌+◌, ◌*◌, ◌≤◌, length, drop}
 use Rattle.wild_records.specs.Verneeds.{vernaux_size}
-use Rattle.wild_versions.specs.Room.{with_bytes}
-use Rattle.wild_versions.specs.Chain.{chain}
-use Rattle.wild_versions.specs.Needs.{needed_bytes}
+use Rattle.wild_table_formats.specs.VersionRoom.{with_bytes}
+use Rattle.wild_table_formats.specs.VersionChain.{chain}
+use Rattle.wild_table_formats.specs.VersionNeeds.{needed_bytes}
 use Rattle.wild_versions.proofs.needs.push_versions.Given as goal
 
 abbrev pub invariant-loop-i : goal.invariant-loop-i

@@ -1,12 +1,12 @@
 use Rattle.std.proofs.Common.{◌≡◌, get_or, refl, arith}
 use Rattle.std.specs.Prelude.{slice_get, Some}
 use Rattle.std.proofs.lemmas.Option.{slice_get-get_or}
-use Rattle.wild_contents.specs.Given.{NeedsFit}
+use Rattle.wild_contents.specs.VersionCounts.{NeedsFit}
 use Rattle.wild_image.specs.Append.{GivesItsShares, GroupStands}
 use Rattle.wild_contents.proofs.VersionLemmas.{needs_fit}
 use Rattle.wild_image.proofs.JobLemmas.{gives_found, pairs_found, few_groups}
 use Rattle.wild_image.proofs.StandingLemmas.{each_stands}
-use Rattle.wild_image.proofs.StoodLemmas.{is_made}
+use Rattle.wild_image.proofs.PlacedLemmas.{is_made}
 use Rattle.wild_image.proofs.TableLemmas.{all_give}
 use Rattle.wild_image.proofs.BatchLemmas.{cut_of, batches_within, batches_end, holds_within}
 use Rattle.wild_image.proofs.job.GroupJobJobOutcome.run.Goals as goal

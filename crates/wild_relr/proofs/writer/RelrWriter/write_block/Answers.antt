@@ -1,5 +1,5 @@
 use Rattle.std.proofs.lemmas.Result.{on_ok_weaker}
-use Rattle.wild_relr.specs.Written.{state}
+use Rattle.wild_relr.specs.WriterState.{state}
 use Rattle.wild_relr.proofs.WriterLemmas.{block_recorded}
 use Rattle.wild_relr.proofs.writer.RelrWriter.write_block.Goals as goal
 

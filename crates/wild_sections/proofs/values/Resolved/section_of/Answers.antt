@@ -1,7 +1,7 @@
 use Rattle.std.proofs.Common.{◌≡◌, ap, arith, length, sym}
 use Rattle.std.proofs.lemmas.Bool.{ltb-false}
 use Rattle.std.proofs.lemmas.Option.{slice_get_past}
-use Rattle.wild_sections.proofs.OwnerLemmas.{merged_missing}
+use Rattle.wild_sections.proofs.DefiningFileLemmas.{merged_missing}
 use Rattle.wild_sections.proofs.values.Resolved.section_of.Goals as goal
 
 pub returns-in-None : goal.returns-in-None

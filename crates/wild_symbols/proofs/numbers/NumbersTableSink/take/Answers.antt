@@ -1,6 +1,6 @@
 use Rattle.std.proofs.Common.{None, ap, ◌∙◌, get_or, length}
 use Rattle.wild_needs.specs.TableSymbols.{item}
-use Rattle.wild_symbols.specs.SymbolNumbers.{number_at, local_behind, other_behind}
+use Rattle.wild_symbols.specs.SymbolNumbers.{number_at, local_after, other_after}
 use Rattle.wild_symbols.proofs.NumberLemmas.{numbered_by}
 use Rattle.wild_symbols.proofs.numbers.NumbersTableSink.take.Goals as goal
 

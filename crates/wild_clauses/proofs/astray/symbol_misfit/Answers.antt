@@ -1,6 +1,0 @@
-use Rattle.std.proofs.Common.{sym, ◌∙◌}
-use Rattle.wild_clauses.proofs.AstrayLemmas.{walk_finds}
-use Rattle.wild_clauses.proofs.astray.symbol_misfit.Goals as goal
-
-pub returns-then-lie : goal.returns-then-lie
-returns-then-lie c = c.walk.ensures ∙ sym (walk_finds c.args.layout.now (sym c.requires ∙ c.if-lie.true))

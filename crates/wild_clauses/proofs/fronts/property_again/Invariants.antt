@@ -1,6 +1,0 @@
-use Rattle.std.proofs.Common.{◌≡◌, [], take, drop}
-use Rattle.wild_clauses.specs.Fronts.{properties_differ}
-use Rattle.wild_clauses.proofs.fronts.property_again.Given as goal
-
-abbrev pub invariant-loop-i : goal.invariant-loop-i
-invariant-loop-i l = properties_differ (take l.i l.properties) l.i (drop l.i l.properties) ≡ properties_differ [] 0 l.properties

@@ -1,6 +1,0 @@
-use Rattle.std.proofs.Common.{◌≡◌, drop}
-use Rattle.wild_clauses.specs.Covers.{covers}
-use Rattle.wild_clauses.proofs.loaded.covers.Given as goal
-
-abbrev pub invariant-loop-segment : goal.invariant-loop-segment
-invariant-loop-segment l = covers l.side l.layout l.section l.reached (drop l.segment-index l.segments) ≡ covers l.side l.layout l.section l.section.address l.segments

@@ -1,6 +1,0 @@
-use Rattle.std.proofs.Common.{◌≡◌, drop}
-use Rattle.wild_clauses.specs.SlotFlags.{first_asked_failing}
-use Rattle.wild_clauses.proofs.slot_flags.first_asked_failing.Given as goal
-
-abbrev pub invariant-loop-i : goal.invariant-loop-i
-invariant-loop-i g l = first_asked_failing l.layout (g.C.Test.test l.test) l.i (drop l.i l.layout.symbols) ≡ first_asked_failing l.layout (g.C.Test.test l.test) 0 l.layout.symbols

@@ -1,6 +1,0 @@
-use Rattle.std.proofs.Common.{◌≡◌, drop}
-use Rattle.wild_clauses.specs.Contents.{files_named_once}
-use Rattle.wild_clauses.proofs.sorted.files_named_once.Given as goal
-
-abbrev pub invariant-loop-k : goal.invariant-loop-k
-invariant-loop-k l = files_named_once l.layout l.group l.k (drop l.k l.files) ≡ files_named_once l.layout l.group 0 l.files

@@ -1,0 +1,34 @@
+//! Properties of a layout that clauses and the writer of its image need, computed once.
+ghost use Rattle.wild_clauses.specs.LayoutSurvey.{IsLayoutSurvey};
+
+use crate::survey::survey_groups;
+use wild_needs::inner_groups_need_no_tables;
+use wild_types::Layout;
+
+/// Properties of a layout that its clauses and the writer of its image need, computed once.
+#[derive(Clone, Copy)]
+pub struct LayoutSurvey {
+    /// Whether the groups between the first and the last contribute to no table.
+    pub inner_groups_need_no_tables: bool,
+    /// Whether no section has merged strings.
+    pub unmerged: bool,
+    pub(crate) passed: bool,
+    pub(crate) has_no_copies_versions_or_sorting: bool,
+    pub(crate) relocations: u64,
+}
+
+impl LayoutSurvey {
+    /// Computes them in one pass over the groups. It takes no memory.
+    pub fn of(layout: &Layout) -> Self
+        ensures { IsLayoutSurvey layout.now result }
+    {
+        let survey = survey_groups(layout);
+        LayoutSurvey {
+            inner_groups_need_no_tables: inner_groups_need_no_tables(layout),
+            unmerged: survey.unmerged,
+            passed: survey.passed,
+            has_no_copies_versions_or_sorting: survey.has_no_copies_versions_or_sorting,
+            relocations: survey.relocations,
+        }
+    }
+}

@@ -1,8 +1,0 @@
-use Rattle.std.proofs.Common.{◌≡◌, ◌++◌, drop}
-use Rattle.std.specs.List.{flat_map}
-use Rattle.wild_laid.specs.Laid.{laid_from, laid_files}
-use Rattle.wild_layout.specs.Content.{file_content}
-use Rattle.wild_contents.proofs.laid.add_laid.Given as goal
-
-abbrev pub invariant-loop-file : goal.invariant-loop-file
-invariant-loop-file g l = l.bytes ++ flat_map (file_content l.resolved.layout.now l.role) (laid_from l.resolved.layout.now l.next (drop l.file-index l.group.files)) ≡ l.initial.bytes ++ flat_map (file_content l.resolved.layout.now l.role) (laid_files l.resolved.layout.now l.group)

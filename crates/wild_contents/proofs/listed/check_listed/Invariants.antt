@@ -1,6 +1,0 @@
-use Rattle.std.proofs.Common.{◌≡◌, [], take}
-use Rattle.wild_layout.specs.Faults.{flat_map_from, listed_errors}
-use Rattle.wild_contents.proofs.listed.check_listed.Given as goal
-
-abbrev pub invariant-loop-i : goal.invariant-loop-i
-invariant-loop-i g l = flat_map_from (listed_errors l.resolved.layout.now l.group) 0 (take l.i l.files) ≡ []

@@ -1,8 +1,0 @@
-use Rattle.std.proofs.Common.{◌≡◌, take}
-use Rattle.std.specs.List.{flat_map}
-use Rattle.wild_image.specs.Pairs.{with_pairs}
-use Rattle.wild_image.specs.Pieces.{section_pairs}
-use Rattle.wild_image.proofs.pairs.count_file.Given as goal
-
-abbrev pub invariant-loop-section : goal.invariant-loop-section
-invariant-loop-section l = l.pairs.items ≡ with_pairs l.join l.initial.pairs.items (flat_map (section_pairs l.layout) (take l.section-index l.file.sections))

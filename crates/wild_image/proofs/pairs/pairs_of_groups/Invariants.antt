@@ -1,8 +1,0 @@
-use Rattle.std.proofs.Common.{◌≡◌, true, [], take}
-use Rattle.std.specs.List.{flat_map}
-use Rattle.wild_image.specs.Pairs.{with_pairs}
-use Rattle.wild_image.specs.Pieces.{group_pairs}
-use Rattle.wild_image.proofs.pairs.pairs_of_groups.Given as goal
-
-abbrev pub invariant-loop-group : goal.invariant-loop-group
-invariant-loop-group l = l.pairs.items ≡ with_pairs true [] (flat_map (group_pairs l.layout) (take l.group-index l.groups))

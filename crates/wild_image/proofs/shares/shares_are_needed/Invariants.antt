@@ -1,8 +1,0 @@
-use Rattle.std.proofs.Common.{◌≡◌, ℕ, ◌<◌, []}
-use Rattle.std.specs.Prelude.{Some, slice_get}
-use Rattle.wild_types.specs.declared.part.Part.{Part}
-use Rattle.wild_image.specs.Steps.{share_faults}
-use Rattle.wild_image.proofs.shares.shares_are_needed.Given as goal
-
-abbrev pub invariant-loop-i : goal.invariant-loop-i
-invariant-loop-i l = (k : ℕ) (p : Part) → k < l.i → slice_get l.layout.parts k ≡ Some p → share_faults l.layout k p l.index l.group ≡ []

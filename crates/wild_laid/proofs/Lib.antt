@@ -1,9 +1,0 @@
-pub mod LaidFiles
-pub mod FrameLemmas
-pub mod PlainLemmas
-pub mod TurnedBytes
-pub mod SumLemmas
-pub mod WordLemmas
-pub mod KeepLemmas
-pub mod StoodLemmas
-pub mod TableLemmas

@@ -1,8 +1,0 @@
-use Rattle.wild_laid.proofs.PlainLemmas.{plain_laid, plain_files}
-use Rattle.wild_laid.proofs.laws.plain_files_stand.Goals as goal
-
-pub returns-clause-file : goal.returns-clause-file
-returns-clause-file c = plain_laid
-
-pub returns-clause-files : goal.returns-clause-files
-returns-clause-files c = plain_files

@@ -1,6 +1,0 @@
-use Rattle.std.proofs.Common.{◌≡◌, ◌++◌, map, take, drop}
-use Rattle.wild_laid.specs.Stood.{placed_at}
-use Rattle.wild_laid.proofs.tables.placed.Given as goal
-
-abbrev pub invariant-loop-i : goal.invariant-loop-i
-invariant-loop-i l = l.placed.items ≡ map (placed_at l.target) (take l.i l.target.relocations) ++ drop l.i l.target.relocations

@@ -1,5 +1,0 @@
-pub mod Turned
-pub mod FrameInputs
-pub mod Laid
-pub mod Stood
-pub mod Plain

@@ -1,0 +1,31 @@
+-- The image of a laid out layout is loaded in every legal world.
+--   MemoryHasChanges     applying the tables moves the addresses, fills fields, slots and copies, and changes no other byte
+--   ImagesAreLoaded   the loader accepts the image, and memory has each kept section as decided, and the slots
+--   DebugImagesAreLoaded   it accepts an image only for debuggers, and memory has each kept section as the file has it
+use Rattle.std.specs.Prelude.{◌≡◌, []}
+use Rattle.wild_types.specs.declared.layout.Layout.{Layout}
+use Rattle.wild_types.specs.HeaderOnly.{KeepsAll}
+use Rattle.wild_layout.specs.Numbers.{NumbersFit}
+use Rattle.wild_layout.specs.Faults.{flat_map_from, group_errors}
+use Rattle.wild_layout.specs.Geometry.{IsLaidOut}
+use Rattle.wild_loader.specs.declared.memory.Memory.{Memory}
+use Rattle.wild_loader.specs.declared.world.World.{World}
+use Rattle.wild_meaning.specs.World.{IsLoadable, IsLegal}
+use Rattle.wild_loaded.specs.Memory.{EachDecided, HasMemory, HasMemoryWithoutTables}
+use Rattle.wild_meaning.specs.Section.{IsForDebuggers}
+use Rattle.wild_loaded.specs.WholeSlots.{HasWholeSlots}
+use Rattle.wild_loaded.specs.LoadedMemory.{HasApplied, HasLoadedMemory}
+
+-- After the tables were applied to the loaded segments of an image without faults, the base is added to each address. Each field
+-- and each slot has the value that fills it, each copy has its bytes, and every other byte is as before.
+abbrev pub MemoryHasChanges : Type 0
+MemoryHasChanges = (l : Layout) (w : World) (m : Memory) → KeepsAll l → IsLoadable l.kind → NumbersFit l → IsLegal l w → IsLaidOut l → EachDecided l → HasWholeSlots l → flat_map_from (group_errors l) 0 l.groups ≡ []
+    → HasApplied l w m → HasLoadedMemory l w m
+
+-- so the image of an output can be loaded in every legal world, with or without a dynamic section
+abbrev pub ImagesAreLoaded : Type 0
+ImagesAreLoaded = (l : Layout) (w : World) → KeepsAll l → IsLoadable l.kind → NumbersFit l → IsLegal l w → IsLaidOut l → EachDecided l → HasWholeSlots l → flat_map_from (group_errors l) 0 l.groups ≡ [] → HasMemory l w
+
+-- an image only for debuggers has no table, and the loader applies none
+abbrev pub DebugImagesAreLoaded : Type 0
+DebugImagesAreLoaded = (l : Layout) (w : World) → IsForDebuggers l → IsLoadable l.kind → NumbersFit l → IsLegal l w → IsLaidOut l → EachDecided l → HasMemoryWithoutTables l w

@@ -1,5 +1,0 @@
-use Rattle.wild_made.proofs.CallingLemmas.{calling_faults, calling_numbers}
-use Rattle.wild_made.proofs.laws.laws_of_calling_plans.Goals as goal
-
-pub returns : goal.returns
-returns c = record { faults = calling_faults; numbers = calling_numbers }

@@ -1,7 +1,0 @@
-use Rattle.std.proofs.Common.{◌≡◌, map}
-use Rattle.std.specs.List.{range_with_len}
-use Rattle.wild_made.specs.Made.{made_group}
-use Rattle.wild_made.proofs.plan.groups.Given as goal
-
-abbrev pub invariant-loop-i : goal.invariant-loop-i
-invariant-loop-i l = l.all.items ≡ map (made_group l.count) (range_with_len 0 l.i)

@@ -1,0 +1,106 @@
+-- The requirements of a layout on its image.
+--   HasStandardSizes e          the file header has the standard version, and the right sizes of headers
+--   HasHeader l image     the file header has the output's type and entry; the segments are the layout's
+--   IsSectionWithoutData l s           the input section is loaded, allocated and has no data
+--   IsNotCopied l w a     the address is in no copied symbol
+--   IsLinked l w image    in that world the loader accepts the image, and memory is as required
+--   IsSound l image       the image is linked in every legal world
+use Rattle.std.specs.Prelude.{◌≡◌, ℕ, ◌+◌, ◌<◌, ◌≤◌, ◌⊎◌, true, false, length, List, None, Some, Ok}
+use Rattle.wild_words.specs.Words.{HasBytesAt}
+use Rattle.wild_words.specs.Record.{spell}
+use Rattle.wild_records.specs.Abi.Header.{ev_current, et_exec, et_dyn}
+use Rattle.wild_records.specs.Abi.Section.{shf_alloc, shf_tls}
+use Rattle.wild_records.specs.FileHeader.{file_header_size, FileHeaderFits, file_header_fields}
+use Rattle.wild_records.specs.ProgramHeader.{program_header_size}
+use Rattle.wild_records.specs.SectionHeader.{section_header_size}
+use Rattle.wild_records.specs.declared.file_header.FileHeader.{FileHeader}
+use Rattle.wild_types.specs.declared.kind.Machine.{Machine}
+use Rattle.wild_types.specs.declared.kind.Machine.TheVariants as machine
+use Rattle.wild_types.specs.declared.input.InputSection.{InputSection}
+use Rattle.wild_types.specs.declared.layout.Entry.TheVariants as entry
+use Rattle.wild_types.specs.declared.layout.Layout.{Layout}
+use Rattle.wild_types.specs.Flags.{ifunc}
+use Rattle.wild_loader.specs.declared.world.World.{World}
+use Rattle.wild_loader.specs.declared.world.Answer.{Answer}
+use Rattle.wild_loader.specs.declared.memory.Machine.{Machine as Processor}
+use Rattle.wild_loader.specs.declared.memory.Machine.TheVariants as processors
+use Rattle.wild_loader.specs.declared.memory.Memory.{Memory}
+use Rattle.wild_loader.specs.Load.{load}
+use Rattle.wild_loader.specs.Memory.{byte_in, Holds}
+use Rattle.wild_meaning.specs.World.{IsFixed, IsMovable, IsLoadable, IsLegal, IsPastFileBytes, HasCopy}
+use Rattle.wild_meaning.specs.Section.{IsSet, IsForDebuggers, HasFileBytes}
+use Rattle.wild_meaning.specs.Segments.{headers_in, DescribeSegments, HasDynamicLinker}
+use Rattle.wild_meaning.specs.DynamicSection.{InformsLinker}
+use Rattle.wild_meaning.specs.Value.{IsDefinedBy, IsResolved, HasFlag}
+use Rattle.wild_types.specs.Item.{Item}
+use Rattle.wild_meaning.specs.Item.{IsInput, IsLoadedSlot, IsKept}
+use Rattle.wild_meaning.specs.Reference.{ItemHolds}
+
+-- an address was decided for symbol i's definition, which is not an IFUNC
+pub record HasResolvedAddress (l : Layout) (i a : ℕ) : Type 0 where
+  pub definition : ℕ
+  pub defined : IsDefinedBy l i definition
+  pub given : IsResolved l definition a
+  pub plain : HasFlag l i ifunc false
+
+-- The version and the sizes of headers are those of the standard, and e_flags is 0 (gABI, "ELF Header": EI_VERSION, e_version,
+-- e_ehsize, e_phentsize, e_shentsize; x86-64 psABI and aaelf64, "ELF Header": e_flags).
+pub record HasStandardSizes (e : FileHeader) : Type 0 where
+  pub ident_version : e.ident_version ≡ ev_current
+  pub version : e.version ≡ ev_current
+  pub header : e.header_size ≡ file_header_size
+  pub program : e.program_entry_size ≡ program_header_size
+  pub section : e.section_entry_size ≡ section_header_size
+  pub flags : e.flags ≡ 0
+
+-- The file header says whether the output may be loaded at any base, and has its entry: an address, that of a symbol, or 0 if the
+-- layout gives none (gABI, "ELF Header", e_type and e_entry). The program headers are those of the layout's segments.
+pub record HasHeader (l : Layout) (image : List ℕ) : Type 0 where
+  pub header : FileHeader
+  pub fits : FileHeaderFits header
+  pub stands : HasBytesAt image 0 (spell (file_header_fields header))
+  pub fixed : IsFixed l.kind → header.file_type ≡ et_exec
+  pub movable : IsMovable l.kind → header.file_type ≡ et_dyn
+  pub address : (a : ℕ) → l.entry ≡ Some (entry.Address a) → header.entry ≡ a
+  pub symbol : (i a : ℕ) → l.entry ≡ Some (entry.Symbol i) → HasResolvedAddress l i a → header.entry ≡ a
+  pub none : l.entry ≡ None → header.entry ≡ 0
+  pub sizes : HasStandardSizes header
+  pub segments : DescribeSegments l l.segments (headers_in image)
+
+-- A loaded, allocated input section without data. Thread-local ones do not count, because they have no memory in the image itself
+-- (gABI, SHF_TLS).
+pub record IsSectionWithoutData (l : Layout) (s : InputSection) : Type 0 where
+  pub input : IsInput l s
+  pub loaded : IsLoadedSlot s.slot
+  pub room : IsSet s.flags shf_alloc
+  pub shared : IsSet s.flags shf_tls → ⊥
+  pub blank : s.nobits ≡ true
+
+-- the address is in no copied symbol
+abbrev pub IsNotCopied : Layout → World → ℕ → Type 0
+IsNotCopied l w a = (i raw : ℕ) (x : Answer) → HasCopy l w i raw x → (a < raw) ⊎ (raw + length x.bytes ≤ a)
+
+-- the machine of the output
+abbrev pub processor_of : Machine → Processor
+processor_of machine.X86_64 = processors.X86_64
+processor_of machine.AArch64 = processors.AArch64
+
+-- The loader accepts the image for the layout's machine, and in memory:
+-- - each kept item holds;
+-- - copied symbols have their bytes;
+-- - other sections without data are zero, after file bytes or among sections that have some.
+-- The headers describe the layout's output, and a dynamic section has the entries that its linker needs.
+-- An image only for debuggers has no such section, and no table that a loader applies.
+pub record IsLinked (l : Layout) (w : World) (image : List ℕ) : Type 0 where
+  pub memory : Memory
+  pub accepted : load w image ≡ Ok memory
+  pub machine : memory.machine ≡ processor_of l.machine
+  pub kept : (item : Item) → IsKept l item → ItemHolds l w memory item
+  pub zeros : (s : InputSection) (k : ℕ) → IsSectionWithoutData l s → k < s.size → IsPastFileBytes l (s.address + k) ⊎ HasFileBytes l s.part → IsNotCopied l w (s.address + k) → byte_in memory (w.base + s.address + k) ≡ Some 0
+  pub copies : (IsForDebuggers l → ⊥) → (i raw : ℕ) (x : Answer) → HasCopy l w i raw x → Holds memory (w.base + raw) x.bytes
+  pub header : HasHeader l image
+  pub dynamic : (IsForDebuggers l → ⊥) → HasDynamicLinker l.kind → InformsLinker (processor_of l.machine) image
+
+-- in every legal world, if the output can be loaded at all
+abbrev pub IsSound : Layout → List ℕ → Type 0
+IsSound l image = IsLoadable l.kind → (w : World) → IsLegal l w → IsLinked l w image

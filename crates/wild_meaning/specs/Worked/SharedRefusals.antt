@@ -1,0 +1,90 @@
+-- Images of the worked shared object that are refused in its world.
+--   SharedWorldIsLegal    the world is legal
+--   WrongSlotsAreRefused  a slot of an address or an offset that holds another word
+--   ..                    each other law names one kind of wrong memory
+use Rattle.std.specs.Prelude.{◌≡◌, ℕ, ◌-◌, ◌^◌, List, [], ◌∷◌, Some}
+use Rattle.wild_loader.specs.declared.memory.Memory.{Memory}
+use Rattle.wild_loader.specs.Memory.{number_in, Holds}
+use Rattle.wild_meaning.specs.World.{IsLegal}
+use Rattle.wild_meaning.specs.Slot.{HasWord}
+use Rattle.wild_meaning.specs.Worked.Builders.{Refuses}
+use Rattle.wild_meaning.specs.Worked.Shared.{shared_layout, shared_world}
+use Rattle.wild_meaning.specs.Worked.Refusals.{HasWrongNumber, NamesWrongWord, NamesWrongModule, NamesWrongDescriptor, HasWrongByte}
+
+-- the world is legal: the output is its module 2; other symbols' modules are 3 and 4, at different distances
+abbrev pub SharedWorldIsLegal : Type 0
+SharedWorldIsLegal = IsLegal shared_layout shared_world
+
+-- no image of the shared object is linked in its world if memory is wrong in that way
+abbrev pub Refused : (Memory → Type 0) → Type 0
+Refused Wrong = Refuses shared_layout shared_world Wrong
+
+-- the thread-pointer offsets of its own thread-local data, and of those of module 4
+abbrev pub own_offset : ℕ
+own_offset = 2 ^ 64 - 0x58
+
+abbrev pub other_offset : ℕ
+other_offset = 2 ^ 64 - 0x1fe0
+
+-- a field names the slot of another symbol, which has the same content
+pub record NamesAnother (m : Memory) : Type 0 where
+  pub field : number_in m 0x11000 8 ≡ Some 0x1008
+  pub there : HasWord m 0x12008 0x700010
+
+-- a field names another place, which holds the same word as the symbol's slot
+pub record NamesElsewhere (m : Memory) : Type 0 where
+  pub field : number_in m 0x11000 8 ≡ Some 0x1100
+  pub there : HasWord m 0x12100 0x11100
+
+-- A symbol's slot holds another word than its address in the world. An own symbol's address moves with the base; that of an
+-- interposable symbol is another module's. No field names another symbol's slot.
+pub record WrongSlotsAreRefused : Type 0 where
+  pub own : Refused (NamesWrongWord 0x11000 8 0x1000 0x12000 0x11100)
+  pub other : Refused (NamesWrongWord 0x11038 8 0xfd0 0x12008 0x700010)
+  pub another : Refused NamesAnother
+  pub elsewhere : Refused NamesElsewhere
+
+-- a word with an address: it moves with the base; for an interposable symbol it is another module's
+pub record WrongAddressesAreRefused : Type 0 where
+  pub moved : Refused (HasWrongNumber 0x11010 8 0x11104)
+  pub replaced : Refused (HasWrongNumber 0x11008 8 0x700010)
+
+-- thread-pointer offsets, in a field and in slots, which do not move with the base; and an offset in the output's own
+-- thread-local data
+pub record WrongOffsetsAreRefused : Type 0 where
+  pub own : Refused (HasWrongNumber 0x11018 8 own_offset)
+  pub own_slot : Refused (NamesWrongWord 0x11024 4 0xfec 0x12010 own_offset)
+  pub other_slot : Refused (NamesWrongWord 0x1104c 4 0xfec 0x12038 other_offset)
+  pub inside : Refused (HasWrongNumber 0x11040 8 8)
+
+-- a pair with a wrong module: that of its own symbol, of another module's, and of its own thread-local data
+pub record WrongModulesAreRefused : Type 0 where
+  pub own : Refused (NamesWrongModule 0x11020 0xff8 0x12018 2 8)
+  pub other : Refused (NamesWrongModule 0x11048 0xff8 0x12040 4 0x20)
+  pub begin : Refused (NamesWrongModule 0x1102c 0x101c 0x12048 2 0)
+
+-- a descriptor for which another offset, or none, was noted
+pub record WrongDescriptorsAreRefused : Type 0 where
+  pub another : Refused (NamesWrongDescriptor 0x11028 0x1000 0x12028 own_offset)
+  pub none : Refused (λ m. m.descriptors ≡ [])
+
+-- `mov rax, -0x58`, the offset itself, where a descriptor's address is required
+abbrev pub offset_load : List ℕ
+offset_load = 0x48 ∷ 0xc7 ∷ 0xc0 ∷ 0xa8 ∷ 0xff ∷ 0xff ∷ 0xff ∷ []
+
+pub record HasOffsetLoad (m : Memory) : Type 0 where
+  pub there : Holds m 0x11080 offset_load
+  pub offset : ℕ
+  pub noted : m.descriptors ≡ (0x12028, offset) ∷ []
+
+-- code that receives the offset itself where it requires a descriptor: a library has descriptors
+abbrev pub WrongCodeOfLibraryIsRefused : Type 0
+WrongCodeOfLibraryIsRefused = Refused HasOffsetLoad
+
+-- a size; for an interposable symbol it is another module's
+abbrev pub WrongSizeIsRefused : Type 0
+WrongSizeIsRefused = Refused (HasWrongNumber 0x11030 8 24)
+
+-- a byte in no field
+abbrev pub WrongByteIsRefused : Type 0
+WrongByteIsRefused = Refused (HasWrongByte 0x11051 2)

@@ -1,0 +1,18 @@
+-- Checks of references to merged strings, and of references in reversed words.
+use Rattle.wild_meaning.specs.Reference.{ReferenceHolds}
+use Rattle.wild_meaning.specs.Worked.Refusals.{HasWrongNumber, HasWrongByte}
+use Rattle.wild_meaning.specs.Worked.Builders.{Refuses}
+use Rattle.wild_meaning.specs.Worked.Static.{static_pie_world}
+use Rattle.wild_meaning.specs.Worked.Strings.{strings_layout, strings_memory, pointer_item, string_reference}
+
+-- A reference to the middle of a string holds if the field is that byte's address. No image is linked if it is another number,
+-- such as the address of the string's end, or of that byte relative to the first string.
+pub record StringsAreJudged : Type 0 where
+  pub found : ReferenceHolds strings_layout static_pie_world strings_memory pointer_item string_reference
+  pub wrong : Refuses strings_layout static_pie_world (HasWrongNumber 0x41100 8 0x4120a)
+
+-- no image is linked if the address is not in the last of two reversed words, or if the first word does not have the bytes of the
+-- other
+pub record ReversedWordsAreJudged : Type 0 where
+  pub address : Refuses strings_layout static_pie_world (HasWrongNumber 0x41118 8 0x41210)
+  pub other : Refuses strings_layout static_pie_world (HasWrongByte 0x41110 7)

@@ -1,0 +1,65 @@
+-- A worked program with merged strings, and with words that are written in reverse order.
+--   pointer_item   an address of a byte in the middle of a string
+--   reversed_item    two words; in the input the address is first
+--   strings_layout         the layout
+--   strings_memory  the memory into which a loader turns it in the world of the program without a dynamic linker
+use Rattle.std.specs.Prelude.{[], ◌∷◌, None, true}
+use lib.IntN.{pos}
+use Rattle.wild_records.specs.Abi.Relocation.{r_x86_64_64}
+use Rattle.wild_records.specs.Abi.Symbol.{stt_section}
+use Rattle.wild_types.specs.declared.symbol.Place.TheVariants as at
+use Rattle.wild_types.specs.declared.symbol.Symbol.{Symbol}
+use Rattle.wild_types.specs.declared.input.InputRelocation.{InputRelocation}
+use Rattle.wild_types.specs.declared.input.InputSection.{InputSection}
+use Rattle.wild_types.specs.declared.input.MergedString.{MergedString}
+use Rattle.wild_types.specs.declared.input.Slot.TheVariants as slot
+use Rattle.wild_types.specs.declared.file.FileRole.TheVariants as file_role
+use Rattle.wild_types.specs.declared.file.File.{File}
+use Rattle.wild_types.specs.declared.layout.Layout.{Layout}
+use Rattle.wild_loader.specs.declared.memory.Machine.TheVariants as processors
+use Rattle.wild_loader.specs.declared.memory.Memory.{Memory}
+use Rattle.wild_types.specs.Item.{Item}
+use Rattle.wild_meaning.specs.Item.{placed_item}
+use Rattle.wild_meaning.specs.Worked.Builders.{reference, input, file_of, group_of}
+use Rattle.wild_meaning.specs.Worked.Static.{static_pie, second_function}
+
+-- two strings that were placed elsewhere: five bytes of the input from 0 on, and the bytes after them
+abbrev pub first_string : MergedString
+first_string = record { offset = 0; address = 0x1220 }
+
+abbrev pub second_string : MergedString
+second_string = record { offset = 5; address = 0x1208 }
+
+abbrev pub string_section : InputSection
+string_section = record (input 0 0x32 [] []) { slot = slot.Merge; strings = first_string ∷ second_string ∷ [] }
+
+-- the section's symbol (NON_INTERPOSABLE)
+abbrev pub string_symbol : Symbol
+string_symbol = record second_function { info = stt_section; place = at.Section 2; flags = record { 0 = 8 }; resolution = None }
+
+-- byte 7 of the section: byte 2 of the second string
+abbrev pub string_reference : InputRelocation
+string_reference = reference 0 r_x86_64_64 0 (pos 7)
+
+abbrev pub pointer_data : InputSection
+pointer_data = input 0x1100 3 (0 ∷ 0 ∷ 0 ∷ 0 ∷ 0 ∷ 0 ∷ 0 ∷ 0 ∷ []) (string_reference ∷ [])
+
+-- an address, and a word without a relocation; in the output the word is first
+abbrev pub reversed_data : InputSection
+reversed_data = record (input 0x1110 3 (0 ∷ 0 ∷ 0 ∷ 0 ∷ 0 ∷ 0 ∷ 0 ∷ 0 ∷ 7 ∷ 0 ∷ 0 ∷ 0 ∷ 0 ∷ 0 ∷ 0 ∷ 0 ∷ []) (reference 0 r_x86_64_64 1 (pos 0) ∷ [])) { reversed = true }
+
+abbrev pub strings_file : File
+strings_file = record (file_of file_role.Object (pointer_data ∷ reversed_data ∷ string_section ∷ []) []) { symbol_count = 2 }
+
+abbrev pub strings_layout : Layout
+strings_layout = record static_pie { symbols = string_symbol ∷ second_function ∷ []; groups = group_of (strings_file ∷ []) ∷ [] }
+
+abbrev pub pointer_item : Item
+pointer_item = placed_item strings_layout strings_file pointer_data
+
+abbrev pub reversed_item : Item
+reversed_item = placed_item strings_layout strings_file reversed_data
+
+-- at base 0x40000
+abbrev pub strings_memory : Memory
+strings_memory = record { machine = processors.X86_64; runs = record { start = 0x41100; bytes = 0x0a ∷ 0x12 ∷ 0x04 ∷ 0 ∷ 0 ∷ 0 ∷ 0 ∷ 0 ∷ [] } ∷ []; descriptors = [] }

@@ -1,6 +1,0 @@
-use Rattle.wild_layout.proofs.FaultLemmas.{laid_out}
-use Rattle.wild_partial.proofs.relinking_is_faithful.Goals as goal
-use Rattle.wild_partial.proofs.Relinked.{relinked}
-
-pub returns : goal.returns
-returns c = relinked c.symbols_have_fields.ensures.table (laid_out c.layouts_are_laid_out.ensures)

@@ -1,0 +1,9 @@
+pub mod PlacedFiles
+pub mod FrameLemmas
+pub mod PlainLemmas
+pub mod ReversedBytes
+pub mod SumLemmas
+pub mod WordLemmas
+pub mod KeepLemmas
+pub mod PlacedLemmas
+pub mod TableLemmas

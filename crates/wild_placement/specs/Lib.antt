@@ -1,0 +1,5 @@
+pub mod ReversedWords
+pub mod FrameInputs
+pub mod PlacedSections
+pub mod PlacedInputs
+pub mod Plain

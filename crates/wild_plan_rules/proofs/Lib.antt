@@ -1,0 +1,4 @@
+pub mod BlockLemmas
+pub mod ClauseLemmas
+pub mod CoverLemmas
+pub mod SlotPlaceLemmas

@@ -1,5 +1,0 @@
-use Rattle.wild_references.proofs.ThunkCode.{thunks_go}
-use Rattle.wild_references.proofs.thunks_go_on.Goals as goal
-
-pub returns : goal.returns
-returns c = thunks_go c.stubs_of_words_are_read.ensures.thunks

@@ -1,0 +1,5 @@
+use Rattle.wild_references.proofs.ThunkCode.{thunks_go}
+use Rattle.wild_references.proofs.thunks_jump_to_targets.Goals as goal
+
+pub returns : goal.returns
+returns c = thunks_go c.stubs_of_words_are_read.ensures.thunks

@@ -1,0 +1,3 @@
+pub mod PlanOfGroups
+pub mod Laws
+pub mod CallingPlans

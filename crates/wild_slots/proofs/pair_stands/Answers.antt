@@ -1,5 +1,0 @@
-use Rattle.wild_slots.proofs.StandLemmas.{pair}
-use Rattle.wild_slots.proofs.pair_stands.Goals as goal
-
-pub returns : goal.returns
-returns c = λ l h some at e. pair l h some at e

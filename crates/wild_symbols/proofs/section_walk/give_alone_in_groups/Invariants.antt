@@ -1,9 +1,0 @@
-use Rattle.std.proofs.Common.{drop}
-use Rattle.std.specs.List.{flat_map}
-use Rattle.wild_types.specs.declared.file.Group.{Group}
-use Rattle.wild_walk.specs.Runs.{Left}
-use Rattle.wild_symbols.specs.SectionWalk.{alone_in, alone_in_groups}
-use Rattle.wild_symbols.proofs.section_walk.give_alone_in_groups.Given as goal
-
-abbrev pub invariant-loop-group : goal.invariant-loop-group
-invariant-loop-group g l = Left g.S.Sink.goes g.S.Sink.refuses l.initial.sink (alone_in_groups l.layout) l.sink (flat_map (λ (x : Group). flat_map alone_in x.files) (drop l.group-index l.group-items))

@@ -1,0 +1,13 @@
+pub mod DynamicLemmas
+pub mod EntryLemmas
+pub mod FoundLemmas
+pub mod LoadedLemmas
+pub mod StringLemmas
+pub mod SymbolLemmas
+pub mod EntryLengths
+pub mod SymtabLemmas
+pub mod VersionChains
+pub mod VersionLengths
+pub mod VersionRooms
+pub mod HeaderLemmas
+pub mod HeaderLengths

@@ -1,6 +1,0 @@
-use Rattle.std.proofs.Common.{◌≡◌, drop}
-use Rattle.wild_tables.specs.Rooms.{first_short}
-use Rattle.wild_tables.proofs.room.first_short.Given as goal
-
-abbrev pub invariant-loop-room : goal.invariant-loop-room
-invariant-loop-room l = first_short l.layout l.group (drop l.room-index l.rooms) ≡ first_short l.layout l.group l.rooms
