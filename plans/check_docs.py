@@ -248,6 +248,7 @@ def scripts():
             with open(f"{folder}/plan.json", "w") as file:
                 file.write(text)
             with open(f"{folder}/image", "w") as file:
+                os.chmod(f"{folder}/image", 0o644)
                 file.write("as before")
             status, said = answer(text, "link", workers)
             lines = said.splitlines(keepends=True)
@@ -262,25 +263,26 @@ def bare(plan):
     """A plan without the sizes, offsets and addresses that `needs --fill` finds. Symbols with an address are placed in their output section."""
     plan = copy.deepcopy(plan)
     files = [file for group in plan["groups"] for file in group["files"]]
-    filled = {index for file in files for item in file.get("sections", ()) if item.get("slot") != "discard" for index in [item.get("part", 0)]}
-    own = {address: index for index, symbol in enumerate(plan["symbols"]) if isinstance(symbol.get("place"), dict) and (address := (symbol["resolution"] or {}).get("raw_value"))}
-    for symbol in plan["symbols"]:
-        resolution, place = symbol.get("resolution") or {}, symbol.get("place")
-        at = resolution.get("raw_value") or 0
-        section = next((index for index, item in enumerate(plan["sections"]) if at and item.get("flags", 0) & 2 and 0 <= at - item["address"] < item["size"]), None)
-        if section and not isinstance(place, dict) and "PLT" not in symbol["flags"]:
-            symbol.update(place={"output": section}, value=at - plan["sections"][section]["address"])
-        if isinstance(symbol.get("place"), dict) or "PLT" in symbol["flags"]:
-            drop(resolution, "raw_value")
-        drop(resolution, "got", "plt")
-    if address := (plan.get("entry") or {}).get("address"):
+    inputs = [item for file in files for item in file.get("sections", ())]
+    own = {}
+    for index, symbol in enumerate(plan["symbols"]):
+        resolution, is_stub = symbol.get("resolution") or {}, "PLT" in symbol.get("flags", ())
+        at = resolution.get("raw_value", 0)
+        sections = [number for number, item in enumerate(plan["sections"]) if item.get("flags", 0) & 2 and 0 <= at - item.get("address", 0) < item.get("size", 0)]
+        if isinstance(symbol.get("place"), dict):
+            own[at] = index
+        elif at and sections and not is_stub:
+            symbol.update(place={"output": sections[0]}, value=at - plan["sections"][sections[0]]["address"])
+        drop(resolution, "got", "plt", *["raw_value"] * (is_stub or isinstance(symbol.get("place"), dict)))
+    if (address := (plan.get("entry") or {}).get("address")) in own:
         plan["entry"] = {"symbol": own[address]}
+    # what stays: the size of a raw part without input sections, as of one for copies, and the address of code that is to be far from its caller
+    filled = {item.get("part", 0) for item in inputs if item.get("slot", "discard") != "discard"}
     for index, part in enumerate(plan["parts"]):
-        # the room for copies, and code that is to be far from its caller
-        drop(part, "offset", *["size"] * (part.get("role", "raw") != "raw" or index in filled), *["address"] * (part.get("address", 0) < 2**27))
+        drop(part, "offset", *["size"] * (part.get("role", "raw") != "raw" or index in filled))
     for item in plan["sections"] + plan.get("segments", []):
-        drop(item, "offset", "size", "file_size", "mem_size", *["address"] * (item.get("address", 0) < 2**27))
-    for item in [item for file in files for item in file.get("sections", ())] + list(itertools.chain(*plan.get("thunk_blocks", []))):
+        drop(item, "offset", "size", "file_size", "mem_size")
+    for item in [item for name in ("parts", "sections", "segments") for item in plan.get(name, ()) if item.get("address", 0) < FAR] + inputs + list(itertools.chain(*plan.get("thunk_blocks", []))):
         drop(item, "address")
     for group in plan["groups"]:
         drop(group, "part_sizes", *fill_plan.STARTS)
@@ -288,6 +290,9 @@ def bare(plan):
     if plan.get("tlsld") is not None:
         plan["tlsld"] = 0
     return plan
+
+
+FAR = 2**27
 
 
 def drop(item, *members):
@@ -409,20 +414,27 @@ def schema():
         if not is_type(cells[1], found):
             differs(where, cells[1], f"docs/plan.schema.json: {found}")
         same(f"{where}: default", default_of(cells[1], cells[2]), [found["default"]] if "default" in found else [])
-        for text in (cells[3].split(" (")[0].strip("`"), *OTHERS):
-            plan = wrapped(path, {name: json.loads(text)})
-            same(f"{where}: {text} is taken by docs/plan.schema.json", answer(plan)[0] != 3, not wrong_at(plan, SCHEMA))
+        greatest = resolved(found).get("maximum", 0)
+        alternatives = PLACES if any("required" in kind for kind in found.get("anyOf", ())) else ()
+        for value in (json.loads(cells[3].split(" (")[0].strip("`")), *OTHERS, *alternatives, greatest, greatest + 1):
+            plan = wrapped(path, {name: value})
+            same(f"{where}: {value} is taken by docs/plan.schema.json", answer(plan)[0] != 3, not wrong_at(plan, SCHEMA))
     for path, names in told.items():
         same(f"docs/plan.schema.json: members at {path}/", names, list(schema_at(path)["properties"]))
-        same(f"docs/plan.schema.json: unknown at {path}/", [f"{path}/unknown"], wrong_at(wrapped(path, {"unknown": 0}), SCHEMA))
-    same("docs/plan.schema.json: flags", [cells[0].strip("`") for _, _, _, heads, cells in rows("docs/PLAN.md") if heads[0] == "Flag"], SCHEMA["$defs"]["symbol_flag"]["enum"])
+        same(f"docs/plan.schema.json: unknown at {path}/", True, bool(wrong_at(wrapped(path, {"unknown": 0}), SCHEMA)))
+    same("docs/plan.schema.json: flags", set(words_under("Flag")), set(SCHEMA["$defs"]["symbol_flag"]["enum"]))
     for path in PLANS:
         same(f"docs/plan.schema.json: {path}", [], wrong_at(json.loads(read(path)), SCHEMA))
 
 
-# values of all types, and at the ends of ranges
-OTHERS = ["null", "true", "-1", "0", "256", "65536", "4294967296", "9223372036854775808", "18446744073709551616", "0.5", '""', '"0"', '"x"', '"0aF9"', '"static"', "[]", "[0]", "[[]]", "[{}]",
-          '["GOT"]', "{}", '{"section":0}', '{"output":0,"section":0}', '{"address":0}', '{"symbol":0,"address":0}']
+def words_under(*head):
+    """The first column of the table of docs/PLAN.md that begins with these heads."""
+    return [word for _, _, _, heads, cells in rows("docs/PLAN.md") if tuple(heads[: len(head)]) == head for word in re.findall(r"`(\w+)`", cells[0])]
+
+
+# values of all types, and of the members that have one of several objects
+OTHERS = [None, True, -1, 0.5, "", "0aF", [None], {}]
+PLACES = ["common", {"section": 0}, {"output": 0}, {"output": 0, "section": 0}, {"address": 0}, {"symbol": 0}, {"symbol": 0, "address": 0}]
 NUMBERS = {"number", "index", "u32", "u16", "u8", "i64"}
 JSON_TYPES = {"null": type(None), "boolean": bool, "integer": int, "string": str, "array": list, "object": dict}
 # the keywords of a JSON Schema that are known here
@@ -457,12 +469,13 @@ def is_type(told, schema):
     if not schema:
         return False
     if "enum" in schema:
-        return told.startswith("word: ") and re.findall(r"`(\w+)`", told) == schema["enum"]
+        words = re.findall(r"`(\w+)`", told) + words_under("Role", "What the part has") * ("next table" in told)
+        return told.startswith("word") and set(words) == set(schema["enum"])
     if "anyOf" in schema:
         kinds = schema["anyOf"]
         if kinds[0] == {"type": "null"} and len(kinds) == 2 and "$ref" in kinds[1]:
             return told.startswith("null or ") and is_type(told[8:].removeprefix("the ").split(" of ")[0], kinds[1])
-        return all(told.startswith("null or ") if kind == {"type": "null"} else all(name in told for name in kind.get("enum", kind.get("properties", ()))) for kind in kinds)
+        return all("null" in told if kind == {"type": "null"} else all(name in told for name in kind.get("enum", kind.get("properties", ()))) for kind in kinds)
     if "items" in schema:
         return told.startswith("list of ")
     if "$ref" in schema:
@@ -480,15 +493,20 @@ def wrong_at(value, schema, path=""):
         wrong.append(path)
     if "type" in schema and type(value) is not JSON_TYPES[schema["type"]]:
         return wrong + [path]
-    if not schema.get("minimum", value) <= value <= schema.get("maximum", value) if type(value) is int else not re.search(schema.get("pattern", ""), value) if type(value) is str else False:
+    if type(value) is int and not schema.get("minimum", value) <= value <= schema.get("maximum", value):
         wrong.append(path)
-    for place, item in enumerate(value if type(value) is list and "items" in schema else []):
-        wrong += wrong_at(item, schema["items"], f"{path}/{place}")
+    if type(value) is str and not re.search(schema.get("pattern", ""), value):
+        wrong.append(path)
+    if type(value) is list:
+        for place, item in enumerate(value):
+            wrong += wrong_at(item, schema.get("items", {}), f"{path}/{place}")
     if type(value) is dict:
         wrong += [path for name in schema.get("required", []) if name not in value]
         for name, item in value.items():
             known = schema.get("properties", {}).get(name, schema.get("additionalProperties", {}))
-            wrong += wrong_at(item, known, f"{path}/{name}") + wrong_at(value, schema.get("dependentSchemas", {}).get(name, {}), path)
+            wrong += wrong_at(item, known, f"{path}/{name}")
+            if name in schema.get("dependentSchemas", {}):
+                wrong += wrong_at(value, schema["dependentSchemas"][name], path)
     return wrong
 
 
