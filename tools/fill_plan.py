@@ -3,26 +3,30 @@
 
     ./needs --fill < PLAN > FILLED
 
-A member that is given is kept, right or wrong; only absent ones are filled in (a `got` or `plt` that is null counts as absent).
+A member that is given is kept, right or wrong. An absent one is filled in:
 
-| Members | Filled with |
-|---|---|
-| `size` of a part, `part_sizes` | what `needs` counts; of a raw part its input sections with the room between them, its merged strings and thunks |
-| `offset`, `address` of a part | parts follow each other in the file, each at a multiple of its `align`, the first of a section at one of the section's too. Address minus offset is constant within a loaded segment; the next segment begins on a page of its own |
-| the same of a section, and its `size` | from its first part to the end of its last |
-| the same of a segment, its `file_size` and `mem_size` | kind 1: from its first part to the end of its last; 2, 3, 6, 7, GNU_EH_FRAME, GNU_PROPERTY: the parts or sections that they are for; 4 (PT_NOTE): all loaded notes, if it is the only one |
-| `address` and `size` of an input section | the next multiple of its part's `align`, since a plan does not have its own alignment; as many bytes as `bytes` has. Of thunks: where they have to be |
-| `got`, `plt` of a resolution; `tlsld` where it is given as 0 | the next free words and stubs, in the order of the files and their symbols |
-| `raw_value` of a resolution | address and `value` of a symbol that is placed in an input or output section; `value` of an absolute one; the stub of another module's |
-| `tls`, `got_base`, the `.._start` of groups | the sections with flag 0x400 (SHF_TLS); the address of the part `got`; the shares of the groups before |
+- `part_sizes`, and `size` of a part: what `needs` counts. Of a raw part: the bytes from the group's first input section to the end of its last
+  one, with merged strings and thunks.
+- `offset` and `address` of a part: the next multiple of its `align` in the file, in memory at the same distance from the file as the rest of its
+  loaded segment. A loaded segment begins on a page after the one before it. The first address is that of the first loaded segment or of the
+  first part; if neither is given, 0x400000 in an output at fixed addresses, else 0.
+- `offset`, `address` and `size` of a section: from its first part to the end of its last one.
+- `offset`, `address`, `file_size` and `mem_size` of a segment: of kind 1 from its first part to the end of its last one; of kinds 2, 3, 6, 7,
+  GNU_EH_FRAME and GNU_PROPERTY those of the part or the sections that they are for; of kind 4 those of all loaded notes, if one segment has it.
+- `address` of an input section: the next multiple of its part's `align`, because a plan does not have the alignment of an input section. `size`:
+  the length of `bytes`. `address` of a thunk: the only one that it may have.
+- `got` and `plt` of a `resolution`, also null ones: the next free word and stub, as the flags say. `tlsld`, if it is given as 0, so too.
+- `raw_value` of a `resolution`: the address of the input or output section that the symbol is placed in, and its `value`; the `value` of an
+  absolute symbol; the stub of another module's function.
+- `tls`: the sections with flag 0x400 (SHF_TLS). `got_base`: the part `got`. `dynstr_start` and the like: the shares of the groups before.
 
-Which loaded segment has a section is found by the flags, in the order of both: the next one begins where the section may do what the segment
-may not, or where a section like those of the segment was there and the next segment fits better. The first address is that of the first loaded
-segment or part; otherwise 0x400000 in an output at fixed addresses, else 0. A plan with `only_keep_debug` is not filled.
+Parts, sections and segments stay in their order. The flags say which loaded segment has a section: a new one begins if the section may do what
+the segment may not, or if the segment has its kind of sections already and the next one fits better.
 
-All else is the plan's: the order of parts, sections and segments, alignments, flags, `page_size`, `physical`, indexes such as `dynsym`, the room
-for copies, the strings of slot `merge`, GNU_RELRO and kinds of segments that are not named here. Such members that stay without a value are
-listed on standard error. Sizes may depend on addresses (RELR words, entries of `dynamic`), so `needs` runs until its answer stays: 2 to 4 times.
+Not filled in: alignments, flags, `page_size`, `physical`, indexes such as `dynsym`, the room for copies (the `size` of their part), the strings
+of slot `merge`, segments of other kinds (GNU_RELRO), and plans with `only_keep_debug`. What stays without a value is listed on standard error.
+
+Some sizes depend on addresses (RELR words) and on other sizes (entries of `dynamic`), so `needs` runs until its answer stays: 2 to 4 times.
 """
 import copy
 import json
@@ -55,16 +59,21 @@ def item(items, index):
 
 
 class Filling:
-    """A plan that is being filled in, where the groups need these shares of the parts that are not raw."""
+    """A plan that is being filled in, with the shares that its groups need of the parts that the writer makes."""
 
     def __init__(self, plan, shares):
         self.plan = plan = copy.deepcopy(plan)
         self.missing = []
         self.parts, self.sections, self.segments, self.groups, self.symbols = (plan.get(name, []) for name in ("parts", "sections", "segments", "groups", "symbols"))
         self.files = [file for group in self.groups for file in group.get("files", [])]
-        self.moves = plan.get("kind", "static") in ("static_pie", "dynamic_pie", "shared")
+        self.kind, self.page = plan.get("kind", "static"), plan.get("page_size") or 4096
         self.given = [bool(group.get("part_sizes")) for group in self.groups]
-        self.shares = [list(group["part_sizes"]) if given else list(own) for group, given, own in zip(self.groups, self.given, shares)]
+        self.shares = [list(group["part_sizes"] if given else own) for group, given, own in zip(self.groups, self.given, shares)]
+        # the loaded segments with their parts; the one that is being filled, and whether it has had a section with just its permissions
+        self.loads = [(segment, []) for segment in self.segments if segment.get("kind") == LOAD]
+        self.load, self.is_used = None, False
+        # the end of what is placed in the file and in memory, and how far addresses are from offsets
+        self.at, self.memory, self.distance = 0, 0, self.first_address()
         self.place_parts()
         self.fill_sections()
         self.fill_tls()
@@ -81,59 +90,77 @@ class Filling:
 
     # Parts and input sections
 
+    def first_address(self):
+        """The address of the first byte of the file."""
+        for first in [segment for segment, _ in self.loads[:1]] + self.parts[:1]:
+            if "address" in first:
+                return first["address"] - first.get("offset", 0)
+        return 0x400000 if self.kind in ("static", "dynamic") else 0
+
+    def is_loaded(self, part):
+        """Whether a part is loaded; the headers are if the first loaded segment begins with the file."""
+        if part.get("role") in ("file_header", "program_headers"):
+            return self.kind != "partial" and not (self.loads and self.loads[0][0].get("offset"))
+        return self.kind != "partial" and bool(self.section_of(part).get("flags", 0) & ALLOC)
+
+    def wanted(self, section):
+        """The flags that a segment with this section needs."""
+        flags = section.get("flags", 0)
+        return (flags & WRITE) * 2 | (flags & EXECUTE) // 4
+
+    def go_to_segment(self, section, align):
+        """Goes on to the loaded segment for a section, and begins it."""
+        wanted = self.wanted(section)
+        before, self.load = self.load, self.load or 0
+        while self.load + 1 < len(self.loads):
+            here, after = (segment.get("flags", 0) & 3 for segment, _ in self.loads[self.load : self.load + 2])
+            if not wanted & ~here and not (self.is_used and here != wanted == after):
+                break
+            self.load, self.is_used = self.load + 1, False
+        segment = self.loads[self.load][0]
+        self.is_used |= wanted == segment.get("flags", 0) & 3
+        if self.load == before:
+            return
+        step = max(self.page, segment.get("align", 1), align)
+        self.at = segment.get("offset", up(self.at, align))
+        if "address" in segment:
+            self.at += 0 if "offset" in segment else (segment["address"] - self.at) % step
+            self.distance = segment["address"] - self.at
+        while "address" not in segment and (self.at + self.distance) // step * step < self.memory:
+            self.distance += step
+
     def place_parts(self):
-        partial, page = self.plan.get("kind") == "partial", self.plan.get("page_size") or 4096
-        loads = [segment for segment in self.segments if segment.get("kind") == LOAD]
-        self.loads = [(segment, []) for segment in loads]
-        base = [segment["address"] - segment.get("offset", 0) for segment in loads[:1] if "address" in segment]
-        base += [part["address"] - part.get("offset", 0) for part in self.parts[:1] if part.get("address")]
-        base.append(0x400000 if self.plan.get("kind", "static") in ("static", "dynamic") else 0)
-        # the end in the file, address minus offset, the end in memory, the loaded segment and whether it has had a section that fits it best
-        at, distance, memory, load, used, seen = 0, base[0], base[0], 0, False, {}
+        starts = {}
         for index, part in enumerate(self.parts):
-            section, number = self.section_of(part), part.get("section", 0)
-            zeros = section.get("kind") == NOBITS
-            headers = part.get("role") in ("file_header", "program_headers") and (not loads or loads[0].get("offset", 0) == 0)
-            loaded = not partial and bool(section.get("flags", 0) & ALLOC or headers)
-            align = max(part.get("align", 1), 1 if number in seen else section.get("align", 1))
-            if section.get("flags", 0) & ALLOC and loads and not partial:
-                wanted = (section["flags"] & WRITE) * 2 | (section["flags"] & EXECUTE) // 4
-                before = load
-                while load + 1 < len(loads) and (wanted & ~loads[load].get("flags", 0) or used and wanted != loads[load].get("flags", 0) & 3 and wanted == loads[load + 1].get("flags", 0) & 3):
-                    load, used = load + 1, False
-                used |= wanted == loads[load].get("flags", 0) & 3
-                if load != before:
-                    segment, step = loads[load], max(page, loads[load].get("align", 1), align)
-                    at = segment.get("offset", up(at, align))
-                    if "address" in segment:
-                        at += 0 if "offset" in segment else (segment["address"] - at) % step
-                        distance = segment["address"] - at
-                    else:
-                        while (at + distance) // step * step < memory:
-                            distance += step
-            if "offset" in part:
-                at = part["offset"]
-            elif not zeros:
-                at = up(at, align)
-            if loaded and "address" in part and not zeros:
-                at += 0 if "offset" in part else (part["address"] - at) % page
-                distance = part["address"] - at
-            part.setdefault("offset", up(at, align) if zeros else at)
-            if loaded:
-                part.setdefault("address", up(max(memory, at + distance), align) if zeros else at + distance)
-                if loads:
-                    self.loads[load][1].append(part)
+            section, number, loaded = self.section_of(part), part.get("section", 0), self.is_loaded(part)
+            align = max(part.get("align", 1), 1 if number in starts else section.get("align", 1))
+            if loaded and self.loads:
+                # the headers have no section, and so the permissions of any segment
+                self.go_to_segment(section, align)
+                if self.wanted(section) & ~self.loads[self.load][0].get("flags", 0):
+                    self.missing.append(f"/sections/{number} has permissions that its loaded segment does not have")
+                self.loads[self.load][1].append(part)
+            if section.get("kind") == NOBITS:
+                part.setdefault("offset", up(self.at, align))
+                if loaded:
+                    part.setdefault("address", up(max(self.memory, self.at + self.distance), align))
+            else:
+                self.at = part.get("offset", up(self.at, align))
+                if loaded and "address" in part:
+                    self.at += 0 if "offset" in part else (part["address"] - self.at) % self.page
+                    self.distance = part["address"] - self.at
+                part.setdefault("offset", self.at)
+                if loaded:
+                    part.setdefault("address", self.at + self.distance)
             # in a section that is not loaded addresses count from its beginning
-            address = part["address"] if loaded else part["offset"] - seen.setdefault(number, part["offset"])
-            seen.setdefault(number, part["offset"])
+            first = starts.setdefault(number, part["offset"])
             if part.get("role", "raw") == "raw":
-                self.place_inputs(index, part, address)
+                self.place_inputs(index, part, part["address"] if loaded else part["offset"] - first)
             part.setdefault("size", sum(item(shares, index) or 0 for shares in self.shares))
-            if not zeros:
-                at += part["size"]
-                memory = max(memory, at + distance) if loaded else memory
-            elif loaded and not section.get("flags", 0) & TLS:
-                memory = part["address"] + part["size"]
+            if section.get("kind") != NOBITS:
+                self.at = part["offset"] + part["size"]
+            if loaded and not (section.get("kind") == NOBITS and section["flags"] & TLS):
+                self.memory = max(self.memory, part["address"] + part["size"])
 
     def place_inputs(self, index, part, at):
         """Places the input sections of a raw part from an address on, and counts the groups' shares."""
@@ -173,15 +200,13 @@ class Filling:
 
     # Headers
 
-    def ends(self, parts):
-        """Offset, address, bytes in the file and bytes in memory, from the first of these parts to the end of the last."""
-        files = [part for part in parts if self.section_of(part).get("kind") != NOBITS]
-        memory = [part for part in parts if part in files or not self.section_of(part).get("flags", 0) & TLS or self.tls_alone]
+    def range_of_parts(self, parts, has_tls_zeros):
+        """The members of a segment from the first of these parts to the end of the last. Zeroed thread-local data takes no memory of a loaded one."""
+        in_file = [part for part in parts if self.section_of(part).get("kind") != NOBITS]
+        in_memory = [part for part in parts if has_tls_zeros or part in in_file or not self.section_of(part)["flags"] & TLS]
         offset, address = parts[0]["offset"], parts[0].get("address", 0)
-        return {"offset": offset, "address": address, "file_size": max([part["offset"] + part["size"] - offset for part in files], default=0),
-                "mem_size": max([part.get("address", 0) + part["size"] - address for part in memory], default=0)}
-
-    tls_alone = False
+        return {"offset": offset, "address": address, "file_size": max([part["offset"] + part["size"] - offset for part in in_file], default=0),
+                "mem_size": max([part.get("address", 0) + part["size"] - address for part in in_memory], default=0)}
 
     def fill_sections(self):
         for number, section in enumerate(self.sections):
@@ -208,7 +233,6 @@ class Filling:
         notes = [part for part in self.parts if self.section_of(part).get("kind") == NOTE_SECTION and self.section_of(part).get("flags", 0) & ALLOC]
         for number, segment in enumerate(self.segments):
             kind = segment.get("kind", 0)
-            self.tls_alone = kind == TLS_SEGMENT
             if kind == LOAD:
                 parts = next(loads)[1]
             elif kind == NOTE:
@@ -218,17 +242,17 @@ class Filling:
             else:
                 parts = [part for part in self.parts if part.get("role") == ROLE_OF.get(kind, "") or kind == INTERP and self.section_of(part).get("name") == b".interp".hex()]
             if parts:
-                for name, value in self.ends(parts).items():
+                for name, value in self.range_of_parts(parts, kind == TLS_SEGMENT).items():
                     segment.setdefault(name, value)
             elif kind != STACK and not {"offset", "address", "file_size", "mem_size"} & set(segment):
-                self.missing.append(f"/segments/{number}: nothing is known to be in it")
+                self.missing.append(f"/segments/{number} is of no part or section that is known")
 
     # Symbols
 
     def in_got_relr(self, flags):
         """Whether the slot of an address moves with the base and no loader looks the symbol up (docs/SLOTS.md)."""
         looked_up = "DYNAMIC" in flags or "EXPORT_DYNAMIC" in flags and "NON_INTERPOSABLE" not in flags
-        return self.moves and self.plan.get("options", {}).get("relr") and "GOT" in flags and not looked_up and not flags & {"IFUNC", "CANONICAL_PLT", "ABSOLUTE"}
+        return self.kind in ("static_pie", "dynamic_pie", "shared") and self.plan.get("options", {}).get("relr") and "GOT" in flags and not looked_up and not flags & {"IFUNC", "CANONICAL_PLT", "ABSOLUTE"}
 
     def fill_slots(self):
         places = {role: (self.part_of(role) or {}).get("address", 0) for role in ("got", "got_relr", "plt_got")}
@@ -274,7 +298,7 @@ class Filling:
             elif place == "absolute" or "UNDEFINED_WEAK" in flags:
                 resolution["raw_value"] = symbol.get("value", 0)
             else:
-                self.missing.append(f"/symbols/{number}/resolution/raw_value")
+                self.missing.append(f"/symbols/{number}/resolution/raw_value stays without a value")
 
     def fill_groups(self):
         for number, group in enumerate(self.groups):
@@ -284,21 +308,22 @@ class Filling:
                 before = sum(shares[self.parts.index(part)] for part in [self.part_of(role)] if part for shares in self.shares[:number])
                 if before:
                     group.setdefault(name, before)
-        for file in self.files:
-            for section in file.get("sections", []):
-                if any("address" not in text for text in section.get("strings", [])):
-                    self.missing.append(f"addresses of the strings of {bytes.fromhex(section.get('name', '')).decode(errors='replace') or 'an input section'}")
+        for number, group in enumerate(self.groups):
+            for place, file in enumerate(group.get("files", [])):
+                for index, section in enumerate(file.get("sections", [])):
+                    if any("address" not in text for text in section.get("strings", [])):
+                        self.missing.append(f"/groups/{number}/files/{place}/sections/{index}/strings stay without an address")
 
 
-class NotCounted(Exception):
-    """`needs` ended with that status and text."""
+class NotFilled(Exception):
+    """The status and the text that say why a plan is not filled in."""
 
 
 def ask_program(text):
     """The answer of `needs` for a plan's text."""
     ran = subprocess.run([f"{TOP}/needs"], input=text.encode(), stdout=subprocess.PIPE)
     if ran.returncode:
-        raise NotCounted(ran.returncode, ran.stdout.decode())
+        raise NotFilled(ran.returncode, ran.stdout.decode())
     return ran.stdout.decode()
 
 
@@ -306,6 +331,8 @@ def filled(text, ask=ask_program):
     """The plan of a text, filled in, and the members that stay without a value."""
     answer = ask(text)
     plan = json.loads(text)
+    if plan.get("options", {}).get("only_keep_debug"):
+        raise NotFilled(2, "a plan with only_keep_debug is not filled in\n")
     made = [part.get("role", "raw") != "raw" for part in plan.get("parts", [])]
 
     def shares_of(answer):
@@ -317,18 +344,19 @@ def filled(text, ask=ask_program):
         answer = ask(json.dumps(filling.plan))
         if shares_of(answer) == shares:
             return filling.plan, filling.missing
-    raise NotCounted(1, f"the sizes change with the addresses, also after {PASSES} runs\n")
+    raise NotFilled(1, f"the sizes change with the addresses, also after {PASSES} runs\n")
 
 
 if __name__ == "__main__":
     if sys.argv[1:]:
-        sys.exit(__doc__)
+        print("usage: needs --fill < PLAN > FILLED", file=sys.stderr)
+        sys.exit(2)
     try:
         plan, missing = filled(sys.stdin.read())
-    except NotCounted as failed:
+    except NotFilled as failed:
         status, told = failed.args
         sys.stderr.write(f"needs: {told}")
         sys.exit(status)
-    for member in missing:
-        print(f"needs: without a value: {member}", file=sys.stderr)
+    for member in dict.fromkeys(missing):
+        print(f"needs: {member}", file=sys.stderr)
     print(json.dumps(plan, separators=(",", ":")))
