@@ -355,7 +355,7 @@ if __name__ == "__main__":
         plan, missing = filled(sys.stdin.read())
     except NotFilled as failed:
         status, told = failed.args
-        sys.stderr.write(f"needs: {told}")
+        sys.stderr.write(told and f"needs: {told}")
         sys.exit(status)
     for member in dict.fromkeys(missing):
         print(f"needs: {member}", file=sys.stderr)
