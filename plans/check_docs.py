@@ -11,7 +11,7 @@
 - Of each member of docs/PLAN.md the example is read, and a float is refused at its path; plans with all defaults written out mean the same. Of a member
   that is not there `explain` tells those that are.
 - An indented block behind a paragraph that names a plan is in the output of `explain`, or of the words that the paragraph names, for the plan with the
-  paragraph's changes. This is left out, and said so, where that program is not there: `cd crates/wild_explain_main && rt run` makes it.
+  paragraph's changes. This is left out, and said so, where that program is not there.
 - The answers and the makers of plans, plans in readable spelling, one of them in pieces, and the statuses of README.md.
 - docs/plan.schema.json has the members, types and defaults of docs/PLAN.md, and takes what the program reads as a plan and nothing else.
 - `link -o` writes the image that the program prints. Plans whose sizes, offsets and addresses were left out and filled in by `needs --fill` have an image,
@@ -232,8 +232,7 @@ def checkout():
     with tempfile.TemporaryDirectory() as folder:
         for name in ("link", "explain", "needs", "tools", "plans"):
             os.symlink(f"{TOP}/{name}", f"{folder}/{name}")
-        for program in (PROGRAM, EXPLAIN):
-            name = "wild_main" if program == PROGRAM else "wild_explain_main"
+        for name, program in (("wild_main", PROGRAM), ("wild_explain_main", EXPLAIN)):
             os.makedirs(f"{folder}/crates/{name}/out")
             os.symlink(program, f"{folder}/crates/{name}/out/{name}")
         os.symlink("/bin/true", f"{folder}/build")
@@ -259,6 +258,10 @@ def scripts():
             same(f"{where}: executable", status == 0, os.access(f"{folder}/image", os.X_OK))
 
 
+# addresses of code that is to be far from its caller
+FAR = 2**27
+
+
 def bare(plan):
     """A plan without the sizes, offsets and addresses that `needs --fill` finds. Symbols with an address are placed in their output section."""
     plan = copy.deepcopy(plan)
@@ -276,7 +279,7 @@ def bare(plan):
         drop(resolution, "got", "plt", *["raw_value"] * (is_stub or isinstance(symbol.get("place"), dict)))
     if (address := (plan.get("entry") or {}).get("address")) in own:
         plan["entry"] = {"symbol": own[address]}
-    # what stays: the size of a raw part without input sections, as of one for copies, and the address of code that is to be far from its caller
+    # the size of a raw part without input sections stays, as of one for copies
     filled = {item.get("part", 0) for item in inputs if item.get("slot", "discard") != "discard"}
     for index, part in enumerate(plan["parts"]):
         drop(part, "offset", *["size"] * (part.get("role", "raw") != "raw" or index in filled))
@@ -290,9 +293,6 @@ def bare(plan):
     if plan.get("tlsld") is not None:
         plan["tlsld"] = 0
     return plan
-
-
-FAR = 2**27
 
 
 def drop(item, *members):
@@ -322,6 +322,9 @@ def commands():
         for block, behind in re.findall(r"^```sh\n(.*?)^```\n\s*(.*?)(?:\n\n|\Z)", read(page), re.M | re.S):
             told = re.search(r"status (\d+)", behind)
             if not told:
+                continue
+            if re.search(r"\./(needs|explain)\b", block) and not os.path.exists(EXPLAIN):
+                print(f"left out: {page}: there is no {EXPLAIN}")
                 continue
             with checkout() as folder:
                 status, text = run(["bash", "-c", block], folder)
