@@ -11,11 +11,15 @@
 - Of each member of docs/PLAN.md the example is read, and a float is refused at its path; plans with all defaults written out mean the same. Of a member
   that is not there `explain` tells those that are.
 - An indented block behind a paragraph that names a plan is in the output of `explain`, or of the words that the paragraph names, for the plan with the
-  paragraph's changes. This is left out, and said so, where that program is not there: `cd crates/wild_explain_main && rt run` makes it.
+  paragraph's changes. This is left out, and said so, where that program is not there.
 - The answers and the makers of plans, plans in readable spelling, one of them in pieces, and the statuses of README.md.
+- docs/plan.schema.json has the members, types and defaults of docs/PLAN.md, and takes what the program reads as a plan and nothing else.
+- `link -o` writes the image that the program prints. Plans whose sizes, offsets and addresses were left out and filled in by `needs --fill` have an image,
+  and their programs do the same.
 - Files and functions that a page names are there.
 - Each library on a line of crates.txt is named by a file of its crate, and each crate is in docs/ARCHITECTURE.md; `--changes` checks these too.
 """
+import contextlib
 import copy
 import glob
 import itertools
@@ -28,10 +32,13 @@ import subprocess
 import sys
 import tempfile
 
+TOP = os.path.dirname(os.path.dirname(os.path.abspath(__file__)))
+sys.path.append(f"{TOP}/tools")
+
+import fill_plan
 import make_aarch64
 import readable
 
-TOP = os.path.dirname(os.path.dirname(os.path.abspath(__file__)))
 PAGES = ["README.md", "CONTRIBUTING.md", *sorted(os.path.relpath(page, TOP) for page in glob.glob(f"{TOP}/docs/*.md"))]
 PLANS = sorted(glob.glob(f"{TOP}/plans/*.json"))
 # the tables of members in docs/PLAN.md, by their first column or their section, and where such an object stands in a plan
@@ -211,11 +218,102 @@ def programs():
         if runner and not shutil.which(runner[0]):
             print(f"left out: {plan}: there is no {runner[0]}")
             continue
-        with tempfile.TemporaryDirectory() as folder:
-            image(read(plan), f"{folder}/program")
-            status, text = run([*runner, f"{folder}/program"], folder)
         printed = re.search(r"prints `([^`]*)`", cells[-1])
-        same(where, (int(told[1]), printed[1] if printed else ""), (status, text.strip()))
+        for text in [read(plan)] + [filled(plan)] * os.path.exists(EXPLAIN):
+            with tempfile.TemporaryDirectory() as folder:
+                image(text, f"{folder}/program")
+                status, said = run([*runner, f"{folder}/program"], folder)
+            same(where, (int(told[1]), printed[1] if printed else ""), (status, said.strip()))
+
+
+@contextlib.contextmanager
+def checkout():
+    """A folder with the scripts and plans of this checkout, in which the programs are the ones that are checked."""
+    with tempfile.TemporaryDirectory() as folder:
+        for name in ("link", "explain", "needs", "tools", "plans"):
+            os.symlink(f"{TOP}/{name}", f"{folder}/{name}")
+        for name, program in (("wild_main", PROGRAM), ("wild_explain_main", EXPLAIN)):
+            os.makedirs(f"{folder}/crates/{name}/out")
+            os.symlink(program, f"{folder}/crates/{name}/out/{name}")
+        os.symlink("/bin/true", f"{folder}/build")
+        yield folder
+
+
+def scripts():
+    """`link -o` writes the image that the program prints, and has its other lines and its status."""
+    wrong = [(json.dumps({"machine": "x86_64", "kind": "static"}), "1"), ("{", "1"), (read("plans/smallest.json"), "65")]
+    with checkout() as folder:
+        for text, workers in [(read(path), "1") for path in PLANS] + wrong:
+            with open(f"{folder}/plan.json", "w") as file:
+                file.write(text)
+            with open(f"{folder}/image", "w") as file:
+                os.chmod(f"{folder}/image", 0o644)
+                file.write("as before")
+            status, said = answer(text, "link", workers)
+            lines = said.splitlines(keepends=True)
+            where = f"./link -o image {workers} < {text[:60]}"
+            same(where, (status, "".join(line for line in lines if status or " " in line)), run(["bash", "-c", f"./link -o image {workers} < plan.json"], folder))
+            with open(f"{folder}/image", "rb") as file:
+                same(where, b"as before" if status else bytes.fromhex("".join(line for line in lines if " " not in line)), file.read())
+            same(f"{where}: executable", status == 0, os.access(f"{folder}/image", os.X_OK))
+
+
+# addresses of code that is to be far from its caller
+FAR = 2**27
+
+
+def bare(plan):
+    """A plan without the sizes, offsets and addresses that `needs --fill` finds. Symbols with an address are placed in their output section."""
+    plan = copy.deepcopy(plan)
+    files = [file for group in plan["groups"] for file in group["files"]]
+    inputs = [item for file in files for item in file.get("sections", ())]
+    own = {}
+    for index, symbol in enumerate(plan["symbols"]):
+        resolution, is_stub = symbol.get("resolution") or {}, "PLT" in symbol.get("flags", ())
+        at = resolution.get("raw_value", 0)
+        sections = [number for number, item in enumerate(plan["sections"]) if item.get("flags", 0) & 2 and 0 <= at - item.get("address", 0) < item.get("size", 0)]
+        if isinstance(symbol.get("place"), dict):
+            own[at] = index
+        elif at and sections and not is_stub:
+            symbol.update(place={"output": sections[0]}, value=at - plan["sections"][sections[0]]["address"])
+        drop(resolution, "got", "plt", *["raw_value"] * (is_stub or isinstance(symbol.get("place"), dict)))
+    if (address := (plan.get("entry") or {}).get("address")) in own:
+        plan["entry"] = {"symbol": own[address]}
+    # the size of a raw part without input sections stays, as of one for copies
+    filled = {item.get("part", 0) for item in inputs if item.get("slot", "discard") != "discard"}
+    for index, part in enumerate(plan["parts"]):
+        drop(part, "offset", *["size"] * (part.get("role", "raw") != "raw" or index in filled))
+    for item in plan["sections"] + plan.get("segments", []):
+        drop(item, "offset", "size", "file_size", "mem_size")
+    for item in [item for name in ("parts", "sections", "segments") for item in plan.get(name, ()) if item.get("address", 0) < FAR] + inputs + list(itertools.chain(*plan.get("thunk_blocks", []))):
+        drop(item, "address")
+    for group in plan["groups"]:
+        drop(group, "part_sizes", *fill_plan.STARTS)
+    drop(plan, "tls", "got_base")
+    if plan.get("tlsld") is not None:
+        plan["tlsld"] = 0
+    return plan
+
+
+def drop(item, *members):
+    for member in members:
+        item.pop(member, None)
+
+
+def filled(path):
+    """The plan with its sizes, offsets and addresses left out and filled in again, as text."""
+    plan, _ = fill_plan.filled(json.dumps(bare(json.loads(read(path)))), lambda text: run_explain(json.loads(text), ["needs"]))
+    return json.dumps(plan)
+
+
+def fillings():
+    """Plans that `needs --fill` filled in have an image, and where the alignment of a part is that of its input sections, the same one."""
+    for path in PLANS if os.path.exists(EXPLAIN) else ():
+        if not json.loads(read(path)).get("options", {}).get("only_keep_debug"):
+            status, text = answer(filled(path))
+            same(f"{path}: filled", 0, status)
+            if os.path.basename(path) in ("hello.json", "partial.json", "pie.json", "smallest.json", "worked.json"):
+                same(f"{path}: filled", read(path.replace(".json", ".answer")), text)
 
 
 def commands():
@@ -225,11 +323,10 @@ def commands():
             told = re.search(r"status (\d+)", behind)
             if not told:
                 continue
-            with tempfile.TemporaryDirectory() as folder:
-                os.symlink(f"{TOP}/plans", f"{folder}/plans")
-                with open(f"{folder}/link", "w") as file:
-                    file.write(f'#!/bin/sh\nexec {PROGRAM} link "$@"\n')
-                os.chmod(f"{folder}/link", 0o755)
+            if re.search(r"\./(needs|explain)\b", block) and not os.path.exists(EXPLAIN):
+                print(f"left out: {page}: there is no {EXPLAIN}")
+                continue
+            with checkout() as folder:
                 status, text = run(["bash", "-c", block], folder)
             where = f"{page}: {block.splitlines()[0]}"
             same(where, int(told[1]), status)
@@ -284,6 +381,8 @@ def spelled():
     for path in PLANS:
         if readable.planned(readable.shown(read(path))) != json.loads(read(path)):
             differs(f"plans/readable.py: {path}", "the same plan", "another one")
+    for name, machine, number in re.findall(r"const (R_(X86_64|AARCH64)_\w+): u32 = (\d+);", read("crates/wild_records/src/abi/relocation.rt")):
+        same(f"plans/readable.py: type {number}", name, readable.TYPES[machine.lower()].get(int(number)))
     shown = readable.shown(read("plans/smallest.json")).splitlines()
     for line in re.search(r"\n\n    \{\n(.*?)\n\n", readable.__doc__, re.S)[1].splitlines():
         if line[4:] not in shown:
@@ -306,6 +405,112 @@ def members():
         if status == 3:
             differs(where, f"{example} is read", text.strip())
         same(where, (3, f"not a plan: {path}/{name}\n"), answer(wrapped(path, {name: 0.5})))
+
+
+def schema():
+    """docs/plan.schema.json has the members, types and defaults of docs/PLAN.md, and takes what the program reads as a plan and nothing else."""
+    same("docs/plan.schema.json: its keywords", KEYWORDS, KEYWORDS | keywords(SCHEMA))
+    told = {}
+    for where, _, path, cells in member_rows():
+        told.setdefault(path, []).append(name := cells[0].strip("`"))
+        found = schema_at(path)["properties"].get(name, False)
+        if not is_type(cells[1], found):
+            differs(where, cells[1], f"docs/plan.schema.json: {found}")
+        same(f"{where}: default", default_of(cells[1], cells[2]), [found["default"]] if "default" in found else [])
+        greatest = resolved(found).get("maximum", 0)
+        alternatives = PLACES if any("required" in kind for kind in found.get("anyOf", ())) else ()
+        for value in (json.loads(cells[3].split(" (")[0].strip("`")), *OTHERS, *alternatives, greatest, greatest + 1):
+            plan = wrapped(path, {name: value})
+            same(f"{where}: {value} is taken by docs/plan.schema.json", answer(plan)[0] != 3, not wrong_at(plan, SCHEMA))
+    for path, names in told.items():
+        same(f"docs/plan.schema.json: members at {path}/", names, list(schema_at(path)["properties"]))
+        same(f"docs/plan.schema.json: unknown at {path}/", True, bool(wrong_at(wrapped(path, {"unknown": 0}), SCHEMA)))
+    same("docs/plan.schema.json: flags", set(words_under("Flag")), set(SCHEMA["$defs"]["symbol_flag"]["enum"]))
+    for path in PLANS:
+        same(f"docs/plan.schema.json: {path}", [], wrong_at(json.loads(read(path)), SCHEMA))
+
+
+def words_under(*head):
+    """The first column of the table of docs/PLAN.md that begins with these heads."""
+    return [word for _, _, _, heads, cells in rows("docs/PLAN.md") if tuple(heads[: len(head)]) == head for word in re.findall(r"`(\w+)`", cells[0])]
+
+
+# values of all types, and of the members that have one of several objects
+OTHERS = [None, True, -1, 0.5, "", "0aF", [None], {}]
+PLACES = ["common", {"section": 0}, {"output": 0}, {"output": 0, "section": 0}, {"address": 0}, {"symbol": 0}, {"symbol": 0, "address": 0}]
+NUMBERS = {"number", "index", "u32", "u16", "u8", "i64"}
+JSON_TYPES = {"null": type(None), "boolean": bool, "integer": int, "string": str, "array": list, "object": dict}
+# the keywords of a JSON Schema that are known here
+KEYWORDS = {"$schema", "$defs", "$ref", "title", "description", "default", "type", "enum", "anyOf", "minimum", "maximum", "pattern", "items", "properties", "required", "additionalProperties", "dependentSchemas"}
+
+
+def keywords(schema):
+    """The keywords of a schema and of those in it."""
+    if not isinstance(schema, dict):
+        return set()
+    inner = [each for keyword in ("$defs", "properties", "dependentSchemas") for each in schema.get(keyword, {}).values()]
+    return set(schema).union(*map(keywords, [*inner, *schema.get("anyOf", []), schema.get("items")]))
+
+
+def resolved(schema):
+    """The schema that another one refers to, also where it may be null."""
+    while "$ref" in schema or "anyOf" in schema:
+        schema = SCHEMA["$defs"][schema["$ref"].split("/")[-1]] if "$ref" in schema else schema["anyOf"][-1]
+    return schema
+
+
+def schema_at(path):
+    """The schema of the objects at a path."""
+    schema = SCHEMA
+    for step in path.strip("/").split("/") if path else []:
+        schema = resolved(schema["items"] if step == "0" else schema["properties"][step])
+    return schema
+
+
+def is_type(told, schema):
+    """Whether docs/PLAN.md tells the type of a schema; of objects only that they are objects."""
+    if not schema:
+        return False
+    if "enum" in schema:
+        words = re.findall(r"`(\w+)`", told) + words_under("Role", "What the part has") * ("next table" in told)
+        return told.startswith("word") and set(words) == set(schema["enum"])
+    if "anyOf" in schema:
+        kinds = schema["anyOf"]
+        if kinds[0] == {"type": "null"} and len(kinds) == 2 and "$ref" in kinds[1]:
+            return told.startswith("null or ") and is_type(told[8:].removeprefix("the ").split(" of ")[0], kinds[1])
+        return all("null" in told if kind == {"type": "null"} else all(name in told for name in kind.get("enum", kind.get("properties", ()))) for kind in kinds)
+    if "items" in schema:
+        return told.startswith("list of ")
+    if "$ref" in schema:
+        name = schema["$ref"].split("/")[-1]
+        return told.split(",")[0] == name if name in NUMBERS | {"bytes"} else "object" in told or told == name
+    return told == "flag" and schema["type"] == "boolean"
+
+
+def wrong_at(value, schema, path=""):
+    """The paths at which a value is not what a schema says."""
+    if schema is False:
+        return [path]
+    wrong = wrong_at(value, SCHEMA["$defs"][schema["$ref"].split("/")[-1]], path) if "$ref" in schema else []
+    if "anyOf" in schema and all(wrong_at(value, kind, path) for kind in schema["anyOf"]) or "enum" in schema and value not in schema["enum"]:
+        wrong.append(path)
+    if "type" in schema and type(value) is not JSON_TYPES[schema["type"]]:
+        return wrong + [path]
+    if type(value) is int and not schema.get("minimum", value) <= value <= schema.get("maximum", value):
+        wrong.append(path)
+    if type(value) is str and not re.search(schema.get("pattern", ""), value):
+        wrong.append(path)
+    if type(value) is list:
+        for place, item in enumerate(value):
+            wrong += wrong_at(item, schema.get("items", {}), f"{path}/{place}")
+    if type(value) is dict:
+        wrong += [path for name in schema.get("required", []) if name not in value]
+        for name, item in value.items():
+            known = schema.get("properties", {}).get(name, schema.get("additionalProperties", {}))
+            wrong += wrong_at(item, known, f"{path}/{name}")
+            if name in schema.get("dependentSchemas", {}):
+                wrong += wrong_at(value, schema["dependentSchemas"][name], path)
+    return wrong
 
 
 def member_rows():
@@ -461,6 +666,7 @@ def is_there(crate, item):
 
 
 ONLY_CHANGES = "--changes" in sys.argv
+SCHEMA = json.loads(read("docs/plan.schema.json"))
 PATHS = [word for word in sys.argv[1:] if word != "--changes"]
 PROGRAM = os.path.abspath(PATHS[0]) if PATHS else f"{TOP}/crates/wild_main/out/wild_main"
 EXPLAIN = os.path.abspath(PATHS[1]) if len(PATHS) > 1 else f"{TOP}/crates/wild_explain_main/out/wild_explain_main"
@@ -472,7 +678,7 @@ if __name__ == "__main__":
         changes()
         crates()
         sys.exit(differences != 0)
-    for check in (answers, statuses, changes, programs, commands, explanations, spelled, pieces, known, members, defaults, names, crates, makers):
+    for check in (answers, statuses, changes, programs, commands, explanations, scripts, fillings, spelled, pieces, known, members, schema, defaults, names, crates, makers):
         before = differences
         check()
         print(f"{check.__doc__.splitlines()[0]} {differences - before} differ")
