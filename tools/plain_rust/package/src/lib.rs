@@ -7,7 +7,8 @@
 //! assert_eq!(image.out.len(), 344);
 //! ```
 // Each crate of the sources is a module here. Some of what they have is for contracts or for other crates.
-#![allow(unused, dead_code)]
+#![allow(unused)]
+#![forbid(unsafe_code)]
 
 pub mod shim;
 
