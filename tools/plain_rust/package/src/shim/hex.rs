@@ -43,7 +43,7 @@ fn digit(code: u8) -> Result<u8, FromHexError> {
     }
 }
 
-/// The bytes that the digits of both cases stand for.
+/// Decodes hexadecimal digits, lower-case or upper-case.
 pub fn decode(alloc: Global, text: &str) -> Result<Vec<u8>, FromHexError> {
     let (pairs, rest) = text.as_bytes().as_chunks::<2>();
     if !rest.is_empty() {
