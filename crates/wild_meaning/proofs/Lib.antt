@@ -25,8 +25,11 @@ pub mod PairLemmas
 mod CodeRefused
 mod SequenceRefused
 mod SharedCode
+mod SharedLoaded
+mod SharedLinked
 mod StaticLoaded
 mod StaticLinked
+mod StringsLinked
 mod CopyLoaded
 mod CopyLinked
 mod SegmentsRefused
