@@ -29,6 +29,7 @@ mod SharedLoaded
 mod SharedLinked
 mod StaticLoaded
 mod StaticLinked
+mod PaddedLinked
 mod StringsLinked
 mod CopyLoaded
 mod CopyLinked

@@ -6,7 +6,7 @@ ghost use Rattle.wild_meaning.specs.Worked.ReplaceableSymbols.{DynamicIsReplacea
 ghost use Rattle.wild_meaning.specs.Worked.SegmentRefusals.{WrongSegmentsAreRefused, OtherPlacesAreRefused, WrongSizesAreRefused, NoDynamicIsRefused, WrongEntriesAreRefused};
 ghost use Rattle.wild_meaning.specs.Worked.SharedRefusals.{SharedWorldIsLegal, WrongSlotsAreRefused, WrongAddressesAreRefused, WrongOffsetsAreRefused, WrongModulesAreRefused, WrongDescriptorsAreRefused, WrongSizeIsRefused, WrongByteIsRefused, WrongCodeOfLibraryIsRefused, SharedImageIsLinked};
 ghost use Rattle.wild_meaning.specs.Worked.StringRefusals.{StringsWorldIsLegal, StringsAreJudged, ReversedWordsAreJudged, StringsImageIsLinked};
-ghost use Rattle.wild_meaning.specs.Worked.StaticRefusals.{StaticPieWorldIsLegal, WrongDataAreRefused, WrongCodeIsRefused, WrongBlankIsRefused, StaticImageIsLinked};
+ghost use Rattle.wild_meaning.specs.Worked.StaticRefusals.{StaticPieWorldIsLegal, WrongDataAreRefused, WrongCodeIsRefused, WrongBlankIsRefused, StaticImageIsLinked, PaddedImageIsLinked};
 
 use wild_records::file_header_is_read;
 
@@ -63,12 +63,13 @@ pub fn wrong_copies_are_refused()
 /// - a branch to another symbol, or a load of the byte past its symbol;
 /// - a half rewritten sequence, or code that receives a descriptor where it requires an offset;
 /// - a byte other than 0 in a section without data, among others that have some.
-/// One image is linked there.
+/// One image is linked there, and one of the program with such a section.
 pub fn wrong_programs_are_refused()
     ensures words { WrongDataAreRefused }
     ensures code { WrongCodeIsRefused }
     ensures blank { WrongBlankIsRefused }
     ensures linked { StaticImageIsLinked }
+    ensures padded { PaddedImageIsLinked }
 {
     file_header_is_read();
 }
