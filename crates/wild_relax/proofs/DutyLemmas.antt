@@ -400,7 +400,7 @@ addends_are_checked q row e changes other =
     elim (or_cases _ _ left) [
       | inl n ↦ absurd (other (nop_is row.made n))
       | inr r ↦ elim (or_cases _ _ r) [
-          | inl t ↦ by_end (row.ends || row.needs_end) (minus_four (relocation_of q).addend) t s.taken.addend
-          | inr p ↦ by_partner (relocation_of q) row.partner (next_of q) p s.taken.partner
-        ]
+        | inl t ↦ by_end (row.ends || row.needs_end) (minus_four (relocation_of q).addend) t s.taken.addend
+        | inr p ↦ by_partner (relocation_of q) row.partner (next_of q) p s.taken.partner
+      ]
     ]

@@ -254,10 +254,7 @@ fn rewrites_that_are_mandatory(rt: HostRuntime) -> Result<(), Fail> {
 #[test]
 fn sequences_that_are_mandatory(rt: HostRuntime) -> Result<(), Fail> {
     for (_kind, flags, address, target, first, call, input, made, _output) in SEQUENCES {
-        let relocations = [
-            first_of(first.0, first.1),
-            call_of(call.0, call.1, call.2),
-        ];
+        let relocations = [first_of(first.0, first.1), call_of(call.0, call.1, call.2)];
         for kind in [FIXED, MOVABLE, DYNAMIC] {
             let setting = Setting {
                 kind,
