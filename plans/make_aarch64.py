@@ -1,12 +1,15 @@
 #!/usr/bin/env python3
-"""Writes aarch64.json: has an assembler make an object of aarch64.s, and lays it out as a static executable for AArch64. Run it as
+"""Writes aarch64.json: an assembler makes an object of aarch64.s, and this program places it as a static executable for AArch64. Run it as
 
     plans/make_aarch64.py > plans/aarch64.json
     plans/make_aarch64.py SOURCE.s > plan.json
 
-As a linker does, it defines `__tdata_start`. The code of `.text.far` stands 128 MiB away, further than a branch reaches; the other
-code has a thunk for each function there that is called, behind its sections. The assembler is that of the binutils for
-aarch64-linux-gnu (as Debian's package binutils-aarch64-linux-gnu has them).
+It is made for aarch64.s. Another source is taken if it is like it: it has `_start` and thread-local data with bytes (`.tdata`), but no other
+writable or zeroed data.
+
+As a linker does, it defines `__tdata_start`. The code of `.text.far` is 128 MiB away, further than a branch reaches. The other code has a
+thunk for each function there that it calls, after its sections. The assembler is that of the binutils for aarch64-linux-gnu (as in Debian's
+package binutils-aarch64-linux-gnu).
 """
 from make_hello import ALLOC, BASE, CODE, PAGE, PROGBITS, assemble, placed, source_of, spelled, up
 from make_pie import LOAD, STACK, STRTAB, WRITE, symbols_of

@@ -1,16 +1,19 @@
 #!/usr/bin/env python3
-"""Writes debug.json: has the system's compiler make an object of debug.c with what debuggers read, and lays it out as a static
+"""Writes debug.json: the system's compiler makes an object of debug.c with debug sections, and this program places it as a static
 executable. Run it as
 
     plans/make_debug.py > plans/debug.json
     plans/make_debug.py SOURCE.c > plan.json
     plans/make_debug.py --only-keep-debug > plans/debug_file.json
 
-As a linker does, it leaves out the code that nobody calls, and merges the strings of the debug sections: each stands once, in the order of
-their bytes. The file has the headers, the constants, the code a page further on in memory, and behind them the debug sections, which nothing
-loads. Names of sources are told from the folder above this one.
+It is made for debug.c. Another source is taken if it is like it: it has `_start`, a function `left_out` that nobody calls, and constants, but
+no writable or zeroed data.
 
-With `--only-keep-debug` it is the file that a debugger reads beside the stripped program: headers, and what nothing loads.
+As a linker does, it leaves out the function `left_out`, and merges the strings of the debug sections: each is written once, in the order of
+their bytes. The file has the headers, the constants, the code a page further on in memory, and after them the debug sections, which nothing
+loads. Paths of sources are relative to the folder above this one.
+
+With `--only-keep-debug` it is the file that a debugger reads besides the stripped program: headers and debug sections.
 """
 import os
 import sys

@@ -1,12 +1,15 @@
 #!/usr/bin/env python3
-"""Writes own_frames.json: has the system's compiler make an object of own_frames.c, and lays it out as a static executable with
-frames and their search table. Run it as
+"""Writes own_frames.json: the system's compiler makes an object of own_frames.c, and this program places it as a static executable
+with frames and their search table. Run it as
 
     plans/make_own_frames.py > plans/own_frames.json
     plans/make_own_frames.py SOURCE.c > plan.json
 
-As a linker does, it leaves out the code that nobody calls, counts which frames are kept, and defines the symbol of the
-search table. The file has the headers, the strings, the table, the frames, and the code a page further on in memory.
+It is made for own_frames.c. Another source is taken if it is like it: it has `_start` and a function `left_out` that nobody calls, but no
+writable or zeroed data.
+
+As a linker does, it leaves out the function `left_out`, counts the kept frames, and defines the symbol of the search table. The file has
+the headers, the strings, the table, the frames, and the code a page further on in memory.
 """
 import struct
 

@@ -235,7 +235,7 @@ full_part (Some x) p h = by_test (x.size == 0) refl h
 
 -- of two parts, by which of them have bytes
 entries_by : (l : Layout) (o q x y : Option Part) → TablesStand → KeepsAll l → IsLaidOut l → needs_dynamic l.kind ≡ true → part_with role.RelaDynRelative l.parts ≡ o → part_with role.RelaDynGeneral l.parts ≡ q → dynamic_places.unless_empty o ≡ x → dynamic_places.unless_empty q ≡ y
-    → IsTableOf (bytes l) (map (program_header l) l.segments) (dynamic_places.part_address (option_or x y)) (dynamic_places.beside (min (2 ^ 64 - 1) (dynamic_places.bytes_of o + dynamic_places.bytes_of q)) (option_or x y)) (table_bytes l role.RelaDynRelative ++ table_bytes l role.RelaDynGeneral)
+    → IsTableOf (bytes l) (map (program_header l) l.segments) (dynamic_places.part_address (option_or x y)) (dynamic_places.if_present (min (2 ^ 64 - 1) (dynamic_places.bytes_of o + dynamic_places.bytes_of q)) (option_or x y)) (table_bytes l role.RelaDynRelative ++ table_bytes l role.RelaDynGeneral)
 entries_by l o q None None stands keeps laid needs e f g h =
     ap (λ (bs : List ℕ). bs ++ table_bytes l role.RelaDynGeneral) (empty_table l role.RelaDynRelative o laid (λ z. cc) e g) ∙ empty_table l role.RelaDynGeneral q laid (λ z. cc) f h
 entries_by l o q None (Some b) stands keeps laid needs e f g h =

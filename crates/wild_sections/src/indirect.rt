@@ -85,7 +85,7 @@ pub(crate) fn stub_address(layout: &Layout, symbol: Option<SymbolIndex>) -> Resu
     }
 }
 
-/// Whether references to the symbol's address use a second GOT entry.
+/// Whether references to the symbol's address use a GOT entry of its own, after that of the PLT stub.
 fn has_second_slot(flags: ValueFlags) -> bool
     ensures { result ≡ has_second_slot flags }
 {
@@ -106,7 +106,8 @@ fn after_pair(pair: bool, place: u64) -> u64
     if pair { place.wrapping_add(16) } else { place }
 }
 
-/// The address of the GOT entry of a sort, for a symbol with these flags whose first GOT entry is at `first`.
+/// The address of the GOT entry of a sort, for a symbol with these flags whose first GOT entry is at `first`. Thread-local entries are
+/// in this order: offset (one word), pair (two), descriptor (two).
 fn slot_among(sort: SlotSort, flags: ValueFlags, first: u64) -> Option<u64>
     ensures { result ≡ slot_among sort flags first }
 {
@@ -142,7 +143,7 @@ fn slot_of(layout: &Layout, sort: SlotSort, symbol: SymbolIndex) -> Option<u64>
     }
 }
 
-/// The address of that GOT entry of a relocation's symbol, 0 without a symbol. Fails if the symbol has no such entry.
+/// The address of the GOT entry of sort `sort` of a relocation's symbol, 0 without a symbol. Fails if the symbol has no such entry.
 pub(crate) fn slot_address(
     layout: &Layout,
     sort: SlotSort,

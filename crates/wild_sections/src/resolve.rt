@@ -142,7 +142,8 @@ pub(crate) fn minus(address: u64, start: u64) -> u64
     address.wrapping_sub(start)
 }
 
-/// The address that offsets in the module's thread-local storage are relative to.
+/// The address that DTPOFF values count from: the start of the TLS segment. In x86-64 executables it is the thread pointer, since
+/// local-dynamic code is rewritten to local-exec.
 fn storage_start(layout: &Layout) -> u64
     ensures { result ≡ storage_start layout.now }
 {
@@ -153,7 +154,7 @@ fn storage_start(layout: &Layout) -> u64
     }
 }
 
-/// Whether the symbol's definition is undefined.
+/// Whether the symbol is undefined, once aliases are followed to their definition.
 fn is_undefined(layout: &Layout, symbol: SymbolIndex) -> bool
     ensures { result ≡ is_undefined layout.now symbol }
 {
@@ -236,7 +237,7 @@ fn term_value<A: Arch>(
     }
 }
 
-/// The same for a relocation. In S of a merged string, the addend selects the string.
+/// The term of a relocation. For a merged string, the addend of S selects the string.
 #[inline]
 fn term_by<A: Arch>(
     resolved: &Resolved<A>,

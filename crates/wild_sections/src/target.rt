@@ -11,7 +11,7 @@ use std::alloc::{AllocError, Global};
 use wild_relax::Arch;
 use wild_types::{Layout, Machine, SymbolIndex};
 
-/// Whether S + A - P is written for every symbol: in an x86-64 output that is not position-independent.
+/// Whether the table of addresses is used: in x86-64 outputs at a fixed address, where the value is S + A - P for every symbol.
 fn has_targets(layout: &Layout) -> bool
     ensures { result ≡ has_targets layout.now }
 {
@@ -51,7 +51,7 @@ fn target_of(
     }
 }
 
-/// The table for all symbols; empty if the output has no use for it.
+/// For each symbol its address, for the fast path of S + A - P, or None. Empty if the output has no such path.
 #[tactic(auto, using(crate::proofs::TargetLemmas::no_table, crate::proofs::TargetLemmas::table_made))]
 pub(crate) fn targets_of(
     alloc: Global,
