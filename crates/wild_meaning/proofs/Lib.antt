@@ -25,8 +25,12 @@ pub mod PairLemmas
 mod CodeRefused
 mod SequenceRefused
 mod SharedCode
+mod SharedLoaded
+mod SharedLinked
 mod StaticLoaded
 mod StaticLinked
+mod PaddedLinked
+mod StringsLinked
 mod CopyLoaded
 mod CopyLinked
 mod SegmentsRefused

@@ -27,7 +27,7 @@ use Rattle.wild_meaning.proofs.AmongLemmas.{Among}
 use Rattle.wild_meaning.proofs.OneReference.{beside, effect_with, value_in, ReadsNumbers, IsNotDone, fills, same_bytes, single_refused, template_there}
 use Rattle.wild_meaning.proofs.SharedRefused.{thread_is, refers, descriptor_formula}
 
-abbrev described : Instruction
+abbrev pub described : Instruction
 described = of_field (with_slot 0x8d Number Set rex) 3 Described (r_x86_64_gotpc32_tlsdesc ∷ [])
 
 code_kept : IsKept shared_layout code_item
@@ -46,10 +46,10 @@ described_stands = record {
   alone = λ k h. subst (λ (j : ℕ). InNoField shared_layout code_item j) (let e : k ≡ 0 + k = omega arith in e) (beside shared_layout code_item shared_reference _ k refl descriptor_formula refl h.beside);
 }
 
-described_template : IsTemplate shared_layout code_item shared_reference 0 described shared_reference
+pub described_template : IsTemplate shared_layout code_item shared_reference 0 described shared_reference
 described_template = template_there shared_layout code_item shared_reference described refl refl refl refl described_stands
 
-described_demanded : (v : ℕ) → effect_x86_64 (as_value v) 0x11080 (0x48 ∷ 0x8d ∷ 0x05 ∷ 0 ∷ 0 ∷ 0 ∷ 0 ∷ []) ≡ Some (effect_with (Set 0) 64 (v % 2 ^ 64))
+pub described_demanded : (v : ℕ) → effect_x86_64 (as_value v) 0x11080 (0x48 ∷ 0x8d ∷ 0x05 ∷ 0 ∷ 0 ∷ 0 ∷ 0 ∷ []) ≡ Some (effect_with (Set 0) 64 (v % 2 ^ 64))
 unfolding meaning_x86_64
 described_demanded v = refl
 

@@ -50,7 +50,7 @@ module_4 = record { distance = _; fits = omega arith; pair = refl }
 an_answer : (address owner offset size : ℕ) → address < 2 ^ 64 → owner < 2 ^ 64 → offset < 2 ^ 64 → size < 2 ^ 64 → IsKnownModule shared_world owner → IsAnswer shared_world (answer_of_module address owner offset size)
 an_answer address owner offset size a o f s k = record { address = a; offset = f; size = s; bytes = All-nil (λ (b : ℕ). b < 256); owner = o; known = k }
 
-no_library : (i : ℕ) → IsCopied shared_layout i → ⊥
+pub no_library : (i : ℕ) → IsCopied shared_layout i → ⊥
 no_library i h =
     let group = only (group_of (file_of file_role.Object (shared_data ∷ shared_code ∷ []) [] ∷ [])) h.group h.grouped in
     let file = only (file_of file_role.Object (shared_data ∷ shared_code ∷ []) []) h.file (rw (← group) at h.filed) in
@@ -69,7 +69,7 @@ none_own (suc (suc (suc (suc i)))) x own h = let both : None ≡ Some own.define
 pub shared_legal : SharedWorldIsLegal
 shared_legal = record {
   aligned = refl;
-  ends = All-from_recursion (λ (g : Segment). g.kind ≡ pt_load → shared_world.base + g.address + g.mem_size ≤ 2 ^ 64) shared_layout.segments ((λ k. omega arith), ((λ k. omega arith), tt));
+  ends = All-from_recursion (λ (g : Segment). g.kind ≡ pt_load → shared_world.base + g.address + g.mem_size ≤ 2 ^ 64) shared_layout.segments ((λ k. omega arith), ((λ k. omega arith), ((λ k. omega arith), tt)));
   fixed = λ f. absurd f;
   first = λ x. absurd x;
   resolvers = resolvers;

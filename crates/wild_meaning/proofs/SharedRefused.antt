@@ -41,19 +41,19 @@ pub slot_formula : x86_64_formula r_x86_64_gotpcrel64 ≡ Some (formula (SlotDis
 unfolding x86_64_formula
 slot_formula = refl
 
-address_formula : x86_64_formula r_x86_64_64 ≡ Some (formula SymbolAddress Full)
+pub address_formula : x86_64_formula r_x86_64_64 ≡ Some (formula SymbolAddress Full)
 unfolding x86_64_formula
 address_formula = refl
 
-pointer_formula : x86_64_formula r_x86_64_tpoff64 ≡ Some (formula PointerOffset Full)
+pub pointer_formula : x86_64_formula r_x86_64_tpoff64 ≡ Some (formula PointerOffset Full)
 unfolding x86_64_formula
 pointer_formula = refl
 
-inner_formula : x86_64_formula r_x86_64_dtpoff64 ≡ Some (formula ModuleOffset Full)
+pub inner_formula : x86_64_formula r_x86_64_dtpoff64 ≡ Some (formula ModuleOffset Full)
 unfolding x86_64_formula
 inner_formula = refl
 
-size_formula : x86_64_formula r_x86_64_size64 ≡ Some (formula Size Full)
+pub size_formula : x86_64_formula r_x86_64_size64 ≡ Some (formula Size Full)
 unfolding x86_64_formula
 size_formula = refl
 
@@ -65,7 +65,7 @@ pub own_pair_formula : x86_64_formula r_x86_64_tlsld ≡ Some (formula (SlotDist
 unfolding x86_64_formula
 own_pair_formula = refl
 
-thread_slot_formula : x86_64_formula r_x86_64_gottpoff ≡ Some (formula (SlotDistance ThreadOffset) (Plain 32 Signed))
+pub thread_slot_formula : x86_64_formula r_x86_64_gottpoff ≡ Some (formula (SlotDistance ThreadOffset) (Plain 32 Signed))
 unfolding x86_64_formula
 thread_slot_formula = refl
 
@@ -93,7 +93,7 @@ other_is = record { symbol = other_thread; resolution = _; index = 2; is = refl;
 
 -- ---- references
 
-no_code : IsSet 3 shf_execinstr → ⊥
+pub no_code : IsSet 3 shf_execinstr → ⊥
 no_code e = omega arith
 
 pub refers : (n : ℕ) → 0 < n → n ≢ r_x86_64_none
@@ -175,7 +175,7 @@ wrong_slots = record { own = own_slot; other = other_slot; another = another_slo
 -- ---- addresses
 
 -- the library has no merged strings
-no_string : (v : Value) (r : InputRelocation) → TakesString v shared_layout r → ⊥
+pub no_string : (v : Value) (r : InputRelocation) → TakesString v shared_layout r → ⊥
 no_string v r t = nothing_named shared_layout refl r t.1
 
 moved_address : Refused (HasWrongNumber 0x11010 8 0x11104)
@@ -187,7 +187,7 @@ moved_address image h x =
     x.wrong (omega (arith, is, address, v.gives.sum))
 
 -- the field is filled by a loader
-left : UsesOwnDefinition shared_layout shared_item 1 (formula SymbolAddress Full) → ⊥
+pub left : UsesOwnDefinition shared_layout shared_item 1 (formula SymbolAddress Full) → ⊥
 unfolding has_flag
 left (inl h) = h
 left (inr h) = h.1 (record { writable = refl; interposable = record { definition = 1; defined = record { symbol = open_symbol; listed = refl; defined = inr (refl, refl) }; symbol = open_symbol; listed = refl; flagged = refl }; value = refl; wide = refl })

@@ -66,15 +66,15 @@ other_module image h x =
       | inr e ↦ elim e [ inl f ↦ omega (arith, words.1, offset, slot.1.sum, f.1) | inr f ↦ x.wrong (sym words.0 ∙ f.0) ]
     ]
 
-begin_module : Refused (NamesWrongModule 0x1102c 0x101c 0x12048 2 0)
+begin_module : Refused (NamesWrongModule 0x1102c 0x1024 0x12050 2 0)
 begin_module image h x =
     let r = reference 44 r_x86_64_tlsld 2 (pos 0) in
     let v = own_there h.memory r _ 2 0x3008 (h.kept shared_item kept) (7, omega arith, refl) (omega arith) own_pair_formula refl thread_is in
-    let is : v.value ≡ 0x101c = signed_of shared_world h.memory shared_item r v.value 0x101c v.field x.field in
+    let is : v.value ≡ 0x1024 = signed_of shared_world h.memory shared_item r v.value 0x1024 v.field x.field in
     let slot = slot_holds OwnModulePair shared_layout shared_world h.memory 2 v.gives.0 v.gives.1 in
     let below : v.gives.0 < 2 ^ 64 = word_below h.memory v.gives.0 slot.pair.owner slot.pair.first in
-    let at : v.gives.0 ≡ 0x12048 = omega (arith, is, below, v.gives.2) in
-    let words = one_module h.memory v.gives.0 0x12048 x.owner 0 slot.begin 2 0 at slot.pair x.first x.second in
+    let at : v.gives.0 ≡ 0x12050 = omega (arith, is, below, v.gives.2) in
+    let words = one_module h.memory v.gives.0 0x12050 x.owner 0 slot.begin 2 0 at slot.pair x.first x.second in
     let both : Ok (2 ^ 64 - 0x60) ≡ Ok slot.begin = slot.counted in
     let begin : 2 ^ 64 - 0x60 ≡ slot.begin = cc in
     elim (which slot.pair.owner slot.pair.distance slot.pair.known) [

@@ -158,15 +158,15 @@ turned_kept : IsKept strings_layout reversed_item
 turned_kept = OfSection reversed_data (record { input = record { group = _; grouped = (0, omega arith, refl); file = strings_file; filed = (0, omega arith, refl); listed = (1, omega arith, refl) }; loaded = tt; room = refl; has_data = refl; written = λ p at h. (let off : false ≡ true = h.bare in cc) }) refl
 
 -- where the word with the address went
-abbrev moved_reference : InputRelocation
+abbrev pub moved_reference : InputRelocation
 moved_reference = reference 8 r_x86_64_64 1 (pos 0)
 
-function_is : IsPlainOwn strings_layout 1 0x1210
+pub function_is : IsPlainOwn strings_layout 1 0x1210
 unfolding has_flag
 function_is = record { symbol = second_function; resolution = _; is = refl; decided = refl; raw_is = refl; own = refl; plain = refl; moves = refl; unstubbed = refl }
 
 -- the function is no section
-no_string : TakesString SymbolAddress strings_layout moved_reference → ⊥
+pub no_string : TakesString SymbolAddress strings_layout moved_reference → ⊥
 no_string t =
     let n = t.1 in
     let one : n.symbol ≡ 1 = (let both : Some n.symbol ≡ Some 1 = sym n.named in cc) in

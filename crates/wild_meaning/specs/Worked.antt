@@ -1,6 +1,7 @@
 -- Small layouts that are worked out, and what is refused of them: what the laws of this crate say, and no part of what is owed.
 pub mod Builders
 pub mod Shared
+pub mod SharedImage
 pub mod Copy
 pub mod CopyImage
 pub mod Static
@@ -8,6 +9,7 @@ pub mod StaticImage
 pub mod Refusals
 pub mod StaticRefusals
 pub mod Strings
+pub mod StringImage
 pub mod StringRefusals
 pub mod CopyRefusals
 pub mod SharedRefusals

@@ -4,9 +4,9 @@ ghost use Rattle.wild_meaning.specs.Worked.ImageRefusalsAArch64.{WordsWorldIsLeg
 ghost use Rattle.wild_meaning.specs.Worked.RefusalsAArch64.{RightWordsDo, WrongWordsAreRefused, CutBitsAreRefused, SlotAddendsAreRefused, PairsAreExcepted, NegatedMovesAreUnknown, ShiftedAddsAreUnknown, ThunksAreJudged};
 ghost use Rattle.wild_meaning.specs.Worked.ReplaceableSymbols.{DynamicIsReplaceable, ExportedIsReplaceable, AnswersAreTaken};
 ghost use Rattle.wild_meaning.specs.Worked.SegmentRefusals.{WrongSegmentsAreRefused, OtherPlacesAreRefused, WrongSizesAreRefused, NoDynamicIsRefused, WrongEntriesAreRefused};
-ghost use Rattle.wild_meaning.specs.Worked.SharedRefusals.{SharedWorldIsLegal, WrongSlotsAreRefused, WrongAddressesAreRefused, WrongOffsetsAreRefused, WrongModulesAreRefused, WrongDescriptorsAreRefused, WrongSizeIsRefused, WrongByteIsRefused, WrongCodeOfLibraryIsRefused};
-ghost use Rattle.wild_meaning.specs.Worked.StringRefusals.{StringsAreJudged, ReversedWordsAreJudged};
-ghost use Rattle.wild_meaning.specs.Worked.StaticRefusals.{StaticPieWorldIsLegal, WrongDataAreRefused, WrongCodeIsRefused, WrongBlankIsRefused, StaticImageIsLinked};
+ghost use Rattle.wild_meaning.specs.Worked.SharedRefusals.{SharedWorldIsLegal, WrongSlotsAreRefused, WrongAddressesAreRefused, WrongOffsetsAreRefused, WrongModulesAreRefused, WrongDescriptorsAreRefused, WrongSizeIsRefused, WrongByteIsRefused, WrongCodeOfLibraryIsRefused, SharedImageIsLinked};
+ghost use Rattle.wild_meaning.specs.Worked.StringRefusals.{StringsWorldIsLegal, StringsAreJudged, ReversedWordsAreJudged, StringsImageIsLinked};
+ghost use Rattle.wild_meaning.specs.Worked.StaticRefusals.{StaticPieWorldIsLegal, WrongDataAreRefused, WrongCodeIsRefused, WrongBlankIsRefused, StaticImageIsLinked, PaddedImageIsLinked};
 
 use wild_records::file_header_is_read;
 
@@ -29,6 +29,7 @@ pub fn symbols_are_replaced()
 /// - a slot of an address or an offset, a word with an address, a thread-pointer offset;
 /// - the module of a pair, the offset of a descriptor, a size, a byte in no field;
 /// - code that receives an offset where it requires a descriptor.
+/// One image is linked there.
 pub fn wrong_shared_objects_are_refused()
     ensures slots { WrongSlotsAreRefused }
     ensures addresses { WrongAddressesAreRefused }
@@ -38,6 +39,7 @@ pub fn wrong_shared_objects_are_refused()
     ensures size { WrongSizeIsRefused }
     ensures byte { WrongByteIsRefused }
     ensures code { WrongCodeOfLibraryIsRefused }
+    ensures linked { SharedImageIsLinked }
 {}
 
 /// No image of the worked program with a copied symbol is linked in its world with one fault:
@@ -61,21 +63,25 @@ pub fn wrong_copies_are_refused()
 /// - a branch to another symbol, or a load of the byte past its symbol;
 /// - a half rewritten sequence, or code that receives a descriptor where it requires an offset;
 /// - a byte other than 0 in a section without data, among others that have some.
-/// One image is linked there.
+/// One image is linked there, and one of the program with such a section.
 pub fn wrong_programs_are_refused()
     ensures words { WrongDataAreRefused }
     ensures code { WrongCodeIsRefused }
     ensures blank { WrongBlankIsRefused }
     ensures linked { StaticImageIsLinked }
+    ensures padded { PaddedImageIsLinked }
 {
     file_header_is_read();
 }
 
 /// A reference to the middle of a merged string holds if its field is that byte's address. No image is linked if it is another
 /// number; or if two words that must be reversed are in input order.
+/// The world is legal, and one image is linked there.
 pub fn strings_and_reversed_words_are_judged()
+    ensures legal { StringsWorldIsLegal }
     ensures strings { StringsAreJudged }
     ensures reversed { ReversedWordsAreJudged }
+    ensures linked { StringsImageIsLinked }
 {}
 
 /// No image is linked if:

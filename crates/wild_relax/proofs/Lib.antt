@@ -7,6 +7,7 @@ pub mod ImmediateLemmas
 pub mod SequenceLemmas
 pub mod RowLemmas
 pub mod SectionLemmas
+pub mod DutyLemmas
 pub mod NumberLemmas
 pub mod RowsAArch64Lemmas
 pub mod TemplateLemmas

@@ -21,3 +21,4 @@ pub mod LawsAArch64
 pub mod FieldsAArch64
 pub mod KeepAArch64
 pub mod SequenceRowsAArch64
+pub mod RowDuties

@@ -1,6 +1,7 @@
 //! Laws: the code that is written has the effect that is required.
 ghost use Rattle.wild_relax.specs.Laws.{StubsJump};
 ghost use Rattle.wild_relax.specs.KeepX86_64.{RowsHaveTypes, RowsKeep};
+ghost use Rattle.wild_relax.specs.RowDuties.{RowsHaveDuties, MandatoryRowsAlone, FieldsSuitSymbols, AddendsAreChecked};
 ghost use Rattle.wild_relax.specs.Section.{ChosenRowsApply, ChosenPatternsArePresent, SectionsAreLinked};
 
 use wild_words::overlays_keep_pieces;
@@ -29,3 +30,17 @@ pub fn rewrites_stay_in_their_patterns()
 {
     overlays_keep_pieces();
 }
+
+/// Each row of both machines has the duty of a list in the definitions: whether it is applied even if rewriting is off. If it is
+/// off, exactly the mandatory rows are chosen of those that are chosen if it is on.
+pub fn rows_have_duties()
+    ensures listed { RowsHaveDuties }
+    ensures alone { MandatoryRowsAlone }
+{}
+
+/// A row is chosen only for a symbol that its field suits: its address or offset for the output's own definition, its stub, or the
+/// slot of its offset for others. On x86-64 the addend is that of a field at the end of its instruction.
+pub fn rewritten_fields_suit_symbols()
+    ensures symbols { FieldsSuitSymbols }
+    ensures addends { AddendsAreChecked }
+{}

@@ -23,7 +23,7 @@ pub use aarch64::{ElfAArch64, ElfAArch64Relaxation};
 pub use arch::Arch;
 pub use laws::{
     rewrites_keep_the_effect, rewrites_stay_in_their_patterns, rewrites_write_relocation_types,
-    stubs_jump_to_their_slots,
+    rewritten_fields_suit_symbols, rows_have_duties, stubs_jump_to_their_slots,
 };
 pub use laws_aarch64::{
     aarch64_code_reaches, aarch64_fields_agree, aarch64_rewrites_keep_the_effect,

@@ -1,5 +1,5 @@
 //! Relocations applied in sequence.
-ghost use Rattle.std.specs.Prelude.{◌≡◌, ◌+◌, ◌≤◌, length, All, true};
+ghost use Rattle.std.specs.Prelude.{◌≡◌, ◌+◌, ◌≤◌, length, All, true, false};
 ghost use Rattle.wild_shards.specs.InOrder.{in_order, apply_step, width, ResultIs, FieldWithin, OthersStay};
 
 use crate::step::{Step, steps_stay_in_fields};
@@ -37,9 +37,10 @@ pub fn apply_in_order<S: Step>(
     Ok(())
 }
 
-/// Whether each field is within an output of that length.
+/// Whether each field is within an output of that length: true exactly if it is.
 pub fn fields_lie<S: Step>(step: &S, relocations: &[InputRelocation], output: usize) -> bool
-    ensures { result ≡ true → All (FieldWithin (S.rule step.now) 0 output) relocations.now }
+    ensures yes { result ≡ true → All (FieldWithin (S.rule step.now) 0 output) relocations.now }
+    ensures no { result ≡ false → All (FieldWithin (S.rule step.now) 0 output) relocations.now → ⊥ }
 {
     for relocation in relocations {
         let width = step.size(relocation).unwrap_or(0);

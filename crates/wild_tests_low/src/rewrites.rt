@@ -29,6 +29,9 @@ pub const ABSOLUTE: ValueFlags = ValueFlags(
     ValueFlags::NON_INTERPOSABLE.0 | ValueFlags::ABSOLUTE.0,
 );
 
+/// One whose address a resolver returns.
+pub const IFUNC: ValueFlags = ValueFlags(ValueFlags::NON_INTERPOSABLE.0 | ValueFlags::IFUNC.0);
+
 /// One that another module may define.
 pub const OTHERS: ValueFlags = ValueFlags::DYNAMIC;
 

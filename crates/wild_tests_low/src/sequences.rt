@@ -1,7 +1,7 @@
 //! Sequences of two relocations as other tools write them, and what is rewritten at all.
 
 use crate::rewrites::{
-    ABSOLUTE, DYNAMIC, FIXED, LAST, MOVABLE, OTHERS, OWN, SHARED, Setting, link,
+    ABSOLUTE, DYNAMIC, FIXED, IFUNC, LAST, MOVABLE, OTHERS, OWN, SHARED, Setting, link,
     relocation_at_the_end,
 };
 use std::test::Fail;
@@ -10,7 +10,7 @@ use wild_types::{OutputKind, ValueFlags};
 
 // The kinds by their own names.
 use RelaxationKind::{
-    CallIndirectToRelative, JmpIndirectToRelative, MovIndirectToAbsolute, MovIndirectToLea,
+    CallIndirectToRelative, JmpIndirectToRelative, MovIndirectToAbsolute, MovIndirectToLea, NoOp,
     RexMovIndirectToAbsolute, SkipTlsDescCall, TlsDescToLocalExec, TlsGdToInitialExec,
     TlsGdToLocalExec, TlsGdToLocalExecLarge, TlsLdToLocalExec, TlsLdToLocalExec64,
     TlsLdToLocalExecNoPlt,
@@ -186,5 +186,95 @@ fn unchanged_sequences(rt: HostRuntime) -> Result<(), Fail> {
     };
     assert!(rt; link(&mut bytes, &[relocation], off)? == Ok(None));
     assert!(rt; bytes == *b"\x48\x8b\x2d\0\0\0\0");
+    Ok(())
+}
+
+#[rattlefmt::skip]
+const MANDATORY: &[Instruction] = &[
+    // `mov` of an address: in a static executable, but of an address known at link time only by the form of 32 bits, or for an
+    // absolute symbol.
+    (FIXED, OWN, 42, b"\x48\x8b\x2d\0\0\0\0", Ok(None)),
+    (FIXED, ABSOLUTE, 42, b"\x48\x8b\x2d\0\0\0\0", Ok(Some(RexMovIndirectToAbsolute(3)))),
+    (MOVABLE, OWN, 42, b"\x48\x8b\x2d\0\0\0\0", Ok(Some(MovIndirectToLea))),
+    (MOVABLE, ABSOLUTE, 42, b"\x48\x8b\x2d\0\0\0\0", Ok(Some(RexMovIndirectToAbsolute(3)))),
+    (DYNAMIC, OWN, 42, b"\x48\x8b\x2d\0\0\0\0", Ok(None)),
+    (DYNAMIC, ABSOLUTE, 42, b"\x48\x8b\x2d\0\0\0\0", Ok(None)),
+    (MOVABLE, OWN, 43, b"\xd5\x48\x8b\x2d\0\0\0\0", Ok(Some(MovIndirectToLea))),
+    (DYNAMIC, OWN, 43, b"\xd5\x48\x8b\x2d\0\0\0\0", Ok(None)),
+    (FIXED, OWN, 41, b"\x8b\x2d\0\0\0\0", Ok(Some(MovIndirectToAbsolute))),
+    (MOVABLE, OWN, 41, b"\x8b\x2d\0\0\0\0", Ok(Some(MovIndirectToLea))),
+    (DYNAMIC, OWN, 41, b"\x8b\x2d\0\0\0\0", Ok(None)),
+    (MOVABLE, OWN, 9, b"\x48\x8b\x05\0\0\0\0", Ok(None)),
+    // `call` and `jmp` through a slot: in a static executable that is position-independent.
+    (FIXED, OWN, 41, b"\xff\x15\0\0\0\0", Ok(None)),
+    (MOVABLE, OWN, 41, b"\xff\x15\0\0\0\0", Ok(Some(CallIndirectToRelative))),
+    (DYNAMIC, OWN, 41, b"\xff\x15\0\0\0\0", Ok(None)),
+    (FIXED, OWN, 41, b"\xff\x25\0\0\0\0", Ok(None)),
+    (MOVABLE, OWN, 41, b"\xff\x25\0\0\0\0", Ok(Some(JmpIndirectToRelative))),
+    (DYNAMIC, OWN, 41, b"\xff\x25\0\0\0\0", Ok(None)),
+    // A call of a stub: in a static executable; of an IFUNC in every output.
+    (FIXED, OWN, 4, b"\xe8\0\0\0\0", Ok(Some(NoOp))),
+    (DYNAMIC, OWN, 4, b"\xe8\0\0\0\0", Ok(None)),
+    (DYNAMIC, IFUNC, 2, b"\xe8\0\0\0\0", Ok(Some(NoOp))),
+    // Thread-local `mov`, `add`, `lea` of a descriptor, and its call: all but `add` in a static executable.
+    (FIXED, OWN, 22, b"\x48\x8b\x2d\0\0\0\0", Ok(Some(RexMovIndirectToAbsolute(3)))),
+    (MOVABLE, OWN, 44, b"\xd5\x48\x8b\x2d\0\0\0\0", Ok(Some(RexMovIndirectToAbsolute(4)))),
+    (DYNAMIC, OWN, 44, b"\xd5\x48\x8b\x2d\0\0\0\0", Ok(None)),
+    (FIXED, OWN, 22, b"\x48\x03\x2d\0\0\0\0", Ok(None)),
+    (MOVABLE, OWN, 34, b"\x48\x8d\x05\0\0\0\0", Ok(Some(TlsDescToLocalExec(3)))),
+    (DYNAMIC, OWN, 34, b"\x48\x8d\x05\0\0\0\0", Ok(None)),
+    (MOVABLE, OWN, 35, b"\xff\x10", Ok(Some(SkipTlsDescCall))),
+    (DYNAMIC, OWN, 35, b"\xff\x10", Ok(None)),
+];
+
+#[test]
+fn rewrites_that_are_mandatory(rt: HostRuntime) -> Result<(), Fail> {
+    for (kind, flags, number, input, wanted) in MANDATORY {
+        let setting = Setting {
+            kind: *kind,
+            flags: *flags,
+            relax: false,
+            address: 0x1000,
+            symbol: Some(0x3008),
+            target: 0x3008,
+        };
+        let mut bytes = input.to_vec(rt.alloc())?;
+        let found = link(
+            &mut bytes,
+            &[relocation_at_the_end(*number, input)],
+            setting,
+        )?;
+        let is_changed = bytes.as_slice() != *input;
+        let is_so = found == *wanted && is_changed == matches!(wanted, Ok(Some(_)));
+        assert!(rt; is_so, "{number} of {input:?}");
+    }
+    Ok(())
+}
+
+#[test]
+fn sequences_that_are_mandatory(rt: HostRuntime) -> Result<(), Fail> {
+    for (_kind, flags, address, target, first, call, input, made, _output) in SEQUENCES {
+        let relocations = [first_of(first.0, first.1), call_of(call.0, call.1, call.2)];
+        for kind in [FIXED, MOVABLE, DYNAMIC] {
+            let setting = Setting {
+                kind,
+                flags: *flags,
+                relax: false,
+                address: *address,
+                symbol: None,
+                target: *target,
+            };
+            let mut bytes = input.to_vec(rt.alloc())?;
+            let found = link(&mut bytes, &relocations, setting)?;
+            // Not the offset in a slot, and not the call of 64 bits for the output's own data.
+            let is_optional = matches!(made, TlsGdToInitialExec | TlsLdToLocalExec64);
+            let wanted = if kind == DYNAMIC || is_optional {
+                None
+            } else {
+                Some(*made)
+            };
+            assert!(rt; found == Ok(wanted), "{} at {address:x}", first.0);
+        }
+    }
     Ok(())
 }

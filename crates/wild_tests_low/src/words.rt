@@ -1,9 +1,9 @@
 //! Rewritten sequences of AArch64 words, each word by the row of its own relocation.
 
-use crate::rewrites::{FIXED, OTHERS, OWN};
+use crate::rewrites::{DYNAMIC, FIXED, IFUNC, MOVABLE, OTHERS, OWN};
 use std::test::Fail;
 use wild_relax::{Reference, RelocationInfo, Row, choose_aarch64};
-use wild_types::ValueFlags;
+use wild_types::{OutputKind, ValueFlags};
 
 /// The flags of sections of code.
 const CODE: u64 = 6;
@@ -86,6 +86,68 @@ fn sequences_of_words(rt: HostRuntime) -> Result<(), Fail> {
             at = at.saturating_add(1);
         }
         assert!(rt; bytes.as_slice() == *output, "{symbol:x}");
+    }
+    Ok(())
+}
+
+/// A weak symbol that another module may define.
+const WEAK: ValueFlags = ValueFlags(ValueFlags::DYNAMIC.0 | ValueFlags::UNDEFINED_WEAK.0);
+
+/// The output, the symbol's flags, the relocation types, the words, and whether a row is chosen for each with rewriting off.
+type Mandatory = (OutputKind, ValueFlags, &'static [u32], &'static [u8], bool);
+
+#[rattlefmt::skip]
+const MANDATORY: &[Mandatory] = &[
+    // A descriptor call: in a static executable.
+    (FIXED, OWN, &[562, 563, 564, 569], b"\0\0\0\x90\x01\0\x40\xf9\0\0\0\x91\x20\0\x3f\xd6", true),
+    (MOVABLE, OWN, &[562, 563, 564, 569], b"\0\0\0\x90\x01\0\x40\xf9\0\0\0\x91\x20\0\x3f\xd6", true),
+    (DYNAMIC, OWN, &[562, 563, 564, 569], b"\0\0\0\x90\x01\0\x40\xf9\0\0\0\x91\x20\0\x3f\xd6", false),
+    (DYNAMIC, OTHERS, &[562, 563, 564, 569], b"\0\0\0\x90\x01\0\x40\xf9\0\0\0\x91\x20\0\x3f\xd6", false),
+    // The offset in a slot, and a near address: in no output.
+    (FIXED, OWN, &[541, 542], b"\x03\0\0\x90\x63\0\x40\xf9", false),
+    (FIXED, OWN, &[275, 277], b"\0\0\0\x90\0\0\0\x91", false),
+    // Branches: of an IFUNC, and conditional ones of a weak symbol, in every output; of an own symbol in a static executable.
+    (DYNAMIC, IFUNC, &[282], b"\0\0\0\x14", true),
+    (DYNAMIC, IFUNC, &[283], b"\0\0\0\x94", true),
+    (FIXED, OWN, &[282], b"\0\0\0\x14", true),
+    (DYNAMIC, OWN, &[282], b"\0\0\0\x14", false),
+    (MOVABLE, OWN, &[283], b"\0\0\0\x94", true),
+    (DYNAMIC, OWN, &[283], b"\0\0\0\x94", false),
+    (DYNAMIC, WEAK, &[279], b"\0\0\0\x36", true),
+    (DYNAMIC, WEAK, &[280], b"\0\0\0\x54", true),
+    (DYNAMIC, OTHERS, &[280], b"\0\0\0\x54", false),
+];
+
+#[test]
+fn words_that_are_mandatory(rt: HostRuntime) -> Result<(), Fail> {
+    for (kind, flags, types, input, wanted) in MANDATORY {
+        let mut relocations = Vec::new(rt.alloc());
+        let mut offset = 0u64;
+        for number in *types {
+            relocations.push(RelocationInfo {
+                number: *number,
+                offset,
+                symbol: Some(0),
+                addend: 0,
+                names_tls_get_addr: false,
+            })?;
+            offset = offset.saturating_add(4);
+        }
+        for at in 0..types.len() {
+            let found = choose_aarch64(&Reference {
+                relocations: relocations.as_slice(),
+                at,
+                bytes: *input,
+                flags: *flags,
+                kind: *kind,
+                section_flags: CODE,
+                relax: false,
+                value: Some(0x1_0040),
+                address: 0x1_0000,
+            });
+            let is_chosen = matches!(found, Ok(Some(_)));
+            assert!(rt; is_chosen == *wanted, "{types:?}");
+        }
     }
     Ok(())
 }

@@ -77,15 +77,16 @@ shared_code = input 0x1080 6 (0x48 ∷ 0x8d ∷ 0x05 ∷ 0 ∷ 0 ∷ 0 ∷ 0 ∷
 abbrev pub code_item : Item
 code_item = item_with 0 shared_code
 
--- the layout: data and code from 0x1000 on, slots at 0x2000, then the dynamic section, thread-local data from 0x3000 to 0x3010
+-- the layout: data and code from 0x1000 on, slots from 0x2000 to 0x2060, then the dynamic section with 6 entries, then other
+-- words; thread-local data from 0x3000 to 0x3010
 abbrev pub shared_layout : Layout
 shared_layout = record empty_layout {
   kind = output.SharedObject;
   page_size = 0x1000;
-  segments = loaded_segment 0x1000 0x2010 0x2010 ∷ dynamic_at 0x2060 0x40 ∷ [];
+  segments = loaded_segment 0x1000 0x90 0x90 ∷ loaded_segment 0x2000 0x110 0x110 ∷ dynamic_at 0x2060 0x60 ∷ [];
   tls = record { start = 0x3000; end = 0x3010; align = 8 };
   got_base = 0x2000;
-  tlsld = Some 0x2048;
+  tlsld = Some 0x2050;
   symbols = own_symbol ∷ open_symbol ∷ own_thread ∷ other_thread ∷ [];
   groups = one_file (shared_data ∷ shared_code ∷ []);
 }

@@ -2,13 +2,16 @@
 --   SharedWorldIsLegal    the world is legal
 --   WrongSlotsAreRefused  a slot of an address or an offset that holds another word
 --   ..                    each other law names one kind of wrong memory
+--   SharedImageIsLinked   an image is linked there
 use Rattle.std.specs.Prelude.{◌≡◌, ℕ, ◌-◌, ◌^◌, List, [], ◌∷◌, Some}
 use Rattle.wild_loader.specs.declared.memory.Memory.{Memory}
 use Rattle.wild_loader.specs.Memory.{number_in, Holds}
 use Rattle.wild_meaning.specs.World.{IsLegal}
+use Rattle.wild_meaning.specs.LinkedImage.{IsLinked}
 use Rattle.wild_meaning.specs.Slot.{HasWord}
 use Rattle.wild_meaning.specs.Worked.Builders.{Refuses}
 use Rattle.wild_meaning.specs.Worked.Shared.{shared_layout, shared_world}
+use Rattle.wild_meaning.specs.Worked.SharedImage.{shared_image}
 use Rattle.wild_meaning.specs.Worked.Refusals.{HasWrongNumber, NamesWrongWord, NamesWrongModule, NamesWrongDescriptor, HasWrongByte}
 
 -- the world is legal: the output is its module 2; other symbols' modules are 3 and 4, at different distances
@@ -61,7 +64,7 @@ pub record WrongOffsetsAreRefused : Type 0 where
 pub record WrongModulesAreRefused : Type 0 where
   pub own : Refused (NamesWrongModule 0x11020 0xff8 0x12018 2 8)
   pub other : Refused (NamesWrongModule 0x11048 0xff8 0x12040 4 0x20)
-  pub begin : Refused (NamesWrongModule 0x1102c 0x101c 0x12048 2 0)
+  pub begin : Refused (NamesWrongModule 0x1102c 0x1024 0x12050 2 0)
 
 -- a descriptor for which another offset, or none, was noted
 pub record WrongDescriptorsAreRefused : Type 0 where
@@ -88,3 +91,7 @@ WrongSizeIsRefused = Refused (HasWrongNumber 0x11030 8 24)
 -- a byte in no field
 abbrev pub WrongByteIsRefused : Type 0
 WrongByteIsRefused = Refused (HasWrongByte 0x11051 2)
+
+-- an image is linked in the world, so the refusals are not vacuous
+abbrev pub SharedImageIsLinked : Type 0
+SharedImageIsLinked = IsLinked shared_layout shared_world shared_image

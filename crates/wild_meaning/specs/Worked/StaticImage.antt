@@ -2,6 +2,7 @@
 --   static_content   its code and data
 --   static_image     the image
 --   static_memory    the memory into which a loader turns it
+--   padded_image     the same for the program with one input section, which has no data
 use Rattle.std.specs.Prelude.{ℕ, List, [], ◌∷◌, ◌++◌, replicate}
 use Rattle.wild_words.specs.Record.{spell}
 use Rattle.wild_records.specs.Abi.Header.{elfmag, elfclass64, elfdata2lsb, et_dyn, em_x86_64}
@@ -73,3 +74,13 @@ static_image = spell (file_header_fields static_header) ++ static_rest
 
 abbrev pub static_memory : Memory
 static_memory = record { machine = processors.X86_64; runs = record { start = 0x41000; bytes = static_content } ∷ []; descriptors = [] }
+
+-- with zeros in place of code and data
+abbrev pub padded_rest : List ℕ
+padded_rest = spell (program_header_fields static_segment) ++ replicate 4248 0
+
+abbrev pub padded_image : List ℕ
+padded_image = spell (file_header_fields static_header) ++ padded_rest
+
+abbrev pub padded_memory : Memory
+padded_memory = record { machine = processors.X86_64; runs = record { start = 0x41000; bytes = replicate 272 0 } ∷ []; descriptors = [] }

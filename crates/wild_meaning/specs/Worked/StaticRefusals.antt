@@ -17,7 +17,7 @@ use Rattle.wild_meaning.specs.World.{IsLegal}
 use Rattle.wild_meaning.specs.LinkedImage.{IsLinked}
 use Rattle.wild_meaning.specs.Worked.Builders.{Refuses, section_without_data, one_file}
 use Rattle.wild_meaning.specs.Worked.Static.{static_pie, static_pie_world}
-use Rattle.wild_meaning.specs.Worked.StaticImage.{static_image}
+use Rattle.wild_meaning.specs.Worked.StaticImage.{static_image, padded_image}
 use Rattle.wild_meaning.specs.Worked.Refusals.{HasWrongNumber, HasWrongByte}
 
 abbrev pub StaticPieWorldIsLegal : Type 0
@@ -77,3 +77,7 @@ WrongBlankIsRefused = Refuses padded_layout static_pie_world (HasWrongByte 0x411
 -- an image is linked in the world, so the refusals are not vacuous
 abbrev pub StaticImageIsLinked : Type 0
 StaticImageIsLinked = IsLinked static_pie static_pie_world static_image
+
+-- one of the program without data is, too
+abbrev pub PaddedImageIsLinked : Type 0
+PaddedImageIsLinked = IsLinked padded_layout static_pie_world padded_image

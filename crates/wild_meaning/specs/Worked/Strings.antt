@@ -2,8 +2,9 @@
 --   pointer_item   an address of a byte in the middle of a string
 --   reversed_item    two words; in the input the address is first
 --   strings_layout         the layout
+--   strings_content  its data as loaded
 --   strings_memory  the memory into which a loader turns it in the world of the program without a dynamic linker
-use Rattle.std.specs.Prelude.{[], ◌∷◌, None, true}
+use Rattle.std.specs.Prelude.{ℕ, List, [], ◌∷◌, None, true}
 use lib.IntN.{pos}
 use Rattle.wild_records.specs.Abi.Relocation.{r_x86_64_64}
 use Rattle.wild_records.specs.Abi.Symbol.{stt_section}
@@ -20,7 +21,7 @@ use Rattle.wild_loader.specs.declared.memory.Machine.TheVariants as processors
 use Rattle.wild_loader.specs.declared.memory.Memory.{Memory}
 use Rattle.wild_types.specs.Item.{Item}
 use Rattle.wild_meaning.specs.Item.{placed_item}
-use Rattle.wild_meaning.specs.Worked.Builders.{reference, input, file_of, group_of}
+use Rattle.wild_meaning.specs.Worked.Builders.{reference, input, file_of, group_of, loaded_segment}
 use Rattle.wild_meaning.specs.Worked.Static.{static_pie, second_function}
 
 -- two strings that were placed elsewhere: five bytes of the input from 0 on, and the bytes after them
@@ -51,8 +52,14 @@ reversed_data = record (input 0x1110 3 (0 ∷ 0 ∷ 0 ∷ 0 ∷ 0 ∷ 0 ∷ 0 �
 abbrev pub strings_file : File
 strings_file = record (file_of file_role.Object (pointer_data ∷ reversed_data ∷ string_section ∷ []) []) { symbol_count = 2 }
 
+-- its data from 0x1100 to 0x1120 are loaded
 abbrev pub strings_layout : Layout
-strings_layout = record static_pie { symbols = string_symbol ∷ second_function ∷ []; groups = group_of (strings_file ∷ []) ∷ [] }
+strings_layout = record static_pie {
+  segments = loaded_segment 0x1100 0x20 0x20 ∷ [];
+  symbols = string_symbol ∷ second_function ∷ [];
+  groups = group_of (strings_file ∷ []) ∷ [];
+  entry = None;
+}
 
 abbrev pub pointer_item : Item
 pointer_item = placed_item strings_layout strings_file pointer_data
@@ -60,6 +67,12 @@ pointer_item = placed_item strings_layout strings_file pointer_data
 abbrev pub reversed_item : Item
 reversed_item = placed_item strings_layout strings_file reversed_data
 
--- at base 0x40000
+-- the address of the byte in the string, at base 0x40000; the word without a relocation, and the function's address
+abbrev pub strings_content : List ℕ
+strings_content =
+    0x0a ∷ 0x12 ∷ 0x04 ∷ 0 ∷ 0 ∷ 0 ∷ 0 ∷ 0 ∷ 0 ∷ 0 ∷ 0 ∷ 0 ∷ 0 ∷ 0 ∷ 0 ∷ 0
+    ∷ 7 ∷ 0 ∷ 0 ∷ 0 ∷ 0 ∷ 0 ∷ 0 ∷ 0 ∷ 0x10 ∷ 0x12 ∷ 0x04 ∷ 0 ∷ 0 ∷ 0 ∷ 0 ∷ 0
+    ∷ []
+
 abbrev pub strings_memory : Memory
-strings_memory = record { machine = processors.X86_64; runs = record { start = 0x41100; bytes = 0x0a ∷ 0x12 ∷ 0x04 ∷ 0 ∷ 0 ∷ 0 ∷ 0 ∷ 0 ∷ [] } ∷ []; descriptors = [] }
+strings_memory = record { machine = processors.X86_64; runs = record { start = 0x41100; bytes = strings_content } ∷ []; descriptors = [] }

@@ -1,5 +1,6 @@
 use Rattle.wild_meaning.proofs.StringsRefused.{strings_judged, reversed_judged}
+use Rattle.wild_meaning.proofs.StringsLinked.{strings_legal, strings_linked}
 use Rattle.wild_meaning.proofs.laws.strings_and_reversed_words_are_judged.Goals as goal
 
 pub returns : goal.returns
-returns c = record { strings = strings_judged; reversed = reversed_judged }
+returns c = record { legal = strings_legal; strings = strings_judged; reversed = reversed_judged; linked = strings_linked }

@@ -2,6 +2,7 @@ use Rattle.wild_meaning.proofs.StaticRefused.{wrong_data, wrong_blank}
 use Rattle.wild_meaning.proofs.CodeRefused.{wrong_branch, wrong_load, wrong_descriptor}
 use Rattle.wild_meaning.proofs.SequenceRefused.{wrong_sequence}
 use Rattle.wild_meaning.proofs.StaticLinked.{static_linked}
+use Rattle.wild_meaning.proofs.PaddedLinked.{padded_linked}
 use Rattle.wild_meaning.proofs.laws.wrong_programs_are_refused.Goals as goal
 
 pub returns : goal.returns
@@ -10,4 +11,5 @@ returns c = record {
   code = record { branch = wrong_branch; load = wrong_load; sequence = wrong_sequence; descriptor = wrong_descriptor };
   blank = wrong_blank;
   linked = static_linked;
+  padded = padded_linked;
 }

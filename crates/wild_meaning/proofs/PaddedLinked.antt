@@ -1,0 +1,128 @@
+-- The image of the worked program whose one input section has no data is linked in its world.
+use Rattle.std.proofs.Common.{◌≡◌, ℕ, ◌+◌, ◌<◌, true, false, List, [], ◌∷◌, refl, sym, ap, ◌∙◌, subst, arith}
+use Rattle.std.specs.Prelude.{Ok, Some, None, Contains, replicate}
+use Rattle.std.proofs.lemmas.List.Elements.{All-from_recursion, All-contains}
+use Rattle.std.proofs.lemmas.List.{get_or-replicate}
+use Rattle.wild_words.specs.Words.{word, number}
+use Rattle.wild_words.specs.Record.{spell}
+use Rattle.wild_words.specs.Extents.{least_extent}
+use Rattle.wild_words.proofs.RecordLemmas.{HasBytesAt-left}
+use Rattle.wild_records.specs.Abi.Segment.{pt_gnu_stack}
+use Rattle.wild_records.specs.FileHeader.{file_header_fields, file_header_at}
+use Rattle.wild_records.specs.ProgramHeader.{program_header_fields, program_header_at}
+use Rattle.wild_records.specs.declared.program_header.ProgramHeader.{ProgramHeader}
+use Rattle.wild_types.specs.declared.file.FileRole.TheVariants as file_role
+use Rattle.wild_types.specs.declared.file.File.{File}
+use Rattle.wild_types.specs.declared.file.Group.{Group}
+use Rattle.wild_types.specs.declared.input.InputSection.{InputSection}
+use Rattle.wild_types.specs.declared.input.Slot.TheVariants as slot
+use Rattle.wild_types.specs.declared.layout.Entry.TheVariants as entry
+use Rattle.wild_types.specs.Item.{Item}
+use Rattle.wild_loader.specs.Memory.{byte_in, Holds}
+use Rattle.wild_loader.specs.Headers.{header, program_headers, sections}
+use Rattle.wild_loader.specs.Segments.{load_segment, load_segments, segments}
+use Rattle.wild_loader.specs.Tables.{first_dynamic, section_entries, section_tables, tables}
+use Rattle.wild_loader.specs.Places.{places_from}
+use Rattle.wild_loader.specs.Runs.{overlay_runs}
+use Rattle.wild_loader.specs.Relocate.{add_all, apart, notes, relocate}
+use Rattle.wild_loader.specs.Load.{load, image_at, image_with}
+use Rattle.wild_meaning.specs.World.{IsCopied}
+use Rattle.wild_meaning.specs.Item.{IsInput, IsKept, OfSection, OfFrames}
+use Rattle.wild_meaning.specs.Reference.{ItemHolds}
+use Rattle.wild_meaning.specs.Segments.{headers_in, DescribeSegments}
+use Rattle.wild_meaning.specs.LinkedImage.{IsSectionWithoutData}
+use Rattle.wild_meaning.specs.Worked.Builders.{file_of, group_of}
+use Rattle.wild_meaning.specs.Worked.Static.{static_pie_world}
+use Rattle.wild_meaning.specs.Worked.StaticImage.{static_header, static_segment, padded_image, padded_rest, padded_memory}
+use Rattle.wild_meaning.specs.Worked.StaticRefusals.{padded_blank, padded_layout, PaddedImageIsLinked}
+use Rattle.wild_meaning.proofs.SymbolUnique.{only}
+use Rattle.wild_meaning.proofs.Read.{held_from}
+use Rattle.wild_meaning.proofs.PlacedLemmas.{frame_input}
+
+padded_loaded : load static_pie_world padded_image ≡ Ok padded_memory
+unfolding load image_at image_with header program_headers segments load_segment load_segments tables first_dynamic section_tables sections section_entries relocate add_all apart notes overlay_runs places_from least_extent file_header_at file_header_fields program_header_at program_header_fields number word
+padded_loaded = refl
+
+padded_programs : headers_in padded_image ≡ static_segment ∷ []
+unfolding program_headers file_header_at file_header_fields program_header_at program_header_fields number word
+padded_programs = refl
+
+-- ---- its one section
+
+abbrev padded_file : File
+padded_file = file_of file_role.Object (padded_blank ∷ []) []
+
+file_is : (f : File) (g : Group) → Contains padded_layout.groups g → Contains g.files f → padded_file ≡ f
+file_is f g grouped filed =
+    let group = only (group_of (padded_file ∷ [])) g grouped in
+    only padded_file f (subst (λ (h : Group). Contains h.files f) (sym group) filed)
+
+blank_is : (s : InputSection) → IsInput padded_layout s → padded_blank ≡ s
+blank_is s h = only padded_blank s (subst (λ (f : File). Contains f.sections s) (sym (file_is h.file h.group h.grouped h.filed)) h.listed)
+
+no_item : (item : Item) → IsKept padded_layout item → ItemHolds padded_layout static_pie_world padded_memory item
+no_item item (OfSection s kept is) =
+    let same = blank_is s kept.input in
+    let both : true ≡ false = ap (λ (t : InputSection). t.nobits) same ∙ kept.has_data in
+    absurd (cc)
+no_item item (OfFrames s kept is) =
+    let same = blank_is s (frame_input padded_layout s kept) in
+    let both : slot.Loaded ≡ slot.Frame = ap (λ (t : InputSection). t.slot) same ∙ kept.frame in
+    absurd (cc)
+
+no_library : (i : ℕ) → IsCopied padded_layout i → ⊥
+no_library i h =
+    let role : file_role.Object ≡ file_role.Dynamic = ap (λ (f : File). f.role) (file_is h.file h.group h.grouped h.filed) ∙ h.library in
+    cc
+
+all_zero : Holds padded_memory 0x41000 (replicate 272 0)
+all_zero = held_from padded_memory 0x41000 (replicate 272 0) refl
+
+zero_at : (k : ℕ) → k < 16 → byte_in padded_memory (0x41100 + k) ≡ Some 0
+zero_at k lt =
+    let at : 0x41000 + (256 + k) ≡ 0x41100 + k = omega arith in
+    subst (λ (a : ℕ). byte_in padded_memory a ≡ Some 0) at (all_zero (256 + k) (omega (arith, lt)) ∙ ap Some (get_or-replicate 272 (256 + k) 0 0 (omega (arith, lt))))
+
+abbrev IsZero : InputSection → Type 0
+IsZero s = (k : ℕ) → k < s.size → byte_in padded_memory (static_pie_world.base + s.address + k) ≡ Some 0
+
+section_zero : IsZero padded_blank
+section_zero = zero_at
+
+zeros : (s : InputSection) → IsSectionWithoutData padded_layout s → IsZero s
+zeros s h = subst IsZero (blank_is s h.input) section_zero
+
+-- ---- the whole
+
+padded_segments : DescribeSegments padded_layout padded_layout.segments (headers_in padded_image)
+padded_segments = subst (λ (hs : List ProgramHeader). DescribeSegments padded_layout padded_layout.segments hs) (sym padded_programs) (
+  record { kind = refl; flags = λ k. refl; stack = λ k. absurd (let no : 1 ≡ pt_gnu_stack = k in omega (arith, no)); offset = refl; address = refl; physical = refl; file_size = refl; mem_size = refl; align = λ k. absurd (k refl); pages = λ k. refl; congruent = λ k. refl },
+  tt,
+)
+
+pub padded_linked : PaddedImageIsLinked
+padded_linked = record {
+  memory = padded_memory;
+  accepted = padded_loaded;
+  machine = refl;
+  kept = no_item;
+  zeros = λ s k h lt _ _. zeros s h k lt;
+  copies = λ whole i raw x h. absurd (no_library i h.copied);
+  header = record {
+    header = static_header;
+    fits = record {
+      front = record { magic = omega arith; class = omega arith; encoding = omega arith; ident_version = omega arith; os_abi = omega arith; abi_version = omega arith; file_type = omega arith };
+      middle = record { machine = omega arith; version = omega arith; entry = omega arith; program_offset = omega arith; section_offset = omega arith; flags = omega arith; header_size = omega arith };
+      back = record { program_entry_size = omega arith; program_count = omega arith; section_entry_size = omega arith; section_count = omega arith; name_table = omega arith };
+    };
+    stands = HasBytesAt-left (spell (file_header_fields static_header)) padded_rest;
+    fixed = λ f. absurd f;
+    movable = λ _. refl;
+    address = λ a e. (let one : Some (entry.Address 0x1000) ≡ Some (entry.Address a) = e in let same : 0x1000 ≡ a = cc in same);
+    symbol = λ i a e _. absurd (let one : Some (entry.Address 0x1000) ≡ Some (entry.Symbol i) = e in cc);
+    none = λ e. absurd (let one : Some (entry.Address 0x1000) ≡ None = e in cc);
+    sizes = record { ident_version = refl; version = refl; header = refl; program = refl; section = refl; flags = refl };
+    segments = padded_segments;
+  };
+  dynamic = λ whole d. absurd d;
+}

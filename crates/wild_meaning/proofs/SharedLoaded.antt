@@ -1,0 +1,59 @@
+-- What a loader makes of the image of the worked shared object.
+use Rattle.std.proofs.Common.{◌≡◌, [], ◌∷◌, refl}
+use Rattle.std.specs.Prelude.{List, Ok, Some, None}
+use Rattle.wild_words.specs.Words.{word, number}
+use Rattle.wild_words.specs.Extents.{least_extent}
+use Rattle.wild_records.specs.Abi.Dynamic.{dt_jmprel, dt_symtab, dt_relaent, dt_flags, dt_relr, dt_relacount, dt_flags_1}
+use Rattle.wild_records.specs.FileHeader.{file_header_fields, file_header_at}
+use Rattle.wild_records.specs.ProgramHeader.{program_header_fields, program_header_at}
+use Rattle.wild_records.specs.Dynamic.{dynamic_entry_at}
+use Rattle.wild_records.specs.Relocations.{rela_at, rela_size}
+use Rattle.wild_records.specs.declared.dynamic.DynamicEntry.{DynamicEntry}
+use Rattle.wild_loader.specs.Headers.{header, program_headers}
+use Rattle.wild_loader.specs.Segments.{load_segment, load_segments, segments}
+use Rattle.wild_loader.specs.Tables.{first_dynamic, dynamic_entries, value_of_tag, span_at, table_of, named_tables, dynamic_tables, tables, relas_at, words_at, section_of}
+use Rattle.wild_loader.specs.Places.{places_from}
+use Rattle.wild_loader.specs.Runs.{overlay_runs, put_byte, put_bytes, read_bytes}
+use Rattle.wild_loader.specs.Changes.{kind_of, change_of, patch_at}
+use Rattle.wild_loader.specs.Relocate.{rela_patch, add_all, apart, notes, relocate}
+use Rattle.wild_loader.specs.Load.{load, image_at, image_with}
+use Rattle.wild_meaning.specs.Segments.{headers_in}
+use Rattle.wild_meaning.specs.Worked.Shared.{shared_world}
+use Rattle.wild_meaning.specs.Worked.SharedImage.{shared_image, shared_first, shared_second, shared_third, shared_memory}
+
+pub shared_loaded : load shared_world shared_image ≡ Ok shared_memory
+unfolding load image_at image_with header program_headers segments load_segment load_segments tables first_dynamic dynamic_entries value_of_tag span_at table_of named_tables dynamic_tables relas_at words_at relocate add_all apart notes overlay_runs put_byte put_bytes read_bytes rela_patch change_of patch_at places_from least_extent file_header_at file_header_fields program_header_at program_header_fields dynamic_entry_at rela_at kind_of number word
+shared_loaded = refl
+
+-- its program headers
+pub shared_programs : headers_in shared_image ≡ shared_first ∷ shared_second ∷ shared_third ∷ []
+unfolding program_headers file_header_at file_header_fields program_header_at program_header_fields number word
+shared_programs = refl
+
+pub shared_dynamic : first_dynamic (shared_first ∷ shared_second ∷ shared_third ∷ []) ≡ Some shared_third
+unfolding first_dynamic
+shared_dynamic = refl
+
+-- the entries of its dynamic section
+abbrev pub shared_entries : List DynamicEntry
+shared_entries =
+    record { tag = 7; value = 0x20c0 } ∷ record { tag = 8; value = 24 } ∷ record { tag = 9; value = 24 } ∷ record { tag = 30; value = 8 }
+    ∷ record { tag = 0x6ffffffb; value = 1 } ∷ []
+
+pub shared_read : section_of shared_image shared_third ≡ Ok shared_entries
+unfolding dynamic_entries dynamic_entry_at file_header_fields program_header_fields number word
+shared_read = refl
+
+-- the values of tags
+pub record SharedTags : Type 0 where
+  pub flags : value_of_tag dt_flags shared_entries ≡ Some 8
+  pub flags_1 : value_of_tag dt_flags_1 shared_entries ≡ Some 1
+  pub entry_size : value_of_tag dt_relaent shared_entries ≡ Some rela_size
+  pub no_stubs : value_of_tag dt_jmprel shared_entries ≡ None
+  pub no_words : value_of_tag dt_relr shared_entries ≡ None
+  pub no_symbols : value_of_tag dt_symtab shared_entries ≡ None
+  pub no_count : value_of_tag dt_relacount shared_entries ≡ None
+
+pub shared_tags : SharedTags
+unfolding value_of_tag
+shared_tags = record { flags = refl; flags_1 = refl; entry_size = refl; no_stubs = refl; no_words = refl; no_symbols = refl; no_count = refl }
