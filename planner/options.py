@@ -121,8 +121,8 @@ class Options:
                     self.build_id = b""
                 elif value != "none":
                     raise Refused(f"option {word}")
-            elif name in ("-m",):
-                self.emulation = argument()
+            elif word.startswith("-m") and not word.startswith("-map"):
+                self.emulation = argument("-m")
                 if not any(self.emulation in machine.emulations for machine in MACHINES.values()):
                     raise Refused(f"option -m {self.emulation}")
             elif word.startswith("-z"):
