@@ -22,7 +22,7 @@ class Options:
         self.eh_frame_hdr = self.execstack = False
         self.relro, self.strip, self.hash_style = True, None, "gnu"
         self.entry, self.soname, self.rpath, self.interpreter, self.build_id = b"_start", None, None, None, None
-        self.undefined, self.no_undefined, self.plan_file, self.no_loader = [], False, None, False
+        self.undefined, self.no_undefined, self.plan_file, self.times, self.no_loader = [], False, None, None, False
         self.entry_given = False
         self.read(self.expand(words))
         self.decide()
@@ -40,7 +40,7 @@ class Options:
         words = iter(words)
         static = as_needed = whole = False
         states, groups = [], [self.inputs]
-        texts = {"-o": "output", "--output": "output", "--plan": "plan_file"}
+        texts = {"-o": "output", "--output": "output", "--plan": "plan_file", "--times": "times"}
         byte_texts = {"-soname": "soname", "--soname": "soname", "-h": "soname", "-rpath": "rpath", "--rpath": "rpath", "-dynamic-linker": "interpreter", "--dynamic-linker": "interpreter", "-I": "interpreter", "-e": "entry", "--entry": "entry"}
         switches = {
             "-shared": "shared", "--shared": "shared", "-Bshareable": "shared", "-pie": "pie", "--pie": "pie", "-r": "partial", "--relocatable": "partial", "-E": "export_dynamic", "--export-dynamic": "export_dynamic",
