@@ -11,7 +11,7 @@ from elf import (
 class Target:
     """What a reference is to: a name, or a local symbol of one object that has a slot."""
 
-    __slots__ = ("name", "kind", "file", "index", "info", "other", "size", "value", "align", "strong", "version", "needs", "exported", "plan", "raw", "dynsym", "got", "plt", "copy", "canonical", "alias", "section", "absolute", "listed_version")
+    __slots__ = ("name", "kind", "file", "index", "info", "other", "size", "value", "align", "strong", "version", "needs", "exported", "plan", "raw", "dynsym", "got", "plt", "copy", "canonical", "alias", "section", "absolute", "listed_version", "first")
 
     def __init__(self, name):
         self.name, self.kind, self.file, self.index = name, "undefined", None, 0
@@ -192,7 +192,7 @@ class Resolver:
             target = self.table.get(name)
             if target is None:
                 target = self.table[name] = Target(name)
-                target.file, target.index = file, i
+                target.file, target.index = target.first = file, i
                 target.info = info if section == UNDEFINED else target.info
                 if name in self.offered:
                     self.bind(target, self.offered[name])
@@ -251,7 +251,7 @@ class Resolver:
         self.libraries = [library for library in self.libraries if library.needed]
         for name, target in self.table.items():
             if target.kind == "shared" and not target.file.needed:
-                target.kind, target.info, target.file = "undefined", WEAK << 4, None
+                target.kind, target.info, (target.file, target.index) = "undefined", WEAK << 4, target.first
             if target.kind == "undefined" and name in provided:
                 target.kind, target.file, target.other, target.info = "linker", None, HIDDEN, GLOBAL << 4
                 self.unresolved.pop(name, None)
