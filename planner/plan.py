@@ -12,6 +12,7 @@ from machines import MACHINES
 from slots import ADDRESS, ENTRY, GOT, GOT_DESCRIPTOR, GOT_OFFSET, GOT_PAIR, STUB, Scan, keep_frames
 from symbols import Target
 
+BRANCHES_REACH = 100 << 20
 DYNAMIC, HASH, GNU_HASH, VERSYM, VERNEED = 6, 5, 0x6FFFFFF6, 0x6FFFFFFF, 0x6FFFFFFE
 EDGES = re.compile(rb"__(start|stop)_([A-Za-z_]\w*)")
 ARRAYS = {b"__%s_%s" % (name, edge): (b"." + name, edge == b"end") for name in (b"preinit_array", b"init_array", b"fini_array") for edge in (b"start", b"end")}
@@ -64,6 +65,7 @@ class Plan:
             raise Refused("\n".join(f"{file.name}: undefined reference to {name.decode()}" for name, file in [*self.scan.missing.items()][:20]))
         self.place_commons_and_copies()
         self.number_symbols()
+        self.place_thunks()
         self.choose_dynamic_symbols()
         self.choose_symtab()
         self.add_tables()
@@ -147,6 +149,45 @@ class Plan:
         for target in self.own:
             target.plan, at = at, at + 1
 
+    def place_thunks(self):
+        """On AArch64 a branch reaches 128 MiB: where there is more code, files that lie within reach of each other have a block of thunks behind them."""
+        code = [output for output in self.layout.outputs if output.flags & CODE]
+        self.thunks, self.block_of = [], {}
+        if not self.machine.branches or sum(part.size for output in code for part in output.parts) < BRANCHES_REACH:
+            return
+        part = self.layout.named(b".text").parts[0]
+        files, size = {}, BRANCHES_REACH
+        for section in part.inputs:
+            files.setdefault(section.file, []).append(section)
+        for file, sections in files.items():
+            own = sum(section.size + section.align for section in sections)
+            if size + own > BRANCHES_REACH:
+                self.thunks.append(({}, []))
+                size = 0
+            size += own
+            self.block_of[file] = len(self.thunks) - 1
+            self.thunks[-1][1].append(file)
+        for file in self.objects:
+            block = self.block_of.setdefault(file, 0)
+            for section in file.sections:
+                if section.slot == "loaded" and section.flags & CODE:
+                    home = block if section.part is part else 0
+                    for _, info, addend in section.records():
+                        if info & 0xFFFFFFFF in self.machine.branches and info >> 32 >= file.locals and not addend:
+                            target = file.globals[(info >> 32) - file.locals]
+                            near = target.section is not None and target.kind == "defined" and target.section.part is part and self.block_of.get(target.file) == home and not target.needs & STUB
+                            if not near and target.plan is not None and (target.kind != "undefined" or target.needs & STUB):
+                                self.thunks[home][0][target.plan] = target
+        part.inputs, part.size = [], 0
+        for index, (targets, members) in enumerate(self.thunks):
+            for file in members:
+                for section in files[file]:
+                    part.add(section)
+            start = up(part.size, 4)
+            part.size = start + 12 * len(targets) if targets else part.size
+            self.thunks[index] = sorted(targets.items()), members[-1], start
+        self.thunk_part = part
+
     def choose_dynamic_symbols(self):
         self.undefined, self.listed = [], []
         if not self.options.has_dynamic:
@@ -206,6 +247,9 @@ class Plan:
                 local += 24
             else:
                 other += 24
+        for targets, _, _ in self.thunks if keep else ():
+            local += 24 * len(targets)
+            names += sum(len("__wild_thunk_") + len(target.name) + 1 for _, target in targets)
         self.symtab_sizes = local, other, names
 
     # ---- tables
@@ -523,6 +567,11 @@ class Plan:
                 plan["sysv_hash"] = {"buckets": self.buckets}
         if layout.merges:
             plan["merged"] = [{"part": part.index, "strings": [(string + b"\0").hex() for string in part.strings]} for part in layout.merges]
+        if self.thunks:
+            plan["primary_part"] = self.thunk_part.index
+            plan["thunk_blocks"] = [
+                [{"symbol": symbol, "address": self.thunk_part.address + start + 12 * i} for i, (symbol, _) in enumerate(targets)] for targets, _, start in self.thunks
+            ]
         if layout.sorted:
             place = {id(file): i for i, file in enumerate(self.objects, 1)}
             plan["sorted"] = [{"group": 0, "file": place[id(section.file)], "section": section.index} for section in layout.sorted]
@@ -544,7 +593,9 @@ class Plan:
             separator = ","
         yield '],"groups":[{"part_sizes":' + spelled([part.size for part in layout.parts]) + ',"files":[{"role":"prelude"}'
         for file in self.objects:
-            yield ',{"role":"object","first_symbol":%d,"symbol_count":%d,"sections":[' % (file.first_symbol, len(file.symbols))
+            block = self.block_of.get(file, 0)
+            owns = ',"thunk_block":%d' % block + ',"owns_thunk_block":true' * (self.thunks[block][1] is file) if self.thunks else ""
+            yield ',{"role":"object","first_symbol":%d,"symbol_count":%d%s,"sections":[' % (file.first_symbol, len(file.symbols), owns)
             yield ",".join([self.section_text(file, section) for section in file.sections]) + "]}"
         if options.has_dynamic:
             with_versions = [library for library in self.libraries if library in self.version_needs]
