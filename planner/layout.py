@@ -98,7 +98,7 @@ class Layout:
     def __init__(self, options, machine):
         self.options, self.machine = options, machine
         self.outputs, self.by_key, self.merges, self.sorted = [], {}, [], []
-        self.frames = self.table = None
+        self.frames = None
         self.file_header, self.program_headers, self.section_headers = Part("file_header", 64, 8), Part("program_headers", 0, 8), Part("section_headers", 0, 8)
 
     def output(self, name, kind, flags, entry=0, link=None):
@@ -241,7 +241,6 @@ class Layout:
                 memory += -memory % align if align > page else 0
                 run, begin = output.run(), (at, memory)
                 file_end, memory_end = at, memory
-            at = up(at, align) if output.kind == NOBITS else at
             start = up(memory, align)
             if output.kind == NOBITS:
                 output.offset, output.address, memory_now = file_end, start, start

@@ -8,10 +8,10 @@ from machines import MACHINES
 # options that change nothing here: what they ask for is done anyway, or allows what is not done
 WITHOUT_EFFECT = {
     "--gc-sections", "--no-gc-sections", "-O1", "-O2", "-O0", "-EL", "-X", "--discard-locals", "--fatal-warnings", "--no-fatal-warnings", "--no-copy-dt-needed-entries", "--enable-new-dtags",
-    "--no-undefined-version", "--no-add-needed", "--fix-cortex-a53-843419", "--fix-cortex-a53-835769", "--sort-common", "--warn-common", "--no-warn-mismatch", "--no-relax-unused", "-nostdlib",
+    "--no-undefined-version", "--no-add-needed", "--fix-cortex-a53-843419", "--fix-cortex-a53-835769", "--sort-common", "--warn-common", "--no-warn-mismatch", "-nostdlib",
     "--no-ld-generated-unwind-info", "--allow-shlib-undefined", "--no-allow-shlib-undefined",
 }
-WITH_WORD_WITHOUT_EFFECT = {"-plugin", "-rpath-link", "--rpath-link", "-O"}
+WITH_WORD_WITHOUT_EFFECT = {"-plugin", "-rpath-link", "--rpath-link"}
 KEYWORDS = {"now", "relro", "norelro", "noexecstack", "execstack", "text", "defs", "separate-code", "noseparate-code", "nocopyreloc", "combreloc", "nodynamic-undefined-weak"}
 
 
@@ -19,7 +19,7 @@ class Options:
     def __init__(self, words):
         self.output, self.folders, self.inputs, self.emulation = "a.out", [], [], None
         self.static = self.shared = self.pie = self.partial = self.export_dynamic = self.symbolic = self.no_relax = self.allow_multiple = False
-        self.eh_frame_hdr = self.execstack = False
+        self.eh_frame_hdr, self.execstack = False, None
         self.relro, self.strip, self.hash_style = True, None, "gnu"
         self.entry, self.soname, self.rpath, self.interpreter, self.build_id = b"_start", None, None, None, None
         self.undefined, self.no_undefined, self.plan_file, self.times, self.no_loader = [], False, None, None, False
@@ -129,7 +129,7 @@ class Options:
                 self.keyword(argument("-z"))
             elif name in ("-u", "--undefined"):
                 self.undefined.append(argument().encode())
-            elif word in WITHOUT_EFFECT or name in ("-plugin-opt", "--sysroot"):
+            elif word in WITHOUT_EFFECT or name == "-plugin-opt" or word == "--sysroot=/":
                 pass
             elif name in WITH_WORD_WITHOUT_EFFECT:
                 argument()

@@ -1,6 +1,5 @@
 """Makes the plan of a relocatable object (docs/PARTIAL.md): sections of one name behind each other, members of groups each for itself, with tables of relocations."""
-from elf import GROUP, IN_GROUP, INFO_LINK, LINK_ORDER, NOBITS, NOTYPE, PROGBITS, RELA, RETAIN, SECTION, STRTAB, SYMTAB, SYMTAB_SHNDX, UNDEFINED, Refused, up
-from layout import Layout
+from elf import GROUP, IN_GROUP, INFO_LINK, LINK_ORDER, NOBITS, RELA, SECTION, STRTAB, SYMTAB, SYMTAB_SHNDX, UNDEFINED, Refused, up
 from plan import Plan, spelled
 
 

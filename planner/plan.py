@@ -4,12 +4,10 @@ import json
 import re
 import struct
 
-from elf import (
-    ALLOC, CODE, COMMON, DYNSYM, FILE, FUNCTION, HIDDEN, LOCAL, LONG_INDEX, NOBITS, NOTE, NOTYPE, OBJECT, PROGBITS, RELA, SECTION, STRTAB, SYMTAB, TLS, TLS_TYPE, WEAK, WRITE, Refused, up,
-)
+from elf import ALLOC, CODE, COMMON, DYNSYM, LONG_INDEX, NOBITS, NOTE, PROGBITS, RELA, SECTION, STRTAB, SYMTAB, TLS, TLS_TYPE, WRITE, Refused, up
 from layout import Layout
 from machines import MACHINES
-from slots import ADDRESS, ENTRY, GOT, GOT_DESCRIPTOR, GOT_OFFSET, GOT_PAIR, STUB, Scan, keep_frames
+from slots import GOT, GOT_DESCRIPTOR, GOT_OFFSET, GOT_PAIR, STUB, Scan, keep_frames
 from symbols import Target
 
 BRANCHES_REACH = 100 << 20
@@ -59,6 +57,9 @@ class Plan:
 
     def make(self):
         self.layout.place_inputs(self.objects)
+        # the stack may be executed where an object asks for that (`.note.GNU-stack` with SHF_EXECINSTR)
+        stacks = (section.flags & CODE for file in self.objects for section in file.sections if section.name == b".note.GNU-stack")
+        self.execstack = any(stacks) if self.options.execstack is None else self.options.execstack
         self.keep_frames()
         self.scan.scan()
         if self.scan.missing:
@@ -535,7 +536,7 @@ class Plan:
         names = {output.name: output.index for output in layout.outputs}
         plan = {
             "machine": self.resolver.machine, "kind": options.kind, "page_size": self.machine.page, "got_base": self.got_base, "got_header": self.got_header if self.part_of("got") else 0,
-            "options": {"relax": not options.no_relax, "eh_frame_hdr": bool(options.eh_frame_hdr and layout.frames), "terminator": layout.frames is not None, "strip_all": not self.has_symtab, "versions": bool(options.has_dynamic and self.version_needs), "new_dtags": True, "execstack": bool(options.execstack), "static_tls": self.is_static_tls(), "origin": bool(options.rpath and b"$ORIGIN" in options.rpath)},
+            "options": {"relax": not options.no_relax, "eh_frame_hdr": bool(options.eh_frame_hdr and layout.frames), "terminator": layout.frames is not None, "strip_all": not self.has_symtab, "versions": bool(options.has_dynamic and self.version_needs), "new_dtags": True, "execstack": self.execstack, "static_tls": self.is_static_tls(), "origin": bool(options.rpath and b"$ORIGIN" in options.rpath)},
             "parts": [
                 {"role": part.role, "section": output.index if output else 0, "offset": part.offset, "address": part.address, "size": part.size, "align": min(part.align, self.machine.page)}
                 for part, output in self.parts_with_outputs()
@@ -546,7 +547,7 @@ class Plan:
             ],
             "segments": [
                 dict(zip(("kind", "flags", "offset", "address", "physical", "file_size", "mem_size", "align"), (kind, flags, offset, address, address, size, memory, align)))
-                for kind, flags, offset, address, size, memory, align in layout.segments(1 if options.execstack else 0)
+                for kind, flags, offset, address, size, memory, align in layout.segments(self.execstack)
             ],
             "properties": self.properties,
         }

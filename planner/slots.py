@@ -8,7 +8,7 @@ from machines import CALL, DESCRIPTOR, DISTANCE, NARROW, OFFSET_SLOT, OWN_PAIR, 
 from symbols import Target
 
 # what is needed, one bit each
-GOT, STUB, GOT_OFFSET, GOT_PAIR, GOT_DESCRIPTOR, ADDRESS, USED, CANONICAL, ENTRY = (1 << i for i in range(9))
+GOT, STUB, GOT_OFFSET, GOT_PAIR, GOT_DESCRIPTOR, ADDRESS, USED, ENTRY = (1 << i for i in range(8))
 
 
 class Scan:

@@ -18,7 +18,7 @@ class Target:
         self.info, self.other, self.size, self.value, self.align = GLOBAL << 4, DEFAULT, 0, 0, 1
         self.strong = self.exported = self.copy = self.canonical = self.absolute = False
         self.version = self.raw = self.dynsym = self.got = self.plt = self.alias = self.section = None
-        self.needs, self.plan, self.listed_version = 0, None, 1
+        self.needs, self.plan, self.first, self.listed_version = 0, None, None, 1
 
     def type(self):
         return self.info & 15
@@ -48,6 +48,9 @@ class Resolver:
         self.table, self.objects, self.libraries = {}, [], []
         self.unresolved, self.offered, self.groups, self.machine = {}, {}, {}, None
         self.shared_names = {}
+        for name in options.undefined:
+            target = self.table[name] = Target(name)
+            target.strong, self.unresolved[name] = True, None
 
     # Files
 
@@ -192,7 +195,8 @@ class Resolver:
             target = self.table.get(name)
             if target is None:
                 target = self.table[name] = Target(name)
-                target.file, target.index = target.first = file, i
+            if target.first is None:
+                target.first = target.file, target.index = file, i
                 target.info = info if section == UNDEFINED else target.info
                 if name in self.offered:
                     self.bind(target, self.offered[name])
