@@ -137,15 +137,15 @@ class Plan:
         # the other names of what is copied mean the copy too
         for target in self.scan.copies:
             for name in target.file.at_value[target.value]:
-                record, version = target.file.defines[name]
+                (_, info, _, section, _, size), version = target.file.defines[name]
                 known = self.resolver.table.get(name)
-                if name != target.name and record[3] == target.section and not (known and (known.is_own() or known.copy)):
-                    if known and known.needs:
-                        raise Refused(f"symbols {name.decode()} and {target.name.decode()} of {target.file.name} are one, and one of them is copied")
+                if name != target.name and section == target.section and not (known and (known.kind != "shared" or known.needs)):
                     other = Target(name)
-                    other.kind, other.info, other.size, other.exported, other.alias, other.copy = "linker", record[1], record[5], True, target.alias, False
-                    other.file, other.version = target.file, version
+                    other.kind, other.info, other.size, other.exported, other.file, other.version, other.joined = "linker", info, size, True, target.file, version, target
                     self.own.append(other)
+        for target in self.own:
+            if target.joined:
+                target.alias = target.joined.alias
         self.first_own = at
         for target in self.own:
             target.plan, at = at, at + 1

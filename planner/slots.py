@@ -52,6 +52,24 @@ class Scan:
     # ---- references
 
     def scan(self):
+        """All references; once more where other names of a symbol that is copied are referred to too: these are the copy's."""
+        self.scan_all()
+        if self.join_names():
+            for target in self.targets.values():
+                target.needs, target.copy, target.canonical = 0, False, False
+            self.__init__(self.resolver, self.machine, self.options)
+            self.scan_all()
+
+    def join_names(self):
+        joined = False
+        for target in self.copies:
+            for name in target.file.at_value[target.value]:
+                other = self.resolver.table.get(name)
+                if other and other is not target and other.kind == "shared" and other.file is target.file and target.kind == "shared" and other.needs:
+                    other.kind, other.exported, other.joined, joined = "linker", True, target, True
+        return joined
+
+    def scan_all(self):
         for file in self.resolver.objects:
             for section in file.sections:
                 if section.relocations is not None and section.flags & ALLOC and section.slot in ("loaded", "sorted", "frame") and section.kind != NOBITS:

@@ -11,13 +11,13 @@ from elf import (
 class Target:
     """What a reference is to: a name, or a local symbol of one object that has a slot."""
 
-    __slots__ = ("name", "kind", "file", "index", "info", "other", "size", "value", "align", "strong", "version", "needs", "exported", "plan", "raw", "dynsym", "got", "plt", "copy", "canonical", "alias", "section", "absolute", "listed_version", "first")
+    __slots__ = ("name", "kind", "file", "index", "info", "other", "size", "value", "align", "strong", "version", "needs", "exported", "plan", "raw", "dynsym", "got", "plt", "copy", "canonical", "alias", "section", "absolute", "listed_version", "first", "joined")
 
     def __init__(self, name):
         self.name, self.kind, self.file, self.index = name, "undefined", None, 0
         self.info, self.other, self.size, self.value, self.align = GLOBAL << 4, DEFAULT, 0, 0, 1
         self.strong = self.exported = self.copy = self.canonical = self.absolute = False
-        self.version = self.raw = self.dynsym = self.got = self.plt = self.alias = self.section = None
+        self.joined = self.version = self.raw = self.dynsym = self.got = self.plt = self.alias = self.section = None
         self.needs, self.plan, self.first, self.listed_version = 0, None, None, 1
 
     def type(self):
