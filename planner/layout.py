@@ -109,6 +109,11 @@ class Layout:
     def named(self, name):
         return next((output for output in self.outputs if output.name == name), None)
 
+    def edge(self, name, is_end):
+        """Where a section begins or ends; 0 where it is not there."""
+        output = self.named(name)
+        return output.address + (output.size if is_end else 0) if output else 0
+
     # ---- input sections
 
     def is_left_out(self, section):

@@ -4,7 +4,7 @@ import json
 import re
 import struct
 
-from elf import ALLOC, CODE, COMMON, DYNSYM, LONG_INDEX, NOBITS, NOTE, PROGBITS, RELA, SECTION, STRTAB, SYMTAB, TLS, TLS_TYPE, WRITE, Refused, up
+from elf import ABSOLUTE, ALLOC, CODE, COMMON, DYNSYM, NOBITS, NOTE, PROGBITS, RELA, SECTION, STRTAB, SYMTAB, TLS, TLS_TYPE, WRITE, Refused, up
 from layout import Layout
 from machines import MACHINES
 from slots import GOT, GOT_DESCRIPTOR, GOT_OFFSET, GOT_PAIR, STUB, Scan, keep_frames
@@ -29,23 +29,32 @@ def spelled(value):
     return json.dumps(value, separators=(",", ":"))
 
 
-class Provided:
-    """The names that the linker defines where an object refers to them."""
+# the names that the linker defines where an object refers to them, and their values
+OWN = {
+    b"_GLOBAL_OFFSET_TABLE_": lambda plan: plan.got_base,
+    b"_DYNAMIC": lambda plan: plan.layout.edge(b".dynamic", False),
+    b"__GNU_EH_FRAME_HDR": lambda plan: plan.layout.edge(b".eh_frame_hdr", False),
+    # offsets in an x86-64 executable count from the thread pointer, in others from the start of the data
+    b"_TLS_MODULE_BASE_": lambda plan: 0 if not plan.layout.thread else plan.layout.thread[0] if plan.options.shared or plan.machine.branches else up(*plan.layout.thread[1:]),
+    **dict.fromkeys((b"__ehdr_start", b"__executable_start"), lambda plan: plan.layout.file_header.address),
+    **dict.fromkeys((b"etext", b"_etext", b"__etext"), lambda plan: max((output.address + output.size for output in plan.layout.outputs if output.flags & CODE), default=0)),
+    **dict.fromkeys((b"edata", b"_edata", b"__bss_start", b"__bss_start__"), lambda plan: plan.layout.edge(b".bss", False) or plan.layout.image_end),
+    **dict.fromkeys((b"end", b"_end", b"__end__", b"__bss_end__", b"_bss_end__"), lambda plan: plan.layout.image_end),
+    b"__rela_iplt_start": lambda plan: plan.layout.edge(b".rela.plt", False),
+    b"__rela_iplt_end": lambda plan: plan.layout.edge(b".rela.plt", True),
+}
 
-    def __init__(self, options, objects):
-        self.names = {
-            b"_GLOBAL_OFFSET_TABLE_", b"__ehdr_start", b"__executable_start", b"etext", b"_etext", b"__etext", b"edata", b"_edata", b"end", b"_end", b"__end__", b"__bss_start",
-            b"__bss_start__", b"__bss_end__", b"_bss_end__", b"__GNU_EH_FRAME_HDR", b"_TLS_MODULE_BASE_", *ARRAYS,
-        }
-        if options.kind != "static":
-            self.names.add(b"_DYNAMIC")
-        else:
-            self.names |= {b"__rela_iplt_start", b"__rela_iplt_end"}
-        self.sections = {section.name for file in objects for section in file.sections if section.flags & ALLOC}
 
-    def __contains__(self, name):
+def provided(options, objects):
+    """Says of a name whether the linker defines it."""
+    sections = {section.name for file in objects for section in file.sections if section.flags & ALLOC}
+    absent = {b"__rela_iplt_start", b"__rela_iplt_end"} if options.kind != "static" else {b"_DYNAMIC"}
+
+    def is_provided(name):
         edge = EDGES.fullmatch(name)
-        return name in self.names or bool(edge and edge[2] in self.sections)
+        return name in OWN and name not in absent or name in ARRAYS or bool(edge and edge[2] in sections)
+
+    return is_provided
 
 
 class Plan:
@@ -360,9 +369,7 @@ class Plan:
         """The address of a target."""
         if target.alias:
             return target.alias[1].address + target.alias[0]
-        if target.kind == "shared":
-            return target.plt or 0
-        if target.kind == "undefined":
+        if target.kind in ("shared", "undefined"):
             return target.plt or 0
         if target.kind == "linker":
             return self.own_value(target.name)
@@ -371,39 +378,15 @@ class Plan:
         return target.value
 
     def own_value(self, name):
-        layout = self.layout
-        edge = EDGES.fullmatch(name)
-
-        def bounds(output, is_end):
-            return output.address + (output.size if is_end else 0) if output else 0
-
         if name in ARRAYS:
-            return bounds(layout.named(ARRAYS[name][0]), ARRAYS[name][1])
-        if name in (b"__rela_iplt_start", b"__rela_iplt_end"):
-            return bounds(layout.named(b".rela.plt"), name.endswith(b"end"))
-        if edge and layout.named(edge[2]):
-            return bounds(layout.named(edge[2]), edge[1] == b"stop")
-        places = {
-            b"_GLOBAL_OFFSET_TABLE_": lambda: self.got_base,
-            b"_DYNAMIC": lambda: bounds(layout.named(b".dynamic"), False),
-            b"__GNU_EH_FRAME_HDR": lambda: bounds(layout.named(b".eh_frame_hdr"), False),
-            b"_TLS_MODULE_BASE_": lambda: layout.thread[0] if layout.thread else 0,
-            b"__ehdr_start": lambda: layout.file_header.address,
-            b"__executable_start": lambda: layout.file_header.address,
-        }
-        if name in places:
-            return places[name]()
-        if name.strip(b"_") == b"etext":
-            return max((output.address + output.size for output in layout.outputs if output.flags & CODE), default=0)
-        zeros = layout.named(b".bss")
-        if b"bss_start" in name or name.strip(b"_") == b"edata":
-            return zeros.address if zeros else layout.image_end
-        return layout.image_end
+            return self.layout.edge(*ARRAYS[name])
+        if name in OWN:
+            return OWN[name](self)
+        edge = EDGES.fullmatch(name)
+        return self.layout.edge(edge[2], edge[1] == b"stop")
 
     def give_values(self):
-        for target in self.scan.targets.values():
-            target.raw = self.value_of(target)
-        for target in self.undefined + self.listed + self.own + self.commons:
+        for target in [*self.scan.targets.values(), *self.undefined, *self.listed, *self.own, *self.commons]:
             target.raw = self.value_of(target)
 
     # ---- the text
@@ -455,21 +438,14 @@ class Plan:
             target = file.globals[i - file.locals]
             if target.file is not file or target.index != i or target.kind == "shared":
                 return self.reference_text(file, i, target)
-        place = '"absolute"'
-        if section == LONG_INDEX:
-            section = file.long[i]
-        if 0 < section < 0xFF00:
-            place = '{"section":%d}' % section
-        elif section == 0:
-            place = '"undefined"'
-        elif section == COMMON:
-            place = '"common"'
+        where = file.section_of(i)
+        place = '{"section":%d}' % where.index if where else '"absolute"' if section == ABSOLUTE else '"common"' if section == COMMON else '"undefined"'
         emit = file.emitted[i]
         if target is not None and (target.needs or target.dynsym is not None or target.kind != "defined"):
             return self.described(target, json.loads(place), emit)
         name = file.symbol_name(i).hex() if emit or i >= file.locals else ""
         flags = '"NON_INTERPOSABLE"'
-        if section == 0xFFF1:
+        if section == ABSOLUTE:
             flags += ',"ABSOLUTE"'
         if target is not None:
             other = target.other
@@ -485,17 +461,17 @@ class Plan:
         if emit:
             text += ',"emit":true'
         # a reference of another file needs the address, and one into merged strings that of the string
-        if 0 < section < 0xFF00 and info & 15 != SECTION and (target is not None or file.sections[section].slot == "merge") and file.sections[section].slot != "discard":
-            text += ',"resolution":{"raw_value":%d}' % file.sections[section].place_of(value)
-        elif section == 0xFFF1:
+        if where and info & 15 != SECTION and (target is not None or where.slot == "merge") and where.slot != "discard":
+            text += ',"resolution":{"raw_value":%d}' % where.place_of(value)
+        elif section == ABSOLUTE:
             text += ',"resolution":{"raw_value":%d}' % value
         return text + "}"
 
     def reference_text(self, file, i, target):
         """A symbol of an object that another symbol defines, or none."""
-        _, info, _, section, _, _ = file.symbols[i]
+        info, where = file.symbols[i][1], file.section_of(i)
         name = target.name.hex()
-        place = ',"place":{"section":%d}' % section if 0 < section < 0xFF00 else ""
+        place = ',"place":{"section":%d}' % where.index if where else ""
         if target.plan is not None:
             return '{"name":"%s","info":%d%s,"definition":%d}' % (name, info, place, target.plan)
         return '{"name":"%s","info":%d%s,"flags":["NON_INTERPOSABLE"]}' % (name, info, place)

@@ -109,7 +109,7 @@ def image_counts(plan):
 
 
 def link(words, folder, made, ours):
-    """Links by the planner or by the system's linker, and the seconds of each step."""
+    """Links by the planner or by the system's linker; the seconds of processor time of planner and writer, or of the user and the system."""
     steps = f"{folder}/times"
     if ours:
         tool, options = HERE, [f"-Wl,--times,{steps},--plan,{folder}/plan.json"]
@@ -118,7 +118,7 @@ def link(words, folder, made, ours):
         os.makedirs(tool, exist_ok=True)
         linker = "aarch64-linux-gnu-ld" if words[0].startswith("aarch64") else "ld"
         with open(f"{tool}/ld", "w") as script:
-            script.write(f'#!/bin/bash\nTIMEFORMAT=%R\n{{ time /usr/bin/{linker} "$@" 2>&3; }} 3>&2 2>{steps}\n')
+            script.write(f'#!/bin/bash\nTIMEFORMAT="%U %S"\n{{ time /usr/bin/{linker} "$@" 2>&3; }} 3>&2 2>{steps}\n')
         os.chmod(f"{tool}/ld", 0o755)
     options = [f"-B{tool}", *options]
     if words[0] == "rustc":
@@ -127,7 +127,7 @@ def link(words, folder, made, ours):
     if linked.returncode:
         raise RuntimeError(linked.stderr.decode(errors="replace").strip()[:600])
     with open(steps) as file:
-        return [float(each) for each in file.read().split()]
+        return [float(each) for each in file.read().split()[:2]]
 
 
 def tested(program, folder, made):
@@ -154,7 +154,7 @@ def main(names):
             print(f"| {program.name} | left out: {why} |")
             continue
         try:
-            (seconds,) = link(words, folder, f"{folder}/by_ld", False)
+            seconds = sum(link(words, folder, f"{folder}/by_ld", False))
             planner, writer = link(words, folder, f"{folder}/by_planner", True)
             expected, found = tested(program, folder, f"{folder}/by_ld"), tested(program, folder, f"{folder}/by_planner")
         except (RuntimeError, subprocess.TimeoutExpired) as why:

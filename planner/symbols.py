@@ -250,13 +250,13 @@ class Resolver:
 
     # The end
 
-    def finish(self, provided):
+    def finish(self, is_provided):
         """Says which libraries are needed, which names are the linker's own, and which other modules see."""
         self.libraries = [library for library in self.libraries if library.needed]
         for name, target in self.table.items():
             if target.kind == "shared" and not target.file.needed:
                 target.kind, target.info, (target.file, target.index) = "undefined", WEAK << 4, target.first
-            if target.kind == "undefined" and name in provided:
+            if target.kind == "undefined" and not self.options.partial and is_provided(name):
                 target.kind, target.file, target.other, target.info = "linker", None, HIDDEN, GLOBAL << 4
                 self.unresolved.pop(name, None)
         executable = not self.options.shared
