@@ -76,14 +76,14 @@ class Scan:
                     self.scan_section(file, section)
 
     def scan_section(self, file, section):
-        sorts, first, symbols, kept = self.machine.sorts, file.locals, file.symbols, section.kept
-        moves, pic, writable = self.options.moves, self.options.moves, section.flags & WRITE
+        sorts, first, symbols = self.machine.sorts, file.locals, file.symbols
+        moves, writable = self.options.moves, section.flags & WRITE
         executable = not self.options.shared
-        skip, start, end = -1, 0, 0
-        entries = iter(kept) if kept is not None else None
+        is_call = False
         for offset, info, addend in section.records():
             sort = sorts.get(info & 0xFFFFFFFF)
-            if sort is None:
+            if sort is None or is_call:
+                is_call = False
                 continue
             i = info >> 32
             if i < first:
@@ -99,29 +99,17 @@ class Scan:
                 target = file.globals[i - first]
                 if target.kind == "defined" and target.info & 15 != IFUNC and (executable or not self.is_interposable(target)):
                     continue
-            if offset == skip:
-                continue
             target = self.target(file, i)
             if sort == OWN_PAIR:
-                if executable:
-                    skip = self.call_after(section, offset)
-                else:
-                    self.tlsld = True
+                # the next relocation is the call of `__tls_get_addr`, which is rewritten with this one
+                is_call = executable
+                self.tlsld = self.tlsld or not executable
             elif sort == PAIR and executable and self.machine.number == 62:
-                skip = self.call_after(section, offset)
+                is_call = True
                 if self.is_lookup(target):
                     self.need(target, GOT_OFFSET)
             else:
                 self.refer(file, section, target, sort, offset, writable, executable)
-
-    def call_after(self, section, offset):
-        """The field of the call of `__tls_get_addr` behind a `lea`, which is rewritten with it."""
-        data = section.bytes()[offset + 4 : offset + 12]
-        for at, opcode in enumerate((b"\xe8", b"\xff\x15")):
-            for k in range(4):
-                if data[k : k + len(opcode)] == opcode:
-                    return offset + 4 + k + len(opcode)
-        return -1
 
     def count_relative(self, file, section, offset):
         if section.kept is not None and not section_keeps(section, offset):
