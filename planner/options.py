@@ -18,7 +18,7 @@ KEYWORDS = {"now", "relro", "norelro", "noexecstack", "execstack", "text", "defs
 class Options:
     def __init__(self, words):
         self.output, self.folders, self.inputs, self.emulation = "a.out", [], [], None
-        self.static = self.shared = self.pie = self.partial = self.export_dynamic = self.symbolic = self.no_relax = self.allow_multiple = False
+        self.static = self.shared = self.pie = self.partial = self.export_dynamic = self.symbolic = self.allow_multiple = False
         self.eh_frame_hdr, self.execstack = False, None
         self.relro, self.strip, self.hash_style = True, None, "gnu"
         self.entry, self.soname, self.rpath, self.interpreter, self.build_id = b"_start", None, None, None, None
@@ -44,7 +44,7 @@ class Options:
         byte_texts = {"-soname": "soname", "--soname": "soname", "-h": "soname", "-rpath": "rpath", "--rpath": "rpath", "-dynamic-linker": "interpreter", "--dynamic-linker": "interpreter", "-I": "interpreter", "-e": "entry", "--entry": "entry"}
         switches = {
             "-shared": "shared", "--shared": "shared", "-Bshareable": "shared", "-pie": "pie", "--pie": "pie", "-r": "partial", "--relocatable": "partial", "-E": "export_dynamic", "--export-dynamic": "export_dynamic",
-            "-export-dynamic": "export_dynamic", "-Bsymbolic": "symbolic", "--no-relax": "no_relax", "--eh-frame-hdr": "eh_frame_hdr", "--no-undefined": "no_undefined", "--no-dynamic-linker": "no_loader",
+            "-export-dynamic": "export_dynamic", "-Bsymbolic": "symbolic", "--eh-frame-hdr": "eh_frame_hdr", "--no-undefined": "no_undefined", "--no-dynamic-linker": "no_loader",
             "--allow-multiple-definition": "allow_multiple",
         }
         for word in words:

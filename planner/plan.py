@@ -512,7 +512,7 @@ class Plan:
         names = {output.name: output.index for output in layout.outputs}
         plan = {
             "machine": self.resolver.machine, "kind": options.kind, "page_size": self.machine.page, "got_base": self.got_base, "got_header": self.got_header if self.part_of("got") else 0,
-            "options": {"relax": not options.no_relax, "eh_frame_hdr": bool(options.eh_frame_hdr and layout.frames), "terminator": layout.frames is not None, "strip_all": not self.has_symtab, "versions": bool(options.has_dynamic and self.version_needs), "new_dtags": True, "execstack": self.execstack, "static_tls": self.is_static_tls(), "origin": bool(options.rpath and b"$ORIGIN" in options.rpath)},
+            "options": {"relax": True, "eh_frame_hdr": bool(options.eh_frame_hdr and layout.frames), "terminator": layout.frames is not None, "strip_all": not self.has_symtab, "versions": bool(options.has_dynamic and self.version_needs), "new_dtags": True, "execstack": self.execstack, "static_tls": self.is_static_tls(), "origin": bool(options.rpath and b"$ORIGIN" in options.rpath)},
             "parts": [
                 {"role": part.role, "section": output.index if output else 0, "offset": part.offset, "address": part.address, "size": part.size, "align": min(part.align, self.machine.page)}
                 for part, output in self.parts_with_outputs()

@@ -130,7 +130,7 @@ class Scan:
         if target.kind == "undefined" and not lookup:
             # absent, and 0: slots have a 0 that does not move
             if sort in (SLOT, RELAXED):
-                if sort == SLOT or not self.is_rewritten(section, offset, target):
+                if sort == SLOT or not self.is_rewritten(section, offset):
                     self.need(target, GOT)
             elif sort == OFFSET_SLOT:
                 self.need(target, GOT_OFFSET)
@@ -164,7 +164,7 @@ class Scan:
         elif sort == SLOT:
             self.need(target, GOT | ADDRESS)
         elif sort == RELAXED:
-            if lookup or not self.is_rewritten(section, offset, target):
+            if lookup or not self.is_rewritten(section, offset):
                 self.need(target, GOT | ADDRESS)
         elif sort == OFFSET_SLOT:
             if lookup or not executable or not self.is_offset_rewritten(section, offset):
@@ -180,15 +180,15 @@ class Scan:
             self.need(target, ENTRY)
             self.general += 1
 
-    def is_rewritten(self, section, offset, target):
+    def is_rewritten(self, section, offset):
         """Whether the writer has no use for the slot of an own symbol: a call, a jump or a `mov` of x86-64."""
-        if not section.flags & CODE or offset < 2 or self.options.no_relax:
+        if not section.flags & CODE or offset < 2:
             return False
         before = section.bytes()[offset - 2 : offset]
         return before in (b"\xff\x15", b"\xff\x25") or before[0] == 0x8B and before[1] & 0xC7 == 5
 
     def is_offset_rewritten(self, section, offset):
-        if self.machine.number != 62 or self.options.no_relax or offset < 3:
+        if self.machine.number != 62 or offset < 3:
             return False
         before = section.bytes()[offset - 3 : offset]
         return before[0] in (0x48, 0x4C) and before[1] in (0x8B, 0x03) and before[2] & 0xC7 == 5

@@ -136,6 +136,7 @@ class Resolver:
         if library.soname is None:
             library.soname = os.path.basename(library.name).encode()
         if library.soname in self.shared_names:
+            self.shared_names[library.soname].needed |= library.needed
             return
         self.shared_names[library.soname] = library
         self.libraries.append(library)
