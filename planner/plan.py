@@ -1,0 +1,603 @@
+"""Makes the plan of an executable or a shared object (docs/PLAN.md), in the order of docs/LINKERS.md, "What to decide, in which order"."""
+import bisect
+import json
+import re
+import struct
+
+from elf import ABSOLUTE, ALLOC, CODE, COMMON, DYNSYM, NOBITS, NOTE, PROGBITS, RELA, SECTION, STRTAB, SYMTAB, TLS, TLS_TYPE, WRITE, Refused, up
+from layout import Layout
+from machines import MACHINES
+from slots import GOT, GOT_DESCRIPTOR, GOT_OFFSET, GOT_PAIR, STUB, Scan, keep_frames
+from symbols import Target
+
+BRANCHES_REACH = 100 << 20
+DYNAMIC, HASH, GNU_HASH, VERSYM, VERNEED = 6, 5, 0x6FFFFFF6, 0x6FFFFFFF, 0x6FFFFFFE
+EDGES = re.compile(rb"__(start|stop)_([A-Za-z_]\w*)")
+ARRAYS = {b"__%s_%s" % (name, edge): (b"." + name, edge == b"end") for name in (b"preinit_array", b"init_array", b"fini_array") for edge in (b"start", b"end")}
+SLOT_FLAGS = [(GOT, "GOT"), (STUB, "PLT"), (GOT_OFFSET, "GOT_TLS_OFFSET"), (GOT_PAIR, "GOT_TLS_MODULE"), (GOT_DESCRIPTOR, "GOT_TLS_DESCRIPTOR")]
+
+
+def gnu_hash(name):
+    """The hash of a name in GNU's table (GNU, "DT_GNU_HASH")."""
+    h = 5381
+    for byte in name:
+        h = (33 * h + byte) & 0xFFFFFFFF
+    return h
+
+
+def spelled(value):
+    return json.dumps(value, separators=(",", ":"))
+
+
+# the names that the linker defines where an object refers to them, and their values
+OWN = {
+    b"_GLOBAL_OFFSET_TABLE_": lambda plan: plan.got_base,
+    b"_DYNAMIC": lambda plan: plan.layout.edge(b".dynamic", False),
+    b"__GNU_EH_FRAME_HDR": lambda plan: plan.layout.edge(b".eh_frame_hdr", False),
+    # offsets in an x86-64 executable count from the thread pointer, in others from the start of the data
+    b"_TLS_MODULE_BASE_": lambda plan: 0 if not plan.layout.thread else plan.layout.thread[0] if plan.options.shared or plan.machine.branches else up(*plan.layout.thread[1:]),
+    **dict.fromkeys((b"__ehdr_start", b"__executable_start"), lambda plan: plan.layout.file_header.address),
+    **dict.fromkeys((b"etext", b"_etext", b"__etext"), lambda plan: max((output.address + output.size for output in plan.layout.outputs if output.flags & CODE), default=0)),
+    **dict.fromkeys((b"edata", b"_edata", b"__bss_start", b"__bss_start__"), lambda plan: plan.layout.edge(b".bss", False) or plan.layout.image_end),
+    **dict.fromkeys((b"end", b"_end", b"__end__", b"__bss_end__", b"_bss_end__"), lambda plan: plan.layout.image_end),
+    b"__rela_iplt_start": lambda plan: plan.layout.edge(b".rela.plt", False),
+    b"__rela_iplt_end": lambda plan: plan.layout.edge(b".rela.plt", True),
+}
+
+
+def provided(options, objects):
+    """Says of a name whether the linker defines it."""
+    sections = {section.name for file in objects for section in file.sections if section.flags & ALLOC}
+    absent = {b"__rela_iplt_start", b"__rela_iplt_end"} if options.kind != "static" else {b"_DYNAMIC"}
+
+    def is_provided(name):
+        edge = EDGES.fullmatch(name)
+        return name in OWN and name not in absent or name in ARRAYS or bool(edge and edge[2] in sections)
+
+    return is_provided
+
+
+class Plan:
+    def __init__(self, options, resolver):
+        self.options, self.resolver, self.machine = options, resolver, MACHINES[resolver.machine]
+        self.objects, self.libraries = resolver.objects, resolver.libraries
+        self.layout = Layout(options, self.machine)
+        self.scan = Scan(resolver, self.machine, options)
+
+    def make(self):
+        self.layout.place_inputs(self.objects)
+        # the stack may be executed where an object asks for that (`.note.GNU-stack` with SHF_EXECINSTR)
+        stacks = (section.flags & CODE for file in self.objects for section in file.sections if section.name == b".note.GNU-stack")
+        self.execstack = any(stacks) if self.options.execstack is None else self.options.execstack
+        self.keep_frames()
+        self.scan.scan()
+        if self.scan.missing:
+            raise Refused("\n".join(f"{file.name}: undefined reference to {name.decode()}" for name, file in [*self.scan.missing.items()][:20]))
+        self.place_commons_and_copies()
+        self.number_symbols()
+        self.place_thunks()
+        self.choose_dynamic_symbols()
+        self.choose_symtab()
+        self.add_tables()
+        layout = self.layout
+        layout.arrange()
+        layout.program_headers.size = 56 * layout.segment_count()
+        layout.give_addresses(0 if self.options.moves else self.machine.image_base)
+        self.give_slots()
+        self.give_values()
+        return self.text()
+
+    # ---- what is kept
+
+    def keep_frames(self):
+        self.frame_sections, size = [], 0
+        for file in self.objects:
+            for section in file.sections:
+                if section.slot == "frame":
+                    size += keep_frames(section, self.scan)
+                    self.frame_sections.append(section)
+        fdes = sum(section.fdes for section in self.frame_sections)
+        if size:
+            layout = self.layout
+            frames = layout.output(b".eh_frame", PROGBITS, ALLOC)
+            layout.frames = frames.part("eh_frame", size + 4, 8)
+            if self.options.eh_frame_hdr:
+                layout.output(b".eh_frame_hdr", PROGBITS, ALLOC).part("eh_frame_hdr", 12 + 8 * fdes, 4)
+
+    def zeros(self, name, flags):
+        output = self.layout.by_key.get((name, flags, True, False))
+        if output is None:
+            output = self.layout.by_key[name, flags, True, False] = self.layout.output(name, NOBITS, flags)
+            output.part("raw")
+        return output.parts[0]
+
+    def place_commons_and_copies(self):
+        """Room in zeroed data for what no section has: common symbols, and copies of libraries' data."""
+        self.commons = [target for target in self.resolver.table.values() if target.kind == "common"]
+        for target in self.scan.copies:
+            target.align = target.file.alignment(target.value, target.section)
+        for target in self.commons + self.scan.copies:
+            part = self.zeros(b".tbss", ALLOC | WRITE | TLS) if target.type() == TLS_TYPE else self.zeros(b".bss", ALLOC | WRITE)
+            part.align = max(part.align, target.align)
+            target.alias = up(part.size, target.align), part
+            part.size = target.alias[0] + target.size
+
+    # ---- symbols
+
+    def number_symbols(self):
+        """One list of symbols: those of the objects as they are, those of each library that are used, and the linker's own."""
+        at = 0
+        for file in self.objects:
+            file.first_symbol = at
+            at += len(file.symbols)
+        for target in self.resolver.table.values():
+            if target.kind in ("defined", "common", "undefined") and target.file:
+                target.plan = target.file.first_symbol + target.index
+            elif target.kind == "shared" and target.needs:
+                target.file.used.append(target)
+        for target in self.scan.targets.values():
+            if target.plan is None and target.kind == "defined":
+                target.plan = target.file.first_symbol + target.index
+        for library in self.libraries:
+            library.first_symbol = at
+            for target in library.used:
+                target.plan, at = at, at + 1
+        self.own = [target for target in self.resolver.table.values() if target.kind == "linker"]
+        # the other names of what is copied mean the copy too
+        for target in self.scan.copies:
+            for name in target.file.at_value[target.value]:
+                (_, info, _, section, _, size), version = target.file.defines[name]
+                known = self.resolver.table.get(name)
+                if name != target.name and section == target.section and not (known and (known.kind != "shared" or known.needs)):
+                    other = Target(name)
+                    other.kind, other.info, other.size, other.exported, other.file, other.version, other.joined = "linker", info, size, True, target.file, version, target
+                    self.own.append(other)
+        for target in self.own:
+            if target.joined:
+                target.alias = target.joined.alias
+        self.first_own = at
+        for target in self.own:
+            target.plan, at = at, at + 1
+
+    def place_thunks(self):
+        """On AArch64 a branch reaches 128 MiB: where there is more code, files that lie within reach of each other have a block of thunks behind them."""
+        code = [output for output in self.layout.outputs if output.flags & CODE]
+        self.thunks, self.block_of = [], {}
+        if not self.machine.branches or sum(part.size for output in code for part in output.parts) < BRANCHES_REACH:
+            return
+        part = self.layout.named(b".text").parts[0]
+        files, size = {}, BRANCHES_REACH
+        for section in part.inputs:
+            files.setdefault(section.file, []).append(section)
+        for file, sections in files.items():
+            own = sum(section.size + section.align for section in sections)
+            if size + own > BRANCHES_REACH:
+                self.thunks.append(({}, []))
+                size = 0
+            size += own
+            self.block_of[file] = len(self.thunks) - 1
+            self.thunks[-1][1].append(file)
+        for file in self.objects:
+            block = self.block_of.setdefault(file, 0)
+            for section in file.sections:
+                if section.slot == "loaded" and section.flags & CODE:
+                    home = block if section.part is part else 0
+                    for _, info, addend in section.records():
+                        if info & 0xFFFFFFFF in self.machine.branches and info >> 32 >= file.locals and not addend:
+                            target = file.globals[(info >> 32) - file.locals]
+                            near = target.section is not None and target.kind == "defined" and target.section.part is part and self.block_of.get(target.file) == home and not target.needs & STUB
+                            if not near and target.plan is not None and (target.kind != "undefined" or target.needs & STUB):
+                                self.thunks[home][0][target.plan] = target
+        part.inputs, part.size = [], 0
+        for index, (targets, members) in enumerate(self.thunks):
+            for file in members:
+                for section in files[file]:
+                    part.add(section)
+            start = up(part.size, 4)
+            part.size = start + 12 * len(targets) if targets else part.size
+            self.thunks[index] = sorted(targets.items()), members[-1], start
+        self.thunk_part = part
+
+    def choose_dynamic_symbols(self):
+        self.undefined, self.listed = [], []
+        if not self.options.has_dynamic:
+            return
+        table = self.resolver.table.values()
+        self.undefined = sorted((target for target in table if target.kind == "undefined" and self.scan.is_left(target) and target.needs), key=lambda target: target.plan)
+        for library in self.libraries:
+            self.undefined += [target for target in library.used if not target.copy and not target.canonical]
+        listed = [target for target in table if target.exported and target.kind in ("defined", "common")] + [target for target in self.own if target.exported]
+        listed += [target for library in self.libraries for target in library.used if target.copy or target.canonical]
+        self.buckets = max(1, len(listed) // 3)
+        self.listed = sorted(listed, key=lambda target: gnu_hash(target.name) % self.buckets)
+        for position, target in enumerate(self.undefined + self.listed, 1):
+            target.dynsym = position
+        # the versions that are needed of each library, numbered from 2 on
+        self.version_needs, number = {}, 2
+        for target in self.undefined + self.listed:
+            if target.version and target.file in self.libraries:
+                versions = self.version_needs.setdefault(target.file, {})
+                if target.version not in versions:
+                    versions[target.version], number = number, number + 1
+                target.listed_version = versions[target.version]
+
+    def choose_symtab(self):
+        """Which symbols `.symtab` has, and how many bytes that is."""
+        local, other, names = 24, 0, 1
+        keep = self.options.strip != "all"
+        for file in self.objects:
+            file.emitted = bytearray(len(file.symbols))
+            if not keep:
+                continue
+            emitted, strings, first = file.emitted, file.strings, file.locals
+            for i, (at, info, other_bits, section, value, size) in enumerate(file.symbols):
+                if not at or not section or info & 15 == SECTION:
+                    continue
+                end = strings.index(b"\0", at)
+                if i < first:
+                    if strings[at : at + 2] == b".L" or section < 0xFF00 and file.sections[section].slot == "discard":
+                        continue
+                    local += 24
+                else:
+                    target = file.globals[i - first]
+                    if target.file is not file or target.index != i or not target.is_own():
+                        continue
+                    if target.section is not None and target.section.slot == "discard":
+                        continue
+                    if target.is_hidden():
+                        local += 24
+                    else:
+                        other += 24
+                emitted[i] = 1
+                names += end - at + 1
+        self.has_symtab = keep
+        for target in self.own if keep else ():
+            names += len(target.name) + 1
+            if target.is_hidden():
+                local += 24
+            else:
+                other += 24
+        for targets, _, _ in self.thunks if keep else ():
+            local += 24 * len(targets)
+            names += sum(len("__wild_thunk_") + len(target.name) + 1 for _, target in targets)
+        self.symtab_sizes = local, other, names
+
+    # ---- tables
+
+    def add_tables(self):
+        layout, options = self.layout, self.options
+        sizes = self.scan.count()
+
+        def table(name, kind, flags, entry, link, *parts):
+            output = layout.output(name, kind, flags, entry, link)
+            for role, size, align in parts:
+                output.part(role, size, align)
+            return output
+
+        if options.interpreter and options.has_loader and not options.shared:
+            table(b".interp", PROGBITS, ALLOC, 0, None, ("interp", len(options.interpreter) + 1, 1))
+        self.properties = self.merged_properties()
+        if self.properties:
+            table(b".note.gnu.property", NOTE, ALLOC, 0, None, ("property", 16 + 16 * len(self.properties), 8))
+        if options.build_id is not None:
+            table(b".note.gnu.build-id", NOTE, ALLOC, 0, None, ("build_id", 16 + (len(options.build_id) or 20), 4))
+        if options.has_dynamic:
+            count = 1 + len(self.undefined) + len(self.listed)
+            strings = 1 + sum(len(target.name) + 1 for target in self.undefined + self.listed) + sum(len(library.soname) + 1 for library in self.libraries)
+            strings += sum(len(text) + 1 for text in (options.soname, options.rpath) if text is not None)
+            for library, versions in self.version_needs.items():
+                strings += len(library.soname) + 1 + sum(len(name) + 1 for name in versions)
+            table(b".dynsym", DYNSYM, ALLOC, 24, b".dynstr", ("dynsym", 24 * count, 8))
+            table(b".dynstr", STRTAB, ALLOC, 0, None, ("dynstr", strings, 1))
+            self.bloom = 1
+            while 64 * self.bloom < 10 * len(self.listed):
+                self.bloom *= 2
+            if options.hash_style in ("gnu", "both"):
+                table(b".gnu.hash", GNU_HASH, ALLOC, 0, b".dynsym", ("gnu_hash", 16 + 8 * self.bloom + 4 * (self.buckets + len(self.listed)), 8))
+            if options.hash_style in ("sysv", "both"):
+                table(b".hash", HASH, ALLOC, 4, b".dynsym", ("sysv_hash", 8 + 4 * (self.buckets + count), 8))
+            if self.version_needs:
+                table(b".gnu.version", VERSYM, ALLOC, 2, b".dynsym", ("gnu_version", 2 * count, 2))
+                table(b".gnu.version_r", VERNEED, ALLOC, 0, b".dynstr", ("gnu_version_r", sum(16 + 16 * len(versions) for versions in self.version_needs.values()), 8))
+            table(b".rela.dyn", RELA, ALLOC, 24, b".dynsym", ("rela_dyn_relative", sizes["rela_dyn_relative"], 8), ("rela_dyn_general", sizes["rela_dyn_general"], 8))
+        elif sizes["rela_dyn_general"] or sizes["rela_dyn_relative"]:
+            raise Refused("a static output has no entries for a loader")
+        table(b".rela.plt", RELA, ALLOC | 64, 24, b".dynsym" if options.has_dynamic else None, ("rela_plt", sizes["rela_plt"], 8))
+        table(b".plt.got", PROGBITS, ALLOC | CODE, 16, None, ("plt_got", sizes["plt_got"], 16))
+        table(b".got", PROGBITS, ALLOC | WRITE, 8, None, ("got", sizes["got"] or 8 * (b"_GLOBAL_OFFSET_TABLE_" in self.resolver.table), 8))
+        self.got_header = 0 if sizes["got"] else 1
+        if options.has_dynamic:
+            table(b".dynamic", DYNAMIC, ALLOC | WRITE, 16, b".dynstr", ("dynamic", 16 * self.dynamic_entries(sizes), 8))
+        if self.has_symtab:
+            local, other, names = self.symtab_sizes
+            table(b".symtab", SYMTAB, 0, 24, b".strtab", ("symtab_local", local, 8), ("symtab_global", other, 8))
+            table(b".strtab", STRTAB, 0, 0, None, ("strtab", names, 1))
+        names = table(b".shstrtab", STRTAB, 0, 0, None, ("shstrtab", 1, 1))
+        names.parts[0].size = 1 + sum(len(output.name) + 1 for output in layout.outputs if any(part.size or part.is_kept for part in output.parts))
+        if len(layout.outputs) > 0xFF00:
+            raise Refused("more output sections than the planner counts")
+
+    def dynamic_entries(self, sizes):
+        """The entries of the dynamic section (docs/LINKERS.md, "The entries of `dynamic`")."""
+        options, layout = self.options, self.layout
+        count = len(self.libraries) + (options.rpath is not None) + (options.soname is not None)
+        for name, entries in (b".init", 1), (b".fini", 1), (b".init_array", 2), (b".fini_array", 2), (b".preinit_array", 2):
+            output = layout.named(name)
+            count += entries * bool(output and output.kind != NOBITS and any(part.size for part in output.parts))
+        count += 4 + 4 * bool(sizes["rela_plt"]) + 3 * bool(sizes["rela_dyn_relative"] or sizes["rela_dyn_general"]) + bool(sizes["rela_dyn_relative"])
+        count += (options.hash_style in ("gnu", "both")) + (options.hash_style in ("sysv", "both")) + 3 * bool(self.version_needs)
+        return count + (not options.shared) + 3
+
+    def merged_properties(self):
+        """Properties of the program: of one sort those bits that all objects have, of another those that any has (x86-64 psABI, "Program Property")."""
+        common, any_of = None, 0
+        for file in self.objects:
+            found = {}
+            for section in file.sections:
+                if section.name == b".note.gnu.property":
+                    data = section.bytes()
+                    size = struct.unpack_from("<I", data, 4)[0] if data else 0
+                    at, end = 16, 16 + size
+                    while at + 8 <= end:
+                        kind, length = struct.unpack_from("<II", data, at)
+                        if length == 4:
+                            found[kind] = struct.unpack_from("<I", data, at + 8)[0]
+                        at += 8 + up(length, 8)
+            common = found.get(self.machine.own_property, 0) & (common if common is not None else 0xFFFFFFFF)
+            any_of |= found.get(self.machine.other_property, 0)
+        return [{"ptype": kind, "value": value} for kind, value in ((self.machine.own_property, common), (self.machine.other_property, any_of)) if value and kind]
+
+    # ---- slots and values
+
+    def part_of(self, role):
+        return next((part for part in self.layout.parts if part.role == role), None)
+
+    def give_slots(self):
+        """Each slot is the next free word, each stub the next free one, in the order of the symbols."""
+        got, stubs = self.part_of("got"), self.part_of("plt_got")
+        word = got.address + 16 * self.scan.tlsld + 8 * self.got_header if got else 0
+        stub = stubs.address if stubs else 0
+        for target in sorted(self.scan.targets.values(), key=lambda target: target.plan):
+            count = self.scan.words(target)
+            if count:
+                target.got, word = word, word + 8 * count
+            if target.needs & STUB:
+                target.plt, stub = stub, stub + 16
+        self.got_base = got.address if got else 0
+
+    def value_of(self, target):
+        """The address of a target."""
+        if target.alias:
+            return target.alias[1].address + target.alias[0]
+        if target.kind in ("shared", "undefined"):
+            return target.plt or 0
+        if target.kind == "linker":
+            return self.own_value(target.name)
+        if target.section is not None:
+            return target.section.place_of(target.value)
+        return target.value
+
+    def own_value(self, name):
+        if name in ARRAYS:
+            return self.layout.edge(*ARRAYS[name])
+        if name in OWN:
+            return OWN[name](self)
+        edge = EDGES.fullmatch(name)
+        return self.layout.edge(edge[2], edge[1] == b"stop")
+
+    def give_values(self):
+        for target in [*self.scan.targets.values(), *self.undefined, *self.listed, *self.own, *self.commons]:
+            target.raw = self.value_of(target)
+
+    # ---- the text
+
+    def flags(self, target):
+        scan, needs = self.scan, target.needs
+        flags = [name for bit, name in SLOT_FLAGS if needs & bit]
+        if target.kind == "shared" or target.kind == "undefined" and scan.is_left(target):
+            flags.append("DYNAMIC")
+        elif not scan.is_interposable(target):
+            flags.append("NON_INTERPOSABLE")
+        if target.exported:
+            flags.append("EXPORT_DYNAMIC")
+        if target.kind == "undefined" and not scan.is_left(target):
+            flags += ["UNDEFINED_WEAK", "ABSOLUTE"]
+        if target.absolute:
+            flags.append("ABSOLUTE")
+        if target.is_ifunc():
+            flags += ["IFUNC"] + ["IFUNC_GOT_FOR_ADDRESS"] * scan.has_second(target)
+        if target.canonical:
+            flags += ["CANONICAL_PLT"] + ["CANONICAL_PLT_GOT_FOR_ADDRESS"] * scan.has_second(target)
+        if target.copy:
+            flags.append("COPY_RELOCATION")
+        if target.is_own() and target.is_hidden():
+            flags.append("DOWNGRADE_TO_LOCAL")
+        return flags
+
+    def described(self, target, place, emit):
+        """A symbol that has more than its place."""
+        symbol = {"name": target.name.hex(), "info": target.info, "other": target.other, "size": target.size, "place": place, "flags": self.flags(target)}
+        if isinstance(place, dict) and "section" in place or target.absolute:
+            symbol["value"] = target.value
+        if target.kind == "shared":
+            symbol["version"] = target.listed_version
+        if emit:
+            symbol["emit"] = True
+        resolution = {"raw_value": target.raw if target.raw is not None else self.value_of(target)}
+        for name in ("dynsym", "got", "plt"):
+            if getattr(target, name) is not None:
+                resolution[name] = getattr(target, name)
+        symbol["resolution"] = resolution
+        return spelled(symbol)
+
+    def symbol_text(self, file, i):
+        at, info, other, section, value, size = file.symbols[i]
+        if i < file.locals:
+            target = file.local_targets.get(i)
+        else:
+            target = file.globals[i - file.locals]
+            if target.file is not file or target.index != i or target.kind == "shared":
+                return self.reference_text(file, i, target)
+        where = file.section_of(i)
+        place = '{"section":%d}' % where.index if where else '"absolute"' if section == ABSOLUTE else '"common"' if section == COMMON else '"undefined"'
+        emit = file.emitted[i]
+        if target is not None and (target.needs or target.dynsym is not None or target.kind != "defined"):
+            return self.described(target, json.loads(place), emit)
+        name = file.symbol_name(i).hex() if emit or i >= file.locals else ""
+        flags = '"NON_INTERPOSABLE"'
+        if section == ABSOLUTE:
+            flags += ',"ABSOLUTE"'
+        if target is not None:
+            other = target.other
+            if target.is_hidden():
+                flags += ',"DOWNGRADE_TO_LOCAL"'
+        text = '{"name":"%s","info":%d,"place":%s,"flags":[%s]' % (name, info, place, flags)
+        if value:
+            text += ',"value":%d' % value
+        if size:
+            text += ',"size":%d' % size
+        if other:
+            text += ',"other":%d' % other
+        if emit:
+            text += ',"emit":true'
+        # a reference of another file needs the address, and one into merged strings that of the string
+        if where and info & 15 != SECTION and (target is not None or where.slot == "merge") and where.slot != "discard":
+            text += ',"resolution":{"raw_value":%d}' % where.place_of(value)
+        elif section == ABSOLUTE:
+            text += ',"resolution":{"raw_value":%d}' % value
+        return text + "}"
+
+    def reference_text(self, file, i, target):
+        """A symbol of an object that another symbol defines, or none."""
+        info, where = file.symbols[i][1], file.section_of(i)
+        name = target.name.hex()
+        place = ',"place":{"section":%d}' % where.index if where else ""
+        if target.plan is not None:
+            return '{"name":"%s","info":%d%s,"definition":%d}' % (name, info, place, target.plan)
+        return '{"name":"%s","info":%d%s,"flags":["NON_INTERPOSABLE"]}' % (name, info, place)
+
+    def section_text(self, file, section):
+        slot = section.slot
+        if slot == "discard":
+            return '{"slot":"discard"}'
+        head = '{"slot":"%s","name":"%s","size":%d,"flags":%d' % (slot, section.name.hex(), section.size, section.flags & 0xFFFFFFFF)
+        if slot == "frame":
+            head += ',"part":%d,"address":%d' % (self.layout.frames.index, self.layout.frames.address)
+        else:
+            head += ',"part":%d,"address":%d' % (section.part.index, section.address())
+        if section.reversed:
+            head += ',"reversed":true'
+        if section.kind == NOBITS:
+            return head + ',"nobits":true}'
+        if slot == "merge":
+            base = section.part.address
+            pairs = ",".join(['{"offset":%d,"address":%d}' % (start, base + place) for start, place in zip(*section.strings)])
+            return head + ',"strings":[' + pairs + "]}"
+        head += ',"bytes":"' + section.bytes().hex() + '"'
+        if section.relocations is not None:
+            first = file.first_symbol
+            records = section.records()
+            if slot == "frame":
+                records = sorted(records)
+            head += ',"relocations":[' + ",".join([
+                '{"offset":%d,"number":%d,"symbol":%d,"addend":%d}' % (offset, info & 0xFFFFFFFF, first + (info >> 32), addend)
+                if info >> 32 else '{"offset":%d,"number":%d,"addend":%d}' % (offset, info & 0xFFFFFFFF, addend)
+                for offset, info, addend in records
+            ]) + "]"
+        return head + "}"
+
+    def text(self):
+        """The plan, in pieces."""
+        options, layout = self.options, self.layout
+        names = {output.name: output.index for output in layout.outputs}
+        plan = {
+            "machine": self.resolver.machine, "kind": options.kind, "page_size": self.machine.page, "got_base": self.got_base, "got_header": self.got_header if self.part_of("got") else 0,
+            "options": {"relax": True, "eh_frame_hdr": bool(options.eh_frame_hdr and layout.frames), "terminator": layout.frames is not None, "strip_all": not self.has_symtab, "versions": bool(options.has_dynamic and self.version_needs), "new_dtags": True, "execstack": self.execstack, "static_tls": self.is_static_tls(), "origin": bool(options.rpath and b"$ORIGIN" in options.rpath)},
+            "parts": [
+                {"role": part.role, "section": output.index if output else 0, "offset": part.offset, "address": part.address, "size": part.size, "align": min(part.align, self.machine.page)}
+                for part, output in self.parts_with_outputs()
+            ],
+            "sections": [{}] + [
+                {"name": output.name.hex(), "kind": output.kind, "flags": output.flags, "address": output.address, "offset": output.offset, "size": output.size, "link": names.get(output.link, 0), "align": output.align(), "entsize": output.entry}
+                for output in layout.outputs
+            ],
+            "segments": [
+                dict(zip(("kind", "flags", "offset", "address", "physical", "file_size", "mem_size", "align"), (kind, flags, offset, address, address, size, memory, align)))
+                for kind, flags, offset, address, size, memory, align in layout.segments(self.execstack)
+            ],
+            "properties": self.properties,
+        }
+        if layout.thread:
+            plan["tls"] = dict(zip(("start", "end", "align"), layout.thread))
+        if self.scan.tlsld:
+            plan["tlsld"] = self.got_base + 8 * self.got_header
+        if options.interpreter and self.part_of("interp"):
+            plan["interp"] = (options.interpreter + b"\0").hex()
+        for name in "soname", "rpath":
+            if getattr(options, name) is not None and options.has_dynamic:
+                plan["options"][name] = getattr(options, name).hex()
+        if options.has_dynamic:
+            plan["dynsyms"] = [{"symbol": target.plan, "name": target.name.hex(), "version": target.listed_version} for target in self.listed]
+            if self.part_of("gnu_hash"):
+                plan["gnu_hash"] = {"buckets": self.buckets, "bloom_count": self.bloom, "bloom_shift": 26, "base": 1 + len(self.undefined)}
+            if self.part_of("sysv_hash"):
+                plan["sysv_hash"] = {"buckets": self.buckets}
+        if layout.merges:
+            plan["merged"] = [{"part": part.index, "strings": [(string + b"\0").hex() for string in part.strings]} for part in layout.merges]
+        if self.thunks:
+            plan["primary_part"] = self.thunk_part.index
+            plan["thunk_blocks"] = [
+                [{"symbol": symbol, "address": self.thunk_part.address + start + 12 * i} for i, (symbol, _) in enumerate(targets)] for targets, _, start in self.thunks
+            ]
+        if layout.sorted:
+            place = {id(file): i for i, file in enumerate(self.objects, 1)}
+            plan["sorted"] = [{"group": 0, "file": place[id(section.file)], "section": section.index} for section in layout.sorted]
+        entry = self.resolver.table.get(options.entry) if options.entry else None
+        if entry is not None and entry.plan is not None:
+            plan["entry"] = {"symbol": entry.plan}
+        yield spelled(plan)[:-1] + ',"symbols":['
+        separator = ""
+        for file in self.objects:
+            if file.symbols:
+                yield separator + ",".join([self.symbol_text(file, i) for i in range(len(file.symbols))])
+                separator = ","
+        for library in self.libraries:
+            for target in library.used:
+                yield separator + self.described(target, "absolute", False)
+                separator = ","
+        for target in self.own:
+            yield separator + self.described(target, {"output": self.output_at(target.raw)}, self.has_symtab)
+            separator = ","
+        yield '],"groups":[{"part_sizes":' + spelled([part.size for part in layout.parts]) + ',"files":[{"role":"prelude"}'
+        for file in self.objects:
+            block = self.block_of.get(file, 0)
+            owns = ',"thunk_block":%d' % block + ',"owns_thunk_block":true' * (self.thunks[block][1] is file) if self.thunks else ""
+            yield ',{"role":"object","first_symbol":%d,"symbol_count":%d%s,"sections":[' % (file.first_symbol, len(file.symbols), owns)
+            yield ",".join([self.section_text(file, section) for section in file.sections]) + "]}"
+        if options.has_dynamic:
+            with_versions = [library for library in self.libraries if library in self.version_needs]
+            for library in self.libraries:
+                each = {"role": "dynamic", "first_symbol": library.first_symbol, "symbol_count": len(library.used), "lib_name": library.soname.hex()}
+                copies = [target.plan for target in library.used if target.copy]
+                if copies:
+                    each["copies"] = copies
+                if library in self.version_needs:
+                    versions = [{"name": name.hex(), "index": index} for name, index in self.version_needs[library].items()]
+                    each["verneed"] = {"last": library is with_versions[-1], "versions": versions}
+                yield "," + spelled(each)
+        if self.own:
+            yield ',{"role":"synthetic","first_symbol":%d,"symbol_count":%d}' % (self.first_own, len(self.own))
+        yield ',{"role":"epilogue"}]}]'
+
+    def parts_with_outputs(self):
+        outputs = {id(part): output for output in self.layout.outputs for part in output.parts}
+        return [(part, outputs.get(id(part))) for part in self.layout.parts]
+
+    def output_at(self, address):
+        """The output section that has an address, or begins ahead of it."""
+        starts = [(output.address, output.index) for output in self.layout.outputs if output.flags & ALLOC and not output.flags & TLS]
+        at = bisect.bisect_right(starts, (address, 1 << 32)) - 1
+        return starts[max(at, 0)][1]
+
+    def is_static_tls(self):
+        return self.options.shared and any(target.needs & GOT_OFFSET for target in self.scan.targets.values())

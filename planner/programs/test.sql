@@ -1,0 +1,10 @@
+create table t(a integer primary key, b text, c real);
+with recursive n(x) as (select 1 union all select x+1 from n where x<5000) insert into t select x, printf('%05d', x), x*1.5 from n;
+select count(*), sum(a), avg(c), max(b) from t;
+create index i on t(b);
+explain query plan select * from t where b='00042';
+select * from t where b='00042';
+select hex(zeroblob(4)), json_extract('{"a":[1,2,3]}', '$.a[1]'), strftime('%Y', '2026-11-30');
+pragma integrity_check;
+select group_concat(b) from (select b from t where a % 777 = 0);
+select nosuch();
