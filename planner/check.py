@@ -76,6 +76,8 @@ PROGRAMS = (
     + [(f"chosen, {kind}", "gcc", [[*words, "-O1", "chosen.c", "-o", "out"]], CHOSEN) for kind, words in KINDS.items()]
     + [(f"thrown, {kind}", "g++", [[*words, "thrown.cpp", "-o", "out"]], THROWN) for kind, words in KINDS.items()]
     + [
+        ("packed addresses", "gcc", [["-O1", "program.c", "library.c", "-o", "out", "-Wl,-z,pack-relative-relocs"]], SHARED),
+        ("packed addresses, static PIE", "g++", [["-static-pie", "thrown.cpp", "-o", "out", "-Wl,-z,pack-relative-relocs"]], THROWN),
         ("relocatable", "g++", [["-r", "-O1", "thrown.cpp", "-o", "both.o"], ["both.o", "-o", "out"]], THROWN),
         ("an archive", "gcc", [["-c", "library.c", "-o", "library.o"], "ar rcs liblibrary.a library.o", ["program.c", "-o", "out", "-L.", "-l:liblibrary.a", "-Wl,--build-id=0x0102,-s"]], SHARED),
         ("both hash tables", "gcc", [["-shared", "-fPIC", "library.c", "-o", "liblibrary.so", "-Wl,--hash-style=sysv,-soname,liblibrary.so"], ["program.c", "-o", "out", "-L.", "-llibrary", "-Wl,-rpath,.,--hash-style=both,-E"]], SHARED),

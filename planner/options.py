@@ -19,7 +19,7 @@ class Options:
     def __init__(self, words):
         self.output, self.folders, self.inputs, self.emulation = "a.out", [], [], None
         self.static = self.shared = self.pie = self.partial = self.export_dynamic = self.symbolic = self.allow_multiple = False
-        self.eh_frame_hdr, self.execstack = False, None
+        self.eh_frame_hdr, self.relr, self.execstack = False, False, None
         self.relro, self.strip, self.hash_style = True, None, "gnu"
         self.entry, self.soname, self.rpath, self.interpreter, self.build_id = b"_start", None, None, None, None
         self.undefined, self.no_undefined, self.plan_file, self.times, self.no_loader = [], False, None, None, False
@@ -141,6 +141,8 @@ class Options:
             self.relro = word == "relro"
         elif word in ("execstack", "noexecstack"):
             self.execstack = word == "execstack"
+        elif word in ("pack-relative-relocs", "nopack-relative-relocs"):
+            self.relr = word[:2] != "no"
         elif word == "defs":
             self.no_undefined = True
         elif word.startswith(("max-page-size=", "common-page-size=")) or word not in KEYWORDS:
@@ -166,3 +168,4 @@ class Options:
         self.has_loader = kind in ("dynamic", "dynamic_pie", "shared")
         self.has_dynamic = kind not in ("static", "partial")
         self.static = kind in ("static", "static_pie")
+        self.relr = self.relr and self.moves

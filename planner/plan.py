@@ -11,7 +11,7 @@ from slots import GOT, GOT_DESCRIPTOR, GOT_OFFSET, GOT_PAIR, STUB, Scan, keep_fr
 from symbols import Target
 
 BRANCHES_REACH = 100 << 20
-DYNAMIC, HASH, GNU_HASH, VERSYM, VERNEED = 6, 5, 0x6FFFFFF6, 0x6FFFFFFF, 0x6FFFFFFE
+DYNAMIC, HASH, GNU_HASH, VERSYM, VERNEED, RELR = 6, 5, 0x6FFFFFF6, 0x6FFFFFFF, 0x6FFFFFFE, 19
 EDGES = re.compile(rb"__(start|stop)_([A-Za-z_]\w*)")
 ARRAYS = {b"__%s_%s" % (name, edge): (b"." + name, edge == b"end") for name in (b"preinit_array", b"init_array", b"fini_array") for edge in (b"start", b"end")}
 SLOT_FLAGS = [(GOT, "GOT"), (STUB, "PLT"), (GOT_OFFSET, "GOT_TLS_OFFSET"), (GOT_PAIR, "GOT_TLS_MODULE"), (GOT_DESCRIPTOR, "GOT_TLS_DESCRIPTOR")]
@@ -220,6 +220,11 @@ class Plan:
                 if target.version not in versions:
                     versions[target.version], number = number, number + 1
                 target.listed_version = versions[target.version]
+        # glibc asks a program with packed addresses to say that its loader knows them
+        for library in self.libraries:
+            if self.options.relr and b"GLIBC_ABI_DT_RELR" in library.version_names.values():
+                self.version_needs.setdefault(library, {})[b"GLIBC_ABI_DT_RELR"] = number
+                number += 1
 
     def choose_symtab(self):
         """Which symbols `.symtab` has, and how many bytes that is."""
@@ -304,8 +309,9 @@ class Plan:
             raise Refused("a static output has no entries for a loader")
         table(b".rela.plt", RELA, ALLOC | 64, 24, b".dynsym" if options.has_dynamic else None, ("rela_plt", sizes["rela_plt"], 8))
         table(b".plt.got", PROGBITS, ALLOC | CODE, 16, None, ("plt_got", sizes["plt_got"], 16))
-        table(b".got", PROGBITS, ALLOC | WRITE, 8, None, ("got", sizes["got"] or 8 * (b"_GLOBAL_OFFSET_TABLE_" in self.resolver.table), 8))
-        self.got_header = 0 if sizes["got"] else 1
+        table(b".relr.dyn", RELR, ALLOC, 8, None, ("relr_dyn", sizes["relr_dyn"], 8))
+        self.got_header = int(not sizes["got"] and b"_GLOBAL_OFFSET_TABLE_" in self.resolver.table)
+        table(b".got", PROGBITS, ALLOC | WRITE, 8, None, ("got", sizes["got"] + 8 * self.got_header, 8), ("got_relr", sizes["got_relr"], 8))
         if options.has_dynamic:
             table(b".dynamic", DYNAMIC, ALLOC | WRITE, 16, b".dynstr", ("dynamic", 16 * self.dynamic_entries(sizes), 8))
         if self.has_symtab:
@@ -325,7 +331,7 @@ class Plan:
             output = layout.named(name)
             count += entries * bool(output and output.kind != NOBITS and any(part.size for part in output.parts))
         count += 4 + 4 * bool(sizes["rela_plt"]) + 3 * bool(sizes["rela_dyn_relative"] or sizes["rela_dyn_general"]) + bool(sizes["rela_dyn_relative"])
-        count += (options.hash_style in ("gnu", "both")) + (options.hash_style in ("sysv", "both")) + 3 * bool(self.version_needs)
+        count += 3 * bool(sizes["relr_dyn"]) + (options.hash_style in ("gnu", "both")) + (options.hash_style in ("sysv", "both")) + 3 * bool(self.version_needs)
         return count + (not options.shared) + 3
 
     def merged_properties(self):
@@ -354,16 +360,19 @@ class Plan:
 
     def give_slots(self):
         """Each slot is the next free word, each stub the next free one, in the order of the symbols."""
-        got, stubs = self.part_of("got"), self.part_of("plt_got")
+        got, block, stubs = self.part_of("got"), self.part_of("got_relr"), self.part_of("plt_got")
+        packed = block.address if block else 0
         word = got.address + 16 * self.scan.tlsld + 8 * self.got_header if got else 0
         stub = stubs.address if stubs else 0
         for target in sorted(self.scan.targets.values(), key=lambda target: target.plan):
             count = self.scan.words(target)
-            if count:
+            if self.scan.is_in_block(target):
+                target.got, packed = packed, packed + 8
+            elif count:
                 target.got, word = word, word + 8 * count
             if target.needs & STUB:
                 target.plt, stub = stub, stub + 16
-        self.got_base = got.address if got else 0
+        self.got_base = (got or block).address if got or block else 0
 
     def value_of(self, target):
         """The address of a target."""
@@ -511,8 +520,8 @@ class Plan:
         options, layout = self.options, self.layout
         names = {output.name: output.index for output in layout.outputs}
         plan = {
-            "machine": self.resolver.machine, "kind": options.kind, "page_size": self.machine.page, "got_base": self.got_base, "got_header": self.got_header if self.part_of("got") else 0,
-            "options": {"relax": True, "eh_frame_hdr": bool(options.eh_frame_hdr and layout.frames), "terminator": layout.frames is not None, "strip_all": not self.has_symtab, "versions": bool(options.has_dynamic and self.version_needs), "new_dtags": True, "execstack": self.execstack, "static_tls": self.is_static_tls(), "origin": bool(options.rpath and b"$ORIGIN" in options.rpath)},
+            "machine": self.resolver.machine, "kind": options.kind, "page_size": self.machine.page, "got_base": self.got_base, "got_header": self.got_header,
+            "options": {"relax": True, "relr": options.relr, "eh_frame_hdr": bool(options.eh_frame_hdr and layout.frames), "terminator": layout.frames is not None, "strip_all": not self.has_symtab, "versions": bool(options.has_dynamic and self.version_needs), "new_dtags": True, "execstack": self.execstack, "static_tls": self.is_static_tls(), "origin": bool(options.rpath and b"$ORIGIN" in options.rpath)},
             "parts": [
                 {"role": part.role, "section": output.index if output else 0, "offset": part.offset, "address": part.address, "size": part.size, "align": min(part.align, self.machine.page)}
                 for part, output in self.parts_with_outputs()

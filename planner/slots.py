@@ -18,7 +18,7 @@ class Scan:
         self.resolver, self.machine, self.options = resolver, machine, options
         self.targets, self.tlsld = {}, False
         self.relative = self.general = self.plt_entries = 0
-        self.copies, self.missing = [], {}
+        self.copies, self.missing, self.packed = [], {}, {}
 
     # ---- what a symbol is
 
@@ -116,7 +116,11 @@ class Scan:
             return
         if not section.flags & WRITE:
             raise Refused(f"{file.name}: section {section.name.decode()} is not writable, and an address in it moves: compile with -fPIC or -fPIE")
-        self.relative += 1
+        section.part.align = max(section.part.align, 2)
+        if self.options.relr and (section.position + offset) % 2 == 0:
+            self.packed.setdefault(section, []).append(offset)
+        else:
+            self.relative += 1
 
     def need(self, target, bits):
         if not target.needs:
@@ -215,14 +219,19 @@ class Scan:
         """A second slot for the address, beside that which the stub jumps by."""
         return bool(target.needs & ADDRESS and target.needs & GOT and (target.canonical or target.is_ifunc() and target.needs & STUB))
 
+    def is_in_block(self, target):
+        """Whether the slot is one of those whose addresses are packed together."""
+        return bool(self.options.relr and target.needs & GOT and self.moves(target) and not target.is_ifunc() and not target.canonical and not self.is_lookup(target))
+
     def count(self):
         """Adds the entries of the slots; the sizes of the tables of slots and entries."""
         shared, moves = self.options.shared, self.options.moves
-        got = 2 * self.tlsld
+        got, block = 2 * self.tlsld, 0
         self.general += bool(self.tlsld and shared)
+        packed = sum(packed_words(offsets) for offsets in self.packed.values())
         for target in self.targets.values():
             needs, lookup = target.needs, self.is_lookup(target) and not target.copy
-            got += self.words(target)
+            got += self.words(target) * (not self.is_in_block(target))
             if needs & GOT_OFFSET and (lookup or shared):
                 self.general += 1
             if needs & GOT_PAIR:
@@ -234,20 +243,41 @@ class Scan:
                     self.plt_entries += 1
                 elif lookup or target.copy:
                     self.general += 1
+                elif self.is_in_block(target):
+                    block += 1
                 elif self.moves(target):
                     self.relative += 1
                 if self.has_second(target):
                     if target.canonical:
                         self.general += 1
+                    elif self.options.relr:
+                        packed += 1
                     elif moves:
                         self.relative += 1
         return {
             "got": 8 * got,
+            "got_relr": 8 * block,
+            "relr_dyn": 8 * (packed + packed_words(range(0, 8 * block, 8))),
             "plt_got": 16 * sum(1 for target in self.targets.values() if target.needs & STUB),
             "rela_plt": 24 * self.plt_entries,
             "rela_dyn_relative": 24 * self.relative,
             "rela_dyn_general": 24 * self.general,
         }
+
+
+def packed_words(offsets):
+    """How many words pack places: an address, and behind it bitmaps of 63 places each (gABI, "Relative Relocation Table")."""
+    count, next_place, is_marked = 0, None, False
+    for offset in offsets:
+        while next_place is not None and offset >= next_place + 504 and is_marked:
+            next_place, is_marked = next_place + 504, False
+        distance = offset - next_place if next_place is not None else -1
+        if 0 <= distance < 504 and distance % 8 == 0:
+            count += not is_marked
+            is_marked = True
+        else:
+            count, next_place, is_marked = count + 1, offset + 8, False
+    return count
 
 
 def section_keeps(section, offset):
