@@ -114,7 +114,7 @@ fn origin_of<'a>(place: InputPlace, laid: &'a PlacedInput<'_>) -> Origin<'a>
     }
 }
 
-/// Returns the first fault of a placed section without bytes whose relocations are read.
+/// Checks the relocations of a loaded section that is empty, and writes nothing; returns their first fault.
 #[tactic(auto, unfolding(crate::specs::Placed::kept_section_faults))]
 fn check_data<A: Arch>(
     alloc: Global,
@@ -190,7 +190,7 @@ fn add_read<A: Arch>(
     check_data(alloc, resolved, place, file, laid)
 }
 
-/// Appends the bytes of a placed section with data that debuggers read to the file's sections, or returns its first fault.
+/// Appends a placed debug section to `bytes`, or returns its first fault.
 #[tactic(auto, using(crate::proofs::RelaOrGroupLemmas::debug_answers, crate::proofs::RelaOrGroupLemmas::debug_added))]
 fn add_debug<A: ShardedArch, R: Threads + Sync>(
     by: &Workers<R>,
@@ -237,7 +237,8 @@ fn add_rela_or_group<A: Arch>(
     }
 }
 
-/// Appends the bytes of a placed section with data that is not loaded to the file's sections, or returns its first fault.
+/// Appends a placed section that is not loaded to `bytes`, or returns its first fault: a debug section, a relocation table or a
+/// section group.
 #[tactic(auto, using(crate::proofs::RelaOrGroupLemmas::no_faults, crate::proofs::RelaOrGroupLemmas::nothing_added))]
 fn add_unread<A: ShardedArch, R: Threads + Sync>(
     by: &Workers<R>,
@@ -300,7 +301,7 @@ fn add_placed<A: ShardedArch, R: Threads + Sync>(
     add_unread(by, resolved, place, file, laid, &mut bytes.files)
 }
 
-/// Whether a section is loaded, and what the plan gives is written unchanged except for its relocations.
+/// Whether a section is loaded and has the plan's bytes, unchanged except for its relocations.
 #[tactic(auto, unfolding(crate::specs::Placed::is_written_unchanged))]
 fn is_written_unchanged(layout: &Layout, section: &InputSection) -> bool
     ensures { result ≡ is_written_unchanged layout.now section.now }
@@ -313,7 +314,8 @@ fn is_written_unchanged(layout: &Layout, section: &InputSection) -> bool
         && !layout.is_header_only_part(section.part)
 }
 
-/// Appends an input section that is written exactly as the plan gives it, or returns its first fault.
+/// Appends an input section whose bytes are the plan's with its relocations applied: it is not reversed, and nothing is dropped or
+/// generated. Or returns its first fault.
 fn add_unchanged<A: Arch>(
     alloc: Global,
     resolved: &Resolved<A>,
@@ -368,7 +370,7 @@ fn add_section<A: ShardedArch, R: Threads + Sync>(
 }
 
 /// Appends the sections of a file, whose frames begin at address `at`, or returns their first fault. Returns the address after its
-/// frames. A section that is written exactly as the plan gives it needs no placing.
+/// frames. A section that only has its relocations applied needs no placing.
 #[tactic(auto, using(crate::proofs::PlacedLemmas::faults_refuse, crate::proofs::PlacedLemmas::faults_done, crate::proofs::PlacedLemmas::given_done, wild_contents::proofs::PlacedLemmas::reach_done))]
 fn add_file_sections<A: ShardedArch, R: Threads + Sync>(
     by: &Workers<R>,
@@ -671,7 +673,8 @@ fn room_of_files(layout: &Layout, groups: &[Group]) -> u64 {
     room
 }
 
-/// The number of bytes that some groups write of part i, at most 2^64 - 1; 0 for a raw part and in an omitted section.
+/// The bytes that some groups give to part i if it is a table with file bytes, at most 2^64 - 1; 0 for the part of input sections and in
+/// an omitted section.
 #[tactic(auto, using(crate::proofs::TableLemmas::written_hollow, crate::proofs::TableLemmas::written_raw, crate::proofs::TableLemmas::written_all))]
 fn total_written(layout: &Layout, i: usize, part: &Part, groups: &[Group]) -> u64
     ensures { result ≡ 0 → written layout.now part.now (total (given i) groups.now) ≡ 0 }
@@ -744,7 +747,7 @@ pub(crate) fn add_group<A: ShardedArch, R: Threads + Sync>(
     Ok(())
 }
 
-/// Appends all bytes of a group, or returns its first fault. Without `has_tables` the group contributes nothing to the tables.
+/// Appends all bytes of a group, or returns its first fault. `has_tables` may be false only if the group has no bytes of tables.
 fn add_batch_group<A: ShardedArch, R: Threads + Sync>(
     by: &Workers<R>,
     resolved: &Resolved<A>,
