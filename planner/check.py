@@ -92,6 +92,10 @@ REFUSED = [
     (["hello.c", "-lnowhere"], "cannot find -lnowhere"),
     (["hello.c", "word.s", "-Wl,-T,word.s"], "option -T is not known"),
 ]
+REFUSED_OF = {
+    "x86_64": [],
+    "aarch64": [(["-shared", "-fPIC", "-mcmodel=tiny", "narrow.c"], "has R_AARCH64_GOT_LD_PREL19, of the tiny code model: compile with -mcmodel=small")],
+}
 
 
 def link(machine, compiler, words, folder):
@@ -129,7 +133,7 @@ def main():
                     wrong = None if (ran.returncode, ran.stdout) == said else (ran.returncode, ran.stdout, ran.stderr[:400])
                 if wrong is not None:
                     differs(f"{machine}, {name}", said, wrong)
-            for words, said in REFUSED:
+            for words, said in REFUSED + REFUSED_OF[machine]:
                 rows += 1
                 tried = link(machine, "gcc", [*words, "-o", "refused"], folder)
                 if not tried.returncode or said not in tried.stderr or os.path.exists(f"{folder}/refused"):

@@ -284,7 +284,7 @@ class Layout:
         self.section_headers.size = 64 * (1 + len(self.outputs))
 
     def segments(self, stack):
-        """The program headers. Their number has to be known before addresses are: it does not hang on these."""
+        """The program headers. Their number does not depend on addresses."""
         made = []
 
         def over(kind, flags, output, align):
@@ -318,9 +318,3 @@ class Layout:
             if run == ONCE and self.options.relro:
                 made.append((RELRO, 4, offset, address, size, up(address + memory, self.machine.page) - address, 1))
         return made
-
-    def segment_count(self):
-        """How many program headers there will be."""
-        runs = {READ} | {output.run() for output in self.outputs} - {OUTSIDE}
-        notes = sum(1 + (output.name == b".note.gnu.property") for output in self.outputs if output.kind == NOTE and output.flags & ALLOC)
-        return 2 * bool(self.named(b".interp")) + len(runs) + bool(self.named(b".dynamic")) + notes + any(output.flags & TLS for output in self.outputs) + bool(self.named(b".eh_frame_hdr")) + 1 + bool(ONCE in runs and self.options.relro)

@@ -17,6 +17,7 @@ class Machine(NamedTuple):
     other_property: int  # GNU_PROPERTY_X86_ISA_1_NEEDED: what any input needs
     emulations: tuple
     branches: tuple  # types of branches that may go by a thunk
+    tiny: dict = {}  # types of the tiny code model, which the writer does not know, and their names
 
 
 def sorts(**types):
@@ -36,5 +37,6 @@ AARCH64 = Machine(
         SLOT=[311, 312, 313], OFFSET_SLOT=[541, 542], PAIR=[513, 514], DESCRIPTOR=[562, 563, 564],
     ),
     65536, 183, 0x400000, 0xC0000000, 0, ("aarch64linux", "aarch64elf"), (282, 283),
+    {309: "GOT_LD_PREL19", 512: "TLSGD_ADR_PREL21", 543: "TLSIE_LD_GOTTPREL_PREL19", 560: "TLSDESC_LD_PREL19", 561: "TLSDESC_ADR_PREL21"},
 )
 MACHINES = {"x86_64": X86_64, "aarch64": AARCH64}

@@ -5,14 +5,30 @@ import shlex
 from elf import Refused
 from machines import MACHINES
 
+def spelled(*rows):
+    """By each spelling of an option, what it sets and to what."""
+    return {spelling: row[:-1] for row in rows for spelling in row[-1].split()}
+
+
 # options that change nothing here: what they ask for is done anyway, or allows what is not done
-WITHOUT_EFFECT = {
-    "--gc-sections", "--no-gc-sections", "-O1", "-O2", "-O0", "-EL", "-X", "--discard-locals", "--fatal-warnings", "--no-fatal-warnings", "--no-copy-dt-needed-entries", "--enable-new-dtags",
-    "--no-undefined-version", "--no-add-needed", "--fix-cortex-a53-843419", "--fix-cortex-a53-835769", "--sort-common", "--warn-common", "--no-warn-mismatch", "-nostdlib",
-    "--no-ld-generated-unwind-info", "--allow-shlib-undefined", "--no-allow-shlib-undefined",
-}
+WITHOUT_EFFECT = set("""
+    --gc-sections --no-gc-sections -O1 -O2 -O0 -EL -X --discard-locals --fatal-warnings --no-fatal-warnings --no-copy-dt-needed-entries --enable-new-dtags --no-undefined-version --no-add-needed
+    --fix-cortex-a53-843419 --fix-cortex-a53-835769 --sort-common --warn-common --no-warn-mismatch -nostdlib --no-ld-generated-unwind-info --allow-shlib-undefined --no-allow-shlib-undefined --sysroot=/
+""".split())
 WITH_WORD_WITHOUT_EFFECT = {"-plugin", "-rpath-link", "--rpath-link"}
-KEYWORDS = {"now", "relro", "norelro", "noexecstack", "execstack", "text", "defs", "separate-code", "noseparate-code", "nocopyreloc", "combreloc", "nodynamic-undefined-weak"}
+KEYWORDS = set("now relro norelro noexecstack execstack text defs separate-code noseparate-code nocopyreloc combreloc nodynamic-undefined-weak".split())
+SWITCHES = spelled(
+    ("shared", True, "-shared --shared -Bshareable"), ("pie", True, "-pie --pie"), ("pie", False, "-no-pie --no-pie"), ("partial", True, "-r --relocatable"), ("symbolic", True, "-Bsymbolic"),
+    ("export_dynamic", True, "-E --export-dynamic -export-dynamic"), ("eh_frame_hdr", True, "--eh-frame-hdr"), ("no_undefined", True, "--no-undefined"), ("no_loader", True, "--no-dynamic-linker"),
+    ("allow_multiple", True, "--allow-multiple-definition"), ("strip", "all", "-s --strip-all"),
+)
+# options that hold for the inputs after them
+STATES = spelled(
+    ("static", True, "-static -Bstatic -dn -non_shared"), ("static", False, "-Bdynamic -dy -call_shared"), ("as_needed", True, "--as-needed"), ("as_needed", False, "--no-as-needed"),
+    ("whole", True, "--whole-archive"), ("whole", False, "--no-whole-archive"),
+)
+TEXTS = spelled(("output", "-o --output"), ("plan_file", "--plan"), ("times", "--times"))
+BYTES = spelled(("soname", "-soname --soname -h"), ("rpath", "-rpath --rpath"), ("interpreter", "-dynamic-linker --dynamic-linker -I"), ("entry", "-e --entry"))
 
 
 class Options:
@@ -38,15 +54,7 @@ class Options:
     def read(self, words):
         """Inputs are kept as (path or name, static, as needed, whole archive), a group as a list of them."""
         words = iter(words)
-        static = as_needed = whole = False
-        states, groups = [], [self.inputs]
-        texts = {"-o": "output", "--output": "output", "--plan": "plan_file", "--times": "times"}
-        byte_texts = {"-soname": "soname", "--soname": "soname", "-h": "soname", "-rpath": "rpath", "--rpath": "rpath", "-dynamic-linker": "interpreter", "--dynamic-linker": "interpreter", "-I": "interpreter", "-e": "entry", "--entry": "entry"}
-        switches = {
-            "-shared": "shared", "--shared": "shared", "-Bshareable": "shared", "-pie": "pie", "--pie": "pie", "-r": "partial", "--relocatable": "partial", "-E": "export_dynamic", "--export-dynamic": "export_dynamic",
-            "-export-dynamic": "export_dynamic", "-Bsymbolic": "symbolic", "--eh-frame-hdr": "eh_frame_hdr", "--no-undefined": "no_undefined", "--no-dynamic-linker": "no_loader",
-            "--allow-multiple-definition": "allow_multiple",
-        }
+        state, states, groups = {"static": False, "as_needed": False, "whole": False}, [], [self.inputs]
         for word in words:
             name, equals, value = word.partition("=")
 
@@ -61,53 +69,35 @@ class Options:
                 return given
 
             if not word.startswith("-") or word == "-":
-                groups[-1].append((word, None, static, as_needed, whole))
-            elif word.startswith("-l"):
-                groups[-1].append((None, argument("-l"), static, as_needed, whole))
-            elif name == "--library":
-                groups[-1].append((None, argument(), static, as_needed, whole))
-            elif word.startswith("-L"):
-                self.folders.append(argument("-L"))
-            elif name == "--library-path":
-                self.folders.append(argument())
-            elif word in ("-static", "-Bstatic", "-dn", "-non_shared"):
-                static = True
+                groups[-1].append((word, None, *state.values()))
+            elif word.startswith("-l") or name == "--library":
+                groups[-1].append((None, argument("-l" if word.startswith("-l") else None), *state.values()))
+            elif word.startswith("-L") or name == "--library-path":
+                self.folders.append(argument("-L" if word.startswith("-L") else None))
+            elif word in STATES:
+                state = {**state, STATES[word][0]: STATES[word][1]}
                 self.static = self.static or word == "-static"
-            elif word in ("-Bdynamic", "-dy", "-call_shared"):
-                static = False
-            elif word == "--as-needed":
-                as_needed = True
-            elif word == "--no-as-needed":
-                as_needed = False
-            elif word == "--whole-archive":
-                whole = True
-            elif word == "--no-whole-archive":
-                whole = False
             elif word == "--push-state":
-                states.append((static, as_needed, whole))
+                states.append(state)
             elif word == "--pop-state":
-                static, as_needed, whole = states.pop()
+                state = states.pop()
             elif word in ("--start-group", "-("):
                 groups.append([])
                 groups[0].append(groups[-1])
             elif word in ("--end-group", "-)"):
                 groups.pop()
-            elif name in texts:
-                setattr(self, texts[name], argument())
-            elif word.startswith("-o") and len(word) > 2 and not word.startswith("-out"):
+            elif name in TEXTS:
+                setattr(self, TEXTS[name][0], argument())
+            elif word.startswith("-o") and not word.startswith("-out"):
                 self.output = word[2:]
-            elif name in byte_texts:
+            elif name in BYTES:
                 text = argument().encode()
-                if byte_texts[name] == "rpath" and self.rpath is not None:
+                if BYTES[name][0] == "rpath" and self.rpath is not None:
                     text = self.rpath if text in self.rpath.split(b":") else self.rpath + b":" + text
-                setattr(self, byte_texts[name], text)
-                self.entry_given = self.entry_given or byte_texts[name] == "entry"
-            elif word in switches:
-                setattr(self, switches[word], True)
-            elif word in ("-no-pie", "--no-pie"):
-                self.pie = False
-            elif word in ("-s", "--strip-all"):
-                self.strip = "all"
+                setattr(self, BYTES[name][0], text)
+                self.entry_given = self.entry_given or BYTES[name][0] == "entry"
+            elif word in SWITCHES:
+                setattr(self, *SWITCHES[word])
             elif word in ("-S", "--strip-debug"):
                 self.strip = self.strip or "debug"
             elif name == "--hash-style":
@@ -129,11 +119,9 @@ class Options:
                 self.keyword(argument("-z"))
             elif name in ("-u", "--undefined"):
                 self.undefined.append(argument().encode())
-            elif word in WITHOUT_EFFECT or name == "-plugin-opt" or word == "--sysroot=/":
-                pass
             elif name in WITH_WORD_WITHOUT_EFFECT:
                 argument()
-            else:
+            elif word not in WITHOUT_EFFECT and name != "-plugin-opt":
                 raise Refused(f"option {word} is not known")
 
     def keyword(self, word):

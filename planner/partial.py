@@ -172,8 +172,6 @@ class PartialPlan(Plan):
             "parts": [{"role": part.role, "section": output.index if output else 0, "offset": part.offset, "size": part.size, "align": part.align} for part, output in self.parts_with_outputs()],
         })[:-1] + ',"symbols":['
         yield ",".join([self.symbol_text(file, i) for file in self.objects for i in range(len(file.symbols))])
-        yield '],"groups":[{"part_sizes":' + spelled([part.size for part in layout.parts]) + ',"files":[{"role":"prelude"}'
-        for file in self.objects:
-            yield ',{"role":"object","first_symbol":%d,"symbol_count":%d,"sections":[' % (file.first_symbol, len(file.symbols))
-            yield ",".join([self.section_text(file, section) for section in file.sections]) + "]}"
+        yield '],'
+        yield from self.object_texts()
         yield ',{"role":"epilogue"}]}]'

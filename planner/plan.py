@@ -63,6 +63,7 @@ class Plan:
         self.objects, self.libraries = resolver.objects, resolver.libraries
         self.layout = Layout(options, self.machine)
         self.scan = Scan(resolver, self.machine, options)
+        self.thunks, self.block_of = [], {}
 
     def make(self):
         self.layout.place_inputs(self.objects)
@@ -81,8 +82,11 @@ class Plan:
         self.add_tables()
         layout = self.layout
         layout.arrange()
-        layout.program_headers.size = 56 * layout.segment_count()
-        layout.give_addresses(0 if self.options.moves else self.machine.image_base)
+        base = 0 if self.options.moves else self.machine.image_base
+        # addresses depend on the size of the program headers, and their number on no address
+        layout.give_addresses(base)
+        layout.program_headers.size = 56 * len(layout.segments(self.execstack))
+        layout.give_addresses(base)
         self.give_slots()
         self.give_values()
         return self.text()
@@ -162,7 +166,6 @@ class Plan:
     def place_thunks(self):
         """On AArch64 a branch reaches 128 MiB: where there is more code, files that lie within reach of each other have a block of thunks behind them."""
         code = [output for output in self.layout.outputs if output.flags & CODE]
-        self.thunks, self.block_of = [], {}
         if not self.machine.branches or sum(part.size for output in code for part in output.parts) < BRANCHES_REACH:
             return
         part = self.layout.named(b".text").parts[0]
@@ -577,12 +580,8 @@ class Plan:
         for target in self.own:
             yield separator + self.described(target, {"output": self.output_at(target.raw)}, self.has_symtab)
             separator = ","
-        yield '],"groups":[{"part_sizes":' + spelled([part.size for part in layout.parts]) + ',"files":[{"role":"prelude"}'
-        for file in self.objects:
-            block = self.block_of.get(file, 0)
-            owns = ',"thunk_block":%d' % block + ',"owns_thunk_block":true' * (self.thunks[block][1] is file) if self.thunks else ""
-            yield ',{"role":"object","first_symbol":%d,"symbol_count":%d%s,"sections":[' % (file.first_symbol, len(file.symbols), owns)
-            yield ",".join([self.section_text(file, section) for section in file.sections]) + "]}"
+        yield '],'
+        yield from self.object_texts()
         if options.has_dynamic:
             with_versions = [library for library in self.libraries if library in self.version_needs]
             for library in self.libraries:
@@ -597,6 +596,15 @@ class Plan:
         if self.own:
             yield ',{"role":"synthetic","first_symbol":%d,"symbol_count":%d}' % (self.first_own, len(self.own))
         yield ',{"role":"epilogue"}]}]'
+
+    def object_texts(self):
+        """The one group of all files, as far as the last object."""
+        yield '"groups":[{"part_sizes":' + spelled([part.size for part in self.layout.parts]) + ',"files":[{"role":"prelude"}'
+        for file in self.objects:
+            block = self.block_of.get(file, 0)
+            owns = ',"thunk_block":%d' % block + ',"owns_thunk_block":true' * (self.thunks[block][1] is file) if self.thunks else ""
+            yield ',{"role":"object","first_symbol":%d,"symbol_count":%d%s,"sections":[' % (file.first_symbol, len(file.symbols), owns)
+            yield ",".join([self.section_text(file, section) for section in file.sections]) + "]}"
 
     def parts_with_outputs(self):
         outputs = {id(part): output for output in self.layout.outputs for part in output.parts}

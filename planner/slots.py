@@ -83,6 +83,8 @@ class Scan:
         for offset, info, addend in section.records():
             sort = sorts.get(info & 0xFFFFFFFF)
             if sort is None or is_call:
+                if info & 0xFFFFFFFF in self.machine.tiny:
+                    raise Refused(f"{file.name}: section {section.name.decode()} has R_AARCH64_{self.machine.tiny[info & 0xFFFFFFFF]}, of the tiny code model: compile with -mcmodel=small")
                 is_call = False
                 continue
             i = info >> 32

@@ -1,5 +1,5 @@
 -- The image of a laid out layout is loaded in every legal world.
---   MemoryHasChanges     applying the tables moves the addresses, fills fields, slots and copies, and changes no other byte
+--   MemoryHasChanges     once its tables are applied, memory has each kept section as decided, the slots, copies and zeros
 --   ImagesAreLoaded   the loader accepts the image, and memory has each kept section as decided, and the slots
 --   DebugImagesAreLoaded   it accepts an image only for debuggers, and memory has each kept section as the file has it
 use Rattle.std.specs.Prelude.{◌≡◌, []}
@@ -16,8 +16,9 @@ use Rattle.wild_meaning.specs.Section.{IsForDebuggers}
 use Rattle.wild_loaded.specs.WholeSlots.{HasWholeSlots}
 use Rattle.wild_loaded.specs.LoadedMemory.{HasApplied, HasLoadedMemory}
 
--- After the tables were applied to the loaded segments of an image without faults, the base is added to each address. Each field
--- and each slot has the value that fills it, each copy has its bytes, and every other byte is as before.
+-- The tables were applied to the loaded segments of an image without faults. Then each kept section is in memory with the base added to
+-- its addresses and with its fields filled. So are the slots, stubs, thunks and copies, and the zeros past file bytes and in sections
+-- without data.
 abbrev pub MemoryHasChanges : Type 0
 MemoryHasChanges = (l : Layout) (w : World) (m : Memory) → KeepsAll l → IsLoadable l.kind → NumbersFit l → IsLegal l w → IsLaidOut l → EachDecided l → HasWholeSlots l → flat_map_from (group_errors l) 0 l.groups ≡ []
     → HasApplied l w m → HasLoadedMemory l w m

@@ -5,7 +5,7 @@
 --   SuitsField w q                  a field of that relocation type is right for the symbol
 --   FieldsSuitSymbols               this holds for each row that is chosen
 --   AddendsAreChecked               x86-64: if the row changes bytes around its field, that field is the end of its instruction
-use Rattle.std.specs.Prelude.{◌≡◌, ℕ, Bool, true, false, ⊤, ◌⊎◌, List, [], ◌∷◌, map, Some, Ok}
+use Rattle.std.specs.Prelude.{◌≡◌, ℕ, true, false, ⊤, ◌⊎◌, List, [], ◌∷◌, map, Some, Ok}
 use Rattle.wild_records.specs.Abi.Relocation as abi
 use Rattle.wild_types.specs.declared.kind.Machine.{Machine}
 use Rattle.wild_types.specs.Flags.{has_flag, ifunc, undefined_weak}

@@ -29,11 +29,11 @@ use Rattle.wild_sections.proofs.DecidedLemmas.{none_refused, refuses_decision, d
 use Rattle.wild_sections.proofs.InstructionLemmas.{length-instruction, decision_lies}
 
 -- the first i relocations were written one behind the other
-pub record HasAscended (l : Layout) (g f k : ℕ) (s : Item) (os : List InputRelocation) (i reach : ℕ) (room : List ℕ) : Type 0 where
+pub record HasAscended (l : Layout) (g f k : ℕ) (s : Item) (os : List InputRelocation) (i end_of_last_field : ℕ) (room : List ℕ) : Type 0 where
   pub none : flat_map (relocation_errors l g f k s os) (range_with_len 0 i) ≡ []
   pub bytes : room ≡ overlay (flat_map (site l s) (range_with_len 0 i)) s.bytes
   pub apart : AreDisjoint (length s.bytes) (flat_map (site l s) (range_with_len 0 i))
-  pub ends : All (LiesIn reach) (flat_map (site l s) (range_with_len 0 i))
+  pub ends : All (LiesIn end_of_last_field) (flat_map (site l s) (range_with_len 0 i))
 
 pub not_begun : (l : Layout) (g f k : ℕ) (s : Item) (os : List InputRelocation) (room : List ℕ) → room ≡ s.bytes → HasAscended l g f k s os 0 0 room
 not_begun l g f k s os room is = record {
@@ -48,57 +48,57 @@ pub record Behind (s : Item) (n next : ℕ) (ps : List Piece) : Type 0 where
   pub apart : AreDisjoint n ps
   pub ends : All (LiesIn next) ps
 
-one_behind : (n reach next : ℕ) (ps : List Piece) (p : Piece) → AreDisjoint n ps → All (LiesIn reach) ps → reach ≤ p.at → p.at + length p.bytes ≤ n → next ≡ p.at + length p.bytes → AreDisjoint n (ps ++ p ∷ [])
-one_behind n reach next ps p apart ends low inside is = record {
+one_behind : (n end_of_last_field next : ℕ) (ps : List Piece) (p : Piece) → AreDisjoint n ps → All (LiesIn end_of_last_field) ps → end_of_last_field ≤ p.at → p.at + length p.bytes ≤ n → next ≡ p.at + length p.bytes → AreDisjoint n (ps ++ p ∷ [])
+one_behind n end_of_last_field next ps p apart ends low inside is = record {
   within = All-push (λ (q : Piece). q.at + length q.bytes ≤ n) ps p apart.within inside;
   apart = AllPairs-append Disjoint ps (p ∷ []) apart.apart (AllPairs-cons Disjoint p [] (All-nil (Disjoint p)) (AllPairs-nil Disjoint)) (λ k d h. All-cons (Disjoint (get_or ps k d)) p [] (inl (let e = ends k d h in omega (arith, e, low))) (All-nil (Disjoint (get_or ps k d))));
 }
 
-ends_later : (reach next : ℕ) (ps : List Piece) → reach ≤ next → All (LiesIn reach) ps → All (LiesIn next) ps
-ends_later reach next ps low ends = λ k d h. let e = ends k d h in omega (arith, e, low)
+ends_later : (end_of_last_field next : ℕ) (ps : List Piece) → end_of_last_field ≤ next → All (LiesIn end_of_last_field) ps → All (LiesIn next) ps
+ends_later end_of_last_field next ps low ends = λ k d h. let e = ends k d h in omega (arith, e, low)
 
-write_ascending_field : (s : Item) (n reach next : ℕ) (ps : List Piece) (p : Piece) → AreDisjoint n ps → All (LiesIn reach) ps → reach ≤ p.at → p.at + length p.bytes ≤ n → next ≡ p.at + length p.bytes → Behind s n next (ps ++ p ∷ [])
-write_ascending_field s n reach next ps p apart ends low inside is = record {
-  apart = one_behind n reach next ps p apart ends low inside is;
-  ends = All-push (LiesIn next) ps p (ends_later reach next ps (omega (arith, low, is)) ends) (omega (arith, is));
+write_ascending_field : (s : Item) (n end_of_last_field next : ℕ) (ps : List Piece) (p : Piece) → AreDisjoint n ps → All (LiesIn end_of_last_field) ps → end_of_last_field ≤ p.at → p.at + length p.bytes ≤ n → next ≡ p.at + length p.bytes → Behind s n next (ps ++ p ∷ [])
+write_ascending_field s n end_of_last_field next ps p apart ends low inside is = record {
+  apart = one_behind n end_of_last_field next ps p apart ends low inside is;
+  ends = All-push (LiesIn next) ps p (ends_later end_of_last_field next ps (omega (arith, low, is)) ends) (omega (arith, is));
 }
 
-pub site_behind : (s : Item) (reach next : ℕ) (ps : List Piece) (r : InputRelocation) (d : Decision) → AreDisjoint (length s.bytes) ps → All (LiesIn reach) ps → DecisionLies (length s.bytes) r d → end_of_decision reach r d ≡ Some next → Behind s (length s.bytes) next (ps ++ site_of s r (Ok d))
-site_behind s reach next ps r d apart ends lies is = by_decision s reach next ps r d apart ends lies is
+pub site_behind : (s : Item) (end_of_last_field next : ℕ) (ps : List Piece) (r : InputRelocation) (d : Decision) → AreDisjoint (length s.bytes) ps → All (LiesIn end_of_last_field) ps → DecisionLies (length s.bytes) r d → end_of_decision end_of_last_field r d ≡ Some next → Behind s (length s.bytes) next (ps ++ site_of s r (Ok d))
+site_behind s end_of_last_field next ps r d apart ends lies is = by_decision s end_of_last_field next ps r d apart ends lies is
   where
-    from_reach : (s : Item) (n reach next size : ℕ) (ps : List Piece) (p : Piece) → AreDisjoint n ps → All (LiesIn reach) ps → length p.bytes ≡ size → p.at + size ≤ n → (if nat_lt p.at reach then None else Some (p.at + size)) ≡ Some next → Behind s n next (ps ++ p ∷ [])
-    from_reach s n reach next size ps p apart ends long lies is =
-        elim (cases_lt p.at reach) [
-          | inl l ↦ (let t = lt-ltb p.at reach l in cc (rw t at is))
+    from_end : (s : Item) (n end_of_last_field next size : ℕ) (ps : List Piece) (p : Piece) → AreDisjoint n ps → All (LiesIn end_of_last_field) ps → length p.bytes ≡ size → p.at + size ≤ n → (if nat_lt p.at end_of_last_field then None else Some (p.at + size)) ≡ Some next → Behind s n next (ps ++ p ∷ [])
+    from_end s n end_of_last_field next size ps p apart ends long lies is =
+        elim (cases_lt p.at end_of_last_field) [
+          | inl l ↦ (let t = lt-ltb p.at end_of_last_field l in cc (rw t at is))
           | inr m ↦
-              (let t = le-ltb p.at reach m in
+              (let t = le-ltb p.at end_of_last_field m in
               let e : p.at + size ≡ next = cc (rw t at is) in
-              write_ascending_field s n reach next ps p apart ends m (omega (arith, long, lies)) (omega (arith, long, e)))
+              write_ascending_field s n end_of_last_field next ps p apart ends m (omega (arith, long, lies)) (omega (arith, long, e)))
         ]
 
-    by : (s : Item) (n reach next : ℕ) (ps : List Piece) (r : InputRelocation) (o : Option Written) → AreDisjoint n ps → All (LiesIn reach) ps → WrittenLies n r.offset o → end_of_written reach r.offset o ≡ Some next → Behind s n next (ps ++ site_by s r o)
-    by s n reach next ps r None apart ends lies is =
-        let e : reach ≡ next = cc in
+    by : (s : Item) (n end_of_last_field next : ℕ) (ps : List Piece) (r : InputRelocation) (o : Option Written) → AreDisjoint n ps → All (LiesIn end_of_last_field) ps → WrittenLies n r.offset o → end_of_written end_of_last_field r.offset o ≡ Some next → Behind s n next (ps ++ site_by s r o)
+    by s n end_of_last_field next ps r None apart ends lies is =
+        let e : end_of_last_field ≡ next = cc in
         subst (λ (qs : List Piece). Behind s n next qs) (sym (append-nil ps)) (record { apart = apart; ends = subst (λ (k : ℕ). All (LiesIn k) ps) e ends })
-    by s n reach next ps r (Some w) apart ends lies is = from_reach s n reach next (size_width w.size) ps (field_site s r.offset w.size w.value) apart ends (length-field_site s r.offset w.size w.value) lies is
+    by s n end_of_last_field next ps r (Some w) apart ends lies is = from_end s n end_of_last_field next (size_width w.size) ps (field_site s r.offset w.size w.value) apart ends (length-field_site s r.offset w.size w.value) lies is
 
-    by_decision : (s : Item) (reach next : ℕ) (ps : List Piece) (r : InputRelocation) (d : Decision) → AreDisjoint (length s.bytes) ps → All (LiesIn reach) ps → DecisionLies (length s.bytes) r d → end_of_decision reach r d ≡ Some next → Behind s (length s.bytes) next (ps ++ site_of s r (Ok d))
-    by_decision s reach next ps r Nothing apart ends lies is = by s (length s.bytes) reach next ps r None apart ends lies is
-    by_decision s reach next ps r (Field z v) apart ends lies is = by s (length s.bytes) reach next ps r (written_by (Field z v)) apart ends lies is
-    by_decision s reach next ps r (RelativeAddress v packed) apart ends lies is = by s (length s.bytes) reach next ps r (written_by (RelativeAddress v packed)) apart ends lies is
-    by_decision s reach next ps r (DynamicField z n i a) apart ends lies is = by s (length s.bytes) reach next ps r (written_by (DynamicField z n i a)) apart ends lies is
-    by_decision s reach next ps r (Rewritten row v) apart ends lies is = from_reach s (length s.bytes) reach next (pattern_size row) ps (template_site s r row v) apart ends (length-instruction s r row v lies) lies.ends is
-    by_decision s reach next ps r Partner apart ends lies is = by s (length s.bytes) reach next ps r None apart ends lies is
+    by_decision : (s : Item) (end_of_last_field next : ℕ) (ps : List Piece) (r : InputRelocation) (d : Decision) → AreDisjoint (length s.bytes) ps → All (LiesIn end_of_last_field) ps → DecisionLies (length s.bytes) r d → end_of_decision end_of_last_field r d ≡ Some next → Behind s (length s.bytes) next (ps ++ site_of s r (Ok d))
+    by_decision s end_of_last_field next ps r Nothing apart ends lies is = by s (length s.bytes) end_of_last_field next ps r None apart ends lies is
+    by_decision s end_of_last_field next ps r (Field z v) apart ends lies is = by s (length s.bytes) end_of_last_field next ps r (written_by (Field z v)) apart ends lies is
+    by_decision s end_of_last_field next ps r (RelativeAddress v packed) apart ends lies is = by s (length s.bytes) end_of_last_field next ps r (written_by (RelativeAddress v packed)) apart ends lies is
+    by_decision s end_of_last_field next ps r (DynamicField z n i a) apart ends lies is = by s (length s.bytes) end_of_last_field next ps r (written_by (DynamicField z n i a)) apart ends lies is
+    by_decision s end_of_last_field next ps r (Rewritten row v) apart ends lies is = from_end s (length s.bytes) end_of_last_field next (pattern_size row) ps (template_site s r row v) apart ends (length-instruction s r row v lies) lies.ends is
+    by_decision s end_of_last_field next ps r Partner apart ends lies is = by s (length s.bytes) end_of_last_field next ps r None apart ends lies is
 
 -- one more relocation, written behind the others
-pub ascended_more : (l : Layout) (g f k : ℕ) (s : Item) (os : List InputRelocation) (i reach next : ℕ) (x : InputRelocation) (d : Decision) (now room : List ℕ) → slice_get s.relocations i ≡ Some x → All (FieldLies l.machine (length s.bytes)) s.relocations
-    → HasAscended l g f k s os i reach now → relocation_errors l g f k s os i ≡ [] → decide l s i ≡ Ok d → end_of_decision reach x d ≡ Some next → room ≡ put_decision now x d → HasAscended l g f k s os (i + 1) next room
-ascended_more l g f k s os i reach next x d now room listed lies before none is reaches put =
+pub ascended_more : (l : Layout) (g f k : ℕ) (s : Item) (os : List InputRelocation) (i end_of_last_field next : ℕ) (x : InputRelocation) (d : Decision) (now room : List ℕ) → slice_get s.relocations i ≡ Some x → All (FieldLies l.machine (length s.bytes)) s.relocations
+    → HasAscended l g f k s os i end_of_last_field now → relocation_errors l g f k s os i ≡ [] → decide l s i ≡ Ok d → end_of_decision end_of_last_field x d ≡ Some next → room ≡ put_decision now x d → HasAscended l g f k s os (i + 1) next room
+ascended_more l g f k s os i end_of_last_field next x d now room listed lies before none is reaches put =
     let ps = flat_map (site l s) (range_with_len 0 i) in
     let here = decision_site l s i x d listed is in
     let more : flat_map (site l s) (range_with_len 0 (i + 1)) ≡ ps ++ site_of s x (Ok d) = flat_map-numbers (site l s) i ∙ ap (λ (qs : List Piece). ps ++ qs) here in
     let lie = decision_lies l s i (length s.bytes) x d listed refl lies is in
-    let behind = site_behind s reach next ps x d before.apart before.ends lie reaches in
+    let behind = site_behind s end_of_last_field next ps x d before.apart before.ends lie reaches in
     let apart : AreDisjoint (length s.bytes) (ps ++ (site_of s x (Ok d) ++ [])) = subst (λ (qs : List Piece). AreDisjoint (length s.bytes) (ps ++ qs)) (sym (append-nil (site_of s x (Ok d)))) behind.apart in
     record {
       none = none_refused l g f k s os i before.none none;
@@ -108,9 +108,9 @@ ascended_more l g f k s os i reach next x d now room listed lies before none is 
     }
 
 -- the same of what a step of the walk gives
-pub ascended_next : (l : Layout) (g f k : ℕ) (s : Item) (os : List InputRelocation) (i reach next : ℕ) (o : Option ℕ) (now room : List ℕ) → All (FieldLies l.machine (length s.bytes)) s.relocations
-    → HasAscended l g f k s os i reach now → relocation_errors l g f k s os i ≡ [] → IsNext l s i reach o now room → o ≡ Some next → HasAscended l g f k s os (i + 1) next room
-ascended_next l g f k s os i reach next o now room lies before none step is = ascended_more l g f k s os i reach next step.relocation step.decision now room step.listed lies before none step.is (sym step.reached ∙ is) (step.written next is)
+pub ascended_next : (l : Layout) (g f k : ℕ) (s : Item) (os : List InputRelocation) (i end_of_last_field next : ℕ) (o : Option ℕ) (now room : List ℕ) → All (FieldLies l.machine (length s.bytes)) s.relocations
+    → HasAscended l g f k s os i end_of_last_field now → relocation_errors l g f k s os i ≡ [] → IsNext l s i end_of_last_field o now room → o ≡ Some next → HasAscended l g f k s os (i + 1) next room
+ascended_next l g f k s os i end_of_last_field next o now room lies before none step is = ascended_more l g f k s os i end_of_last_field next step.relocation step.decision now room step.listed lies before none step.is (sym step.reached ∙ is) (step.written next is)
 
 -- ---- all of them
 
@@ -126,21 +126,21 @@ nothing_shared : (n : ℕ) (ps : List Piece) → AreDisjoint n ps → least_exte
 nothing_shared n ps h = none-shared (map extent_of ps) (pairs_beside ps h.apart)
 
 -- the first fault of a relocation is that of all
-pub ascending_refused : (l : Layout) (g f k : ℕ) (s : Item) (os : List InputRelocation) (i reach : ℕ) (room : List ℕ) (e : Error) → i < length s.relocations → HasAscended l g f k s os i reach room
+pub ascending_refused : (l : Layout) (g f k : ℕ) (s : Item) (os : List InputRelocation) (i end_of_last_field : ℕ) (room : List ℕ) (e : Error) → i < length s.relocations → HasAscended l g f k s os i end_of_last_field room
     → Refuses e (relocation_errors l g f k s os i) → Refuses e (relocations_errors l g f k s os)
-ascending_refused l g f k s os i reach room e h before here = refuses_decision l g f k s os i e h before.none here
+ascending_refused l g f k s os i end_of_last_field room e h before here = refuses_decision l g f k s os i e h before.none here
 
-at_end : (l : Layout) (g f k : ℕ) (s : Item) (os : List InputRelocation) (i reach : ℕ) (room : List ℕ) → i ≡ length s.relocations → HasAscended l g f k s os i reach room → HasAscended l g f k s os (length s.relocations) reach room
-at_end l g f k s os i reach room end h = subst (λ (n : ℕ). HasAscended l g f k s os n reach room) end h
+at_end : (l : Layout) (g f k : ℕ) (s : Item) (os : List InputRelocation) (i end_of_last_field : ℕ) (room : List ℕ) → i ≡ length s.relocations → HasAscended l g f k s os i end_of_last_field room → HasAscended l g f k s os (length s.relocations) end_of_last_field room
+at_end l g f k s os i end_of_last_field room end h = subst (λ (n : ℕ). HasAscended l g f k s os n end_of_last_field room) end h
 
 -- an item that was written so has none
-pub ascending_passes : (l : Layout) (g f k : ℕ) (s : Item) (os : List InputRelocation) (i reach : ℕ) (room : List ℕ) → i ≡ length s.relocations → HasAscended l g f k s os i reach room → relocations_errors l g f k s os ≡ []
-ascending_passes l g f k s os i reach room end h = (at_end l g f k s os i reach room end h).none
+pub ascending_passes : (l : Layout) (g f k : ℕ) (s : Item) (os : List InputRelocation) (i end_of_last_field : ℕ) (room : List ℕ) → i ≡ length s.relocations → HasAscended l g f k s os i end_of_last_field room → relocations_errors l g f k s os ≡ []
+ascending_passes l g f k s os i end_of_last_field room end h = (at_end l g f k s os i end_of_last_field room end h).none
 
 -- no byte of the input is written twice
-pub ascending_apart : (l : Layout) (g f k : ℕ) (s : Item) (os : List InputRelocation) (i reach : ℕ) (room : List ℕ) → i ≡ length s.relocations → MovesApart l s os → HasAscended l g f k s os i reach room → shared_byte l s os ≡ None
-ascending_apart l g f k s os i reach room end moves h = moves.back (nothing_shared (length s.bytes) (sites l s) (at_end l g f k s os i reach room end h).apart)
+pub ascending_apart : (l : Layout) (g f k : ℕ) (s : Item) (os : List InputRelocation) (i end_of_last_field : ℕ) (room : List ℕ) → i ≡ length s.relocations → MovesApart l s os → HasAscended l g f k s os i end_of_last_field room → shared_byte l s os ≡ None
+ascending_apart l g f k s os i end_of_last_field room end moves h = moves.back (nothing_shared (length s.bytes) (sites l s) (at_end l g f k s os i end_of_last_field room end h).apart)
 
 -- and its bytes are there
-pub ascending_written : (l : Layout) (g f k : ℕ) (s : Item) (os : List InputRelocation) (i reach : ℕ) (room : List ℕ) → i ≡ length s.relocations → HasAscended l g f k s os i reach room → room ≡ item_bytes l s
-ascending_written l g f k s os i reach room end h = (at_end l g f k s os i reach room end h).bytes
+pub ascending_written : (l : Layout) (g f k : ℕ) (s : Item) (os : List InputRelocation) (i end_of_last_field : ℕ) (room : List ℕ) → i ≡ length s.relocations → HasAscended l g f k s os i end_of_last_field room → room ≡ item_bytes l s
+ascending_written l g f k s os i end_of_last_field room end h = (at_end l g f k s os i end_of_last_field room end h).bytes

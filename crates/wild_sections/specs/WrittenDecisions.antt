@@ -81,22 +81,22 @@ abbrev pub put_decision : List ℕ → InputRelocation → Decision → List ℕ
 put_decision old r (Rewritten row v) = put_template old (template_start row r) row v
 put_decision old r d = put_written old r.offset (written_by d)
 
--- the end of a field that begins at `reach` or after it; otherwise None
+-- the end of a field that begins at `end_of_last_field` or after it; otherwise None
 abbrev pub end_of_field : ℕ → ℕ → RelocationSize → Option ℕ
-end_of_field reach at size = if nat_lt at reach then None else Some (at + size_width size)
+end_of_field end_of_last_field at size = if nat_lt at end_of_last_field then None else Some (at + size_width size)
 
 abbrev pub end_of_written : ℕ → ℕ → Option Written → Option ℕ
-end_of_written reach at None = Some reach
-end_of_written reach at (Some w) = end_of_field reach at w.size
+end_of_written end_of_last_field at None = Some end_of_last_field
+end_of_written end_of_last_field at (Some w) = end_of_field end_of_last_field at w.size
 
 -- the same for the instruction of a row
 abbrev pub end_of_template : ℕ → ℕ → Row → Option ℕ
-end_of_template reach at row = if nat_lt at reach then None else Some (at + pattern_size row)
+end_of_template end_of_last_field at row = if nat_lt at end_of_last_field then None else Some (at + pattern_size row)
 
 -- the same for what a relocation writes
 abbrev pub end_of_decision : ℕ → InputRelocation → Decision → Option ℕ
-end_of_decision reach r (Rewritten row v) = end_of_template reach (template_start row r) row
-end_of_decision reach r d = end_of_written reach r.offset (written_by d)
+end_of_decision end_of_last_field r (Rewritten row v) = end_of_template end_of_last_field (template_start row r) row
+end_of_decision end_of_last_field r d = end_of_written end_of_last_field r.offset (written_by d)
 
 abbrev pub WrittenLies : ℕ → ℕ → Option Written → Type 0
 WrittenLies n at None = Unit {0}
@@ -117,13 +117,13 @@ DecisionLies n r d = WrittenLies n r.offset (written_by d)
 abbrev pub DecisionsLie : ℕ → List InputRelocation → List Decision → Type 0
 DecisionsLie n rs ds = (i : ℕ) (r : InputRelocation) (d : Decision) → slice_get rs i ≡ Some r → slice_get ds i ≡ Some d → DecisionLies n r d
 
--- relocation i is decided, and written if its bytes begin at `reach` or after it
-pub record IsNext (l : Layout) (s : Item) (i reach : ℕ) (next : Option ℕ) (old new : List ℕ) : Type 0 where
+-- relocation i is decided, and written if its bytes begin at `end_of_last_field` or after it
+pub record IsNext (l : Layout) (s : Item) (i end_of_last_field : ℕ) (next : Option ℕ) (old new : List ℕ) : Type 0 where
   pub relocation : InputRelocation
   pub listed : slice_get s.relocations i ≡ Some relocation
   pub decision : Decision
   pub is : decide l s i ≡ Ok decision
-  pub reached : next ≡ end_of_decision reach relocation decision
+  pub reached : next ≡ end_of_decision end_of_last_field relocation decision
   pub written : (end : ℕ) → next ≡ Some end → new ≡ put_decision old relocation decision
 
 -- the decisions are those of the section's relocations

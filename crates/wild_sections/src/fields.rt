@@ -57,40 +57,40 @@ pub(crate) fn write_decision(relocation: &InputRelocation, decision: Decision, r
     }
 }
 
-/// Writes a field if it begins at `reach` or after it, and returns its end; otherwise None.
+/// Writes a field if it begins at `end_of_last_field` or after it, and returns its end; otherwise None.
 #[inline]
 fn write_ascending_field(
-    reach: u64,
+    end_of_last_field: u64,
     offset: u64,
     size: RelocationSize,
     value: u64,
     room: &mut [u8],
 ) -> Option<u64>
     requires lies { offset + size_width size ≤ length room.old }
-    ensures reach { result ≡ end_of_field reach offset size }
+    ensures field_end { result ≡ end_of_field end_of_last_field offset size }
     ensures written { (end : ℕ) → result ≡ Some end → room.new ≡ put_field room.old offset size value }
 {
-    if offset < reach {
+    if offset < end_of_last_field {
         return None;
     }
     size.write_at(value, room, offset as usize);
     Some(offset + size.width() as u64)
 }
 
-/// Writes a whole instruction if it begins at `reach` or after it, and returns its end; otherwise None.
+/// Writes a whole instruction if it begins at `end_of_last_field` or after it, and returns its end; otherwise None.
 fn write_ascending_template(
-    reach: u64,
+    end_of_last_field: u64,
     relocation: &InputRelocation,
     row: Row,
     value: u64,
     room: &mut [u8],
 ) -> Option<u64>
     requires lies { TemplateLies (length room.old) relocation.now row }
-    ensures reach { result ≡ end_of_template reach (template_start row relocation.now) row }
+    ensures field_end { result ≡ end_of_template end_of_last_field (template_start row relocation.now) row }
     ensures written { (end : ℕ) → result ≡ Some end → room.new ≡ put_template room.old (template_start row relocation.now) row value }
 {
     let start = template_start(row, relocation);
-    if start < reach {
+    if start < end_of_last_field {
         return None;
     }
     write_template(relocation, row, value, room);
@@ -108,45 +108,57 @@ fn put_four(value: u64, room: &mut [u8], at: usize)
     put(room, at, &low.to_le_bytes());
 }
 
-/// Writes a four-byte field if it begins at `reach` or after it, and returns its end; otherwise None.
+/// Writes a four-byte field if it begins at `end_of_last_field` or after it, and returns its end; otherwise None.
 #[inline(always)]
 pub(crate) fn write_ascending_u32(
-    reach: u64,
+    end_of_last_field: u64,
     offset: u64,
     value: u64,
     room: &mut [u8],
 ) -> Option<u64>
     requires lies { offset + 4 ≤ length room.old }
-    ensures reach { result ≡ end_of_field reach offset (ByteSize Four) }
+    ensures field_end { result ≡ end_of_field end_of_last_field offset (ByteSize Four) }
     ensures written { (end : ℕ) → result ≡ Some end → room.new ≡ put_field room.old offset (ByteSize Four) value }
 {
-    if reach > offset {
+    if end_of_last_field > offset {
         return None;
     }
     put_four(value, room, offset as usize);
     Some(offset + 4)
 }
 
-/// Writes a decided relocation if its field or instruction begins at `reach` or after it, and returns its end; otherwise None.
+/// Writes a decided relocation if its field or instruction begins at `end_of_last_field` or after it, and returns its end; otherwise None.
 #[inline]
 pub(crate) fn write_ascending_decision(
-    reach: u64,
+    end_of_last_field: u64,
     relocation: &InputRelocation,
     decision: Decision,
     room: &mut [u8],
 ) -> Option<u64>
     requires lies { DecisionLies (length room.old) relocation.now decision }
-    ensures reach { result ≡ end_of_decision reach relocation.now decision }
+    ensures field_end { result ≡ end_of_decision end_of_last_field relocation.now decision }
     ensures written { (end : ℕ) → result ≡ Some end → room.new ≡ put_decision room.old relocation.now decision }
 {
     let offset = relocation.offset;
     match decision {
-        Decision::Nothing | Decision::Partner => Some(reach),
-        Decision::Field { size, value } => write_ascending_field(reach, offset, size, value, room),
-        Decision::DynamicField { size, .. } => write_ascending_field(reach, offset, size, 0, room),
+        Decision::Nothing | Decision::Partner => Some(end_of_last_field),
+        Decision::Field { size, value } => write_ascending_field(
+            end_of_last_field,
+            offset,
+            size,
+            value,
+            room,
+        ),
+        Decision::DynamicField { size, .. } => write_ascending_field(
+            end_of_last_field,
+            offset,
+            size,
+            0,
+            room,
+        ),
         Decision::RelativeAddress { value, packed } => {
             write_ascending_field(
-                reach,
+                end_of_last_field,
                 offset,
                 ADDRESS,
                 relative_field_content(value, packed),
@@ -154,7 +166,11 @@ pub(crate) fn write_ascending_decision(
             )
         }
         Decision::Rewritten { row, value } => write_ascending_template(
-            reach, relocation, row, value, room,
+            end_of_last_field,
+            relocation,
+            row,
+            value,
+            room,
         ),
     }
 }

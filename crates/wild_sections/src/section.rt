@@ -103,14 +103,14 @@ fn write_decisions(item: &ItemRef, decisions: &[Decision], room: &mut [u8])
     }
 }
 
-/// Decides a relocation and writes it if its bytes begin at `reach` or after it; returns their end, otherwise None.
+/// Decides a relocation and writes it if its bytes begin at `end_of_last_field` or after it; returns their end, otherwise None.
 #[inline(never)]
 fn write_decided<A: Arch>(
     resolved: &Resolved<A>,
     origin: &Origin,
     item: &ItemRef,
     index: usize,
-    reach: u64,
+    end_of_last_field: u64,
     room: &mut [u8],
 ) -> Result<Option<u64>, Error>
     requires index { index < length item.now.relocations.now }
@@ -118,12 +118,12 @@ fn write_decided<A: Arch>(
     requires lies { All (FieldLies resolved.now.layout.now.machine (length room.old)) item.now.relocations.now }
     requires whole { length room.old ≡ length item.now.bytes.now }
     ensures faults { Answers result (relocation_errors resolved.now.layout.now origin.now.place.group origin.now.place.file origin.now.place.section (item_now item.now) origin.now.relocations.now index) }
-    ensures next { IfOk result (λ next. IsNext resolved.now.layout.now (item_now item.now) index reach next room.old room.new) }
+    ensures next { IfOk result (λ next. IsNext resolved.now.layout.now (item_now item.now) index end_of_last_field next room.old room.new) }
 {
     let decision = decide_at(resolved, origin, item, index)?;
     let relocations = item.relocations;
     let relocation = &relocations[index];
-    Ok(write_ascending_decision(reach, relocation, decision, room))
+    Ok(write_ascending_decision(end_of_last_field, relocation, decision, room))
 }
 
 /// Writes the relocations of an item over its bytes, as long as the bytes of each begin at the end of the previous ones or after it.
@@ -144,7 +144,7 @@ fn write_ascending<A: Arch>(
 {
     let relocations = item.relocations;
     let targets = resolved.targets();
-    let mut reach = 0;
+    let mut end_of_last_field = 0;
     // Whether rows for the previous relocation's type may include this one.
     let mut partner = false;
     for index in 0..relocations.len() {
@@ -152,15 +152,15 @@ fn write_ascending<A: Arch>(
         let end = match pc32_value(resolved, targets, item, index, relocation, partner) {
             Some(value) => {
                 partner = false;
-                write_ascending_u32(reach, relocation.offset, value, room)
+                write_ascending_u32(end_of_last_field, relocation.offset, value, room)
             }
             None => {
                 partner = may_take_next(relocation.number);
-                write_decided(resolved, origin, item, index, reach, room)?
+                write_decided(resolved, origin, item, index, end_of_last_field, room)?
             }
         };
         match end {
-            Some(end) => reach = end,
+            Some(end) => end_of_last_field = end,
             None => return Ok(false),
         }
     }

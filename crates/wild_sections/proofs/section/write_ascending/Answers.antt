@@ -27,7 +27,7 @@ returns-in_err-end-in-None-clause-faults g c =
     let p = err_from_is_err_and r.result r.ensures.1 in
     let test = c.loop-index-test.true in
     let below : c.loop-index.index < length c.args.item.now.relocations.now = omega (arith, test) in
-    rw (p.1, p.2) (ascending_refused c.args.resolved.now.layout.now c.args.origin.now.place.group c.args.origin.now.place.file c.args.origin.now.place.section (item_now c.args.item.now) c.args.origin.now.relocations.now c.loop-index.index c.loop-index.reach c.loop-index.room _ below c.loop-index.invariant.ascended c.in_err-end-in-None.ensures.faults)
+    rw (p.1, p.2) (ascending_refused c.args.resolved.now.layout.now c.args.origin.now.place.group c.args.origin.now.place.file c.args.origin.now.place.section (item_now c.args.item.now) c.args.origin.now.relocations.now c.loop-index.index c.loop-index.end_of_last_field c.loop-index.room _ below c.loop-index.invariant.ascended c.in_err-end-in-None.ensures.faults)
 
 pub loop-index-preserved : goal.loop-index-preserved
 loop-index-preserved g c =
@@ -44,11 +44,11 @@ loop-index-preserved g c =
           (let d = w.in-Some.ensures.is w.in-Some.value refl in
           let ends = sym w.end-is ∙ c.in-Some-end.is in
           record {
-            ascended = rw w.room-is (ascended_more l place.group place.file place.section s os c.loop-index.index c.loop-index.reach c.in-Some-end.end _ _ c.loop-index.room _ listed lies c.loop-index.invariant.ascended (ok_has_none l place.group place.file place.section s os c.loop-index.index _ d) d (sym w.write_ascending_u32-end.ensures.reach ∙ ends) (w.write_ascending_u32-end.ensures.written c.in-Some-end.end ends));
+            ascended = rw w.room-is (ascended_more l place.group place.file place.section s os c.loop-index.index c.loop-index.end_of_last_field c.in-Some-end.end _ _ c.loop-index.room _ listed lies c.loop-index.invariant.ascended (ok_has_none l place.group place.file place.section s os c.loop-index.index _ d) d (sym w.write_ascending_u32-end.ensures.field_end ∙ ends) (w.write_ascending_u32-end.ensures.written c.in-Some-end.end ends));
             partner = rw w.partner-is (partner_next s.relocations c.loop-index.index _ false listed (sym (w.in-Some.ensures.alone w.in-Some.value refl)));
           })
       | in-None+in_ok-end-in-None w ↦ record {
-        ascended = rw w.room-is (ascended_next l place.group place.file place.section s os c.loop-index.index c.loop-index.reach c.in-Some-end.end _ c.loop-index.room _ lies c.loop-index.invariant.ascended w.in_ok-end-in-None.ensures.faults w.in_ok-end-in-None.ensures.next (sym w.end-is ∙ c.in-Some-end.is));
+        ascended = rw w.room-is (ascended_next l place.group place.file place.section s os c.loop-index.index c.loop-index.end_of_last_field c.in-Some-end.end _ c.loop-index.room _ lies c.loop-index.invariant.ascended w.in_ok-end-in-None.ensures.faults w.in_ok-end-in-None.ensures.next (sym w.end-is ∙ c.in-Some-end.is));
         partner = rw w.partner-is (partner_next s.relocations c.loop-index.index _ w.may_take_next-partner.result listed w.may_take_next-partner.ensures);
       }
     ]
@@ -57,10 +57,10 @@ pub returns-clause-none : goal.returns-clause-none
 returns-clause-none g c = λ e.
     let end = c.loop-index.auto.index-end in
     let out = c.loop-index-test.false in
-    ascending_passes c.args.resolved.now.layout.now c.args.origin.now.place.group c.args.origin.now.place.file c.args.origin.now.place.section (item_now c.args.item.now) c.args.origin.now.relocations.now c.loop-index.index c.loop-index.reach c.loop-index.room (omega (arith, end, out)) c.loop-index.invariant.ascended
+    ascending_passes c.args.resolved.now.layout.now c.args.origin.now.place.group c.args.origin.now.place.file c.args.origin.now.place.section (item_now c.args.item.now) c.args.origin.now.relocations.now c.loop-index.index c.loop-index.end_of_last_field c.loop-index.room (omega (arith, end, out)) c.loop-index.invariant.ascended
 
 pub returns-clause-apart : goal.returns-clause-apart
 returns-clause-apart g c = λ e.
     let end = c.loop-index.auto.index-end in
     let out = c.loop-index-test.false in
-    ascending_apart c.args.resolved.now.layout.now c.args.origin.now.place.group c.args.origin.now.place.file c.args.origin.now.place.section (item_now c.args.item.now) c.args.origin.now.relocations.now c.loop-index.index c.loop-index.reach c.loop-index.room (omega (arith, end, out)) c.requires.moves c.loop-index.invariant.ascended
+    ascending_apart c.args.resolved.now.layout.now c.args.origin.now.place.group c.args.origin.now.place.file c.args.origin.now.place.section (item_now c.args.item.now) c.args.origin.now.relocations.now c.loop-index.index c.loop-index.end_of_last_field c.loop-index.room (omega (arith, end, out)) c.requires.moves c.loop-index.invariant.ascended

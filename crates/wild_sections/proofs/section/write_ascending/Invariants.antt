@@ -6,6 +6,6 @@ use Rattle.wild_sections.proofs.section.write_ascending.Given as goal
 
 abbrev pub invariant-loop-index : goal.invariant-loop-index
 invariant-loop-index g l = record {
-  ascended : HasAscended l.resolved.layout.now l.origin.place.group l.origin.place.file l.origin.place.section (item_now l.item) l.origin.relocations.now l.index l.reach l.room;
+  ascended : HasAscended l.resolved.layout.now l.origin.place.group l.origin.place.file l.origin.place.section (item_now l.item) l.origin.relocations.now l.index l.end_of_last_field l.room;
   partner : l.partner ≡ may_be_partner l.relocations l.index;
 }

@@ -17,6 +17,6 @@ returns-clause-next g c =
       listed = read_at s.relocations c.args.index _ c.requires.index c.index-relocations-index.is;
       decision = c.in_ok-decision.decision;
       is = c.in_ok-decision.ensures.decision;
-      reached = c.write_ascending_decision.ensures.reach;
+      reached = c.write_ascending_decision.ensures.field_end;
       written = c.write_ascending_decision.ensures.written;
     }
