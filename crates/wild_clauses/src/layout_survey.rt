@@ -14,7 +14,8 @@ pub struct LayoutSurvey {
     pub unmerged: bool,
     pub(crate) passed: bool,
     pub(crate) has_no_copies_versions_or_sorting: bool,
-    pub(crate) relocations: u64,
+    /// The number of relocations, at most 2^64 - 1.
+    pub relocations: u64,
 }
 
 impl LayoutSurvey {

@@ -37,4 +37,6 @@ mod verdict;
 mod versions;
 
 pub use layout_survey::LayoutSurvey;
+pub use partial::file_tables_fit;
+pub use survey::section_passes;
 pub use verdict::{well_formed, well_formed_with};

@@ -181,6 +181,13 @@ impl Test<Group> for TablesFit {
     }
 }
 
+/// Whether each relocation table of a file has a target in the file, and an entry for each of its relocations.
+pub fn file_tables_fit(file: &File) -> bool
+    ensures { result ≡ file_tables_fit file.now }
+{
+    TablesFit.passes(file)
+}
+
 /// A group has one word for its flags and one for each member (gABI, "Section Groups").
 struct GroupFitsMembers;
 

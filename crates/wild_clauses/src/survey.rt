@@ -62,6 +62,13 @@ impl Test<InputSection> for SectionPasses<'_> {
     }
 }
 
+/// Whether a section and its relocations pass each test on a section or a relocation.
+pub fn section_passes(layout: &Layout, section: &InputSection) -> bool
+    ensures { result ≡ section_passes layout.now section.now }
+{
+    SectionPasses { layout }.passes(section)
+}
+
 /// What one pass over groups computes: whether each group passes, whether each file is ordinary, whether no section has merged
 /// strings, and the number of relocations, at most 2^64 - 1. A file is ordinary if it has no copies and no sorted section, and no
 /// versions are needed from it.

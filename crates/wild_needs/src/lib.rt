@@ -38,6 +38,7 @@ pub use table::{
     SymtabName, SymtabPass, SymtabSymbols, TablePart, global_count, has_long, is_local, is_on_side,
     local_count, passes, prefix, suffix, table_room,
 };
+pub use tally::{SectionCounts, section_counts};
 pub use versions::{
     definition_size, definitions_size, need_count, need_size, needs_of, version_room,
 };

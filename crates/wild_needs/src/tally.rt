@@ -1,5 +1,5 @@
 //! Counts the dynamic relocations and RELR words of a file's placed sections.
-ghost use Rattle.std.specs.Prelude.{◌≡◌, ℕ, ◌+◌, ◌-◌, ◌^◌, ◌≤◌, ◌∷◌, true, min, map, List};
+ghost use Rattle.std.specs.Prelude.{◌≡◌, ℕ, ◌+◌, ◌-◌, ◌^◌, ◌≤◌, ◌∷◌, true, length, min, map, List};
 ghost use Rattle.wild_types.specs.declared.file.File.{File};
 ghost use Rattle.wild_types.specs.declared.input.InputRelocation.{InputRelocation};
 ghost use Rattle.wild_types.specs.declared.layout.Layout.{Layout};
@@ -7,6 +7,7 @@ ghost use Rattle.wild_types.specs.Lists.{total};
 ghost use Rattle.wild_placement.specs.PlacedSections.{Input, sorted_input, behind, placed_section, placed_sections, placed_file, sorted_sections, as_loaded, unread, of_last_file, processed_sections};
 ghost use Rattle.wild_placement.specs.FrameInputs.{kept_size};
 ghost use Rattle.wild_placement.specs.ReversedWords.{with_word_order};
+ghost use Rattle.wild_needs.specs.Entries.{rela_places, words_of, dynamic_relocations};
 ghost use Rattle.wild_needs.specs.Tallies.{section_facts, counted_in, may_have_items, reads_places, rest_of, tallied};
 ghost use Rattle.wild_relr.specs.declared.run.Run.TheVariants.{Closed};
 
@@ -151,6 +152,7 @@ impl<'a> Tally<'a> {
 }
 
 impl Sink<InputRelocation> for Tally<'_> {
+    ghost use Rattle.wild_needs.specs.Entries.{rela_places, words_of, dynamic_relocations};
     ghost use Rattle.wild_needs.specs.Tallies.{Tallies};
 
     type Error = Infallible;
@@ -190,6 +192,30 @@ fn count_section(
     match give_relocations(layout, file, section, &mut tally) {
         Ok(()) => tally.count,
         Err(never) => match never {},
+    }
+}
+
+/// The numbers of dynamic relocations and RELR words of a section, each at most 2^64 - 1.
+#[derive(Clone, Copy, Debug, PartialEq, Eq)]
+pub struct SectionCounts {
+    /// Relative entries with addends.
+    pub listed: u64,
+    /// RELR words.
+    pub packed: u64,
+    /// Entries that name a symbol or a resolver.
+    pub symbolic: u64,
+}
+
+/// The numbers of dynamic relocations and RELR words of a section of a file, as placed, where the file's frames begin at address 0.
+pub fn section_counts(layout: &Layout, file: &File, section: &InputSection) -> SectionCounts
+    ensures listed { result.listed ≡ min (2 ^ 64 - 1) (length (rela_places layout.now (placed_section layout.now file.now 0 section.now))) }
+    ensures packed { result.packed ≡ min (2 ^ 64 - 1) (length (words_of layout.now (placed_section layout.now file.now 0 section.now))) }
+    ensures symbolic { result.symbolic ≡ min (2 ^ 64 - 1) (length (dynamic_relocations layout.now (placed_section layout.now file.now 0 section.now))) }
+{
+    SectionCounts {
+        listed: count_section(Counted::Listed, layout, 0, file, section),
+        packed: count_section(Counted::Packed, layout, 0, file, section),
+        symbolic: count_section(Counted::Left, layout, 0, file, section),
     }
 }
 

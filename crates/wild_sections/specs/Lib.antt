@@ -8,3 +8,4 @@ pub mod SymbolAddresses
 pub mod Strings
 pub mod Targets
 pub mod Values
+pub mod SymbolTables

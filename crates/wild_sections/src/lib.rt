@@ -31,4 +31,4 @@ pub use resolve::{
     address_for, offset_from, pointer_offset, raw_address, relative_value, sum, value_or_0,
 };
 pub use section::{offset_of, write_data};
-pub use values::Resolved;
+pub use values::{Resolved, SymbolTables};

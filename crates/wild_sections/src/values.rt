@@ -20,6 +20,7 @@ ghost use Rattle.wild_plan_rules.specs.MergedSections.{are_unmerged};
 ghost use Rattle.wild_sections.specs.DefiningFiles.{HasDefiningFiles, defining_file_among, layout_needs_owner_files};
 ghost use Rattle.wild_sections.specs.Targets.{HasTargets};
 ghost use Rattle.wild_sections.specs.Indexes.{HasIndexes};
+ghost use Rattle.wild_sections.specs.SymbolTables.{HasSymbolTables};
 
 use crate::defining_file::{DefiningFile, file_at, find_defining_files};
 use crate::file_of_symbol::SymbolFile;
@@ -151,36 +152,22 @@ fn indexes_of(alloc: Global, layout: &Layout) -> Result<Vec<Option<usize>>, Allo
     }
 }
 
-/// A layout for machine `A` with the properties of its symbols, as all steps of the writer use it.
+/// The properties of a layout's symbols, computed once.
 #[derive(Drop)]
-pub struct Resolved<'a, A: Arch> {
-    pub layout: &'a Layout,
-    /// Header indexes for exported symbols that are in no input section.
-    pub named: NamedSections,
+pub struct SymbolTables {
+    named: NamedSections,
     values: Vec<Option<u64>>,
     targets: Vec<Option<u64>>,
     homes: Vec<Option<SymbolFile>>,
     owners: Vec<Option<DefiningFile>>,
     indexes: Vec<Option<usize>>,
     ascend: bool,
-    arch: PhantomData<A>,
-    ghost machine: { layout.now.machine ≡ A.machine },
-    ghost named_are: { named ≡ named_sections layout.now },
-    ghost values_are: { HasValues layout.now values.items },
-    ghost targets_are: { HasTargets layout.now targets.items },
-    ghost homes_are: { HasSymbolFiles layout.now homes.items },
-    ghost owners_are: { HasDefiningFiles layout.now owners.items },
-    ghost indexes_are: { HasIndexes layout.now indexes.items },
-    ghost ascend_is: { ascend ≡ true → all_ascend layout.now ≡ true },
-    ghost fits: { FieldsFit layout.now },
 }
 
-impl<'a, A: Arch> Resolved<'a, A> {
+impl SymbolTables {
     /// Computes the properties of a layout's symbols.
-    pub fn new(alloc: Global, layout: &'a Layout) -> Result<Self, AllocError>
-        requires machine { layout.now.machine ≡ A.machine }
-        requires fits { FieldsFit layout.now }
-        ensures { IfOk result (λ r. r.layout.now ≡ layout.now) }
+    pub fn new(alloc: Global, layout: &Layout) -> Result<Self, AllocError>
+        ensures { IfOk result (λ t. HasSymbolTables layout.now t) }
     {
         Self::with_survey(alloc, layout, layout_needs_owner_files(layout))
     }
@@ -188,21 +175,18 @@ impl<'a, A: Arch> Resolved<'a, A> {
     /// The same; the caller knows whether relocations depend on the file that defines a symbol.
     pub fn with_survey(
         alloc: Global,
-        layout: &'a Layout,
+        layout: &Layout,
         needs_owner_files: bool,
     ) -> Result<Self, AllocError>
-        requires machine { layout.now.machine ≡ A.machine }
-        requires fits { FieldsFit layout.now }
-        requires needs_owner_files { needs_owner_files ≡ layout_needs_owner_files layout.now }
-        ensures { IfOk result (λ r. r.layout.now ≡ layout.now) }
+        requires { needs_owner_files ≡ layout_needs_owner_files layout.now }
+        ensures { IfOk result (λ t. HasSymbolTables layout.now t) }
     {
         let values = values_of(alloc, layout)?;
         let targets = targets_of(alloc, layout, &values, needs_owner_files)?;
         let homes = symbol_files_of(alloc, layout)?;
         let owners = defining_files_of(alloc, layout, needs_owner_files)?;
         let indexes = indexes_of(alloc, layout)?;
-        Ok(Resolved {
-            layout,
+        Ok(SymbolTables {
             named: named_sections(layout),
             values,
             targets,
@@ -210,8 +194,53 @@ impl<'a, A: Arch> Resolved<'a, A> {
             owners,
             indexes,
             ascend: needs_owner_files && all_ascend(layout),
-            arch: PhantomData,
         })
+    }
+}
+
+/// A layout for machine `A` with the properties of its symbols, as all steps of the writer use it.
+#[derive(Drop)]
+pub struct Resolved<'a, A: Arch> {
+    pub layout: &'a Layout,
+    /// Header indexes for exported symbols that are in no input section.
+    pub named: NamedSections,
+    values: &'a [Option<u64>],
+    targets: &'a [Option<u64>],
+    homes: &'a [Option<SymbolFile>],
+    owners: &'a [Option<DefiningFile>],
+    indexes: &'a [Option<usize>],
+    ascend: bool,
+    arch: PhantomData<A>,
+    ghost machine: { layout.now.machine ≡ A.machine },
+    ghost named_are: { named ≡ named_sections layout.now },
+    ghost values_are: { HasValues layout.now values.now },
+    ghost targets_are: { HasTargets layout.now targets.now },
+    ghost homes_are: { HasSymbolFiles layout.now homes.now },
+    ghost owners_are: { HasDefiningFiles layout.now owners.now },
+    ghost indexes_are: { HasIndexes layout.now indexes.now },
+    ghost ascend_is: { ascend ≡ true → all_ascend layout.now ≡ true },
+    ghost fits: { FieldsFit layout.now },
+}
+
+impl<'a, A: Arch> Resolved<'a, A> {
+    /// A layout with the properties of its symbols.
+    pub fn new(layout: &'a Layout, tables: &'a SymbolTables) -> Self
+        requires machine { layout.now.machine ≡ A.machine }
+        requires fits { FieldsFit layout.now }
+        requires tables { HasSymbolTables layout.now tables.now }
+        ensures { result.layout.now ≡ layout.now }
+    {
+        Resolved {
+            layout,
+            named: tables.named,
+            values: &tables.values,
+            targets: &tables.targets,
+            homes: &tables.homes,
+            owners: &tables.owners,
+            indexes: &tables.indexes,
+            ascend: tables.ascend,
+            arch: PhantomData,
+        }
     }
 
     /// The address of a symbol.
@@ -232,7 +261,7 @@ impl<'a, A: Arch> Resolved<'a, A> {
     pub(crate) fn targets(&self) -> &[Option<u64>]
         ensures { HasTargets self.now.layout.now result.now }
     {
-        &self.targets
+        self.targets
     }
 
     /// Whether relocations may name merged strings.
@@ -247,7 +276,7 @@ impl<'a, A: Arch> Resolved<'a, A> {
     /// The file of a symbol.
     #[tactic(auto, using(crate::proofs::DefiningFileLemmas::owner_there, crate::proofs::DefiningFileLemmas::owner_missing))]
     pub(crate) fn file(&self, symbol: SymbolIndex) -> Option<&'a File>
-        requires { symbol < length self.now.owners.items }
+        requires { symbol < length self.now.owners.now }
         ensures { option_copied result ≡ file_of (files_of self.now.layout.now.groups) symbol }
     {
         match self.owners[symbol.0] {
@@ -261,13 +290,13 @@ impl<'a, A: Arch> Resolved<'a, A> {
         requires { is_partial_link self.now.layout.now.kind ≡ true }
         ensures { result.now ≡ map (symbol_index self.now.layout.now) (range_with_len 0 (length self.now.layout.now.symbols)) }
     {
-        &self.indexes
+        self.indexes
     }
 
     /// The merged section of which a symbol, which the output defines, is the section symbol.
     #[tactic(auto, using(crate::proofs::DefiningFileLemmas::merged_is, crate::proofs::DefiningFileLemmas::merged_fileless))]
     fn section_in(&self, index: SymbolIndex, symbol: &Symbol) -> Option<&'a InputSection>
-        requires known { index < length self.now.owners.items }
+        requires known { index < length self.now.owners.now }
         requires plain { is_plain_own (flags_at self.now.layout.now index) ≡ true }
         requires symbol { slice_get self.now.layout.now.symbols index ≡ Some symbol.now }
         ensures { option_map (λ (s : InputSection). s.strings) (option_copied result) ≡ merged_strings self.now.layout.now index }
@@ -281,7 +310,7 @@ impl<'a, A: Arch> Resolved<'a, A> {
     /// The same for any symbol whose file is known.
     #[tactic(auto, using(crate::proofs::DefiningFileLemmas::merged_plain, crate::proofs::DefiningFileLemmas::merged_missing))]
     fn section_of(&self, symbol: SymbolIndex) -> Option<&'a InputSection>
-        requires { symbol < length self.now.owners.items }
+        requires { symbol < length self.now.owners.now }
         ensures { option_map (λ (s : InputSection). s.strings) (option_copied result) ≡ merged_strings self.now.layout.now symbol }
     {
         if !is_plain_own(flags_at(self.layout, symbol)) {
