@@ -1,8 +1,8 @@
 -- Strings, and bits of hashes.
 use Rattle.std.proofs.Common.{◌≡◌, ℕ, ◌<◌, ◌≤◌, List, length, refl, ◌^◌, ◌/◌, arith, Ok, drop, None, Some, Err, take}
-use Rattle.std.specs.Prelude.{bytes_eq, position}
+use Rattle.std.specs.Prelude.{position}
 use Rattle.std.proofs.Math.ListN.{drop_of_length-le}
-use Rattle.wild_hashes.specs.Reading.{is_zero, string_at, has_name}
+use Rattle.wild_hashes.specs.Reading.{is_zero, string_at}
 use Rattle.wild_hashes.specs.declared.fault.LookupFault.TheVariants as faults
 use Rattle.std.proofs.Math.Nat.{pow-le-pow_right, div-eq_of_lt}
 
@@ -14,12 +14,12 @@ shifted_out h shift l s = let g : 2 ^ 32 ≤ 2 ^ shift = pow-le-pow_right (omega
 pub no_string : (strings : List ℕ) (at : ℕ) → length strings ≤ at → position is_zero (drop at strings) ≡ None
 no_string strings at l = rw (drop_of_length-le strings l) refl
 
-pub string_cut : (strings name : List ℕ) (at : ℕ) → position is_zero (drop at strings) ≡ None → has_name (string_at strings) name at ≡ Err (faults.NoString at)
+pub string_cut : (strings : List ℕ) (at : ℕ) → position is_zero (drop at strings) ≡ None → string_at strings at ≡ Err (faults.NoString at)
 unfolding string_at
-string_cut strings name at e = rw e refl
+string_cut strings at e = rw e refl
 
-pub string_ends : (strings name : List ℕ) (at n : ℕ) → position is_zero (drop at strings) ≡ Some n → has_name (string_at strings) name at ≡ Ok (bytes_eq (take n (drop at strings)) name)
+pub string_ends : (strings : List ℕ) (at n : ℕ) → position is_zero (drop at strings) ≡ Some n → string_at strings at ≡ Ok (take n (drop at strings))
 unfolding string_at
-string_ends strings name at n e = rw e refl
+string_ends strings at n e = rw e refl
 
 pub ruleset string_steps = (no_string, string_cut, string_ends)

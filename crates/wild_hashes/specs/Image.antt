@@ -1,6 +1,7 @@
 -- The look-up of a name in an image. Its hash, symbol and string tables are found through the dynamic section.
 --   image_header image        the file header, if it is that of a loadable image and the program headers lie in the image
 --   dynamic_in image d        the entries of the dynamic section; none without a PT_DYNAMIC
+--   dynamic_records image d   where these entries are
 --   part_at image hs a        the file bytes from an address on, in the first PT_LOAD that contains it
 --   tables_of image tag       the tables for a look-up in the hash table of a tag; none if the image has no such table
 --   gnu_lookup_in image name, sysv_lookup_in image name   the symbol that the look-up in the image's table finds
@@ -21,6 +22,7 @@ use Rattle.wild_hashes.specs.declared.fault.ImageFault.{ImageFault}
 use Rattle.wild_hashes.specs.declared.fault.ImageFault.TheVariants as faults
 use Rattle.wild_hashes.specs.declared.image.Part.{Part}
 use Rattle.wild_hashes.specs.declared.image.Parts.{Parts}
+use Rattle.wild_hashes.specs.declared.image.Records.{Records}
 use Rattle.wild_hashes.specs.LookUp.{gnu_lookup, sysv_lookup}
 
 -- a step and the next one, which uses its value; the first fault is that of both
@@ -44,6 +46,13 @@ dynamic_in image None = Ok []
 dynamic_in image (Some d) =
     if d.file_size == 0 then Ok []
     else if nat_le (d.offset + d.file_size) (length image) then Ok (dynamic_entries image (d.file_size / dynamic_entry_size) d.offset) else Err (faults.Cut d.offset)
+
+-- where these entries are, with those from the first DT_NULL on
+abbrev pub dynamic_records : List ℕ → Option ProgramHeader → Result Records ImageFault
+dynamic_records image None = Ok (record { start = 0; count = 0 })
+dynamic_records image (Some d) =
+    if d.file_size == 0 then Ok (record { start = 0; count = 0 })
+    else if nat_le (d.offset + d.file_size) (length image) then Ok (record { start = d.offset; count = d.file_size / dynamic_entry_size }) else Err (faults.Cut d.offset)
 
 -- the file bytes of a segment from an address on: their file offset modulo 2^64 for faults, the index of the first in the image,
 -- and their number

@@ -3,3 +3,4 @@ pub mod Reading
 pub mod LookUp
 pub mod Image
 pub mod Laws
+pub mod ImageTables

@@ -1,12 +1,12 @@
 //! The look-up of a name in an image. Nothing is allocated.
-ghost use Rattle.std.specs.Prelude.{◌≡◌, ◌+◌, ◌*◌, ◌/◌, ◌≤◌, ◌<◌, [], length, IfOk, IfErr, IfSome, Ok, Err};
+ghost use Rattle.std.specs.Prelude.{◌≡◌, ◌+◌, ◌*◌, ◌/◌, ◌≤◌, ◌<◌, [], length, IfOk, IfErr, IfSome, Some, Ok, Err};
 ghost use Rattle.wild_records.specs.Dynamic.{dynamic_entry_size};
 ghost use Rattle.wild_records.specs.FileHeader.{file_header_at};
 ghost use Rattle.wild_records.specs.ProgramHeader.{program_header_size};
 ghost use Rattle.wild_records.specs.SymtabEntry.{symtab_entry_size};
 ghost use Rattle.wild_loader.specs.Headers.{is_loadable_header, program_headers};
 ghost use Rattle.wild_loader.specs.Tables.{dynamic_entries, first_dynamic, value_of_tag, has_in_memory};
-ghost use Rattle.wild_hashes.specs.Image.{image_header, dynamic_in, part_in, part_at, part_of, sized_part, strings_of, parts_by, tables_of, IsInside, AreInside, bytes_of, bytes_or_none, fault_in_part, fault_in_image, result_in_image, gnu_lookup_in, sysv_lookup_in};
+ghost use Rattle.wild_hashes.specs.Image.{image_header, dynamic_in, dynamic_records, part_in, part_at, part_of, sized_part, strings_of, parts_by, tables_of, IsInside, AreInside, bytes_of, bytes_or_none, fault_in_part, fault_in_image, result_in_image, gnu_by, sysv_by, gnu_lookup_in, sysv_lookup_in};
 
 use crate::fault::{ImageFault, LookupFault};
 use crate::lookup::{find_gnu_symbol, find_sysv_symbol};
@@ -40,9 +40,10 @@ pub struct Parts {
 
 /// `count` consecutive records of an image.
 #[derive(Clone, Copy)]
-struct Records {
-    start: usize,
-    count: usize,
+pub struct Records {
+    /// The index of the first byte of the first record.
+    pub start: usize,
+    pub count: usize,
 }
 
 /// Whether the header is that of an ELF64 little-endian executable or shared object for a known machine.
@@ -58,7 +59,7 @@ fn is_loadable(header: &FileHeader) -> bool
 
 /// The file header. Fails if it is not one of a loadable image, or if the program headers go past the image's end.
 #[tactic(auto, unfolding(crate::specs::Image::image_header))]
-fn read_header(image: &[u8]) -> Result<FileHeader, ImageFault>
+pub fn read_header(image: &[u8]) -> Result<FileHeader, ImageFault>
     ensures is { result ≡ image_header image.now }
     ensures room { IfOk result (λ h. h.program_offset + program_header_size * h.program_count ≤ length image.now) }
 {
@@ -80,7 +81,7 @@ fn read_header(image: &[u8]) -> Result<FileHeader, ImageFault>
 
 /// The first program header of type `PT_DYNAMIC`.
 #[tactic(auto, using(crate::proofs::ImageLemmas::dynamic_steps))]
-fn find_dynamic(image: &[u8], headers: Records) -> Option<ProgramHeader>
+pub(crate) fn find_dynamic(image: &[u8], headers: Records) -> Option<ProgramHeader>
     requires { headers.start + program_header_size * headers.count ≤ length image.now }
     ensures { result ≡ first_dynamic (program_headers image.now headers.count headers.start) }
 {
@@ -95,7 +96,7 @@ fn find_dynamic(image: &[u8], headers: Records) -> Option<ProgramHeader>
 
 /// The value of the first dynamic entry with a tag, before the first `DT_NULL`.
 #[tactic(auto, using(crate::proofs::ImageLemmas::tag_steps))]
-fn find_tag(image: &[u8], entries: Records, tag: u64) -> Option<u64>
+pub(crate) fn find_tag(image: &[u8], entries: Records, tag: u64) -> Option<u64>
     requires { entries.start + dynamic_entry_size * entries.count ≤ length image.now }
     ensures { result ≡ value_of_tag tag (dynamic_entries image.now entries.count entries.start) }
 {
@@ -141,7 +142,7 @@ fn part_within(image: &[u8], header: &ProgramHeader, address: u64) -> Part
 
 /// The file bytes from an address on, in the first `PT_LOAD` that contains the address.
 #[tactic(auto, using(crate::proofs::ImageLemmas::part_steps))]
-fn find_part(image: &[u8], headers: Records, address: u64) -> Result<Part, ImageFault>
+pub(crate) fn find_part(image: &[u8], headers: Records, address: u64) -> Result<Part, ImageFault>
     requires { headers.start + program_header_size * headers.count ≤ length image.now }
     ensures is { result ≡ part_at image.now (program_headers image.now headers.count headers.start) address }
     ensures room { IfOk result (λ p. IsInside image.now p) }
@@ -157,7 +158,7 @@ fn find_part(image: &[u8], headers: Records, address: u64) -> Result<Part, Image
 
 /// The file bytes of the table whose address the dynamic entry with this tag has.
 #[tactic(auto, unfolding(crate::specs::Image::part_of))]
-fn find_table(
+pub(crate) fn find_table(
     image: &[u8],
     headers: Records,
     tag: u64,
@@ -211,9 +212,13 @@ fn find_strings(
 
 /// The entries of the dynamic section; none if the image has no `PT_DYNAMIC` or an empty one.
 #[tactic(auto, unfolding(wild_loader::specs::Tables::dynamic_entries))]
-fn find_entries(image: &[u8], segment: Option<ProgramHeader>) -> Result<Records, ImageFault>
+pub(crate) fn find_entries(
+    image: &[u8],
+    segment: Option<ProgramHeader>,
+) -> Result<Records, ImageFault>
     ensures is { IfOk result (λ r. dynamic_in image.now segment ≡ Ok (dynamic_entries image.now r.count r.start)) }
     ensures refused { IfErr result (λ e. dynamic_in image.now segment ≡ Err e) }
+    ensures records { result ≡ dynamic_records image.now segment }
     ensures room { IfOk result (λ r. r.start + dynamic_entry_size * r.count ≤ length image.now) }
 {
     let Some(segment) = segment else {
@@ -278,7 +283,7 @@ fn find_tables(image: &[u8], tag: u64) -> Result<Option<Parts>, ImageFault>
 }
 
 /// The bytes of a part.
-fn bytes_of(image: &[u8], part: Part) -> &[u8]
+pub fn bytes_of(image: &[u8], part: Part) -> &[u8]
     requires { IsInside image.now part }
     ensures { result.now ≡ bytes_of image.now part }
 {
@@ -286,7 +291,7 @@ fn bytes_of(image: &[u8], part: Part) -> &[u8]
 }
 
 /// The bytes of a part; none if it was not found.
-fn bytes_or_none(image: &[u8], part: Result<Part, ImageFault>) -> &[u8]
+pub(crate) fn bytes_or_none(image: &[u8], part: Result<Part, ImageFault>) -> &[u8]
     requires { IfOk part (λ p. IsInside image.now p) }
     ensures { result.now ≡ bytes_or_none image.now part }
 {
@@ -297,7 +302,7 @@ fn bytes_or_none(image: &[u8], part: Result<Part, ImageFault>) -> &[u8]
 }
 
 /// The fault at an offset of a part, or the fault because of which the part was not found.
-fn fault_in_part(part: Result<Part, ImageFault>, at: u64) -> ImageFault
+pub(crate) fn fault_in_part(part: Result<Part, ImageFault>, at: u64) -> ImageFault
     ensures { result ≡ fault_in_part part at }
 {
     match part {
@@ -310,7 +315,7 @@ fn fault_in_part(part: Result<Part, ImageFault>, at: u64) -> ImageFault
 
 /// The fault of a symbol past the end of the symbol table.
 #[tactic(auto, using(crate::proofs::ImageLemmas::wrapped_once))]
-fn missing_symbol_fault(symbols: Result<Part, ImageFault>, index: u64) -> ImageFault
+pub(crate) fn missing_symbol_fault(symbols: Result<Part, ImageFault>, index: u64) -> ImageFault
     ensures { result ≡ fault_in_part symbols (symtab_entry_size * index) }
 {
     match symbols {
@@ -349,21 +354,56 @@ fn result_in_image(
     }
 }
 
+/// The bytes of these parts.
+fn lookup_tables(image: &[u8], parts: Parts) -> LookupTables<'_>
+    requires { AreInside image.now parts }
+    ensures hashes { result.hashes.now ≡ bytes_of image.now parts.hashes }
+    ensures symbols { result.symbols.now ≡ bytes_or_none image.now parts.symbols }
+    ensures strings { result.strings.now ≡ bytes_or_none image.now parts.strings }
+{
+    LookupTables {
+        hashes: bytes_of(image, parts.hashes),
+        symbols: bytes_or_none(image, parts.symbols),
+        strings: bytes_or_none(image, parts.strings),
+    }
+}
+
+/// Looks a name up in a GNU hash table of an image.
+pub(crate) fn look_up_gnu(
+    image: &[u8],
+    parts: Parts,
+    name: &[u8],
+) -> Result<Option<u64>, ImageFault>
+    requires { AreInside image.now parts }
+    ensures { result ≡ gnu_by image.now name.now (Some parts) }
+{
+    let tables = lookup_tables(image, parts);
+    result_in_image(parts, find_gnu_symbol(&tables, name))
+}
+
+/// Looks a name up in a System V hash table of an image.
+pub(crate) fn look_up_sysv(
+    image: &[u8],
+    parts: Parts,
+    name: &[u8],
+) -> Result<Option<u64>, ImageFault>
+    requires { AreInside image.now parts }
+    ensures { result ≡ sysv_by image.now name.now (Some parts) }
+{
+    let tables = lookup_tables(image, parts);
+    result_in_image(parts, find_sysv_symbol(&tables, name))
+}
+
 /// Looks a name up in the GNU hash table of an image, and returns the index of the dynamic symbol. `None` if no symbol has
 /// the name, or if the image has no such table, or one without buckets or without a Bloom filter.
 #[tactic(auto, unfolding(crate::specs::Image::gnu_lookup_in))]
 pub fn lookup_gnu(image: &[u8], name: &[u8]) -> Result<Option<u64>, ImageFault>
     ensures { result ≡ gnu_lookup_in image.now name.now }
 {
-    let Some(parts) = find_tables(image, DT_GNU_HASH)? else {
-        return Ok(None);
-    };
-    let tables = LookupTables {
-        hashes: bytes_of(image, parts.hashes),
-        symbols: bytes_or_none(image, parts.symbols),
-        strings: bytes_or_none(image, parts.strings),
-    };
-    result_in_image(parts, find_gnu_symbol(&tables, name))
+    match find_tables(image, DT_GNU_HASH)? {
+        Some(parts) => look_up_gnu(image, parts, name),
+        None => Ok(None),
+    }
 }
 
 /// Looks a name up in the System V hash table of an image, and returns the index of the dynamic symbol. `None` if no symbol
@@ -372,13 +412,8 @@ pub fn lookup_gnu(image: &[u8], name: &[u8]) -> Result<Option<u64>, ImageFault>
 pub fn lookup_sysv(image: &[u8], name: &[u8]) -> Result<Option<u64>, ImageFault>
     ensures { result ≡ sysv_lookup_in image.now name.now }
 {
-    let Some(parts) = find_tables(image, DT_HASH)? else {
-        return Ok(None);
-    };
-    let tables = LookupTables {
-        hashes: bytes_of(image, parts.hashes),
-        symbols: bytes_or_none(image, parts.symbols),
-        strings: bytes_or_none(image, parts.strings),
-    };
-    result_in_image(parts, find_sysv_symbol(&tables, name))
+    match find_tables(image, DT_HASH)? {
+        Some(parts) => look_up_sysv(image, parts, name),
+        None => Ok(None),
+    }
 }

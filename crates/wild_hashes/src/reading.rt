@@ -1,5 +1,5 @@
 //! Reads words of a hash table, and names of symbols.
-ghost use Rattle.std.specs.Prelude.{◌≡◌, ◌+◌, ◌*◌, ◌≤◌, ◌^◌, ◌<◌, length, position, IfOk, IfSome};
+ghost use Rattle.std.specs.Prelude.{◌≡◌, ◌+◌, ◌*◌, ◌≤◌, ◌^◌, ◌<◌, length, position, IfOk, IfSome, MatchResult, Ok, Err};
 ghost use Rattle.wild_hashes.specs.Reading.{read, is_zero, string_at, name_offset, symbol_name, has_name};
 ghost use Rattle.wild_hashes.specs.LookUp.{chain_word, is_named};
 
@@ -18,7 +18,7 @@ pub struct LookupTables<'a> {
 
 /// The 4 bytes at an offset of a table.
 #[tactic(auto, unfolding(crate::specs::Reading::read))]
-pub(crate) fn read_word(table: &[u8], at: usize) -> Result<u32, LookupFault>
+pub fn read_word(table: &[u8], at: usize) -> Result<u32, LookupFault>
     ensures read { result ≡ read table.now at 4 }
     ensures inside { IfOk result (λ _. at + 4 ≤ length table.now) }
 {
@@ -56,19 +56,27 @@ fn find_zero(bytes: &[u8]) -> Option<usize>
     bytes.iter().position(|byte| *byte == 0)
 }
 
+/// The bytes from an offset to the first zero.
+#[tactic(auto, using(crate::proofs::StringLemmas::string_steps), unfolding(crate::specs::Reading::string_at))]
+pub(crate) fn string_at(strings: &[u8], at: u64) -> Result<&[u8], LookupFault>
+    ensures { MatchResult result (λ s. string_at strings.now at ≡ Ok s.now) (λ e. string_at strings.now at ≡ Err e) }
+{
+    if at > strings.len() as u64 {
+        return Err(LookupFault::NoString { offset: at });
+    }
+    let rest = &strings[at as usize..];
+    match find_zero(rest) {
+        Some(end) => Ok(&rest[..end]),
+        None => Err(LookupFault::NoString { offset: at }),
+    }
+}
+
 /// Whether the string at an offset is the name.
-#[tactic(auto, using(crate::proofs::StringLemmas::string_steps))]
-fn is_string(strings: &[u8], at: usize, name: &[u8]) -> Result<bool, LookupFault>
+fn is_string(strings: &[u8], at: u64, name: &[u8]) -> Result<bool, LookupFault>
     ensures { result ≡ has_name (string_at strings.now) name.now at }
 {
-    if at > strings.len() {
-        return Err(LookupFault::NoString { offset: at as u64 });
-    }
-    let rest = &strings[at..];
-    match find_zero(rest) {
-        Some(end) => Ok(&rest[..end] == name),
-        None => Err(LookupFault::NoString { offset: at as u64 }),
-    }
+    let found = string_at(strings, at)?;
+    Ok(found == name)
 }
 
 /// `st_name` of a symbol.
@@ -92,7 +100,7 @@ pub(crate) fn has_name(
     ensures { result ≡ has_name (symbol_name tables.now.symbols.now tables.now.strings.now) name.now index }
 {
     let at = name_offset(tables.symbols, index)?;
-    is_string(tables.strings, at as usize, name)
+    is_string(tables.strings, at as u64, name)
 }
 
 /// Whether a symbol has that name. The names are compared only if the chain word has the name's hash.

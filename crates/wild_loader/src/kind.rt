@@ -80,7 +80,7 @@ fn kind_of_aarch64(number: u32) -> Option<DynamicKind>
 
 /// The kind of a relocation type; none if the machine has no such dynamic entry.
 #[tactic(auto, unfolding(crate::specs::Changes::kind_of))]
-pub(crate) fn dynamic_kind(machine: Machine, number: u32) -> Option<DynamicKind>
+pub fn dynamic_kind(machine: Machine, number: u32) -> Option<DynamicKind>
     ensures { result ≡ kind_of machine number }
 {
     match machine {

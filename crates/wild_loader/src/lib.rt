@@ -27,9 +27,9 @@ pub use aarch64::step_aarch64;
 pub use change::{Change, Patch};
 pub use effect::{Effect, Value, step, step_x86_64};
 pub use fault::LoadFault;
-pub use image::{Image, load_image, read_image};
+pub use image::{Image, load_image, read_image, read_machine_and_tables};
 pub use instruction::{Action, Cell, Deed, Operand};
-pub use kind::DynamicKind;
+pub use kind::{DynamicKind, dynamic_kind};
 pub use laws::{
     bytes_are_loaded, calls_are_read, dynamic_images_are_loaded, entries_make_changes,
     entries_store_words, images_are_moved, jumps_are_read, jumps_reach, linked_images_are_loaded,
@@ -40,6 +40,7 @@ pub use laws::{
 };
 pub use memory::{Machine, Memory, Run};
 pub use reach::reaches;
+pub use relocate::relocate_runs;
 pub use table::template_x86_64;
 pub use tables::{Span, Tables};
 pub use template::{Operation, Place, Prefix, Register, Sort, Template};

@@ -1,12 +1,14 @@
 //! The tables of an image applied to the bytes of its segments.
-ghost use Rattle.std.specs.Prelude.{◌≡◌, [], ◌++◌, Ok};
+ghost use Rattle.std.specs.Prelude.{◌≡◌, [], ◌++◌, None, Ok};
+ghost use Rattle.wild_loader.specs.Memory.{memory_of};
 ghost use Rattle.wild_loader.specs.Outcome.{Gives};
+ghost use Rattle.wild_loader.specs.Runs.{least_shared};
 ghost use Rattle.wild_loader.specs.Relocate.{add_relas, add_places, apart, notes, memory_with_patches, relocate};
 
 use crate::change::{Patch, entry_patch, packed_patch};
 use crate::fault::LoadFault;
 use crate::index::IndexedMemory;
-use crate::memory::Memory;
+use crate::memory::{Machine, Memory, Run};
 use crate::places::read_places;
 use crate::runs::{check_patches, put_patches};
 use crate::tables::Tables;
@@ -85,9 +87,9 @@ fn changed(alloc: Global, mut before: IndexedMemory, patches: &[Patch]) -> Resul
     })
 }
 
-/// Memory with the changes of all entries; no two may share an address.
+/// Indexed memory with the changes of all entries; no two may share an address.
 #[tactic(auto, unfolding(crate::specs::Relocate::relocate))]
-pub(crate) fn apply_tables(
+fn apply_tables(
     alloc: Global,
     world: &World,
     before: IndexedMemory,
@@ -105,4 +107,19 @@ pub(crate) fn apply_tables(
     let all = add_entries(alloc, world, &before, jumps, patches)?;
     let all = checked(alloc, all)?;
     changed(alloc, before, all.as_slice())
+}
+
+/// The bytes of segments with the changes of all entries; no two entries may share an address.
+pub fn relocate_runs(
+    alloc: Global,
+    world: &World,
+    machine: Machine,
+    runs: Items<Run>,
+    tables: &Tables,
+) -> Result<Memory, LoadFault>
+    requires { least_shared runs ≡ None }
+    ensures { Gives result (relocate world.now (memory_of machine runs) tables.now) }
+{
+    let before = IndexedMemory::new(alloc, machine, runs)?;
+    apply_tables(alloc, world, before, tables)
 }
