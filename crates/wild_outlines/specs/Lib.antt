@@ -1,0 +1,2 @@
+pub mod MayChange
+pub mod ClauseLaws
