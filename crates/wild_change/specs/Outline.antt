@@ -13,7 +13,7 @@ use Rattle.wild_change.specs.Change.{is_changeable}
 abbrev pub outline_section : InputSection → InputSection
 outline_section s = record s {
   bytes = if is_changeable s.slot then replicate (length s.bytes) 0 else s.bytes;
-  relocations = if is_changeable s.slot then [] else s.relocations
+  relocations = if is_changeable s.slot then [] else s.relocations;
 }
 
 abbrev pub outline_file : File → File

@@ -1,2 +1,3 @@
 pub mod MayChange
 pub mod ClauseLaws
+pub mod ShareLaws

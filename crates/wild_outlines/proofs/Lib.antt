@@ -1,0 +1,12 @@
+pub mod ListLemmas
+pub mod ChangedItems
+pub mod ClausesTests
+pub mod ClausesGroups
+pub mod ClausesSlots
+pub mod ClausesChecks
+pub mod ClausesChanged
+pub mod ClausesLemmas
+pub mod SharesFrames
+pub mod SharesTables
+pub mod SharesSections
+pub mod SharesLemmas
