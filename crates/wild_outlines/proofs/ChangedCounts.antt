@@ -38,7 +38,7 @@ one_replaced f g v k here other a (suc n) (suc j) is =
 
 -- ---- counts
 
--- a change alters no header
+-- a change alters none header
 counted-changed : (l : Layout) (c : Change) (k : ℕ) (s : InputSection) → counted (changed_layout l c) k s ≡ counted l k s
 counted-changed l c k s = rw (header (section_of_part (part_with role.EhFrame l.parts)), header (section_of l s.part)) refl
   where
@@ -75,33 +75,32 @@ pub counts-changed : (l : Layout) (c : Change) (s : InputSection) → found_sect
 unfolding counts
 counts-changed l c s found =
     let after = changed_layout l c in
-    let p = FoundSection-from_found l c s found in
     let n = length l.sections in
     elim (cases_Bool (is_partial_link l.kind)) [
       | inl t ↦ rw t (map-same (count_of after) (count_of l) (range_with_len 0 n) (λ k. count_partial after k t ∙ sym (count_partial l k t)))
       | inr link ↦
           elim (cases_Bool (is_counted s && not (is_omitted l s))) [
-            | inl yes ↦ rw (link, yes) (one_replaced (count_of l) (count_of after) (λ m. m + length c.relocations - length s.relocations) (section_of l s.part) (here link yes) (others link) 0 n (section_of l s.part) (omega arith))
-            | inr no ↦ rw (link, no) (map-same (count_of after) (count_of l) (range_with_len 0 n) (λ k. unchanged link no k))
+            | inl t ↦ rw (link, t) (one_replaced (count_of l) (count_of after) (λ m. m + length c.relocations - length s.relocations) (section_of l s.part) (here link t) (others link) 0 n (section_of l s.part) (omega arith))
+            | inr f ↦ rw (link, f) (map-same (count_of after) (count_of l) (range_with_len 0 n) (λ k. unchanged link f k))
           ]
     ]
   where
     p : FoundSection l c s
     p = FoundSection-from_found l c s found
     counted_here : (is_counted s && not (is_omitted l s)) ≡ true → counted l (section_of l s.part) s ≡ length s.relocations
-    counted_here yes = rw (yes, eq-eqb (section_of l s.part) (section_of l s.part) refl) refl
+    counted_here h = rw (h, eq-eqb (section_of l s.part) (section_of l s.part) refl) refl
     counted_new : (is_counted s && not (is_omitted l s)) ≡ true → counted l (section_of l s.part) (changed_section c s) ≡ length c.relocations
-    counted_new yes = rw (yes, eq-eqb (section_of l s.part) (section_of l s.part) refl) refl
+    counted_new h = rw (h, eq-eqb (section_of l s.part) (section_of l s.part) refl) refl
     here : is_partial_link l.kind ≡ false → (is_counted s && not (is_omitted l s)) ≡ true → count_of (changed_layout l c) (section_of l s.part) ≡ count_of l (section_of l s.part) + length c.relocations - length s.relocations
-    here link yes =
+    here link h =
         let e = count-changed l c s p link (section_of l s.part) in
-        let old = counted_here yes in
-        let new = counted_new yes in
+        let old = counted_here h in
+        let new = counted_new h in
         omega (arith, e, old, new)
     unchanged : is_partial_link l.kind ≡ false → (is_counted s && not (is_omitted l s)) ≡ false → (k : ℕ) → count_of (changed_layout l c) k ≡ count_of l k
-    unchanged link no k =
+    unchanged link none k =
         let e = count-changed l c s p link k in
-        let same = not_counted l c s no k in
+        let same = not_counted l c s none k in
         omega (arith, e, same)
     others : is_partial_link l.kind ≡ false → (k : ℕ) → (k ≡ section_of l s.part → ⊥) → count_of (changed_layout l c) k ≡ count_of l k
     others link k other =
@@ -113,6 +112,6 @@ counts-changed l c s found =
         elsewhere : (t : InputSection) (k : ℕ) → (k ≡ section_of l t.part → ⊥) → counted l k t ≡ 0
         elsewhere t k other =
             elim (cases_Bool ((is_counted t && not (is_omitted l t)) && section_of l t.part == k)) [
-              | inl yes ↦ absurd (other (sym (eqb-true _ _ (and_parts (is_counted t && not (is_omitted l t)) (section_of l t.part == k) yes).1)))
-              | inr no ↦ rw no refl
+              | inl e ↦ absurd (other (sym (eqb-true _ _ (and_parts (is_counted t && not (is_omitted l t)) (section_of l t.part == k) e).1)))
+              | inr f ↦ rw f refl
             ]

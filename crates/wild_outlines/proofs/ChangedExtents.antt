@@ -1,5 +1,5 @@
 -- The places and the lengths of a group's pieces: they are the same for the outline.
-use Rattle.std.proofs.Common.{◌≡◌, ℕ, zero, suc, ◌+◌, ◌-◌, ◌*◌, ◌<◌, Bool, true, false, List, [], ◌∷◌, ◌++◌, map, length, replicate, take, drop, min, Option, Some, None, refl, sym, ap, ◌∙◌, arith, inl, inr}
+use Rattle.std.proofs.Common.{◌≡◌, ℕ, zero, suc, ◌+◌, ◌-◌, ◌*◌, ◌/◌, ◌<◌, Bool, true, false, List, [], ◌∷◌, ◌++◌, map, length, replicate, take, drop, min, Option, Some, None, refl, sym, ap, ◌∙◌, arith, inl, inr}
 use Rattle.std.specs.Prelude.{◌==◌, ◌&&◌, not, if◌then◌else◌, slice_get, slice_range, All}
 use Rattle.std.specs.List.{flat_map, range_with_len}
 use Rattle.std.proofs.lemmas.Bool.{cases_Bool}
@@ -101,8 +101,8 @@ shape-reversed s t e r =
     let b = ap (λ (z : Shape). z.nobits) e in
     let long : length (reversed_word_bytes s.bytes) ≡ length (reversed_word_bytes t.bytes) = length-reversed s.bytes t.bytes (ap (λ (z : Shape). z.long) e) in
     elim (cases_Bool t.reversed) [
-      | inl yes ↦ rw (r, yes, k, p, a, n, b, long) refl
-      | inr no ↦ rw (r, no) e
+      | inl h ↦ rw (r, h, k, p, a, n, b, long) refl
+      | inr h ↦ rw (r, h) e
     ]
 
 -- ---- placed sections
@@ -110,8 +110,8 @@ shape-reversed s t e r =
 changeable_unread : (l : Layout) (s : InputSection) → is_changeable s.slot ≡ true → shape_of (unread (outline l) (outline_section s)) ≡ shape_of (unread l s)
 changeable_unread l s h =
     elim (cases_Bool (is_partial_link l.kind)) [
-      | inl t ↦ rw (t, h, length-replicate (length s.bytes) 0) refl
-      | inr f ↦ rw (f, h, length-replicate (length s.bytes) 0) refl
+      | inl t ↦ rw (t, h, length-replicate {A = ℕ} (length s.bytes) 0) refl
+      | inr f ↦ rw (f, h, length-replicate {A = ℕ} (length s.bytes) 0) refl
     ]
 
 unread_reversed : (l : Layout) (s : InputSection) → (unread l s).reversed ≡ s.reversed
@@ -122,7 +122,7 @@ unread_reversed l s =
     ]
 
 shape-outline : (s : InputSection) → is_changeable s.slot ≡ true → shape_of (outline_section s) ≡ shape_of s
-shape-outline s h = rw (h, length-replicate (length s.bytes) 0) refl
+shape-outline s h = rw (h, length-replicate {A = ℕ} (length s.bytes) 0) refl
 
 placed_shape-outline : (l : Layout) (f : File) (a : ℕ) (s : InputSection) → shape_of (placed_section (outline l) (outline_file f) a (outline_section s)) ≡ shape_of (placed_section l f a s)
 unfolding placed_section

@@ -19,7 +19,7 @@ use Rattle.wild_change.specs.Outline.{outline_section, outline_file, outline_gro
 -- a function that does not distinguish the new item from the old one
 pub map-with_item : {X Y : Type 0} (v : X → Y) (f : X → X) (i : ℕ) (xs : List X) (x : X) → slice_get xs i ≡ Some x → v (f x) ≡ v x → map v (with_item f i xs) ≡ map v xs
 map-with_item v f i [] x h e = refl
-map-with_item v f zero (y ∷ ys) x h e = first y x h e
+map-with_item {X = X} v f zero (y ∷ ys) x h e = first y x h e
   where
     first : (y x : X) → Some y ≡ Some x → v (f x) ≡ v x → v (f y) ∷ map v ys ≡ v y ∷ map v ys
     first y x h e = cc
@@ -38,7 +38,7 @@ slice_get-with_item f (suc i) (y ∷ ys) x h = slice_get-with_item f i ys x h
 -- a sum grows by what the new item counts, and falls by what the old one counted
 pub total-with_item : {X : Type 0} (n : X → ℕ) (f : X → X) (i : ℕ) (xs : List X) (x : X) → slice_get xs i ≡ Some x → total n (with_item f i xs) + n x ≡ total n xs + n (f x)
 total-with_item n f i [] x h = cc
-total-with_item n f zero (y ∷ ys) x h =
+total-with_item {X = X} n f zero (y ∷ ys) x h =
     let e = same y x h in
     let a = ap n e in
     let b = ap (λ z. n (f z)) e in
@@ -51,7 +51,7 @@ total-with_item n f (suc i) (y ∷ ys) x h = let e = total-with_item n f i ys x 
 -- each item passes, and so does the one at a place
 pub list_all-at : {X : Type 0} (t : X → Bool) (i : ℕ) (xs : List X) (x : X) → slice_get xs i ≡ Some x → list_all t xs ≡ true → t x ≡ true
 list_all-at t i [] x h a = cc
-list_all-at t zero (y ∷ ys) x h a = ap t (sym (same y x h)) ∙ (and_parts (t y) (list_all t ys) a).0
+list_all-at {X = X} t zero (y ∷ ys) x h a = ap t (sym (same y x h)) ∙ (and_parts (t y) (list_all t ys) a).0
   where
     same : (y x : X) → Some y ≡ Some x → y ≡ x
     same y x h = cc
@@ -60,7 +60,7 @@ list_all-at t (suc i) (y ∷ ys) x h a = list_all-at t i ys x h (and_parts (t y)
 -- all items pass if the new one does
 pub list_all-with_item : {X : Type 0} (t : X → Bool) (f : X → X) (i : ℕ) (xs : List X) (x : X) → slice_get xs i ≡ Some x → list_all t xs ≡ true → t (f x) ≡ true → list_all t (with_item f i xs) ≡ true
 list_all-with_item t f i [] x h a p = refl
-list_all-with_item t f zero (y ∷ ys) x h a p = and_from (t (f y)) (list_all t ys) (ap (λ z. t (f z)) (same y x h) ∙ p) (and_parts (t y) (list_all t ys) a).1
+list_all-with_item {X = X} t f zero (y ∷ ys) x h a p = and_from (t (f y)) (list_all t ys) (ap (λ z. t (f z)) (same y x h) ∙ p) (and_parts (t y) (list_all t ys) a).1
   where
     same : (y x : X) → Some y ≡ Some x → y ≡ x
     same y x h = cc

@@ -4,7 +4,7 @@ use Rattle.std.specs.Prelude.{◌==◌, ◌&&◌, not, if◌then◌else◌, All,
 use Rattle.std.specs.List.{flat_map}
 use Rattle.std.proofs.lemmas.Bool.{cases_Bool, eqb-true}
 use Rattle.std.proofs.lemmas.List.{append-nil, map-append}
-use Rattle.std.proofs.lemmas.Option.{same_Some, slice_get_within, get_or_from_slice_get}
+use Rattle.std.proofs.lemmas.Option.{slice_get_within, get_or_from_slice_get}
 use Rattle.wild_words.specs.declared.extents.Extent.{Extent}
 use Rattle.wild_words.specs.Overlay.{Piece, overlay, AreDisjoint}
 use Rattle.wild_words.proofs.Basics.{flat_map-none}
@@ -28,7 +28,8 @@ use Rattle.wild_change.specs.declared.change.Change.{Change}
 use Rattle.wild_change.specs.Change.{found_section, with_item, changed_group, changed_layout}
 use Rattle.wild_change.specs.Outline.{outline_group, outline}
 use Rattle.wild_plan_rules.specs.WellFormed.{first_clause}
-use Rattle.wild_layout.specs.Content.{content, file_content, unique_table, header_bytes}
+use Rattle.wild_layout.specs.Content.{content, file_content, unique_table}
+use Rattle.wild_layout.specs.SlotBytes.{header_bytes}
 use Rattle.wild_layout.specs.Faults.{flat_map_from, clause_errors, part_errors, group_errors, errors}
 use Rattle.wild_layout.specs.Geometry.{EachSection, IsLaidOut}
 use Rattle.wild_layout.specs.Image.{some_piece, shares_before, table_piece, table_pieces, owned_pieces, group_pieces, pieces, padding, bytes}
@@ -164,9 +165,12 @@ module _ (l : Layout) (c : Change) (s : InputSection) (p : FoundSection l c s) (
 
 none_from : {X Y : Type 0} (f : ℕ → X → List Y) (j : ℕ) (xs : List X) → flat_map_from f j xs ≡ [] → (i k : ℕ) (x : X) → i ≡ j + k → slice_get xs k ≡ Some x → f i x ≡ []
 none_from f j [] none i k x is at = cc
-none_from f j (y ∷ ys) none i zero x is at =
+none_from {X = X} f j (y ∷ ys) none i zero x is at =
     let n : j ≡ i = omega (arith, is) in
-    ap (λ (m : ℕ). f m x) (sym n) ∙ (ap (f j) (same_Some (sym at)) ∙ (nil_parts (f j y) (flat_map_from f (j + 1) ys) none).0)
+    ap (λ (m : ℕ). f m x) (sym n) ∙ (ap (f j) (same at) ∙ (nil_parts (f j y) (flat_map_from f (j + 1) ys) none).0)
+  where
+    same : {a b : X} → Some a ≡ Some b → b ≡ a
+    same e = cc
 none_from f j (y ∷ ys) none i (suc k) x is at = none_from f (j + 1) ys (nil_parts (f j y) (flat_map_from f (j + 1) ys) none).1 i k x (omega (arith, is)) at
 
 -- the faults before those of groups

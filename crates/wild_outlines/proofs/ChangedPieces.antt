@@ -6,7 +6,7 @@ use Rattle.std.proofs.lemmas.Bool.{cases_lt}
 use Rattle.std.proofs.lemmas.List.{append_assoc, append-nil, ext_get_or}
 use Rattle.std.proofs.lemmas.List.Kept.{AllPairs-cons}
 use Rattle.std.proofs.lemmas.List.Elements.{All-cons}
-use Rattle.std.proofs.lemmas.List.Sorted.{IsPermutation-append_left, IsPermutation-append_comm}
+use Rattle.std.proofs.lemmas.List.Sorted.{IsPermutation-append_right, IsPermutation-append_comm}
 use Rattle.wild_words.specs.declared.extents.Extent.{Extent}
 use Rattle.wild_words.specs.Overlay.{Piece, overlay, Disjoint, AreDisjoint}
 use Rattle.wild_words.specs.Words.{place}
@@ -73,8 +73,8 @@ overlay-append (p ∷ ps) qs xs = overlay-append ps qs (place p.at p.bytes xs)
 last_first : (q : Piece) (ps : List Piece) (xs : List ℕ) → AreDisjoint (length xs) (q ∷ ps) → place q.at q.bytes (overlay ps xs) ≡ overlay ps (place q.at q.bytes xs)
 last_first q ps xs h = sym (overlay_push ps q xs) ∙ sym (overlay-moved (q ∷ ps) (ps ++ q ∷ []) xs h (IsPermutation-append_comm (q ∷ []) ps))
 
-heads : {p q : Piece} {ps qs : List Piece} → map extent_of (q ∷ qs) ≡ map extent_of (p ∷ ps) → (extent_of q ≡ extent_of p) × (map extent_of qs ≡ map extent_of ps)
-heads h = (cc, cc)
+heads : (p q : Piece) (ps qs : List Piece) → map extent_of (q ∷ qs) ≡ map extent_of (p ∷ ps) → (extent_of q ≡ extent_of p) × (map extent_of qs ≡ map extent_of ps)
+heads p q ps qs h = (cc, cc)
 
 -- pieces that were put below others of the same places and lengths leave no trace
 pub overlay-again : (ps qs : List Piece) (xs : List ℕ) → map extent_of qs ≡ map extent_of ps → AreDisjoint (length xs) ps → overlay qs (overlay ps xs) ≡ overlay qs xs
@@ -82,7 +82,7 @@ overlay-again [] [] xs e h = refl
 overlay-again [] (q ∷ qs) xs e h = cc
 overlay-again (p ∷ ps) [] xs e h = cc
 overlay-again (p ∷ ps) (q ∷ qs) xs e h =
-    let z = heads {p = p} {q = q} {ps = ps} {qs = qs} e in
+    let z = heads p q ps qs e in
     let same = SamePlace-from_extent p q z.0 in
     let fits : p.at + length p.bytes ≤ length xs = h.within 0 p (omega arith) in
     let below = place p.at p.bytes xs in
@@ -97,7 +97,7 @@ overlay-again (p ∷ ps) (q ∷ qs) xs e h =
 -- ---- pieces in the middle replaced
 
 middle_last : {X : Type 0} (ps qs rs : List X) → IsPermutation (ps ++ (qs ++ rs)) ((ps ++ rs) ++ qs)
-middle_last ps qs rs = subst (IsPermutation (ps ++ (qs ++ rs))) (sym (append_assoc ps rs qs)) (IsPermutation-append_left ps (qs ++ rs) (rs ++ qs) (IsPermutation-append_comm qs rs))
+middle_last ps qs rs = subst (IsPermutation (ps ++ (qs ++ rs))) (sym (append_assoc ps rs qs)) (IsPermutation-append_right ps (qs ++ rs) (rs ++ qs) (IsPermutation-append_comm qs rs))
 
 -- the others, and the middle ones over them
 middle_over : (ps qs rs : List Piece) (xs : List ℕ) → AreDisjoint (length xs) (ps ++ (qs ++ rs)) → overlay (ps ++ (qs ++ rs)) xs ≡ overlay qs (overlay (ps ++ rs) xs)
@@ -130,7 +130,7 @@ flat_map_from-same f g h j (x ∷ xs) = rw (h j x, flat_map_from-same f g h (j +
 pub Middle-from_item : {X Y : Type 0} (f g : ℕ → X → List Y) (v : X → X) → ((j : ℕ) (x : X) → g j x ≡ f j x) → (k : ℕ) (xs : List X) (x : X) → slice_get xs k ≡ Some x → (j i : ℕ) → i ≡ j + k
     → Middle (f i x) (g i (v x)) (flat_map_from f j xs) (flat_map_from g j (with_item v k xs))
 Middle-from_item f g v h k [] x at j i is = cc
-Middle-from_item f g v h zero (y ∷ ys) x at j i is =
+Middle-from_item {X = X} f g v h zero (y ∷ ys) x at j i is =
     let y_is : y ≡ x = same at in
     let j_is : j ≡ i = omega (arith, is) in
     record {

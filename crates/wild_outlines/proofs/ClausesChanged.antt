@@ -330,7 +330,7 @@ no_tables l f ss none h = list_all-weaker (is_of_kind l) (rela_fits f) (λ s p. 
     by : (s : InputSection) → (not (is_rela s.slot) && (not (is_group s.slot) && is_none s.singleton)) ≡ true → rela_fits f s ≡ true
     by s p = or_left (not (is_rela s.slot)) (has_entries s.size (slice_get f.sections s.target)) (and_parts (not (is_rela s.slot)) (not (is_group s.slot) && is_none s.singleton) p).0
 
-file_found : (l : Layout) (c : Change) (s : InputSection) (p : FoundSection l c s) → file_at l c ≡ Some p.file
+pub file_found : (l : Layout) (c : Change) (s : InputSection) (p : FoundSection l c s) → file_at l c ≡ Some p.file
 file_found l c s p = rw p.in_layout p.in_group
 
 -- the tables of relocations of the changed file have an entry for each relocation

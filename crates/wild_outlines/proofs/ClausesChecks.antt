@@ -16,7 +16,7 @@ use Rattle.wild_types.specs.declared.part.Role.TheVariants as role
 use Rattle.wild_needs.specs.HashShapes.{gnu_fits}
 use Rattle.wild_needs.specs.DynamicSymbols.{misplaced, first_listed}
 use Rattle.wild_change.specs.Outline.{outline_section, outline_file, outline_group, outline}
-use Rattle.wild_plan_rules.specs.ClauseTests.{check_sizes, check_order, check_sections, check_segments, check_shares, check_inputs, check_slots, check_thunks, check_dynsyms, check_slot_flags, check_tls, check_starts, check_hashes, check_versions, check_names, check_fronts}
+use Rattle.wild_plan_rules.specs.ClauseTests.{check_sizes, check_order, check_sections, check_entries, check_segments, check_shares, check_inputs, check_slots, check_thunks, check_dynsyms, check_slot_flags, check_tls, check_starts, check_hashes, check_versions, check_names, check_fronts}
 use Rattle.wild_plan_rules.specs.Places.{ends_low, part_lies}
 use Rattle.wild_plan_rules.specs.LoadedTables.{table_is_loaded}
 use Rattle.wild_plan_rules.specs.Contents.{addresses, has_share_for_each_part, names_sorted, length_fits, frames_part_fits, discarded_is_empty, part_is_raw, merged_is_raw, allocation_agrees, bytes_take_room, merged_is_raw}
@@ -43,7 +43,7 @@ unfolding check_sections
 check_sections-outline l = rw (failing-same (part_lies (outline l)) (part_lies l) (part_lies-outline l) 0 l.parts) refl
 
 pub check_segments-outline : (l : Layout) → check_segments (outline l) ≡ check_segments l
-unfolding check_segments
+unfolding check_segments check_entries
 check_segments-outline l =
     rw (image_size-outline l, dynamic_astray-outline l (part_with role.Dynamic l.parts) 0 l.segments, failing-same (table_is_loaded (outline l)) (table_is_loaded l) (table_is_loaded-outline l) 0 l.parts) refl
 

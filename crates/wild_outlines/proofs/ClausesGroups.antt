@@ -28,7 +28,8 @@ use Rattle.wild_change.specs.Outline.{outline_section, outline_file, outline_gro
 use Rattle.wild_plan_rules.specs.Contents.{each_section, share_mismatch, ends_of, placed_in, file_placed_in, part_placed, parts_placed, section_misplaced, sections_named_once, files_named_once, sorted_named_once, names_sorted, leaves_front, file_leaves_front, group_leaves_front, front_is_free}
 use Rattle.wild_plan_rules.specs.Thunks.{sections_in_ranges}
 use Rattle.wild_plan_rules.specs.Indexes.{section_count, symbol_misfit, section_is_there, file_is_there, sorted_is_there, range_follows, or_place, range_out_of_order}
-use Rattle.wild_plan_rules.specs.GroupStarts.{Starts, group_share_at, starts_after_group, start_astray}
+use Rattle.wild_plan_rules.specs.GroupStarts.{group_share_at, starts_after_group, start_astray}
+use Rattle.wild_plan_rules.specs.declared.group_starts.Starts.{Starts}
 use Rattle.wild_plan_rules.specs.VersionTables.{mark_step, mark_astray}
 use Rattle.wild_plan_rules.specs.Fronts.{given_by}
 use Rattle.wild_outlines.proofs.ChangedItems.{length-outline}

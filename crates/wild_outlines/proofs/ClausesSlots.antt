@@ -27,7 +27,7 @@ use Rattle.wild_outlines.proofs.ClausesGroups.{list_any-mapped, sections_in_rang
 
 -- ---- walks
 
-next-same : {S T : Type 0} (f g : S → Result T ℕ) → ((s : S) → f s ≡ g s) → (r : Result S ℕ) → and_then r f ≡ and_then r g
+next-same : {S : Type 0} (f g : S → Result S ℕ) → ((s : S) → f s ≡ g s) → (r : Result S ℕ) → and_then r f ≡ and_then r g
 next-same f g h (Ok s) = h s
 next-same f g h (Err e) = refl
 

@@ -6,7 +6,12 @@ pub mod ClausesSlots
 pub mod ClausesChecks
 pub mod ClausesChanged
 pub mod ClausesLemmas
+pub mod ClausesTested
 pub mod SharesFrames
 pub mod SharesTables
 pub mod SharesSections
 pub mod SharesLemmas
+pub mod ChangedPieces
+pub mod ChangedExtents
+pub mod ChangedCounts
+pub mod ChangedLemmas

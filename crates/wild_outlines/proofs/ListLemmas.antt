@@ -1,5 +1,5 @@
 -- Tests, sums and look-ups over mapped lists, and over lists in which one item is replaced.
-use Rattle.std.proofs.Common.{◌≡◌, ℕ, zero, suc, ◌+◌, Bool, List, [], ◌∷◌, map, length, true, ⊥, Option, Some, None, option_map, option_and_then, slice_get, refl, ap, arith}
+use Rattle.std.proofs.Common.{◌≡◌, ℕ, zero, suc, ◌+◌, Bool, List, [], ◌∷◌, map, length, true, Option, Some, None, option_map, option_and_then, slice_get, refl, ap, arith}
 use Rattle.std.specs.List.{flat_map, list_all, list_any, position_from}
 use Rattle.std.proofs.lemmas.Bool.{and_parts}
 use Rattle.wild_types.specs.Lists.{total, through}

@@ -16,7 +16,7 @@ use Rattle.wild_types.specs.declared.file.File.{File}
 use Rattle.wild_types.specs.declared.part.Role.{Role}
 use Rattle.wild_types.specs.declared.part.Role.TheVariants as role
 use Rattle.wild_types.specs.declared.layout.Layout.{Layout}
-use Rattle.wild_types.specs.Kinds.{is_position_independent}
+use Rattle.wild_types.specs.Kinds.{is_partial_link, is_position_independent}
 use Rattle.wild_types.specs.Lists.{total}
 use Rattle.wild_types.specs.Lookups.{is_frame, is_read, has_relocations, may_have_relative}
 use Rattle.wild_types.specs.Rows.{row_of}
@@ -121,7 +121,7 @@ same_unread l m e s = same_by_outline (λ n. unread n s) (λ n. refl) l m e
 same_kept : (l m : Layout) (f g : File) → SameOutlines l m f g → (s : InputSection) → kept_size m g s ≡ kept_size l f s
 same_kept l m f g e s = same_by_outlines (λ n h. kept_size n h s) (λ n h. kept_size-outline n h s) l m f g e.layout e.file
 
-placed_count : (r : Role) (l m : Layout) (f g : File) → SameOutlines l m f g → (a : ℕ) (s : InputSection) → counted_for r m (placed_section m g a s) ≡ counted_for r l (placed_section l f a s)
+pub placed_count : (r : Role) (l m : Layout) (f g : File) → SameOutlines l m f g → (a : ℕ) (s : InputSection) → counted_for r m (placed_section m g a s) ≡ counted_for r l (placed_section l f a s)
 unfolding placed_section
 placed_count r l m f g e a s = by_slot s.slot
   where
@@ -168,6 +168,23 @@ changed_count r l m f g c e a s h k = by_slot s.slot refl h
     by_slot slot.Loaded d h =
         ap (λ t. counted_for r m (with_word_order t)) (same_unread l m e (changed_section c s)) ∙ (same_count r l m e (written_section l (changed_section c s)) ∙ kept_counts r l s (changed_section c s) k)
     by_slot slot.Debug d h = none m (changed_section c s) d ∙ sym (none l s d)
+    by_slot other d h = cc
+
+-- a section that may be changed has as many where it is placed as where it is written
+pub written_count : (r : Role) (l : Layout) (f : File) (a : ℕ) (s : InputSection) → is_changeable s.slot ≡ true → counted_for r l (placed_section l f a s) ≡ counted_for r l (written_section l s)
+unfolding placed_section
+written_count r l f a s h = by_slot s.slot refl h
+  where
+    unread_slot : (t : InputSection) → (unread l t).slot ≡ t.slot
+    unread_slot t =
+        elim (cases_Bool (is_partial_link l.kind)) [
+          | inl x ↦ rw x refl
+          | inr x ↦ rw x refl
+        ]
+    by_slot : (z : Slot) → z ≡ s.slot → is_changeable z ≡ true → counted_for r l (placed_by z l f a s) ≡ counted_for r l (written_section l s)
+    by_slot slot.Loaded d h = refl
+    by_slot slot.Debug d h =
+        none_read r l (with_word_order s) (ap has_relocations (written_slot s ∙ sym d)) ∙ sym (none_read r l (written_section l s) (ap has_relocations (written_slot (unread l s) ∙ (unread_slot s ∙ sym d))))
     by_slot other d h = cc
 
 -- no frames

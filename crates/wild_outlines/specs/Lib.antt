@@ -1,3 +1,4 @@
 pub mod MayChange
 pub mod ClauseLaws
 pub mod ShareLaws
+pub mod ChangedLaws
