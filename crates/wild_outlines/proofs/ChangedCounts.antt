@@ -1,6 +1,6 @@
 -- The numbers of relocations read for each section, after a change.
-use Rattle.std.proofs.Common.{◌≡◌, ℕ, zero, suc, ◌+◌, ◌-◌, ◌<◌, Bool, true, false, List, [], ◌∷◌, map, length, Option, Some, None, refl, sym, ap, subst, ◌∙◌, arith, inl, inr}
-use Rattle.std.specs.Prelude.{◌==◌, ◌&&◌, not, if◌then◌else◌, slice_get}
+use Rattle.std.proofs.Common.{◌≡◌, ℕ, zero, suc, ◌+◌, ◌-◌, ◌<◌, true, false, List, map, length, Option, Some, None, refl, sym, subst, ◌∙◌, arith, inl, inr}
+use Rattle.std.specs.Prelude.{◌==◌, ◌&&◌, not, slice_get}
 use Rattle.std.specs.List.{range_with_len}
 use Rattle.std.proofs.lemmas.Bool.{cases_Bool, eqb-true, eq-eqb, and_parts}
 use Rattle.wild_types.specs.declared.input.InputSection.{InputSection}
@@ -15,7 +15,7 @@ use Rattle.wild_types.specs.Lists.{total}
 use Rattle.wild_types.specs.Lookups.{is_counted, section_of, section_of_part, header_only}
 use Rattle.wild_types.specs.Parts.{part_with}
 use Rattle.wild_change.specs.declared.change.Change.{Change}
-use Rattle.wild_change.specs.Change.{found_section, with_item, changed_section, changed_file, changed_group, changed_layout}
+use Rattle.wild_change.specs.Change.{found_section, with_item, changed_section, changed_layout}
 use Rattle.wild_layout.specs.Image.{counted, count_of, counts}
 use Rattle.wild_outlines.specs.ChangedLaws.{changed_counts}
 use Rattle.wild_outlines.proofs.ListLemmas.{map-same, total-same}

@@ -1,8 +1,7 @@
 -- The image and the faults of a changed layout.
-use Rattle.std.proofs.Common.{◌≡◌, ℕ, zero, suc, ◌+◌, ◌-◌, ◌<◌, ◌≤◌, Bool, true, false, List, [], ◌∷◌, ◌++◌, map, length, take, Option, Some, None, Result, Ok, Err, refl, sym, ap, subst, ◌∙◌, arith, inl, inr}
-use Rattle.std.specs.Prelude.{◌==◌, ◌&&◌, not, if◌then◌else◌, All, slice_get, slice_index_or}
-use Rattle.std.specs.List.{flat_map}
-use Rattle.std.proofs.lemmas.Bool.{cases_Bool, eqb-true}
+use Rattle.std.proofs.Common.{◌≡◌, ℕ, zero, suc, ◌+◌, Bool, true, false, List, [], ◌∷◌, ◌++◌, map, length, take, Some, Result, Ok, Err, refl, sym, ap, subst, ◌∙◌, arith, inl, inr}
+use Rattle.std.specs.Prelude.{◌==◌, if◌then◌else◌, All, slice_get}
+use Rattle.std.proofs.lemmas.Bool.{cases_Bool}
 use Rattle.std.proofs.lemmas.List.{append-nil, map-append}
 use Rattle.std.proofs.lemmas.Option.{slice_get_within, get_or_from_slice_get}
 use Rattle.wild_words.specs.declared.extents.Extent.{Extent}
@@ -10,7 +9,6 @@ use Rattle.wild_words.specs.Overlay.{Piece, overlay, AreDisjoint}
 use Rattle.wild_words.proofs.Basics.{flat_map-none}
 use Rattle.wild_words.proofs.ListLemmas.{nil_parts, holds_at}
 use Rattle.wild_types.specs.declared.fault.Clause.{Clause}
-use Rattle.wild_types.specs.declared.fault.Error.{Error}
 use Rattle.wild_types.specs.declared.input.InputSection.{InputSection}
 use Rattle.wild_types.specs.declared.file.File.{File}
 use Rattle.wild_types.specs.declared.file.Group.{Group}
@@ -25,17 +23,17 @@ use Rattle.wild_types.specs.Lookups.{is_header_only_at, image_size}
 use Rattle.wild_types.specs.Parts.{role_place, has_role}
 use Rattle.wild_placement.specs.PlacedSections.{placed_files, processed_sections}
 use Rattle.wild_change.specs.declared.change.Change.{Change}
-use Rattle.wild_change.specs.Change.{found_section, with_item, changed_group, changed_layout}
-use Rattle.wild_change.specs.Outline.{outline_group, outline}
+use Rattle.wild_change.specs.Change.{with_item, changed_group, changed_layout}
+use Rattle.wild_change.specs.Outline.{outline}
 use Rattle.wild_plan_rules.specs.WellFormed.{first_clause}
 use Rattle.wild_layout.specs.Content.{content, file_content, unique_table}
 use Rattle.wild_layout.specs.SlotBytes.{header_bytes}
 use Rattle.wild_layout.specs.Faults.{flat_map_from, clause_errors, part_errors, group_errors, errors}
-use Rattle.wild_layout.specs.Geometry.{EachSection, IsLaidOut}
+use Rattle.wild_layout.specs.Geometry.{IsLaidOut}
 use Rattle.wild_layout.specs.Image.{some_piece, shares_before, table_piece, table_pieces, owned_pieces, group_pieces, pieces, padding, bytes}
 use Rattle.wild_layout.specs.SectionPlaces.{SectionLies, PartLies}
 use Rattle.wild_layout.specs.Sites.{extent_of}
-use Rattle.wild_outlines.proofs.ChangedItems.{slice_get-with_item, FoundSection, FoundSection-from_found, outline-changed, outline_group-changed, same_by_outline}
+use Rattle.wild_outlines.proofs.ChangedItems.{slice_get-with_item, FoundSection, outline_group-changed, same_by_outline}
 use Rattle.wild_outlines.proofs.ClausesTests.{image_size-outline, is_header_only_at-outline}
 use Rattle.wild_outlines.proofs.SharesLemmas.{same_by_groups}
 use Rattle.wild_layout.proofs.LayoutLemmas.{length-padding}

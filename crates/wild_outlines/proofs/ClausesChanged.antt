@@ -1,13 +1,12 @@
 -- The clauses that read the bytes or the relocations of a section, after a change that may be made.
-use Rattle.std.proofs.Common.{◌≡◌, ℕ, ◌+◌, ◌-◌, ◌^◌, ◌<◌, ◌≤◌, Bool, true, false, List, [], ◌∷◌, length, Option, Some, None, Result, Ok, refl, sym, ap, ◌∙◌, arith, inl, inr}
-use Rattle.std.specs.Prelude.{◌==◌, ◌&&◌, ◌||◌, not, nat_lt, nat_le, slice_get, option_and_then, is_none}
+use Rattle.std.proofs.Common.{◌≡◌, ℕ, ◌+◌, ◌-◌, ◌^◌, Bool, true, false, List, [], ◌∷◌, length, Option, Some, None, Result, Ok, refl, ap, ◌∙◌, arith, inl, inr}
+use Rattle.std.specs.Prelude.{◌==◌, ◌&&◌, ◌||◌, not, nat_lt, nat_le, slice_get, is_none}
 use Rattle.std.specs.List.{list_all, list_any}
 use Rattle.std.proofs.lemmas.Bool.{and_parts, and_from, or_left, or_right, cases_Bool, lt-ltb}
 use Rattle.wild_types.specs.declared.fault.Clause.{Clause}
 use Rattle.wild_types.specs.declared.input.InputRelocation.{InputRelocation}
 use Rattle.wild_types.specs.declared.input.InputSection.{InputSection}
 use Rattle.wild_types.specs.declared.file.File.{File}
-use Rattle.wild_types.specs.declared.file.Group.{Group}
 use Rattle.wild_types.specs.declared.part.Role.{Role}
 use Rattle.wild_types.specs.declared.part.Role.TheVariants as role
 use Rattle.wild_types.specs.declared.layout.Layout.{Layout}
@@ -21,7 +20,7 @@ use Rattle.wild_needs.specs.DynamicSymbols.{dynamic_symbols}
 use Rattle.wild_needs.specs.Versions.{need_count, versions_needed, versions_fit}
 use Rattle.wild_change.specs.declared.change.Change.{Change}
 use Rattle.wild_change.specs.Change.{changed_section, changed_file, changed_group, changed_layout}
-use Rattle.wild_change.specs.Outline.{outline_section, outline_file, outline_group, outline}
+use Rattle.wild_change.specs.Outline.{outline}
 use Rattle.wild_plan_rules.specs.ClauseTests.{fails, first_error, check_counts, check_roles, check_indexes, check_fields, check_reversed, check_partial}
 use Rattle.wild_plan_rules.specs.Places.{ends_low, relocation_count, roles}
 use Rattle.wild_plan_rules.specs.Counts.{lists_fit, table_fits, counts_fit, role_has_needed_part}

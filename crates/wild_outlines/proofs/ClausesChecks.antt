@@ -1,20 +1,16 @@
 -- The clauses that read neither the bytes nor the relocations of a section that may be changed: they are the same for the outline.
-use Rattle.std.proofs.Common.{◌≡◌, ℕ, ◌+◌, Bool, true, false, List, [], ◌∷◌, length, Option, Some, None, Result, refl, ap, ◌∙◌}
-use Rattle.std.specs.Prelude.{◌==◌, ◌&&◌, ◌||◌, not, drop, slice_get}
-use Rattle.std.proofs.lemmas.List.{length-map}
+use Rattle.std.proofs.Common.{◌≡◌, true, length, Option, Some, None, refl, ap}
+use Rattle.std.specs.Prelude.{◌==◌, slice_get}
 use Rattle.wild_types.specs.declared.input.InputSection.{InputSection}
 use Rattle.wild_types.specs.declared.file.File.{File}
 use Rattle.wild_types.specs.declared.file.Group.{Group}
 use Rattle.wild_types.specs.declared.layout.Merged.{Merged}
 use Rattle.wild_types.specs.declared.layout.GnuHash.{GnuHash}
 use Rattle.wild_types.specs.declared.layout.Layout.{Layout}
-use Rattle.wild_types.specs.declared.part.Part.{Part}
-use Rattle.wild_types.specs.Lists.{first_failing, unless}
-use Rattle.wild_types.specs.Lookups.{image_size}
 use Rattle.wild_types.specs.Parts.{part_with}
 use Rattle.wild_types.specs.declared.part.Role.TheVariants as role
 use Rattle.wild_needs.specs.HashShapes.{gnu_fits}
-use Rattle.wild_needs.specs.DynamicSymbols.{misplaced, first_listed}
+use Rattle.wild_needs.specs.DynamicSymbols.{first_listed}
 use Rattle.wild_change.specs.Outline.{outline_section, outline_file, outline_group, outline}
 use Rattle.wild_plan_rules.specs.ClauseTests.{check_sizes, check_order, check_sections, check_entries, check_segments, check_shares, check_inputs, check_slots, check_thunks, check_dynsyms, check_slot_flags, check_tls, check_starts, check_hashes, check_versions, check_names, check_fronts}
 use Rattle.wild_plan_rules.specs.Places.{ends_low, part_lies}
@@ -27,7 +23,7 @@ use Rattle.wild_plan_rules.specs.ZeroFree.{input_name_fits, file_names_fit, grou
 use Rattle.wild_needs.specs.Versions.{need_count}
 use Rattle.wild_outlines.proofs.ChangedItems.{length-outline}
 use Rattle.wild_outlines.proofs.ClausesTests.{failing-same, image_size-outline, part_out_of_order-outline, part_lies-outline, headers_are_kept-outline, dynamic_astray-outline, table_is_loaded-outline, merged_is_raw-outline, identity_is_raw-outline, holds_thunks-outline, first_tested_failing-outline, pair_follows_by-outline}
-use Rattle.wild_outlines.proofs.ClausesGroups.{list_all-mapped, failing-mapped, failing_sections-outline, names_sorted-outline, share_mismatch-outline, first_misplaced_file-outline, section_misplaced-outline, sorted_named_once-outline, front_is_free-outline, dynamic_symbols-outline, undefined_entries-outline, first_listed-outline, first_misplaced_listed-outline, start_astray-outline, need_count-outline, mark_astray-outline, given_by-outline}
+use Rattle.wild_outlines.proofs.ClausesGroups.{list_all-mapped, failing-mapped, failing_sections-outline, names_sorted-outline, share_mismatch-outline, first_misplaced_file-outline, section_misplaced-outline, sorted_named_once-outline, front_is_free-outline, undefined_entries-outline, first_listed-outline, first_misplaced_listed-outline, start_astray-outline, need_count-outline, mark_astray-outline, given_by-outline}
 use Rattle.wild_outlines.proofs.ClausesSlots.{slots_astray-outline, thunks_misplaced-outline, block_lost-outline}
 
 pub check_sizes-outline : (l : Layout) → check_sizes (outline l) ≡ check_sizes l

@@ -1,7 +1,7 @@
 -- Tests of clauses on groups, files and input sections: they are the same for the outline.
-use Rattle.std.proofs.Common.{◌≡◌, ℕ, zero, suc, ◌+◌, ◌-◌, Bool, true, false, List, [], ◌∷◌, ◌++◌, map, length, Option, Some, None, refl, sym, ap, ◌∙◌}
-use Rattle.std.specs.Prelude.{◌==◌, ◌&&◌, ◌||◌, not, if◌then◌else◌, nat_le, nat_lt, is_some, option_map, option_and_then, slice_get}
-use Rattle.std.specs.List.{flat_map, filter, list_all, list_any, position_from}
+use Rattle.std.proofs.Common.{◌≡◌, ℕ, suc, ◌+◌, ◌-◌, Bool, true, false, List, [], ◌∷◌, ◌++◌, map, length, Option, Some, None, refl, sym, ap, ◌∙◌}
+use Rattle.std.specs.Prelude.{◌==◌, ◌&&◌, not, if◌then◌else◌, nat_le, nat_lt, is_some, option_map, option_and_then, slice_get}
+use Rattle.std.specs.List.{flat_map, filter, list_all, list_any}
 use Rattle.std.proofs.lemmas.List.{length-map}
 use Rattle.std.proofs.lemmas.Option.{slice_get-map}
 use Rattle.wild_types.specs.declared.input.InputSection.{InputSection}
@@ -20,9 +20,9 @@ use Rattle.wild_types.specs.Lists.{first_failing, total, through}
 use Rattle.wild_types.specs.Lookups.{canonical, files_of, file_of}
 use Rattle.wild_types.specs.FilePlaces.{given, later_positions_fit, group_positions_fit, first_misplaced_file}
 use Rattle.wild_types.specs.FileSymbols.{copied_definitions, first_double_copy}
-use Rattle.wild_placement.specs.PlacedSections.{Input, unread, as_loaded, files_at, sorted_by, sorted_in_file, sorted_in_group, sorted_input, sorted_inputs, of_last_file}
-use Rattle.wild_needs.specs.DynamicSymbols.{undefined_entries, undefined_in, dynamic_symbols, input_of, section_of_input, output_section, symbol_listed_fits, listed_fits, first_misplaced_listed, first_listed}
-use Rattle.wild_needs.specs.Versions.{has_needs, need_count, file_versions, versions_needed}
+use Rattle.wild_placement.specs.PlacedSections.{Input, files_at, sorted_by, sorted_in_file, sorted_in_group, sorted_input, sorted_inputs, of_last_file}
+use Rattle.wild_needs.specs.DynamicSymbols.{undefined_entries, undefined_in, dynamic_symbols, input_of, section_of_input, output_section, symbol_listed_fits, first_misplaced_listed, first_listed}
+use Rattle.wild_needs.specs.Versions.{has_needs, file_versions}
 use Rattle.wild_change.specs.Change.{is_changeable}
 use Rattle.wild_change.specs.Outline.{outline_section, outline_file, outline_group, outline}
 use Rattle.wild_plan_rules.specs.Contents.{each_section, share_mismatch, ends_of, placed_in, file_placed_in, part_placed, parts_placed, section_misplaced, sections_named_once, files_named_once, sorted_named_once, names_sorted, leaves_front, file_leaves_front, group_leaves_front, front_is_free}

@@ -1,12 +1,12 @@
 -- All clauses, after a change that may be made.
-use Rattle.std.proofs.Common.{◌≡◌, Result, Ok, refl, ◌∙◌}
+use Rattle.std.proofs.Common.{◌≡◌, Result, Ok, ◌∙◌}
 use Rattle.wild_types.specs.declared.fault.Clause.{Clause}
 use Rattle.wild_types.specs.declared.input.InputSection.{InputSection}
 use Rattle.wild_types.specs.declared.layout.Layout.{Layout}
 use Rattle.wild_change.specs.declared.change.Change.{Change}
 use Rattle.wild_change.specs.Change.{changed_layout}
 use Rattle.wild_change.specs.Outline.{outline}
-use Rattle.wild_plan_rules.specs.ClauseTests.{first_error, check_sizes, check_counts, check_order, check_roles, check_sections, check_segments, check_shares, check_inputs, check_indexes, check_fields, check_slots, check_thunks, check_dynsyms, check_slot_flags, check_tls, check_starts, check_hashes, check_versions, check_names, check_reversed, check_partial, check_fronts}
+use Rattle.wild_plan_rules.specs.ClauseTests.{first_error, check_sizes, check_order, check_sections, check_segments, check_shares, check_inputs, check_slots, check_thunks, check_dynsyms, check_slot_flags, check_tls, check_starts, check_hashes, check_versions, check_names, check_fronts}
 use Rattle.wild_plan_rules.specs.WellFormed.{first_clause}
 use Rattle.wild_plan_rules.proofs.ClauseLemmas.{first_holds, rest_holds}
 use Rattle.wild_outlines.specs.MayChange.{MayChange}

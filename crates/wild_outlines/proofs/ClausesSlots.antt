@@ -1,6 +1,6 @@
 -- Clauses 11 and 12: the places of slots, stubs and thunks are the same for the outline.
-use Rattle.std.proofs.Common.{◌≡◌, ℕ, zero, suc, ◌+◌, ◌*◌, Bool, true, false, List, [], ◌∷◌, ◌++◌, map, length, Option, Some, None, Result, Ok, Err, refl, sym, ap, ◌∙◌}
-use Rattle.std.specs.Prelude.{◌==◌, ◌&&◌, ◌||◌, not, if◌then◌else◌, slice_get}
+use Rattle.std.proofs.Common.{◌≡◌, ℕ, ◌+◌, List, [], ◌∷◌, ◌++◌, map, Option, Some, None, Result, Ok, Err, refl, ap, ◌∙◌}
+use Rattle.std.specs.Prelude.{if◌then◌else◌, slice_get}
 use Rattle.std.specs.List.{list_any}
 use Rattle.wild_types.specs.declared.input.InputSection.{InputSection}
 use Rattle.wild_types.specs.declared.file.File.{File}
@@ -19,7 +19,7 @@ use Rattle.wild_slot.specs.Slots.{setting_of, slot}
 use Rattle.wild_slot.specs.SymbolWords.{resolved_slots, slots_of}
 use Rattle.wild_change.specs.Outline.{outline_section, outline_file, outline_group, outline}
 use Rattle.wild_plan_rules.specs.declared.slot_places.SlotCursor.{SlotCursor}
-use Rattle.wild_plan_rules.specs.SlotPlaces.{first_free, and_then, walk, symbol_step, slot_before, unless_some, range_step, file_step, group_step, last_astray, slots_astray}
+use Rattle.wild_plan_rules.specs.SlotPlaces.{first_free, and_then, walk, symbol_step, file_step, group_step, last_astray, slots_astray}
 use Rattle.wild_plan_rules.specs.Thunks as thunks
 use Rattle.wild_plan_rules.specs.Thunks.{is_used, block_step, sections_in_ranges, or_next, misplaced_from, misplaced_in, thunks_misplaced, owns, is_owned, block_lost, has_thunks}
 use Rattle.wild_outlines.proofs.ChangedItems.{length-outline}

@@ -1,5 +1,5 @@
 -- The tests by which a change may be made.
-use Rattle.std.proofs.Common.{◌≡◌, ℕ, Some, Option, length, true, refl, sym, ap, subst, ◌∙◌}
+use Rattle.std.proofs.Common.{◌≡◌, Some, true, refl, sym, subst, ◌∙◌}
 use Rattle.wild_types.specs.declared.input.InputSection.{InputSection}
 use Rattle.wild_types.specs.declared.file.File.{File}
 use Rattle.wild_types.specs.declared.part.Role.{Role}
@@ -10,7 +10,7 @@ use Rattle.wild_plan_rules.specs.Partial.{file_tables_fit}
 use Rattle.wild_clauses.specs.FileTests.{relocation_passes, section_passes}
 use Rattle.wild_change.specs.declared.change.Change.{Change}
 use Rattle.wild_change.specs.Change.{found_section, changed_section, changed_file, changed_layout}
-use Rattle.wild_change.specs.Outline.{outline_file, outline}
+use Rattle.wild_change.specs.Outline.{outline_file}
 use Rattle.wild_outlines.specs.MayChange.{written_section, MayChange, file_at}
 use Rattle.wild_outlines.specs.ClauseLaws.{PassesTests}
 use Rattle.wild_outlines.proofs.ChangedItems.{FoundSection, FoundSection-from_found, outline_file-changed, outline-changed}

@@ -1,13 +1,10 @@
 -- Tests of clauses that read no group: they are the same for the outline.
-use Rattle.std.proofs.Common.{◌≡◌, ℕ, zero, suc, ◌+◌, Bool, true, false, List, [], ◌∷◌, Option, Some, None, refl, ap, ◌∙◌}
-use Rattle.std.specs.Prelude.{◌==◌, ◌&&◌, ◌||◌, not, if◌then◌else◌, max, slice_get, drop, Result}
-use Rattle.std.specs.List.{position_from, list_any}
-use Rattle.wild_types.specs.declared.fault.Clause.{Clause}
+use Rattle.std.proofs.Common.{◌≡◌, ℕ, ◌+◌, Bool, false, List, [], ◌∷◌, Option, Some, None, refl, ap}
+use Rattle.std.specs.Prelude.{◌==◌, ◌&&◌, ◌||◌, not, max, slice_get, drop}
 use Rattle.wild_types.specs.declared.layout.Layout.{Layout}
 use Rattle.wild_types.specs.declared.layout.Merged.{Merged}
 use Rattle.wild_types.specs.declared.layout.Entry.{Entry}
 use Rattle.wild_types.specs.declared.layout.Entry.TheVariants as entry
-use Rattle.wild_types.specs.declared.layout.GnuHash.{GnuHash}
 use Rattle.wild_types.specs.declared.part.Part.{Part}
 use Rattle.wild_types.specs.declared.section.Section.{Section}
 use Rattle.wild_types.specs.declared.section.Segment.{Segment}
@@ -22,7 +19,7 @@ use Rattle.wild_plan_rules.specs.Places.{part_out_of_order, lies_by, part_lies}
 use Rattle.wild_plan_rules.specs.Segments.{is_segment_of, dynamic_astray}
 use Rattle.wild_plan_rules.specs.LoadedTables.{is_read_from_one_segment, carries_rest, carries_table, rest_of_table, table_is_loaded}
 use Rattle.wild_plan_rules.specs.Contents.{holds_bytes, merged_is_raw, holds_thunks}
-use Rattle.wild_plan_rules.specs.Indexes.{place_fits, entry_is_there, definition_is_own, defines_itself}
+use Rattle.wild_plan_rules.specs.Indexes.{place_fits, entry_is_there, definition_is_own}
 use Rattle.wild_plan_rules.specs.SlotPlaces.{pair_follows_by}
 use Rattle.wild_plan_rules.specs.SlotFlags.{first_tested_failing}
 use Rattle.wild_plan_rules.specs.Fronts.{headers_are_kept, merged_size}

@@ -1,7 +1,7 @@
 -- What groups need of the parts, after a change that keeps the numbers of dynamic relocations.
-use Rattle.std.proofs.Common.{◌≡◌, ℕ, zero, suc, ◌+◌, ◌*◌, ◌-◌, ◌^◌, Bool, true, false, List, [], ◌∷◌, ◌++◌, map, length, min, Option, Some, None, refl, sym, ap, subst, ◌∙◌, arith}
+use Rattle.std.proofs.Common.{◌≡◌, ℕ, zero, suc, ◌+◌, ◌*◌, ◌-◌, ◌^◌, false, List, [], ◌∷◌, ◌++◌, map, length, min, Option, Some, None, refl, sym, ap, subst, ◌∙◌, arith}
 use Rattle.std.specs.Prelude.{◌&&◌, if◌then◌else◌, slice_get}
-use Rattle.std.specs.List.{flat_map, list_any}
+use Rattle.std.specs.List.{flat_map}
 use Rattle.wild_records.specs.Relocations.{rela_size, relr_size}
 use Rattle.wild_types.specs.declared.input.InputSection.{InputSection}
 use Rattle.wild_types.specs.declared.file.File.{File}
@@ -18,7 +18,7 @@ use Rattle.wild_types.specs.Parts.{has_role}
 use Rattle.wild_types.proofs.ListLemmas.{total-append}
 use Rattle.wild_placement.specs.PlacedSections.{Input, behind, placed_sections, placed_file, file_frames, placed_from, frames_at, placed_files, of_last_file, sorted_inputs, sorted_sections, processed_sections}
 use Rattle.wild_placement.specs.ReversedWords.{with_word_order}
-use Rattle.wild_needs.specs.Entries.{words_of, sorted_words, entry_count, word_count, general_count}
+use Rattle.wild_needs.specs.Entries.{words_of, sorted_words, general_count}
 use Rattle.wild_needs.specs.Needs.{frames_room, bytes_if_last, file_table_bytes, reads_sections, first_share, share, has_last, last_share, group_share, needs_of, needs_by, needs, total_share}
 use Rattle.wild_needs.specs.SlotShares.{slot_share, relr_got_share}
 use Rattle.wild_needs.proofs.RoomLemmas.{frames_kept}

@@ -1,7 +1,7 @@
 -- The numbers of dynamic relocations of a file's sections, after a change that keeps those of the changed section.
-use Rattle.std.proofs.Common.{◌≡◌, ℕ, zero, suc, ◌+◌, Bool, true, false, List, [], ◌∷◌, length, Option, Some, None, refl, sym, ap, subst, ◌∙◌, arith, inl, inr}
-use Rattle.std.specs.Prelude.{◌&&◌, not, if◌then◌else◌, option_to_list, slice_get}
-use Rattle.std.specs.List.{flat_map, filter}
+use Rattle.std.proofs.Common.{◌≡◌, ℕ, zero, suc, Bool, true, false, List, [], ◌∷◌, length, Option, Some, None, refl, sym, ap, subst, ◌∙◌, arith, inl, inr}
+use Rattle.std.specs.Prelude.{not, if◌then◌else◌, option_to_list, slice_get}
+use Rattle.std.specs.List.{filter}
 use Rattle.std.proofs.lemmas.Bool.{cases_Bool, and_left, and_right}
 use Rattle.wild_relr.specs.RunWords.{packed}
 use Rattle.wild_reloc.specs.declared.expression.Class.{Class}

@@ -3,7 +3,7 @@
 --   KeepsCounts l s t     sections s and t have as many entries in the tables of dynamic relocations
 --   file_at l c           the file that has the section that the change names
 --   MayChange l c s       the change replaces section s, and the section that it makes passes the tests of all clauses
-use Rattle.std.specs.Prelude.{◌≡◌, ℕ, ◌+◌, ◌-◌, ◌^◌, ◌<◌, true, List, length, Option, Some, option_and_then, slice_get}
+use Rattle.std.specs.Prelude.{◌≡◌, ◌+◌, ◌-◌, ◌^◌, ◌<◌, true, length, Option, Some, option_and_then, slice_get}
 use Rattle.wild_types.specs.declared.input.InputSection.{InputSection}
 use Rattle.wild_types.specs.declared.file.File.{File}
 use Rattle.wild_types.specs.declared.file.Group.{Group}
