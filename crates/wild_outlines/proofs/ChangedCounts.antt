@@ -45,6 +45,7 @@ counted-changed l c k s = rw (header (section_of_part (part_with role.EhFrame l.
     by : (o : Option Section) → header_only (changed_layout l c) o ≡ header_only l o
     by None = refl
     by (Some x) = refl
+
     header : (i : ℕ) → header_only (changed_layout l c) (slice_get l.sections i) ≡ header_only l (slice_get l.sections i)
     header i = by (slice_get l.sections i)
 
@@ -54,7 +55,7 @@ sum_of n gs = total (λ (g : Group). total (λ (f : File). total n f.sections) g
 sum_same : (m n : InputSection → ℕ) → ((s : InputSection) → m s ≡ n s) → (gs : List Group) → sum_of m gs ≡ sum_of n gs
 sum_same m n h gs =
     total-same (λ (g : Group). total (λ (f : File). total m f.sections) g.files) (λ (g : Group). total (λ (f : File). total n f.sections) g.files) gs
-      (λ g. total-same (λ (f : File). total m f.sections) (λ (f : File). total n f.sections) g.files (λ f. total-same m n f.sections h))
+    (λ g. total-same (λ (f : File). total m f.sections) (λ (f : File). total n f.sections) g.files (λ f. total-same m n f.sections h))
 
 -- the count of a section
 count-changed : (l : Layout) (c : Change) (s : InputSection) → FoundSection l c s → is_partial_link l.kind ≡ false → (k : ℕ) → count_of (changed_layout l c) k + counted l k s ≡ count_of l k + counted l k (changed_section c s)
@@ -87,21 +88,26 @@ counts-changed l c s found =
   where
     p : FoundSection l c s
     p = FoundSection-from_found l c s found
+
     counted_here : (is_counted s && not (is_omitted l s)) ≡ true → counted l (section_of l s.part) s ≡ length s.relocations
     counted_here h = rw (h, eq-eqb (section_of l s.part) (section_of l s.part) refl) refl
+
     counted_new : (is_counted s && not (is_omitted l s)) ≡ true → counted l (section_of l s.part) (changed_section c s) ≡ length c.relocations
     counted_new h = rw (h, eq-eqb (section_of l s.part) (section_of l s.part) refl) refl
+
     here : is_partial_link l.kind ≡ false → (is_counted s && not (is_omitted l s)) ≡ true → count_of (changed_layout l c) (section_of l s.part) ≡ count_of l (section_of l s.part) + length c.relocations - length s.relocations
     here link h =
         let e = count-changed l c s p link (section_of l s.part) in
         let old = counted_here h in
         let new = counted_new h in
         omega (arith, e, old, new)
+
     unchanged : is_partial_link l.kind ≡ false → (is_counted s && not (is_omitted l s)) ≡ false → (k : ℕ) → count_of (changed_layout l c) k ≡ count_of l k
     unchanged link none k =
         let e = count-changed l c s p link k in
         let same = not_counted l c s none k in
         omega (arith, e, same)
+
     others : is_partial_link l.kind ≡ false → (k : ℕ) → (k ≡ section_of l s.part → ⊥) → count_of (changed_layout l c) k ≡ count_of l k
     others link k other =
         let e = count-changed l c s p link k in

@@ -128,6 +128,7 @@ placed_shape-outline l f a s = by_slot s.slot refl
   where
     fixed : (z : Slot) → z ≡ s.slot → is_changeable z ≡ false → outline_section s ≡ s
     fixed z e h = outline_section-fixed s (ap is_changeable (sym e) ∙ h)
+
     by_slot : (z : Slot) → z ≡ s.slot → shape_of (placed_by z (outline l) (outline_file f) a (outline_section s)) ≡ shape_of (placed_by z l f a s)
     by_slot slot.Loaded e =
         shape-reversed (unread (outline l) (outline_section s)) (unread l s) (changeable_unread l s (ap is_changeable (sym e))) (unread_reversed (outline l) (outline_section s) ∙ sym (unread_reversed l s))
@@ -142,7 +143,7 @@ placed_extents-outline : (l : Layout) (f : File) (a : ℕ) (ss : List InputSecti
 placed_extents-outline l f a [] = refl
 placed_extents-outline l f a (s ∷ ss) =
     let here : section_extents (outline l) (placed_section (outline l) (outline_file f) a (outline_section s)) ≡ section_extents l (placed_section l f a s) =
-        ap (shape_extents (outline l)) (placed_shape-outline l f a s) ∙ shape_extents-outline l (shape_of (placed_section l f a s)) in
+    ap (shape_extents (outline l)) (placed_shape-outline l f a s) ∙ shape_extents-outline l (shape_of (placed_section l f a s)) in
     let rest = placed_extents-outline l f (behind a (kept_size l f s)) ss in
     ap (λ n. section_extents (outline l) (placed_section (outline l) (outline_file f) a (outline_section s)) ++ flat_map (section_extents (outline l)) (placed_sections (outline l) (outline_file f) (behind a n) (map outline_section ss))) (kept_size-both l f s)
     ∙ (ap (λ es. es ++ flat_map (section_extents (outline l)) (placed_sections (outline l) (outline_file f) (behind a (kept_size l f s)) (map outline_section ss))) here
@@ -157,7 +158,7 @@ front-outline l part bs = rw (header_only-outline l (slice_get l.sections (secti
 merged-outline : (l : Layout) → merged_and_identity_pieces (outline l) ≡ merged_and_identity_pieces l
 merged-outline l =
     ap (λ ps. ps ++ front_piece (outline l) l.identity.part l.identity.bytes)
-      (flat_map-same (λ (m : Merged). front_piece (outline l) m.part (merged_bytes m)) (λ (m : Merged). front_piece l m.part (merged_bytes m)) l.merged (λ (m : Merged). front-outline l m.part (merged_bytes m)))
+    (flat_map-same (λ (m : Merged). front_piece (outline l) m.part (merged_bytes m)) (λ (m : Merged). front_piece l m.part (merged_bytes m)) l.merged (λ (m : Merged). front-outline l m.part (merged_bytes m)))
     ∙ ap (λ ps. flat_map (λ (m : Merged). front_piece l m.part (merged_bytes m)) l.merged ++ ps) (front-outline l l.identity.part l.identity.bytes)
 
 -- thunks
@@ -192,7 +193,7 @@ file_extents-outline : (l : Layout) (a : ℕ) (f : File) → file_extents (outli
 file_extents-outline l a f =
     let own = placed_extents-outline l f a f.sections in
     let sorted : flat_map (section_extents (outline l)) (sorted_sections (outline l)) ≡ flat_map (section_extents l) (sorted_sections l) =
-        ap (flat_map (section_extents (outline l))) (sorted_sections-outline l) ∙ flat_map-same (section_extents (outline l)) (section_extents l) (sorted_sections l) (λ s. shape_extents-outline l (shape_of s)) in
+    ap (flat_map (section_extents (outline l))) (sorted_sections-outline l) ∙ flat_map-same (section_extents (outline l)) (section_extents l) (sorted_sections l) (λ s. shape_extents-outline l (shape_of s)) in
     let first = merged-outline l in
     let thunks = thunks_extents-outline l f in
     ap (λ es. es ++ (of_last_file f (flat_map (section_extents (outline l)) (sorted_sections (outline l))) ++ (map extent_of (of_first_file f (merged_and_identity_pieces (outline l))) ++ thunks_extents (outline l) f))) own
@@ -252,10 +253,10 @@ file_extents_are l f h =
     map-append extent_of (section_pieces l f) (of_last_file f (flat_map (sorted_piece l) (sorted_inputs l)) ++ (of_first_file f (merged_and_identity_pieces l) ++ thunk_pieces l f))
     ∙ (ap (λ es. es ++ map extent_of (of_last_file f (flat_map (sorted_piece l) (sorted_inputs l)) ++ (of_first_file f (merged_and_identity_pieces l) ++ thunk_pieces l f))) (sections_extents_are l f f.sections own)
     ∙ ap (λ es. flat_map (section_extents l) f.sections ++ es)
-        (map-append extent_of (of_last_file f (flat_map (sorted_piece l) (sorted_inputs l))) (of_first_file f (merged_and_identity_pieces l) ++ thunk_pieces l f)
-        ∙ (ap (λ es. es ++ map extent_of (of_first_file f (merged_and_identity_pieces l) ++ thunk_pieces l f)) (last_extents_are l f last)
-        ∙ ap (λ es. of_last_file f (flat_map (section_extents l) (sorted_sections l)) ++ es)
-            (map-append extent_of (of_first_file f (merged_and_identity_pieces l)) (thunk_pieces l f) ∙ ap (λ es. map extent_of (of_first_file f (merged_and_identity_pieces l)) ++ es) (thunks_extents_are l f)))))
+    (map-append extent_of (of_last_file f (flat_map (sorted_piece l) (sorted_inputs l))) (of_first_file f (merged_and_identity_pieces l) ++ thunk_pieces l f)
+    ∙ (ap (λ es. es ++ map extent_of (of_first_file f (merged_and_identity_pieces l) ++ thunk_pieces l f)) (last_extents_are l f last)
+    ∙ ap (λ es. of_last_file f (flat_map (section_extents l) (sorted_sections l)) ++ es)
+    (map-append extent_of (of_first_file f (merged_and_identity_pieces l)) (thunk_pieces l f) ∙ ap (λ es. map extent_of (of_first_file f (merged_and_identity_pieces l)) ++ es) (thunks_extents_are l f)))))
 
 files_extents_are : (l : Layout) (fs : List File) → All (λ (f : File). All (SectionLies l) (processed_sections l f)) fs → map extent_of (flat_map (file_pieces l) fs) ≡ flat_map (file_extents l) fs
 files_extents_are l [] h = refl

@@ -100,14 +100,17 @@ FoundSection-from_found l c s h = by_group (slice_get l.groups c.group) refl h
     slot_fits : (b : Bool) (x : InputSection) → (if b then Some x else None) ≡ Some s → (b ≡ true) × (x ≡ s)
     slot_fits true x h = (refl, cc)
     slot_fits false x h = cc
+
     by_section : (g : Group) (f : File) (o : Option InputSection) → slice_get l.groups c.group ≡ Some g → slice_get g.files c.file ≡ Some f → slice_get f.sections c.section ≡ o → option_and_then if_changeable o ≡ Some s → FoundSection l c s
     by_section g f None a b d h = cc
     by_section g f (Some x) a b d h =
         let p = slot_fits (is_changeable x.slot) x h in
         record { group = g; file = f; in_layout = a; in_group = b; in_file = d ∙ ap (λ (y : InputSection). Some y) p.1; changeable = ap (λ (y : InputSection). is_changeable y.slot) (sym p.1) ∙ p.0 }
+
     by_file : (g : Group) (o : Option File) → slice_get l.groups c.group ≡ Some g → slice_get g.files c.file ≡ o → option_and_then if_changeable (option_and_then (section_in_file c) o) ≡ Some s → FoundSection l c s
     by_file g None a b h = cc
     by_file g (Some f) a b h = by_section g f (slice_get f.sections c.section) a b refl h
+
     by_group : (o : Option Group) → slice_get l.groups c.group ≡ o → option_and_then if_changeable (option_and_then (section_in_group c) o) ≡ Some s → FoundSection l c s
     by_group None a h = cc
     by_group (Some g) a h = by_file g (slice_get g.files c.file) a refl h
@@ -133,7 +136,7 @@ outline_section-changed c s t n = rw (t, n) refl
 pub outline_file-changed : (l : Layout) (c : Change) (s : InputSection) (p : FoundSection l c s) → length c.bytes ≡ length s.bytes → outline_file (changed_file c p.file) ≡ outline_file p.file
 outline_file-changed l c s p n =
     ap (λ (ss : List InputSection). record p.file { sections = ss })
-      (map-with_item outline_section (changed_section c) c.section p.file.sections s p.in_file (outline_section-changed c s p.changeable n))
+    (map-with_item outline_section (changed_section c) c.section p.file.sections s p.in_file (outline_section-changed c s p.changeable n))
 
 pub outline_group-changed : (l : Layout) (c : Change) (s : InputSection) (p : FoundSection l c s) → length c.bytes ≡ length s.bytes → outline_group (changed_group c p.group) ≡ outline_group p.group
 outline_group-changed l c s p n =

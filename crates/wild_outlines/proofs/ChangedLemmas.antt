@@ -151,7 +151,7 @@ module _ (l : Layout) (c : Change) (s : InputSection) (p : FoundSection l c s) (
       let old = group_pieces l c.group p.group in
       let new = group_pieces m c.group (changed_group c p.group) in
       let mid : Middle (group_pieces l c.group p.group) (group_pieces (changed_layout l c) c.group (changed_group c p.group)) (flat_map_from (group_pieces l) 0 l.groups) (flat_map_from (group_pieces (changed_layout l c)) 0 (changed_layout l c).groups) =
-          Middle-from_item (group_pieces l) (group_pieces m) (changed_group c) same c.group l.groups p.group p.in_layout 0 c.group (omega arith) in
+      Middle-from_item (group_pieces l) (group_pieces m) (changed_group c) same c.group l.groups p.group p.in_layout 0 c.group (omega arith) in
       let size : image_size m ≡ length (padding l) = same_by_outline image_size image_size-outline l m e ∙ sym (length-padding l) in
       let before : AreDisjoint (length (padding l)) (mid.front ++ (old ++ mid.behind)) = subst (λ (ps : List Piece). AreDisjoint (length (padding l)) ps) mid.before (subst (λ (k : ℕ). AreDisjoint k (pieces l)) (sym (length-padding l)) laid.owners) in
       let behind : AreDisjoint (length (padding l)) (mid.front ++ (new ++ mid.behind)) = subst (λ (ps : List Piece). AreDisjoint (length (padding l)) ps) mid.after (subst (λ (k : ℕ). AreDisjoint k (pieces m)) size after.owners) in
@@ -196,7 +196,7 @@ errors-changed l c g at none clauses shares groups =
     let before = none_before l none in
     let parts : flat_map_from (part_errors m) 0 m.parts ≡ [] = flat_map_from-same (part_errors l) (part_errors m) shares 0 l.parts ∙ before.1 in
     let mid : Middle (group_errors l c.group g) (group_errors m c.group (changed_group c g)) (flat_map_from (group_errors l) 0 l.groups) (flat_map_from (group_errors m) 0 m.groups) =
-        Middle-from_item (group_errors l) (group_errors m) (changed_group c) groups c.group l.groups g at 0 c.group (omega arith) in
+    Middle-from_item (group_errors l) (group_errors m) (changed_group c) groups c.group l.groups g at 0 c.group (omega arith) in
     let front = nil_parts mid.front (group_errors l c.group g ++ mid.behind) (sym mid.before ∙ before.2) in
     let behind = nil_parts (group_errors l c.group g) mid.behind front.1 in
     ap (λ r. (clause_errors r ++ flat_map_from (part_errors m) 0 m.parts) ++ flat_map_from (group_errors m) 0 m.groups) clauses

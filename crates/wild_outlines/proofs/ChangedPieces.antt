@@ -60,7 +60,7 @@ disjoint_exchanged : (n : ℕ) (p q : Piece) (ps : List Piece) → SamePlace p q
 disjoint_exchanged n p q ps e h = record {
   within =
       All-cons (λ (r : Piece). r.at + length r.bytes ≤ n) q ps (let w : p.at + length p.bytes ≤ n = h.within 0 p (omega arith) in let a = e.at in let m = e.long in omega (arith, w, a, m))
-        (AreDisjoint-rest n p ps h).within;
+      (AreDisjoint-rest n p ps h).within;
   apart = AllPairs-cons Disjoint q ps (λ k d l. same_disjoint p q (get_or ps k d) e (AllPairs-head Disjoint p ps h.apart k d l)) (AllPairs-tail Disjoint p ps h.apart);
 }
 

@@ -96,8 +96,8 @@ SectionTests-from_passes l s h =
     record {
       indexes =
           and_from (nat_lt s.part (length l.parts)) (index_fits (length l.sections) s.singleton && (list_all (header_is_there l) s.members && list_all (relocation_index_fits l) s.relocations)) part.0
-            (and_from (index_fits (length l.sections) s.singleton) (list_all (header_is_there l) s.members && list_all (relocation_index_fits l) s.relocations) header.0
-              (and_from (list_all (header_is_there l) s.members) (list_all (relocation_index_fits l) s.relocations) header.1 indexes));
+          (and_from (index_fits (length l.sections) s.singleton) (list_all (header_is_there l) s.members && list_all (relocation_index_fits l) s.relocations) header.0
+          (and_from (list_all (header_is_there l) s.members) (list_all (relocation_index_fits l) s.relocations) header.1 indexes));
       fields = fields;
       read = or_right (is_frame s.slot) (list_all is_read_well s.relocations) read;
       reversed = f.0;
@@ -180,7 +180,7 @@ file_indexes-changed l c f h g =
     let a = and_parts (f.symbol_count == 0 || nat_le (f.first_symbol + f.symbol_count) (length l.symbols)) (list_all (section_indexes_fit l) f.sections && file_rest l f) h in
     let b = and_parts (list_all (section_indexes_fit l) f.sections) (file_rest l f) a.1 in
     and_from (f.symbol_count == 0 || nat_le (f.first_symbol + f.symbol_count) (length l.symbols)) (list_all (section_indexes_fit l) (changed_file c f).sections && file_rest l f) a.0
-      (and_from (list_all (section_indexes_fit l) (changed_file c f).sections) (file_rest l f) g b.1)
+    (and_from (list_all (section_indexes_fit l) (changed_file c f).sections) (file_rest l f) g b.1)
 
 file_sections : (l : Layout) (f : File) → file_indexes_fit l f ≡ true → list_all (section_indexes_fit l) f.sections ≡ true
 file_sections l f h =
@@ -218,13 +218,15 @@ rest_of_indexes l o =
 rest_of_indexes-outline : (o : Option ℕ) (l : Layout) → rest_of_indexes (outline l) o ≡ rest_of_indexes l o
 unfolding rest_of_indexes
 rest_of_indexes-outline o l =
-    rw (symbol_misfit-outline l 0 l.symbols,
-        failing-same (sorted_is_there (outline l)) (sorted_is_there l) (sorted_is_there-outline l) 0 l.sorted,
-        entry_is_there-outline l l.entry,
-        first_double_copy-outline l [] 0 l.groups,
-        failing-same (definition_is_own (outline l)) (definition_is_own l) (definition_is_own-outline l) 0 l.symbols,
-        range_out_of_order-outline 0 0 l.groups)
-      refl
+    rw (
+      symbol_misfit-outline l 0 l.symbols,
+      failing-same (sorted_is_there (outline l)) (sorted_is_there l) (sorted_is_there-outline l) 0 l.sorted,
+      entry_is_there-outline l l.entry,
+      first_double_copy-outline l [] 0 l.groups,
+      failing-same (definition_is_own (outline l)) (definition_is_own l) (definition_is_own-outline l) 0 l.symbols,
+      range_out_of_order-outline 0 0 l.groups,
+    )
+    refl
 
 -- the test on groups finds nothing, and the others pass
 indexes_parts : (l : Layout) → check_indexes l ≡ Ok tt → (first_failing (group_indexes_fit l) 0 l.groups ≡ None) × (rest_of_indexes l None ≡ Ok tt)
@@ -282,17 +284,19 @@ partial_with l kinds tables =
 partial_with-outline : (kinds tables : Option ℕ) (l : Layout) → partial_with (outline l) kinds tables ≡ partial_with l kinds tables
 unfolding partial_with
 partial_with-outline kinds tables l =
-    rw (failing_sections-outline (is_no_debug (outline l)) (is_no_debug l) (λ s. refl) 0 l.groups,
-        failing_sections-outline group_fits_members group_fits_members (λ s. refl) 0 l.groups,
-        failing_sections-outline table_has_data table_has_data (λ s. refl) 0 l.groups)
-      refl
+    rw (
+      failing_sections-outline (is_no_debug (outline l)) (is_no_debug l) (λ s. refl) 0 l.groups,
+      failing_sections-outline group_fits_members group_fits_members (λ s. refl) 0 l.groups,
+      failing_sections-outline table_has_data table_has_data (λ s. refl) 0 l.groups,
+    )
+    refl
 
 -- the first seven of several clauses pass, and so does what follows them
 after_seven : (a b c d e f g rest : Result (Unit {0}) Clause) → first_error a (first_error b (first_error c (first_error d (first_error e (first_error f (first_error g rest)))))) ≡ Ok tt → rest ≡ Ok tt
 after_seven a b c d e f g rest h =
     rest_holds g rest (rest_holds f (first_error g rest) (rest_holds e (first_error f (first_error g rest)) (rest_holds d (first_error e (first_error f (first_error g rest)))
-      (rest_holds c (first_error d (first_error e (first_error f (first_error g rest)))) (rest_holds b (first_error c (first_error d (first_error e (first_error f (first_error g rest)))))
-        (rest_holds a (first_error b (first_error c (first_error d (first_error e (first_error f (first_error g rest)))))) h))))))
+    (rest_holds c (first_error d (first_error e (first_error f (first_error g rest)))) (rest_holds b (first_error c (first_error d (first_error e (first_error f (first_error g rest)))))
+    (rest_holds a (first_error b (first_error c (first_error d (first_error e (first_error f (first_error g rest)))))) h))))))
 
 -- the rest of the clause, from the kinds of sections on
 abbrev from_kinds : Layout → Option ℕ → Option ℕ → Result (Unit {0}) Clause
@@ -312,15 +316,16 @@ partial_tail : (l : Layout) (kinds tables : Option ℕ) → partial_with l kinds
 unfolding partial_with
 partial_tail l kinds tables h =
     after_seven (fails 21 (unless (has_no_segments l))) (fails 21 (first_failing (has_no_slot l) 0 l.symbols)) (fails 21 (unless (has_no_pair l))) (fails 21 (first_failing (has_no_thunks l) 0 l.thunk_blocks))
-      (fails 21 (unless (lists_no_symbols l))) (fails 21 (first_failing (has_no_index l) 0 l.symbols)) (fails 21 (first_failing (each_section (is_no_debug l)) 0 l.groups)) (from_kinds l kinds tables) h
+    (fails 21 (unless (lists_no_symbols l))) (fails 21 (first_failing (has_no_index l) 0 l.symbols)) (fails 21 (first_failing (each_section (is_no_debug l)) 0 l.groups)) (from_kinds l kinds tables) h
 
 -- both find nothing
 partial_parts : (l : Layout) (kinds tables : Option ℕ) → partial_with l kinds tables ≡ Ok tt → (kinds ≡ None) × (tables ≡ None)
 partial_parts l kinds tables h =
     let p = partial_tail l kinds tables h in
-    let q = rest_holds (fails 21 kinds) (from_tables l tables) p in
-    (None-from_fails 21 kinds (first_holds (fails 21 kinds) (from_tables l tables) p),
-     None-from_fails 21 tables (first_holds (fails 21 tables) (first_error (fails 21 (first_failing (each_section group_fits_members) 0 l.groups)) (fails 21 (first_failing (each_section table_has_data) 0 l.groups))) q))
+    let q = rest_holds (fails 21 kinds) (from_tables l tables) p in (
+      None-from_fails 21 kinds (first_holds (fails 21 kinds) (from_tables l tables) p),
+      None-from_fails 21 tables (first_holds (fails 21 tables) (first_error (fails 21 (first_failing (each_section group_fits_members) 0 l.groups)) (fails 21 (first_failing (each_section table_has_data) 0 l.groups))) q),
+    )
 
 -- without tables of relocations none of them misses an entry
 no_tables : (l : Layout) (f : File) (ss : List InputSection) → is_partial_link l.kind ≡ false → list_all (is_of_kind l) ss ≡ true → list_all (rela_fits f) ss ≡ true

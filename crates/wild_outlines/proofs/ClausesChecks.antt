@@ -60,20 +60,22 @@ bytes_take_room-outline l s = rw (length-outline s) refl
 pub check_inputs-outline : (l : Layout) → check_inputs (outline l) ≡ check_inputs l
 unfolding check_inputs
 check_inputs-outline l =
-    rw (section_misplaced-outline l (addresses l.parts) 0 l.groups,
-        sorted_named_once-outline l 0 l.groups,
-        failing-same (names_sorted (outline l)) (names_sorted l) (names_sorted-outline l) 0 l.sorted,
-        failing_sections-outline length_fits length_fits length_fits-outline 0 l.groups,
-        failing_sections-outline (frames_part_fits (outline l)) (frames_part_fits l) (λ s. refl) 0 l.groups,
-        failing_sections-outline discarded_is_empty discarded_is_empty discarded_is_empty-outline 0 l.groups,
-        failing_sections-outline (part_is_raw (outline l)) (part_is_raw l) (λ s. refl) 0 l.groups,
-        failing-same (merged_is_raw (outline l)) (merged_is_raw l) (merged_is_raw-outline l) 0 l.merged,
-        identity_is_raw-outline l,
-        holds_thunks-outline l (slice_get l.parts l.primary_part),
-        front_is_free-outline l,
-        failing_sections-outline (allocation_agrees (outline l)) (allocation_agrees l) (λ s. refl) 0 l.groups,
-        failing_sections-outline (bytes_take_room (outline l)) (bytes_take_room l) (bytes_take_room-outline l) 0 l.groups)
-      refl
+    rw (
+      section_misplaced-outline l (addresses l.parts) 0 l.groups,
+      sorted_named_once-outline l 0 l.groups,
+      failing-same (names_sorted (outline l)) (names_sorted l) (names_sorted-outline l) 0 l.sorted,
+      failing_sections-outline length_fits length_fits length_fits-outline 0 l.groups,
+      failing_sections-outline (frames_part_fits (outline l)) (frames_part_fits l) (λ s. refl) 0 l.groups,
+      failing_sections-outline discarded_is_empty discarded_is_empty discarded_is_empty-outline 0 l.groups,
+      failing_sections-outline (part_is_raw (outline l)) (part_is_raw l) (λ s. refl) 0 l.groups,
+      failing-same (merged_is_raw (outline l)) (merged_is_raw l) (merged_is_raw-outline l) 0 l.merged,
+      identity_is_raw-outline l,
+      holds_thunks-outline l (slice_get l.parts l.primary_part),
+      front_is_free-outline l,
+      failing_sections-outline (allocation_agrees (outline l)) (allocation_agrees l) (λ s. refl) 0 l.groups,
+      failing_sections-outline (bytes_take_room (outline l)) (bytes_take_room l) (bytes_take_room-outline l) 0 l.groups,
+    )
+    refl
 
 pub check_slots-outline : (l : Layout) → check_slots (outline l) ≡ check_slots l
 unfolding check_slots
@@ -90,16 +92,18 @@ check_dynsyms-outline l = rw (undefined_entries-outline l.symbols l.groups, firs
 pub check_slot_flags-outline : (l : Layout) → check_slot_flags (outline l) ≡ check_slot_flags l
 unfolding check_slot_flags
 check_slot_flags-outline l =
-    rw (first_tested_failing-outline l dynamic_is_interposable 0 l.symbols,
-        first_tested_failing-outline l stub_is_value 0 l.symbols,
-        first_tested_failing-outline l stub_has_slot 0 l.symbols,
-        first_tested_failing-outline l one_slot_for_address 0 l.symbols,
-        first_tested_failing-outline l thread_slot_alone 0 l.symbols,
-        first_tested_failing-outline l resolver_is_own 0 l.symbols,
-        first_tested_failing-outline l slot_agrees 0 l.symbols,
-        first_tested_failing-outline l resolver_moves 0 l.symbols,
-        first_tested_failing-outline l (second_slot_fits l) 0 l.symbols)
-      refl
+    rw (
+      first_tested_failing-outline l dynamic_is_interposable 0 l.symbols,
+      first_tested_failing-outline l stub_is_value 0 l.symbols,
+      first_tested_failing-outline l stub_has_slot 0 l.symbols,
+      first_tested_failing-outline l one_slot_for_address 0 l.symbols,
+      first_tested_failing-outline l thread_slot_alone 0 l.symbols,
+      first_tested_failing-outline l resolver_is_own 0 l.symbols,
+      first_tested_failing-outline l slot_agrees 0 l.symbols,
+      first_tested_failing-outline l resolver_moves 0 l.symbols,
+      first_tested_failing-outline l (second_slot_fits l) 0 l.symbols,
+    )
+    refl
 
 pub check_tls-outline : (l : Layout) → check_tls (outline l) ≡ check_tls l
 unfolding check_tls

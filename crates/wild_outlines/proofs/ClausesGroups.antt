@@ -151,7 +151,7 @@ pub sorted_input-outline : (l : Layout) (x : SortedSection) → sections_of_inpu
 unfolding sorted_input
 sorted_input-outline l x =
     rw (slice_get-map outline_group l.groups x.group, files_at-outline (slice_get l.groups x.group), slice_get-map outline_file (files_at (slice_get l.groups x.group)) x.file)
-      (sorted_in_group-outline l (slice_get (files_at (slice_get l.groups x.group)) x.file) x.section)
+    (sorted_in_group-outline l (slice_get (files_at (slice_get l.groups x.group)) x.file) x.section)
 
 pub sorted_inputs-outline : (l : Layout) (xs : List SortedSection) → sections_of_inputs (flat_map (sorted_input (outline l)) xs) ≡ sections_of_inputs (flat_map (sorted_input l) xs)
 sorted_inputs-outline l [] = refl
@@ -200,7 +200,7 @@ placed_in-outline l part end n s = rw (length-outline s) refl
 file_placed_in-outline : (l : Layout) (part end n : ℕ) (f : File) → file_placed_in (outline l) part end n (outline_file f) ≡ file_placed_in l part end n f
 file_placed_in-outline l part end n f =
     rw (sections_in_ranges-outline l f)
-      (through-front (placed_in (outline l) part end) (placed_in l part end) outline_section (placed_in-outline l part end) (λ m s. refl) n f.sections (of_last_file f (sections_of_inputs (sorted_inputs l))))
+    (through-front (placed_in (outline l) part end) (placed_in l part end) outline_section (placed_in-outline l part end) (λ m s. refl) n f.sections (of_last_file f (sections_of_inputs (sorted_inputs l))))
 
 part_placed-outline : (l : Layout) (part start end : ℕ) (g : Group) → part_placed (outline l) part start end (outline_group g) ≡ part_placed l part start end g
 part_placed-outline l part start end g = ap is_some (through-mapped (file_placed_in (outline l) part end) (file_placed_in l part end) outline_file (file_placed_in-outline l part end) start g.files)

@@ -91,15 +91,17 @@ section_step-outline l group at s = rw (length-outline s) refl
 thunk_file_step-outline : (l : Layout) (group end at : ℕ) (f : File) → thunks.file_step (outline l) group end at (outline_file f) ≡ thunks.file_step l group end at f
 thunk_file_step-outline l group end at f =
     rw (sections_in_ranges-outline l f)
-      (ap (λ r. and_then r (λ n. block_step f.thunk_block end n (thunks_of l f)))
-        (walk-front (thunks.section_step (outline l) group) (thunks.section_step l group) outline_section (section_step-outline l group) (λ n s. refl) at f.sections (of_last_file f (map (λ (x : Input). x.section) (sorted_inputs l)))))
+    (ap (λ r. and_then r (λ n. block_step f.thunk_block end n (thunks_of l f)))
+    (walk-front (thunks.section_step (outline l) group) (thunks.section_step l group) outline_section (section_step-outline l group) (λ n s. refl) at f.sections (of_last_file f (map (λ (x : Input). x.section) (sorted_inputs l)))))
 
 misplaced_from-outline : (l : Layout) (last start i : ℕ) (gs : List Group) → misplaced_from (outline l) last start i (map outline_group gs) ≡ misplaced_from l last start i gs
 misplaced_from-outline l last start i [] = refl
 misplaced_from-outline l last start i (g ∷ gs) =
-    rw (walk-mapped (thunks.file_step (outline l) i (start + given l.primary_part g)) (thunks.file_step l i (start + given l.primary_part g)) outline_file (thunk_file_step-outline l i (start + given l.primary_part g)) start g.files,
-        misplaced_from-outline l last (start + given l.primary_part g) (i + 1) gs)
-      refl
+    rw (
+      walk-mapped (thunks.file_step (outline l) i (start + given l.primary_part g)) (thunks.file_step l i (start + given l.primary_part g)) outline_file (thunk_file_step-outline l i (start + given l.primary_part g)) start g.files,
+      misplaced_from-outline l last (start + given l.primary_part g) (i + 1) gs,
+    )
+    refl
 
 misplaced_in-outline : (l : Layout) (o : Option Part) → misplaced_in (outline l) o ≡ misplaced_in l o
 misplaced_in-outline l None = refl
@@ -111,7 +113,7 @@ thunks_misplaced-outline l = ap (λ o. if has_thunks l then o else None) (mispla
 is_owned-outline : (l : Layout) (block : ℕ) → is_owned (outline l) block ≡ is_owned l block
 is_owned-outline l block =
     list_any-mapped (λ (g : Group). list_any (owns block) g.files) (λ (g : Group). list_any (owns block) g.files) outline_group
-      (λ (g : Group). list_any-mapped (owns block) (owns block) outline_file (λ f. refl) g.files) l.groups
+    (λ (g : Group). list_any-mapped (owns block) (owns block) outline_file (λ f. refl) g.files) l.groups
 
 pub block_lost-outline : (l : Layout) (i : ℕ) (bs : List (List Thunk)) → block_lost (outline l) i bs ≡ block_lost l i bs
 block_lost-outline l i [] = refl

@@ -92,7 +92,7 @@ carries_table-outline l p o g = rw (header_only-outline l (slice_get l.sections 
 pub table_is_loaded-outline : (l : Layout) (p : Part) → table_is_loaded (outline l) p ≡ table_is_loaded l p
 table_is_loaded-outline l p =
     ap (λ (b : Bool). not (needs_dynamic l.kind) || not (is_read_from_one_segment l p.role) || p.size == 0 || b)
-      (list_any-same (carries_table (outline l) p (rest_of_table l.parts p)) (carries_table l p (rest_of_table l.parts p)) l.segments (carries_table-outline l p (rest_of_table l.parts p)))
+    (list_any-same (carries_table (outline l) p (rest_of_table l.parts p)) (carries_table l p (rest_of_table l.parts p)) l.segments (carries_table-outline l p (rest_of_table l.parts p)))
 
 -- ---- merged strings and thunks
 

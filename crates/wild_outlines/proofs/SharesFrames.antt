@@ -61,7 +61,7 @@ target_of-outline l f r = target_by-outline l f r.symbol
 pub frames_of-outline : (l : Layout) (f : File) (s : InputSection) → frames_of (outline l) (outline_file f) s ≡ frames_of l f s
 frames_of-outline l f s =
     ap (λ (t : InputRelocation → Target). record { bytes = if s.nobits then [] else s.bytes; relocations = if s.nobits then [] else s.relocations; width = λ r. field_bytes l.machine r.number; target = t })
-      (fun_ext (λ r. target_of-outline l f r))
+    (fun_ext (λ r. target_of-outline l f r))
 
 pub kept_size-outline : (l : Layout) (f : File) (s : InputSection) → kept_size (outline l) (outline_file f) s ≡ kept_size l f s
 unfolding kept_size
@@ -106,8 +106,8 @@ file_frames-outline l f = total-mapped (kept_size (outline l) (outline_file f)) 
 pub all_fdes-outline : (l : Layout) → all_fdes (outline l) ≡ all_fdes l
 all_fdes-outline l =
     total-mapped (λ (g : Group). total (λ (f : File). total (fde_count (outline l) f) f.sections) g.files) (λ (g : Group). total (λ (f : File). total (fde_count l f) f.sections) g.files) outline_group
-      (λ (g : Group). total-mapped (λ (f : File). total (fde_count (outline l) f) f.sections) (λ (f : File). total (fde_count l f) f.sections) outline_file
-        (λ (f : File). total-mapped (fde_count (outline l) (outline_file f)) (fde_count l f) outline_section (fde_count-both l f) f.sections) g.files) l.groups
+    (λ (g : Group). total-mapped (λ (f : File). total (fde_count (outline l) f) f.sections) (λ (f : File). total (fde_count l f) f.sections) outline_file
+    (λ (f : File). total-mapped (fde_count (outline l) (outline_file f)) (fde_count l f) outline_section (fde_count-both l f) f.sections) g.files) l.groups
 
 -- ---- two layouts and two files with the same outlines
 

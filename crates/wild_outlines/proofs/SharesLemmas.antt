@@ -252,8 +252,10 @@ module _ (l : Layout) (c : Change) (s : InputSection) (p : FoundSection l c s) (
     where
       same : {x y : Group} → Some x ≡ Some y → x ≡ y
       same e = cc
+
       spare : (y : Group) → y ≡ p.group → has_spare q (changed_group c y) ≡ has_spare q y
       spare y is = ap (λ (z : Group). has_spare q (changed_group c z)) is ∙ (has_spare-changed q ∙ ap (has_spare q) (sym is))
+
       rest : (j : ℕ) (gs : List Group) → flat_map_from (λ j (g : Group). share_errors (has_spare q g) i j (given i g) (needs (changed_layout l c) i j)) j gs ≡ flat_map_from (λ j (g : Group). share_errors (has_spare q g) i j (given i g) (needs l i j)) j gs
       rest j [] = refl
       rest j (g ∷ gs) = rw (needs-changed i j) (ap (λ es. share_errors (has_spare q g) i j (given i g) (needs l i j) ++ es) (rest (j + 1) gs))

@@ -66,13 +66,13 @@ pub rela_places-outline : (l : Layout) (s : InputSection) → rela_places (outli
 unfolding rela_places
 rela_places-outline l s =
     ap (λ (ns : List ℕ). if may_have_relative l s then ns else [])
-      (flat_map-same (λ r. option_to_list (rela_place (outline l) s r)) (λ r. option_to_list (rela_place l s r)) s.relocations (λ r. ap option_to_list (rela_place-outline l s r)))
+    (flat_map-same (λ r. option_to_list (rela_place (outline l) s r)) (λ r. option_to_list (rela_place l s r)) s.relocations (λ r. ap option_to_list (rela_place-outline l s r)))
 
 pub relr_places-outline : (l : Layout) (s : InputSection) → relr_places (outline l) s ≡ relr_places l s
 unfolding relr_places
 relr_places-outline l s =
     ap (λ (ns : List ℕ). if may_have_relative l s then ns else [])
-      (flat_map-same (λ r. option_to_list (relr_place (outline l) s r)) (λ r. option_to_list (relr_place l s r)) s.relocations (λ r. ap option_to_list (relr_place-outline l s r)))
+    (flat_map-same (λ r. option_to_list (relr_place (outline l) s r)) (λ r. option_to_list (relr_place l s r)) s.relocations (λ r. ap option_to_list (relr_place-outline l s r)))
 
 pub words_of-outline : (l : Layout) (s : InputSection) → words_of (outline l) s ≡ words_of l s
 words_of-outline l s = ap packed (relr_places-outline l s)
@@ -85,7 +85,7 @@ pub dynamic_relocations-outline : (l : Layout) (s : InputSection) → dynamic_re
 unfolding dynamic_relocations
 dynamic_relocations-outline l s =
     ap (λ (rs : List InputRelocation). if is_read s then rs else [])
-      (filter-same (λ r. has_dynamic_entry (treatment (outline l) s.flags r)) (λ r. has_dynamic_entry (treatment l s.flags r)) s.relocations (λ r. ap has_dynamic_entry (treatment-outline l s.flags r)))
+    (filter-same (λ r. has_dynamic_entry (treatment (outline l) s.flags r)) (λ r. has_dynamic_entry (treatment l s.flags r)) s.relocations (λ r. ap has_dynamic_entry (treatment-outline l s.flags r)))
 
 -- the number of a section's entries in the part of a role
 abbrev pub counted_for : Role → Layout → InputSection → ℕ
@@ -164,6 +164,7 @@ changed_count r l m f g c e a s h k = by_slot s.slot refl h
   where
     none : (n : Layout) (t : InputSection) → slot.Debug ≡ t.slot → counted_for r n (with_word_order t) ≡ 0
     none n t d = none_read r n (with_word_order t) (ap has_relocations (written_slot t ∙ sym d))
+
     by_slot : (z : Slot) → z ≡ s.slot → is_changeable z ≡ true → counted_for r m (placed_by z m g a (changed_section c s)) ≡ counted_for r l (placed_by z l f a s)
     by_slot slot.Loaded d h =
         ap (λ t. counted_for r m (with_word_order t)) (same_unread l m e (changed_section c s)) ∙ (same_count r l m e (written_section l (changed_section c s)) ∙ kept_counts r l s (changed_section c s) k)
@@ -181,6 +182,7 @@ written_count r l f a s h = by_slot s.slot refl h
           | inl x ↦ rw x refl
           | inr x ↦ rw x refl
         ]
+
     by_slot : (z : Slot) → z ≡ s.slot → is_changeable z ≡ true → counted_for r l (placed_by z l f a s) ≡ counted_for r l (written_section l s)
     by_slot slot.Loaded d h = refl
     by_slot slot.Debug d h =

@@ -113,7 +113,7 @@ singleton_sections-outline : (l : Layout) → singleton_sections (outline l) ≡
 singleton_sections-outline l =
     ap (λ fs. flat_map (λ (f : File). flat_map (λ (s : InputSection). option_to_list s.singleton) f.sections) fs) (files_of-outline l.groups)
     ∙ flat_map-mapped (λ (f : File). flat_map (λ (s : InputSection). option_to_list s.singleton) f.sections) (λ (f : File). flat_map (λ (s : InputSection). option_to_list s.singleton) f.sections) outline_file
-        (λ (f : File). flat_map-mapped (λ (s : InputSection). option_to_list s.singleton) (λ (s : InputSection). option_to_list s.singleton) outline_section (λ s. refl) f.sections) (files_of l.groups)
+    (λ (f : File). flat_map-mapped (λ (s : InputSection). option_to_list s.singleton) (λ (s : InputSection). option_to_list s.singleton) outline_section (λ s. refl) f.sections) (files_of l.groups)
 
 pub section_symbols-outline : (l : Layout) → section_symbols (outline l) ≡ section_symbols l
 unfolding section_symbols
@@ -187,7 +187,7 @@ pub group_relr_got-outline : (l : Layout) (g : Group) → group_relr_got (outlin
 unfolding group_relr_got
 group_relr_got-outline l g =
     flat_map-mapped (λ (f : File). flat_map (relr_got_places (outline l)) (own_symbols (outline l) f)) (λ (f : File). flat_map (relr_got_places l) (own_symbols l f)) outline_file
-      (λ (f : File). flat_map-same (relr_got_places (outline l)) (relr_got_places l) (own_symbols l f) (relr_got_places-outline l)) g.files
+    (λ (f : File). flat_map-same (relr_got_places (outline l)) (relr_got_places l) (own_symbols l f) (relr_got_places-outline l)) g.files
 
 pub relr_got_share-outline : (l : Layout) (r : Role) (g : Group) → relr_got_share (outline l) r (outline_group g) ≡ relr_got_share l r g
 relr_got_share-outline l role.RelrDyn g = ap (λ ps. relr_size * length (words_of_relr_got (block_of ps))) (group_relr_got-outline l g)
