@@ -1,6 +1,6 @@
 -- Lists in which one item is replaced, and the outline of a changed layout.
-use Rattle.std.proofs.Common.{◌≡◌, ℕ, zero, suc, ◌+◌, Bool, true, false, List, [], ◌∷◌, map, length, Option, Some, None, refl, sym, ap, ◌∙◌, arith, inl, inr}
-use Rattle.std.specs.Prelude.{if◌then◌else◌, option_and_then, slice_get}
+use Rattle.std.proofs.Common.{◌≡◌, ℕ, zero, suc, ◌+◌, ◌≤◌, ◌⊎◌, Bool, true, false, List, [], ◌∷◌, map, length, Option, Some, None, refl, sym, ap, ◌∙◌, arith, inl, inr}
+use Rattle.std.specs.Prelude.{◌&&◌, if◌then◌else◌, option_and_then, slice_get}
 use Rattle.std.specs.List.{list_all}
 use Rattle.std.proofs.lemmas.Bool.{and_parts, and_from, cases_Bool}
 use Rattle.std.proofs.lemmas.List.{length-replicate}
@@ -12,6 +12,7 @@ use Rattle.wild_types.specs.Lists.{first_failing, total}
 use Rattle.wild_plan_rules.specs.Contents.{each_section}
 use Rattle.wild_change.specs.declared.change.Change.{Change}
 use Rattle.wild_change.specs.Change.{is_changeable, if_changeable, section_in_file, section_in_group, found_section, with_item, changed_section, changed_file, changed_group, changed_layout}
+use Rattle.wild_outlines.specs.RefusalLaws.{place_unless}
 use Rattle.wild_change.specs.Outline.{outline_section, outline_file, outline_group, outline}
 
 -- ---- one item replaced
@@ -68,6 +69,21 @@ list_all-with_item t f (suc i) (y ∷ ys) x h a p =
     let q = and_parts (t y) (list_all t ys) a in
     and_from (t y) (list_all t (with_item f i ys)) q.0 (list_all-with_item t f i ys x h q.1 p)
 
+and_true : (a : Bool) → (a && true) ≡ a
+and_true true = refl
+and_true false = refl
+
+-- if all items pass, then after one is replaced they do exactly if the new one does
+pub list_all-replaced : {X : Type 0} (t : X → Bool) (f : X → X) (i : ℕ) (xs : List X) (x : X) → slice_get xs i ≡ Some x → list_all t xs ≡ true → list_all t (with_item f i xs) ≡ t (f x)
+list_all-replaced t f i [] x h a = cc
+list_all-replaced {X = X} t f zero (y ∷ ys) x h a = rw (and_parts (t y) (list_all t ys) a).1 (and_true (t (f y)) ∙ ap (λ z. t (f z)) (same y x h))
+  where
+    same : (y x : X) → Some y ≡ Some x → y ≡ x
+    same y x h = cc
+list_all-replaced t f (suc i) (y ∷ ys) x h a =
+    let q = and_parts (t y) (list_all t ys) a in
+    rw q.0 (list_all-replaced t f i ys x h q.1)
+
 -- a search that finds nothing says that all items pass, and the other way round
 pub all_pass : {X : Type 0} (t : X → Bool) (i : ℕ) (xs : List X) → first_failing t i xs ≡ None → list_all t xs ≡ true
 all_pass t i [] h = refl
@@ -82,6 +98,30 @@ none_fails t i [] h = refl
 none_fails t i (x ∷ xs) h =
     let p = and_parts (t x) (list_all t xs) h in
     rw p.0 (none_fails t (i + 1) xs p.1)
+
+-- and a search finds the new item, unless it passes
+pub failing-replaced : {X : Type 0} (t : X → Bool) (f : X → X) (i j : ℕ) (xs : List X) (x : X) → slice_get xs i ≡ Some x → list_all t xs ≡ true → first_failing t j (with_item f i xs) ≡ place_unless (j + i) (t (f x))
+failing-replaced t f i j [] x h a = cc
+failing-replaced {X = X} t f zero j (y ∷ ys) x h a = here (cases_Bool (t (f y))) ∙ ap (λ z. place_unless (j + 0) (t (f z))) (same y x h)
+  where
+    same : (y x : X) → Some y ≡ Some x → y ≡ x
+    same y x h = cc
+    here : (t (f y) ≡ true) ⊎ (t (f y) ≡ false) → first_failing t j (f y ∷ ys) ≡ place_unless (j + 0) (t (f y))
+    here (inl p) = rw p (none_fails t (j + 1) ys (and_parts (t y) (list_all t ys) a).1)
+    here (inr p) = rw p (ap (λ (n : ℕ). Some n) (omega arith))
+failing-replaced t f (suc i) j (y ∷ ys) x h a =
+    let q = and_parts (t y) (list_all t ys) a in
+    let e : j + 1 + i ≡ j + suc i = omega arith in
+    rw q.0 (failing-replaced t f i (j + 1) ys x h q.1 ∙ ap (λ (n : ℕ). place_unless n (t (f x))) e)
+
+-- an item counts no more than all
+pub total-at : {X : Type 0} (n : X → ℕ) (i : ℕ) (xs : List X) (x : X) → slice_get xs i ≡ Some x → n x ≤ total n xs
+total-at n i [] x h = cc
+total-at {X = X} n zero (y ∷ ys) x h = let e = ap n (same y x h) in omega (arith, e)
+  where
+    same : (y x : X) → Some y ≡ Some x → y ≡ x
+    same y x h = cc
+total-at n (suc i) (y ∷ ys) x h = let e = total-at n i ys x h in omega (arith, e)
 
 -- ---- the section that a change names
 
@@ -114,6 +154,19 @@ FoundSection-from_found l c s h = by_group (slice_get l.groups c.group) refl h
     by_group : (o : Option Group) → slice_get l.groups c.group ≡ o → option_and_then if_changeable (option_and_then (section_in_group c) o) ≡ Some s → FoundSection l c s
     by_group None a h = cc
     by_group (Some g) a h = by_file g (slice_get g.files c.file) a refl h
+
+-- the same with the group and the file that look-ups give
+pub found_at : (l : Layout) (c : Change) (s : InputSection) (g : Group) (f : File) → found_section l c ≡ Some s → slice_get l.groups c.group ≡ Some g → slice_get g.files c.file ≡ Some f → FoundSection l c s
+found_at l c s g f found in_layout in_group =
+    let p = FoundSection-from_found l c s found in
+    let group : p.group ≡ g = same_group (sym p.in_layout ∙ in_layout) in
+    let file : p.file ≡ f = same_file (sym p.in_group ∙ (ap (λ (h : Group). slice_get h.files c.file) group ∙ in_group)) in
+    record { group = g; file = f; in_layout = in_layout; in_group = in_group; in_file = ap (λ (h : File). slice_get h.sections c.section) (sym file) ∙ p.in_file; changeable = p.changeable }
+  where
+    same_group : {a b : Group} → Some a ≡ Some b → a ≡ b
+    same_group e = cc
+    same_file : {a b : File} → Some a ≡ Some b → a ≡ b
+    same_file e = cc
 
 -- ---- the outline of a changed layout
 
@@ -154,16 +207,17 @@ same_by_outline d h l m e = sym (h m) ∙ (ap d e ∙ h l)
 
 -- ---- one section replaced
 
--- all sections pass a test if the new one does
-pub section_replaced : (t : InputSection → Bool) (l : Layout) (c : Change) (s : InputSection) → FoundSection l c s → t (changed_section c s) ≡ true
-    → first_failing (each_section t) 0 l.groups ≡ None → first_failing (each_section t) 0 (changed_layout l c).groups ≡ None
-section_replaced t l c s p h a =
+-- where all sections pass a test, the search for one that fails finds the changed group, unless the new section passes
+pub section_replaced : (t : InputSection → Bool) (l : Layout) (c : Change) (s : InputSection) → FoundSection l c s → first_failing (each_section t) 0 l.groups ≡ None
+    → first_failing (each_section t) 0 (changed_layout l c).groups ≡ place_unless c.group (t (changed_section c s))
+section_replaced t l c s p a =
     let groups = all_pass (each_section t) 0 l.groups a in
     let files = list_all-at (each_section t) c.group l.groups p.group p.in_layout groups in
     let sections = list_all-at (λ (f : File). list_all t f.sections) c.file p.group.files p.file p.in_group files in
-    let file = list_all-with_item t (changed_section c) c.section p.file.sections s p.in_file sections h in
-    let group = list_all-with_item (λ (f : File). list_all t f.sections) (changed_file c) c.file p.group.files p.file p.in_group files file in
-    none_fails (each_section t) 0 (changed_layout l c).groups (list_all-with_item (each_section t) (changed_group c) c.group l.groups p.group p.in_layout groups group)
+    let file = list_all-replaced t (changed_section c) c.section p.file.sections s p.in_file sections in
+    let group = list_all-replaced (λ (f : File). list_all t f.sections) (changed_file c) c.file p.group.files p.file p.in_group files in
+    let e : 0 + c.group ≡ c.group = omega arith in
+    failing-replaced (each_section t) (changed_group c) c.group 0 l.groups p.group p.in_layout groups ∙ (ap (place_unless (0 + c.group)) (group ∙ file) ∙ ap (λ (n : ℕ). place_unless n (t (changed_section c s))) e)
 
 -- the sum over all sections, less what the old section counts, plus what the new one does
 pub sum_replaced : (n : InputSection → ℕ) (l : Layout) (c : Change) (s : InputSection) → FoundSection l c s

@@ -23,7 +23,7 @@ use Rattle.wild_types.specs.Lookups.{is_header_only_at, image_size}
 use Rattle.wild_types.specs.Parts.{role_place, has_role}
 use Rattle.wild_placement.specs.PlacedSections.{placed_files, processed_sections}
 use Rattle.wild_change.specs.declared.change.Change.{Change}
-use Rattle.wild_change.specs.Change.{with_item, changed_group, changed_layout}
+use Rattle.wild_change.specs.Change.{with_item, changed_section, changed_file, changed_group, changed_layout}
 use Rattle.wild_change.specs.Outline.{outline}
 use Rattle.wild_plan_rules.specs.WellFormed.{first_clause}
 use Rattle.wild_layout.specs.Content.{content, file_content, unique_table}
@@ -37,7 +37,11 @@ use Rattle.wild_outlines.proofs.ChangedItems.{slice_get-with_item, FoundSection,
 use Rattle.wild_outlines.proofs.ClausesTests.{image_size-outline, is_header_only_at-outline}
 use Rattle.wild_outlines.proofs.SharesLemmas.{same_by_groups}
 use Rattle.wild_layout.proofs.LayoutLemmas.{length-padding}
-use Rattle.wild_outlines.proofs.ChangedPieces.{overlay-replaced, flat_map_from-same, Middle, Middle-from_item}
+use Rattle.wild_outlines.proofs.ChangedPieces.{overlay-replaced, flat_map_from-same, middle_alone, none_from, Middle, Middle-from_item}
+use Rattle.wild_outlines.specs.RefusalLaws.{changed_clause, changed_shares}
+use Rattle.wild_outlines.proofs.ClausesChanged.{Changed}
+use Rattle.wild_outlines.proofs.ClausesLemmas.{first_clause-changed}
+use Rattle.wild_outlines.proofs.SharesRefused.{shares-refused}
 use Rattle.wild_outlines.proofs.ChangedExtents.{group_extents, group_extents-outline, group_extents_are}
 
 -- ---- tables
@@ -161,16 +165,6 @@ module _ (l : Layout) (c : Change) (s : InputSection) (p : FoundSection l c s) (
 
 -- ---- faults
 
-none_from : {X Y : Type 0} (f : ℕ → X → List Y) (j : ℕ) (xs : List X) → flat_map_from f j xs ≡ [] → (i k : ℕ) (x : X) → i ≡ j + k → slice_get xs k ≡ Some x → f i x ≡ []
-none_from f j [] none i k x is at = cc
-none_from {X = X} f j (y ∷ ys) none i zero x is at =
-    let n : j ≡ i = omega (arith, is) in
-    ap (λ (m : ℕ). f m x) (sym n) ∙ (ap (f j) (same at) ∙ (nil_parts (f j y) (flat_map_from f (j + 1) ys) none).0)
-  where
-    same : {a b : X} → Some a ≡ Some b → b ≡ a
-    same e = cc
-none_from f j (y ∷ ys) none i (suc k) x is at = none_from f (j + 1) ys (nil_parts (f j y) (flat_map_from f (j + 1) ys) none).1 i k x (omega (arith, is)) at
-
 -- the faults before those of groups
 none_before : (l : Layout) → errors l ≡ [] → (first_clause l ≡ Ok tt) × (flat_map_from (part_errors l) 0 l.parts ≡ []) × (flat_map_from (group_errors l) 0 l.groups ≡ [])
 unfolding errors
@@ -187,18 +181,27 @@ none_before l none =
 pub group_without_faults : (l : Layout) → errors l ≡ [] → (j : ℕ) (g : Group) → slice_get l.groups j ≡ Some g → group_errors l j g ≡ []
 group_without_faults l none j g at = none_from (group_errors l) 0 l.groups (none_before l none).2 j j g (omega arith) at
 
+-- the faults of groups after a change are those of the changed group
+groups_changed : (l : Layout) (c : Change) (g : Group) → slice_get l.groups c.group ≡ Some g → errors l ≡ [] → ((i : ℕ) (h : Group) → group_errors (changed_layout l c) i h ≡ group_errors l i h)
+    → flat_map_from (group_errors (changed_layout l c)) 0 (changed_layout l c).groups ≡ group_errors (changed_layout l c) c.group (changed_group c g)
+groups_changed l c g at none groups =
+    (middle_alone (Middle-from_item (group_errors l) (group_errors (changed_layout l c)) (changed_group c) groups c.group l.groups g at 0 c.group (omega arith)) (none_before l none).2).1
+
 -- where the faults of clauses, of shares and of the other groups are none, those of the changed group are all
 pub errors-changed : (l : Layout) (c : Change) (g : Group) → slice_get l.groups c.group ≡ Some g → errors l ≡ [] → first_clause (changed_layout l c) ≡ Ok tt → ((i : ℕ) (p : Part) → part_errors (changed_layout l c) i p ≡ part_errors l i p)
     → ((i : ℕ) (h : Group) → group_errors (changed_layout l c) i h ≡ group_errors l i h) → errors (changed_layout l c) ≡ group_errors (changed_layout l c) c.group (changed_group c g)
 unfolding errors
 errors-changed l c g at none clauses shares groups =
-    let m = changed_layout l c in
+    let parts : flat_map_from (part_errors (changed_layout l c)) 0 (changed_layout l c).parts ≡ [] = flat_map_from-same (part_errors l) (part_errors (changed_layout l c)) shares 0 l.parts ∙ (none_before l none).1 in
+    rw (clauses, parts) (groups_changed l c g at none groups)
+
+-- all faults of the changed layout
+pub errors-refused : (l : Layout) (c : Change) (s : InputSection) (k : Changed l c s) → errors l ≡ [] → ((i : ℕ) (h : Group) → group_errors (changed_layout l c) i h ≡ group_errors l i h)
+    → errors (changed_layout l c)
+    ≡ clause_errors (changed_clause (changed_layout l c) c.group (changed_group c k.found.group) (changed_file c k.found.file) (changed_section c s))
+    ++ changed_shares (changed_layout l c) c.group (changed_group c k.found.group)
+    ++ group_errors (changed_layout l c) c.group (changed_group c k.found.group)
+unfolding errors
+errors-refused l c s k none groups =
     let before = none_before l none in
-    let parts : flat_map_from (part_errors m) 0 m.parts ≡ [] = flat_map_from-same (part_errors l) (part_errors m) shares 0 l.parts ∙ before.1 in
-    let mid : Middle (group_errors l c.group g) (group_errors m c.group (changed_group c g)) (flat_map_from (group_errors l) 0 l.groups) (flat_map_from (group_errors m) 0 m.groups) =
-    Middle-from_item (group_errors l) (group_errors m) (changed_group c) groups c.group l.groups g at 0 c.group (omega arith) in
-    let front = nil_parts mid.front (group_errors l c.group g ++ mid.behind) (sym mid.before ∙ before.2) in
-    let behind = nil_parts (group_errors l c.group g) mid.behind front.1 in
-    ap (λ r. (clause_errors r ++ flat_map_from (part_errors m) 0 m.parts) ++ flat_map_from (group_errors m) 0 m.groups) clauses
-    ∙ (ap (λ es. es ++ flat_map_from (group_errors m) 0 m.groups) parts
-    ∙ (mid.after ∙ (ap (λ es. es ++ (group_errors m c.group (changed_group c g) ++ mid.behind)) front.0 ∙ (ap (λ es. group_errors m c.group (changed_group c g) ++ es) behind.1 ∙ append-nil (group_errors m c.group (changed_group c g))))))
+    rw (first_clause-changed l c s k before.0, shares-refused l c s k before.1, groups_changed l c k.found.group k.found.in_layout none groups) refl

@@ -3,14 +3,14 @@ use Rattle.std.proofs.Common.{◌≡◌, ℕ, zero, suc, ◌+◌, ◌-◌, ◌<�
 use Rattle.std.specs.Prelude.{Some, slice_get}
 use Rattle.std.specs.List.Sorted.{IsPermutation}
 use Rattle.std.proofs.lemmas.Bool.{cases_lt}
-use Rattle.std.proofs.lemmas.List.{append_assoc, ext_get_or}
+use Rattle.std.proofs.lemmas.List.{append_assoc, append-nil, ext_get_or}
 use Rattle.std.proofs.lemmas.List.Kept.{AllPairs-cons}
 use Rattle.std.proofs.lemmas.List.Elements.{All-cons}
 use Rattle.std.proofs.lemmas.List.Sorted.{IsPermutation-append_right, IsPermutation-append_comm}
 use Rattle.wild_words.specs.declared.extents.Extent.{Extent}
 use Rattle.wild_words.specs.Overlay.{Piece, overlay, Disjoint, AreDisjoint}
 use Rattle.wild_words.specs.Words.{place}
-use Rattle.wild_words.proofs.ListLemmas.{AllPairs-head, AllPairs-tail, AllPairs-left, AllPairs-right, All-append-left, All-append-right}
+use Rattle.wild_words.proofs.ListLemmas.{AllPairs-head, AllPairs-tail, AllPairs-left, AllPairs-right, nil_parts, All-append-left, All-append-right}
 use Rattle.wild_words.proofs.OverlayLemmas.{length-place, place-below, place-inside, place-above, AreDisjoint-rest, length-overlay, overlay_push}
 use Rattle.wild_words.proofs.OrderLemmas.{apart_moved, overlay-moved}
 use Rattle.wild_change.specs.Change.{with_item}
@@ -149,3 +149,26 @@ Middle-from_item f g v h (suc k) (y ∷ ys) x at j i is =
       before = ap (λ zs. f j y ++ zs) m.before ∙ sym (append_assoc (f j y) m.front (f i x ++ m.behind));
       after = ap (λ zs. zs ++ flat_map_from g (j + 1) (with_item v k ys)) (h j y) ∙ (ap (λ zs. f j y ++ zs) m.after ∙ sym (append_assoc (f j y) m.front (g i (v x) ++ m.behind)));
     }
+
+-- where there is nothing, one item that is replaced gives all
+pub middle_alone : {X : Type 0} {old new whole changed : List X} → Middle old new whole changed → whole ≡ [] → (old ≡ []) × (changed ≡ new)
+middle_alone {old = old} {new = new} m none =
+    let front = nil_parts m.front (old ++ m.behind) (sym m.before ∙ none) in
+    let behind = nil_parts old m.behind front.1 in
+    (behind.0, m.after ∙ (ap (λ zs. zs ++ (new ++ m.behind)) front.0 ∙ (ap (λ zs. new ++ zs) behind.1 ∙ append-nil new)))
+
+-- nor does any item give something
+pub none_from : {X Y : Type 0} (f : ℕ → X → List Y) (j : ℕ) (xs : List X) → flat_map_from f j xs ≡ [] → (i k : ℕ) (x : X) → i ≡ j + k → slice_get xs k ≡ Some x → f i x ≡ []
+none_from f j [] none i k x is at = cc
+none_from {X = X} f j (y ∷ ys) none i zero x is at =
+    let n : j ≡ i = omega (arith, is) in
+    ap (λ (m : ℕ). f m x) (sym n) ∙ (ap (f j) (same at) ∙ (nil_parts (f j y) (flat_map_from f (j + 1) ys) none).0)
+  where
+    same : {a b : X} → Some a ≡ Some b → b ≡ a
+    same e = cc
+none_from f j (y ∷ ys) none i (suc k) x is at = none_from f (j + 1) ys (nil_parts (f j y) (flat_map_from f (j + 1) ys) none).1 i k x (omega (arith, is)) at
+
+-- functions that agree on each item
+pub flat_map_from-at : {X Y : Type 0} (f h : ℕ → X → List Y) (j : ℕ) (xs : List X) → ((i k : ℕ) (x : X) → i ≡ j + k → slice_get xs k ≡ Some x → f i x ≡ h i x) → flat_map_from f j xs ≡ flat_map_from h j xs
+flat_map_from-at f h j [] each = refl
+flat_map_from-at f h j (x ∷ xs) each = rw (each j 0 x (omega arith) refl) (ap (λ zs. h j x ++ zs) (flat_map_from-at f h (j + 1) xs (λ i k y is at. each i (suc k) y (omega (arith, is)) at)))

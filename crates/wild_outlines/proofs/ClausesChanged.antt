@@ -1,8 +1,8 @@
--- The clauses that read the bytes or the relocations of a section, after a change that may be made.
-use Rattle.std.proofs.Common.{◌≡◌, ℕ, ◌+◌, ◌-◌, ◌^◌, Bool, true, false, List, [], ◌∷◌, length, Option, Some, None, Result, Ok, refl, ap, ◌∙◌, arith, inl, inr}
+-- The clauses that read the relocations of a section, after a change that keeps its length: the first test that fails.
+use Rattle.std.proofs.Common.{◌≡◌, ℕ, zero, suc, ◌+◌, ◌-◌, ◌^◌, ◌≤◌, Bool, true, false, List, [], ◌∷◌, length, Option, Some, None, Result, Ok, Err, refl, sym, ap, ◌∙◌, arith, inl, inr}
 use Rattle.std.specs.Prelude.{◌==◌, ◌&&◌, ◌||◌, not, nat_lt, nat_le, slice_get, is_none}
 use Rattle.std.specs.List.{list_all, list_any}
-use Rattle.std.proofs.lemmas.Bool.{and_parts, and_from, or_left, or_right, cases_Bool, lt-ltb}
+use Rattle.std.proofs.lemmas.Bool.{and_parts, and_from, or_left, or_right, cases_Bool, eqb-true}
 use Rattle.wild_types.specs.declared.fault.Clause.{Clause}
 use Rattle.wild_types.specs.declared.input.InputRelocation.{InputRelocation}
 use Rattle.wild_types.specs.declared.input.InputSection.{InputSection}
@@ -15,14 +15,15 @@ use Rattle.wild_types.specs.Lists.{first_failing, unless}
 use Rattle.wild_types.specs.Lookups.{files_of, is_rela, is_frame}
 use Rattle.wild_types.specs.Parts.{has_role}
 use Rattle.wild_types.specs.FileSymbols.{first_double_copy}
-use Rattle.wild_needs.specs.Needs.{name_bytes, total_share}
+use Rattle.wild_needs.specs.Needs.{name_bytes, group_share, total_share}
 use Rattle.wild_needs.specs.DynamicSymbols.{dynamic_symbols}
 use Rattle.wild_needs.specs.Versions.{need_count, versions_needed, versions_fit}
 use Rattle.wild_change.specs.declared.change.Change.{Change}
-use Rattle.wild_change.specs.Change.{changed_section, changed_file, changed_group, changed_layout}
+use Rattle.wild_change.specs.Change.{found_section, changed_section, changed_file, changed_group, changed_layout}
 use Rattle.wild_change.specs.Outline.{outline}
 use Rattle.wild_plan_rules.specs.ClauseTests.{fails, first_error, check_counts, check_roles, check_indexes, check_fields, check_reversed, check_partial}
-use Rattle.wild_plan_rules.specs.Places.{ends_low, relocation_count, roles}
+use Rattle.wild_plan_rules.specs.Places.{ends_low, relocation_count, roles, repeated_role, role_not_at, role_missing, program_headers_astray, unexpected_dynamic}
+use Rattle.wild_plan_rules.specs.LoadedTables.{entries_follow}
 use Rattle.wild_plan_rules.specs.Counts.{lists_fit, table_fits, counts_fit, role_has_needed_part}
 use Rattle.wild_plan_rules.specs.Contents.{each_section, field_lies, fields_lie, is_read_well, relocations_are_read}
 use Rattle.wild_plan_rules.specs.Fronts.{reversed_fits}
@@ -32,18 +33,15 @@ use Rattle.wild_plan_rules.proofs.ClauseLemmas.{None-from_fails, test_holds, fir
 use Rattle.wild_plan_rules.specs.VersionTables.{parent_is_there}
 use Rattle.wild_plan_rules.specs.ZeroFree.{input_name_fits}
 use Rattle.wild_clauses.specs.FileTests.{passes_all, relocation_passes, headers_are_there, section_passes}
-use Rattle.wild_outlines.specs.MayChange.{MayChange, file_at}
-use Rattle.wild_outlines.proofs.ChangedItems.{length-with_item, slice_get-with_item, sum_replaced, list_all-at, list_all-with_item, all_pass, none_fails, FoundSection, FoundSection-from_found, outline-changed, same_by_outline, section_replaced}
+use Rattle.wild_outlines.specs.MayChange.{KeepsCounts, file_at}
+use Rattle.wild_outlines.specs.RefusalLaws.{place_unless, needs_no_part}
+use Rattle.wild_outlines.proofs.ChangedItems.{length-with_item, slice_get-with_item, sum_replaced, list_all-at, list_all-replaced, failing-replaced, total-at, all_pass, none_fails, FoundSection, FoundSection-from_found, outline-changed, same_by_outline, section_replaced}
 use Rattle.wild_outlines.proofs.ClausesTests.{failing-same, entry_is_there-outline, definition_is_own-outline}
 use Rattle.wild_outlines.proofs.ClausesGroups.{failing_sections-outline, symbol_misfit-outline, sorted_is_there-outline, first_double_copy-outline, range_out_of_order-outline, dynamic_symbols-outline, need_count-outline, versions_needed-outline}
+use Rattle.wild_outlines.proofs.SharesSections.{kept_counts}
+use Rattle.wild_outlines.proofs.SharesLemmas.{total_share-replaced, total_share-changed}
 
--- ---- clauses one after another
-
-pub pass : (n : ℕ) (o : Option ℕ) → o ≡ None → fails n o ≡ Ok tt
-pass n o h = rw h refl
-
-pub both_pass : (r s : Result (Unit {0}) Clause) → r ≡ Ok tt → s ≡ Ok tt → first_error r s ≡ Ok tt
-both_pass r s h g = rw h g
+-- ---- tests of a list
 
 pub list_all-weaker : {X : Type 0} (t u : X → Bool) → ((x : X) → t x ≡ true → u x ≡ true) → (xs : List X) → list_all t xs ≡ true → list_all u xs ≡ true
 list_all-weaker t u h [] a = refl
@@ -103,15 +101,37 @@ SectionTests-from_passes l s h =
       reversed = f.0;
     }
 
--- ---- what a change that may be made gives
+-- ---- several tests of a clause
+
+-- results one after another, with one of them between the others
+chain : List (Result (Unit {0}) Clause) → Result (Unit {0}) Clause → Result (Unit {0}) Clause → Result (Unit {0}) Clause
+chain [] x r = first_error x r
+chain (b ∷ bs) x r = first_error b (chain bs x r)
+
+-- where the others pass, the one decides
+chain-one : (bs : List (Result (Unit {0}) Clause)) (x y r : Result (Unit {0}) Clause) → chain bs x r ≡ Ok tt → chain bs y r ≡ y
+unfolding chain
+chain-one [] x y r h = rw (rest_holds x r h) (by y)
+  where
+    by : (y : Result (Unit {0}) Clause) → first_error y (Ok tt) ≡ y
+    by (Ok u) = refl
+    by (Err e) = refl
+chain-one (b ∷ bs) x y r h = rw (first_holds b (chain bs x r) h) (chain-one bs x y r (rest_holds b (chain bs x r) h))
+
+chain-first : (bs : List (Result (Unit {0}) Clause)) (x r : Result (Unit {0}) Clause) → chain bs x r ≡ Ok tt → x ≡ Ok tt
+unfolding chain
+chain-first [] x r h = first_holds x r h
+chain-first (b ∷ bs) x r h = chain-first bs x r (rest_holds b (chain bs x r) h)
+
+-- ---- what a change that keeps the length gives
 
 pub record Changed (l : Layout) (c : Change) (s : InputSection) : Type 0 where
   pub found : FoundSection l c s
+  pub long : length c.bytes ≡ length s.bytes
   pub same : outline (changed_layout l c) ≡ outline l
-  pub tests : SectionTests l (changed_section c s)
 
-pub Changed-from_may : (l : Layout) (c : Change) (s : InputSection) → MayChange l c s → Changed l c s
-Changed-from_may l c s m = record { found = FoundSection-from_found l c s m.found; same = outline-changed l c s m.found m.same_length; tests = SectionTests-from_passes l (changed_section c s) m.passes }
+pub Changed-from_found : (l : Layout) (c : Change) (s : InputSection) → found_section l c ≡ Some s → length c.bytes ≡ length s.bytes → Changed l c s
+Changed-from_found l c s found long = record { found = FoundSection-from_found l c s found; long = long; same = outline-changed l c s found long }
 
 -- ---- clause 2
 
@@ -119,92 +139,149 @@ Changed-from_may l c s m = record { found = FoundSection-from_found l c s m.foun
 pub relocation_count-changed : (l : Layout) (c : Change) (s : InputSection) → FoundSection l c s → relocation_count (changed_layout l c) + length s.relocations ≡ relocation_count l + length c.relocations
 relocation_count-changed l c s p = sum_replaced (λ (t : InputSection). length t.relocations) l c s p
 
-few_relocations : (l : Layout) (c : Change) (s : InputSection) → MayChange l c s → FoundSection l c s → nat_lt (relocation_count (changed_layout l c)) (2 ^ 32 - 1) ≡ true
-few_relocations l c s m p =
-    let n = relocation_count-changed l c s p in
-    let few = m.few in
-    lt-ltb (relocation_count (changed_layout l c)) (2 ^ 32 - 1) (omega (arith, n, few))
-
 abbrev lists_before : Layout → Bool
 lists_before l = nat_le 1 (length l.sections) && nat_lt (length l.sections) (2 ^ 31) && nat_le (length l.segments) 65534 && nat_lt (length l.symbols) (2 ^ 32 - 1) && table_fits l
 
-few_before : (l : Layout) → lists_fit l ≡ true → nat_lt (relocation_count l) (2 ^ 32 - 1) ≡ true
-few_before l h =
-    let a = and_parts (lists_before l && nat_lt (relocation_count l) (2 ^ 32 - 1) && nat_le 1 (length l.groups)) (nat_lt (length l.groups) (2 ^ 32 - 1)) h in
-    let b = and_parts (lists_before l && nat_lt (relocation_count l) (2 ^ 32 - 1)) (nat_le 1 (length l.groups)) a.0 in
-    (and_parts (lists_before l) (nat_lt (relocation_count l) (2 ^ 32 - 1)) b.0).1
+-- the other counts
+record OthersFit (l : Layout) : Type 0 where
+  pub lists : lists_before l ≡ true
+  pub some_group : nat_le 1 (length l.groups) ≡ true
+  pub groups : nat_lt (length l.groups) (2 ^ 32 - 1) ≡ true
+  pub names : nat_lt (name_bytes l) (2 ^ 32) ≡ true
+  pub dynstr : nat_lt (total_share l role.Dynstr) (2 ^ 32) ≡ true
+  pub strtab : nat_lt (total_share l role.Strtab) (2 ^ 32) ≡ true
+  pub versions : versions_fit l ≡ true
 
-counts_lists : (l : Layout) → counts_fit l ≡ true → lists_fit l ≡ true
-counts_lists l h =
+OthersFit-from_counts : (l : Layout) → counts_fit l ≡ true → OthersFit l
+OthersFit-from_counts l h =
     let a = and_parts (lists_fit l && nat_lt (name_bytes l) (2 ^ 32) && nat_lt (total_share l role.Dynstr) (2 ^ 32) && nat_lt (total_share l role.Strtab) (2 ^ 32)) (versions_fit l) h in
     let b = and_parts (lists_fit l && nat_lt (name_bytes l) (2 ^ 32) && nat_lt (total_share l role.Dynstr) (2 ^ 32)) (nat_lt (total_share l role.Strtab) (2 ^ 32)) a.0 in
     let d = and_parts (lists_fit l && nat_lt (name_bytes l) (2 ^ 32)) (nat_lt (total_share l role.Dynstr) (2 ^ 32)) b.0 in
-    (and_parts (lists_fit l) (nat_lt (name_bytes l) (2 ^ 32)) d.0).0
+    let e = and_parts (lists_fit l) (nat_lt (name_bytes l) (2 ^ 32)) d.0 in
+    let f = and_parts (lists_before l && nat_lt (relocation_count l) (2 ^ 32 - 1) && nat_le 1 (length l.groups)) (nat_lt (length l.groups) (2 ^ 32 - 1)) e.0 in
+    let g = and_parts (lists_before l && nat_lt (relocation_count l) (2 ^ 32 - 1)) (nat_le 1 (length l.groups)) f.0 in
+    let i = and_parts (lists_before l) (nat_lt (relocation_count l) (2 ^ 32 - 1)) g.0 in
+    record { lists = i.0; some_group = g.1; groups = f.1; names = e.1; dynstr = d.1; strtab = b.1; versions = a.1 }
 
 counts_hold : (l : Layout) → check_counts l ≡ Ok tt → counts_fit l ≡ true
 unfolding check_counts
 counts_hold l h = test_holds (counts_fit l) h
 
--- the shares of all parts are as before
-abbrev pub SharesAreKept : Layout → Layout → Type 0
-SharesAreKept l m = (r : Role) → total_share m r ≡ total_share l r
+only_one : (x : Bool) → (x && true && true && true && true && true && true) ≡ x
+only_one true = refl
+only_one false = refl
 
-pub check_counts-changed : (l : Layout) (c : Change) (s : InputSection) → MayChange l c s → Changed l c s → SharesAreKept l (changed_layout l c) → check_counts l ≡ Ok tt → check_counts (changed_layout l c) ≡ Ok tt
-unfolding check_counts
-check_counts-changed l c s m k shares h =
+counts_fit-changed : (l : Layout) (c : Change) (s : InputSection) → Changed l c s → OthersFit l → counts_fit (changed_layout l c) ≡ nat_lt (relocation_count (changed_layout l c)) (2 ^ 32 - 1)
+counts_fit-changed l c s k f =
     let after = changed_layout l c in
-    let fit = counts_hold l h in
-    let few = few_relocations l c s m k.found in
-    let before = few_before l (counts_lists l fit) in
     let symbols = same_by_outline dynamic_symbols dynamic_symbols-outline l after k.same in
     let needs = same_by_outline need_count (λ l. need_count-outline l.groups) l after k.same in
     let versions = same_by_outline versions_needed (λ l. versions_needed-outline l.groups) l after k.same in
-    let same : counts_fit after ≡ counts_fit l = rw (symbols, few, before, length-with_item (changed_group c) c.group l.groups, shares role.Dynstr, shares role.Strtab, needs, versions) refl in
-    ap (λ b. fails 2 (unless b)) (same ∙ fit)
+    let dynstr = total_share-changed l c s k.found k.long k.same role.Dynstr (λ h. cc) in
+    let strtab = total_share-changed l c s k.found k.long k.same role.Strtab (λ h. cc) in
+    rw (symbols, length-with_item (changed_group c) c.group l.groups, dynstr, strtab, needs, versions, f.lists, f.some_group, f.groups, f.names, f.dynstr, f.strtab, f.versions) (only_one (nat_lt (relocation_count (changed_layout l c)) (2 ^ 32 - 1)))
+
+pub check_counts-changed : (l : Layout) (c : Change) (s : InputSection) → Changed l c s → check_counts l ≡ Ok tt → check_counts (changed_layout l c) ≡ fails 2 (unless (nat_lt (relocation_count (changed_layout l c)) (2 ^ 32 - 1)))
+unfolding check_counts
+check_counts-changed l c s k h = ap (λ b. fails 2 (unless b)) (counts_fit-changed l c s k (OthersFit-from_counts l (counts_hold l h)))
 
 -- ---- clause 4
 
-pub check_roles-changed : (l : Layout) (c : Change) → SharesAreKept l (changed_layout l c) → check_roles l ≡ Ok tt → check_roles (changed_layout l c) ≡ Ok tt
-unfolding check_roles
-check_roles-changed l c shares h =
+-- the other tests
+abbrev roles_before : Layout → List (Result (Unit {0}) Clause)
+roles_before l =
+    fails 4 (repeated_role [] 0 l.parts) ∷ fails 4 (role_not_at role.FileHeader 0 0 l.parts) ∷ fails 4 (role_missing role.SectionHeaders l.parts) ∷ fails 4 (role_missing role.Shstrtab l.parts)
+    ∷ fails 4 (program_headers_astray l) ∷ fails 4 (first_failing (entries_follow l.parts) 0 l.parts) ∷ []
+
+failing-where : {X : Type 0} (p t u : X → Bool) → ((x : X) → p x ≡ true → t x ≡ u x) → (i : ℕ) (xs : List X) → list_all p xs ≡ true → first_failing t i xs ≡ first_failing u i xs
+failing-where p t u h i [] a = refl
+failing-where p t u h i (x ∷ xs) a =
+    let q = and_parts (p x) (list_all p xs) a in
+    rw (h x q.0, failing-where p t u h (i + 1) xs q.1) refl
+
+-- without a part of the role all groups need nothing of it, so that after the change all need what the changed group needs
+role_needed : (l : Layout) (c : Change) (s : InputSection) (k : Changed l c s) (r : Role) → role_has_needed_part l r ≡ true → role_has_needed_part (changed_layout l c) r ≡ needs_no_part (changed_layout l c) (changed_group c k.found.group) r
+role_needed l c s k r h = by (list_any (has_role r) l.parts) h
+  where
+    sum : total_share (changed_layout l c) r + group_share l r k.found.group ≡ total_share l r + group_share (changed_layout l c) r (changed_group c k.found.group)
+    sum = total_share-replaced l c s k.found k.long k.same r
+    by : (b : Bool) → (b || total_share l r == 0) ≡ true → (b || total_share (changed_layout l c) r == 0) ≡ (b || group_share (changed_layout l c) r (changed_group c k.found.group) == 0)
+    by true h = refl
+    by false h =
+        let none : total_share l r ≡ 0 = eqb-true _ _ h in
+        let low = total-at (group_share l r) c.group l.groups k.found.group k.found.in_layout in
+        let e = sum in
+        let all : total_share (changed_layout l c) r ≡ group_share (changed_layout l c) r (changed_group c k.found.group) = omega (arith, none, low, e) in
+        ap (λ n. n == 0) all
+
+roles_pass : (l : Layout) → check_roles l ≡ Ok tt → list_all (role_has_needed_part l) roles ≡ true
+unfolding check_roles chain
+roles_pass l h = all_pass (role_has_needed_part l) 0 roles (None-from_fails 4 (first_failing (role_has_needed_part l) 0 roles) (chain-first (roles_before l) (fails 4 (first_failing (role_has_needed_part l) 0 roles)) (fails 4 (unexpected_dynamic l)) h))
+
+pub check_roles-changed : (l : Layout) (c : Change) (s : InputSection) (k : Changed l c s) → check_roles l ≡ Ok tt → check_roles (changed_layout l c) ≡ fails 4 (first_failing (needs_no_part (changed_layout l c) (changed_group c k.found.group)) 0 roles)
+unfolding check_roles chain
+check_roles-changed l c s k h =
     let after = changed_layout l c in
-    rw (failing-same (role_has_needed_part after) (role_has_needed_part l) (λ r. ap (λ n. list_any (has_role r) l.parts || n == 0) (shares r)) 0 roles) h
+    chain-one (roles_before l) (fails 4 (first_failing (role_has_needed_part l) 0 roles)) (fails 4 (first_failing (role_has_needed_part after) 0 roles)) (fails 4 (unexpected_dynamic l)) h
+    ∙ ap (fails 4) (failing-where (role_has_needed_part l) (role_has_needed_part after) (needs_no_part after (changed_group c k.found.group)) (role_needed l c s k) 0 roles (roles_pass l h))
+
+-- where the changed group needs as much as before, no part is missing
+pub roles_changed : (l : Layout) (c : Change) (s : InputSection) (k : Changed l c s) → KeepsCounts l s (changed_section c s) → check_roles l ≡ Ok tt → first_failing (needs_no_part (changed_layout l c) (changed_group c k.found.group)) 0 roles ≡ None
+roles_changed l c s k counts h =
+    none_fails (needs_no_part (changed_layout l c) (changed_group c k.found.group)) 0 roles (list_all-weaker (role_has_needed_part l) (needs_no_part (changed_layout l c) (changed_group c k.found.group)) needed roles (roles_pass l h))
+  where
+    same : (r : Role) → total_share (changed_layout l c) r ≡ total_share l r
+    same r = total_share-changed l c s k.found k.long k.same r (λ h. kept_counts r l c s counts)
+    needed : (r : Role) → role_has_needed_part l r ≡ true → needs_no_part (changed_layout l c) (changed_group c k.found.group) r ≡ true
+    needed r p = sym (role_needed l c s k r p) ∙ (ap (λ n. list_any (has_role r) l.parts || n == 0) (same r) ∙ p)
 
 -- ---- clause 9
 
 abbrev file_rest : Layout → File → Bool
 file_rest l f = list_all (symbol_is_there l) f.copies && block_is_there l f
 
-file_indexes-changed : (l : Layout) (c : Change) (f : File) → file_indexes_fit l f ≡ true → list_all (section_indexes_fit l) (changed_file c f).sections ≡ true → file_indexes_fit l (changed_file c f) ≡ true
-file_indexes-changed l c f h g =
-    let a = and_parts (f.symbol_count == 0 || nat_le (f.first_symbol + f.symbol_count) (length l.symbols)) (list_all (section_indexes_fit l) f.sections && file_rest l f) h in
+abbrev range_is_there : Layout → File → Bool
+range_is_there l f = f.symbol_count == 0 || nat_le (f.first_symbol + f.symbol_count) (length l.symbols)
+
+-- what the test on a file says
+record FileIndexes (l : Layout) (f : File) : Type 0 where
+  pub range : range_is_there l f ≡ true
+  pub sections : list_all (section_indexes_fit l) f.sections ≡ true
+  pub others : file_rest l f ≡ true
+
+FileIndexes-from_test : (l : Layout) (f : File) → file_indexes_fit l f ≡ true → FileIndexes l f
+FileIndexes-from_test l f h =
+    let a = and_parts (range_is_there l f) (list_all (section_indexes_fit l) f.sections && file_rest l f) h in
     let b = and_parts (list_all (section_indexes_fit l) f.sections) (file_rest l f) a.1 in
-    and_from (f.symbol_count == 0 || nat_le (f.first_symbol + f.symbol_count) (length l.symbols)) (list_all (section_indexes_fit l) (changed_file c f).sections && file_rest l f) a.0
-    (and_from (list_all (section_indexes_fit l) (changed_file c f).sections) (file_rest l f) g b.1)
+    record { range = a.0; sections = b.0; others = b.1 }
 
-file_sections : (l : Layout) (f : File) → file_indexes_fit l f ≡ true → list_all (section_indexes_fit l) f.sections ≡ true
-file_sections l f h =
-    let a = and_parts (f.symbol_count == 0 || nat_le (f.first_symbol + f.symbol_count) (length l.symbols)) (list_all (section_indexes_fit l) f.sections && file_rest l f) h in
-    (and_parts (list_all (section_indexes_fit l) f.sections) (file_rest l f) a.1).0
+and_last : (a : Bool) → (a && true) ≡ a
+and_last true = refl
+and_last false = refl
 
-group_indexes-changed : (l : Layout) (c : Change) (s : InputSection) → Changed l c s → first_failing (group_indexes_fit l) 0 l.groups ≡ None → first_failing (group_indexes_fit l) 0 (changed_layout l c).groups ≡ None
+file_indexes-changed : (l : Layout) (c : Change) (f : File) → FileIndexes l f → file_indexes_fit l (changed_file c f) ≡ list_all (section_indexes_fit l) (changed_file c f).sections
+file_indexes-changed l c f k = rw (k.range, k.others) (and_last (list_all (section_indexes_fit l) (changed_file c f).sections))
+
+group_indexes-changed : (l : Layout) (c : Change) (s : InputSection) → Changed l c s → first_failing (group_indexes_fit l) 0 l.groups ≡ None
+    → first_failing (group_indexes_fit l) 0 (changed_layout l c).groups ≡ place_unless c.group (section_indexes_fit l (changed_section c s))
 group_indexes-changed l c s k h =
     let p = k.found in
     let groups = all_pass (group_indexes_fit l) 0 l.groups h in
     let files = list_all-at (group_indexes_fit l) c.group l.groups p.group p.in_layout groups in
-    let file = list_all-at (file_indexes_fit l) c.file p.group.files p.file p.in_group files in
-    let sections = list_all-with_item (section_indexes_fit l) (changed_section c) c.section p.file.sections s p.in_file (file_sections l p.file file) k.tests.indexes in
-    let group = list_all-with_item (file_indexes_fit l) (changed_file c) c.file p.group.files p.file p.in_group files (file_indexes-changed l c p.file file sections) in
-    none_fails (group_indexes_fit l) 0 (changed_layout l c).groups (list_all-with_item (group_indexes_fit l) (changed_group c) c.group l.groups p.group p.in_layout groups group)
+    let old = FileIndexes-from_test l p.file (list_all-at (file_indexes_fit l) c.file p.group.files p.file p.in_group files) in
+    let sections = list_all-replaced (section_indexes_fit l) (changed_section c) c.section p.file.sections s p.in_file old.sections in
+    let file = file_indexes-changed l c p.file old ∙ sections in
+    let group = list_all-replaced (file_indexes_fit l) (changed_file c) c.file p.group.files p.file p.in_group files ∙ file in
+    let e : 0 + c.group ≡ c.group = omega arith in
+    failing-replaced (group_indexes_fit l) (changed_group c) c.group 0 l.groups p.group p.in_layout groups ∙ (ap (place_unless (0 + c.group)) group ∙ ap (λ (n : ℕ). place_unless n (section_indexes_fit l (changed_section c s))) e)
 
--- the tests of clause 9 but for that on groups
-rest_of_indexes : Layout → Option ℕ → Result (Unit {0}) Clause
-rest_of_indexes l o =
-    first_error (fails 9 (first_failing (part_index_fits l) 0 l.parts))
-    (first_error (fails 9 (unless (primary_is_there l)))
-    (first_error (fails 9 (symbol_misfit l (files_of l.groups) 0 l.symbols))
-    (first_error (fails 9 o)
-    (first_error (fails 9 (listed_misfit l))
+-- the tests of clause 9 before that on groups, and those after it
+abbrev indexes_before : Layout → List (Result (Unit {0}) Clause)
+indexes_before l = fails 9 (first_failing (part_index_fits l) 0 l.parts) ∷ fails 9 (unless (primary_is_there l)) ∷ fails 9 (symbol_misfit l (files_of l.groups) 0 l.symbols) ∷ []
+
+abbrev indexes_after : Layout → Result (Unit {0}) Clause
+indexes_after l =
+    first_error (fails 9 (listed_misfit l))
     (first_error (fails 9 (first_failing (parent_is_there l) 0 l.verdefs))
     (first_error (fails 9 (first_failing (thunks_are_there l) 0 l.thunk_blocks))
     (first_error (fails 9 (first_failing (sorted_is_there l) 0 l.sorted))
@@ -213,119 +290,86 @@ rest_of_indexes l o =
     (first_error (fails 9 (unless (entry_is_there l l.entry)))
     (first_error (fails 9 (first_double_copy l [] 0 l.groups))
     (first_error (fails 9 (first_failing (definition_is_own l) 0 l.symbols))
-    (fails 9 (range_out_of_order 0 0 l.groups))))))))))))))
+    (fails 9 (range_out_of_order 0 0 l.groups))))))))))
 
-rest_of_indexes-outline : (o : Option ℕ) (l : Layout) → rest_of_indexes (outline l) o ≡ rest_of_indexes l o
-unfolding rest_of_indexes
-rest_of_indexes-outline o l =
-    rw (
-      symbol_misfit-outline l 0 l.symbols,
-      failing-same (sorted_is_there (outline l)) (sorted_is_there l) (sorted_is_there-outline l) 0 l.sorted,
-      entry_is_there-outline l l.entry,
-      first_double_copy-outline l [] 0 l.groups,
-      failing-same (definition_is_own (outline l)) (definition_is_own l) (definition_is_own-outline l) 0 l.symbols,
-      range_out_of_order-outline 0 0 l.groups,
-    )
-    refl
+-- the clause, with the result of the test on groups
+indexes_with : Option ℕ → Layout → Result (Unit {0}) Clause
+indexes_with o l = chain (indexes_before l) (fails 9 o) (indexes_after l)
 
--- the test on groups finds nothing, and the others pass
-indexes_parts : (l : Layout) → check_indexes l ≡ Ok tt → (first_failing (group_indexes_fit l) 0 l.groups ≡ None) × (rest_of_indexes l None ≡ Ok tt)
-unfolding check_indexes rest_of_indexes
-indexes_parts l h = by (first_failing (group_indexes_fit l) 0 l.groups) h
-  where
-    by : (o : Option ℕ) → rest_of_indexes l o ≡ Ok tt → (o ≡ None) × (rest_of_indexes l None ≡ Ok tt)
-    by None h = (refl, h)
-    by (Some i) h =
-        cc (rest_holds (fails 9 (symbol_misfit l (files_of l.groups) 0 l.symbols)) _ (rest_holds (fails 9 (unless (primary_is_there l))) _ (rest_holds (fails 9 (first_failing (part_index_fits l) 0 l.parts)) _ h)))
+indexes_with-outline : (o : Option ℕ) (l : Layout) → indexes_with o (outline l) ≡ indexes_with o l
+unfolding indexes_with chain
+indexes_with-outline o l =
+    rw (symbol_misfit-outline l 0 l.symbols,
+        failing-same (sorted_is_there (outline l)) (sorted_is_there l) (sorted_is_there-outline l) 0 l.sorted,
+        entry_is_there-outline l l.entry,
+        first_double_copy-outline l [] 0 l.groups,
+        failing-same (definition_is_own (outline l)) (definition_is_own l) (definition_is_own-outline l) 0 l.symbols,
+        range_out_of_order-outline 0 0 l.groups)
+      refl
 
-pub check_indexes-changed : (l : Layout) (c : Change) (s : InputSection) → Changed l c s → check_indexes l ≡ Ok tt → check_indexes (changed_layout l c) ≡ Ok tt
-unfolding check_indexes rest_of_indexes
+pub check_indexes-changed : (l : Layout) (c : Change) (s : InputSection) → Changed l c s → check_indexes l ≡ Ok tt → check_indexes (changed_layout l c) ≡ fails 9 (place_unless c.group (section_indexes_fit (changed_layout l c) (changed_section c s)))
+unfolding check_indexes indexes_with chain
 check_indexes-changed l c s k h =
     let after = changed_layout l c in
-    let p = indexes_parts l h in
-    let groups = group_indexes-changed l c s k p.0 in
-    let rest = same_by_outline (λ m. rest_of_indexes m None) (rest_of_indexes-outline None) l after k.same in
-    ap (rest_of_indexes after) groups ∙ (rest ∙ p.1)
+    let found = first_failing (group_indexes_fit l) 0 l.groups in
+    let none = None-from_fails 9 (first_failing (group_indexes_fit l) 0 l.groups) (chain-first (indexes_before l) (fails 9 (first_failing (group_indexes_fit l) 0 l.groups)) (indexes_after l) h) in
+    let groups = group_indexes-changed l c s k none in
+    let passes : indexes_with (first_failing (group_indexes_fit l) 0 l.groups) after ≡ Ok tt = same_by_outline (indexes_with (first_failing (group_indexes_fit l) 0 l.groups)) (indexes_with-outline (first_failing (group_indexes_fit l) 0 l.groups)) l after k.same ∙ h in
+    chain-one (indexes_before after) (fails 9 (first_failing (group_indexes_fit l) 0 l.groups)) (fails 9 (first_failing (group_indexes_fit after) 0 after.groups)) (indexes_after after) passes ∙ ap (fails 9) groups
 
 -- ---- clauses 10 and 20
 
-pub check_fields-changed : (l : Layout) (c : Change) (s : InputSection) → Changed l c s → check_fields l ≡ Ok tt → check_fields (changed_layout l c) ≡ Ok tt
+pub check_fields-changed : (l : Layout) (c : Change) (s : InputSection) → Changed l c s → check_fields l ≡ Ok tt
+    → check_fields (changed_layout l c) ≡ first_error (fails 10 (place_unless c.group (fields_lie l.machine (changed_section c s)))) (fails 10 (place_unless c.group (relocations_are_read (changed_section c s))))
 unfolding check_fields
 check_fields-changed l c s k h =
     let first = fails 10 (first_failing (each_section (fields_lie l.machine)) 0 l.groups) in
     let second = fails 10 (first_failing (each_section relocations_are_read) 0 l.groups) in
     let fields = None-from_fails 10 (first_failing (each_section (fields_lie l.machine)) 0 l.groups) (first_holds first second h) in
     let read = None-from_fails 10 (first_failing (each_section relocations_are_read) 0 l.groups) (rest_holds first second h) in
-    rw (section_replaced (fields_lie l.machine) l c s k.found k.tests.fields fields, section_replaced relocations_are_read l c s k.found k.tests.read read) refl
+    rw (section_replaced (fields_lie l.machine) l c s k.found fields, section_replaced relocations_are_read l c s k.found read) refl
 
-pub check_reversed-changed : (l : Layout) (c : Change) (s : InputSection) → Changed l c s → check_reversed l ≡ Ok tt → check_reversed (changed_layout l c) ≡ Ok tt
+pub check_reversed-changed : (l : Layout) (c : Change) (s : InputSection) → Changed l c s → check_reversed l ≡ Ok tt → check_reversed (changed_layout l c) ≡ fails 20 (place_unless c.group (reversed_fits l.machine (changed_section c s)))
 unfolding check_reversed
-check_reversed-changed l c s k h =
-    let none = None-from_fails 20 (first_failing (each_section (reversed_fits l.machine)) 0 l.groups) h in
-    rw (section_replaced (reversed_fits l.machine) l c s k.found k.tests.reversed none) refl
+check_reversed-changed l c s k h = ap (fails 20) (section_replaced (reversed_fits l.machine) l c s k.found (None-from_fails 20 (first_failing (each_section (reversed_fits l.machine)) 0 l.groups) h))
 
 -- ---- clause 21
 
--- the clause with two results in it: that on the kinds of sections, and that on tables of relocations
-partial_with : Layout → Option ℕ → Option ℕ → Result (Unit {0}) Clause
-partial_with l kinds tables =
-    first_error (fails 21 (unless (has_no_segments l)))
-    (first_error (fails 21 (first_failing (has_no_slot l) 0 l.symbols))
-    (first_error (fails 21 (unless (has_no_pair l)))
-    (first_error (fails 21 (first_failing (has_no_thunks l) 0 l.thunk_blocks))
-    (first_error (fails 21 (unless (lists_no_symbols l)))
-    (first_error (fails 21 (first_failing (has_no_index l) 0 l.symbols))
-    (first_error (fails 21 (first_failing (each_section (is_no_debug l)) 0 l.groups))
-    (first_error (fails 21 kinds)
-    (first_error (fails 21 tables)
-    (first_error (fails 21 (first_failing (each_section group_fits_members) 0 l.groups))
-    (fails 21 (first_failing (each_section table_has_data) 0 l.groups)))))))))))
+-- the tests before that on tables of relocations, and those after it
+abbrev partial_before : Layout → List (Result (Unit {0}) Clause)
+partial_before l =
+    fails 21 (unless (has_no_segments l)) ∷ fails 21 (first_failing (has_no_slot l) 0 l.symbols) ∷ fails 21 (unless (has_no_pair l)) ∷ fails 21 (first_failing (has_no_thunks l) 0 l.thunk_blocks) ∷ fails 21 (unless (lists_no_symbols l))
+    ∷ fails 21 (first_failing (has_no_index l) 0 l.symbols) ∷ fails 21 (first_failing (each_section (is_no_debug l)) 0 l.groups) ∷ fails 21 (first_failing (each_section (is_of_kind l)) 0 l.groups) ∷ []
 
-partial_with-outline : (kinds tables : Option ℕ) (l : Layout) → partial_with (outline l) kinds tables ≡ partial_with l kinds tables
-unfolding partial_with
-partial_with-outline kinds tables l =
-    rw (
-      failing_sections-outline (is_no_debug (outline l)) (is_no_debug l) (λ s. refl) 0 l.groups,
-      failing_sections-outline group_fits_members group_fits_members (λ s. refl) 0 l.groups,
-      failing_sections-outline table_has_data table_has_data (λ s. refl) 0 l.groups,
-    )
-    refl
+abbrev partial_after : Layout → Result (Unit {0}) Clause
+partial_after l = first_error (fails 21 (first_failing (each_section group_fits_members) 0 l.groups)) (fails 21 (first_failing (each_section table_has_data) 0 l.groups))
 
--- the first seven of several clauses pass, and so does what follows them
-after_seven : (a b c d e f g rest : Result (Unit {0}) Clause) → first_error a (first_error b (first_error c (first_error d (first_error e (first_error f (first_error g rest)))))) ≡ Ok tt → rest ≡ Ok tt
-after_seven a b c d e f g rest h =
-    rest_holds g rest (rest_holds f (first_error g rest) (rest_holds e (first_error f (first_error g rest)) (rest_holds d (first_error e (first_error f (first_error g rest)))
-    (rest_holds c (first_error d (first_error e (first_error f (first_error g rest)))) (rest_holds b (first_error c (first_error d (first_error e (first_error f (first_error g rest)))))
-    (rest_holds a (first_error b (first_error c (first_error d (first_error e (first_error f (first_error g rest)))))) h))))))
+partial_with : Option ℕ → Layout → Result (Unit {0}) Clause
+partial_with o l = chain (partial_before l) (fails 21 o) (partial_after l)
 
--- the rest of the clause, from the kinds of sections on
-abbrev from_kinds : Layout → Option ℕ → Option ℕ → Result (Unit {0}) Clause
-from_kinds l kinds tables =
-    first_error (fails 21 kinds)
-    (first_error (fails 21 tables)
-    (first_error (fails 21 (first_failing (each_section group_fits_members) 0 l.groups))
-    (fails 21 (first_failing (each_section table_has_data) 0 l.groups))))
+partial_with-outline : (o : Option ℕ) (l : Layout) → partial_with o (outline l) ≡ partial_with o l
+unfolding partial_with chain
+partial_with-outline o l =
+    rw (failing_sections-outline (is_no_debug (outline l)) (is_no_debug l) (λ s. refl) 0 l.groups,
+        failing_sections-outline (is_of_kind (outline l)) (is_of_kind l) (λ s. refl) 0 l.groups,
+        failing_sections-outline group_fits_members group_fits_members (λ s. refl) 0 l.groups,
+        failing_sections-outline table_has_data table_has_data (λ s. refl) 0 l.groups)
+      refl
 
-abbrev from_tables : Layout → Option ℕ → Result (Unit {0}) Clause
-from_tables l tables =
-    first_error (fails 21 tables)
-    (first_error (fails 21 (first_failing (each_section group_fits_members) 0 l.groups))
-    (fails 21 (first_failing (each_section table_has_data) 0 l.groups)))
-
-partial_tail : (l : Layout) (kinds tables : Option ℕ) → partial_with l kinds tables ≡ Ok tt → from_kinds l kinds tables ≡ Ok tt
-unfolding partial_with
-partial_tail l kinds tables h =
-    after_seven (fails 21 (unless (has_no_segments l))) (fails 21 (first_failing (has_no_slot l) 0 l.symbols)) (fails 21 (unless (has_no_pair l))) (fails 21 (first_failing (has_no_thunks l) 0 l.thunk_blocks))
-    (fails 21 (unless (lists_no_symbols l))) (fails 21 (first_failing (has_no_index l) 0 l.symbols)) (fails 21 (first_failing (each_section (is_no_debug l)) 0 l.groups)) (from_kinds l kinds tables) h
-
--- both find nothing
-partial_parts : (l : Layout) (kinds tables : Option ℕ) → partial_with l kinds tables ≡ Ok tt → (kinds ≡ None) × (tables ≡ None)
-partial_parts l kinds tables h =
-    let p = partial_tail l kinds tables h in
-    let q = rest_holds (fails 21 kinds) (from_tables l tables) p in (
-      None-from_fails 21 kinds (first_holds (fails 21 kinds) (from_tables l tables) p),
-      None-from_fails 21 tables (first_holds (fails 21 tables) (first_error (fails 21 (first_failing (each_section group_fits_members) 0 l.groups)) (fails 21 (first_failing (each_section table_has_data) 0 l.groups))) q),
-    )
+pub check_partial-changed : (l : Layout) (c : Change) (s : InputSection) (k : Changed l c s) → check_partial l ≡ Ok tt → check_partial (changed_layout l c) ≡ fails 21 (place_unless c.group (file_tables_fit (changed_file c k.found.file)))
+unfolding check_partial partial_with chain
+check_partial-changed l c s k h =
+    let after = changed_layout l c in
+    let p = k.found in
+    let none = None-from_fails 21 (first_failing tables_fit 0 l.groups) (chain-first (partial_before l) (fails 21 (first_failing tables_fit 0 l.groups)) (partial_after l) h) in
+    let groups = all_pass tables_fit 0 l.groups none in
+    let files = list_all-at tables_fit c.group l.groups p.group p.in_layout groups in
+    let group = list_all-replaced file_tables_fit (changed_file c) c.file p.group.files p.file p.in_group files in
+    let e : 0 + c.group ≡ c.group = omega arith in
+    let tables : first_failing tables_fit 0 after.groups ≡ place_unless c.group (file_tables_fit (changed_file c p.file)) =
+        failing-replaced tables_fit (changed_group c) c.group 0 l.groups p.group p.in_layout groups ∙ (ap (place_unless (0 + c.group)) group ∙ ap (λ (n : ℕ). place_unless n (file_tables_fit (changed_file c p.file))) e) in
+    let passes : partial_with (first_failing tables_fit 0 l.groups) after ≡ Ok tt = same_by_outline (partial_with (first_failing tables_fit 0 l.groups)) (partial_with-outline (first_failing tables_fit 0 l.groups)) l after k.same ∙ h in
+    chain-one (partial_before after) (fails 21 (first_failing tables_fit 0 l.groups)) (fails 21 (first_failing tables_fit 0 after.groups)) (partial_after after) passes ∙ ap (fails 21) tables
 
 -- without tables of relocations none of them misses an entry
 no_tables : (l : Layout) (f : File) (ss : List InputSection) → is_partial_link l.kind ≡ false → list_all (is_of_kind l) ss ≡ true → list_all (rela_fits f) ss ≡ true
@@ -337,28 +381,30 @@ no_tables l f ss none h = list_all-weaker (is_of_kind l) (rela_fits f) (λ s p. 
 pub file_found : (l : Layout) (c : Change) (s : InputSection) (p : FoundSection l c s) → file_at l c ≡ Some p.file
 file_found l c s p = rw p.in_layout p.in_group
 
--- the tables of relocations of the changed file have an entry for each relocation
-changed_tables : (l : Layout) (c : Change) (s : InputSection) → MayChange l c s → (k : Changed l c s) → list_all (is_of_kind l) (changed_file c k.found.file).sections ≡ true → file_tables_fit (changed_file c k.found.file) ≡ true
-changed_tables l c s m k h =
-    elim (cases_Bool (is_partial_link l.kind)) [
-      | inl t ↦ m.tables t k.found.file (file_found l c s k.found)
-      | inr none ↦ no_tables l (changed_file c k.found.file) (changed_file c k.found.file).sections none h
-    ]
+-- all sections are of the object's kind
+kinds_pass : (l : Layout) → check_partial l ≡ Ok tt → first_failing (each_section (is_of_kind l)) 0 l.groups ≡ None
+unfolding check_partial
+kinds_pass l h =
+    let a = rest_holds (fails 21 (unless (has_no_segments l))) _ h in
+    let b = rest_holds (fails 21 (first_failing (has_no_slot l) 0 l.symbols)) _ a in
+    let d = rest_holds (fails 21 (unless (has_no_pair l))) _ b in
+    let e = rest_holds (fails 21 (first_failing (has_no_thunks l) 0 l.thunk_blocks)) _ d in
+    let f = rest_holds (fails 21 (unless (lists_no_symbols l))) _ e in
+    let g = rest_holds (fails 21 (first_failing (has_no_index l) 0 l.symbols)) _ f in
+    let i = rest_holds (fails 21 (first_failing (each_section (is_no_debug l)) 0 l.groups)) _ g in
+    None-from_fails 21 (first_failing (each_section (is_of_kind l)) 0 l.groups) (first_holds (fails 21 (first_failing (each_section (is_of_kind l)) 0 l.groups)) _ i)
 
-pub check_partial-changed : (l : Layout) (c : Change) (s : InputSection) → MayChange l c s → Changed l c s → check_partial l ≡ Ok tt → check_partial (changed_layout l c) ≡ Ok tt
-unfolding check_partial partial_with
-check_partial-changed l c s m k h =
+-- the tables of relocations of the changed file have an entry for each relocation: only a relocatable object has some
+pub tables_changed : (l : Layout) (c : Change) (s : InputSection) (k : Changed l c s) → (is_partial_link l.kind ≡ true → file_tables_fit (changed_file c k.found.file) ≡ true) → check_partial l ≡ Ok tt → file_tables_fit (changed_file c k.found.file) ≡ true
+tables_changed l c s k fits h =
     let after = changed_layout l c in
     let p = k.found in
-    let none = partial_parts l (first_failing (each_section (is_of_kind l)) 0 l.groups) (first_failing tables_fit 0 l.groups) h in
-    let kinds : first_failing (each_section (is_of_kind after)) 0 after.groups ≡ first_failing (each_section (is_of_kind l)) 0 l.groups = same_by_outline (λ n. first_failing (each_section (is_of_kind n)) 0 n.groups) (λ n. failing_sections-outline (is_of_kind (outline n)) (is_of_kind n) (λ s. refl) 0 n.groups) l after k.same in
-    let new_groups = all_pass (each_section (is_of_kind l)) 0 after.groups (kinds ∙ none.0) in
-    let new_group = list_all-at (each_section (is_of_kind l)) c.group after.groups (changed_group c p.group) (slice_get-with_item (changed_group c) c.group l.groups p.group p.in_layout) new_groups in
-    let new_file = list_all-at (λ (f : File). list_all (is_of_kind l) f.sections) c.file (changed_group c p.group).files (changed_file c p.file) (slice_get-with_item (changed_file c) c.file p.group.files p.file p.in_group) new_group in
-    let groups = all_pass tables_fit 0 l.groups none.1 in
-    let files = list_all-at tables_fit c.group l.groups p.group p.in_layout groups in
-    let group = list_all-with_item file_tables_fit (changed_file c) c.file p.group.files p.file p.in_group files (changed_tables l c s m k new_file) in
-    let tables = none_fails tables_fit 0 after.groups (list_all-with_item tables_fit (changed_group c) c.group l.groups p.group p.in_layout groups group) in
-    let rest = same_by_outline (λ n. partial_with n None None) (partial_with-outline None None) l after k.same in
-    let before : partial_with l None None ≡ Ok tt = rw (none.0, none.1) at h in
-    rw (kinds ∙ none.0, tables) (rest ∙ before)
+    let kinds : first_failing (each_section (is_of_kind after)) 0 after.groups ≡ first_failing (each_section (is_of_kind l)) 0 l.groups =
+        same_by_outline (λ n. first_failing (each_section (is_of_kind n)) 0 n.groups) (λ n. failing_sections-outline (is_of_kind (outline n)) (is_of_kind n) (λ s. refl) 0 n.groups) l after k.same in
+    let groups = all_pass (each_section (is_of_kind l)) 0 after.groups (kinds ∙ kinds_pass l h) in
+    let group = list_all-at (each_section (is_of_kind l)) c.group after.groups (changed_group c p.group) (slice_get-with_item (changed_group c) c.group l.groups p.group p.in_layout) groups in
+    let file = list_all-at (λ (f : File). list_all (is_of_kind l) f.sections) c.file (changed_group c p.group).files (changed_file c p.file) (slice_get-with_item (changed_file c) c.file p.group.files p.file p.in_group) group in
+    elim (cases_Bool (is_partial_link l.kind)) [
+      | inl t ↦ fits t
+      | inr none ↦ no_tables l (changed_file c p.file) (changed_file c p.file).sections none file
+    ]

@@ -152,12 +152,16 @@ written_slot s =
       | inr n ↦ rw n refl
     ]
 
-kept_counts : (r : Role) (l : Layout) (s t : InputSection) → KeepsCounts l s t → counted_for r l (written_section l t) ≡ counted_for r l (written_section l s)
-kept_counts role.RelaDynRelative l s t k = k.rela
-kept_counts role.RelrDyn l s t k = k.relr
-kept_counts other l s t k = k.dynamic
+-- a section and the one that replaces it have as many entries in the part of a role
+abbrev pub SameCount : Role → Layout → Change → InputSection → Type 0
+SameCount r l c s = counted_for r l (written_section l (changed_section c s)) ≡ counted_for r l (written_section l s)
 
-changed_count : (r : Role) (l m : Layout) (f g : File) (c : Change) → outline m ≡ outline l → (a : ℕ) (s : InputSection) → is_changeable s.slot ≡ true → KeepsCounts l s (changed_section c s)
+pub kept_counts : (r : Role) (l : Layout) (c : Change) (s : InputSection) → KeepsCounts l s (changed_section c s) → SameCount r l c s
+kept_counts role.RelaDynRelative l c s k = k.rela
+kept_counts role.RelrDyn l c s k = k.relr
+kept_counts other l c s k = k.dynamic
+
+changed_count : (r : Role) (l m : Layout) (f g : File) (c : Change) → outline m ≡ outline l → (a : ℕ) (s : InputSection) → is_changeable s.slot ≡ true → SameCount r l c s
     → counted_for r m (placed_section m g a (changed_section c s)) ≡ counted_for r l (placed_section l f a s)
 unfolding placed_section
 changed_count r l m f g c e a s h k = by_slot s.slot refl h
@@ -167,7 +171,7 @@ changed_count r l m f g c e a s h k = by_slot s.slot refl h
 
     by_slot : (z : Slot) → z ≡ s.slot → is_changeable z ≡ true → counted_for r m (placed_by z m g a (changed_section c s)) ≡ counted_for r l (placed_by z l f a s)
     by_slot slot.Loaded d h =
-        ap (λ t. counted_for r m (with_word_order t)) (same_unread l m e (changed_section c s)) ∙ (same_count r l m e (written_section l (changed_section c s)) ∙ kept_counts r l s (changed_section c s) k)
+        ap (λ t. counted_for r m (with_word_order t)) (same_unread l m e (changed_section c s)) ∙ (same_count r l m e (written_section l (changed_section c s)) ∙ k)
     by_slot slot.Debug d h = none m (changed_section c s) d ∙ sym (none l s d)
     by_slot other d h = cc
 
@@ -198,13 +202,13 @@ kept_changed l f s h = by_slot s.slot h
     by_slot slot.Frame h = cc
     by_slot other h = refl
 
-pub sections_changed : (r : Role) (l m : Layout) (f g : File) (c : Change) → SameOutlines l m f g → (i : ℕ) (ss : List InputSection) (s : InputSection) → slice_get ss i ≡ Some s → is_changeable s.slot ≡ true → KeepsCounts l s (changed_section c s)
+pub sections_changed : (r : Role) (l m : Layout) (f g : File) (c : Change) → SameOutlines l m f g → (i : ℕ) (ss : List InputSection) (s : InputSection) → slice_get ss i ≡ Some s → is_changeable s.slot ≡ true → SameCount r l c s
     → (a : ℕ) → total (counted_for r m) (placed_sections m g a (with_item (changed_section c) i ss)) ≡ total (counted_for r l) (placed_sections l f a ss)
 sections_changed r l m f g c e i [] s at h k a = cc
 sections_changed r l m f g c e zero (t ∷ ss) s at h k a =
     let t_is : t ≡ s = same at in
     let changeable : is_changeable t.slot ≡ true = ap (λ (x : InputSection). is_changeable x.slot) t_is ∙ h in
-    let counts : KeepsCounts l t (changed_section c t) = subst (λ (x : InputSection). KeepsCounts l x (changed_section c x)) (sym t_is) k in
+    let counts : SameCount r l c t = subst (λ (x : InputSection). SameCount r l c x) (sym t_is) k in
     let here = changed_count r l m f g c e.layout a t changeable counts in
     let rest = sections_count r l m f g e (behind a (kept_size l f t)) ss in
     let move = ap (λ n. total (counted_for r m) (placed_sections m g (behind a n) ss)) (kept_changed m g (changed_section c t) changeable ∙ sym (kept_changed l f t changeable)) in

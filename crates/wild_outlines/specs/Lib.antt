@@ -1,4 +1,5 @@
 pub mod MayChange
 pub mod ClauseLaws
 pub mod ShareLaws
+pub mod RefusalLaws
 pub mod ChangedLaws
