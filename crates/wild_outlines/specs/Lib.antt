@@ -2,3 +2,5 @@ pub mod MayChange
 pub mod ClauseLaws
 pub mod ShareLaws
 pub mod ChangedLaws
+pub mod ValueLaws
+pub mod GroupLaws
