@@ -1,7 +1,9 @@
 -- Tests, sums and look-ups over mapped lists, and over lists in which one item is replaced.
-use Rattle.std.proofs.Common.{◌≡◌, ℕ, zero, suc, ◌+◌, Bool, List, [], ◌∷◌, map, length, true, Option, Some, None, option_map, option_and_then, slice_get, refl, ap, arith}
+use Rattle.std.proofs.Common.{◌≡◌, ℕ, zero, suc, ◌+◌, Bool, List, [], ◌∷◌, ◌++◌, map, length, true, Option, Some, None, option_map, option_and_then, slice_get, refl, ap, ◌∙◌, arith}
 use Rattle.std.specs.List.{flat_map, list_all, list_any, position_from}
 use Rattle.std.proofs.lemmas.Bool.{and_parts}
+use Rattle.std.proofs.lemmas.List.{map-append}
+use Rattle.wild_layout.specs.Faults.{flat_map_from}
 use Rattle.wild_types.specs.Lists.{total, through}
 use Rattle.wild_change.specs.Change.{with_item}
 
@@ -14,6 +16,10 @@ map-same f g (x ∷ xs) h = rw (h x, map-same f g xs h) refl
 pub flat_map-same : {X Y : Type 0} (f g : X → List Y) (xs : List X) → ((x : X) → f x ≡ g x) → flat_map f xs ≡ flat_map g xs
 flat_map-same f g [] h = refl
 flat_map-same f g (x ∷ xs) h = rw (h x, flat_map-same f g xs h) refl
+
+pub flat_map_from-same : {X Y : Type 0} (f g : ℕ → X → List Y) (i : ℕ) (xs : List X) → ((j : ℕ) (x : X) → f j x ≡ g j x) → flat_map_from f i xs ≡ flat_map_from g i xs
+flat_map_from-same f g i [] h = refl
+flat_map_from-same f g i (x ∷ xs) h = rw (h i x, flat_map_from-same f g (i + 1) xs h) refl
 
 pub total-same : {X : Type 0} (f g : X → ℕ) (xs : List X) → ((x : X) → f x ≡ g x) → total f xs ≡ total g xs
 total-same f g [] h = refl
@@ -32,6 +38,14 @@ option_and_then-same f g None h = refl
 option_and_then-same f g (Some x) h = h x
 
 -- ---- mapped lists
+
+pub map-map : {X Y Z : Type 0} (f : Y → Z) (v : X → Y) (xs : List X) → map f (map v xs) ≡ map (λ x. f (v x)) xs
+map-map f v [] = refl
+map-map f v (x ∷ xs) = ap (λ ys. f (v x) ∷ ys) (map-map f v xs)
+
+pub map-flat_map : {X Y Z : Type 0} (v : Y → Z) (f : X → List Y) (xs : List X) → map v (flat_map f xs) ≡ flat_map (λ x. map v (f x)) xs
+map-flat_map v f [] = refl
+map-flat_map v f (x ∷ xs) = map-append v (f x) (flat_map f xs) ∙ ap (λ ys. map v (f x) ++ ys) (map-flat_map v f xs)
 
 pub total-map : {X Y : Type 0} (f : Y → ℕ) (v : X → Y) (xs : List X) → total f (map v xs) ≡ total (λ x. f (v x)) xs
 total-map f v [] = refl

@@ -1,9 +1,36 @@
 //! What no change of an input section alters. All functions are laws without code.
 #![tactic(auto)]
 
+ghost use Rattle.std.specs.Prelude.{ℕ};
+ghost use Rattle.wild_types.specs.declared.file.Group.{Group};
+ghost use Rattle.wild_types.specs.declared.layout.Layout.{Layout};
+ghost use Rattle.wild_outlines.specs.ValueLaws.{ImageSizeByOutline, OutlineStays, ValuesByOutline, WarningsByOutline};
+ghost use Rattle.wild_outlines.specs.GroupLaws.{GroupsByOutline, PaddingByOutline};
 ghost use Rattle.wild_outlines.specs.ClauseLaws.{ChangesAreTested, ClausesByOutline};
 ghost use Rattle.wild_outlines.specs.ShareLaws.{SharesByOutline};
 ghost use Rattle.wild_outlines.specs.ChangedLaws.{ChangedCounts};
+
+/// A change that keeps the length of its section leaves the outline as it is.
+pub fn outline_stays()
+    ensures { OutlineStays }
+{}
+
+/// Values, decisions, placed sections, the size of the image and the warnings depend on the outline only.
+pub fn values_by_outline()
+    ensures values { (l : Layout) → ValuesByOutline l }
+    ensures size { ImageSizeByOutline }
+    ensures warnings { WarningsByOutline }
+{}
+
+/// The faults and the pieces of a group depend on the group and on the outline only.
+pub fn groups_by_outline()
+    ensures { (l : Layout) (i : ℕ) (g : Group) → GroupsByOutline l i g }
+{}
+
+/// The padding depends on the outline only.
+pub fn padding_by_outline()
+    ensures { PaddingByOutline }
+{}
 
 /// A change may be made if the section and its replacement pass certain tests, each in its own layout.
 pub fn changes_are_tested()
