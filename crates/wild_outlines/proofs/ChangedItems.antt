@@ -156,7 +156,7 @@ FoundSection-from_found l c s h = by_group (slice_get l.groups c.group) refl h
     by_group (Some g) a h = by_file g (slice_get g.files c.file) a refl h
 
 -- the same with the group and the file that look-ups give
-pub found_at : (l : Layout) (c : Change) (s : InputSection) (g : Group) (f : File) → found_section l c ≡ Some s → slice_get l.groups c.group ≡ Some g → slice_get g.files c.file ≡ Some f → FoundSection l c s
+unfoldable pub found_at : (l : Layout) (c : Change) (s : InputSection) (g : Group) (f : File) → found_section l c ≡ Some s → slice_get l.groups c.group ≡ Some g → slice_get g.files c.file ≡ Some f → FoundSection l c s
 found_at l c s g f found in_layout in_group =
     let p = FoundSection-from_found l c s found in
     let group : p.group ≡ g = same_group (sym p.in_layout ∙ in_layout) in
@@ -167,6 +167,15 @@ found_at l c s g f found in_layout in_group =
     same_group e = cc
     same_file : {a b : File} → Some a ≡ Some b → a ≡ b
     same_file e = cc
+
+-- with the group alone
+unfoldable pub found_group : (l : Layout) (c : Change) (s : InputSection) (g : Group) → found_section l c ≡ Some s → slice_get l.groups c.group ≡ Some g → FoundSection l c s
+found_group l c s g found in_layout =
+    let p = FoundSection-from_found l c s found in
+    found_at l c s g p.file found in_layout (ap (λ (h : Group). slice_get h.files c.file) (same_group (sym in_layout ∙ p.in_layout)) ∙ p.in_group)
+  where
+    same_group : {a b : Group} → Some a ≡ Some b → a ≡ b
+    same_group e = cc
 
 -- ---- the outline of a changed layout
 

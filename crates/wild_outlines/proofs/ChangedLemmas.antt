@@ -166,7 +166,7 @@ module _ (l : Layout) (c : Change) (s : InputSection) (p : FoundSection l c s) (
 -- ---- faults
 
 -- the faults before those of groups
-none_before : (l : Layout) → errors l ≡ [] → (first_clause l ≡ Ok tt) × (flat_map_from (part_errors l) 0 l.parts ≡ []) × (flat_map_from (group_errors l) 0 l.groups ≡ [])
+pub none_before : (l : Layout) → errors l ≡ [] → (first_clause l ≡ Ok tt) × (flat_map_from (part_errors l) 0 l.parts ≡ []) × (flat_map_from (group_errors l) 0 l.groups ≡ [])
 unfolding errors
 none_before l none =
     let a = nil_parts (clause_errors (first_clause l) ++ flat_map_from (part_errors l) 0 l.parts) (flat_map_from (group_errors l) 0 l.groups) none in

@@ -11,6 +11,7 @@ pub mod SharesFrames
 pub mod SharesTables
 pub mod SharesSections
 pub mod SharesLemmas
+pub mod SharesRefused
 pub mod ChangedPieces
 pub mod ChangedExtents
 pub mod ChangedCounts

@@ -8,7 +8,8 @@ ghost use Rattle.wild_outlines.specs.ValueLaws.{ImageSizeByOutline, OutlineStays
 ghost use Rattle.wild_outlines.specs.GroupLaws.{GroupsByOutline, PaddingByOutline};
 ghost use Rattle.wild_outlines.specs.ClauseLaws.{ChangesAreTested, ClausesByOutline};
 ghost use Rattle.wild_outlines.specs.ShareLaws.{SharesByOutline};
-ghost use Rattle.wild_outlines.specs.ChangedLaws.{ChangedCounts};
+ghost use Rattle.wild_outlines.specs.RefusalLaws.{RefusalsByGroup};
+ghost use Rattle.wild_outlines.specs.ChangedLaws.{ChangedBytes, ChangedCounts, ChangedErrors, OthersHaveNone};
 
 /// A change that keeps the length of its section leaves the outline as it is.
 pub fn outline_stays()
@@ -50,4 +51,24 @@ pub fn shares_by_outline()
 /// One count of relocations changes, and by how many.
 pub fn changed_counts()
     ensures { ChangedCounts }
+{}
+
+/// The image after a change is the image before it, with the pieces of the changed group over it.
+pub fn changed_bytes()
+    ensures { ChangedBytes }
+{}
+
+/// A change that may be made has the faults of its own group alone.
+pub fn changed_errors()
+    ensures { ChangedErrors }
+{}
+
+/// In a layout without faults, a group as it was before the change has none after it.
+pub fn others_have_none()
+    ensures { OthersHaveNone }
+{}
+
+/// The faults of a layout that had none, after any change that keeps the length of its section, by the changed group alone.
+pub fn refusals_by_group()
+    ensures { RefusalsByGroup }
 {}
