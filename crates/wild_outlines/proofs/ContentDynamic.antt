@@ -14,8 +14,9 @@ use Rattle.wild_table_formats.specs.DynamicEntries.{entries_from, group_symbols,
 use Rattle.wild_table_formats.specs.DynamicFields.{exported_symbol_fields, fields_at, role_of, exported_fields_in}
 use Rattle.wild_table_formats.specs.VersionNames.{definition_offsets, file_definitions, group_needs, needs_from}
 use Rattle.wild_change.specs.Outline.{outline_file, outline}
-use Rattle.wild_outlines.proofs.ValuesFiles.{file_with-outline, output_section-outline_file}
-use Rattle.wild_outlines.proofs.ContentNeeds.{dynstr_prefix_strings-outline, file_strings-outline, string_start-outline}
+use Rattle.wild_outlines.proofs.ClausesGroups.{file_of-layout, output_section-outline}
+use Rattle.wild_outlines.proofs.ContentNeeds.{dynstr_prefix_strings-outline, file_strings-same_file}
+use Rattle.wild_outlines.proofs.SharesTables.{string_start-outline}
 
 pub fields_at-outline : (l : Layout) (i : ℕ) (s : Symbol) (section : ℕ) (p : Place) → fields_at (outline l) i s section p ≡ fields_at l i s section p
 fields_at-outline l i s section at.Undefined = refl
@@ -27,10 +28,10 @@ role_of-outline (Some f) = refl
 
 exported_in_file : (l : Layout) (i : ℕ) (s : Symbol) (o : Option File)
     → exported_fields_in (outline l) i (role_of (option_map outline_file o)) s (output_section (outline l) (option_map outline_file o) s.place) ≡ exported_fields_in l i (role_of o) s (output_section l o s.place)
-exported_in_file l i s o = simp (role_of-outline o, output_section-outline_file l o s.place, fields_at-outline l)
+exported_in_file l i s o = simp (role_of-outline o, output_section-outline l o s.place, fields_at-outline l)
 
 pub exported_symbol_fields-outline : (l : Layout) (i : ℕ) (s : Symbol) → exported_symbol_fields (outline l) i s ≡ exported_symbol_fields l i s
-exported_symbol_fields-outline l i s = ap (λ o. exported_fields_in (outline l) i (role_of o) s (output_section (outline l) o s.place)) (file_with-outline l i) ∙ exported_in_file l i s (file_of (files_of l.groups) i)
+exported_symbol_fields-outline l i s = ap (λ o. exported_fields_in (outline l) i (role_of o) s (output_section (outline l) o s.place)) (file_of-layout l.groups i) ∙ exported_in_file l i s (file_of (files_of l.groups) i)
 
 pub listed_of-outline : (l : Layout) (i : ℕ) (o : Option Symbol) → listed_of (outline l) i o ≡ listed_of l i o
 listed_of-outline l i None = refl
@@ -49,7 +50,7 @@ listed-each l = fun_ext (λ d. simp (listed_of-outline l))
 
 pub entries_from-outline : (l : Layout) (at : ℕ) (fs : List File) → entries_from (outline l) at fs ≡ entries_from l at fs
 entries_from-outline l at [] = refl
-entries_from-outline l at (f ∷ fs) = simp (dynstr_prefix_strings-outline l, listed-each l, file_strings-outline l, entries_from-outline l (next_dynstr l at f) fs)
+entries_from-outline l at (f ∷ fs) = simp (dynstr_prefix_strings-outline l, listed-each l, file_strings-same_file l, entries_from-outline l (next_dynstr l at f) fs)
 
 pub group_symbols-outline : (l : Layout) (g : Group) → group_symbols (outline l) g ≡ group_symbols l g
 unfolding group_symbols
@@ -57,7 +58,7 @@ group_symbols-outline l g = simp (entries_from-outline l)
 
 pub needs_from-outline : (l : Layout) (at : ℕ) (fs : List File) → needs_from (outline l) at fs ≡ needs_from l at fs
 needs_from-outline l at [] = refl
-needs_from-outline l at (f ∷ fs) = simp (dynstr_prefix_strings-outline l, file_strings-outline l, needs_from-outline l (next_dynstr l at f) fs)
+needs_from-outline l at (f ∷ fs) = simp (dynstr_prefix_strings-outline l, file_strings-same_file l, needs_from-outline l (next_dynstr l at f) fs)
 
 pub group_needs-outline : (l : Layout) (g : Group) → group_needs (outline l) g ≡ group_needs l g
 unfolding group_needs

@@ -7,8 +7,8 @@ use Rattle.wild_needs.specs.EntryPoint.{EntryPoint}
 use Rattle.wild_table_formats.specs.Headers.{computed_infos, file_header, headers_from, null_header, program_header, section_header, section_headers_of}
 use Rattle.wild_table_formats.specs.declared.section_info.ComputedInfo.{ComputedInfo}
 use Rattle.wild_change.specs.Outline.{outline}
+use Rattle.wild_outlines.proofs.ClausesGroups.{need_count-outline}
 use Rattle.wild_outlines.proofs.ContentNeeds.{entry_point-outline}
-use Rattle.wild_outlines.proofs.ValuesFiles.{need_count-outline}
 
 pub file_header-outline : (l : Layout) → file_header (outline l) ≡ file_header l
 unfolding file_header
@@ -20,15 +20,15 @@ program_header-outline l g = refl
 
 pub computed_infos-outline : (l : Layout) → computed_infos (outline l) ≡ computed_infos l
 unfolding computed_infos
-computed_infos-outline l = simp (need_count-outline l)
+computed_infos-outline l = simp (need_count-outline l.groups)
 
 pub section_header-outline : (l : Layout) (info name : ℕ) (s : Section) → section_header (outline l) info name s ≡ section_header l info name s
 unfolding section_header
 section_header-outline l info name s = refl
 
 pub headers_from-outline : (l : Layout) (infos : List ComputedInfo) (i name : ℕ) (ss : List Section) → headers_from (outline l) infos i name ss ≡ headers_from l infos i name ss
-headers_from-outline l infos i name [] = refl
-headers_from-outline l infos i name (s ∷ ss) = simp (section_header-outline l, headers_from-outline l infos (i + 1) (name + length s.name + 1) ss)
+headers_from-outline l told i name [] = refl
+headers_from-outline l told i name (s ∷ ss) = simp (section_header-outline l, headers_from-outline l told (i + 1) (name + length s.name + 1) ss)
 
 pub null_header-outline : (l : Layout) → null_header (outline l) ≡ null_header l
 unfolding null_header

@@ -22,10 +22,10 @@ use Rattle.wild_change.specs.Outline.{outline}
 use Rattle.wild_outlines.proofs.ListLemmas.{flat_map-same, map-same}
 use Rattle.wild_outlines.proofs.ValuesFiles.{raw_value-outline}
 use Rattle.wild_outlines.proofs.FramesPlaced.{processed_sections-outline}
-use Rattle.wild_outlines.proofs.ContentNeeds.{words_of-outline, dynamic_relocations-outline, group_relr_got-outline, words_in-each}
+use Rattle.wild_outlines.proofs.SharesSections.{words_of-outline, treatment-outline, dynamic_relocations-outline}
 use Rattle.wild_outlines.proofs.ValuesSymbols.{address_for-outline}
-use Rattle.wild_outlines.proofs.DecisionsTreatment.{treatment-outline}
-use Rattle.wild_outlines.proofs.ValuesLookups.{slots_of-outline}
+use Rattle.wild_outlines.proofs.ClausesSlots.{slots_of-outline}
+use Rattle.wild_outlines.proofs.ContentNeeds.{group_relr_got-same_group, words_in-each}
 
 pub dynamic_relocation_by-outline : (l : Layout) (at : ℕ) (r : InputRelocation) (t : Treatment) → dynamic_relocation_by (outline l) at r t ≡ dynamic_relocation_by l at r t
 dynamic_relocation_by-outline l at r (Symbolic i) = refl
@@ -94,7 +94,7 @@ slot_bytes-outline l role.RelrDyn f = simp (flat_places_of-outline l)
 slot_bytes-outline l other f = refl
 
 pub block_bytes-outline : (l : Layout) (r : Role) (g : Group) → block_bytes (outline l) r g ≡ block_bytes l r g
-block_bytes-outline l role.RelrDyn g = simp (group_relr_got-outline l)
+block_bytes-outline l role.RelrDyn g = simp (group_relr_got-same_group l)
 block_bytes-outline l other g = refl
 
 pub file_entries-outline : (l : Layout) (f : File) → file_entries (outline l) f ≡ file_entries l f

@@ -32,22 +32,12 @@ pub rela_bytes_of-outline : (l : Layout) (s : InputSection) → rela_bytes_of (o
 unfolding rela_bytes_of
 rela_bytes_of-outline l s = simp (rela_of-each l)
 
-bytes_by-outline : (l : Layout) (k : Slot) (f : File) (s : InputSection) → bytes_by k (outline l) f s ≡ bytes_by k l f s
+bytes_by-outline : (l : Layout) (k : Slot) (f : File) (s : InputSection) → bytes_by k (outline l) (outline_file f) s ≡ bytes_by k l f s
 bytes_by-outline l slot.Debug f s = debug_bytes-outline l s
 bytes_by-outline l slot.Rela f s = rela_bytes_of-outline l s
 bytes_by-outline l slot.Group f s = refl
 bytes_by-outline l other f s = simp (sites-outline l)
 
-bytes_by-outline_file : (l : Layout) (k : Slot) (f : File) (s : InputSection) → bytes_by k (outline l) (outline_file f) s ≡ bytes_by k l f s
-bytes_by-outline_file l slot.Debug f s = debug_bytes-outline l s
-bytes_by-outline_file l slot.Rela f s = rela_bytes_of-outline l s
-bytes_by-outline_file l slot.Group f s = refl
-bytes_by-outline_file l other f s = simp (sites-outline l)
-
-pub section_bytes-outline : (l : Layout) (f : File) (s : InputSection) → section_bytes (outline l) f s ≡ section_bytes l f s
+pub section_bytes-outline : (l : Layout) (f : File) (s : InputSection) → section_bytes (outline l) (outline_file f) s ≡ section_bytes l f s
 unfolding section_bytes
 section_bytes-outline l f s = simp (bytes_by-outline l s.slot f s)
-
-pub section_bytes-outline_file : (l : Layout) (f : File) (s : InputSection) → section_bytes (outline l) (outline_file f) s ≡ section_bytes l f s
-unfolding section_bytes
-section_bytes-outline_file l f s = simp (bytes_by-outline_file l s.slot f s)

@@ -1,6 +1,5 @@
 -- Entries of `.symtab` in an outline.
 use Rattle.std.proofs.Common.{◌≡◌, ℕ, Bool, true, false, flat_map, Option, Some, None, option_map, option_and_then, slice_get, refl, ap, ◌∙◌}
-use Rattle.std.proofs.lemmas.List.Folds.{flat_map-map}
 use Rattle.std.proofs.lemmas.Option.{slice_get-map}
 use std.Path.{fun_ext}
 use Rattle.wild_types.specs.declared.file.File.{File}
@@ -19,10 +18,11 @@ use Rattle.wild_table_formats.specs.SectionSymbols.{all_items, entry_by, named_i
 use Rattle.wild_table_formats.specs.TableEntries.{at_address, fields_of, file_table, group_table, named_entry, offset_by, table_at, table_entries, table_fields}
 use Rattle.wild_table_formats.specs.declared.symbols.SymbolAttributes.{SymbolAttributes}
 use Rattle.wild_change.specs.Outline.{outline_section, outline_file, outline}
-use Rattle.wild_outlines.proofs.ListLemmas.{flat_map-same}
-use Rattle.wild_outlines.proofs.ValuesFiles.{files_of-outline, file_with-outline, output_section-outline, raw_value-outline}
-use Rattle.wild_outlines.proofs.ContentNeeds.{file_items-outline_file, file_items-outline, section_symbols-outline, singleton_sections-outline}
-use Rattle.wild_outlines.proofs.ValuesLookups.{slots_of-outline}
+use Rattle.wild_outlines.proofs.ClausesGroups.{files_of-outline, file_of-layout, flat_map-mapped}
+use Rattle.wild_outlines.proofs.SharesTables.{file_items-outline, section_symbols-outline}
+use Rattle.wild_outlines.proofs.ClausesSlots.{slots_of-outline}
+use Rattle.wild_outlines.proofs.ContentNeeds.{file_items-same_file, singleton_sections-outline}
+use Rattle.wild_outlines.proofs.ValuesFiles.{output_section-same_file, raw_value-outline}
 
 pub at_address-outline : (l : Layout) (i : ℕ) (s : Symbol) (section o : Option ℕ) (a : SymbolAttributes) → at_address (outline l) i s section o a ≡ at_address l i s section o a
 at_address-outline l i s section None a = refl
@@ -36,7 +36,7 @@ section_at-outline other (Some f) = refl
 symbol_section_by : (l : Layout) (i : ℕ) (o : Option Symbol)
     → option_and_then (λ (s : Symbol). option_and_then (section_at s.place) (file_of (files_of (outline l).groups) i)) o ≡ option_map outline_section (option_and_then (λ (s : Symbol). option_and_then (section_at s.place) (file_of (files_of l.groups) i)) o)
 symbol_section_by l i None = refl
-symbol_section_by l i (Some s) = ap (option_and_then (section_at s.place)) (file_with-outline l i) ∙ section_at-outline s.place (file_of (files_of l.groups) i)
+symbol_section_by l i (Some s) = ap (option_and_then (section_at s.place)) (file_of-layout l.groups i) ∙ section_at-outline s.place (file_of (files_of l.groups) i)
 
 pub symbol_section-outline : (l : Layout) (i : ℕ) → symbol_section (outline l) i ≡ option_map outline_section (symbol_section l i)
 symbol_section-outline l i = symbol_section_by l i (slice_get l.symbols i)
@@ -53,7 +53,7 @@ table_at-outline l i role s section (at.Output k) = simp (at_address-outline l, 
 table_at-outline l i role s section (at.Section k) = simp (at_address-outline l, offset_by-outline l, symbol_section-outline l, raw_value-outline l)
 
 pub fields_of-outline : (l : Layout) (f : File) (n : SymtabName) (i : ℕ) (s : Symbol) → fields_of (outline l) f n i s ≡ fields_of l f n i s
-fields_of-outline l f named.Itself i s = simp (at_address-outline l, raw_value-outline l, table_at-outline l, output_section-outline l)
+fields_of-outline l f named.Itself i s = simp (at_address-outline l, raw_value-outline l, table_at-outline l, output_section-same_file l)
 fields_of-outline l f named.Slot i s = simp (slots_of-outline l)
 fields_of-outline l f other i s = refl
 
@@ -62,9 +62,7 @@ unfolding table_fields
 table_fields-outline l f x = simp (fields_of-outline l)
 
 pub all_items-outline : (l : Layout) → all_items (outline l) ≡ all_items l
-all_items-outline l =
-    ap (flat_map (file_items (outline l))) (files_of-outline l.groups)
-    ∙ (flat_map-map (file_items (outline l)) outline_file (files_of l.groups) ∙ flat_map-same (λ f. file_items (outline l) (outline_file f)) (file_items l) (files_of l.groups) (file_items-outline_file l))
+all_items-outline l = ap (flat_map (file_items (outline l))) (files_of-outline l.groups) ∙ flat_map-mapped (file_items (outline l)) (file_items l) outline_file (file_items-outline l) (files_of l.groups)
 
 pub entry_by-outline : (l : Layout) (i : ℕ) (b : Bool) → entry_by (outline l) i b ≡ entry_by l i b
 entry_by-outline l i true = simp (section_symbols-outline l, all_items-outline l)
@@ -98,7 +96,7 @@ pub named_entry-each : (l : Layout) (f : File) → named_entry (outline l) f ≡
 named_entry-each l f = fun_ext (λ x. simp (table_fields-outline l))
 
 pub file_table-each : (l : Layout) → file_table (outline l) ≡ file_table l
-file_table-each l = fun_ext (λ f. simp (section_symbols-outline l, named_entry-each l, file_items-outline l))
+file_table-each l = fun_ext (λ f. simp (section_symbols-outline l, named_entry-each l, file_items-same_file l))
 
 pub group_table-outline : (l : Layout) (g : Group) → group_table (outline l) g ≡ group_table l g
 unfolding group_table

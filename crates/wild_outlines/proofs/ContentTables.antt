@@ -19,13 +19,15 @@ use Rattle.wild_change.specs.Outline.{outline_group, outline}
 use Rattle.wild_outlines.proofs.ListLemmas.{flat_map-same}
 use Rattle.wild_outlines.proofs.Decisions.{item_bytes-outline}
 use Rattle.wild_outlines.proofs.FramesPlaced.{placed_files-outline}
-use Rattle.wild_outlines.proofs.ContentNeeds.{needed_entries-outline_group, sorted_words-outline, dynamic_entries-outline, file_items-outline, file_strings-outline, group_relr_got-outline, needed_entries-outline, section_symbols-outline, table_strings-outline}
+use Rattle.wild_outlines.proofs.ContentNeeds.{needed_entries-outline, sorted_words-outline, file_items-same_file, file_strings-same_file, group_relr_got-same_group, needed_entries-same_group, table_strings-same_file}
 use Rattle.wild_outlines.proofs.ContentRelocations.{file_entries-outline, file_words-outline, header_bytes-outline, slot_bytes-outline, block_bytes-outline, file_generals-outline}
+use Rattle.wild_outlines.proofs.ClausesGroups.{first_listed-outline}
 use Rattle.wild_outlines.proofs.ContentDynamic.{file_definitions-outline, group_needs-outline, group_symbols-outline}
 use Rattle.wild_outlines.proofs.ContentHeaders.{file_header-outline, program_header-outline, section_headers_of-outline}
 use Rattle.wild_outlines.proofs.ContentSymbols.{named_entry-each, table_entries-outline}
 use Rattle.wild_outlines.proofs.FramesTable.{search_table-outline}
-use Rattle.wild_outlines.proofs.ValuesFiles.{first_listed-outline, share_of-outline}
+use Rattle.wild_outlines.proofs.SharesTables.{dynamic_entries-outline, section_symbols-outline}
+use Rattle.wild_outlines.proofs.ValuesFiles.{share_of-outline}
 
 frame_bytes_of-outline : (l : Layout) (f : File) (s : InputSection) → frame_bytes_of (outline l) f s ≡ frame_bytes_of l f s
 unfolding frame_bytes_of
@@ -47,14 +49,14 @@ pub file_part_bytes-outline : (l : Layout) (r : Role) (f : File) → file_part_b
 file_part_bytes-outline l role.RelaDynRelative f = simp (file_entries-outline l)
 file_part_bytes-outline l role.RelaDynGeneral f = simp (file_generals-outline l)
 file_part_bytes-outline l role.RelrDyn f = simp (file_words-outline l)
-file_part_bytes-outline l role.Dynstr f = simp (file_strings-outline l)
+file_part_bytes-outline l role.Dynstr f = simp (file_strings-same_file l)
 file_part_bytes-outline l role.GnuVersion f = refl
 file_part_bytes-outline l role.GnuVersionD f = simp (file_definitions-outline l)
 file_part_bytes-outline l role.SysvHash f = simp (sysv_bytes-outline l)
 file_part_bytes-outline l role.GnuHash f = simp (gnu_bytes-outline l)
-file_part_bytes-outline l role.SymtabShndxLocal f = simp (section_symbols-outline l, named_entry-each l, file_items-outline l)
-file_part_bytes-outline l role.SymtabShndxGlobal f = simp (section_symbols-outline l, named_entry-each l, file_items-outline l)
-file_part_bytes-outline l role.Strtab f = simp (table_strings-outline l)
+file_part_bytes-outline l role.SymtabShndxLocal f = simp (section_symbols-outline l, named_entry-each l, file_items-same_file l)
+file_part_bytes-outline l role.SymtabShndxGlobal f = simp (section_symbols-outline l, named_entry-each l, file_items-same_file l)
+file_part_bytes-outline l role.Strtab f = simp (table_strings-same_file l)
 file_part_bytes-outline l role.EhFrame f = simp (frames_bytes-outline l)
 file_part_bytes-outline l other f = refl
 
@@ -71,7 +73,7 @@ last_file_room-outline l None = refl
 last_file_room-outline l (Some g) =
     ap (λ n. share_of (outline l) (n - 1) role.Dynamic - dynamic_entry_size * length (needed_entries (outline l) (outline_group g))) (length-map l.groups outline_group)
     ∙ (ap (λ n. n - dynamic_entry_size * length (needed_entries (outline l) (outline_group g))) (share_of-outline l (length l.groups - 1) role.Dynamic)
-    ∙ ap (λ ns. share_of l (length l.groups - 1) role.Dynamic - dynamic_entry_size * length ns) (needed_entries-outline_group l g))
+    ∙ ap (λ ns. share_of l (length l.groups - 1) role.Dynamic - dynamic_entry_size * length ns) (needed_entries-outline l g))
 
 dynamic_room-outline : (l : Layout) → dynamic_room (outline l) ≡ dynamic_room l
 dynamic_room-outline l =
@@ -79,10 +81,10 @@ dynamic_room-outline l =
     ∙ (ap (last_file_room (outline l)) (slice_get-map outline_group l.groups (length l.groups - 1)) ∙ last_file_room-outline l (slice_get l.groups (length l.groups - 1)))
 
 pub group_bytes-outline : (l : Layout) (r : Role) (g : Group) → group_bytes (outline l) r g ≡ group_bytes l r g
-group_bytes-outline l role.RelrDyn g = simp (group_relr_got-outline l, sorted_words-outline l)
+group_bytes-outline l role.RelrDyn g = simp (group_relr_got-same_group l, sorted_words-outline l)
 group_bytes-outline l role.Dynsym g = simp (group_symbols-outline l)
 group_bytes-outline l role.GnuVersionR g = simp (group_needs-outline l)
-group_bytes-outline l role.Dynamic g = simp (needed_entries-outline l, dynamic_entries-outline l, dynamic_room-outline l)
+group_bytes-outline l role.Dynamic g = simp (needed_entries-same_group l, dynamic_entries-outline l, dynamic_room-outline l)
 group_bytes-outline l role.SymtabLocal g = simp (table_entries-outline l)
 group_bytes-outline l role.SymtabGlobal g = simp (table_entries-outline l)
 group_bytes-outline l r g = simp (block_bytes-outline l)

@@ -20,7 +20,7 @@ use Rattle.wild_layout.specs.Thunks.{thunk_for}
 use Rattle.wild_layout.specs.declared.decision.Decision.{Decision}
 use Rattle.wild_change.specs.Outline.{outline}
 use Rattle.wild_outlines.proofs.ListLemmas.{flat_map-same}
-use Rattle.wild_outlines.proofs.DecisionsTreatment.{treatment-outline}
+use Rattle.wild_outlines.proofs.SharesSections.{treatment-outline}
 use Rattle.wild_outlines.proofs.ValuesFiles.{raw_value-outline}
 use Rattle.wild_outlines.proofs.ValuesSymbols.{address_for-outline, is_own_place-outline, merged_strings-outline, term_by-outline, value_less-outline}
 

@@ -1,6 +1,5 @@
 -- The search table of an outline.
 use Rattle.std.proofs.Common.{◌≡◌, ℕ, Bool, true, false, if◌then◌else◌, List, [], ◌∷◌, ◌++◌, map, refl, ap, ◌∙◌}
-use Rattle.std.proofs.lemmas.List.Folds.{flat_map-map}
 use std.Path.{fun_ext}
 use Rattle.wild_types.specs.declared.file.File.{File}
 use Rattle.wild_types.specs.declared.input.InputRelocation.{InputRelocation}
@@ -13,10 +12,10 @@ use Rattle.wild_placement.specs.FrameInputs.{frames_of, kept_size}
 use Rattle.wild_placement.specs.PlacedSections.{entry_relocations, file_frames, frames_at, behind}
 use Rattle.wild_layout.specs.SearchTable.{code_at, files_fdes, layout_fdes, search_table, search_table_faults, sections_fdes, fde_at, section_fdes, group_fdes}
 use Rattle.wild_change.specs.Outline.{outline_section, outline_file, outline_group, outline}
-use Rattle.wild_outlines.proofs.ListLemmas.{flat_map-same}
-use Rattle.wild_outlines.proofs.ValuesFiles.{unchangeable, frames_are_unchangeable}
-use Rattle.wild_outlines.proofs.FramesPlaced.{frames_of-outline_file, kept_size-outline_file, file_frames-outline_file}
-use Rattle.wild_outlines.proofs.ValuesLookups.{header_only-outline}
+use Rattle.wild_outlines.proofs.ChangedItems.{outline_section-fixed}
+use Rattle.wild_outlines.proofs.SharesFrames.{frame_fixed, frames_of-outline, kept_size-both, file_frames-outline}
+use Rattle.wild_outlines.proofs.ClausesGroups.{flat_map-mapped}
+use Rattle.wild_outlines.proofs.ClausesTests.{header_only-outline}
 use Rattle.wild_outlines.proofs.ValuesSymbols.{raw_address-outline}
 
 pub code_at-outline : (l : Layout) (rs : List InputRelocation) → code_at (outline l) rs ≡ code_at l rs
@@ -28,28 +27,28 @@ fde_at-outline l fs at k = simp (code_at-outline l (entry_relocations fs k))
 
 fdes_of_frames : (l : Layout) (f : File) (at : ℕ) (s : InputSection) → section_fdes (outline l) (outline_file f) at s ≡ section_fdes l f at s
 fdes_of_frames l f at s =
-    ap (λ fs. if is_frame s.slot then map (fde_at (outline l) fs at) (fdes_in fs) else []) (frames_of-outline_file l f s)
+    ap (λ fs. if is_frame s.slot then map (fde_at (outline l) fs at) (fdes_in fs) else []) (frames_of-outline l f s)
     ∙ ap (λ g. if is_frame s.slot then map g (fdes_in (frames_of l f s)) else []) (fun_ext (fde_at-outline l (frames_of l f s) at))
 
 section_fdes_by : (b : Bool) (l : Layout) (f : File) (at : ℕ) (s : InputSection) → is_frame s.slot ≡ b → section_fdes (outline l) (outline_file f) at (outline_section s) ≡ section_fdes l f at s
-section_fdes_by true l f at s h = ap (section_fdes (outline l) (outline_file f) at) (unchangeable s (frames_are_unchangeable s.slot h)) ∙ fdes_of_frames l f at s
+section_fdes_by true l f at s h = ap (section_fdes (outline l) (outline_file f) at) (outline_section-fixed s (frame_fixed s.slot h)) ∙ fdes_of_frames l f at s
 section_fdes_by false l f at s h = rw h refl
 
 sections_fdes-outline : (l : Layout) (f : File) (at : ℕ) (ss : List InputSection) → sections_fdes (outline l) (outline_file f) at (map outline_section ss) ≡ sections_fdes l f at ss
 sections_fdes-outline l f at [] = refl
 sections_fdes-outline l f at (s ∷ ss) =
     ap (λ xs. xs ++ sections_fdes (outline l) (outline_file f) (behind at (kept_size (outline l) (outline_file f) (outline_section s))) (map outline_section ss)) (section_fdes_by (is_frame s.slot) l f at s refl)
-    ∙ ap (λ xs. section_fdes l f at s ++ xs) (ap (λ n. sections_fdes (outline l) (outline_file f) (behind at n) (map outline_section ss)) (kept_size-outline_file l f s) ∙ sections_fdes-outline l f (behind at (kept_size l f s)) ss)
+    ∙ ap (λ xs. section_fdes l f at s ++ xs) (ap (λ n. sections_fdes (outline l) (outline_file f) (behind at n) (map outline_section ss)) (kept_size-both l f s) ∙ sections_fdes-outline l f (behind at (kept_size l f s)) ss)
 
 files_fdes-outline : (l : Layout) (at : ℕ) (fs : List File) → files_fdes (outline l) at (map outline_file fs) ≡ files_fdes l at fs
 files_fdes-outline l at [] = refl
 files_fdes-outline l at (f ∷ fs) =
     ap (λ xs. xs ++ files_fdes (outline l) (behind at (file_frames (outline l) (outline_file f))) (map outline_file fs)) (sections_fdes-outline l f at f.sections)
-    ∙ ap (λ xs. sections_fdes l f at f.sections ++ xs) (ap (λ n. files_fdes (outline l) (behind at n) (map outline_file fs)) (file_frames-outline_file l f) ∙ files_fdes-outline l (behind at (file_frames l f)) fs)
+    ∙ ap (λ xs. sections_fdes l f at f.sections ++ xs) (ap (λ n. files_fdes (outline l) (behind at n) (map outline_file fs)) (file_frames-outline l f) ∙ files_fdes-outline l (behind at (file_frames l f)) fs)
 
 pub layout_fdes-outline : (l : Layout) → layout_fdes (outline l) ≡ layout_fdes l
 unfolding layout_fdes
-layout_fdes-outline l = flat_map-map (group_fdes (outline l)) outline_group l.groups ∙ flat_map-same (λ g. group_fdes (outline l) (outline_group g)) (group_fdes l) l.groups (λ g. files_fdes-outline l (frames_at l g) g.files)
+layout_fdes-outline l = flat_map-mapped (group_fdes (outline l)) (group_fdes l) outline_group (λ g. files_fdes-outline l (frames_at l g) g.files) l.groups
 
 pub search_table_faults-outline : (l : Layout) → search_table_faults (outline l) ≡ search_table_faults l
 unfolding search_table_faults

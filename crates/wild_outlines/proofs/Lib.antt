@@ -16,11 +16,8 @@ pub mod ChangedPieces
 pub mod ChangedExtents
 pub mod ChangedCounts
 pub mod ChangedLemmas
-pub mod ValuesLookups
 pub mod ValuesFiles
 pub mod ValuesSymbols
-pub mod ValuesChange
-pub mod DecisionsTreatment
 pub mod Decisions
 pub mod DebugDecisions
 pub mod FramesPlaced

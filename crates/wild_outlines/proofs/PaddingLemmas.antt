@@ -1,8 +1,7 @@
 -- The bytes without an owner in an outline, and the padding.
-use Rattle.std.proofs.Common.{◌≡◌, ℕ, Bool, true, false, if◌then◌else◌, List, [], ◌∷◌, map, length, refl, ap, ◌∙◌}
-use Rattle.std.specs.Prelude.{◌||◌, ◌&&◌, not, drop, replicate}
+use Rattle.std.proofs.Common.{◌≡◌, ℕ, Bool, List, [], ◌∷◌, map, refl, ap, ◌∙◌}
+use Rattle.std.specs.Prelude.{◌||◌, ◌&&◌, not, drop}
 use Rattle.std.specs.List.{range_with_len, list_any}
-use Rattle.std.proofs.lemmas.List.{length-replicate}
 use std.Path.{fun_ext}
 use Rattle.wild_types.specs.declared.layout.Layout.{Layout}
 use Rattle.wild_types.specs.declared.section.Section.{Section}
@@ -13,19 +12,13 @@ use Rattle.wild_types.specs.FileThunks.{thunks_of}
 use Rattle.wild_types.specs.Lookups.{image_size}
 use Rattle.wild_layout.specs.Image.{is_owned, padding, padding_byte, section_owns, thunk_owns, file_owns, group_owns, part_owns, has_offset, merged_and_identity_owns}
 use Rattle.wild_change.specs.Outline.{outline_section, outline_file, outline_group, outline}
-use Rattle.wild_change.specs.Change.{is_changeable}
-use Rattle.wild_outlines.proofs.ListLemmas.{map-same, list_any-same, list_any-map}
-use Rattle.wild_outlines.proofs.ValuesLookups.{image_size-outline, header_only-outline}
-
-outline_length : (s : InputSection) → length (outline_section s).bytes ≡ length s.bytes
-outline_length s = by (is_changeable s.slot)
-  where
-    by : (b : Bool) → length (if b then replicate (length s.bytes) 0 else s.bytes) ≡ length s.bytes
-    by true = length-replicate (length s.bytes) 0
-    by false = refl
+use Rattle.wild_outlines.proofs.ListLemmas.{map-same}
+use Rattle.wild_outlines.proofs.ClausesTests.{image_size-outline, header_only-outline}
+use Rattle.wild_outlines.proofs.ChangedItems.{length-outline}
+use Rattle.wild_outlines.proofs.ClausesGroups.{list_any-mapped}
 
 section_owns-outline : (l : Layout) (k : ℕ) (s : InputSection) → section_owns (outline l) k (outline_section s) ≡ section_owns l k s
-section_owns-outline l k s = simp (outline_length s, header_only-outline l)
+section_owns-outline l k s = simp (length-outline s, header_only-outline l)
 
 thunk_owns-each : (l : Layout) (k : ℕ) → thunk_owns (outline l) k ≡ thunk_owns l k
 thunk_owns-each l k = fun_ext (λ t. simp (header_only-outline l))
@@ -39,14 +32,14 @@ thunk_owns-outline l k f = simp (thunk_owns-each l k)
 file_owns-outline : (l : Layout) (k : ℕ) (f : File) → file_owns (outline l) k (outline_file f) ≡ file_owns l k f
 file_owns-outline l k f =
     ap (λ b. b || list_any (thunk_owns (outline l) k) (thunks_of (outline l) (outline_file f)))
-    (list_any-map (section_owns (outline l) k) outline_section f.sections ∙ list_any-same (λ s. section_owns (outline l) k (outline_section s)) (section_owns l k) f.sections (section_owns-outline l k))
+    (list_any-mapped (section_owns (outline l) k) (section_owns l k) outline_section (section_owns-outline l k) f.sections)
     ∙ ap (λ b. list_any (section_owns l k) f.sections || b) (thunk_owns-outline l k f)
 
 group_owns-outline : (l : Layout) (k : ℕ) (g : Group) → group_owns (outline l) k (outline_group g) ≡ group_owns l k g
-group_owns-outline l k g = list_any-map (file_owns (outline l) k) outline_file g.files ∙ list_any-same (λ f. file_owns (outline l) k (outline_file f)) (file_owns l k) g.files (file_owns-outline l k)
+group_owns-outline l k g = list_any-mapped (file_owns (outline l) k) (file_owns l k) outline_file (file_owns-outline l k) g.files
 
 groups_own-outline : (l : Layout) (k : ℕ) → list_any (group_owns (outline l) k) (outline l).groups ≡ list_any (group_owns l k) l.groups
-groups_own-outline l k = list_any-map (group_owns (outline l) k) outline_group l.groups ∙ list_any-same (λ g. group_owns (outline l) k (outline_group g)) (group_owns l k) l.groups (group_owns-outline l k)
+groups_own-outline l k = list_any-mapped (group_owns (outline l) k) (group_owns l k) outline_group (group_owns-outline l k) l.groups
 
 is_owned-outline : (l : Layout) (k : ℕ) → is_owned (outline l) k ≡ is_owned l k
 is_owned-outline l k =

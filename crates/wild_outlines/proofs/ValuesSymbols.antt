@@ -27,7 +27,8 @@ use Rattle.wild_layout.specs.SlotValues.{address_of, slot_address, slot_of, stub
 use Rattle.wild_layout.specs.SymbolValues.{is_undefined, raw_address, storage_start}
 use Rattle.wild_layout.specs.Values.{is_absent, is_own_place, pointer_offset, size_of, term_by, term_value, value_less}
 use Rattle.wild_change.specs.Outline.{outline_section, outline_file, outline}
-use Rattle.wild_outlines.proofs.ValuesFiles.{files_of-outline, file_of-outline, raw_value-outline}
+use Rattle.wild_outlines.proofs.ClausesGroups.{file_of-layout}
+use Rattle.wild_outlines.proofs.ValuesFiles.{raw_value-outline}
 
 pub raw_address-outline : (l : Layout) (o : Option ℕ) → raw_address (outline l) o ≡ raw_address l o
 raw_address-outline l None = refl
@@ -60,7 +61,7 @@ strings_in-outline s (Some f) = simp (strings_at-outline s.place f)
 strings_of_symbol-outline : (l : Layout) (i : ℕ) (o : Option Symbol) → option_and_then (strings_of_symbol (files_of (outline l).groups) i) o ≡ option_and_then (strings_of_symbol (files_of l.groups) i) o
 strings_of_symbol-outline l i None = refl
 strings_of_symbol-outline l i (Some s) =
-    ap (λ fs. strings_of_symbol fs i s) (files_of-outline l.groups) ∙ (ap (option_and_then (λ f. strings_in f s)) (file_of-outline (files_of l.groups) i) ∙ strings_in-outline s (file_of (files_of l.groups) i))
+    ap (option_and_then (λ f. strings_in f s)) (file_of-layout l.groups i) ∙ strings_in-outline s (file_of (files_of l.groups) i)
 
 pub merged_strings-outline : (l : Layout) (i : ℕ) → merged_strings (outline l) i ≡ merged_strings l i
 unfolding merged_strings
