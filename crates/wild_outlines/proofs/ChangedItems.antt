@@ -106,6 +106,7 @@ failing-replaced {X = X} t f zero j (y ∷ ys) x h a = here (cases_Bool (t (f y)
   where
     same : (y x : X) → Some y ≡ Some x → y ≡ x
     same y x h = cc
+
     here : (t (f y) ≡ true) ⊎ (t (f y) ≡ false) → first_failing t j (f y ∷ ys) ≡ place_unless (j + 0) (t (f y))
     here (inl p) = rw p (none_fails t (j + 1) ys (and_parts (t y) (list_all t ys) a).1)
     here (inr p) = rw p (ap (λ (n : ℕ). Some n) (omega arith))
@@ -165,6 +166,7 @@ found_at l c s g f found in_layout in_group =
   where
     same_group : {a b : Group} → Some a ≡ Some b → a ≡ b
     same_group e = cc
+
     same_file : {a b : File} → Some a ≡ Some b → a ≡ b
     same_file e = cc
 

@@ -1,5 +1,5 @@
 -- The clauses that read the relocations of a section, after a change that keeps its length: the first test that fails.
-use Rattle.std.proofs.Common.{◌≡◌, ℕ, zero, suc, ◌+◌, ◌-◌, ◌^◌, ◌≤◌, Bool, true, false, List, [], ◌∷◌, length, Option, Some, None, Result, Ok, Err, refl, sym, ap, ◌∙◌, arith, inl, inr}
+use Rattle.std.proofs.Common.{◌≡◌, ℕ, ◌+◌, ◌-◌, ◌^◌, Bool, true, false, List, [], ◌∷◌, length, Option, Some, None, Result, Ok, Err, refl, sym, ap, ◌∙◌, arith, inl, inr}
 use Rattle.std.specs.Prelude.{◌==◌, ◌&&◌, ◌||◌, not, nat_lt, nat_le, slice_get, is_none}
 use Rattle.std.specs.List.{list_all, list_any}
 use Rattle.std.proofs.lemmas.Bool.{and_parts, and_from, or_left, or_right, cases_Bool, eqb-true}
@@ -205,6 +205,7 @@ role_needed l c s k r h = by (list_any (has_role r) l.parts) h
   where
     sum : total_share (changed_layout l c) r + group_share l r k.found.group ≡ total_share l r + group_share (changed_layout l c) r (changed_group c k.found.group)
     sum = total_share-replaced l c s k.found k.long k.same r
+
     by : (b : Bool) → (b || total_share l r == 0) ≡ true → (b || total_share (changed_layout l c) r == 0) ≡ (b || group_share (changed_layout l c) r (changed_group c k.found.group) == 0)
     by true h = refl
     by false h =
@@ -232,6 +233,7 @@ roles_changed l c s k counts h =
   where
     same : (r : Role) → total_share (changed_layout l c) r ≡ total_share l r
     same r = total_share-changed l c s k.found k.long k.same r (λ h. kept_counts r l c s counts)
+
     needed : (r : Role) → role_has_needed_part l r ≡ true → needs_no_part (changed_layout l c) (changed_group c k.found.group) r ≡ true
     needed r p = sym (role_needed l c s k r p) ∙ (ap (λ n. list_any (has_role r) l.parts || n == 0) (same r) ∙ p)
 
@@ -299,13 +301,15 @@ indexes_with o l = chain (indexes_before l) (fails 9 o) (indexes_after l)
 indexes_with-outline : (o : Option ℕ) (l : Layout) → indexes_with o (outline l) ≡ indexes_with o l
 unfolding indexes_with chain
 indexes_with-outline o l =
-    rw (symbol_misfit-outline l 0 l.symbols,
-        failing-same (sorted_is_there (outline l)) (sorted_is_there l) (sorted_is_there-outline l) 0 l.sorted,
-        entry_is_there-outline l l.entry,
-        first_double_copy-outline l [] 0 l.groups,
-        failing-same (definition_is_own (outline l)) (definition_is_own l) (definition_is_own-outline l) 0 l.symbols,
-        range_out_of_order-outline 0 0 l.groups)
-      refl
+    rw (
+      symbol_misfit-outline l 0 l.symbols,
+      failing-same (sorted_is_there (outline l)) (sorted_is_there l) (sorted_is_there-outline l) 0 l.sorted,
+      entry_is_there-outline l l.entry,
+      first_double_copy-outline l [] 0 l.groups,
+      failing-same (definition_is_own (outline l)) (definition_is_own l) (definition_is_own-outline l) 0 l.symbols,
+      range_out_of_order-outline 0 0 l.groups,
+    )
+    refl
 
 pub check_indexes-changed : (l : Layout) (c : Change) (s : InputSection) → Changed l c s → check_indexes l ≡ Ok tt → check_indexes (changed_layout l c) ≡ fails 9 (place_unless c.group (section_indexes_fit (changed_layout l c) (changed_section c s)))
 unfolding check_indexes indexes_with chain
@@ -350,11 +354,13 @@ partial_with o l = chain (partial_before l) (fails 21 o) (partial_after l)
 partial_with-outline : (o : Option ℕ) (l : Layout) → partial_with o (outline l) ≡ partial_with o l
 unfolding partial_with chain
 partial_with-outline o l =
-    rw (failing_sections-outline (is_no_debug (outline l)) (is_no_debug l) (λ s. refl) 0 l.groups,
-        failing_sections-outline (is_of_kind (outline l)) (is_of_kind l) (λ s. refl) 0 l.groups,
-        failing_sections-outline group_fits_members group_fits_members (λ s. refl) 0 l.groups,
-        failing_sections-outline table_has_data table_has_data (λ s. refl) 0 l.groups)
-      refl
+    rw (
+      failing_sections-outline (is_no_debug (outline l)) (is_no_debug l) (λ s. refl) 0 l.groups,
+      failing_sections-outline (is_of_kind (outline l)) (is_of_kind l) (λ s. refl) 0 l.groups,
+      failing_sections-outline group_fits_members group_fits_members (λ s. refl) 0 l.groups,
+      failing_sections-outline table_has_data table_has_data (λ s. refl) 0 l.groups,
+    )
+    refl
 
 pub check_partial-changed : (l : Layout) (c : Change) (s : InputSection) (k : Changed l c s) → check_partial l ≡ Ok tt → check_partial (changed_layout l c) ≡ fails 21 (place_unless c.group (file_tables_fit (changed_file c k.found.file)))
 unfolding check_partial partial_with chain
@@ -367,7 +373,7 @@ check_partial-changed l c s k h =
     let group = list_all-replaced file_tables_fit (changed_file c) c.file p.group.files p.file p.in_group files in
     let e : 0 + c.group ≡ c.group = omega arith in
     let tables : first_failing tables_fit 0 after.groups ≡ place_unless c.group (file_tables_fit (changed_file c p.file)) =
-        failing-replaced tables_fit (changed_group c) c.group 0 l.groups p.group p.in_layout groups ∙ (ap (place_unless (0 + c.group)) group ∙ ap (λ (n : ℕ). place_unless n (file_tables_fit (changed_file c p.file))) e) in
+    failing-replaced tables_fit (changed_group c) c.group 0 l.groups p.group p.in_layout groups ∙ (ap (place_unless (0 + c.group)) group ∙ ap (λ (n : ℕ). place_unless n (file_tables_fit (changed_file c p.file))) e) in
     let passes : partial_with (first_failing tables_fit 0 l.groups) after ≡ Ok tt = same_by_outline (partial_with (first_failing tables_fit 0 l.groups)) (partial_with-outline (first_failing tables_fit 0 l.groups)) l after k.same ∙ h in
     chain-one (partial_before after) (fails 21 (first_failing tables_fit 0 l.groups)) (fails 21 (first_failing tables_fit 0 after.groups)) (partial_after after) passes ∙ ap (fails 21) tables
 
@@ -400,7 +406,7 @@ tables_changed l c s k fits h =
     let after = changed_layout l c in
     let p = k.found in
     let kinds : first_failing (each_section (is_of_kind after)) 0 after.groups ≡ first_failing (each_section (is_of_kind l)) 0 l.groups =
-        same_by_outline (λ n. first_failing (each_section (is_of_kind n)) 0 n.groups) (λ n. failing_sections-outline (is_of_kind (outline n)) (is_of_kind n) (λ s. refl) 0 n.groups) l after k.same in
+    same_by_outline (λ n. first_failing (each_section (is_of_kind n)) 0 n.groups) (λ n. failing_sections-outline (is_of_kind (outline n)) (is_of_kind n) (λ s. refl) 0 n.groups) l after k.same in
     let groups = all_pass (each_section (is_of_kind l)) 0 after.groups (kinds ∙ kinds_pass l h) in
     let group = list_all-at (each_section (is_of_kind l)) c.group after.groups (changed_group c p.group) (slice_get-with_item (changed_group c) c.group l.groups p.group p.in_layout) groups in
     let file = list_all-at (λ (f : File). list_all (is_of_kind l) f.sections) c.file (changed_group c p.group).files (changed_file c p.file) (slice_get-with_item (changed_file c) c.file p.group.files p.file p.in_group) group in

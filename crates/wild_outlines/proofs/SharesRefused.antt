@@ -1,6 +1,6 @@
 -- The faults of shares after a change that keeps the length of its section: only the changed group can have some.
-use Rattle.std.proofs.Common.{◌≡◌, ℕ, ◌+◌, Bool, true, false, List, [], ◌∷◌, ◌++◌, Option, Some, None, refl, sym, ap, subst, ◌∙◌, arith, inl, inr}
-use Rattle.std.specs.Prelude.{if◌then◌else◌, slice_get}
+use Rattle.std.proofs.Common.{◌≡◌, ℕ, ◌+◌, false, List, [], Some, sym, ap, subst, ◌∙◌, arith, inl, inr}
+use Rattle.std.specs.Prelude.{slice_get}
 use Rattle.std.proofs.lemmas.Bool.{cases_Bool}
 use Rattle.wild_types.specs.declared.fault.Error.{Error}
 use Rattle.wild_types.specs.declared.input.InputSection.{InputSection}
@@ -10,7 +10,7 @@ use Rattle.wild_types.specs.declared.layout.Layout.{Layout}
 use Rattle.wild_types.specs.FilePlaces.{given}
 use Rattle.wild_needs.specs.Needs.{needs_of, needs_by, needs}
 use Rattle.wild_change.specs.declared.change.Change.{Change}
-use Rattle.wild_change.specs.Change.{changed_section, changed_group, changed_layout}
+use Rattle.wild_change.specs.Change.{changed_group, changed_layout}
 use Rattle.wild_layout.specs.Faults.{flat_map_from, share_errors, has_spare, part_errors}
 use Rattle.wild_outlines.specs.RefusalLaws.{has_counted_entries, changed_share, changed_shares}
 use Rattle.wild_outlines.proofs.ChangedItems.{slice_get-with_item}
@@ -29,7 +29,7 @@ needs_are l i j p g part group = ap (λ o. needs_by l i o (slice_get l.groups j)
 part_errors_are : (l : Layout) (i : ℕ) (p : Part) → slice_get l.parts i ≡ Some p → part_errors l i p ≡ flat_map_from (share_fault l i p) 0 l.groups
 part_errors_are l i p part =
     flat_map_from-at (λ j (g : Group). share_errors (has_spare p g) i j (given i g) (needs l i j)) (share_fault l i p) 0 l.groups
-      (λ j k g is at. ap (share_errors (has_spare p g) i j (given i g)) (needs_are l i j p g part (subst (λ (n : ℕ). slice_get l.groups n ≡ Some g) (from_zero j k is) at)))
+    (λ j k g is at. ap (share_errors (has_spare p g) i j (given i g)) (needs_are l i j p g part (subst (λ (n : ℕ). slice_get l.groups n ≡ Some g) (from_zero j k is) at)))
   where
     from_zero : (j k : ℕ) → j ≡ 0 + k → k ≡ j
     from_zero j k e = omega (arith, e)
@@ -65,7 +65,7 @@ module _ (l : Layout) (c : Change) (s : InputSection) (k : Changed l c s) where
   pub shares-refused : flat_map_from (part_errors l) 0 l.parts ≡ [] → flat_map_from (part_errors (changed_layout l c)) 0 (changed_layout l c).parts ≡ changed_shares (changed_layout l c) c.group (changed_group c k.found.group)
   shares-refused none =
       flat_map_from-at (part_errors (changed_layout l c)) (changed_share (changed_layout l c) c.group (changed_group c k.found.group)) 0 l.parts
-        (λ i j q is at. part_refused i q (subst (λ (n : ℕ). slice_get l.parts n ≡ Some q) (from_zero i j is) at) (none_from (part_errors l) 0 l.parts none i j q is at))
+      (λ i j q is at. part_refused i q (subst (λ (n : ℕ). slice_get l.parts n ≡ Some q) (from_zero i j is) at) (none_from (part_errors l) 0 l.parts none i j q is at))
     where
       from_zero : (j k : ℕ) → j ≡ 0 + k → k ≡ j
       from_zero j k e = omega (arith, e)

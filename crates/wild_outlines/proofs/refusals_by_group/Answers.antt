@@ -9,5 +9,5 @@ pub returns : goal.returns
 unfolding found_at
 returns c =
     λ l c s g f found n at in_group none.
-      (let e = outline-changed l c s found n in
-      errors-refused l c s (record { found = found_at l c s g f found at in_group; long = n; same = e }) none (λ i h. same_by_outline (λ k. group_errors k i h) (λ k. group_errors-outline k i h) l (changed_layout l c) e))
+    (let e = outline-changed l c s found n in
+    errors-refused l c s (record { found = found_at l c s g f found at in_group; long = n; same = e }) none (λ i h. same_by_outline (λ k. group_errors k i h) (λ k. group_errors-outline k i h) l (changed_layout l c) e))
