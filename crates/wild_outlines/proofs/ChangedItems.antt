@@ -207,10 +207,11 @@ outline_group-changed l c s p n =
     ap (λ (fs : List File). record p.group { files = fs }) (map-with_item outline_file (changed_file c) c.file p.group.files p.file p.in_group (outline_file-changed l c s p n))
 
 -- a change that keeps the section's length leaves the outline
+pub outline-found : (l : Layout) (c : Change) (s : InputSection) → FoundSection l c s → length c.bytes ≡ length s.bytes → outline (changed_layout l c) ≡ outline l
+outline-found l c s p n = ap (λ (gs : List Group). record l { groups = gs }) (map-with_item outline_group (changed_group c) c.group l.groups p.group p.in_layout (outline_group-changed l c s p n))
+
 pub outline-changed : (l : Layout) (c : Change) (s : InputSection) → found_section l c ≡ Some s → length c.bytes ≡ length s.bytes → outline (changed_layout l c) ≡ outline l
-outline-changed l c s h n =
-    let p = FoundSection-from_found l c s h in
-    ap (λ (gs : List Group). record l { groups = gs }) (map-with_item outline_group (changed_group c) c.group l.groups p.group p.in_layout (outline_group-changed l c s p n))
+outline-changed l c s h n = outline-found l c s (FoundSection-from_found l c s h) n
 
 -- what follows from the outline alone is the same after such a change
 pub same_by_outline : {X : Type 0} (d : Layout → X) → ((l : Layout) → d (outline l) ≡ d l) → (l m : Layout) → outline m ≡ outline l → d m ≡ d l

@@ -198,7 +198,7 @@ errors-changed l c g at none clauses shares groups =
 -- all faults of the changed layout
 pub errors-refused : (l : Layout) (c : Change) (s : InputSection) (k : Changed l c s) → errors l ≡ [] → ((i : ℕ) (h : Group) → group_errors (changed_layout l c) i h ≡ group_errors l i h)
     → errors (changed_layout l c)
-    ≡ clause_errors (changed_clause (changed_layout l c) c.group (changed_group c k.found.group) (changed_file c k.found.file) (changed_section c s))
+    ≡ clause_errors (changed_clause (changed_layout l c) c.group (changed_file c k.found.file) (changed_section c s))
     ++ changed_shares (changed_layout l c) c.group (changed_group c k.found.group)
     ++ group_errors (changed_layout l c) c.group (changed_group c k.found.group)
 unfolding errors

@@ -1,5 +1,5 @@
 -- The clauses that read the relocations of a section, after a change that keeps its length: the first test that fails.
-use Rattle.std.proofs.Common.{◌≡◌, ℕ, ◌+◌, ◌-◌, ◌^◌, Bool, true, false, List, [], ◌∷◌, length, Option, Some, None, Result, Ok, Err, refl, sym, ap, ◌∙◌, arith, inl, inr}
+use Rattle.std.proofs.Common.{◌≡◌, ℕ, ◌+◌, ◌-◌, ◌^◌, Bool, true, false, List, [], ◌∷◌, length, Option, Some, None, Result, Ok, Err, refl, sym, ap, ◌∙◌, arith, inl, inr, ◌*◌, ◌≤◌}
 use Rattle.std.specs.Prelude.{◌==◌, ◌&&◌, ◌||◌, not, nat_lt, nat_le, slice_get, is_none}
 use Rattle.std.specs.List.{list_all, list_any}
 use Rattle.std.proofs.lemmas.Bool.{and_parts, and_from, or_left, or_right, cases_Bool, eqb-true}
@@ -7,6 +7,7 @@ use Rattle.wild_types.specs.declared.fault.Clause.{Clause}
 use Rattle.wild_types.specs.declared.input.InputRelocation.{InputRelocation}
 use Rattle.wild_types.specs.declared.input.InputSection.{InputSection}
 use Rattle.wild_types.specs.declared.file.File.{File}
+use Rattle.wild_types.specs.declared.file.Group.{Group}
 use Rattle.wild_types.specs.declared.part.Role.{Role}
 use Rattle.wild_types.specs.declared.part.Role.TheVariants as role
 use Rattle.wild_types.specs.declared.layout.Layout.{Layout}
@@ -15,6 +16,7 @@ use Rattle.wild_types.specs.Lists.{first_failing, unless}
 use Rattle.wild_types.specs.Lookups.{files_of, is_rela, is_frame}
 use Rattle.wild_types.specs.Parts.{has_role}
 use Rattle.wild_types.specs.FileSymbols.{first_double_copy}
+use Rattle.wild_placement.specs.PlacedSections.{placed_section}
 use Rattle.wild_needs.specs.Needs.{name_bytes, group_share, total_share}
 use Rattle.wild_needs.specs.DynamicSymbols.{dynamic_symbols}
 use Rattle.wild_needs.specs.Versions.{need_count, versions_needed, versions_fit}
@@ -33,13 +35,13 @@ use Rattle.wild_plan_rules.proofs.ClauseLemmas.{None-from_fails, test_holds, fir
 use Rattle.wild_plan_rules.specs.VersionTables.{parent_is_there}
 use Rattle.wild_plan_rules.specs.ZeroFree.{input_name_fits}
 use Rattle.wild_clauses.specs.FileTests.{passes_all, relocation_passes, headers_are_there, section_passes}
-use Rattle.wild_outlines.specs.MayChange.{KeepsCounts, file_at}
-use Rattle.wild_outlines.specs.RefusalLaws.{place_unless, needs_no_part}
-use Rattle.wild_outlines.proofs.ChangedItems.{length-with_item, slice_get-with_item, sum_replaced, list_all-at, list_all-replaced, failing-replaced, total-at, all_pass, none_fails, FoundSection, FoundSection-from_found, outline-changed, same_by_outline, section_replaced}
+use Rattle.wild_outlines.specs.MayChange.{written_section, KeepsCounts, file_at}
+use Rattle.wild_outlines.specs.RefusalLaws.{place_unless, entry_room, needs_no_part}
+use Rattle.wild_outlines.proofs.ChangedItems.{length-with_item, slice_get-with_item, sum_replaced, list_all-at, list_all-replaced, failing-replaced, total-at, all_pass, none_fails, FoundSection, FoundSection-from_found, outline_file-changed, outline-found, outline-changed, same_by_outline, section_replaced}
 use Rattle.wild_outlines.proofs.ClausesTests.{failing-same, entry_is_there-outline, definition_is_own-outline}
 use Rattle.wild_outlines.proofs.ClausesGroups.{failing_sections-outline, symbol_misfit-outline, sorted_is_there-outline, first_double_copy-outline, range_out_of_order-outline, dynamic_symbols-outline, need_count-outline, versions_needed-outline}
-use Rattle.wild_outlines.proofs.SharesSections.{kept_counts}
-use Rattle.wild_outlines.proofs.SharesLemmas.{total_share-replaced, total_share-changed}
+use Rattle.wild_outlines.proofs.SharesSections.{counted_for, SameOutlines, placed_count, written_count, entry_size, entry_room_is, kept_room, none_written}
+use Rattle.wild_outlines.proofs.SharesLemmas.{group_replaced, total_share-replaced, total_share-changed}
 
 -- ---- tests of a list
 
@@ -177,8 +179,8 @@ counts_fit-changed l c s k f =
     let symbols = same_by_outline dynamic_symbols dynamic_symbols-outline l after k.same in
     let needs = same_by_outline need_count (λ l. need_count-outline l.groups) l after k.same in
     let versions = same_by_outline versions_needed (λ l. versions_needed-outline l.groups) l after k.same in
-    let dynstr = total_share-changed l c s k.found k.long k.same role.Dynstr (λ h. cc) in
-    let strtab = total_share-changed l c s k.found k.long k.same role.Strtab (λ h. cc) in
+    let dynstr = total_share-changed l c s k.found k.long k.same role.Dynstr (omega arith) in
+    let strtab = total_share-changed l c s k.found k.long k.same role.Strtab (omega arith) in
     rw (symbols, length-with_item (changed_group c) c.group l.groups, dynstr, strtab, needs, versions, f.lists, f.some_group, f.groups, f.names, f.dynstr, f.strtab, f.versions) (only_one (nat_lt (relocation_count (changed_layout l c)) (2 ^ 32 - 1)))
 
 pub check_counts-changed : (l : Layout) (c : Change) (s : InputSection) → Changed l c s → check_counts l ≡ Ok tt → check_counts (changed_layout l c) ≡ fails 2 (unless (nat_lt (relocation_count (changed_layout l c)) (2 ^ 32 - 1)))
@@ -199,42 +201,68 @@ failing-where p t u h i (x ∷ xs) a =
     let q = and_parts (p x) (list_all p xs) a in
     rw (h x q.0, failing-where p t u h (i + 1) xs q.1) refl
 
--- without a part of the role all groups need nothing of it, so that after the change all need what the changed group needs
-role_needed : (l : Layout) (c : Change) (s : InputSection) (k : Changed l c s) (r : Role) → role_has_needed_part l r ≡ true → role_has_needed_part (changed_layout l c) r ≡ needs_no_part (changed_layout l c) (changed_group c k.found.group) r
+-- the section as the changed file places it
+abbrev pub new_section : Layout → Change → InputSection → File → InputSection
+new_section l c s f = placed_section (changed_layout l c) (changed_file c f) 0 (changed_section c s)
+
+new_room : (l : Layout) (c : Change) (s : InputSection) (k : Changed l c s) (r : Role) → entry_room (changed_layout l c) r (new_section l c s k.found.file) ≡ entry_size r * counted_for r l (written_section l (changed_section c s))
+new_room l c s k r =
+    let o : SameOutlines l (changed_layout l c) k.found.file (changed_file c k.found.file) = record { layout = k.same; file = outline_file-changed l c s k.found k.long } in
+    entry_room_is r (changed_layout l c) (new_section l c s k.found.file)
+    ∙ ap (λ n. entry_size r * n) (placed_count r l (changed_layout l c) k.found.file (changed_file c k.found.file) o 0 (changed_section c s) ∙ written_count r l k.found.file 0 (changed_section c s) k.found.changeable)
+
+-- the entries of the section need no more than its group: without relocations in the section the group would need that much less
+old_room : (l : Layout) (c : Change) (s : InputSection) → Changed l c s → (r : Role) (g : Group) → slice_get l.groups c.group ≡ Some g → entry_size r * counted_for r l (written_section l s) ≤ group_share l r g
+old_room l c s k r g at =
+    let p = k.found in
+    let without : Change = record c { relocations = [] } in
+    let found : FoundSection l without s = record { group = p.group; file = p.file; in_layout = p.in_layout; in_group = p.in_group; in_file = p.in_file; changeable = p.changeable } in
+    let same : outline (changed_layout l without) ≡ outline l = outline-found l without s found k.long in
+    let sum = group_replaced l without s found k.long same r in
+    let none = ap (λ n. entry_size r * n) (none_written r l (changed_section without s) refl) in
+    let group = ap (group_share l r) (same_group (sym p.in_layout ∙ at)) in
+    omega (arith, sum, none, group)
+  where
+    same_group : {a b : Group} → Some a ≡ Some b → a ≡ b
+    same_group e = cc
+
+-- without a part of the role no group needs anything of it, so that after the change all need what the new section needs
+role_needed : (l : Layout) (c : Change) (s : InputSection) (k : Changed l c s) (r : Role) → role_has_needed_part l r ≡ true → role_has_needed_part (changed_layout l c) r ≡ needs_no_part (changed_layout l c) (new_section l c s k.found.file) r
 role_needed l c s k r h = by (list_any (has_role r) l.parts) h
   where
-    sum : total_share (changed_layout l c) r + group_share l r k.found.group ≡ total_share l r + group_share (changed_layout l c) r (changed_group c k.found.group)
-    sum = total_share-replaced l c s k.found k.long k.same r
-
-    by : (b : Bool) → (b || total_share l r == 0) ≡ true → (b || total_share (changed_layout l c) r == 0) ≡ (b || group_share (changed_layout l c) r (changed_group c k.found.group) == 0)
-    by true h = refl
-    by false h =
-        let none : total_share l r ≡ 0 = eqb-true _ _ h in
+    all : total_share l r ≡ 0 → total_share (changed_layout l c) r ≡ entry_room (changed_layout l c) r (new_section l c s k.found.file)
+    all none =
+        let sum = total_share-replaced l c s k.found k.long k.same r in
         let low = total-at (group_share l r) c.group l.groups k.found.group k.found.in_layout in
-        let e = sum in
-        let all : total_share (changed_layout l c) r ≡ group_share (changed_layout l c) r (changed_group c k.found.group) = omega (arith, none, low, e) in
-        ap (λ n. n == 0) all
+        let group = group_replaced l c s k.found k.long k.same r in
+        let old = old_room l c s k r k.found.group k.found.in_layout in
+        let new = new_room l c s k r in
+        omega (arith, none, sum, low, group, old, new)
+
+    by : (b : Bool) → (b || total_share l r == 0) ≡ true → (b || total_share (changed_layout l c) r == 0) ≡ (b || entry_room (changed_layout l c) r (new_section l c s k.found.file) == 0)
+    by true h = refl
+    by false h = ap (λ n. n == 0) (all (eqb-true _ _ h))
 
 roles_pass : (l : Layout) → check_roles l ≡ Ok tt → list_all (role_has_needed_part l) roles ≡ true
 unfolding check_roles chain
 roles_pass l h = all_pass (role_has_needed_part l) 0 roles (None-from_fails 4 (first_failing (role_has_needed_part l) 0 roles) (chain-first (roles_before l) (fails 4 (first_failing (role_has_needed_part l) 0 roles)) (fails 4 (unexpected_dynamic l)) h))
 
-pub check_roles-changed : (l : Layout) (c : Change) (s : InputSection) (k : Changed l c s) → check_roles l ≡ Ok tt → check_roles (changed_layout l c) ≡ fails 4 (first_failing (needs_no_part (changed_layout l c) (changed_group c k.found.group)) 0 roles)
+pub check_roles-changed : (l : Layout) (c : Change) (s : InputSection) (k : Changed l c s) → check_roles l ≡ Ok tt → check_roles (changed_layout l c) ≡ fails 4 (first_failing (needs_no_part (changed_layout l c) (new_section l c s k.found.file)) 0 roles)
 unfolding check_roles chain
 check_roles-changed l c s k h =
     let after = changed_layout l c in
     chain-one (roles_before l) (fails 4 (first_failing (role_has_needed_part l) 0 roles)) (fails 4 (first_failing (role_has_needed_part after) 0 roles)) (fails 4 (unexpected_dynamic l)) h
-    ∙ ap (fails 4) (failing-where (role_has_needed_part l) (role_has_needed_part after) (needs_no_part after (changed_group c k.found.group)) (role_needed l c s k) 0 roles (roles_pass l h))
+    ∙ ap (fails 4) (failing-where (role_has_needed_part l) (role_has_needed_part after) (needs_no_part after (new_section l c s k.found.file)) (role_needed l c s k) 0 roles (roles_pass l h))
 
 -- where the changed group needs as much as before, no part is missing
-pub roles_changed : (l : Layout) (c : Change) (s : InputSection) (k : Changed l c s) → KeepsCounts l s (changed_section c s) → check_roles l ≡ Ok tt → first_failing (needs_no_part (changed_layout l c) (changed_group c k.found.group)) 0 roles ≡ None
+pub roles_changed : (l : Layout) (c : Change) (s : InputSection) (k : Changed l c s) → KeepsCounts l s (changed_section c s) → check_roles l ≡ Ok tt → first_failing (needs_no_part (changed_layout l c) (new_section l c s k.found.file)) 0 roles ≡ None
 roles_changed l c s k counts h =
-    none_fails (needs_no_part (changed_layout l c) (changed_group c k.found.group)) 0 roles (list_all-weaker (role_has_needed_part l) (needs_no_part (changed_layout l c) (changed_group c k.found.group)) needed roles (roles_pass l h))
+    none_fails (needs_no_part (changed_layout l c) (new_section l c s k.found.file)) 0 roles (list_all-weaker (role_has_needed_part l) (needs_no_part (changed_layout l c) (new_section l c s k.found.file)) needed roles (roles_pass l h))
   where
     same : (r : Role) → total_share (changed_layout l c) r ≡ total_share l r
-    same r = total_share-changed l c s k.found k.long k.same r (λ h. kept_counts r l c s counts)
+    same r = total_share-changed l c s k.found k.long k.same r (kept_room r l s (changed_section c s) counts)
 
-    needed : (r : Role) → role_has_needed_part l r ≡ true → needs_no_part (changed_layout l c) (changed_group c k.found.group) r ≡ true
+    needed : (r : Role) → role_has_needed_part l r ≡ true → needs_no_part (changed_layout l c) (new_section l c s k.found.file) r ≡ true
     needed r p = sym (role_needed l c s k r p) ∙ (ap (λ n. list_any (has_role r) l.parts || n == 0) (same r) ∙ p)
 
 -- ---- clause 9

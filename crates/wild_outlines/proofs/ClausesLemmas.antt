@@ -6,7 +6,7 @@ use Rattle.wild_types.specs.declared.fault.Clause.{Clause}
 use Rattle.wild_types.specs.declared.input.InputSection.{InputSection}
 use Rattle.wild_types.specs.declared.layout.Layout.{Layout}
 use Rattle.wild_change.specs.declared.change.Change.{Change}
-use Rattle.wild_change.specs.Change.{changed_section, changed_file, changed_group, changed_layout}
+use Rattle.wild_change.specs.Change.{changed_section, changed_file, changed_layout}
 use Rattle.wild_change.specs.Outline.{outline}
 use Rattle.wild_plan_rules.specs.ClauseTests.{fails, first_error, check_sizes, check_counts, check_order, check_roles, check_sections, check_segments, check_shares, check_inputs, check_indexes, check_fields, check_slots, check_thunks, check_dynsyms, check_slot_flags, check_tls, check_starts, check_hashes, check_versions, check_names, check_reversed, check_partial, check_fronts}
 use Rattle.wild_plan_rules.specs.Contents.{fields_lie, relocations_are_read}
@@ -51,7 +51,7 @@ kept d h l m e p = same_by_outline d h l m e ∙ p
 
 -- the first clause that fails after a change
 pub first_clause-changed : (l : Layout) (c : Change) (s : InputSection) (k : Changed l c s) → first_clause l ≡ Ok tt
-    → first_clause (changed_layout l c) ≡ changed_clause (changed_layout l c) c.group (changed_group c k.found.group) (changed_file c k.found.file) (changed_section c s)
+    → first_clause (changed_layout l c) ≡ changed_clause (changed_layout l c) c.group (changed_file c k.found.file) (changed_section c s)
 unfolding first_clause changed_clause
 first_clause-changed l c s k =
     let after = changed_layout l c in
@@ -102,7 +102,7 @@ few_relocations l c s m p =
 
 -- the tests of its section pass
 nothing_fails : (l : Layout) (c : Change) (s : InputSection) → MayChange l c s → (k : Changed l c s) → first_clause l ≡ Ok tt
-    → changed_clause (changed_layout l c) c.group (changed_group c k.found.group) (changed_file c k.found.file) (changed_section c s) ≡ Ok tt
+    → changed_clause (changed_layout l c) c.group (changed_file c k.found.file) (changed_section c s) ≡ Ok tt
 unfolding changed_clause
 nothing_fails l c s m k h =
     let tests = SectionTests-from_passes l (changed_section c s) m.passes in

@@ -1,8 +1,7 @@
 -- What groups need of the parts, after a change that keeps the numbers of dynamic relocations.
-use Rattle.std.proofs.Common.{◌≡◌, true, ℕ, zero, suc, ◌+◌, ◌*◌, ◌-◌, ◌^◌, false, List, [], ◌∷◌, ◌++◌, map, length, min, Option, Some, None, refl, sym, ap, subst, ◌∙◌, arith}
+use Rattle.std.proofs.Common.{◌≡◌, ℕ, zero, suc, ◌+◌, ◌*◌, ◌-◌, ◌^◌, false, List, [], ◌∷◌, ◌++◌, map, length, min, Option, Some, None, refl, sym, ap, subst, ◌∙◌, arith}
 use Rattle.std.specs.Prelude.{◌&&◌, if◌then◌else◌, slice_get}
 use Rattle.std.specs.List.{flat_map}
-use Rattle.wild_records.specs.Relocations.{rela_size, relr_size}
 use Rattle.wild_types.specs.declared.input.InputSection.{InputSection}
 use Rattle.wild_types.specs.declared.file.File.{File}
 use Rattle.wild_types.specs.declared.file.Group.{Group}
@@ -27,15 +26,14 @@ use Rattle.wild_change.specs.declared.change.Change.{Change}
 use Rattle.wild_change.specs.Change.{found_section, with_item, changed_section, changed_file, changed_group, changed_layout}
 use Rattle.wild_change.specs.Outline.{outline_file, outline_group, outline}
 use Rattle.wild_layout.specs.Faults.{flat_map_from, share_errors, has_spare, part_errors}
-use Rattle.wild_outlines.specs.MayChange.{KeepsCounts}
-use Rattle.wild_outlines.specs.RefusalLaws.{has_counted_entries}
+use Rattle.wild_outlines.specs.MayChange.{written_section, KeepsCounts}
 use Rattle.wild_outlines.specs.ShareLaws.{KeepsShares}
 use Rattle.wild_outlines.proofs.ListLemmas.{flat_map-same, total-same}
 use Rattle.wild_outlines.proofs.ChangedItems.{total-with_item, FoundSection, FoundSection-from_found, outline-changed, outline_file-changed, outline_group-changed, same_by_outline}
 use Rattle.wild_outlines.proofs.ClausesGroups.{sections_of_inputs, list_any-mapped, sorted_inputs-outline}
 use Rattle.wild_outlines.proofs.SharesFrames.{file_frames-outline, same_by_outlines}
 use Rattle.wild_outlines.proofs.SharesTables.{file_table_bytes-outline, slot_share-outline, first_share-outline, relr_got_share-outline}
-use Rattle.wild_outlines.proofs.SharesSections.{words_of-outline, counted_for, same_count, SameOutlines, sections_count, SameCount, kept_counts, sections_changed}
+use Rattle.wild_outlines.proofs.SharesSections.{words_of-outline, counted_for, same_count, SameOutlines, sections_count, sections_changed, entry_size, kept_room}
 
 -- ---- sorted sections
 
@@ -51,14 +49,10 @@ sorted_words-outline l = ap (flat_map (words_of (outline l))) (sorted_sections-o
 
 -- ---- one file
 
--- the sections of two files have as many entries in the part of a role
-abbrev pub SameNumber : Role → Layout → Layout → File → File → Type 0
-SameNumber r l m f g = (a : ℕ) → total (counted_for r m) (placed_sections m g a g.sections) ≡ total (counted_for r l) (placed_sections l f a f.sections)
-
--- two files with the same outline, which have as many entries in the part of the role if that counts
-pub record SameFile (r : Role) (l m : Layout) (f g : File) : Type 0 where
+-- two files with the same outline, where the second has `new` entries in the part of a role for `old` ones of the first
+pub record SameFile (r : Role) (old new : ℕ) (l m : Layout) (f g : File) : Type 0 where
   pub outlines : SameOutlines l m f g
-  pub counts : has_counted_entries r ≡ true → SameNumber r l m f g
+  pub counts : (a : ℕ) → total (counted_for r m) (placed_sections m g a g.sections) + old ≡ total (counted_for r l) (placed_sections l f a f.sections) + new
 
 module _ (l m : Layout) (f g : File) (o : SameOutlines l m f g) where
   pub same_frames : file_frames m g ≡ file_frames l f
@@ -70,23 +64,8 @@ module _ (l m : Layout) (f g : File) (o : SameOutlines l m f g) where
       ∙ (ap (λ ss. total (counted_for r m) (if is_epilogue f.role then ss else [])) (same_by_outline sorted_sections sorted_sections-outline l m o.layout)
       ∙ total-same (counted_for r m) (counted_for r l) (if is_epilogue f.role then sorted_sections l else []) (same_count r l m o.layout))
 
-  processed_count : (r : Role) → SameNumber r l m f g → (a : ℕ) → total (counted_for r m) (processed_sections m (placed_file m a g)) ≡ total (counted_for r l) (processed_sections l (placed_file l a f))
-  processed_count r counts a =
-      let own = counts a in
-      let last = last_sections r a in
-      let here = total-append (counted_for r m) (placed_sections m g a g.sections) (of_last_file (placed_file m a g) (sorted_sections m)) in
-      let there = total-append (counted_for r l) (placed_sections l f a f.sections) (of_last_file (placed_file l a f) (sorted_sections l)) in
-      omega (arith, own, last, here, there)
-
   same_copies : length (copies_of g) ≡ length (copies_of f)
   same_copies = ap (λ (h : File). length (copies_of h)) o.file
-
-  same_general : SameNumber role.RelaDynGeneral l m f g → (a : ℕ) → general_count m (placed_file m a g) ≡ general_count l (placed_file l a f)
-  unfolding general_count
-  same_general counts a =
-      let copies = same_copies in
-      let fields = processed_count role.RelaDynGeneral counts a in
-      omega (arith, copies, fields)
 
   same_terminator : (if m.options.terminator then bytes_if_last g.role 4 else 0) ≡ (if l.options.terminator then bytes_if_last f.role 4 else 0)
   same_terminator =
@@ -105,13 +84,6 @@ module _ (l m : Layout) (f g : File) (o : SameOutlines l m f g) where
       own_stands m a r g h
       ∙ (same_by_outlines (λ n k. file_table_bytes n r k) (λ n k. file_table_bytes-outline n r k h) l m f g o.layout o.file ∙ sym (own_stands l a r f h))
 
-  same_tables : (r : Role) (a : ℕ) → (has_counted_entries r ≡ true → SameNumber r l m f g) → file_table_bytes m r (placed_file m a g) ≡ file_table_bytes l r (placed_file l a f)
-  same_tables role.RelaDynRelative a counts = ap (λ n. rela_size * n) (processed_count role.RelaDynRelative (counts refl) a)
-  same_tables role.RelaDynGeneral a counts = ap (λ n. rela_size * n) (same_general (counts refl) a)
-  same_tables role.RelrDyn a counts = ap (λ n. relr_size * n) (counts refl a)
-  same_tables role.EhFrame a counts = same_room a
-  same_tables other a counts = same_others other a refl
-
   same_first : (r : Role) → (if is_prelude g.role then first_share m r else 0) ≡ (if is_prelude f.role then first_share l r else 0)
   same_first r =
       ap (λ (h : File). if is_prelude h.role then first_share m r else 0) o.file
@@ -122,46 +94,70 @@ module _ (l m : Layout) (f g : File) (o : SameOutlines l m f g) where
       slots_are_placed m a r g
       ∙ (same_by_outlines (λ n k. slot_share n r k) (λ n k. slot_share-outline n r k) l m f g o.layout o.file ∙ sym (slots_are_placed l a r f))
 
-  pub same_share : (r : Role) (a : ℕ) → (has_counted_entries r ≡ true → SameNumber r l m f g) → share m r (placed_file m a g) ≡ share l r (placed_file l a f)
-  same_share r a counts =
-      let first = same_first r in
-      let tables = same_tables r a counts in
-      let slots = same_slots r a in
+module _ (old new : ℕ) (l m : Layout) (f g : File) where
+  processed_count : (r : Role) → SameFile r old new l m f g → (a : ℕ) → total (counted_for r m) (processed_sections m (placed_file m a g)) + old ≡ total (counted_for r l) (processed_sections l (placed_file l a f)) + new
+  processed_count r k a =
+      let own = k.counts a in
+      let last = last_sections l m f g k.outlines r a in
+      let here = total-append (counted_for r m) (placed_sections m g a g.sections) (of_last_file (placed_file m a g) (sorted_sections m)) in
+      let there = total-append (counted_for r l) (placed_sections l f a f.sections) (of_last_file (placed_file l a f) (sorted_sections l)) in
+      omega (arith, own, last, here, there)
+
+  same_general : SameFile role.RelaDynGeneral old new l m f g → (a : ℕ) → general_count m (placed_file m a g) + old ≡ general_count l (placed_file l a f) + new
+  unfolding general_count
+  same_general k a =
+      let copies = same_copies l m f g k.outlines in
+      let fields = processed_count role.RelaDynGeneral k a in
+      omega (arith, copies, fields)
+
+  same_tables : (r : Role) → SameFile r old new l m f g → (a : ℕ) → file_table_bytes m r (placed_file m a g) + entry_size r * old ≡ file_table_bytes l r (placed_file l a f) + entry_size r * new
+  same_tables role.RelaDynRelative k a = let n = processed_count role.RelaDynRelative k a in omega (arith, n)
+  same_tables role.RelaDynGeneral k a = let n = same_general k a in omega (arith, n)
+  same_tables role.RelrDyn k a = let n = k.counts a in omega (arith, n)
+  same_tables role.EhFrame k a = let n = same_room l m f g k.outlines a in omega (arith, n)
+  same_tables other k a = let n = same_others l m f g k.outlines other a refl in omega (arith, n)
+
+  pub same_share : (r : Role) → SameFile r old new l m f g → (a : ℕ) → share m r (placed_file m a g) + entry_size r * old ≡ share l r (placed_file l a f) + entry_size r * new
+  same_share r k a =
+      let first = same_first l m f g k.outlines r in
+      let tables = same_tables r k a in
+      let slots = same_slots l m f g k.outlines r a in
       omega (arith, first, tables, slots)
 
 -- ---- the files of a group
 
 -- a file in two layouts with the same outline
-pub SameFile-itself : (r : Role) (l m : Layout) (f : File) → outline m ≡ outline l → SameFile r l m f f
-SameFile-itself r l m f e = record { outlines = record { layout = e; file = refl }; counts = λ h a. sections_count r l m f f (record { layout = e; file = refl }) a f.sections }
+SameFile-itself : (r : Role) (l m : Layout) (f : File) → outline m ≡ outline l → SameFile r 0 0 l m f f
+SameFile-itself r l m f e = record { outlines = record { layout = e; file = refl }; counts = λ a. ap (λ n. n + 0) (sections_count r l m f f (record { layout = e; file = refl }) a f.sections) }
+
+share_itself : (r : Role) (l m : Layout) (f : File) → outline m ≡ outline l → (a : ℕ) → share m r (placed_file m a f) ≡ share l r (placed_file l a f)
+share_itself r l m f e a = let n = same_share 0 0 l m f f r (SameFile-itself r l m f e) a in omega (arith, n)
 
 files_same : (r : Role) (l m : Layout) → outline m ≡ outline l → (a : ℕ) (fs : List File) → total (share m r) (placed_from m a fs) ≡ total (share l r) (placed_from l a fs)
 files_same r l m e a [] = refl
 files_same r l m e a (f ∷ fs) =
-    let k = SameFile-itself r l m f e in
-    let here = same_share l m f f k.outlines r a k.counts in
+    let here = share_itself r l m f e a in
     let rest = files_same r l m e (behind a (file_frames l f)) fs in
-    let move = ap (λ n. total (share m r) (placed_from m (behind a n) fs)) (same_frames l m f f k.outlines) in
+    let move = ap (λ n. total (share m r) (placed_from m (behind a n) fs)) (same_frames l m f f (record { layout = e; file = refl })) in
     omega (arith, here, rest, move)
 
--- one file replaced by one with the same outline and as many dynamic relocations
-files_replaced : (r : Role) (l m : Layout) (v : File → File) → outline m ≡ outline l → (i : ℕ) (fs : List File) (x : File) → slice_get fs i ≡ Some x → SameFile r l m x (v x)
-    → (a : ℕ) → total (share m r) (placed_from m a (with_item v i fs)) ≡ total (share l r) (placed_from l a fs)
-files_replaced r l m v e i [] x at k a = cc
-files_replaced r l m v e zero (f ∷ fs) x at k a =
-    let j : SameFile r l m f (v f) = subst (λ (y : File). SameFile r l m y (v y)) (sym (same f x at)) k in
-    let here = same_share l m f (v f) j.outlines r a j.counts in
+-- one file replaced by one with the same outline
+files_replaced : (r : Role) (old new : ℕ) (l m : Layout) (v : File → File) → outline m ≡ outline l → (i : ℕ) (fs : List File) (x : File) → slice_get fs i ≡ Some x → SameFile r old new l m x (v x)
+    → (a : ℕ) → total (share m r) (placed_from m a (with_item v i fs)) + entry_size r * old ≡ total (share l r) (placed_from l a fs) + entry_size r * new
+files_replaced r old new l m v e i [] x at k a = cc
+files_replaced r old new l m v e zero (f ∷ fs) x at k a =
+    let j : SameFile r old new l m f (v f) = subst (λ (y : File). SameFile r old new l m y (v y)) (sym (same f x at)) k in
+    let here = same_share old new l m f (v f) r j a in
     let rest = files_same r l m e (behind a (file_frames l f)) fs in
     let move = ap (λ n. total (share m r) (placed_from m (behind a n) fs)) (same_frames l m f (v f) j.outlines) in
     omega (arith, here, rest, move)
   where
     same : (y x : File) → Some y ≡ Some x → y ≡ x
     same y x h = cc
-files_replaced r l m v e (suc i) (f ∷ fs) x at k a =
-    let j = SameFile-itself r l m f e in
-    let here = same_share l m f f j.outlines r a j.counts in
-    let rest = files_replaced r l m v e i fs x at k (behind a (file_frames l f)) in
-    let move = ap (λ n. total (share m r) (placed_from m (behind a n) (with_item v i fs))) (same_frames l m f f j.outlines) in
+files_replaced r old new l m v e (suc i) (f ∷ fs) x at k a =
+    let here = share_itself r l m f e a in
+    let rest = files_replaced r old new l m v e i fs x at k (behind a (file_frames l f)) in
+    let move = ap (λ n. total (share m r) (placed_from m (behind a n) (with_item v i fs))) (same_frames l m f f (record { layout = e; file = refl })) in
     omega (arith, here, rest, move)
 
 -- ---- groups
@@ -190,19 +186,19 @@ group_same r l m g e =
     omega (arith, at, files, block, last)
 
 module _ (l : Layout) (c : Change) (s : InputSection) (p : FoundSection l c s) (n : length c.bytes ≡ length s.bytes) (e : outline (changed_layout l c) ≡ outline l) where
-  file_changed : (r : Role) → (has_counted_entries r ≡ true → SameCount r l c s) → SameFile r l (changed_layout l c) p.file (changed_file c p.file)
-  file_changed r k =
+  file_changed : (r : Role) → SameFile r (counted_for r l (written_section l s)) (counted_for r l (written_section l (changed_section c s))) l (changed_layout l c) p.file (changed_file c p.file)
+  file_changed r =
       let o : SameOutlines l (changed_layout l c) p.file (changed_file c p.file) = record { layout = e; file = outline_file-changed l c s p n } in
-      record { outlines = o; counts = λ h a. sections_changed r l (changed_layout l c) p.file (changed_file c p.file) c o c.section p.file.sections s p.in_file p.changeable (k h) a }
+      record { outlines = o; counts = sections_changed r l (changed_layout l c) p.file (changed_file c p.file) c o c.section p.file.sections s p.in_file p.changeable }
 
-  -- the changed group needs as much as before of the part of a role, if that does not depend on dynamic relocations or their number is as before
-  pub group_changed : (r : Role) → (has_counted_entries r ≡ true → SameCount r l c s) → group_share (changed_layout l c) r (changed_group c p.group) ≡ group_share l r p.group
+  -- what the changed group needs of the part of a role, less the entries of the old section, plus those of the new one
+  pub group_replaced : (r : Role) → group_share (changed_layout l c) r (changed_group c p.group) + entry_size r * counted_for r l (written_section l s) ≡ group_share l r p.group + entry_size r * counted_for r l (written_section l (changed_section c s))
   unfolding placed_files
-  group_changed r k =
+  group_replaced r =
       let m = changed_layout l c in
       let g = p.group in
       let o = outline_group-changed l c s p n in
-      let files = files_replaced r l m (changed_file c) e c.file g.files p.file p.in_group (file_changed r k) (frames_at l g) in
+      let files = files_replaced r (counted_for r l (written_section l s)) (counted_for r l (written_section l (changed_section c s))) l m (changed_file c) e c.file g.files p.file p.in_group (file_changed r) (frames_at l g) in
       let block = same_by_groups (λ n k. relr_got_share n r k) (λ n k. relr_got_share-outline n r k) l m g (changed_group c g) e o in
       let last = same_by_groups (λ n k. last_share n r k) (λ n k. last_share-outline n r k) l m g (changed_group c g) e o in
       omega (arith, files, block, last)
@@ -216,7 +212,11 @@ module _ (l : Layout) (c : Change) (s : InputSection) (p : FoundSection l c s) (
       let old = group_same r l m p.group e in
       omega (arith, groups, same, old)
 
-  pub total_share-changed : (r : Role) → (has_counted_entries r ≡ true → SameCount r l c s) → total_share (changed_layout l c) r ≡ total_share l r
+  -- where the entries need as much as before
+  pub group_changed : (r : Role) → entry_size r * counted_for r l (written_section l (changed_section c s)) ≡ entry_size r * counted_for r l (written_section l s) → group_share (changed_layout l c) r (changed_group c p.group) ≡ group_share l r p.group
+  group_changed r k = let sum = group_replaced r in omega (arith, sum, k)
+
+  pub total_share-changed : (r : Role) → entry_size r * counted_for r l (written_section l (changed_section c s)) ≡ entry_size r * counted_for r l (written_section l s) → total_share (changed_layout l c) r ≡ total_share l r
   total_share-changed r k =
       let sum = total_share-replaced r in
       let new = group_changed r k in
@@ -226,7 +226,7 @@ module _ (l : Layout) (c : Change) (s : InputSection) (p : FoundSection l c s) (
   needs_of-same role.Raw part g = refl
   needs_of-same other part g = ap (λ n. min (2 ^ 64 - 1) n) (group_same other l (changed_layout l c) g e)
 
-  pub needs_of-changed : (r : Role) (part : ℕ) → (has_counted_entries r ≡ true → SameCount r l c s) → needs_of (changed_layout l c) r part (changed_group c p.group) ≡ needs_of l r part p.group
+  pub needs_of-changed : (r : Role) (part : ℕ) → entry_size r * counted_for r l (written_section l (changed_section c s)) ≡ entry_size r * counted_for r l (written_section l s) → needs_of (changed_layout l c) r part (changed_group c p.group) ≡ needs_of l r part p.group
   needs_of-changed role.Raw part k = refl
   needs_of-changed other part k = ap (λ n. min (2 ^ 64 - 1) n) (group_changed other k)
 
@@ -238,7 +238,7 @@ module _ (l : Layout) (c : Change) (s : InputSection) (p : FoundSection l c s) (
   -- what a group of the layout needs, by its place
   needs_at : (q : Part) (part i : ℕ) (gs : List Group) (x : Group) → slice_get gs i ≡ Some x → x ≡ p.group → (j : ℕ) → needs_by (changed_layout l c) part (Some q) (slice_get (with_item (changed_group c) i gs) j) ≡ needs_by l part (Some q) (slice_get gs j)
   needs_at q part i [] x at is j = refl
-  needs_at q part zero (g ∷ gs) x at is zero = ap (λ (y : Group). needs_of (changed_layout l c) q.role part (changed_group c y)) (same at ∙ is) ∙ (needs_of-changed l c s p n e q.role part (λ h. kept_counts q.role l c s k) ∙ ap (needs_of l q.role part) (sym (same at ∙ is)))
+  needs_at q part zero (g ∷ gs) x at is zero = ap (λ (y : Group). needs_of (changed_layout l c) q.role part (changed_group c y)) (same at ∙ is) ∙ (needs_of-changed l c s p n e q.role part (kept_room q.role l s (changed_section c s) k) ∙ ap (needs_of l q.role part) (sym (same at ∙ is)))
     where
       same : {x y : Group} → Some x ≡ Some y → x ≡ y
       same e = cc
@@ -283,4 +283,4 @@ pub shares_kept : (l : Layout) (c : Change) (s : InputSection) → found_section
 shares_kept l c s found n k =
     let p = FoundSection-from_found l c s found in
     let e = outline-changed l c s found n in
-    record { needs = needs-changed l c s p n e k; total = λ r. total_share-changed l c s p n e r (λ h. kept_counts r l c s k); errors = part_errors-changed l c s p n e k }
+    record { needs = needs-changed l c s p n e k; total = λ r. total_share-changed l c s p n e r (kept_room r l s (changed_section c s) k); errors = part_errors-changed l c s p n e k }

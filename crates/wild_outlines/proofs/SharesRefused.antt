@@ -1,21 +1,25 @@
 -- The faults of shares after a change that keeps the length of its section: only the changed group can have some.
-use Rattle.std.proofs.Common.{◌≡◌, ℕ, ◌+◌, false, List, [], Some, sym, ap, subst, ◌∙◌, arith, inl, inr}
+use Rattle.std.proofs.Common.{◌≡◌, ℕ, ◌+◌, false, List, [], Some, sym, ap, subst, ◌∙◌, arith, inl, inr, ◌*◌}
 use Rattle.std.specs.Prelude.{slice_get}
 use Rattle.std.proofs.lemmas.Bool.{cases_Bool}
 use Rattle.wild_types.specs.declared.fault.Error.{Error}
 use Rattle.wild_types.specs.declared.input.InputSection.{InputSection}
 use Rattle.wild_types.specs.declared.file.Group.{Group}
 use Rattle.wild_types.specs.declared.part.Part.{Part}
+use Rattle.wild_types.specs.declared.part.Role.{Role}
+use Rattle.wild_types.specs.declared.part.Role.TheVariants as role
 use Rattle.wild_types.specs.declared.layout.Layout.{Layout}
 use Rattle.wild_types.specs.FilePlaces.{given}
 use Rattle.wild_needs.specs.Needs.{needs_of, needs_by, needs}
 use Rattle.wild_change.specs.declared.change.Change.{Change}
-use Rattle.wild_change.specs.Change.{changed_group, changed_layout}
+use Rattle.wild_change.specs.Change.{changed_group, changed_layout, changed_section}
 use Rattle.wild_layout.specs.Faults.{flat_map_from, share_errors, has_spare, part_errors}
 use Rattle.wild_outlines.specs.RefusalLaws.{has_counted_entries, changed_share, changed_shares}
 use Rattle.wild_outlines.proofs.ChangedItems.{slice_get-with_item}
 use Rattle.wild_outlines.proofs.ChangedPieces.{Middle-from_item, middle_alone, none_from, flat_map_from-at}
 use Rattle.wild_outlines.proofs.ClausesChanged.{Changed}
+use Rattle.wild_outlines.specs.MayChange.{written_section}
+use Rattle.wild_outlines.proofs.SharesSections.{counted_for, entry_size}
 use Rattle.wild_outlines.proofs.SharesLemmas.{needs_of-same, needs_of-changed, has_spare-changed}
 
 -- the fault of the share that a group has of a part
@@ -34,6 +38,13 @@ part_errors_are l i p part =
     from_zero : (j k : ℕ) → j ≡ 0 + k → k ≡ j
     from_zero j k e = omega (arith, e)
 
+-- an entry of other parts has no size
+no_entries : (r : Role) (a b : ℕ) → has_counted_entries r ≡ false → entry_size r * a ≡ entry_size r * b
+no_entries role.RelaDynRelative a b h = cc
+no_entries role.RelaDynGeneral a b h = cc
+no_entries role.RelrDyn a b h = cc
+no_entries other a b h = omega arith
+
 module _ (l : Layout) (c : Change) (s : InputSection) (k : Changed l c s) where
   -- a part without a fault has that of the changed group, if any
   part_faults : (i : ℕ) (q : Part) → slice_get l.parts i ≡ Some q → part_errors l i q ≡ []
@@ -47,7 +58,7 @@ module _ (l : Layout) (c : Change) (s : InputSection) (k : Changed l c s) where
   other_share : (i : ℕ) (q : Part) → has_counted_entries q.role ≡ false → share_fault (changed_layout l c) i q c.group (changed_group c k.found.group) ≡ share_fault l i q c.group k.found.group
   other_share i q h =
       let spare = has_spare-changed l c s k.found k.long k.same q in
-      let needed = needs_of-changed l c s k.found k.long k.same q.role i (λ t. cc) in
+      let needed = needs_of-changed l c s k.found k.long k.same q.role i (no_entries q.role (counted_for q.role l (written_section l (changed_section c s))) (counted_for q.role l (written_section l s)) h) in
       ap (λ b. share_errors b i c.group (given i k.found.group) (needs_of (changed_layout l c) q.role i (changed_group c k.found.group))) spare
       ∙ ap (share_errors (has_spare q k.found.group) i c.group (given i k.found.group)) needed
 

@@ -1,7 +1,7 @@
 -- The numbers of dynamic relocations of a file's sections, after a change that keeps those of the changed section.
-use Rattle.std.proofs.Common.{◌≡◌, ℕ, zero, suc, Bool, true, false, List, [], ◌∷◌, length, Option, Some, None, refl, sym, ap, subst, ◌∙◌, arith, inl, inr}
+use Rattle.std.proofs.Common.{◌≡◌, ℕ, zero, suc, Bool, true, false, List, [], ◌∷◌, length, Option, Some, None, refl, sym, ap, ◌∙◌, arith, inl, inr, ◌+◌, ◌*◌}
 use Rattle.std.specs.Prelude.{not, if◌then◌else◌, option_to_list, slice_get}
-use Rattle.std.specs.List.{filter}
+use Rattle.std.specs.List.{filter, flat_map}
 use Rattle.std.proofs.lemmas.Bool.{cases_Bool, and_left, and_right}
 use Rattle.wild_relr.specs.RunWords.{packed}
 use Rattle.wild_reloc.specs.declared.expression.Class.{Class}
@@ -30,7 +30,9 @@ use Rattle.wild_needs.proofs.EntryLemmas.{packed_none}
 use Rattle.wild_change.specs.declared.change.Change.{Change}
 use Rattle.wild_change.specs.Change.{is_changeable, with_item, changed_section}
 use Rattle.wild_change.specs.Outline.{outline_file, outline}
+use Rattle.wild_records.specs.Relocations.{rela_size, relr_size}
 use Rattle.wild_outlines.specs.MayChange.{written_section, KeepsCounts}
+use Rattle.wild_outlines.specs.RefusalLaws.{entry_room}
 use Rattle.wild_outlines.proofs.ListLemmas.{flat_map-same}
 use Rattle.wild_outlines.proofs.ChangedItems.{same_by_outline}
 use Rattle.wild_outlines.proofs.SharesFrames.{frames_of-outline, kept_size-outline, same_by_outlines}
@@ -152,29 +154,6 @@ written_slot s =
       | inr n ↦ rw n refl
     ]
 
--- a section and the one that replaces it have as many entries in the part of a role
-abbrev pub SameCount : Role → Layout → Change → InputSection → Type 0
-SameCount r l c s = counted_for r l (written_section l (changed_section c s)) ≡ counted_for r l (written_section l s)
-
-pub kept_counts : (r : Role) (l : Layout) (c : Change) (s : InputSection) → KeepsCounts l s (changed_section c s) → SameCount r l c s
-kept_counts role.RelaDynRelative l c s k = k.rela
-kept_counts role.RelrDyn l c s k = k.relr
-kept_counts other l c s k = k.dynamic
-
-changed_count : (r : Role) (l m : Layout) (f g : File) (c : Change) → outline m ≡ outline l → (a : ℕ) (s : InputSection) → is_changeable s.slot ≡ true → SameCount r l c s
-    → counted_for r m (placed_section m g a (changed_section c s)) ≡ counted_for r l (placed_section l f a s)
-unfolding placed_section
-changed_count r l m f g c e a s h k = by_slot s.slot refl h
-  where
-    none : (n : Layout) (t : InputSection) → slot.Debug ≡ t.slot → counted_for r n (with_word_order t) ≡ 0
-    none n t d = none_read r n (with_word_order t) (ap has_relocations (written_slot t ∙ sym d))
-
-    by_slot : (z : Slot) → z ≡ s.slot → is_changeable z ≡ true → counted_for r m (placed_by z m g a (changed_section c s)) ≡ counted_for r l (placed_by z l f a s)
-    by_slot slot.Loaded d h =
-        ap (λ t. counted_for r m (with_word_order t)) (same_unread l m e (changed_section c s)) ∙ (same_count r l m e (written_section l (changed_section c s)) ∙ k)
-    by_slot slot.Debug d h = none m (changed_section c s) d ∙ sym (none l s d)
-    by_slot other d h = cc
-
 -- a section that may be changed has as many where it is placed as where it is written
 pub written_count : (r : Role) (l : Layout) (f : File) (a : ℕ) (s : InputSection) → is_changeable s.slot ≡ true → counted_for r l (placed_section l f a s) ≡ counted_for r l (written_section l s)
 unfolding placed_section
@@ -202,22 +181,75 @@ kept_changed l f s h = by_slot s.slot h
     by_slot slot.Frame h = cc
     by_slot other h = refl
 
-pub sections_changed : (r : Role) (l m : Layout) (f g : File) (c : Change) → SameOutlines l m f g → (i : ℕ) (ss : List InputSection) (s : InputSection) → slice_get ss i ≡ Some s → is_changeable s.slot ≡ true → SameCount r l c s
-    → (a : ℕ) → total (counted_for r m) (placed_sections m g a (with_item (changed_section c) i ss)) ≡ total (counted_for r l) (placed_sections l f a ss)
-sections_changed r l m f g c e i [] s at h k a = cc
-sections_changed r l m f g c e zero (t ∷ ss) s at h k a =
+-- the number of a file's entries, less those of the old section, plus those of the new one
+pub sections_changed : (r : Role) (l m : Layout) (f g : File) (c : Change) → SameOutlines l m f g → (i : ℕ) (ss : List InputSection) (s : InputSection) → slice_get ss i ≡ Some s → is_changeable s.slot ≡ true
+    → (a : ℕ) → total (counted_for r m) (placed_sections m g a (with_item (changed_section c) i ss)) + counted_for r l (written_section l s) ≡ total (counted_for r l) (placed_sections l f a ss) + counted_for r l (written_section l (changed_section c s))
+sections_changed r l m f g c e i [] s at h a = cc
+sections_changed r l m f g c e zero (t ∷ ss) s at h a =
     let t_is : t ≡ s = same at in
     let changeable : is_changeable t.slot ≡ true = ap (λ (x : InputSection). is_changeable x.slot) t_is ∙ h in
-    let counts : SameCount r l c t = subst (λ (x : InputSection). SameCount r l c x) (sym t_is) k in
-    let here = changed_count r l m f g c e.layout a t changeable counts in
+    let new = placed_count r l m f g e a (changed_section c t) ∙ (written_count r l f a (changed_section c t) changeable ∙ ap (λ (x : InputSection). counted_for r l (written_section l (changed_section c x))) t_is) in
+    let old = written_count r l f a t changeable ∙ ap (λ (x : InputSection). counted_for r l (written_section l x)) t_is in
     let rest = sections_count r l m f g e (behind a (kept_size l f t)) ss in
     let move = ap (λ n. total (counted_for r m) (placed_sections m g (behind a n) ss)) (kept_changed m g (changed_section c t) changeable ∙ sym (kept_changed l f t changeable)) in
-    omega (arith, here, rest, move)
+    omega (arith, new, old, rest, move)
   where
     same : {x y : InputSection} → Some x ≡ Some y → x ≡ y
     same e = cc
-sections_changed r l m f g c e (suc i) (t ∷ ss) s at h k a =
+sections_changed r l m f g c e (suc i) (t ∷ ss) s at h a =
     let here = placed_count r l m f g e a t in
-    let rest = sections_changed r l m f g c e i ss s at h k (behind a (kept_size l f t)) in
+    let rest = sections_changed r l m f g c e i ss s at h (behind a (kept_size l f t)) in
     let move = ap (λ n. total (counted_for r m) (placed_sections m g (behind a n) (with_item (changed_section c) i ss))) (same_kept l m f g e t) in
     omega (arith, here, rest, move)
+
+-- ---- room for entries
+
+-- the size of an entry in the part of a role; 0 for the parts of other roles
+abbrev pub entry_size : Role → ℕ
+entry_size role.RelaDynRelative = rela_size
+entry_size role.RelaDynGeneral = rela_size
+entry_size role.RelrDyn = relr_size
+entry_size other = 0
+
+pub entry_room_is : (r : Role) (l : Layout) (s : InputSection) → entry_room l r s ≡ entry_size r * counted_for r l s
+entry_room_is role.RelaDynRelative l s = refl
+entry_room_is role.RelaDynGeneral l s = refl
+entry_room_is role.RelrDyn l s = refl
+entry_room_is other l s = omega arith
+
+-- a change that keeps these numbers keeps the room
+pub kept_room : (r : Role) (l : Layout) (s t : InputSection) → KeepsCounts l s t → entry_size r * counted_for r l (written_section l t) ≡ entry_size r * counted_for r l (written_section l s)
+kept_room role.RelaDynRelative l s t k = ap (λ n. rela_size * n) k.rela
+kept_room role.RelaDynGeneral l s t k = ap (λ n. rela_size * n) k.dynamic
+kept_room role.RelrDyn l s t k = ap (λ n. relr_size * n) k.relr
+kept_room other l s t k = omega arith
+
+-- without relocations there are no entries
+none_unread : (l : Layout) (s : InputSection) → s.relocations ≡ [] → (unread l s).relocations ≡ []
+none_unread l s h =
+    elim (cases_Bool (is_partial_link l.kind)) [
+      | inl t ↦ rw t refl
+      | inr f ↦ rw f h
+    ]
+
+none_reversed : (s : InputSection) → s.relocations ≡ [] → (with_word_order s).relocations ≡ []
+unfolding with_word_order
+none_reversed s h =
+    elim (cases_Bool s.reversed) [
+      | inl t ↦ rw (t, h) refl
+      | inr f ↦ rw f h
+    ]
+
+either_none : {X : Type 0} (b : Bool) (xs : List X) → xs ≡ [] → (if b then xs else []) ≡ []
+either_none true xs h = h
+either_none false xs h = refl
+
+none_listed : (r : Role) (l : Layout) (s : InputSection) → s.relocations ≡ [] → counted_for r l s ≡ 0
+unfolding rela_places relr_places dynamic_relocations
+none_listed role.RelaDynRelative l s h = ap length (either_none (may_have_relative l s) (flat_map (λ r. option_to_list (rela_place l s r)) s.relocations) (ap (flat_map (λ r. option_to_list (rela_place l s r))) h))
+none_listed role.RelrDyn l s h =
+    ap (λ (ns : List ℕ). length (packed ns)) (either_none (may_have_relative l s) (flat_map (λ r. option_to_list (relr_place l s r)) s.relocations) (ap (flat_map (λ r. option_to_list (relr_place l s r))) h)) ∙ ap length packed_none
+none_listed other l s h = ap length (either_none (is_read s) (filter (λ r. has_dynamic_entry (treatment l s.flags r)) s.relocations) (ap (filter (λ r. has_dynamic_entry (treatment l s.flags r))) h))
+
+pub none_written : (r : Role) (l : Layout) (s : InputSection) → s.relocations ≡ [] → counted_for r l (written_section l s) ≡ 0
+none_written r l s h = none_listed r l (written_section l s) (none_reversed (unread l s) (none_unread l s h))

@@ -3,6 +3,7 @@
 --   changed_counts   the counts of relocations with that of one section corrected
 --   ChangedCounts    these are the counts after the change
 --   ChangedErrors    a change that may be made has the faults of its own group alone
+--   ChangedTotal     the number of all relocations after the change
 --   OthersHaveNone   groups that are not changed have no faults if the layout had none
 use Rattle.std.specs.Prelude.{◌≡◌, ℕ, ◌+◌, ◌-◌, ◌&&◌, not, if◌then◌else◌, List, [], length, Some, slice_get}
 use Rattle.wild_words.specs.Overlay.{overlay}
@@ -14,6 +15,7 @@ use Rattle.wild_types.specs.Kinds.{is_partial_link}
 use Rattle.wild_types.specs.Lookups.{is_counted, section_of}
 use Rattle.wild_change.specs.declared.change.Change.{Change}
 use Rattle.wild_change.specs.Change.{found_section, with_item, changed_group, changed_layout}
+use Rattle.wild_plan_rules.specs.Places.{relocation_count}
 use Rattle.wild_layout.specs.Faults.{group_errors, errors}
 use Rattle.wild_layout.specs.Geometry.{IsLaidOut}
 use Rattle.wild_layout.specs.Image.{group_pieces, bytes, counts}
@@ -36,6 +38,10 @@ changed_counts l c s =
 
 abbrev pub ChangedCounts : Type 0
 ChangedCounts = (l : Layout) (c : Change) (s : InputSection) → found_section l c ≡ Some s → counts (changed_layout l c) ≡ changed_counts l c s
+
+-- all sections together have as many relocations less as s had, and as many more as the change has
+abbrev pub ChangedTotal : Type 0
+ChangedTotal = (l : Layout) (c : Change) (s : InputSection) → found_section l c ≡ Some s → relocation_count (changed_layout l c) + length s.relocations ≡ relocation_count l + length c.relocations
 
 -- in a layout without faults, a group as it was before the change has none after it
 abbrev pub OthersHaveNone : Type 0

@@ -1,11 +1,12 @@
 -- The faults of a changed layout, by the changed section, its file and its group alone.
 --   place_unless i ok          number i, unless the test passes
---   needs_no_part l g r        there is a part of role r, or group g needs none
---   changed_clause l i g f s   the first clause that fails, if section s of file f of group g, which has number i, was changed
+--   entry_room l r s           the bytes that section s, as placed, needs of the part of role r
+--   needs_no_part l s r        there is a part of role r, or section s needs none
+--   changed_clause l i f s     the first clause that fails, if section s of file f of group number i was changed
 --   has_counted_entries r      the share of a part of that role depends on the numbers of dynamic relocations
 --   changed_shares l i g       the faults of the shares that group g, which has number i, has of such parts
 --   RefusalsByGroup            these and the faults of the group are all faults of a changed layout
-use Rattle.std.specs.Prelude.{◌≡◌, ℕ, ◌-◌, ◌^◌, ◌==◌, ◌||◌, Bool, true, false, nat_lt, if◌then◌else◌, List, [], ◌++◌, length, Option, Some, None, Result, slice_get}
+use Rattle.std.specs.Prelude.{◌≡◌, ℕ, ◌-◌, ◌*◌, ◌^◌, ◌==◌, ◌||◌, Bool, true, false, nat_lt, if◌then◌else◌, List, [], ◌++◌, length, Option, Some, None, Result, slice_get}
 use Rattle.std.specs.List.{list_any}
 use Rattle.wild_types.specs.declared.fault.Clause.{Clause}
 use Rattle.wild_types.specs.declared.fault.Error.{Error}
@@ -19,7 +20,10 @@ use Rattle.wild_types.specs.declared.layout.Layout.{Layout}
 use Rattle.wild_types.specs.FilePlaces.{given}
 use Rattle.wild_types.specs.Lists.{first_failing, unless}
 use Rattle.wild_types.specs.Parts.{has_role}
-use Rattle.wild_needs.specs.Needs.{group_share, needs}
+use Rattle.wild_records.specs.Relocations.{rela_size, relr_size}
+use Rattle.wild_placement.specs.PlacedSections.{placed_section}
+use Rattle.wild_needs.specs.Entries.{rela_places, words_of, dynamic_relocations}
+use Rattle.wild_needs.specs.Needs.{needs}
 use Rattle.wild_change.specs.declared.change.Change.{Change}
 use Rattle.wild_change.specs.Change.{found_section, changed_section, changed_file, changed_group, changed_layout}
 use Rattle.wild_plan_rules.specs.ClauseTests.{fails, first_error}
@@ -34,16 +38,24 @@ use Rattle.wild_layout.specs.Faults.{flat_map_from, clause_errors, share_errors,
 abbrev pub place_unless : ℕ → Bool → Option ℕ
 place_unless i ok = if ok then None else Some i
 
--- there is a part of role r, or group g needs none
-abbrev pub needs_no_part : Layout → Group → Role → Bool
-needs_no_part l g r = list_any (has_role r) l.parts || group_share l r g == 0
+-- the bytes that a placed section needs of the part of a role: for relative relocations an entry or RELR words, and an entry for each
+-- field that the loader fills by a symbol or a resolver (gABI, "Relocation", "Relative Relocation Table")
+abbrev pub entry_room : Layout → Role → InputSection → ℕ
+entry_room l role.RelaDynRelative s = rela_size * length (rela_places l s)
+entry_room l role.RelaDynGeneral s = rela_size * length (dynamic_relocations l s)
+entry_room l role.RelrDyn s = relr_size * length (words_of l s)
+entry_room l other s = 0
+
+-- there is a part of role r, or the section needs none
+abbrev pub needs_no_part : Layout → InputSection → Role → Bool
+needs_no_part l s r = list_any (has_role r) l.parts || entry_room l r s == 0
 
 -- the clauses that a change can break: the number of all relocations (2), the roles that need a part (4), the indexes (9), fields (10)
 -- and words (20) of the section, and the tables of relocations of its file (21)
-unfoldable pub changed_clause : Layout → ℕ → Group → File → InputSection → Result (Unit {0}) Clause
-changed_clause l i g f s =
+unfoldable pub changed_clause : Layout → ℕ → File → InputSection → Result (Unit {0}) Clause
+changed_clause l i f s =
     first_error (fails 2 (unless (nat_lt (relocation_count l) (2 ^ 32 - 1))))
-    (first_error (fails 4 (first_failing (needs_no_part l g) 0 roles))
+    (first_error (fails 4 (first_failing (needs_no_part l (placed_section l f 0 s)) 0 roles))
     (first_error (fails 9 (place_unless i (section_indexes_fit l s)))
     (first_error (fails 10 (place_unless i (fields_lie l.machine s)))
     (first_error (fails 10 (place_unless i (relocations_are_read s)))
@@ -70,6 +82,6 @@ abbrev pub RefusalsByGroup : Type 0
 RefusalsByGroup =
     (l : Layout) (c : Change) (s : InputSection) (g : Group) (f : File) → found_section l c ≡ Some s → length c.bytes ≡ length s.bytes → slice_get l.groups c.group ≡ Some g → slice_get g.files c.file ≡ Some f → errors l ≡ []
     → errors (changed_layout l c)
-    ≡ clause_errors (changed_clause (changed_layout l c) c.group (changed_group c g) (changed_file c f) (changed_section c s))
+    ≡ clause_errors (changed_clause (changed_layout l c) c.group (changed_file c f) (changed_section c s))
     ++ changed_shares (changed_layout l c) c.group (changed_group c g)
     ++ group_errors (changed_layout l c) c.group (changed_group c g)

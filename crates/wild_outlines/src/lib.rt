@@ -9,7 +9,7 @@ ghost use Rattle.wild_outlines.specs.GroupLaws.{GroupsByOutline, PaddingByOutlin
 ghost use Rattle.wild_outlines.specs.ClauseLaws.{ChangesAreTested, ClausesByOutline};
 ghost use Rattle.wild_outlines.specs.ShareLaws.{SharesByOutline};
 ghost use Rattle.wild_outlines.specs.RefusalLaws.{RefusalsByGroup};
-ghost use Rattle.wild_outlines.specs.ChangedLaws.{ChangedBytes, ChangedCounts, ChangedErrors, OthersHaveNone};
+ghost use Rattle.wild_outlines.specs.ChangedLaws.{ChangedBytes, ChangedCounts, ChangedErrors, ChangedTotal, OthersHaveNone};
 
 /// A change that keeps the length of its section leaves the outline as it is.
 pub fn outline_stays()
@@ -51,6 +51,11 @@ pub fn shares_by_outline()
 /// One count of relocations changes, and by how many.
 pub fn changed_counts()
     ensures { ChangedCounts }
+{}
+
+/// The number of all relocations after a change.
+pub fn changed_total()
+    ensures { ChangedTotal }
 {}
 
 /// The image after a change is the image before it, with the pieces of the changed group over it.
