@@ -18,19 +18,19 @@ pub program_header-outline : (l : Layout) (g : Segment) → program_header (outl
 unfolding program_header
 program_header-outline l g = refl
 
-pub computed_infos-outline : (l : Layout) → computed_infos (outline l) ≡ computed_infos l
+computed_infos-outline : (l : Layout) → computed_infos (outline l) ≡ computed_infos l
 unfolding computed_infos
 computed_infos-outline l = simp (need_count-outline l.groups)
 
-pub section_header-outline : (l : Layout) (info name : ℕ) (s : Section) → section_header (outline l) info name s ≡ section_header l info name s
+section_header-outline : (l : Layout) (info name : ℕ) (s : Section) → section_header (outline l) info name s ≡ section_header l info name s
 unfolding section_header
 section_header-outline l info name s = refl
 
-pub headers_from-outline : (l : Layout) (infos : List ComputedInfo) (i name : ℕ) (ss : List Section) → headers_from (outline l) infos i name ss ≡ headers_from l infos i name ss
+headers_from-outline : (l : Layout) (infos : List ComputedInfo) (i name : ℕ) (ss : List Section) → headers_from (outline l) infos i name ss ≡ headers_from l infos i name ss
 headers_from-outline l told i name [] = refl
 headers_from-outline l told i name (s ∷ ss) = simp (section_header-outline l, headers_from-outline l told (i + 1) (name + length s.name + 1) ss)
 
-pub null_header-outline : (l : Layout) → null_header (outline l) ≡ null_header l
+null_header-outline : (l : Layout) → null_header (outline l) ≡ null_header l
 unfolding null_header
 null_header-outline l = refl
 

@@ -40,7 +40,7 @@ pub singleton_sections-outline : (l : Layout) → singleton_sections (outline l)
 unfolding kept_sections
 singleton_sections-outline l = ap (flat_map kept_sections) (files_of-outline l.groups) ∙ flat_map-mapped kept_sections kept_sections outline_file kept_sections-outline (files_of l.groups)
 
-pub named_strings-outline : (l : Layout) → named_strings (outline l) ≡ named_strings l
+named_strings-outline : (l : Layout) → named_strings (outline l) ≡ named_strings l
 unfolding named_strings
 named_strings-outline l = refl
 
@@ -57,11 +57,11 @@ file_strings-same_file l f = same_file file_strings file_strings-outline l f
 pub table_strings-same_file : (l : Layout) (f : File) → table_strings (outline l) f ≡ table_strings l f
 table_strings-same_file l f = same_file table_strings table_strings-outline l f
 
-pub text_start-outline : (l : Layout) → text_start (outline l) ≡ text_start l
+text_start-outline : (l : Layout) → text_start (outline l) ≡ text_start l
 unfolding text_start
 text_start-outline l = refl
 
-pub entry_at-outline : (l : Layout) (i : ℕ) (o : Option ℕ) → entry_at (outline l) i o ≡ entry_at l i o
+entry_at-outline : (l : Layout) (i : ℕ) (o : Option ℕ) → entry_at (outline l) i o ≡ entry_at l i o
 entry_at-outline l i (Some a) = refl
 entry_at-outline l i None = simp (text_start-outline l)
 

@@ -1,5 +1,5 @@
 -- Entries of dynamic relocations, GOT words and PLT stubs in an outline.
-use Rattle.std.proofs.Common.{◌≡◌, ℕ, ◌++◌, map, flat_map, refl, ap, ◌∙◌}
+use Rattle.std.proofs.Common.{◌≡◌, ℕ, flat_map, refl, ap, ◌∙◌}
 use std.Path.{fun_ext}
 use Rattle.wild_types.specs.declared.file.File.{File}
 use Rattle.wild_types.specs.declared.file.Group.{Group}
@@ -27,14 +27,14 @@ use Rattle.wild_outlines.proofs.ValuesSymbols.{address_for-outline}
 use Rattle.wild_outlines.proofs.ClausesSlots.{slots_of-outline}
 use Rattle.wild_outlines.proofs.ContentNeeds.{group_relr_got-same_group, words_in-each}
 
-pub dynamic_relocation_by-outline : (l : Layout) (at : ℕ) (r : InputRelocation) (t : Treatment) → dynamic_relocation_by (outline l) at r t ≡ dynamic_relocation_by l at r t
+dynamic_relocation_by-outline : (l : Layout) (at : ℕ) (r : InputRelocation) (t : Treatment) → dynamic_relocation_by (outline l) at r t ≡ dynamic_relocation_by l at r t
 dynamic_relocation_by-outline l at r (Symbolic i) = refl
 dynamic_relocation_by-outline l at r other = refl
 
-pub dynamic_relocation-each : (l : Layout) (at flags : ℕ) → dynamic_relocation (outline l) at flags ≡ dynamic_relocation l at flags
+dynamic_relocation-each : (l : Layout) (at flags : ℕ) → dynamic_relocation (outline l) at flags ≡ dynamic_relocation l at flags
 dynamic_relocation-each l at flags = fun_ext (λ r. simp (dynamic_relocation_by-outline l, treatment-outline l))
 
-pub section_generals-outline : (l : Layout) (s : InputSection) → section_generals (outline l) s ≡ section_generals l s
+section_generals-outline : (l : Layout) (s : InputSection) → section_generals (outline l) s ≡ section_generals l s
 unfolding section_generals
 section_generals-outline l s = simp (dynamic_relocation-each l, dynamic_relocations-outline l)
 
@@ -46,11 +46,9 @@ generals_of_sections l f = ap (flat_map (section_generals (outline l))) (process
 
 pub file_generals-outline : (l : Layout) (f : File) → file_generals (outline l) f ≡ file_generals l f
 unfolding file_generals
-file_generals-outline l f =
-    ap (λ xs. xs ++ flat_map (section_generals (outline l)) (processed_sections (outline l) f)) (map-same (copy_entry (outline l)) (copy_entry l) (copies_of f) (copy_entry-outline l))
-    ∙ ap (λ xs. map (copy_entry l) (copies_of f) ++ xs) (generals_of_sections l f)
+file_generals-outline l f = simp (map-same (copy_entry (outline l)) (copy_entry l) (copies_of f) (copy_entry-outline l), generals_of_sections l f)
 
-pub section_entries-outline : (l : Layout) (s : InputSection) → section_entries (outline l) s ≡ section_entries l s
+section_entries-outline : (l : Layout) (s : InputSection) → section_entries (outline l) s ≡ section_entries l s
 unfolding section_entries
 section_entries-outline l s = simp (address_for-outline l, treatment-outline l)
 
@@ -58,28 +56,28 @@ pub header_bytes-outline : (l : Layout) (r : Role) → header_bytes (outline l) 
 header_bytes-outline l role.Got = refl
 header_bytes-outline l other = refl
 
-pub relr_slots_in-each : (l : Layout) → relr_slots_in (outline l) ≡ relr_slots_in l
+relr_slots_in-each : (l : Layout) → relr_slots_in (outline l) ≡ relr_slots_in l
 relr_slots_in-each l = fun_ext (λ s. simp (slots_of-outline l))
 
-pub flat_places_of-outline : (l : Layout) (f : File) → flat_places_of (outline l) f ≡ flat_places_of l f
+flat_places_of-outline : (l : Layout) (f : File) → flat_places_of (outline l) f ≡ flat_places_of l f
 unfolding flat_places_of
 flat_places_of-outline l f = simp (relr_slots_in-each l)
 
-pub symbol_entries-each : (l : Layout) (part : EntryPart) → symbol_entries part (outline l) ≡ symbol_entries part l
+symbol_entries-each : (l : Layout) (part : EntryPart) → symbol_entries part (outline l) ≡ symbol_entries part l
 symbol_entries-each l part = fun_ext (λ s. simp (slots_of-outline l))
 
-pub slot_entries_of-outline : (l : Layout) (part : EntryPart) (f : File) → slot_entries_of part (outline l) f ≡ slot_entries_of part l f
+slot_entries_of-outline : (l : Layout) (part : EntryPart) (f : File) → slot_entries_of part (outline l) f ≡ slot_entries_of part l f
 unfolding slot_entries_of
 slot_entries_of-outline l part f = simp (symbol_entries-each l)
 
-pub slot_words_of-outline : (l : Layout) (part : WordPart) (f : File) → slot_words_of part (outline l) f ≡ slot_words_of part l f
+slot_words_of-outline : (l : Layout) (part : WordPart) (f : File) → slot_words_of part (outline l) f ≡ slot_words_of part l f
 unfolding slot_words_of
 slot_words_of-outline l part f = simp (words_in-each l)
 
-pub stub_bytes-each : (l : Layout) → stub_bytes (outline l) ≡ stub_bytes l
+stub_bytes-each : (l : Layout) → stub_bytes (outline l) ≡ stub_bytes l
 stub_bytes-each l = fun_ext (λ s. simp (slots_of-outline l))
 
-pub stubs_of-outline : (l : Layout) (f : File) → stubs_of (outline l) f ≡ stubs_of l f
+stubs_of-outline : (l : Layout) (f : File) → stubs_of (outline l) f ≡ stubs_of l f
 unfolding stubs_of
 stubs_of-outline l f = simp (stub_bytes-each l)
 

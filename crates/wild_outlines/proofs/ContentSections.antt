@@ -25,10 +25,10 @@ shift-outline : (l : Layout) (o : Option ℕ) → shift (outline l) o ≡ shift 
 shift-outline l None = refl
 shift-outline l (Some i) = simp (shift_by-each l i)
 
-pub rela_of-each : (l : Layout) → rela_of (outline l) ≡ rela_of l
+rela_of-each : (l : Layout) → rela_of (outline l) ≡ rela_of l
 rela_of-each l = fun_ext (λ r. simp (named_index-outline l, shift-outline l))
 
-pub rela_bytes_of-outline : (l : Layout) (s : InputSection) → rela_bytes_of (outline l) s ≡ rela_bytes_of l s
+rela_bytes_of-outline : (l : Layout) (s : InputSection) → rela_bytes_of (outline l) s ≡ rela_bytes_of l s
 unfolding rela_bytes_of
 rela_bytes_of-outline l s = simp (rela_of-each l)
 

@@ -24,7 +24,7 @@ use Rattle.wild_outlines.proofs.ClausesSlots.{slots_of-outline}
 use Rattle.wild_outlines.proofs.ContentNeeds.{file_items-same_file, singleton_sections-outline}
 use Rattle.wild_outlines.proofs.ValuesFiles.{output_section-same_file, raw_value-outline}
 
-pub at_address-outline : (l : Layout) (i : ℕ) (s : Symbol) (section o : Option ℕ) (a : SymbolAttributes) → at_address (outline l) i s section o a ≡ at_address l i s section o a
+at_address-outline : (l : Layout) (i : ℕ) (s : Symbol) (section o : Option ℕ) (a : SymbolAttributes) → at_address (outline l) i s section o a ≡ at_address l i s section o a
 at_address-outline l i s section None a = refl
 at_address-outline l i s section (Some v) a = refl
 
@@ -45,14 +45,14 @@ offset_by-outline : (l : Layout) (i value : ℕ) (o : Option InputSection) → o
 offset_by-outline l i value None = raw_value-outline l i
 offset_by-outline l i value (Some s) = simp (raw_value-outline l i)
 
-pub table_at-outline : (l : Layout) (i : ℕ) (role : FileRole) (s : Symbol) (section : ℕ) (p : Place) → table_at (outline l) i role s section p ≡ table_at l i role s section p
+table_at-outline : (l : Layout) (i : ℕ) (role : FileRole) (s : Symbol) (section : ℕ) (p : Place) → table_at (outline l) i role s section p ≡ table_at l i role s section p
 table_at-outline l i role s section at.Undefined = refl
 table_at-outline l i role s section at.Absolute = refl
 table_at-outline l i role s section at.Common = simp (at_address-outline l, offset_by-outline l, symbol_section-outline l, raw_value-outline l)
 table_at-outline l i role s section (at.Output k) = simp (at_address-outline l, offset_by-outline l, symbol_section-outline l, raw_value-outline l)
 table_at-outline l i role s section (at.Section k) = simp (at_address-outline l, offset_by-outline l, symbol_section-outline l, raw_value-outline l)
 
-pub fields_of-outline : (l : Layout) (f : File) (n : SymtabName) (i : ℕ) (s : Symbol) → fields_of (outline l) f n i s ≡ fields_of l f n i s
+fields_of-outline : (l : Layout) (f : File) (n : SymtabName) (i : ℕ) (s : Symbol) → fields_of (outline l) f n i s ≡ fields_of l f n i s
 fields_of-outline l f named.Itself i s = simp (at_address-outline l, raw_value-outline l, table_at-outline l, output_section-same_file l)
 fields_of-outline l f named.Slot i s = simp (slots_of-outline l)
 fields_of-outline l f other i s = refl
@@ -61,10 +61,10 @@ pub table_fields-outline : (l : Layout) (f : File) (x : TableSymbol) → table_f
 unfolding table_fields
 table_fields-outline l f x = simp (fields_of-outline l)
 
-pub all_items-outline : (l : Layout) → all_items (outline l) ≡ all_items l
+all_items-outline : (l : Layout) → all_items (outline l) ≡ all_items l
 all_items-outline l = ap (flat_map (file_items (outline l))) (files_of-outline l.groups) ∙ flat_map-mapped (file_items (outline l)) (file_items l) outline_file (file_items-outline l) (files_of l.groups)
 
-pub entry_by-outline : (l : Layout) (i : ℕ) (b : Bool) → entry_by (outline l) i b ≡ entry_by l i b
+entry_by-outline : (l : Layout) (i : ℕ) (b : Bool) → entry_by (outline l) i b ≡ entry_by l i b
 entry_by-outline l i true = simp (section_symbols-outline l, all_items-outline l)
 entry_by-outline l i false = simp (section_symbols-outline l, all_items-outline l)
 
@@ -95,10 +95,10 @@ named_index-outline l (Some i) = simp (symbol_index-outline l)
 pub named_entry-each : (l : Layout) (f : File) → named_entry (outline l) f ≡ named_entry l f
 named_entry-each l f = fun_ext (λ x. simp (table_fields-outline l))
 
-pub file_table-each : (l : Layout) → file_table (outline l) ≡ file_table l
+file_table-each : (l : Layout) → file_table (outline l) ≡ file_table l
 file_table-each l = fun_ext (λ f. simp (section_symbols-outline l, named_entry-each l, file_items-same_file l))
 
-pub group_table-outline : (l : Layout) (g : Group) → group_table (outline l) g ≡ group_table l g
+group_table-outline : (l : Layout) (g : Group) → group_table (outline l) g ≡ group_table l g
 unfolding group_table
 group_table-outline l g = simp (file_table-each l)
 

@@ -1,8 +1,7 @@
 -- What a group contributes to the parts of an outline.
-use Rattle.std.proofs.Common.{◌≡◌, ◌-◌, ◌*◌, ◌++◌, map, length, flat_map, Option, Some, None, option_map, slice_get, refl, ap, ◌∙◌}
+use Rattle.std.proofs.Common.{◌≡◌, ◌-◌, ◌++◌, length, flat_map, Option, Some, None, option_map, slice_get, refl, ap, ◌∙◌}
 use Rattle.std.proofs.lemmas.List.{length-map}
 use Rattle.std.proofs.lemmas.Option.{slice_get-map}
-use Rattle.wild_records.specs.Dynamic.{dynamic_entry_size}
 use Rattle.wild_types.specs.declared.file.File.{File}
 use Rattle.wild_types.specs.declared.file.Group.{Group}
 use Rattle.wild_types.specs.declared.input.InputSection.{InputSection}
@@ -10,10 +9,8 @@ use Rattle.wild_types.specs.declared.layout.GnuHash.{GnuHash}
 use Rattle.wild_types.specs.declared.layout.Layout.{Layout}
 use Rattle.wild_types.specs.declared.layout.SysvHash.{SysvHash}
 use Rattle.wild_types.specs.declared.part.Role.{Role}
-use Rattle.wild_types.specs.Shares.{share_of}
 use Rattle.wild_types.specs.declared.part.Role.TheVariants as role
 use Rattle.wild_placement.specs.PlacedSections.{placed_files}
-use Rattle.wild_needs.specs.DynamicStrings.{needed_entries}
 use Rattle.wild_layout.specs.Content.{dynamic_room, file_part_bytes, frame_bytes_of, frames_bytes, gnu_bytes, group_bytes, last_file_room, sysv_bytes, unique_table, file_content, content}
 use Rattle.wild_change.specs.Outline.{outline_group, outline}
 use Rattle.wild_outlines.proofs.ListLemmas.{flat_map-same}
@@ -37,15 +34,15 @@ frames_bytes-outline : (l : Layout) (f : File) → frames_bytes (outline l) f �
 unfolding frames_bytes
 frames_bytes-outline l f = simp (flat_map-same (frame_bytes_of (outline l) f) (frame_bytes_of l f) f.sections (frame_bytes_of-outline l f))
 
-pub gnu_bytes-outline : (l : Layout) (h : Option GnuHash) → gnu_bytes (outline l) h ≡ gnu_bytes l h
+gnu_bytes-outline : (l : Layout) (h : Option GnuHash) → gnu_bytes (outline l) h ≡ gnu_bytes l h
 gnu_bytes-outline l None = refl
 gnu_bytes-outline l (Some h) = refl
 
-pub sysv_bytes-outline : (l : Layout) (h : Option SysvHash) → sysv_bytes (outline l) h ≡ sysv_bytes l h
+sysv_bytes-outline : (l : Layout) (h : Option SysvHash) → sysv_bytes (outline l) h ≡ sysv_bytes l h
 sysv_bytes-outline l None = refl
 sysv_bytes-outline l (Some h) = simp (first_listed-outline l)
 
-pub file_part_bytes-outline : (l : Layout) (r : Role) (f : File) → file_part_bytes (outline l) r f ≡ file_part_bytes l r f
+file_part_bytes-outline : (l : Layout) (r : Role) (f : File) → file_part_bytes (outline l) r f ≡ file_part_bytes l r f
 file_part_bytes-outline l role.RelaDynRelative f = simp (file_entries-outline l)
 file_part_bytes-outline l role.RelaDynGeneral f = simp (file_generals-outline l)
 file_part_bytes-outline l role.RelrDyn f = simp (file_words-outline l)
@@ -60,7 +57,7 @@ file_part_bytes-outline l role.Strtab f = simp (table_strings-same_file l)
 file_part_bytes-outline l role.EhFrame f = simp (frames_bytes-outline l)
 file_part_bytes-outline l other f = refl
 
-pub unique_table-outline : (l : Layout) (r : Role) → unique_table (outline l) r ≡ unique_table l r
+unique_table-outline : (l : Layout) (r : Role) → unique_table (outline l) r ≡ unique_table l r
 unique_table-outline l role.FileHeader = simp (file_header-outline l)
 unique_table-outline l role.ProgramHeaders = simp (program_header-outline l)
 unique_table-outline l role.SectionHeaders = simp (section_headers_of-outline l)
@@ -70,17 +67,12 @@ unique_table-outline l other = refl
 
 last_file_room-outline : (l : Layout) (o : Option Group) → last_file_room (outline l) (option_map outline_group o) ≡ last_file_room l o
 last_file_room-outline l None = refl
-last_file_room-outline l (Some g) =
-    ap (λ n. share_of (outline l) (n - 1) role.Dynamic - dynamic_entry_size * length (needed_entries (outline l) (outline_group g))) (length-map l.groups outline_group)
-    ∙ (ap (λ n. n - dynamic_entry_size * length (needed_entries (outline l) (outline_group g))) (share_of-outline l (length l.groups - 1) role.Dynamic)
-    ∙ ap (λ ns. share_of l (length l.groups - 1) role.Dynamic - dynamic_entry_size * length ns) (needed_entries-outline l g))
+last_file_room-outline l (Some g) = simp (needed_entries-outline l g, length-map l.groups outline_group, share_of-outline l (length l.groups - 1) role.Dynamic)
 
 dynamic_room-outline : (l : Layout) → dynamic_room (outline l) ≡ dynamic_room l
-dynamic_room-outline l =
-    ap (λ n. last_file_room (outline l) (slice_get (map outline_group l.groups) (n - 1))) (length-map l.groups outline_group)
-    ∙ (ap (last_file_room (outline l)) (slice_get-map outline_group l.groups (length l.groups - 1)) ∙ last_file_room-outline l (slice_get l.groups (length l.groups - 1)))
+dynamic_room-outline l = simp (length-map l.groups outline_group, slice_get-map outline_group l.groups (length l.groups - 1), last_file_room-outline l (slice_get l.groups (length l.groups - 1)))
 
-pub group_bytes-outline : (l : Layout) (r : Role) (g : Group) → group_bytes (outline l) r g ≡ group_bytes l r g
+group_bytes-outline : (l : Layout) (r : Role) (g : Group) → group_bytes (outline l) r g ≡ group_bytes l r g
 group_bytes-outline l role.RelrDyn g = simp (group_relr_got-same_group l, sorted_words-outline l)
 group_bytes-outline l role.Dynsym g = simp (group_symbols-outline l)
 group_bytes-outline l role.GnuVersionR g = simp (group_needs-outline l)

@@ -24,60 +24,60 @@ use Rattle.wild_outlines.proofs.SharesSections.{treatment-outline}
 use Rattle.wild_outlines.proofs.ValuesFiles.{raw_value-outline}
 use Rattle.wild_outlines.proofs.ValuesSymbols.{address_for-outline, is_own_place-outline, merged_strings-outline, term_by-outline, value_less-outline}
 
-pub choice_around_by-outline : (l : Layout) (s : Item) (i : ℕ) (r : InputRelocation) (o : Option ℕ) → choice_around_by (outline l) s i r o ≡ choice_around_by l s i r o
+choice_around_by-outline : (l : Layout) (s : Item) (i : ℕ) (r : InputRelocation) (o : Option ℕ) → choice_around_by (outline l) s i r o ≡ choice_around_by l s i r o
 unfolding choice_around_by
 choice_around_by-outline l s i r None = refl
 choice_around_by-outline l s i r (Some symbol) = simp (merged_strings-outline l, raw_value-outline l)
 
-pub is_getter-outline : (l : Layout) (o : Option ℕ) → is_getter (outline l) o ≡ is_getter l o
+is_getter-outline : (l : Layout) (o : Option ℕ) → is_getter (outline l) o ≡ is_getter l o
 is_getter-outline l None = refl
 is_getter-outline l (Some i) = refl
 
-pub info_of-each : (l : Layout) → info_of (outline l) ≡ info_of l
+info_of-each : (l : Layout) → info_of (outline l) ≡ info_of l
 info_of-each l = fun_ext (λ r. simp (is_getter-outline l))
 
-pub choice_by-outline : (l : Layout) (s : Item) (r : InputRelocation) (next : Option InputRelocation) (o : Option ℕ) → choice_by (outline l) s r next o ≡ choice_by l s r next o
+choice_by-outline : (l : Layout) (s : Item) (r : InputRelocation) (next : Option InputRelocation) (o : Option ℕ) → choice_by (outline l) s r next o ≡ choice_by l s r next o
 unfolding choice_by
 choice_by-outline l s r next None = refl
 choice_by-outline l s r next (Some i) = simp (merged_strings-outline l, raw_value-outline l, info_of-each l)
 
-pub choice_on-outline : (l : Layout) (m : Machine) (s : Item) (i : ℕ) (r : InputRelocation) → choice_on m (outline l) s i r ≡ choice_on m l s i r
+choice_on-outline : (l : Layout) (m : Machine) (s : Item) (i : ℕ) (r : InputRelocation) → choice_on m (outline l) s i r ≡ choice_on m l s i r
 choice_on-outline l machine.X86_64 s i r = simp (choice_by-outline l)
 choice_on-outline l machine.AArch64 s i r = simp (choice_around_by-outline l)
 
-pub choice_at-outline : (l : Layout) (s : Item) (i : ℕ) (o : Option InputRelocation) → choice_at (outline l) s i o ≡ choice_at l s i o
+choice_at-outline : (l : Layout) (s : Item) (i : ℕ) (o : Option InputRelocation) → choice_at (outline l) s i o ≡ choice_at l s i o
 choice_at-outline l s i None = refl
 choice_at-outline l s i (Some r) = simp (choice_on-outline l)
 
-pub is_partner-outline : (l : Layout) (s : Item) (x : ℕ) → is_partner (outline l) s x ≡ is_partner l s x
+is_partner-outline : (l : Layout) (s : Item) (x : ℕ) → is_partner (outline l) s x ≡ is_partner l s x
 is_partner-outline l s zero = refl
 is_partner-outline l s (suc i) = simp (choice_at-outline l)
 
-pub thunk_for-outline : (l : Layout) (block : ℕ) (o : Option ℕ) → thunk_for (outline l) block o ≡ thunk_for l block o
+thunk_for-outline : (l : Layout) (block : ℕ) (o : Option ℕ) → thunk_for (outline l) block o ≡ thunk_for l block o
 thunk_for-outline l block None = refl
 thunk_for-outline l block (Some i) = refl
 
-pub field_or_thunk-outline : (l : Layout) (s : Item) (r : InputRelocation) (row : RelocationKindInfo) (v : ℕ) → field_or_thunk (outline l) s r row v ≡ field_or_thunk l s r row v
+field_or_thunk-outline : (l : Layout) (s : Item) (r : InputRelocation) (row : RelocationKindInfo) (v : ℕ) → field_or_thunk (outline l) s r row v ≡ field_or_thunk l s r row v
 unfolding field_or_thunk
 field_or_thunk-outline l s r row v = simp (thunk_for-outline l)
 
-pub field_for-outline : (l : Layout) (s : Item) (r : InputRelocation) (row : RelocationKindInfo) (d : Result ℕ Fault) → field_for (outline l) s r row d ≡ field_for l s r row d
+field_for-outline : (l : Layout) (s : Item) (r : InputRelocation) (row : RelocationKindInfo) (d : Result ℕ Fault) → field_for (outline l) s r row d ≡ field_for l s r row d
 field_for-outline l s r row (Err f) = refl
 field_for-outline l s r row (Ok a) = simp (field_or_thunk-outline l, value_less-outline l)
 
-pub ifunc_decision-outline : (l : Layout) (r : InputRelocation) (d : Result ℕ Fault) → ifunc_decision (outline l) r d ≡ ifunc_decision l r d
+ifunc_decision-outline : (l : Layout) (r : InputRelocation) (d : Result ℕ Fault) → ifunc_decision (outline l) r d ≡ ifunc_decision l r d
 ifunc_decision-outline l r (Err f) = refl
 ifunc_decision-outline l r (Ok resolver) = refl
 
-pub relative_decision-outline : (l : Layout) (s : Item) (r : InputRelocation) (d : Result ℕ Fault) → relative_decision (outline l) s r d ≡ relative_decision l s r d
+relative_decision-outline : (l : Layout) (s : Item) (r : InputRelocation) (d : Result ℕ Fault) → relative_decision (outline l) s r d ≡ relative_decision l s r d
 relative_decision-outline l s r (Err f) = refl
 relative_decision-outline l s r (Ok a) = refl
 
-pub size_decision-outline : (l : Layout) (r : InputRelocation) (row : RelocationKindInfo) (i : ℕ) (d : Result Decision Fault) → size_decision (outline l) r row i d ≡ size_decision l r row i d
+size_decision-outline : (l : Layout) (r : InputRelocation) (row : RelocationKindInfo) (i : ℕ) (d : Result Decision Fault) → size_decision (outline l) r row i d ≡ size_decision l r row i d
 size_decision-outline l r row i (Err f) = refl
 size_decision-outline l r row i (Ok d) = refl
 
-pub decide_by-outline : (l : Layout) (s : Item) (r : InputRelocation) (t : Treatment) → decide_by (outline l) s r t ≡ decide_by l s r t
+decide_by-outline : (l : Layout) (s : Item) (r : InputRelocation) (t : Treatment) → decide_by (outline l) s r t ≡ decide_by l s r t
 decide_by-outline l s r treatments.Nothing = refl
 decide_by-outline l s r (treatments.Value row) = simp (field_for-outline l, is_own_place-outline l, term_by-outline l)
 decide_by-outline l s r treatments.BaseRelative = simp (relative_decision-outline l, address_for-outline l)
@@ -86,26 +86,26 @@ decide_by-outline l s r (treatments.Indirect i) = simp (ifunc_decision-outline l
 decide_by-outline l s r (treatments.Extent row i) = simp (size_decision-outline l)
 decide_by-outline l s r other = refl
 
-pub decided-outline : (l : Layout) (s : Item) (r : InputRelocation) → decided (outline l) s r ≡ decided l s r
+decided-outline : (l : Layout) (s : Item) (r : InputRelocation) → decided (outline l) s r ≡ decided l s r
 unfolding decided
 decided-outline l s r = simp (decide_by-outline l, treatment-outline l)
 
-pub term_to-outline : (l : Layout) (r : InputRelocation) (info : RelocationKindInfo) (p : ℕ) → term_to (outline l) r info p ≡ term_to l r info p
+term_to-outline : (l : Layout) (r : InputRelocation) (info : RelocationKindInfo) (p : ℕ) → term_to (outline l) r info p ≡ term_to l r info p
 term_to-outline l r info p = simp (is_own_place-outline l, term_by-outline l)
 
-pub refused_sequence-outline : (l : Layout) (s : Item) (r : InputRelocation) (e : UnknownSequence) → refused_sequence (outline l) s r e ≡ refused_sequence l s r e
+refused_sequence-outline : (l : Layout) (s : Item) (r : InputRelocation) (e : UnknownSequence) → refused_sequence (outline l) s r e ≡ refused_sequence l s r e
 refused_sequence-outline l s r e = simp (term_to-outline l)
 
-pub value_to-outline : (l : Layout) (s : Item) (r : InputRelocation) (row : Row) (d : Result ℕ Fault) → value_to (outline l) s r row d ≡ value_to l s r row d
+value_to-outline : (l : Layout) (s : Item) (r : InputRelocation) (row : Row) (d : Result ℕ Fault) → value_to (outline l) s r row d ≡ value_to l s r row d
 value_to-outline l s r row (Err f) = refl
 value_to-outline l s r row (Ok a) = simp (value_less-outline l, field_or_thunk-outline l)
 
-pub decide_with-outline : (l : Layout) (s : Item) (r : InputRelocation) (x : Result (Option Row) UnknownSequence) → decide_with (outline l) s r x ≡ decide_with l s r x
+decide_with-outline : (l : Layout) (s : Item) (r : InputRelocation) (x : Result (Option Row) UnknownSequence) → decide_with (outline l) s r x ≡ decide_with l s r x
 decide_with-outline l s r (Ok None) = simp (decided-outline l)
 decide_with-outline l s r (Ok (Some row)) = simp (value_to-outline l, term_to-outline l)
 decide_with-outline l s r (Err e) = simp (refused_sequence-outline l)
 
-pub decide_at-outline : (l : Layout) (s : Item) (i : ℕ) (o : Option InputRelocation) → decide_at (outline l) s i o ≡ decide_at l s i o
+decide_at-outline : (l : Layout) (s : Item) (i : ℕ) (o : Option InputRelocation) → decide_at (outline l) s i o ≡ decide_at l s i o
 decide_at-outline l s i None = refl
 decide_at-outline l s i (Some r) = simp (decide_with-outline l, choice_on-outline l)
 
@@ -113,7 +113,7 @@ pub decide-outline : (l : Layout) (s : Item) (i : ℕ) → decide (outline l) s 
 unfolding decide
 decide-outline l s i = simp (is_partner-outline l, decide_at-outline l)
 
-pub site-outline : (l : Layout) (s : Item) (i : ℕ) → site (outline l) s i ≡ site l s i
+site-outline : (l : Layout) (s : Item) (i : ℕ) → site (outline l) s i ≡ site l s i
 unfolding site
 site-outline l s i = simp (decide-outline l)
 

@@ -1,5 +1,5 @@
 -- The search table of an outline.
-use Rattle.std.proofs.Common.{◌≡◌, ℕ, Bool, true, false, if◌then◌else◌, List, [], ◌∷◌, ◌++◌, map, refl, ap, ◌∙◌}
+use Rattle.std.proofs.Common.{◌≡◌, ℕ, Bool, true, false, if◌then◌else◌, List, [], ◌∷◌, map, refl, ap, ◌∙◌}
 use std.Path.{fun_ext}
 use Rattle.wild_types.specs.declared.file.File.{File}
 use Rattle.wild_types.specs.declared.input.InputRelocation.{InputRelocation}
@@ -18,7 +18,7 @@ use Rattle.wild_outlines.proofs.ClausesGroups.{flat_map-mapped}
 use Rattle.wild_outlines.proofs.ClausesTests.{header_only-outline}
 use Rattle.wild_outlines.proofs.ValuesSymbols.{raw_address-outline}
 
-pub code_at-outline : (l : Layout) (rs : List InputRelocation) → code_at (outline l) rs ≡ code_at l rs
+code_at-outline : (l : Layout) (rs : List InputRelocation) → code_at (outline l) rs ≡ code_at l rs
 code_at-outline l [] = refl
 code_at-outline l (r ∷ rs) = simp (raw_address-outline l)
 
@@ -36,15 +36,11 @@ section_fdes_by false l f at s h = rw h refl
 
 sections_fdes-outline : (l : Layout) (f : File) (at : ℕ) (ss : List InputSection) → sections_fdes (outline l) (outline_file f) at (map outline_section ss) ≡ sections_fdes l f at ss
 sections_fdes-outline l f at [] = refl
-sections_fdes-outline l f at (s ∷ ss) =
-    ap (λ xs. xs ++ sections_fdes (outline l) (outline_file f) (behind at (kept_size (outline l) (outline_file f) (outline_section s))) (map outline_section ss)) (section_fdes_by (is_frame s.slot) l f at s refl)
-    ∙ ap (λ xs. section_fdes l f at s ++ xs) (ap (λ n. sections_fdes (outline l) (outline_file f) (behind at n) (map outline_section ss)) (kept_size-both l f s) ∙ sections_fdes-outline l f (behind at (kept_size l f s)) ss)
+sections_fdes-outline l f at (s ∷ ss) = simp (section_fdes_by (is_frame s.slot) l f at s refl, kept_size-both l f s, sections_fdes-outline l f (behind at (kept_size l f s)) ss)
 
 files_fdes-outline : (l : Layout) (at : ℕ) (fs : List File) → files_fdes (outline l) at (map outline_file fs) ≡ files_fdes l at fs
 files_fdes-outline l at [] = refl
-files_fdes-outline l at (f ∷ fs) =
-    ap (λ xs. xs ++ files_fdes (outline l) (behind at (file_frames (outline l) (outline_file f))) (map outline_file fs)) (sections_fdes-outline l f at f.sections)
-    ∙ ap (λ xs. sections_fdes l f at f.sections ++ xs) (ap (λ n. files_fdes (outline l) (behind at n) (map outline_file fs)) (file_frames-outline l f) ∙ files_fdes-outline l (behind at (file_frames l f)) fs)
+files_fdes-outline l at (f ∷ fs) = simp (sections_fdes-outline l f at f.sections, file_frames-outline l f, files_fdes-outline l (behind at (file_frames l f)) fs)
 
 pub layout_fdes-outline : (l : Layout) → layout_fdes (outline l) ≡ layout_fdes l
 unfolding layout_fdes

@@ -9,14 +9,13 @@ use Rattle.wild_types.specs.declared.file.Group.{Group}
 use Rattle.wild_types.specs.declared.input.InputRelocation.{InputRelocation}
 use Rattle.wild_types.specs.declared.input.InputSection.{InputSection}
 use Rattle.wild_types.specs.declared.layout.Layout.{Layout}
-use Rattle.wild_types.specs.declared.fault.Error.{Error}
 use Rattle.wild_types.specs.declared.layout.SortedSection.{SortedSection}
 use Rattle.wild_types.specs.Lookups.{is_frame}
 use Rattle.wild_frames.specs.Faults.{frame_errors}
 use Rattle.wild_placement.specs.PlacedSections.{Input, sorted_input, file_frames, frames_at, behind, origins_of, placed_section}
 use Rattle.wild_placement.specs.FrameInputs.{kept_size}
 use Rattle.wild_placement.specs.ReversedWords.{with_word_order}
-use Rattle.wild_layout.specs.Faults.{copy_errors, debug_error, debug_errors, exported_error, exported_errors, file_errors, files_errors, group_errors, placed_section_errors_by, relocation_errors, section_errors, sections_errors, slot_errors, symbol_errors, table_error, table_errors, thunk_error, thunk_errors, frame_refusal, bad_frames, relocations_errors, item_errors, placed_section_errors, sorted_errors_of, sorted_errors}
+use Rattle.wild_layout.specs.Faults.{copy_errors, debug_error, debug_errors, exported_error, exported_errors, file_errors, files_errors, group_errors, placed_section_errors_by, relocation_errors, section_errors, sections_errors, slot_errors, symbol_errors, table_error, table_errors, thunk_error, thunk_errors, frame_refusal, bad_frames, relocations_errors, placed_section_errors, sorted_errors_of, sorted_errors}
 use Rattle.wild_layout.specs.Sites.{shared_byte}
 use Rattle.wild_change.specs.Outline.{outline_file, outline}
 use Rattle.wild_outlines.proofs.ListLemmas.{flat_map-same}
@@ -34,31 +33,31 @@ use Rattle.wild_outlines.proofs.ContentSymbols.{table_fields-outline}
 use Rattle.wild_outlines.proofs.DebugDecisions.{debug_decided_at-outline}
 use Rattle.wild_outlines.proofs.FramesTable.{search_table_faults-outline}
 
-pub exported_error-each : (l : Layout) (at : At) → exported_error (outline l) at ≡ exported_error l at
+exported_error-each : (l : Layout) (at : At) → exported_error (outline l) at ≡ exported_error l at
 exported_error-each l at = fun_ext (λ d. simp (listed_of-outline l))
 
-pub exported_errors-outline : (l : Layout) (group file : ℕ) (f : File) → exported_errors (outline l) group file f ≡ exported_errors l group file f
+exported_errors-outline : (l : Layout) (group file : ℕ) (f : File) → exported_errors (outline l) group file f ≡ exported_errors l group file f
 unfolding exported_errors
 exported_errors-outline l group file f = simp (exported_error-each l)
 
-pub copy_errors-each : (l : Layout) (group file : ℕ) → copy_errors (outline l) group file ≡ copy_errors l group file
+copy_errors-each : (l : Layout) (group file : ℕ) → copy_errors (outline l) group file ≡ copy_errors l group file
 copy_errors-each l group file = fun_ext (λ i. simp (raw_value-outline l))
 
-pub symbol_errors-each : (l : Layout) (group file : ℕ) → symbol_errors (outline l) group file ≡ symbol_errors l group file
+symbol_errors-each : (l : Layout) (group file : ℕ) → symbol_errors (outline l) group file ≡ symbol_errors l group file
 symbol_errors-each l group file = fun_ext (λ i. fun_ext (λ s. simp (header_only-outline l, slots_of-outline l)))
 
-pub slot_errors-outline : (l : Layout) (group file : ℕ) (f : File) → slot_errors (outline l) group file f ≡ slot_errors l group file f
+slot_errors-outline : (l : Layout) (group file : ℕ) (f : File) → slot_errors (outline l) group file f ≡ slot_errors l group file f
 unfolding slot_errors
 slot_errors-outline l group file f = simp (symbol_errors-each l)
 
-pub debug_error-each : (l : Layout) (group file section : ℕ) (s : InputSection) (origins : List InputRelocation) → debug_error (outline l) group file section s origins ≡ debug_error l group file section s origins
+debug_error-each : (l : Layout) (group file section : ℕ) (s : InputSection) (origins : List InputRelocation) → debug_error (outline l) group file section s origins ≡ debug_error l group file section s origins
 debug_error-each l group file section s origins = fun_ext (λ i. simp (debug_decided_at-outline l))
 
-pub debug_errors-outline : (l : Layout) (group file section : ℕ) (s : InputSection) (origins : List InputRelocation) → debug_errors (outline l) group file section s origins ≡ debug_errors l group file section s origins
+debug_errors-outline : (l : Layout) (group file section : ℕ) (s : InputSection) (origins : List InputRelocation) → debug_errors (outline l) group file section s origins ≡ debug_errors l group file section s origins
 unfolding debug_errors
 debug_errors-outline l group file section s origins = simp (debug_error-each l)
 
-pub relocation_errors-outline : (l : Layout) (group file section : ℕ) (s : Item) (origins : List InputRelocation) (i : ℕ) → relocation_errors (outline l) group file section s origins i ≡ relocation_errors l group file section s origins i
+relocation_errors-outline : (l : Layout) (group file section : ℕ) (s : Item) (origins : List InputRelocation) (i : ℕ) → relocation_errors (outline l) group file section s origins i ≡ relocation_errors l group file section s origins i
 unfolding relocation_errors
 relocation_errors-outline l group file section s origins i = simp (decide-outline l)
 
@@ -72,16 +71,10 @@ relocations_errors-outline : (l : Layout) (group file section : ℕ) (s : Item) 
 relocations_errors-outline l group file section s origins =
     flat_map-same (relocation_errors (outline l) group file section s origins) (relocation_errors l group file section s origins) (range_with_len 0 (length s.relocations)) (relocation_errors-outline l group file section s origins)
 
-item_errors-outline : (l : Layout) (group file section : ℕ) (s : Item) (origins : List InputRelocation) (ending : List Error) → item_errors (outline l) group file section s origins ending ≡ item_errors l group file section s origins ending
-item_errors-outline l group file section s origins ending = simp (relocations_errors-outline l group file section s origins, shared_byte-outline l s origins)
-
 placed_section_errors_by-outline : (l : Layout) (b : Bool) (group file : ℕ) (f : File) (section : ℕ) (s placed : InputSection) → placed_section_errors_by b (outline l) group file (outline_file f) section s placed ≡ placed_section_errors_by b l group file f section s placed
-placed_section_errors_by-outline l true group file f section s placed =
-    ap (debug_errors (outline l) group file section placed) (origins_of-outline l f s) ∙ debug_errors-outline l group file section placed (origins_of l f s)
+placed_section_errors_by-outline l true group file f section s placed = simp (origins_of-outline l f s, debug_errors-outline l group file section placed (origins_of l f s))
 placed_section_errors_by-outline l false group file f section s placed =
-    ap (λ origins. item_errors (outline l) group file section (item_of l f placed) origins (bad_frames (outline l) group file (outline_file f) section s)) (origins_of-outline l f s)
-    ∙ (ap (item_errors (outline l) group file section (item_of l f placed) (origins_of l f s)) (bad_frames-outline l group file f section s)
-    ∙ item_errors-outline l group file section (item_of l f placed) (origins_of l f s) (bad_frames l group file f section s))
+    simp (origins_of-outline l f s, bad_frames-outline l group file f section s, relocations_errors-outline l group file section (item_of l f placed) (origins_of l f s), shared_byte-outline l (item_of l f placed) (origins_of l f s))
 
 placed_section_errors-outline : (l : Layout) (group file : ℕ) (f : File) (section : ℕ) (s placed : InputSection) → placed_section_errors (outline l) group file (outline_file f) section s placed ≡ placed_section_errors l group file f section s placed
 placed_section_errors-outline l group file f section s placed = simp (header_only-outline l, placed_section_errors_by-outline l)
@@ -106,10 +99,10 @@ sections_errors-outline : (l : Layout) (group file : ℕ) (f : File) (at i : ℕ
 sections_errors-outline l group file f at i [] = refl
 sections_errors-outline l group file f at i (s ∷ ss) = simp (section_errors-outline l group file f at i s, kept_size-same_file l f s, sections_errors-outline l group file f (behind at (kept_size l f s)) (i + 1) ss)
 
-pub thunk_error-each : (l : Layout) (at : At) → thunk_error (outline l) at ≡ thunk_error l at
+thunk_error-each : (l : Layout) (at : At) → thunk_error (outline l) at ≡ thunk_error l at
 thunk_error-each l at = fun_ext (λ t. simp (raw_value-outline l))
 
-pub thunk_errors-outline : (l : Layout) (group file : ℕ) (f : File) → thunk_errors (outline l) group file f ≡ thunk_errors l group file f
+thunk_errors-outline : (l : Layout) (group file : ℕ) (f : File) → thunk_errors (outline l) group file f ≡ thunk_errors l group file f
 unfolding thunk_errors
 thunk_errors-outline l group file f = simp (header_only-outline l, thunk_error-each l)
 
@@ -122,10 +115,10 @@ files_errors-outline : (l : Layout) (group at i : ℕ) (fs : List File) → file
 files_errors-outline l group at i [] = refl
 files_errors-outline l group at i (f ∷ fs) = simp (file_errors-outline l group at i f, file_frames-same_file l f, files_errors-outline l group (behind at (file_frames l f)) (i + 1) fs)
 
-pub table_error-each : (l : Layout) (at : At) (f : File) → table_error (outline l) at f ≡ table_error l at f
+table_error-each : (l : Layout) (at : At) (f : File) → table_error (outline l) at f ≡ table_error l at f
 table_error-each l at f = fun_ext (λ x. simp (table_fields-outline l))
 
-pub table_errors-outline : (l : Layout) (group file : ℕ) (f : File) → table_errors (outline l) group file f ≡ table_errors l group file f
+table_errors-outline : (l : Layout) (group file : ℕ) (f : File) → table_errors (outline l) group file f ≡ table_errors l group file f
 unfolding table_errors
 table_errors-outline l group file f = simp (table_error-each l, file_items-same_file l)
 

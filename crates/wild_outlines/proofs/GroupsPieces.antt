@@ -1,5 +1,5 @@
 -- The pieces of a group in an outline.
-use Rattle.std.proofs.Common.{◌≡◌, ℕ, ◌+◌, if◌then◌else◌, [], ◌++◌, take, flat_map, refl, ap, ◌∙◌}
+use Rattle.std.proofs.Common.{◌≡◌, ℕ, take, flat_map, refl, ap, ◌∙◌}
 use Rattle.std.proofs.lemmas.List.{take-map}
 use std.Path.{fun_ext}
 use Rattle.wild_types.specs.declared.layout.Layout.{Layout}
@@ -9,11 +9,9 @@ use Rattle.wild_types.specs.declared.file.File.{File}
 use Rattle.wild_types.specs.declared.file.Group.{Group}
 use Rattle.wild_types.specs.FilePlaces.{given}
 use Rattle.wild_types.specs.Lists.{total}
-use Rattle.wild_types.specs.Lookups.{is_header_only_at}
 use Rattle.wild_placement.specs.ReversedWords.{with_word_order}
-use Rattle.wild_placement.specs.PlacedSections.{Input, sorted_inputs, placed_files, of_last_file}
-use Rattle.wild_layout.specs.Content.{content}
-use Rattle.wild_layout.specs.Image.{section_piece, section_pieces, sorted_piece, merged_and_identity_pieces, thunk_pieces, file_pieces, owned_pieces, shares_before, table_piece, table_pieces, group_pieces, some_piece, of_first_file, thunk_piece}
+use Rattle.wild_placement.specs.PlacedSections.{Input, sorted_inputs, placed_files}
+use Rattle.wild_layout.specs.Image.{section_piece, sorted_piece, merged_and_identity_pieces, thunk_pieces, file_pieces, owned_pieces, shares_before, table_piece, table_pieces, group_pieces, thunk_piece}
 use Rattle.wild_change.specs.Outline.{outline_file, outline_group, outline}
 use Rattle.wild_outlines.proofs.ListLemmas.{flat_map-same}
 use Rattle.wild_outlines.proofs.ChangedPieces.{flat_map_from-same}
@@ -47,12 +45,7 @@ thunk_pieces-outline l f = simp (header_only-outline l, thunk_piece-each l)
 
 file_pieces-outline : (l : Layout) (f : File) → file_pieces (outline l) f ≡ file_pieces l f
 file_pieces-outline l f =
-    ap (λ ps. ps ++ (of_last_file f (flat_map (sorted_piece (outline l)) (sorted_inputs (outline l))) ++ (of_first_file f (merged_and_identity_pieces (outline l)) ++ thunk_pieces (outline l) f))) (flat_map-same (section_piece (outline l) f) (section_piece l f) f.sections (section_piece-same_file l f))
-    ∙ ap (λ ps. section_pieces l f ++ ps) (
-    ap (λ ps. of_last_file f ps ++ (of_first_file f (merged_and_identity_pieces (outline l)) ++ thunk_pieces (outline l) f)) (sorted_pieces-outline l)
-    ∙ ap (λ ps. of_last_file f (flat_map (sorted_piece l) (sorted_inputs l)) ++ ps) (
-    ap (λ ps. of_first_file f ps ++ thunk_pieces (outline l) f) (merged_and_identity_pieces-outline l)
-    ∙ ap (λ ps. of_first_file f (merged_and_identity_pieces l) ++ ps) (thunk_pieces-outline l f)))
+    simp (flat_map-same (section_piece (outline l) f) (section_piece l f) f.sections (section_piece-same_file l f), sorted_pieces-outline l, merged_and_identity_pieces-outline l, thunk_pieces-outline l f)
 
 owned_pieces-outline : (l : Layout) (g : Group) → owned_pieces (outline l) g ≡ owned_pieces l g
 owned_pieces-outline l g = ap (flat_map (file_pieces (outline l))) (placed_files-outline l g) ∙ flat_map-same (file_pieces (outline l)) (file_pieces l) (placed_files l g) (file_pieces-outline l)
@@ -61,13 +54,10 @@ shares_before-outline : (l : Layout) (part group : ℕ) → shares_before (outli
 shares_before-outline l part group = ap (total (given part)) (take-map outline_group group l.groups) ∙ total-mapped (given part) (given part) outline_group (λ g. refl) (take group l.groups)
 
 table_piece-outline : (l : Layout) (group : ℕ) (g : Group) (i : ℕ) (p : Part) → table_piece (outline l) group g i p ≡ table_piece l group g i p
-table_piece-outline l group g i p =
-    ap (λ at. if is_header_only_at (outline l) p.section then [] else some_piece (p.offset + at) (content (outline l) p.role g)) (shares_before-outline l i group)
-    ∙ (ap (λ bs. if is_header_only_at (outline l) p.section then [] else some_piece (p.offset + shares_before l i group) bs) (content-outline l p.role g)
-    ∙ simp (header_only-outline l))
+table_piece-outline l group g i p = simp (shares_before-outline l i group, content-outline l p.role g, header_only-outline l)
 
 table_pieces-outline : (l : Layout) (group : ℕ) (g : Group) → table_pieces (outline l) group g ≡ table_pieces l group g
 table_pieces-outline l group g = flat_map_from-same (table_piece l group g) (table_piece (outline l) group g) (table_piece-outline l group g) 0 l.parts
 
 pub group_pieces-outline : (l : Layout) (group : ℕ) (g : Group) → group_pieces (outline l) group g ≡ group_pieces l group g
-group_pieces-outline l group g = ap (λ ps. ps ++ owned_pieces (outline l) g) (table_pieces-outline l group g) ∙ ap (λ ps. table_pieces l group g ++ ps) (owned_pieces-outline l g)
+group_pieces-outline l group g = simp (table_pieces-outline l group g, owned_pieces-outline l g)

@@ -1,6 +1,6 @@
 -- The bytes without an owner in an outline, and the padding.
 use Rattle.std.proofs.Common.{◌≡◌, ℕ, Bool, List, [], ◌∷◌, map, refl, ap, ◌∙◌}
-use Rattle.std.specs.Prelude.{◌||◌, ◌&&◌, not, drop}
+use Rattle.std.specs.Prelude.{◌&&◌, not, drop}
 use Rattle.std.specs.List.{range_with_len, list_any}
 use std.Path.{fun_ext}
 use Rattle.wild_types.specs.declared.layout.Layout.{Layout}
@@ -8,9 +8,8 @@ use Rattle.wild_types.specs.declared.section.Section.{Section}
 use Rattle.wild_types.specs.declared.input.InputSection.{InputSection}
 use Rattle.wild_types.specs.declared.file.File.{File}
 use Rattle.wild_types.specs.declared.file.Group.{Group}
-use Rattle.wild_types.specs.FileThunks.{thunks_of}
 use Rattle.wild_types.specs.Lookups.{image_size}
-use Rattle.wild_layout.specs.Image.{is_owned, padding, padding_byte, section_owns, thunk_owns, file_owns, group_owns, part_owns, has_offset, merged_and_identity_owns}
+use Rattle.wild_layout.specs.Image.{is_owned, padding, padding_byte, section_owns, thunk_owns, file_owns, group_owns, part_owns, has_offset}
 use Rattle.wild_change.specs.Outline.{outline_section, outline_file, outline_group, outline}
 use Rattle.wild_outlines.proofs.ListLemmas.{map-same}
 use Rattle.wild_outlines.proofs.ClausesTests.{image_size-outline, header_only-outline}
@@ -26,14 +25,8 @@ thunk_owns-each l k = fun_ext (λ t. simp (header_only-outline l))
 part_owns-each : (l : Layout) (k : ℕ) → part_owns (outline l) k ≡ part_owns l k
 part_owns-each l k = fun_ext (λ p. simp (header_only-outline l))
 
-thunk_owns-outline : (l : Layout) (k : ℕ) (f : File) → list_any (thunk_owns (outline l) k) (thunks_of (outline l) (outline_file f)) ≡ list_any (thunk_owns l k) (thunks_of l f)
-thunk_owns-outline l k f = simp (thunk_owns-each l k)
-
 file_owns-outline : (l : Layout) (k : ℕ) (f : File) → file_owns (outline l) k (outline_file f) ≡ file_owns l k f
-file_owns-outline l k f =
-    ap (λ b. b || list_any (thunk_owns (outline l) k) (thunks_of (outline l) (outline_file f)))
-    (list_any-mapped (section_owns (outline l) k) (section_owns l k) outline_section (section_owns-outline l k) f.sections)
-    ∙ ap (λ b. list_any (section_owns l k) f.sections || b) (thunk_owns-outline l k f)
+file_owns-outline l k f = simp (list_any-mapped (section_owns (outline l) k) (section_owns l k) outline_section (section_owns-outline l k) f.sections, thunk_owns-each l k)
 
 group_owns-outline : (l : Layout) (k : ℕ) (g : Group) → group_owns (outline l) k (outline_group g) ≡ group_owns l k g
 group_owns-outline l k g = list_any-mapped (file_owns (outline l) k) (file_owns l k) outline_file (file_owns-outline l k) g.files
@@ -42,9 +35,7 @@ groups_own-outline : (l : Layout) (k : ℕ) → list_any (group_owns (outline l)
 groups_own-outline l k = list_any-mapped (group_owns (outline l) k) (group_owns l k) outline_group (group_owns-outline l k) l.groups
 
 is_owned-outline : (l : Layout) (k : ℕ) → is_owned (outline l) k ≡ is_owned l k
-is_owned-outline l k =
-    ap (λ b. list_any (part_owns (outline l) k) l.parts || (b || merged_and_identity_owns (outline l) k)) (groups_own-outline l k)
-    ∙ simp (part_owns-each l k, header_only-outline l)
+is_owned-outline l k = simp (groups_own-outline l k, part_owns-each l k, header_only-outline l)
 
 padding_byte-outline : (l : Layout) (free : ℕ → Bool) (ss : List Section) (k : ℕ) → padding_byte (outline l) free ss k ≡ padding_byte l free ss k
 padding_byte-outline l free [] k = refl

@@ -49,15 +49,15 @@ same_group d h l g = sym (h (outline l) g) ∙ (ap (λ m. d m (outline_group g))
 pub output_section-same_file : (l : Layout) (f : File) (p : Place) → output_section (outline l) (Some f) p ≡ output_section l (Some f) p
 output_section-same_file l f p = same_file (λ m g. output_section m (Some g) p) (λ m g. output_section-outline m (Some g) p) l f
 
-pub address_in_section-outline : (l : Layout) (value : ℕ) (o : Option InputSection) → address_in_section (outline l) value (option_map outline_section o) ≡ address_in_section l value o
+address_in_section-outline : (l : Layout) (value : ℕ) (o : Option InputSection) → address_in_section (outline l) value (option_map outline_section o) ≡ address_in_section l value o
 address_in_section-outline l value None = refl
 address_in_section-outline l value (Some s) = refl
 
-pub address_in_file-outline : (l : Layout) (k value : ℕ) (o : Option File) → address_in_file (outline l) k value (option_map outline_file o) ≡ address_in_file l k value o
+address_in_file-outline : (l : Layout) (k value : ℕ) (o : Option File) → address_in_file (outline l) k value (option_map outline_file o) ≡ address_in_file l k value o
 address_in_file-outline l k value None = refl
 address_in_file-outline l k value (Some f) = ap (address_in_section (outline l) value) (slice_get-map outline_section f.sections k) ∙ address_in_section-outline l value (slice_get f.sections k)
 
-pub address_at-outline : (l : Layout) (i value : ℕ) (p : Place) → address_at (outline l) i value p ≡ address_at l i value p
+address_at-outline : (l : Layout) (i value : ℕ) (p : Place) → address_at (outline l) i value p ≡ address_at l i value p
 address_at-outline l i value (at.Section k) = ap (address_in_file (outline l) k value) (file_of-layout l.groups i) ∙ address_in_file-outline l k value (file_of (files_of l.groups) i)
 address_at-outline l i value other = refl
 

@@ -34,11 +34,11 @@ pub raw_address-outline : (l : Layout) (o : Option ℕ) → raw_address (outline
 raw_address-outline l None = refl
 raw_address-outline l (Some i) = simp (raw_value-outline l)
 
-pub address_of-outline : (l : Layout) (o : Option ℕ) → address_of (outline l) o ≡ address_of l o
+address_of-outline : (l : Layout) (o : Option ℕ) → address_of (outline l) o ≡ address_of l o
 address_of-outline l None = refl
 address_of-outline l (Some i) = simp (raw_value-outline l)
 
-pub address_by-outline : (l : Layout) (r : InputRelocation) (i : ℕ) (x : Option (List MergedString)) → address_by (outline l) r i x ≡ address_by l r i x
+address_by-outline : (l : Layout) (r : InputRelocation) (i : ℕ) (x : Option (List MergedString)) → address_by (outline l) r i x ≡ address_by l r i x
 address_by-outline l r i None = simp (raw_value-outline l)
 address_by-outline l r i (Some strings) = refl
 
@@ -67,7 +67,7 @@ pub merged_strings-outline : (l : Layout) (i : ℕ) → merged_strings (outline 
 unfolding merged_strings
 merged_strings-outline l i = ap (λ strings. if is_plain_own (flags_at l i) then strings else None) (strings_of_symbol-outline l i (slice_get l.symbols i))
 
-pub address_named-outline : (l : Layout) (r : InputRelocation) (o : Option ℕ) → address_named (outline l) r o ≡ address_named l r o
+address_named-outline : (l : Layout) (r : InputRelocation) (o : Option ℕ) → address_named (outline l) r o ≡ address_named l r o
 address_named-outline l r None = refl
 address_named-outline l r (Some i) = simp (address_by-outline l, merged_strings-outline l)
 
@@ -78,11 +78,11 @@ address_for-outline l r = simp (address_named-outline l)
 pub is_undefined-outline : (l : Layout) (i : ℕ) → is_undefined (outline l) i ≡ is_undefined l i
 is_undefined-outline l i = refl
 
-pub pointer_offset-outline : (l : Layout) (o : Option ℕ) → pointer_offset (outline l) o ≡ pointer_offset l o
+pointer_offset-outline : (l : Layout) (o : Option ℕ) → pointer_offset (outline l) o ≡ pointer_offset l o
 pointer_offset-outline l None = refl
 pointer_offset-outline l (Some i) = simp (is_undefined-outline l, raw_value-outline l)
 
-pub names_merged-outline : (l : Layout) (o : Option ℕ) → names_merged (outline l) o ≡ names_merged l o
+names_merged-outline : (l : Layout) (o : Option ℕ) → names_merged (outline l) o ≡ names_merged l o
 names_merged-outline l None = refl
 names_merged-outline l (Some i) = simp (merged_strings-outline l)
 
@@ -90,7 +90,7 @@ pub value_less-outline : (l : Layout) (t : Subtrahend) (s : ℕ) (a : ℤ) (p : 
 value_less-outline l taken.Nothing s a p = refl
 value_less-outline l other s a p = refl
 
-pub is_absent-outline : (l : Layout) (o : Option ℕ) → is_absent (outline l) o ≡ is_absent l o
+is_absent-outline : (l : Layout) (o : Option ℕ) → is_absent (outline l) o ≡ is_absent l o
 is_absent-outline l None = refl
 is_absent-outline l (Some i) = refl
 
@@ -98,26 +98,26 @@ pub is_own_place-outline : (l : Layout) (m : Machine) (r : InputRelocation) (row
 is_own_place-outline l machine.X86_64 r row = refl
 is_own_place-outline l machine.AArch64 r row = simp (is_absent-outline l)
 
-pub slot_of-outline : (l : Layout) (sort : SlotSort) (i : ℕ) → slot_of (outline l) sort i ≡ slot_of l sort i
+slot_of-outline : (l : Layout) (sort : SlotSort) (i : ℕ) → slot_of (outline l) sort i ≡ slot_of l sort i
 slot_of-outline l sorts.OwnPair i = refl
 slot_of-outline l sort i = refl
 
-pub slot_address-outline : (l : Layout) (sort : SlotSort) (o : Option ℕ) → slot_address (outline l) sort o ≡ slot_address l sort o
+slot_address-outline : (l : Layout) (sort : SlotSort) (o : Option ℕ) → slot_address (outline l) sort o ≡ slot_address l sort o
 slot_address-outline l sort None = refl
 slot_address-outline l sort (Some i) = simp (slot_of-outline l)
 
-pub stub_address-outline : (l : Layout) (o : Option ℕ) → stub_address (outline l) o ≡ stub_address l o
+stub_address-outline : (l : Layout) (o : Option ℕ) → stub_address (outline l) o ≡ stub_address l o
 stub_address-outline l None = refl
 stub_address-outline l (Some i) = refl
 
-pub storage_start-outline : (l : Layout) → storage_start (outline l) ≡ storage_start l
+storage_start-outline : (l : Layout) → storage_start (outline l) ≡ storage_start l
 storage_start-outline l = refl
 
-pub size_of-outline : (l : Layout) (o : Option ℕ) → size_of (outline l) o ≡ size_of l o
+size_of-outline : (l : Layout) (o : Option ℕ) → size_of (outline l) o ≡ size_of l o
 size_of-outline l None = refl
 size_of-outline l (Some i) = refl
 
-pub term_value-outline : (l : Layout) (symbol : Option ℕ) (t : Term) → term_value (outline l) symbol t ≡ term_value l symbol t
+term_value-outline : (l : Layout) (symbol : Option ℕ) (t : Term) → term_value (outline l) symbol t ≡ term_value l symbol t
 term_value-outline l symbol term.Table = refl
 term_value-outline l symbol term.Size = simp (size_of-outline l)
 term_value-outline l symbol term.PointerOffset = simp (pointer_offset-outline l)
