@@ -155,7 +155,7 @@ placed_extents-outline l f a (s ∷ ss) =
 front-outline : (l : Layout) (part : ℕ) (bs : List ℕ) → front_piece (outline l) part bs ≡ front_piece l part bs
 front-outline l part bs = rw (header_only-outline l (slice_get l.sections (section_of l part))) refl
 
-merged-outline : (l : Layout) → merged_and_identity_pieces (outline l) ≡ merged_and_identity_pieces l
+pub merged-outline : (l : Layout) → merged_and_identity_pieces (outline l) ≡ merged_and_identity_pieces l
 merged-outline l =
     ap (λ ps. ps ++ front_piece (outline l) l.identity.part l.identity.bytes)
     (flat_map-same (λ (m : Merged). front_piece (outline l) m.part (merged_bytes m)) (λ (m : Merged). front_piece l m.part (merged_bytes m)) l.merged (λ (m : Merged). front-outline l m.part (merged_bytes m)))

@@ -143,7 +143,7 @@ sorted_in_group-outline : (l : Layout) (o : Option File) (k : ℕ) → sections_
 sorted_in_group-outline l None k = refl
 sorted_in_group-outline l (Some f) k = rw (slice_get-map outline_section f.sections k) (sorted_in_file-outline l f (slice_get f.sections k))
 
-files_at-outline : (o : Option Group) → files_at (option_map outline_group o) ≡ map outline_file (files_at o)
+pub files_at-outline : (o : Option Group) → files_at (option_map outline_group o) ≡ map outline_file (files_at o)
 files_at-outline None = refl
 files_at-outline (Some g) = refl
 
@@ -347,7 +347,7 @@ mark_astray-outline n i (g ∷ gs) =
 
 -- ---- clause 22
 
-given_by-option : (part : ℕ) (o : Option Group) → given_by part (option_map outline_group o) ≡ given_by part o
+pub given_by-option : (part : ℕ) (o : Option Group) → given_by part (option_map outline_group o) ≡ given_by part o
 given_by-option part None = refl
 given_by-option part (Some g) = refl
 

@@ -1,44 +1,25 @@
 -- Strings, symbols, words and dynamic entries that the parts of an outline need.
-use Rattle.std.proofs.Common.{◌≡◌, ℕ, List, [], ◌∷◌, map, flat_map, option_to_list, Option, Some, None, refl, ap, ◌∙◌}
+use Rattle.std.proofs.Common.{◌≡◌, ℕ, List, [], ◌∷◌, map, Option, Some, None, refl}
 use std.Path.{fun_ext}
 use Rattle.wild_types.specs.declared.file.File.{File}
 use Rattle.wild_types.specs.declared.file.Group.{Group}
-use Rattle.wild_types.specs.declared.input.InputSection.{InputSection}
 use Rattle.wild_types.specs.declared.layout.Entry.{Entry}
 use Rattle.wild_types.specs.declared.layout.Layout.{Layout}
 use Rattle.wild_types.specs.declared.file.FileRole.{FileRole}
-use Rattle.wild_types.specs.Lookups.{files_of}
 use Rattle.wild_types.specs.declared.layout.Entry.TheVariants as entry
 use Rattle.wild_types.specs.declared.file.FileRole.TheVariants as file_role
 use Rattle.wild_slot.specs.declared.slot_parts.WordPart.{WordPart}
-use Rattle.wild_placement.specs.PlacedSections.{sorted_sections}
 use Rattle.wild_needs.specs.DynamicStrings.{dynstr_prefix_strings, file_strings, named_strings, needed_entries, needed_from, next_dynstr}
-use Rattle.wild_needs.specs.Entries.{sorted_words, words_of}
 use Rattle.wild_needs.specs.EntryPoint.{entry_at, entry_by, entry_point, text_start}
 use Rattle.wild_needs.specs.SlotShares.{group_relr_got, words_in}
-use Rattle.wild_needs.specs.TableSymbols.{file_items, singleton_sections, table_strings}
-use Rattle.wild_change.specs.Outline.{outline_section, outline_file, outline_group, outline}
-use Rattle.wild_outlines.proofs.ListLemmas.{flat_map-same}
+use Rattle.wild_needs.specs.TableSymbols.{file_items, table_strings}
+use Rattle.wild_change.specs.Outline.{outline_file, outline_group, outline}
 use Rattle.wild_outlines.proofs.ValuesFiles.{same_file, same_group, raw_value-outline}
-use Rattle.wild_outlines.proofs.ClausesGroups.{files_of-outline, flat_map-mapped}
-use Rattle.wild_outlines.proofs.SharesSections.{words_of-outline}
 use Rattle.wild_outlines.proofs.SharesTables.{file_items-outline, file_strings-outline, table_strings-outline, group_relr_got-outline}
-use Rattle.wild_outlines.proofs.SharesLemmas.{sorted_sections-outline}
 use Rattle.wild_outlines.proofs.ClausesSlots.{slots_of-outline}
 
 pub file_items-same_file : (l : Layout) (f : File) → file_items (outline l) f ≡ file_items l f
 file_items-same_file l f = same_file file_items file_items-outline l f
-
-kept_sections : File → List ℕ
-kept_sections f = flat_map (λ (s : InputSection). option_to_list s.singleton) f.sections
-
-kept_sections-outline : (f : File) → kept_sections (outline_file f) ≡ kept_sections f
-unfolding kept_sections
-kept_sections-outline f = flat_map-mapped (λ (s : InputSection). option_to_list s.singleton) (λ (s : InputSection). option_to_list s.singleton) outline_section (λ s. refl) f.sections
-
-pub singleton_sections-outline : (l : Layout) → singleton_sections (outline l) ≡ singleton_sections l
-unfolding kept_sections
-singleton_sections-outline l = ap (flat_map kept_sections) (files_of-outline l.groups) ∙ flat_map-mapped kept_sections kept_sections outline_file kept_sections-outline (files_of l.groups)
 
 named_strings-outline : (l : Layout) → named_strings (outline l) ≡ named_strings l
 unfolding named_strings
@@ -87,9 +68,6 @@ needed_entries-outline l g = simp (needed_from-outline l g.dynstr_start g.files)
 
 pub needed_entries-same_group : (l : Layout) (g : Group) → needed_entries (outline l) g ≡ needed_entries l g
 needed_entries-same_group l g = same_group needed_entries needed_entries-outline l g
-
-pub sorted_words-outline : (l : Layout) → sorted_words (outline l) ≡ sorted_words l
-sorted_words-outline l = ap (flat_map (words_of (outline l))) (sorted_sections-outline l) ∙ flat_map-same (words_of (outline l)) (words_of l) (sorted_sections l) (words_of-outline l)
 
 pub group_relr_got-same_group : (l : Layout) (g : Group) → group_relr_got (outline l) g ≡ group_relr_got l g
 group_relr_got-same_group l g = same_group group_relr_got group_relr_got-outline l g

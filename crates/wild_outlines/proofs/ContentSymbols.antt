@@ -19,9 +19,9 @@ use Rattle.wild_table_formats.specs.TableEntries.{at_address, fields_of, file_ta
 use Rattle.wild_table_formats.specs.declared.symbols.SymbolAttributes.{SymbolAttributes}
 use Rattle.wild_change.specs.Outline.{outline_section, outline_file, outline}
 use Rattle.wild_outlines.proofs.ClausesGroups.{files_of-outline, file_of-layout, flat_map-mapped}
-use Rattle.wild_outlines.proofs.SharesTables.{file_items-outline, section_symbols-outline}
+use Rattle.wild_outlines.proofs.SharesTables.{file_items-outline, section_symbols-outline, singleton_sections-outline}
 use Rattle.wild_outlines.proofs.ClausesSlots.{slots_of-outline}
-use Rattle.wild_outlines.proofs.ContentNeeds.{file_items-same_file, singleton_sections-outline}
+use Rattle.wild_outlines.proofs.ContentNeeds.{file_items-same_file}
 use Rattle.wild_outlines.proofs.ValuesFiles.{output_section-same_file, raw_value-outline}
 
 at_address-outline : (l : Layout) (i : ℕ) (s : Symbol) (section o : Option ℕ) (a : SymbolAttributes) → at_address (outline l) i s section o a ≡ at_address l i s section o a

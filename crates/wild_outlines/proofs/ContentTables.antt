@@ -16,7 +16,7 @@ use Rattle.wild_change.specs.Outline.{outline_group, outline}
 use Rattle.wild_outlines.proofs.ListLemmas.{flat_map-same}
 use Rattle.wild_outlines.proofs.Decisions.{item_bytes-outline}
 use Rattle.wild_outlines.proofs.FramesPlaced.{placed_files-outline}
-use Rattle.wild_outlines.proofs.ContentNeeds.{needed_entries-outline, sorted_words-outline, file_items-same_file, file_strings-same_file, group_relr_got-same_group, needed_entries-same_group, table_strings-same_file}
+use Rattle.wild_outlines.proofs.ContentNeeds.{needed_entries-outline, file_items-same_file, file_strings-same_file, group_relr_got-same_group, needed_entries-same_group, table_strings-same_file}
 use Rattle.wild_outlines.proofs.ContentRelocations.{file_entries-outline, file_words-outline, header_bytes-outline, slot_bytes-outline, block_bytes-outline, file_generals-outline}
 use Rattle.wild_outlines.proofs.ClausesGroups.{first_listed-outline}
 use Rattle.wild_outlines.proofs.ContentDynamic.{file_definitions-outline, group_needs-outline, group_symbols-outline}
@@ -25,6 +25,7 @@ use Rattle.wild_outlines.proofs.ContentSymbols.{named_entry-each, table_entries-
 use Rattle.wild_outlines.proofs.FramesTable.{search_table-outline}
 use Rattle.wild_outlines.proofs.SharesTables.{dynamic_entries-outline, section_symbols-outline}
 use Rattle.wild_outlines.proofs.ValuesFiles.{share_of-outline}
+use Rattle.wild_outlines.proofs.SharesLemmas.{sorted_words-outline}
 
 frame_bytes_of-outline : (l : Layout) (f : File) (s : InputSection) → frame_bytes_of (outline l) f s ≡ frame_bytes_of l f s
 unfolding frame_bytes_of

@@ -18,6 +18,7 @@ use Rattle.wild_outlines.proofs.ChangedItems.{outline_section-fixed}
 use Rattle.wild_outlines.proofs.SharesFrames.{frames_of-outline, kept_size-outline, file_frames-outline}
 use Rattle.wild_outlines.proofs.SharesLemmas.{sorted_sections-outline}
 use Rattle.wild_outlines.proofs.ValuesFiles.{same_file}
+use Rattle.wild_outlines.proofs.ClausesGroups.{files_at-outline}
 
 pub frames_of-same_file : (l : Layout) (f : File) (s : InputSection) → frames_of (outline l) f s ≡ frames_of l f s
 frames_of-same_file l f s = same_file (λ m g. frames_of m g s) (λ m g. frames_of-outline m g s) l f
@@ -60,10 +61,6 @@ sorted_in_file-outline l f (Some s) = sorted_sections_are_unchangeable (outline 
 sorted_in_group-outline : (l : Layout) (o : Option File) (k : ℕ) → sorted_in_group (outline l) (option_map outline_file o) k ≡ map outline_input (sorted_in_group l o k)
 sorted_in_group-outline l None k = refl
 sorted_in_group-outline l (Some f) k = ap (sorted_in_file (outline l) (outline_file f)) (slice_get-map outline_section f.sections k) ∙ sorted_in_file-outline l f (slice_get f.sections k)
-
-files_at-outline : (o : Option Group) → files_at (option_map outline_group o) ≡ map outline_file (files_at o)
-files_at-outline None = refl
-files_at-outline (Some g) = refl
 
 pub sorted_input-outline : (l : Layout) (x : SortedSection) → sorted_input (outline l) x ≡ map outline_input (sorted_input l x)
 unfolding sorted_input

@@ -11,7 +11,7 @@ use Rattle.wild_types.specs.FilePlaces.{given}
 use Rattle.wild_types.specs.Lists.{total}
 use Rattle.wild_placement.specs.ReversedWords.{with_word_order}
 use Rattle.wild_placement.specs.PlacedSections.{Input, sorted_inputs, placed_files}
-use Rattle.wild_layout.specs.Image.{section_piece, sorted_piece, merged_and_identity_pieces, thunk_pieces, file_pieces, owned_pieces, shares_before, table_piece, table_pieces, group_pieces, thunk_piece}
+use Rattle.wild_layout.specs.Image.{section_piece, sorted_piece, thunk_pieces, file_pieces, owned_pieces, shares_before, table_piece, table_pieces, group_pieces, thunk_piece}
 use Rattle.wild_change.specs.Outline.{outline_file, outline_group, outline}
 use Rattle.wild_outlines.proofs.ListLemmas.{flat_map-same}
 use Rattle.wild_outlines.proofs.ChangedPieces.{flat_map_from-same}
@@ -21,6 +21,7 @@ use Rattle.wild_outlines.proofs.FramesPlaced.{outline_input, sorted_inputs-outli
 use Rattle.wild_outlines.proofs.ContentSections.{section_bytes-outline}
 use Rattle.wild_outlines.proofs.ContentTables.{content-outline}
 use Rattle.wild_outlines.proofs.ClausesGroups.{flat_map-mapped, total-mapped}
+use Rattle.wild_outlines.proofs.ChangedExtents.{merged-outline}
 
 section_piece-outline : (l : Layout) (f : File) (s : InputSection) → section_piece (outline l) (outline_file f) s ≡ section_piece l f s
 section_piece-outline l f s = simp (header_only-outline l, section_bytes-outline l f s)
@@ -34,9 +35,6 @@ sorted_piece-outline l x = section_piece-outline l x.file (with_word_order x.sec
 sorted_pieces-outline : (l : Layout) → flat_map (sorted_piece (outline l)) (sorted_inputs (outline l)) ≡ flat_map (sorted_piece l) (sorted_inputs l)
 sorted_pieces-outline l = ap (flat_map (sorted_piece (outline l))) (sorted_inputs-outline l) ∙ flat_map-mapped (sorted_piece (outline l)) (sorted_piece l) outline_input (sorted_piece-outline l) (sorted_inputs l)
 
-merged_and_identity_pieces-outline : (l : Layout) → merged_and_identity_pieces (outline l) ≡ merged_and_identity_pieces l
-merged_and_identity_pieces-outline l = simp (header_only-outline l)
-
 thunk_piece-each : (l : Layout) → thunk_piece (outline l) ≡ thunk_piece l
 thunk_piece-each l = fun_ext (λ t. simp (raw_value-outline l))
 
@@ -45,7 +43,7 @@ thunk_pieces-outline l f = simp (header_only-outline l, thunk_piece-each l)
 
 file_pieces-outline : (l : Layout) (f : File) → file_pieces (outline l) f ≡ file_pieces l f
 file_pieces-outline l f =
-    simp (flat_map-same (section_piece (outline l) f) (section_piece l f) f.sections (section_piece-same_file l f), sorted_pieces-outline l, merged_and_identity_pieces-outline l, thunk_pieces-outline l f)
+    simp (flat_map-same (section_piece (outline l) f) (section_piece l f) f.sections (section_piece-same_file l f), sorted_pieces-outline l, merged-outline l, thunk_pieces-outline l f)
 
 owned_pieces-outline : (l : Layout) (g : Group) → owned_pieces (outline l) g ≡ owned_pieces l g
 owned_pieces-outline l g = ap (flat_map (file_pieces (outline l))) (placed_files-outline l g) ∙ flat_map-same (file_pieces (outline l)) (file_pieces l) (placed_files l g) (file_pieces-outline l)

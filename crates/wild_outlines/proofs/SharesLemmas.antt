@@ -44,7 +44,7 @@ sorted_as (x ∷ xs) = ap (λ ss. with_word_order x.section ∷ ss) (sorted_as x
 pub sorted_sections-outline : (l : Layout) → sorted_sections (outline l) ≡ sorted_sections l
 sorted_sections-outline l = sorted_as (sorted_inputs (outline l)) ∙ (ap (map with_word_order) (sorted_inputs-outline l l.sorted) ∙ sym (sorted_as (sorted_inputs l)))
 
-sorted_words-outline : (l : Layout) → sorted_words (outline l) ≡ sorted_words l
+pub sorted_words-outline : (l : Layout) → sorted_words (outline l) ≡ sorted_words l
 sorted_words-outline l = ap (flat_map (words_of (outline l))) (sorted_sections-outline l) ∙ flat_map-same (words_of (outline l)) (words_of l) (sorted_sections l) (words_of-outline l)
 
 -- ---- one file

@@ -109,7 +109,7 @@ pub file_items-outline : (l : Layout) (f : File) → file_items (outline l) (out
 unfolding file_items
 file_items-outline l f = refl
 
-singleton_sections-outline : (l : Layout) → singleton_sections (outline l) ≡ singleton_sections l
+pub singleton_sections-outline : (l : Layout) → singleton_sections (outline l) ≡ singleton_sections l
 singleton_sections-outline l =
     ap (λ fs. flat_map (λ (f : File). flat_map (λ (s : InputSection). option_to_list s.singleton) f.sections) fs) (files_of-outline l.groups)
     ∙ flat_map-mapped (λ (f : File). flat_map (λ (s : InputSection). option_to_list s.singleton) f.sections) (λ (f : File). flat_map (λ (s : InputSection). option_to_list s.singleton) f.sections) outline_file

@@ -17,7 +17,7 @@ use Rattle.wild_needs.specs.DynamicSymbols.{output_section}
 use Rattle.wild_change.specs.Outline.{outline_section, outline_file, outline_group, outline}
 use Rattle.wild_change.specs.Change.{is_changeable}
 use Rattle.wild_outlines.proofs.ListLemmas.{map-same, map-map}
-use Rattle.wild_outlines.proofs.ClausesGroups.{file_of-layout, output_section-outline}
+use Rattle.wild_outlines.proofs.ClausesGroups.{file_of-layout, output_section-outline, given_by-option}
 
 -- ---- an outline is its own outline
 
@@ -65,9 +65,5 @@ pub raw_value-outline : (l : Layout) (i : ℕ) → raw_value (outline l) i ≡ r
 unfolding raw_value
 raw_value-outline l i = simp (address_at-outline l)
 
-given_by-outline : (part : ℕ) (o : Option Group) → given_by part (option_map outline_group o) ≡ given_by part o
-given_by-outline part None = refl
-given_by-outline part (Some g) = refl
-
 pub share_of-outline : (l : Layout) (group : ℕ) (r : Role) → share_of (outline l) group r ≡ share_of l group r
-share_of-outline l group r = ap (given_by (part_of l r)) (slice_get-map outline_group l.groups group) ∙ given_by-outline (part_of l r) (slice_get l.groups group)
+share_of-outline l group r = ap (given_by (part_of l r)) (slice_get-map outline_group l.groups group) ∙ given_by-option (part_of l r) (slice_get l.groups group)
