@@ -1,6 +1,6 @@
 -- Lists in which one item is replaced, and the outline of a changed layout.
 use Rattle.std.proofs.Common.{◌≡◌, ℕ, zero, suc, ◌+◌, ◌≤◌, ◌⊎◌, Bool, true, false, List, [], ◌∷◌, map, length, Option, Some, None, refl, sym, ap, ◌∙◌, arith, inl, inr}
-use Rattle.std.specs.Prelude.{◌&&◌, if◌then◌else◌, option_and_then, slice_get}
+use Rattle.std.specs.Prelude.{if◌then◌else◌, option_and_then, slice_get}
 use Rattle.std.specs.List.{list_all}
 use Rattle.std.proofs.lemmas.Bool.{and_parts, and_from, cases_Bool}
 use Rattle.std.proofs.lemmas.List.{length-replicate}
@@ -14,6 +14,7 @@ use Rattle.wild_change.specs.declared.change.Change.{Change}
 use Rattle.wild_change.specs.Change.{is_changeable, if_changeable, section_in_file, section_in_group, found_section, with_item, changed_section, changed_file, changed_group, changed_layout}
 use Rattle.wild_outlines.specs.RefusalLaws.{place_unless}
 use Rattle.wild_change.specs.Outline.{outline_section, outline_file, outline_group, outline}
+use Rattle.wild_outlines.proofs.ListLemmas.{some_same, and_true}
 
 -- ---- one item replaced
 
@@ -39,47 +40,23 @@ slice_get-with_item f (suc i) (y ∷ ys) x h = slice_get-with_item f i ys x h
 -- a sum grows by what the new item counts, and falls by what the old one counted
 pub total-with_item : {X : Type 0} (n : X → ℕ) (f : X → X) (i : ℕ) (xs : List X) (x : X) → slice_get xs i ≡ Some x → total n (with_item f i xs) + n x ≡ total n xs + n (f x)
 total-with_item n f i [] x h = cc
-total-with_item {X = X} n f zero (y ∷ ys) x h =
-    let e = same y x h in
+total-with_item n f zero (y ∷ ys) x h =
+    let e = some_same h in
     let a = ap n e in
     let b = ap (λ z. n (f z)) e in
     omega (arith, a, b)
-  where
-    same : (y x : X) → Some y ≡ Some x → y ≡ x
-    same y x h = cc
 total-with_item n f (suc i) (y ∷ ys) x h = let e = total-with_item n f i ys x h in omega (arith, e)
 
 -- each item passes, and so does the one at a place
 pub list_all-at : {X : Type 0} (t : X → Bool) (i : ℕ) (xs : List X) (x : X) → slice_get xs i ≡ Some x → list_all t xs ≡ true → t x ≡ true
 list_all-at t i [] x h a = cc
-list_all-at {X = X} t zero (y ∷ ys) x h a = ap t (sym (same y x h)) ∙ (and_parts (t y) (list_all t ys) a).0
-  where
-    same : (y x : X) → Some y ≡ Some x → y ≡ x
-    same y x h = cc
+list_all-at t zero (y ∷ ys) x h a = ap t (sym (some_same h)) ∙ (and_parts (t y) (list_all t ys) a).0
 list_all-at t (suc i) (y ∷ ys) x h a = list_all-at t i ys x h (and_parts (t y) (list_all t ys) a).1
-
--- all items pass if the new one does
-pub list_all-with_item : {X : Type 0} (t : X → Bool) (f : X → X) (i : ℕ) (xs : List X) (x : X) → slice_get xs i ≡ Some x → list_all t xs ≡ true → t (f x) ≡ true → list_all t (with_item f i xs) ≡ true
-list_all-with_item t f i [] x h a p = refl
-list_all-with_item {X = X} t f zero (y ∷ ys) x h a p = and_from (t (f y)) (list_all t ys) (ap (λ z. t (f z)) (same y x h) ∙ p) (and_parts (t y) (list_all t ys) a).1
-  where
-    same : (y x : X) → Some y ≡ Some x → y ≡ x
-    same y x h = cc
-list_all-with_item t f (suc i) (y ∷ ys) x h a p =
-    let q = and_parts (t y) (list_all t ys) a in
-    and_from (t y) (list_all t (with_item f i ys)) q.0 (list_all-with_item t f i ys x h q.1 p)
-
-and_true : (a : Bool) → (a && true) ≡ a
-and_true true = refl
-and_true false = refl
 
 -- if all items pass, then after one is replaced they do exactly if the new one does
 pub list_all-replaced : {X : Type 0} (t : X → Bool) (f : X → X) (i : ℕ) (xs : List X) (x : X) → slice_get xs i ≡ Some x → list_all t xs ≡ true → list_all t (with_item f i xs) ≡ t (f x)
 list_all-replaced t f i [] x h a = cc
-list_all-replaced {X = X} t f zero (y ∷ ys) x h a = rw (and_parts (t y) (list_all t ys) a).1 (and_true (t (f y)) ∙ ap (λ z. t (f z)) (same y x h))
-  where
-    same : (y x : X) → Some y ≡ Some x → y ≡ x
-    same y x h = cc
+list_all-replaced t f zero (y ∷ ys) x h a = rw (and_parts (t y) (list_all t ys) a).1 (and_true (t (f y)) ∙ ap (λ z. t (f z)) (some_same h))
 list_all-replaced t f (suc i) (y ∷ ys) x h a =
     let q = and_parts (t y) (list_all t ys) a in
     rw q.0 (list_all-replaced t f i ys x h q.1)
@@ -102,11 +79,8 @@ none_fails t i (x ∷ xs) h =
 -- and a search finds the new item, unless it passes
 pub failing-replaced : {X : Type 0} (t : X → Bool) (f : X → X) (i j : ℕ) (xs : List X) (x : X) → slice_get xs i ≡ Some x → list_all t xs ≡ true → first_failing t j (with_item f i xs) ≡ place_unless (j + i) (t (f x))
 failing-replaced t f i j [] x h a = cc
-failing-replaced {X = X} t f zero j (y ∷ ys) x h a = here (cases_Bool (t (f y))) ∙ ap (λ z. place_unless (j + 0) (t (f z))) (same y x h)
+failing-replaced t f zero j (y ∷ ys) x h a = here (cases_Bool (t (f y))) ∙ ap (λ z. place_unless (j + 0) (t (f z))) (some_same h)
   where
-    same : (y x : X) → Some y ≡ Some x → y ≡ x
-    same y x h = cc
-
     here : (t (f y) ≡ true) ⊎ (t (f y) ≡ false) → first_failing t j (f y ∷ ys) ≡ place_unless (j + 0) (t (f y))
     here (inl p) = rw p (none_fails t (j + 1) ys (and_parts (t y) (list_all t ys) a).1)
     here (inr p) = rw p (ap (λ (n : ℕ). Some n) (omega arith))
@@ -115,13 +89,15 @@ failing-replaced t f (suc i) j (y ∷ ys) x h a =
     let e : j + 1 + i ≡ j + suc i = omega arith in
     rw q.0 (failing-replaced t f i (j + 1) ys x h q.1 ∙ ap (λ (n : ℕ). place_unless n (t (f x))) e)
 
+pub failing-first : {X : Type 0} (t : X → Bool) (f : X → X) (i : ℕ) (xs : List X) (x : X) → slice_get xs i ≡ Some x → list_all t xs ≡ true → first_failing t 0 (with_item f i xs) ≡ place_unless i (t (f x))
+failing-first t f i xs x h a =
+    let e : 0 + i ≡ i = omega arith in
+    failing-replaced t f i 0 xs x h a ∙ ap (λ (n : ℕ). place_unless n (t (f x))) e
+
 -- an item counts no more than all
 pub total-at : {X : Type 0} (n : X → ℕ) (i : ℕ) (xs : List X) (x : X) → slice_get xs i ≡ Some x → n x ≤ total n xs
 total-at n i [] x h = cc
-total-at {X = X} n zero (y ∷ ys) x h = let e = ap n (same y x h) in omega (arith, e)
-  where
-    same : (y x : X) → Some y ≡ Some x → y ≡ x
-    same y x h = cc
+total-at n zero (y ∷ ys) x h = let e = ap n (some_same h) in omega (arith, e)
 total-at n (suc i) (y ∷ ys) x h = let e = total-at n i ys x h in omega (arith, e)
 
 -- ---- the section that a change names
@@ -160,24 +136,15 @@ FoundSection-from_found l c s h = by_group (slice_get l.groups c.group) refl h
 unfoldable pub found_at : (l : Layout) (c : Change) (s : InputSection) (g : Group) (f : File) → found_section l c ≡ Some s → slice_get l.groups c.group ≡ Some g → slice_get g.files c.file ≡ Some f → FoundSection l c s
 found_at l c s g f found in_layout in_group =
     let p = FoundSection-from_found l c s found in
-    let group : p.group ≡ g = same_group (sym p.in_layout ∙ in_layout) in
-    let file : p.file ≡ f = same_file (sym p.in_group ∙ (ap (λ (h : Group). slice_get h.files c.file) group ∙ in_group)) in
+    let group : p.group ≡ g = some_same (sym p.in_layout ∙ in_layout) in
+    let file : p.file ≡ f = some_same (sym p.in_group ∙ (ap (λ (h : Group). slice_get h.files c.file) group ∙ in_group)) in
     record { group = g; file = f; in_layout = in_layout; in_group = in_group; in_file = ap (λ (h : File). slice_get h.sections c.section) (sym file) ∙ p.in_file; changeable = p.changeable }
-  where
-    same_group : {a b : Group} → Some a ≡ Some b → a ≡ b
-    same_group e = cc
-
-    same_file : {a b : File} → Some a ≡ Some b → a ≡ b
-    same_file e = cc
 
 -- with the group alone
 unfoldable pub found_group : (l : Layout) (c : Change) (s : InputSection) (g : Group) → found_section l c ≡ Some s → slice_get l.groups c.group ≡ Some g → FoundSection l c s
 found_group l c s g found in_layout =
     let p = FoundSection-from_found l c s found in
-    found_at l c s g p.file found in_layout (ap (λ (h : Group). slice_get h.files c.file) (same_group (sym in_layout ∙ p.in_layout)) ∙ p.in_group)
-  where
-    same_group : {a b : Group} → Some a ≡ Some b → a ≡ b
-    same_group e = cc
+    found_at l c s g p.file found in_layout (ap (λ (h : Group). slice_get h.files c.file) (some_same (sym in_layout ∙ p.in_layout)) ∙ p.in_group)
 
 -- ---- the outline of a changed layout
 
@@ -228,8 +195,7 @@ section_replaced t l c s p a =
     let sections = list_all-at (λ (f : File). list_all t f.sections) c.file p.group.files p.file p.in_group files in
     let file = list_all-replaced t (changed_section c) c.section p.file.sections s p.in_file sections in
     let group = list_all-replaced (λ (f : File). list_all t f.sections) (changed_file c) c.file p.group.files p.file p.in_group files in
-    let e : 0 + c.group ≡ c.group = omega arith in
-    failing-replaced (each_section t) (changed_group c) c.group 0 l.groups p.group p.in_layout groups ∙ (ap (place_unless (0 + c.group)) (group ∙ file) ∙ ap (λ (n : ℕ). place_unless n (t (changed_section c s))) e)
+    failing-first (each_section t) (changed_group c) c.group l.groups p.group p.in_layout groups ∙ ap (place_unless c.group) (group ∙ file)
 
 -- the sum over all sections, less what the old section counts, plus what the new one does
 pub sum_replaced : (n : InputSection → ℕ) (l : Layout) (c : Change) (s : InputSection) → FoundSection l c s

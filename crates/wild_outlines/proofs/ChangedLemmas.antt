@@ -23,7 +23,7 @@ use Rattle.wild_types.specs.Lookups.{is_header_only_at, image_size}
 use Rattle.wild_types.specs.Parts.{role_place, has_role}
 use Rattle.wild_placement.specs.PlacedSections.{placed_files, processed_sections}
 use Rattle.wild_change.specs.declared.change.Change.{Change}
-use Rattle.wild_change.specs.Change.{with_item, changed_section, changed_file, changed_group, changed_layout}
+use Rattle.wild_change.specs.Change.{with_item, changed_group, changed_layout}
 use Rattle.wild_change.specs.Outline.{outline}
 use Rattle.wild_plan_rules.specs.WellFormed.{first_clause}
 use Rattle.wild_layout.specs.Content.{content, file_content, unique_table}
@@ -38,7 +38,7 @@ use Rattle.wild_outlines.proofs.ClausesTests.{image_size-outline, is_header_only
 use Rattle.wild_outlines.proofs.SharesLemmas.{same_by_groups}
 use Rattle.wild_layout.proofs.LayoutLemmas.{length-padding}
 use Rattle.wild_outlines.proofs.ChangedPieces.{overlay-replaced, flat_map_from-same, middle_alone, none_from, Middle, Middle-from_item}
-use Rattle.wild_outlines.specs.RefusalLaws.{changed_clause, changed_shares}
+use Rattle.wild_outlines.specs.RefusalLaws.{HasFaultsOfGroup}
 use Rattle.wild_outlines.proofs.ClausesChanged.{Changed}
 use Rattle.wild_outlines.proofs.ClausesLemmas.{first_clause-changed}
 use Rattle.wild_outlines.proofs.SharesRefused.{shares-refused}
@@ -196,12 +196,11 @@ errors-changed l c g at none clauses shares groups =
     rw (clauses, parts) (groups_changed l c g at none groups)
 
 -- all faults of the changed layout
-pub errors-refused : (l : Layout) (c : Change) (s : InputSection) (k : Changed l c s) → errors l ≡ [] → ((i : ℕ) (h : Group) → group_errors (changed_layout l c) i h ≡ group_errors l i h)
-    → errors (changed_layout l c)
-    ≡ clause_errors (changed_clause (changed_layout l c) c.group (changed_file c k.found.file) (changed_section c s))
-    ++ changed_shares (changed_layout l c) c.group (changed_group c k.found.group)
-    ++ group_errors (changed_layout l c) c.group (changed_group c k.found.group)
+pub faults-refused : (l : Layout) (c : Change) (s : InputSection) (k : Changed l c s) → errors l ≡ [] → ((i : ℕ) (h : Group) → group_errors (changed_layout l c) i h ≡ group_errors l i h) → HasFaultsOfGroup l c s k.found.group k.found.file
 unfolding errors
-errors-refused l c s k none groups =
+faults-refused l c s k none groups =
     let before = none_before l none in
-    rw (first_clause-changed l c s k before.0, shares-refused l c s k before.1, groups_changed l c k.found.group k.found.in_layout none groups) refl
+    let clause = first_clause-changed l c s k before.0 in
+    let shares = shares-refused l c s k before.1 in
+    let group = groups_changed l c k.found.group k.found.in_layout none groups in
+    record { clause = clause; shares = shares; groups = group; errors = rw (clause, shares, group) refl }

@@ -16,6 +16,7 @@ use Rattle.wild_words.proofs.OrderLemmas.{apart_moved, overlay-moved}
 use Rattle.wild_change.specs.Change.{with_item}
 use Rattle.wild_layout.specs.Faults.{flat_map_from}
 use Rattle.wild_layout.specs.Sites.{extent_of}
+use Rattle.wild_outlines.proofs.ListLemmas.{some_same}
 
 -- ---- one piece over another
 
@@ -129,8 +130,8 @@ flat_map_from-same f g h j (x ∷ xs) = rw (h j x, flat_map_from-same f g h (j +
 pub Middle-from_item : {X Y : Type 0} (f g : ℕ → X → List Y) (v : X → X) → ((j : ℕ) (x : X) → g j x ≡ f j x) → (k : ℕ) (xs : List X) (x : X) → slice_get xs k ≡ Some x → (j i : ℕ) → i ≡ j + k
     → Middle (f i x) (g i (v x)) (flat_map_from f j xs) (flat_map_from g j (with_item v k xs))
 Middle-from_item f g v h k [] x at j i is = cc
-Middle-from_item {X = X} f g v h zero (y ∷ ys) x at j i is =
-    let y_is : y ≡ x = same at in
+Middle-from_item f g v h zero (y ∷ ys) x at j i is =
+    let y_is : y ≡ x = some_same at in
     let j_is : j ≡ i = omega (arith, is) in
     record {
       front = [];
@@ -138,9 +139,6 @@ Middle-from_item {X = X} f g v h zero (y ∷ ys) x at j i is =
       before = ap (λ zs. zs ++ flat_map_from f (j + 1) ys) (ap (f j) y_is ∙ ap (λ n. f n x) j_is);
       after = ap (λ zs. zs ++ flat_map_from g (j + 1) ys) (ap (λ z. g j (v z)) y_is ∙ ap (λ n. g n (v x)) j_is) ∙ ap (λ zs. g i (v x) ++ zs) (flat_map_from-same f g h (j + 1) ys);
     }
-  where
-    same : {a b : X} → Some a ≡ Some b → a ≡ b
-    same e = cc
 Middle-from_item f g v h (suc k) (y ∷ ys) x at j i is =
     let m = Middle-from_item f g v h k ys x at (j + 1) i (omega (arith, is)) in
     record {
@@ -160,12 +158,9 @@ middle_alone {old = old} {new = new} m none =
 -- nor does any item give something
 pub none_from : {X Y : Type 0} (f : ℕ → X → List Y) (j : ℕ) (xs : List X) → flat_map_from f j xs ≡ [] → (i k : ℕ) (x : X) → i ≡ j + k → slice_get xs k ≡ Some x → f i x ≡ []
 none_from f j [] none i k x is at = cc
-none_from {X = X} f j (y ∷ ys) none i zero x is at =
+none_from f j (y ∷ ys) none i zero x is at =
     let n : j ≡ i = omega (arith, is) in
-    ap (λ (m : ℕ). f m x) (sym n) ∙ (ap (f j) (same at) ∙ (nil_parts (f j y) (flat_map_from f (j + 1) ys) none).0)
-  where
-    same : {a b : X} → Some a ≡ Some b → b ≡ a
-    same e = cc
+    ap (λ (m : ℕ). f m x) (sym n) ∙ (ap (f j) (sym (some_same at)) ∙ (nil_parts (f j y) (flat_map_from f (j + 1) ys) none).0)
 none_from f j (y ∷ ys) none i (suc k) x is at = none_from f (j + 1) ys (nil_parts (f j y) (flat_map_from f (j + 1) ys) none).1 i k x (omega (arith, is)) at
 
 -- functions that agree on each item

@@ -37,11 +37,12 @@ use Rattle.wild_plan_rules.specs.ZeroFree.{input_name_fits}
 use Rattle.wild_clauses.specs.FileTests.{passes_all, relocation_passes, headers_are_there, section_passes}
 use Rattle.wild_outlines.specs.MayChange.{written_section, KeepsCounts, file_at}
 use Rattle.wild_outlines.specs.RefusalLaws.{place_unless, entry_room, needs_no_part}
-use Rattle.wild_outlines.proofs.ChangedItems.{length-with_item, slice_get-with_item, sum_replaced, list_all-at, list_all-replaced, failing-replaced, total-at, all_pass, none_fails, FoundSection, FoundSection-from_found, outline_file-changed, outline-found, outline-changed, same_by_outline, section_replaced}
+use Rattle.wild_outlines.proofs.ChangedItems.{length-with_item, slice_get-with_item, sum_replaced, list_all-at, list_all-replaced, failing-first, total-at, all_pass, none_fails, FoundSection, FoundSection-from_found, outline_file-changed, outline-found, outline-changed, same_by_outline, section_replaced}
 use Rattle.wild_outlines.proofs.ClausesTests.{failing-same, entry_is_there-outline, definition_is_own-outline}
 use Rattle.wild_outlines.proofs.ClausesGroups.{failing_sections-outline, symbol_misfit-outline, sorted_is_there-outline, first_double_copy-outline, range_out_of_order-outline, dynamic_symbols-outline, need_count-outline, versions_needed-outline}
 use Rattle.wild_outlines.proofs.SharesSections.{counted_for, SameOutlines, placed_count, written_count, entry_size, entry_room_is, kept_room, none_written}
 use Rattle.wild_outlines.proofs.SharesLemmas.{group_replaced, total_share-replaced, total_share-changed}
+use Rattle.wild_outlines.proofs.ListLemmas.{some_same, and_true}
 
 -- ---- tests of a list
 
@@ -220,11 +221,8 @@ old_room l c s k r g at =
     let same : outline (changed_layout l without) ≡ outline l = outline-found l without s found k.long in
     let sum = group_replaced l without s found k.long same r in
     let none = ap (λ n. entry_size r * n) (none_written r l (changed_section without s) refl) in
-    let group = ap (group_share l r) (same_group (sym p.in_layout ∙ at)) in
+    let group = ap (group_share l r) (some_same (sym p.in_layout ∙ at)) in
     omega (arith, sum, none, group)
-  where
-    same_group : {a b : Group} → Some a ≡ Some b → a ≡ b
-    same_group e = cc
 
 -- without a part of the role no group needs anything of it, so that after the change all need what the new section needs
 role_needed : (l : Layout) (c : Change) (s : InputSection) (k : Changed l c s) (r : Role) → role_has_needed_part l r ≡ true → role_has_needed_part (changed_layout l c) r ≡ needs_no_part (changed_layout l c) (new_section l c s k.found.file) r
@@ -285,12 +283,8 @@ FileIndexes-from_test l f h =
     let b = and_parts (list_all (section_indexes_fit l) f.sections) (file_rest l f) a.1 in
     record { range = a.0; sections = b.0; others = b.1 }
 
-and_last : (a : Bool) → (a && true) ≡ a
-and_last true = refl
-and_last false = refl
-
 file_indexes-changed : (l : Layout) (c : Change) (f : File) → FileIndexes l f → file_indexes_fit l (changed_file c f) ≡ list_all (section_indexes_fit l) (changed_file c f).sections
-file_indexes-changed l c f k = rw (k.range, k.others) (and_last (list_all (section_indexes_fit l) (changed_file c f).sections))
+file_indexes-changed l c f k = rw (k.range, k.others) (and_true (list_all (section_indexes_fit l) (changed_file c f).sections))
 
 group_indexes-changed : (l : Layout) (c : Change) (s : InputSection) → Changed l c s → first_failing (group_indexes_fit l) 0 l.groups ≡ None
     → first_failing (group_indexes_fit l) 0 (changed_layout l c).groups ≡ place_unless c.group (section_indexes_fit l (changed_section c s))
@@ -302,8 +296,7 @@ group_indexes-changed l c s k h =
     let sections = list_all-replaced (section_indexes_fit l) (changed_section c) c.section p.file.sections s p.in_file old.sections in
     let file = file_indexes-changed l c p.file old ∙ sections in
     let group = list_all-replaced (file_indexes_fit l) (changed_file c) c.file p.group.files p.file p.in_group files ∙ file in
-    let e : 0 + c.group ≡ c.group = omega arith in
-    failing-replaced (group_indexes_fit l) (changed_group c) c.group 0 l.groups p.group p.in_layout groups ∙ (ap (place_unless (0 + c.group)) group ∙ ap (λ (n : ℕ). place_unless n (section_indexes_fit l (changed_section c s))) e)
+    failing-first (group_indexes_fit l) (changed_group c) c.group l.groups p.group p.in_layout groups ∙ ap (place_unless c.group) group
 
 -- the tests of clause 9 before that on groups, and those after it
 abbrev indexes_before : Layout → List (Result (Unit {0}) Clause)
@@ -399,9 +392,8 @@ check_partial-changed l c s k h =
     let groups = all_pass tables_fit 0 l.groups none in
     let files = list_all-at tables_fit c.group l.groups p.group p.in_layout groups in
     let group = list_all-replaced file_tables_fit (changed_file c) c.file p.group.files p.file p.in_group files in
-    let e : 0 + c.group ≡ c.group = omega arith in
     let tables : first_failing tables_fit 0 after.groups ≡ place_unless c.group (file_tables_fit (changed_file c p.file)) =
-    failing-replaced tables_fit (changed_group c) c.group 0 l.groups p.group p.in_layout groups ∙ (ap (place_unless (0 + c.group)) group ∙ ap (λ (n : ℕ). place_unless n (file_tables_fit (changed_file c p.file))) e) in
+    failing-first tables_fit (changed_group c) c.group l.groups p.group p.in_layout groups ∙ ap (place_unless c.group) group in
     let passes : partial_with (first_failing tables_fit 0 l.groups) after ≡ Ok tt = same_by_outline (partial_with (first_failing tables_fit 0 l.groups)) (partial_with-outline (first_failing tables_fit 0 l.groups)) l after k.same ∙ h in
     chain-one (partial_before after) (fails 21 (first_failing tables_fit 0 l.groups)) (fails 21 (first_failing tables_fit 0 after.groups)) (partial_after after) passes ∙ ap (fails 21) tables
 

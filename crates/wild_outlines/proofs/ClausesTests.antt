@@ -13,7 +13,7 @@ use Rattle.wild_types.specs.declared.symbol.Place.TheVariants as at
 use Rattle.wild_types.specs.declared.symbol.Symbol.{Symbol}
 use Rattle.wild_types.specs.Kinds.{needs_dynamic}
 use Rattle.wild_types.specs.Lists.{first_failing}
-use Rattle.wild_types.specs.Lookups.{header_only, is_header_only_at, takes_file_bytes, parts_end, sections_end, image_size, file_end, fills_file}
+use Rattle.wild_types.specs.Lookups.{header_only, is_header_only_at, parts_end, sections_end, image_size, file_end, fills_file}
 use Rattle.wild_change.specs.Outline.{outline}
 use Rattle.wild_plan_rules.specs.Places.{part_out_of_order, lies_by, part_lies}
 use Rattle.wild_plan_rules.specs.Segments.{is_segment_of, dynamic_astray}
@@ -39,9 +39,6 @@ header_only-outline l (Some s) = refl
 
 pub is_header_only_at-outline : (l : Layout) (k : ℕ) → is_header_only_at (outline l) k ≡ is_header_only_at l k
 is_header_only_at-outline l k = ap (λ (b : Bool). not (k == 0) && b) (header_only-outline l (slice_get l.sections k))
-
-pub takes_file_bytes-outline : (l : Layout) (k : ℕ) → takes_file_bytes (outline l) k ≡ takes_file_bytes l k
-takes_file_bytes-outline l k = rw (header_only-outline l (slice_get l.sections k)) refl
 
 parts_end-outline : (l : Layout) (ps : List Part) → parts_end (outline l) ps ≡ parts_end l ps
 parts_end-outline l [] = refl

@@ -28,7 +28,7 @@ use Rattle.wild_change.specs.Outline.{outline_file, outline_group, outline}
 use Rattle.wild_layout.specs.Faults.{flat_map_from, share_errors, has_spare, part_errors}
 use Rattle.wild_outlines.specs.MayChange.{written_section, KeepsCounts}
 use Rattle.wild_outlines.specs.ShareLaws.{KeepsShares}
-use Rattle.wild_outlines.proofs.ListLemmas.{flat_map-same, total-same}
+use Rattle.wild_outlines.proofs.ListLemmas.{flat_map-same, total-same, some_same}
 use Rattle.wild_outlines.proofs.ChangedItems.{total-with_item, FoundSection, FoundSection-from_found, outline-changed, outline_file-changed, outline_group-changed, same_by_outline}
 use Rattle.wild_outlines.proofs.ClausesGroups.{sections_of_inputs, list_any-mapped, sorted_inputs-outline}
 use Rattle.wild_outlines.proofs.SharesFrames.{file_frames-outline, same_by_outlines}
@@ -146,14 +146,11 @@ files_replaced : (r : Role) (old new : ℕ) (l m : Layout) (v : File → File) �
     → (a : ℕ) → total (share m r) (placed_from m a (with_item v i fs)) + entry_size r * old ≡ total (share l r) (placed_from l a fs) + entry_size r * new
 files_replaced r old new l m v e i [] x at k a = cc
 files_replaced r old new l m v e zero (f ∷ fs) x at k a =
-    let j : SameFile r old new l m f (v f) = subst (λ (y : File). SameFile r old new l m y (v y)) (sym (same f x at)) k in
+    let j : SameFile r old new l m f (v f) = subst (λ (y : File). SameFile r old new l m y (v y)) (sym (some_same at)) k in
     let here = same_share old new l m f (v f) r j a in
     let rest = files_same r l m e (behind a (file_frames l f)) fs in
     let move = ap (λ n. total (share m r) (placed_from m (behind a n) fs)) (same_frames l m f (v f) j.outlines) in
     omega (arith, here, rest, move)
-  where
-    same : (y x : File) → Some y ≡ Some x → y ≡ x
-    same y x h = cc
 files_replaced r old new l m v e (suc i) (f ∷ fs) x at k a =
     let here = share_itself r l m f e a in
     let rest = files_replaced r old new l m v e i fs x at k (behind a (file_frames l f)) in
@@ -238,10 +235,7 @@ module _ (l : Layout) (c : Change) (s : InputSection) (p : FoundSection l c s) (
   -- what a group of the layout needs, by its place
   needs_at : (q : Part) (part i : ℕ) (gs : List Group) (x : Group) → slice_get gs i ≡ Some x → x ≡ p.group → (j : ℕ) → needs_by (changed_layout l c) part (Some q) (slice_get (with_item (changed_group c) i gs) j) ≡ needs_by l part (Some q) (slice_get gs j)
   needs_at q part i [] x at is j = refl
-  needs_at q part zero (g ∷ gs) x at is zero = ap (λ (y : Group). needs_of (changed_layout l c) q.role part (changed_group c y)) (same at ∙ is) ∙ (needs_of-changed l c s p n e q.role part (kept_room q.role l s (changed_section c s) k) ∙ ap (needs_of l q.role part) (sym (same at ∙ is)))
-    where
-      same : {x y : Group} → Some x ≡ Some y → x ≡ y
-      same e = cc
+  needs_at q part zero (g ∷ gs) x at is zero = ap (λ (y : Group). needs_of (changed_layout l c) q.role part (changed_group c y)) (some_same at ∙ is) ∙ (needs_of-changed l c s p n e q.role part (kept_room q.role l s (changed_section c s) k) ∙ ap (needs_of l q.role part) (sym (some_same at ∙ is)))
   needs_at q part zero (g ∷ gs) x at is (suc j) = by (slice_get gs j)
     where
       by : (o : Option Group) → needs_by (changed_layout l c) part (Some q) o ≡ needs_by l part (Some q) o
@@ -263,11 +257,8 @@ module _ (l : Layout) (c : Change) (s : InputSection) (p : FoundSection l c s) (
       → flat_map_from (λ j (g : Group). share_errors (has_spare q g) i j (given i g) (needs (changed_layout l c) i j)) j (with_item (changed_group c) k gs)
       ≡ flat_map_from (λ j (g : Group). share_errors (has_spare q g) i j (given i g) (needs l i j)) j gs
   errors_from i q k j [] x at is = refl
-  errors_from i q zero j (g ∷ gs) x at is = rw (needs-changed i j, spare g (same at ∙ is)) (ap (λ es. share_errors (has_spare q g) i j (given i g) (needs l i j) ++ es) (rest (j + 1) gs))
+  errors_from i q zero j (g ∷ gs) x at is = rw (needs-changed i j, spare g (some_same at ∙ is)) (ap (λ es. share_errors (has_spare q g) i j (given i g) (needs l i j) ++ es) (rest (j + 1) gs))
     where
-      same : {x y : Group} → Some x ≡ Some y → x ≡ y
-      same e = cc
-
       spare : (y : Group) → y ≡ p.group → has_spare q (changed_group c y) ≡ has_spare q y
       spare y is = ap (λ (z : Group). has_spare q (changed_group c z)) is ∙ (has_spare-changed l c s p n e q ∙ ap (has_spare q) (sym is))
 

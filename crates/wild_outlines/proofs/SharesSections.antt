@@ -33,7 +33,7 @@ use Rattle.wild_change.specs.Outline.{outline_file, outline}
 use Rattle.wild_records.specs.Relocations.{rela_size, relr_size}
 use Rattle.wild_outlines.specs.MayChange.{written_section, KeepsCounts}
 use Rattle.wild_outlines.specs.RefusalLaws.{entry_room}
-use Rattle.wild_outlines.proofs.ListLemmas.{flat_map-same}
+use Rattle.wild_outlines.proofs.ListLemmas.{flat_map-same, some_same}
 use Rattle.wild_outlines.proofs.ChangedItems.{same_by_outline}
 use Rattle.wild_outlines.proofs.SharesFrames.{frames_of-outline, kept_size-outline, same_by_outlines}
 
@@ -186,16 +186,13 @@ pub sections_changed : (r : Role) (l m : Layout) (f g : File) (c : Change) → S
     → (a : ℕ) → total (counted_for r m) (placed_sections m g a (with_item (changed_section c) i ss)) + counted_for r l (written_section l s) ≡ total (counted_for r l) (placed_sections l f a ss) + counted_for r l (written_section l (changed_section c s))
 sections_changed r l m f g c e i [] s at h a = cc
 sections_changed r l m f g c e zero (t ∷ ss) s at h a =
-    let t_is : t ≡ s = same at in
+    let t_is : t ≡ s = some_same at in
     let changeable : is_changeable t.slot ≡ true = ap (λ (x : InputSection). is_changeable x.slot) t_is ∙ h in
     let new = placed_count r l m f g e a (changed_section c t) ∙ (written_count r l f a (changed_section c t) changeable ∙ ap (λ (x : InputSection). counted_for r l (written_section l (changed_section c x))) t_is) in
     let old = written_count r l f a t changeable ∙ ap (λ (x : InputSection). counted_for r l (written_section l x)) t_is in
     let rest = sections_count r l m f g e (behind a (kept_size l f t)) ss in
     let move = ap (λ n. total (counted_for r m) (placed_sections m g (behind a n) ss)) (kept_changed m g (changed_section c t) changeable ∙ sym (kept_changed l f t changeable)) in
     omega (arith, new, old, rest, move)
-  where
-    same : {x y : InputSection} → Some x ≡ Some y → x ≡ y
-    same e = cc
 sections_changed r l m f g c e (suc i) (t ∷ ss) s at h a =
     let here = placed_count r l m f g e a t in
     let rest = sections_changed r l m f g c e i ss s at h (behind a (kept_size l f t)) in

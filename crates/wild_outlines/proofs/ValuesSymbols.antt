@@ -22,7 +22,7 @@ use Rattle.wild_types.specs.declared.kind.Machine.TheVariants as machine
 use Rattle.wild_types.specs.declared.input.Slot.TheVariants as slot
 use Rattle.wild_types.specs.declared.symbol.Place.TheVariants as at
 use Rattle.wild_slot.specs.Treatment.{flags_at}
-use Rattle.wild_layout.specs.Merged.{address_by, address_for, address_named, merged_strings, names_merged, strings_by, strings_of, strings_at, strings_in, strings_of_symbol, is_plain_own}
+use Rattle.wild_layout.specs.Merged.{address_by, address_for, address_named, merged_strings, strings_by, strings_of, strings_at, strings_in, strings_of_symbol, is_plain_own}
 use Rattle.wild_layout.specs.SlotValues.{address_of, slot_address, slot_of, stub_address}
 use Rattle.wild_layout.specs.SymbolValues.{is_undefined, raw_address, storage_start}
 use Rattle.wild_layout.specs.Values.{is_absent, is_own_place, pointer_offset, size_of, term_by, term_value, value_less}
@@ -81,10 +81,6 @@ is_undefined-outline l i = refl
 pointer_offset-outline : (l : Layout) (o : Option ℕ) → pointer_offset (outline l) o ≡ pointer_offset l o
 pointer_offset-outline l None = refl
 pointer_offset-outline l (Some i) = simp (is_undefined-outline l, raw_value-outline l)
-
-names_merged-outline : (l : Layout) (o : Option ℕ) → names_merged (outline l) o ≡ names_merged l o
-names_merged-outline l None = refl
-names_merged-outline l (Some i) = simp (merged_strings-outline l)
 
 pub value_less-outline : (l : Layout) (t : Subtrahend) (s : ℕ) (a : ℤ) (p : ℕ) → value_less (outline l) t s a p ≡ value_less l t s a p
 value_less-outline l taken.Nothing s a p = refl

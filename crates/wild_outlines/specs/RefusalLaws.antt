@@ -5,7 +5,8 @@
 --   changed_clause l i f s     the first clause that fails, if section s of file f of group number i was changed
 --   has_counted_entries r      the share of a part of that role depends on the numbers of dynamic relocations
 --   changed_shares l i g       the faults of the shares that group g, which has number i, has of such parts
---   RefusalsByGroup            these and the faults of the group are all faults of a changed layout
+--   HasFaultsOfGroup           these and the faults of the changed group are all faults of the changed layout
+--   RefusalsByGroup            this holds after each change that keeps the length of its section, if there were no faults
 use Rattle.std.specs.Prelude.{◌≡◌, ℕ, ◌-◌, ◌*◌, ◌^◌, ◌==◌, ◌||◌, Bool, true, false, nat_lt, if◌then◌else◌, List, [], ◌++◌, length, Option, Some, None, Result, slice_get}
 use Rattle.std.specs.List.{list_any}
 use Rattle.wild_types.specs.declared.fault.Clause.{Clause}
@@ -32,7 +33,8 @@ use Rattle.wild_plan_rules.specs.Fronts.{reversed_fits}
 use Rattle.wild_plan_rules.specs.Indexes.{section_indexes_fit}
 use Rattle.wild_plan_rules.specs.Partial.{file_tables_fit}
 use Rattle.wild_plan_rules.specs.Places.{relocation_count, roles}
-use Rattle.wild_layout.specs.Faults.{flat_map_from, clause_errors, share_errors, has_spare, group_errors, errors}
+use Rattle.wild_plan_rules.specs.WellFormed.{first_clause}
+use Rattle.wild_layout.specs.Faults.{flat_map_from, clause_errors, share_errors, has_spare, part_errors, group_errors, errors}
 
 -- number i, unless the test passes
 abbrev pub place_unless : ℕ → Bool → Option ℕ
@@ -77,11 +79,18 @@ changed_share l i g k p = if has_counted_entries p.role then share_errors (has_s
 abbrev pub changed_shares : Layout → ℕ → Group → List Error
 changed_shares l i g = flat_map_from (changed_share l i g) 0 l.parts
 
--- the faults of a layout that had none, after a change that keeps the length of its section
+-- what these tests say of the changed layout: the first clause that fails, the faults of shares, those of groups, and so all faults
+pub record HasFaultsOfGroup (l : Layout) (c : Change) (s : InputSection) (g : Group) (f : File) : Type 0 where
+  pub clause : first_clause (changed_layout l c) ≡ changed_clause (changed_layout l c) c.group (changed_file c f) (changed_section c s)
+  pub shares : flat_map_from (part_errors (changed_layout l c)) 0 (changed_layout l c).parts ≡ changed_shares (changed_layout l c) c.group (changed_group c g)
+  pub groups : flat_map_from (group_errors (changed_layout l c)) 0 (changed_layout l c).groups ≡ group_errors (changed_layout l c) c.group (changed_group c g)
+  pub errors : errors (changed_layout l c)
+      ≡ clause_errors (changed_clause (changed_layout l c) c.group (changed_file c f) (changed_section c s))
+      ++ changed_shares (changed_layout l c) c.group (changed_group c g)
+      ++ group_errors (changed_layout l c) c.group (changed_group c g)
+
+-- a layout that had no faults has these after a change that keeps the length of its section
 abbrev pub RefusalsByGroup : Type 0
 RefusalsByGroup =
-    (l : Layout) (c : Change) (s : InputSection) (g : Group) (f : File) → found_section l c ≡ Some s → length c.bytes ≡ length s.bytes → slice_get l.groups c.group ≡ Some g → slice_get g.files c.file ≡ Some f → errors l ≡ []
-    → errors (changed_layout l c)
-    ≡ clause_errors (changed_clause (changed_layout l c) c.group (changed_file c f) (changed_section c s))
-    ++ changed_shares (changed_layout l c) c.group (changed_group c g)
-    ++ group_errors (changed_layout l c) c.group (changed_group c g)
+    (l : Layout) (c : Change) (s : InputSection) (g : Group) (f : File) → found_section l c ≡ Some s → length c.bytes ≡ length s.bytes → slice_get l.groups c.group ≡ Some g → slice_get g.files c.file ≡ Some f
+    → errors l ≡ [] → HasFaultsOfGroup l c s g f

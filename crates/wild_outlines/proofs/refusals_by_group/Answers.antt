@@ -1,7 +1,7 @@
 use Rattle.wild_change.specs.Change.{changed_layout}
 use Rattle.wild_layout.specs.Faults.{group_errors}
 use Rattle.wild_outlines.proofs.ChangedItems.{found_at, outline-changed, same_by_outline}
-use Rattle.wild_outlines.proofs.ChangedLemmas.{errors-refused}
+use Rattle.wild_outlines.proofs.ChangedLemmas.{faults-refused}
 use Rattle.wild_outlines.proofs.GroupsFaults.{group_errors-outline}
 use Rattle.wild_outlines.proofs.refusals_by_group.Goals as goal
 
@@ -10,4 +10,4 @@ unfolding found_at
 returns c =
     λ l c s g f found n at in_group none.
     (let e = outline-changed l c s found n in
-    errors-refused l c s (record { found = found_at l c s g f found at in_group; long = n; same = e }) none (λ i h. same_by_outline (λ k. group_errors k i h) (λ k. group_errors-outline k i h) l (changed_layout l c) e))
+    faults-refused l c s (record { found = found_at l c s g f found at in_group; long = n; same = e }) none (λ i h. same_by_outline (λ k. group_errors k i h) (λ k. group_errors-outline k i h) l (changed_layout l c) e))
