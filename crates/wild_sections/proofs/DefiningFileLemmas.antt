@@ -99,8 +99,8 @@ entry_is : (l : Layout) (owners : List (Option DefiningFile)) (i : ℕ) (x : Opt
 entry_is l owners i x has low read = get_or_read owners i x low read None ∙ has.all i low
 
 -- the file of a symbol by the table
-pub owner_there : (l : Layout) (owners : List (Option DefiningFile)) (i : ℕ) (x : Option DefiningFile) (o : DefiningFile) (f : Option File) → HasDefiningFiles l owners → i < length owners → x ≡ get_or owners i x → x ≡ Some o → f ≡ file_at l o → f ≡ file_of (files_of l.groups) i
-owner_there l owners i x o f has low read is found = found ∙ among l.groups 0 l.groups i o (λ n. (let z : n ≡ 0 + n = omega arith in ap (slice_get l.groups) z)) (sym (entry_is l owners i x has low read) ∙ is)
+pub owner_there : (l : Layout) (owners : List (Option DefiningFile)) (i : ℕ) (o : DefiningFile) (f : Option File) → HasDefiningFiles l owners → i < length owners → get_or owners i None ≡ Some o → f ≡ file_at l o → f ≡ file_of (files_of l.groups) i
+owner_there l owners i o f has low is found = found ∙ among l.groups 0 l.groups i o (λ n. (let z : n ≡ 0 + n = omega arith in ap (slice_get l.groups) z)) (sym (has.all i low) ∙ is)
 
 pub owner_missing : (l : Layout) (owners : List (Option DefiningFile)) (i : ℕ) (x : Option DefiningFile) → HasDefiningFiles l owners → i < length owners → x ≡ get_or owners i x → x ≡ None → None ≡ file_of (files_of l.groups) i
 owner_missing l owners i x has low read is = sym (none_among 0 l.groups i (sym (entry_is l owners i x has low read) ∙ is))

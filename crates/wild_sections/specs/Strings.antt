@@ -2,7 +2,7 @@
 --   offsets_ascend reach ss   the strings are sorted by offset, and the first begins at `reach` or after it
 --   last_string_up_to last s x            string s if it begins at byte x or before it, otherwise the previous one
 --   all_ascend l              the strings of each section are sorted by offset
-use Rattle.std.specs.Prelude.{ℕ, Bool, true, false, ◌&&◌, nat_le, if◌then◌else◌, List, [], ◌∷◌, Option, Some}
+use Rattle.std.specs.Prelude.{ℕ, Bool, true, ◌&&◌, nat_le, if◌then◌else◌, List, [], ◌∷◌, Option, Some}
 use Rattle.std.specs.List.{list_all}
 use Rattle.wild_types.specs.declared.input.InputSection.{InputSection}
 use Rattle.wild_types.specs.declared.input.MergedString.{MergedString}
