@@ -1,6 +1,6 @@
 -- Laws of the groups as work.
 use Rattle.std.proofs.Common.{◌≡◌, ℕ, ◌^◌, ◌<◌, ◌-◌, List, [], length, arith, subst, Result, Ok, Err}
-use Rattle.std.specs.Prelude.{Some, slice_get, IfOk}
+use Rattle.std.specs.Prelude.{Some, slice_get, IfOk, OnOk}
 use Rattle.wild_types.specs.declared.fault.Error.{Error}
 use Rattle.wild_types.specs.declared.file.Group.{Group}
 use Rattle.wild_types.specs.declared.layout.Layout.{Layout}
@@ -8,12 +8,14 @@ use Rattle.wild_types.specs.Faults.{Answers, Refuses}
 use Rattle.wild_plan_rules.specs.ClauseTests.{check_sizes, check_counts}
 use Rattle.wild_plan_rules.specs.WellFormed.{first_clause}
 use Rattle.wild_plan_rules.proofs.ClauseLemmas.{first_holds, rest_holds}
+use Rattle.wild_words.specs.Overlay.{overlay}
 use Rattle.wild_layout.specs.Faults.{group_errors}
+use Rattle.wild_layout.specs.Image.{group_pieces}
 use Rattle.wild_image.specs.Pieces.{group_parts, group_pairs}
 use Rattle.wild_image.specs.Batches.{batch_errors, HasBatch, batch_pairs, pairs_at, GivesBatch}
 use Rattle.wild_image.specs.declared.batch.Batch.{Batch}
 use Rattle.wild_image.specs.declared.buffer.GroupBytes.{GroupBytes}
-use Rattle.wild_image.specs.Jobs.{GivesPiece}
+use Rattle.wild_image.specs.Jobs.{GivesPiece, PutsPieces}
 use Rattle.wild_image.specs.declared.piece.GroupPiece.{GroupPiece}
 use Rattle.wild_image.proofs.OutputLemmas.{few_lists}
 
@@ -49,3 +51,10 @@ piece_found l i found r at faults parts counts = λ g e. given l i found g r (cc
         both : (l : Layout) (g : Group) (r : Result GroupPiece Error) → IfOk r (λ p. p.parts ≡ group_parts l g) → IfOk r (λ p. p.counts ≡ group_pairs l g) → IfOk r (λ p. (p.parts ≡ group_parts l g) × (p.counts ≡ group_pairs l g))
         both l g (Ok p) a b = (a, b)
         both l g (Err e) a b = tt
+
+-- the pieces of the group that was found are those of the group with its number
+pub puts_found : (l : Layout) (i : ℕ) (found : Group) (old : List ℕ) (r : Result (Unit {0}) Error) (new : List ℕ) → slice_get l.groups i ≡ Some found → Answers r (group_errors l i found) → OnOk r (new ≡ overlay (group_pieces l i found) old) → PutsPieces l i old r new
+puts_found l i found old r new at faults image = λ g e. given found g (cc) faults image
+  where
+    given : (found g : Group) → found ≡ g → Answers r (group_errors l i found) → OnOk r (new ≡ overlay (group_pieces l i found) old) → Answers r (group_errors l i g) × OnOk r (new ≡ overlay (group_pieces l i g) old)
+    given found g same faults image = (subst (λ (x : Group). Answers r (group_errors l i x)) same faults, subst (λ (x : Group). OnOk r (new ≡ overlay (group_pieces l i x) old)) same image)

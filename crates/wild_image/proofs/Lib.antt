@@ -18,3 +18,4 @@ pub mod FrontLemmas
 pub mod PlacedLemmas
 pub mod UnchangedLemmas
 pub mod BareLemmas
+pub mod PreparedLemmas

@@ -9,3 +9,4 @@ pub mod Steps
 pub mod Placed
 pub mod Owners
 pub mod Known
+pub mod Prepared

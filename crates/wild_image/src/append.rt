@@ -11,7 +11,7 @@ ghost use Rattle.wild_placement.specs.PlacedSections.{of_last_file};
 ghost use Rattle.wild_types.specs.Lookups.{image_size, is_header_only_at, is_header_only_part};
 ghost use Rattle.wild_types.specs.FilePlaces.{given};
 ghost use Rattle.wild_types.specs.FileThunks.{thunks_of};
-ghost use Rattle.wild_layout.specs.Image.{unless_hollow, merged_bytes, front_piece, merged_and_identity_pieces, thunk_piece, thunk_pieces, of_first_file, shares_before, table_piece, table_pieces};
+ghost use Rattle.wild_layout.specs.Image.{unless_hollow, merged_bytes, front_piece, merged_and_identity_pieces, thunk_piece, thunk_pieces, of_first_file, shares_before, table_piece, table_pieces, group_pieces};
 ghost use Rattle.wild_layout.specs.SectionPlaces.{FrontLies};
 ghost use Rattle.wild_layout.specs.ThunkPlaces.{ThunkLies};
 ghost use Rattle.wild_layout.specs.Thunks.{thunk_bytes, file_thunks};
@@ -419,6 +419,29 @@ fn append_tables<'b>(
         starts[i] += size;
     }
     rest
+}
+
+/// Copies all bytes of a group into the image: what it contributes to each part to the part's start, which advances past it, and the bytes
+/// of its files.
+pub(crate) fn append_group(
+    layout: &Layout,
+    index: usize,
+    group: &Group,
+    bytes: &GroupBytes,
+    starts: &mut [u64],
+    out: &mut [u8],
+)
+    requires inputs { All (FileLies layout.now) group.now.files }
+    requires lies { EachPartLies layout.now }
+    requires group { slice_get layout.now.groups index ≡ Some group.now }
+    requires tables { bytes.now.tables ≡ group_tables layout.now group.now }
+    requires files { bytes.now.files ≡ group_files layout.now group.now }
+    requires starts { HasStarts layout.now index starts.old }
+    requires room { (length out.old ≡ image_size layout.now) × (image_size layout.now ≤ 2 ^ 62) }
+    ensures { out.new ≡ overlay (group_pieces layout.now index group.now) out.old }
+{
+    append_tables(layout, index, group, bytes.tables.as_slice(), starts, out);
+    append_files(layout, group, bytes.files.as_slice(), out);
 }
 
 /// Copies all bytes of a batch into the image, and advances the parts' starts past its contributions.

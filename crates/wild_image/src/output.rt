@@ -28,7 +28,7 @@ use wild_debug::{ShardedArch, Workers};
 use wild_geometry::layouts_are_laid_out;
 use wild_needs::elf_entry_address;
 use wild_relax::{Arch, ElfAArch64, ElfX86_64};
-use wild_sections::Resolved;
+use wild_sections::{Resolved, SymbolTables};
 use wild_types::{At, EntryWarning, Error, Fault, Layout, Machine};
 use wild_words::{Bytes, Items};
 
@@ -115,7 +115,8 @@ where
     ensures warnings { IfOk result (λ o. o.warnings ≡ warnings layout.now) }
     ensures counts { IfOk result (λ o. o.counts ≡ counts layout.now) }
 {
-    let resolved = Resolved::<A>::with_survey(alloc, layout, needs_owner_files)?;
+    let symbols = SymbolTables::with_survey(alloc, layout, needs_owner_files)?;
+    let resolved = Resolved::<A>::new(layout, &symbols);
     let table = make_search_table(rt, alloc, &resolved)?;
     let groups = layout.groups.as_slice();
     let cut = batches_of(alloc, groups, batch_size(groups.len()))?;

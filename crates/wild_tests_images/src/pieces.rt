@@ -1,38 +1,57 @@
 //! The pieces of an image that each group writes, and the workers.
-ghost use Rattle.std.specs.Prelude.{◌≡◌};
+ghost use Rattle.std.specs.Prelude.{◌≡◌, ◌<◌};
 ghost use Rattle.wild_types.specs.declared.kind.Machine.TheVariants as machine;
 
 use crate::plans::layout_of;
 use std::alloc::Global;
+use std::marker::Brand;
 use std::sync::atomic::{AtomicU64, Ordering};
+use std::sync::ledger::{Blank, Ledger};
 use std::test::*;
 use std::thread::Threads;
 use wild_crew::Gate;
 use wild_image::{
-    ElfX86_64, GroupPiece, SizedOutput, check_shares, write, write_gated, write_group,
+    ElfX86_64, GroupPiece, SizedOutput, Steps, check_shares, write, write_gated, write_group,
 };
 use wild_plan::{Error, Layout, Part, well_formed};
 use wild_sample_layouts::make_plan;
 use wild_tests_plans::{LINKED, MOVED, PACKED, SLOTTED, SMALLEST, THREE, VERSIONED};
 
-/// The piece of each group.
-fn pieces_of(
-    rt: &(impl Threads + Sync),
+/// The piece of each group. `blank` names the ledger in which the steps are counted.
+fn counted_pieces<L: Ledger, R: Threads + Sync>(
+    rt: &R,
     alloc: Global,
     layout: &Layout,
+    blank: Blank,
 ) -> Result<Vec<GroupPiece>, Fail>
-    requires { layout.now.machine ≡ machine.X86_64 }
+    requires machine { layout.now.machine ≡ machine.X86_64 }
+    requires name { blank.name ≡ L.name }
+    requires parts { blank.parts ≡ L.parts }
+    requires some { 0 < blank.parts }
 {
+    let mut steps = Steps::<L>::new(blank);
     let mut pieces = Vec::new(alloc);
     match (well_formed(layout), check_shares(layout)) {
         (Ok(()), Ok(())) => {
             for index in 0..layout.groups.len() {
-                pieces.push(write_group::<ElfX86_64>(rt, alloc, layout, index)?)?;
+                let piece = write_group::<ElfX86_64, L, R>(rt, alloc, layout, index, &mut steps)?;
+                pieces.push(piece)?;
             }
             Ok(pieces)
         }
         _ => Err("no layout".into()),
     }
+}
+
+/// The piece of each group.
+fn pieces_of<R: Threads + Sync>(
+    rt: &R,
+    alloc: Global,
+    layout: &Layout,
+) -> Result<Vec<GroupPiece>, Fail>
+    requires { layout.now.machine ≡ machine.X86_64 }
+{
+    counted_pieces::<Brand, R>(rt, alloc, layout, Blank::new(1))
 }
 
 /// Whether part `i` of the image is the groups' pieces of it, one after the other, and nothing else.

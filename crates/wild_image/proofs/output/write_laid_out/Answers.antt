@@ -15,18 +15,18 @@ use Rattle.wild_image.proofs.JobLemmas.{few_groups}
 use Rattle.wild_image.proofs.PlacedLemmas.{made}
 use Rattle.wild_image.proofs.output.write_laid_out.Goals as goal
 
-pub with_survey-requires-clause-fits : goal.with_survey-requires-clause-fits
-with_survey-requires-clause-fits g c = FieldsFit-IsLaidOut c.args.layout.now c.requires.laid_out
+pub new-resolved-requires-clause-fits : goal.new-resolved-requires-clause-fits
+new-resolved-requires-clause-fits g c = FieldsFit-IsLaidOut c.args.layout.now c.requires.laid_out
 
 pub invariant_of-job-clause-shares : goal.invariant_of-job-clause-shares
-invariant_of-job-clause-shares g c = subst (λ (l : Layout). flat_map_from (part_errors l) 0 l.parts ≡ []) (sym c.in_ok-resolved.ensures) c.requires.shares
+invariant_of-job-clause-shares g c = subst (λ (l : Layout). flat_map_from (part_errors l) 0 l.parts ≡ []) (sym c.new-resolved.ensures) c.requires.shares
 
 pub invariant_of-job-clause-batches_are : goal.invariant_of-job-clause-batches_are
 invariant_of-job-clause-batches_are g c =
     let bs = c.as_slice-batches.result.now in
     let cut = subst (λ (xs : List Batch). AreBatches c.as_slice-groups.result.now xs) (sym c.as_slice-batches.ensures.value) c.in_ok-cut.ensures.batches in
     let all = subst (λ (gs : List Group). AreBatches gs bs) c.as_slice-groups.ensures cut in
-    subst (λ (l : Layout). AreBatches l.groups bs) (sym c.in_ok-resolved.ensures) all
+    subst (λ (l : Layout). AreBatches l.groups bs) (sym c.new-resolved.ensures) all
 
 pub invariant_of-job-clause-few : goal.invariant_of-job-clause-few
 invariant_of-job-clause-few g c =
@@ -38,18 +38,18 @@ invariant_of-job-clause-few g c =
 
 pub gather-requires-clause-sections : goal.gather-requires-clause-sections
 gather-requires-clause-sections g c κs within = λ j low k d m.
-    let same = c.in_ok-resolved.ensures in
-    let below = pairs_below c.in_ok-resolved.resolved.layout.now (subst IsLaidOut (sym same) c.requires.laid_out) c.as_slice-batches.result.now j k d m in
+    let same = c.new-resolved.ensures in
+    let below = pairs_below c.new-resolved.result.layout.now (subst IsLaidOut (sym same) c.requires.laid_out) c.as_slice-batches.result.now j k d m in
     let all = ap (λ (l : Layout). length l.sections) same in
     omega (arith, below, all, c.len-sections.ensures)
 
 pub gather-requires-clause-fit : goal.gather-requires-clause-fit
 gather-requires-clause-fit g c κs within = λ k low.
-    let same = c.in_ok-resolved.ensures in
+    let same = c.new-resolved.ensures in
     let bs = c.as_slice-batches.result.now in
     let cut = subst (λ (xs : List Batch). AreBatches c.as_slice-groups.result.now xs) (sym c.as_slice-batches.ensures.value) c.in_ok-cut.ensures.batches in
     let all = subst (λ (gs : List Group). AreBatches gs bs) c.as_slice-groups.ensures cut in
-    sums_fit c.in_ok-resolved.resolved.layout.now bs (subst (λ (l : Layout). AreBatches l.groups bs) (sym same) all) (subst (λ (l : Layout). relocation_count l < 2 ^ 64) (sym same) c.requires.few) k
+    sums_fit c.new-resolved.result.layout.now bs (subst (λ (l : Layout). AreBatches l.groups bs) (sym same) all) (subst (λ (l : Layout). relocation_count l < 2 ^ 64) (sym same) c.requires.few) k
 
 pub write_bytes-requires-clause-few : goal.write_bytes-requires-clause-few
 write_bytes-requires-clause-few g c = few_groups c.args.layout.now c.requires.clauses
@@ -60,7 +60,7 @@ write_bytes-requires-clause-batches g c =
     subst (λ (gs : List Group). AreBatches gs c.as_slice-batches.result.now) c.as_slice-groups.ensures cut
 
 pub write_bytes-requires-clause-each : goal.write_bytes-requires-clause-each
-write_bytes-requires-clause-each g c = λ j o at. subst (λ (l : Layout). GivesBatch l c.as_slice-batches.result.now j o.bytes) c.in_ok-resolved.ensures (c.in_ok-gathered.ensures.pieces.1 j o (rw c.as_slice-pieces.ensures at at))
+write_bytes-requires-clause-each g c = λ j o at. subst (λ (l : Layout). GivesBatch l c.as_slice-batches.result.now j o.bytes) c.new-resolved.ensures (c.in_ok-gathered.ensures.pieces.1 j o (rw c.as_slice-pieces.ensures at at))
 
 pub returns-clause-counts : goal.returns-clause-counts
 returns-clause-counts g c =
@@ -68,14 +68,14 @@ returns-clause-counts g c =
     let bs = c.as_slice-batches.result.now in
     let cut = subst (λ (xs : List Batch). AreBatches c.as_slice-groups.result.now xs) (sym c.as_slice-batches.ensures.value) c.in_ok-cut.ensures.batches in
     let all = subst (λ (gs : List Group). AreBatches gs bs) c.as_slice-groups.ensures cut in
-    let totals = subst (λ (m : Layout). AreTotals (pairs_at m bs) (length bs) c.len-sections.result c.in_ok-gathered.gathered.totals) c.in_ok-resolved.ensures c.in_ok-gathered.ensures.totals in
+    let totals = subst (λ (m : Layout). AreTotals (pairs_at m bs) (length bs) c.len-sections.result c.in_ok-gathered.gathered.totals) c.new-resolved.ensures c.in_ok-gathered.ensures.totals in
     totals_are l bs c.in_ok-gathered.gathered.totals all (subst (λ (n : ℕ). AreTotals (pairs_at l bs) (length bs) n c.in_ok-gathered.gathered.totals) c.len-sections.ensures totals)
 
 pub make_search_table-requires : goal.make_search_table-requires
-make_search_table-requires g c = (search rules, role_address c.in_ok-resolved.resolved.layout.now (subst IsLaidOut (sym c.in_ok-resolved.ensures) c.requires.laid_out) role.EhFrameHdr)
+make_search_table-requires g c = (search rules, role_address c.new-resolved.result.layout.now (subst IsLaidOut (sym c.new-resolved.ensures) c.requires.laid_out) role.EhFrameHdr)
 
 pub invariant_of-job-clause-table_is : goal.invariant_of-job-clause-table_is
-invariant_of-job-clause-table_is g c = made c.in_ok-resolved.resolved.layout.now c.in_ok-table.table c.in_ok-table.ensures
+invariant_of-job-clause-table_is g c = made c.new-resolved.result.layout.now c.in_ok-table.table c.in_ok-table.ensures
 
 pub invariant_of-job-clause-known_is : goal.invariant_of-job-clause-known_is
-invariant_of-job-clause-known_is g c = subst (λ (l : Layout). IsKnown l c.args.known) (sym c.in_ok-resolved.ensures) c.requires.known
+invariant_of-job-clause-known_is g c = subst (λ (l : Layout). IsKnown l c.args.known) (sym c.new-resolved.ensures) c.requires.known

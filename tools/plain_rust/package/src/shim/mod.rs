@@ -5,6 +5,7 @@ pub mod atomic_table;
 pub mod bitflags;
 pub mod env;
 pub mod hex;
+pub mod ledger;
 pub mod rayon;
 pub mod serde_json;
 pub mod string;

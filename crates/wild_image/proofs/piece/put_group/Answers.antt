@@ -1,0 +1,38 @@
+use Rattle.std.proofs.Common.{arith, length, ap}
+use Rattle.std.specs.Prelude.{All}
+use Rattle.std.proofs.lemmas.Option.{slice_get_within}
+use Rattle.wild_types.specs.declared.file.Group.{Group}
+use Rattle.wild_image.specs.Append.{FileLies, HasStarts}
+use Rattle.wild_words.proofs.ListLemmas.{holds_at}
+use Rattle.wild_image.proofs.PlacedLemmas.{table_of_all}
+use Rattle.wild_image.proofs.StandingLemmas.{each_file_lies}
+use Rattle.wild_image.proofs.piece.put_group.Goals as goal
+
+pub group_bytes-requires-clause-table : goal.group_bytes-requires-clause-table
+group_bytes-requires-clause-table g c κs within = table_of_all c.args.resolved.now.layout.now c.args.prepared.now.table c.args.group.now.files c.requires.prepared.table
+
+pub starts_of-requires : goal.starts_of-requires
+starts_of-requires g c =
+    let low = slice_get_within c.args.resolved.now.layout.now.groups c.args.index c.args.group.now c.requires.group in
+    let count = c.requires.prepared.starts.count in
+    omega (arith, low, count)
+
+pub append_group-requires-clause-inputs : goal.append_group-requires-clause-inputs
+append_group-requires-clause-inputs g c =
+    let l = c.args.resolved.now.layout.now in
+    let laid = c.layouts_are_laid_out.ensures l c.requires.clauses c.requires.shares in
+    holds_at (λ (x : Group). All (FileLies l) x.files) l.groups c.args.index c.args.group.now c.requires.group (each_file_lies l laid)
+
+pub append_group-requires-clause-lies : goal.append_group-requires-clause-lies
+append_group-requires-clause-lies g c = (c.layouts_are_laid_out.ensures c.args.resolved.now.layout.now c.requires.clauses c.requires.shares).parts
+
+pub append_group-requires-clause-starts : goal.append_group-requires-clause-starts
+append_group-requires-clause-starts g c =
+    let low = slice_get_within c.args.resolved.now.layout.now.groups c.args.index c.args.group.now c.requires.group in
+    let count = c.requires.prepared.starts.count in
+    rw c.in_ok-starts.ensures (c.requires.prepared.starts.each c.args.index (omega (arith, low, count)))
+
+pub append_group-requires-clause-room : goal.append_group-requires-clause-room
+append_group-requires-clause-room g c =
+    let size = (c.layouts_are_laid_out.ensures c.args.resolved.now.layout.now c.requires.clauses c.requires.shares).size in
+    (c.requires.room, omega (arith, size))
