@@ -37,30 +37,31 @@ impl Counted for Outcome {
 
 /// The batches of a layout whose clauses hold and whose shares are correct.
 #[derive(Drop)]
-pub(crate) struct GroupJob<'a, A: Arch, R> {
-    pub(crate) by: Workers<'a, R>,
-    pub(crate) resolved: Resolved<'a, A>,
-    pub(crate) batches: &'a [Batch<'a>],
+pub(crate) struct GroupJob<'r, 'a, 'l, 'b, 't, A: Arch, R> {
+    pub(crate) by: Workers<'r, R>,
+    pub(crate) resolved: &'a Resolved<'l, A>,
+    pub(crate) batches: &'b [Batch<'b>],
     pub(crate) known: Known,
-    pub(crate) table: &'a SearchTable,
-    ghost clauses: { first_clause resolved.layout.now ≡ Ok tt },
-    ghost shares: { flat_map_from (part_errors resolved.layout.now) 0 resolved.layout.now.parts ≡ [] },
-    ghost batches_are: { AreBatches resolved.layout.now.groups batches.now },
+    pub(crate) table: &'t SearchTable,
+    ghost clauses: { first_clause resolved.now.layout.now ≡ Ok tt },
+    ghost shares: { flat_map_from (part_errors resolved.now.layout.now) 0 resolved.now.layout.now.parts ≡ [] },
+    ghost batches_are: { AreBatches resolved.now.layout.now.groups batches.now },
     ghost few: { length batches.now < 2 ^ 32 },
-    ghost known_is: { IsKnown resolved.layout.now known },
-    ghost table_is: { HasTableOrFault resolved.layout.now table.now },
+    ghost known_is: { IsKnown resolved.now.layout.now known },
+    ghost table_is: { HasTableOrFault resolved.now.layout.now table.now },
 }
 
-impl<'a, A: ShardedArch, R: Threads + Sync> Job<Outcome> for GroupJob<'a, A, R> {
+impl<'r, 'a, 'l, 'b, 't, A: ShardedArch, R: Threads + Sync> Job<Outcome>
+    for GroupJob<'r, 'a, 'l, 'b, 't, A, R> {
     ghost use Rattle.std.specs.Prelude.{length};
     ghost use Rattle.std.specs.Thread.{IsSync};
     ghost use Rattle.wild_image.specs.Batches.{GivesBatch, pairs_at};
 
     ghost number = { λ j. length j.batches.now };
 
-    ghost gives = { λ j i o. GivesBatch j.resolved.layout.now j.batches.now i o.bytes };
+    ghost gives = { λ j i o. GivesBatch j.resolved.now.layout.now j.batches.now i o.bytes };
 
-    ghost counts_of = { λ j i. pairs_at j.resolved.layout.now j.batches.now i };
+    ghost counts_of = { λ j i. pairs_at j.resolved.now.layout.now j.batches.now i };
 
     ghost ready = { λ _. IsSync R.row };
 
@@ -76,7 +77,7 @@ impl<'a, A: ShardedArch, R: Threads + Sync> Job<Outcome> for GroupJob<'a, A, R> 
             self.resolved.layout,
             batch.groups,
         )?;
-        let bytes = bytes_of_batch(&self.by, &self.resolved, batch, self.known, self.table);
+        let bytes = bytes_of_batch(&self.by, self.resolved, batch, self.known, self.table);
         Ok(Outcome { bytes, counts })
     }
 }

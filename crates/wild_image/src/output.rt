@@ -89,6 +89,60 @@ fn write_bytes<A: Arch>(
     append_all(layout, batches, outcomes, starts, out)
 }
 
+/// Writes the image of a layout whose clauses hold and whose shares are correct, or returns its first fault. `known` has
+/// been computed by the caller.
+fn write_resolved<A: ShardedArch + Sync, G: Gate + Sync, R: Threads + Sync>(
+    rt: &R,
+    alloc: Global,
+    resolved: &Resolved<A>,
+    known: Known,
+    workers: u8,
+    gate: &G,
+) -> Result<SizedOutput, Error>
+where
+    A::Relaxation: Sync,
+    requires known { IsKnown resolved.now.layout.now known }
+    requires workers { (1 ≤ workers) × (workers ≤ 64) }
+    requires clauses { first_clause resolved.now.layout.now ≡ Ok tt }
+    requires shares { flat_map_from (part_errors resolved.now.layout.now) 0 resolved.now.layout.now.parts ≡ [] }
+    requires laid_out { IsLaidOut resolved.now.layout.now }
+    requires few { relocation_count resolved.now.layout.now < 2 ^ 64 }
+    ensures faults { Answers result (flat_map_from (group_errors resolved.now.layout.now) 0 resolved.now.layout.now.groups) }
+    ensures image { IfOk result (λ o. o.out ≡ bytes resolved.now.layout.now) }
+    ensures warnings { IfOk result (λ o. o.warnings ≡ warnings resolved.now.layout.now) }
+    ensures counts { IfOk result (λ o. o.counts ≡ counts resolved.now.layout.now) }
+{
+    let layout = resolved.layout;
+    let table = make_search_table(rt, alloc, resolved)?;
+    let groups = layout.groups.as_slice();
+    let cut = batches_of(alloc, groups, batch_size(groups.len()))?;
+    let batches = cut.as_slice();
+    let by = Workers {
+        rt,
+        alloc,
+        count: usize::from(workers),
+    };
+    let job = GroupJob {
+        by,
+        resolved,
+        batches,
+        known,
+        table: &table,
+    };
+    let sections = layout.sections.len() as u32;
+    let gathered = gather(rt, alloc, &job, sections, u32::from(workers), gate)?;
+    let mut starts = vec![in alloc; 0u64; layout.parts.len()]?;
+    let mut out = padded_image(alloc, layout)?;
+    let pieces = gathered.pieces.as_slice();
+    write_bytes::<A>(layout, batches, pieces, &mut starts, &mut out)?;
+    let warnings = warnings_of(alloc, layout)?;
+    Ok(SizedOutput {
+        out: Bytes::from_vec(out),
+        warnings,
+        counts: gathered.totals,
+    })
+}
+
 /// Writes the image of a layout whose clauses hold and whose shares are correct, or returns its first fault. `known`
 /// has been computed by the caller; `needs_owner_files` is set if relocations depend on the file that defines a symbol.
 fn write_laid_out<A: ShardedArch + Sync, G: Gate + Sync, R: Threads + Sync>(
@@ -117,34 +171,7 @@ where
 {
     let symbols = SymbolTables::with_survey(alloc, layout, needs_owner_files)?;
     let resolved = Resolved::<A>::new(layout, &symbols);
-    let table = make_search_table(rt, alloc, &resolved)?;
-    let groups = layout.groups.as_slice();
-    let cut = batches_of(alloc, groups, batch_size(groups.len()))?;
-    let batches = cut.as_slice();
-    let by = Workers {
-        rt,
-        alloc,
-        count: usize::from(workers),
-    };
-    let job = GroupJob {
-        by,
-        resolved,
-        batches,
-        known,
-        table: &table,
-    };
-    let sections = layout.sections.len() as u32;
-    let gathered = gather(rt, alloc, &job, sections, u32::from(workers), gate)?;
-    let mut starts = vec![in alloc; 0u64; layout.parts.len()]?;
-    let mut out = padded_image(alloc, layout)?;
-    let pieces = gathered.pieces.as_slice();
-    write_bytes::<A>(layout, batches, pieces, &mut starts, &mut out)?;
-    let warnings = warnings_of(alloc, layout)?;
-    Ok(SizedOutput {
-        out: Bytes::from_vec(out),
-        warnings,
-        counts: gathered.totals,
-    })
+    write_resolved(rt, alloc, &resolved, known, workers, gate)
 }
 
 /// Writes the image of a layout, or returns its first fault. `workers` threads share the work; each enters the gate before each batch

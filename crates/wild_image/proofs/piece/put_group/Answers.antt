@@ -1,4 +1,4 @@
-use Rattle.std.proofs.Common.{arith, length, ap}
+use Rattle.std.proofs.Common.{◌≡◌, [], get_or, arith, rules, subst, sym}
 use Rattle.std.specs.Prelude.{All}
 use Rattle.std.proofs.lemmas.Option.{slice_get_within}
 use Rattle.wild_types.specs.declared.file.Group.{Group}
@@ -28,9 +28,11 @@ append_group-requires-clause-lies g c = (c.layouts_are_laid_out.ensures c.args.r
 
 pub append_group-requires-clause-starts : goal.append_group-requires-clause-starts
 append_group-requires-clause-starts g c =
-    let low = slice_get_within c.args.resolved.now.layout.now.groups c.args.index c.args.group.now c.requires.group in
+    let l = c.args.resolved.now.layout.now in
+    let low = slice_get_within l.groups c.args.index c.args.group.now c.requires.group in
     let count = c.requires.prepared.starts.count in
-    rw c.in_ok-starts.ensures (c.requires.prepared.starts.each c.args.index (omega (arith, low, count)))
+    let is : c.deref_mut.result.now ≡ get_or c.args.prepared.now.starts c.args.index [] = search rules in
+    subst (HasStarts l c.args.index) (sym is) (c.requires.prepared.starts.each c.args.index (omega (arith, low, count)))
 
 pub append_group-requires-clause-room : goal.append_group-requires-clause-room
 append_group-requires-clause-room g c =
