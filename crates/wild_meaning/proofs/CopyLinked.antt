@@ -31,7 +31,7 @@ use Rattle.wild_meaning.specs.Item.{IsInput, IsKept, OfSection, OfFrames}
 use Rattle.wild_meaning.specs.Reference.{UsesOwnSymbolOnly, ReferenceHolds, ItemHolds}
 use Rattle.wild_meaning.specs.Segments.{headers_in, DescribeSegments}
 use Rattle.wild_meaning.specs.DynamicSection.{InformsLinker}
-use Rattle.wild_meaning.specs.LinkedImage.{IsSectionWithoutData, IsNotCopied, HasResolvedAddress}
+use Rattle.wild_meaning.specs.LinkedImage.{IsSectionWithoutData, IsNotCopied, HasResolvedAddress, DescribesOutput}
 use Rattle.wild_meaning.specs.Worked.Builders.{reference, group_of}
 use Rattle.wild_meaning.specs.Worked.Copy.{copying_layout, copying_data, copying_item, copying_blank, copying_object, copying_library, copying_world, copied_symbol, start_symbol, copied_answer, copied_bytes}
 use Rattle.wild_meaning.specs.Worked.CopyImage.{copying_image, copying_rest, copying_memory, copying_header, copying_third, copying_words}
@@ -204,14 +204,8 @@ begins i a e h =
     let there : HasResolvedAddress copying_layout 1 a = subst (λ (k : ℕ). HasResolvedAddress copying_layout k a) (sym same) h in
     sym (raw_of copying_layout 1 a start_symbol _ refl refl (record { definition = there.definition; defined = there.defined; given = inl there.given }))
 
-pub copying_linked : CopyingImageIsLinked
-copying_linked = record {
-  memory = copying_memory;
-  accepted = copying_loaded;
-  machine = refl;
-  kept = items_hold;
-  zeros = zeros;
-  copies = λ whole. copies;
+copying_described : DescribesOutput copying_layout copying_image
+copying_described = record {
   header = record {
     header = copying_header;
     fits = record {
@@ -230,3 +224,13 @@ copying_linked = record {
   };
   dynamic = λ whole d. copying_told;
 }
+
+pub copying_linked : CopyingImageIsLinked
+copying_linked = (copying_described, record {
+  memory = copying_memory;
+  accepted = copying_loaded;
+  machine = refl;
+  kept = items_hold;
+  zeros = zeros;
+  copies = λ whole. copies;
+})

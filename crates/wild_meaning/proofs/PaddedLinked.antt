@@ -30,7 +30,7 @@ use Rattle.wild_meaning.specs.World.{IsCopied}
 use Rattle.wild_meaning.specs.Item.{IsInput, IsKept, OfSection, OfFrames}
 use Rattle.wild_meaning.specs.Reference.{ItemHolds}
 use Rattle.wild_meaning.specs.Segments.{headers_in, DescribeSegments}
-use Rattle.wild_meaning.specs.LinkedImage.{IsSectionWithoutData}
+use Rattle.wild_meaning.specs.LinkedImage.{IsSectionWithoutData, DescribesOutput}
 use Rattle.wild_meaning.specs.Worked.Builders.{file_of, group_of}
 use Rattle.wild_meaning.specs.Worked.Static.{static_pie_world}
 use Rattle.wild_meaning.specs.Worked.StaticImage.{static_header, static_segment, padded_image, padded_rest, padded_memory}
@@ -100,14 +100,8 @@ padded_segments = subst (λ (hs : List ProgramHeader). DescribeSegments padded_l
   tt,
 )
 
-pub padded_linked : PaddedImageIsLinked
-padded_linked = record {
-  memory = padded_memory;
-  accepted = padded_loaded;
-  machine = refl;
-  kept = no_item;
-  zeros = λ s k h lt _ _. zeros s h k lt;
-  copies = λ whole i raw x h. absurd (no_library i h.copied);
+padded_described : DescribesOutput padded_layout padded_image
+padded_described = record {
   header = record {
     header = static_header;
     fits = record {
@@ -126,3 +120,13 @@ padded_linked = record {
   };
   dynamic = λ whole d. absurd d;
 }
+
+pub padded_linked : PaddedImageIsLinked
+padded_linked = (padded_described, record {
+  memory = padded_memory;
+  accepted = padded_loaded;
+  machine = refl;
+  kept = no_item;
+  zeros = λ s k h lt _ _. zeros s h k lt;
+  copies = λ whole i raw x h. absurd (no_library i h.copied);
+})

@@ -39,7 +39,7 @@ use Rattle.wild_meaning.specs.Template.{reads_without_calls}
 use Rattle.wild_meaning.specs.Reference.{UsesOwnDefinition, UsesOwnSymbolOnly, IsOutsideReferences, ReferenceHolds, ItemHolds}
 use Rattle.wild_meaning.specs.Segments.{headers_in, DescribeSegments}
 use Rattle.wild_meaning.specs.DynamicSection.{InformsLinker}
-use Rattle.wild_meaning.specs.LinkedImage.{IsSectionWithoutData}
+use Rattle.wild_meaning.specs.LinkedImage.{IsSectionWithoutData, DescribesOutput}
 use Rattle.wild_meaning.specs.Worked.Builders.{reference, file_of, group_of}
 use Rattle.wild_meaning.specs.Worked.Shared.{shared_layout, shared_world, shared_data, shared_item, shared_bytes, shared_code, code_item, shared_reference, answer_of_module, own_symbol, open_symbol, own_thread, other_thread}
 use Rattle.wild_meaning.specs.Worked.SharedImage.{shared_image, shared_rest, shared_memory, shared_header, shared_third}
@@ -530,14 +530,8 @@ shared_informs = record {
   };
 }
 
-pub shared_linked : SharedImageIsLinked
-shared_linked = record {
-  memory = shared_memory;
-  accepted = shared_loaded;
-  machine = refl;
-  kept = items_hold;
-  zeros = λ s k h _ _ _. absurd (no_blank s h);
-  copies = λ whole i raw x h. absurd (no_library i h.copied);
+shared_described : DescribesOutput shared_layout shared_image
+shared_described = record {
   header = record {
     header = shared_header;
     fits = record {
@@ -556,3 +550,13 @@ shared_linked = record {
   };
   dynamic = λ whole d. shared_informs;
 }
+
+pub shared_linked : SharedImageIsLinked
+shared_linked = (shared_described, record {
+  memory = shared_memory;
+  accepted = shared_loaded;
+  machine = refl;
+  kept = items_hold;
+  zeros = λ s k h _ _ _. absurd (no_blank s h);
+  copies = λ whole i raw x h. absurd (no_library i h.copied);
+})

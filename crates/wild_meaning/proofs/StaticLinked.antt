@@ -31,7 +31,7 @@ use Rattle.wild_meaning.specs.Item.{IsInput, IsKept, OfSection, OfFrames}
 use Rattle.wild_meaning.specs.Template.{DoesDemanded, reads_without_calls}
 use Rattle.wild_meaning.specs.Reference.{UsesOwnSymbolOnly, IsOutsideReferences, ReferenceHolds, ItemHolds}
 use Rattle.wild_meaning.specs.Segments.{headers_in, DescribeSegments}
-use Rattle.wild_meaning.specs.LinkedImage.{IsSectionWithoutData}
+use Rattle.wild_meaning.specs.LinkedImage.{IsSectionWithoutData, DescribesOutput}
 use Rattle.wild_meaning.specs.Worked.Builders.{reference, file_of, group_of}
 use Rattle.wild_meaning.specs.Worked.Static.{static_pie, static_pie_world, branch_code, branch_item, branch_reference, load_code, load_item, load_reference, general_code, general_item, pair_reference, getter_reference, described_code, described_item, described_reference, static_data, static_item, first_function, second_function, thread_symbol, getter_symbol}
 use Rattle.wild_meaning.specs.Worked.StaticImage.{static_image, static_rest, static_memory, static_header}
@@ -405,14 +405,8 @@ static_segments = subst (λ (hs : List ProgramHeader). DescribeSegments static_p
   tt,
 )
 
-pub static_linked : StaticImageIsLinked
-static_linked = record {
-  memory = static_memory;
-  accepted = static_loaded;
-  machine = refl;
-  kept = items_hold;
-  zeros = λ s k h _ _ _. absurd (no_blank s h);
-  copies = λ whole i raw x h. absurd (no_library i h.copied);
+static_described : DescribesOutput static_pie static_image
+static_described = record {
   header = record {
     header = static_header;
     fits = record {
@@ -431,3 +425,13 @@ static_linked = record {
   };
   dynamic = λ whole d. absurd d;
 }
+
+pub static_linked : StaticImageIsLinked
+static_linked = (static_described, record {
+  memory = static_memory;
+  accepted = static_loaded;
+  machine = refl;
+  kept = items_hold;
+  zeros = λ s k h _ _ _. absurd (no_blank s h);
+  copies = λ whole i raw x h. absurd (no_library i h.copied);
+})

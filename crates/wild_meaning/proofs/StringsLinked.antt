@@ -35,7 +35,7 @@ use Rattle.wild_meaning.specs.World.{HasResolver, IsAnswer, IsAnswered, IsKnownM
 use Rattle.wild_meaning.specs.Item.{IsLoadedSlot, IsInput, IsKept, OfSection, OfFrames, placed_item}
 use Rattle.wild_meaning.specs.Reference.{UsesOwnSymbolOnly, IsOutsideReferences, ReferenceHolds, ItemHolds}
 use Rattle.wild_meaning.specs.Segments.{headers_in, DescribeSegments}
-use Rattle.wild_meaning.specs.LinkedImage.{IsSectionWithoutData}
+use Rattle.wild_meaning.specs.LinkedImage.{IsSectionWithoutData, DescribesOutput}
 use Rattle.wild_meaning.specs.Worked.Builders.{group_of}
 use Rattle.wild_meaning.specs.Worked.Static.{static_pie_world, second_function}
 use Rattle.wild_meaning.specs.Worked.Strings.{string_section, string_symbol, string_reference, pointer_data, reversed_data, strings_file, strings_layout, pointer_item, reversed_item, strings_memory}
@@ -231,14 +231,8 @@ strings_segments = subst (λ (hs : List ProgramHeader). DescribeSegments strings
   tt,
 )
 
-pub strings_linked : StringsImageIsLinked
-strings_linked = record {
-  memory = strings_memory;
-  accepted = strings_loaded;
-  machine = refl;
-  kept = items_hold;
-  zeros = λ s k h _ _ _. absurd (no_blank s h);
-  copies = λ whole i raw x h. absurd (no_library i h.copied);
+strings_described : DescribesOutput strings_layout strings_image
+strings_described = record {
   header = record {
     header = strings_header;
     fits = record {
@@ -257,3 +251,13 @@ strings_linked = record {
   };
   dynamic = λ whole d. absurd d;
 }
+
+pub strings_linked : StringsImageIsLinked
+strings_linked = (strings_described, record {
+  memory = strings_memory;
+  accepted = strings_loaded;
+  machine = refl;
+  kept = items_hold;
+  zeros = λ s k h _ _ _. absurd (no_blank s h);
+  copies = λ whole i raw x h. absurd (no_library i h.copied);
+})

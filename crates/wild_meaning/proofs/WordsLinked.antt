@@ -41,7 +41,7 @@ use Rattle.wild_meaning.specs.WordsAArch64.{effect_with as asked_of}
 use Rattle.wild_meaning.specs.Field.{IsInputByte}
 use Rattle.wild_meaning.specs.Reference.{ReadsOwnSlots, UsesOwnSymbolOnly, IsOutsideReferences, ReferenceHolds, ItemHolds}
 use Rattle.wild_meaning.specs.Segments.{headers_in, DescribeSegments}
-use Rattle.wild_meaning.specs.LinkedImage.{IsSectionWithoutData}
+use Rattle.wild_meaning.specs.LinkedImage.{IsSectionWithoutData, DescribesOutput}
 use Rattle.wild_meaning.specs.Worked.Builders.{file_of, group_of}
 use Rattle.wild_meaning.specs.Worked.AArch64.{words_static, words_world, near_function, local_data, address_code, address_item, page_reference, low_reference, slot_code, slot_item, slot_page_reference, slot_low_reference, call_code, call_item, call_reference, past_code, past_item, past_reference, kept_code, kept_item, descriptor_code, descriptor_item, descriptor_page, descriptor_load, descriptor_low, descriptor_call}
 use Rattle.wild_meaning.specs.Worked.AArch64Image.{words_image, words_rest, words_memory, words_header}
@@ -573,14 +573,8 @@ words_segments = subst (λ (hs : List ProgramHeader). DescribeSegments words_sta
   tt,
 )
 
-pub words_linked : WordsImageIsLinked
-words_linked = record {
-  memory = words_memory;
-  accepted = words_loaded;
-  machine = refl;
-  kept = items_hold;
-  zeros = λ s k h _ _ _. absurd (no_blank s h);
-  copies = λ whole i raw x h. absurd (no_library i h.copied);
+words_described : DescribesOutput words_static words_image
+words_described = record {
   header = record {
     header = words_header;
     fits = record {
@@ -599,3 +593,13 @@ words_linked = record {
   };
   dynamic = λ whole d. absurd d;
 }
+
+pub words_linked : WordsImageIsLinked
+words_linked = (words_described, record {
+  memory = words_memory;
+  accepted = words_loaded;
+  machine = refl;
+  kept = items_hold;
+  zeros = λ s k h _ _ _. absurd (no_blank s h);
+  copies = λ whole i raw x h. absurd (no_library i h.copied);
+})

@@ -3,8 +3,9 @@
 --   HasHeader l image     the file header has the output's type and entry; the segments are the layout's
 --   IsSectionWithoutData l s           the input section is loaded, allocated and has no data
 --   IsNotCopied l w a     the address is in no copied symbol
+--   DescribesOutput l image   the headers are right, and a dynamic linker has its information
 --   IsLinked l w image    in that world the loader accepts the image, and memory is as required
---   IsSound l image       the image is linked in every legal world
+--   IsSound l image       the image describes its output, and is linked in every legal world
 use Rattle.std.specs.Prelude.{◌≡◌, ℕ, ◌+◌, ◌<◌, ◌≤◌, ◌⊎◌, true, false, length, List, None, Some, Ok}
 use Rattle.wild_words.specs.Words.{HasBytesAt}
 use Rattle.wild_words.specs.Record.{spell}
@@ -85,12 +86,17 @@ abbrev pub processor_of : Machine → Processor
 processor_of machine.X86_64 = processors.X86_64
 processor_of machine.AArch64 = processors.AArch64
 
+-- The headers describe the layout's output, and a dynamic section has the information that its linker needs. An image only for
+-- debuggers has no such section.
+pub record DescribesOutput (l : Layout) (image : List ℕ) : Type 0 where
+  pub header : HasHeader l image
+  pub dynamic : (IsForDebuggers l → ⊥) → HasDynamicLinker l.kind → InformsLinker (processor_of l.machine) image
+
 -- The loader accepts the image for the layout's machine, and in memory:
 -- - each kept item holds;
 -- - copied symbols have their bytes;
 -- - other sections without data are zero, after file bytes or among sections that have some.
--- The headers describe the layout's output, and a dynamic section has the entries that its linker needs.
--- An image only for debuggers has no such section, and no table that a loader applies.
+-- An image only for debuggers has no table that a loader applies.
 pub record IsLinked (l : Layout) (w : World) (image : List ℕ) : Type 0 where
   pub memory : Memory
   pub accepted : load w image ≡ Ok memory
@@ -98,9 +104,7 @@ pub record IsLinked (l : Layout) (w : World) (image : List ℕ) : Type 0 where
   pub kept : (item : Item) → IsKept l item → ItemHolds l w memory item
   pub zeros : (s : InputSection) (k : ℕ) → IsSectionWithoutData l s → k < s.size → IsPastFileBytes l (s.address + k) ⊎ HasFileBytes l s.part → IsNotCopied l w (s.address + k) → byte_in memory (w.base + s.address + k) ≡ Some 0
   pub copies : (IsForDebuggers l → ⊥) → (i raw : ℕ) (x : Answer) → HasCopy l w i raw x → Holds memory (w.base + raw) x.bytes
-  pub header : HasHeader l image
-  pub dynamic : (IsForDebuggers l → ⊥) → HasDynamicLinker l.kind → InformsLinker (processor_of l.machine) image
 
--- in every legal world, if the output can be loaded at all
+-- If the output can be loaded at all, its image describes it, whatever the world, and is linked in every legal world.
 abbrev pub IsSound : Layout → List ℕ → Type 0
-IsSound l image = IsLoadable l.kind → (w : World) → IsLegal l w → IsLinked l w image
+IsSound l image = IsLoadable l.kind → DescribesOutput l image × ((w : World) → IsLegal l w → IsLinked l w image)

@@ -1,5 +1,5 @@
 //! The images that the definitions refuse: worked layouts, legal worlds for them, and images that are not linked there.
-ghost use Rattle.wild_meaning.specs.Worked.CopyRefusals.{CopyingWorldIsLegal, WrongCopyIsRefused, WrongZeroIsRefused, WrongPlaceOfCopyIsRefused, WrongMachineIsRefused, WrongHeadersAreRefused, CopyingImageIsLinked};
+ghost use Rattle.wild_meaning.specs.Worked.CopyRefusals.{CopyingWorldIsLegal, RoomlessWorldIsLegal, WrongCopyIsRefused, WrongZeroIsRefused, WrongPlaceOfCopyIsRefused, WrongMachineIsRefused, WrongHeadersAreRefused, CopyingImageIsLinked};
 ghost use Rattle.wild_meaning.specs.Worked.ImageRefusalsAArch64.{WordsWorldIsLegal, WrongCodeOfWordsIsRefused, WordsImageIsLinked};
 ghost use Rattle.wild_meaning.specs.Worked.RefusalsAArch64.{RightWordsDo, WrongWordsAreRefused, CutBitsAreRefused, SlotAddendsAreRefused, PairsAreExcepted, NegatedMovesAreUnknown, ShiftedAddsAreUnknown, ThunksAreJudged};
 ghost use Rattle.wild_meaning.specs.Worked.ReplaceableSymbols.{DynamicIsReplaceable, ExportedIsReplaceable, AnswersAreTaken};
@@ -10,10 +10,11 @@ ghost use Rattle.wild_meaning.specs.Worked.StaticRefusals.{StaticPieWorldIsLegal
 
 use wild_records::file_header_is_read;
 
-/// Each worked layout has a legal world at a base other than 0.
+/// Each worked layout has a legal world at a base other than 0. So has a layout without room for a copied symbol.
 pub fn worked_worlds_are_legal()
     ensures shared { SharedWorldIsLegal }
     ensures copying { CopyingWorldIsLegal }
+    ensures roomless { RoomlessWorldIsLegal }
     ensures static_pie { StaticPieWorldIsLegal }
 {}
 
@@ -84,7 +85,7 @@ pub fn strings_and_reversed_words_are_judged()
     ensures linked { StringsImageIsLinked }
 {}
 
-/// No image is linked if:
+/// No image describes its layout's output, in whatever world, if:
 /// - its segments are not the layout's, or cannot be mapped page by page;
 /// - its file header has another version or other sizes of headers;
 /// - a dynamic linker loads it and it has no dynamic section, or one that allows late binding or has a wrong type, size or number

@@ -7,9 +7,8 @@ use Rattle.std.specs.Prelude.{◌≡◌, ℕ, ◌-◌, ◌^◌, List, [], ◌∷
 use Rattle.wild_loader.specs.declared.memory.Memory.{Memory}
 use Rattle.wild_loader.specs.Memory.{number_in, Holds}
 use Rattle.wild_meaning.specs.World.{IsLegal}
-use Rattle.wild_meaning.specs.LinkedImage.{IsLinked}
 use Rattle.wild_meaning.specs.Slot.{HasWord}
-use Rattle.wild_meaning.specs.Worked.Builders.{Refuses}
+use Rattle.wild_meaning.specs.Worked.Builders.{IsRightImage, Refuses}
 use Rattle.wild_meaning.specs.Worked.Shared.{shared_layout, shared_world}
 use Rattle.wild_meaning.specs.Worked.SharedImage.{shared_image}
 use Rattle.wild_meaning.specs.Worked.Refusals.{HasWrongNumber, NamesWrongWord, NamesWrongModule, NamesWrongDescriptor, HasWrongByte}
@@ -94,4 +93,4 @@ WrongByteIsRefused = Refused (HasWrongByte 0x11051 2)
 
 -- an image is linked in the world, so the refusals are not vacuous
 abbrev pub SharedImageIsLinked : Type 0
-SharedImageIsLinked = IsLinked shared_layout shared_world shared_image
+SharedImageIsLinked = IsRightImage shared_layout shared_world shared_image

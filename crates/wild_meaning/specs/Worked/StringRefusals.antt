@@ -4,10 +4,9 @@
 --   ReversedWordsAreJudged  two reversed words
 --   StringsImageIsLinked    an image is linked in that world
 use Rattle.wild_meaning.specs.World.{IsLegal}
-use Rattle.wild_meaning.specs.LinkedImage.{IsLinked}
 use Rattle.wild_meaning.specs.Reference.{ReferenceHolds}
 use Rattle.wild_meaning.specs.Worked.Refusals.{HasWrongNumber, HasWrongByte}
-use Rattle.wild_meaning.specs.Worked.Builders.{Refuses}
+use Rattle.wild_meaning.specs.Worked.Builders.{IsRightImage, Refuses}
 use Rattle.wild_meaning.specs.Worked.Static.{static_pie_world}
 use Rattle.wild_meaning.specs.Worked.Strings.{strings_layout, strings_memory, pointer_item, string_reference}
 use Rattle.wild_meaning.specs.Worked.StringImage.{strings_image}
@@ -29,4 +28,4 @@ pub record ReversedWordsAreJudged : Type 0 where
 
 -- an image is linked in the world, so the refusals are not vacuous
 abbrev pub StringsImageIsLinked : Type 0
-StringsImageIsLinked = IsLinked strings_layout static_pie_world strings_image
+StringsImageIsLinked = IsRightImage strings_layout static_pie_world strings_image
