@@ -80,7 +80,7 @@ no_other k lt (inr h) = omega (arith, lt, h)
 item_holds : ItemHolds copying_layout copying_world copying_memory copying_item
 item_holds = record {
   references = λ r ref present asked alone. (All-contains Both copying_item.relocations r each ref.listed).0;
-  linked = λ r ref present alone base. absurd ((All-contains Both copying_item.relocations r each ref.listed).1 alone);
+  linked = λ r ref present asked alone. absurd ((All-contains Both copying_item.relocations r each ref.listed).1 alone);
   others = λ k lt other. absurd (no_other k lt (other.fields 0 copied_reference (omega arith) (formula SymbolAddress Full) address_formula));
 }
 

@@ -68,7 +68,7 @@ Both item r = ReferenceHolds strings_layout static_pie_world strings_memory item
 all_hold : (item : Item) → All (Both item) item.relocations → ((k : ℕ) → k < length item.bytes → IsOutsideReferences strings_layout item k → byte_in strings_memory (static_pie_world.base + item.address + k) ≡ Some (slice_index item.bytes k)) → ItemHolds strings_layout static_pie_world strings_memory item
 all_hold item all others = record {
   references = λ r ref present asked alone. (All-contains (Both item) item.relocations r all ref.listed).0;
-  linked = λ r ref present alone base. absurd ((All-contains (Both item) item.relocations r all ref.listed).1 alone);
+  linked = λ r ref present asked alone. absurd ((All-contains (Both item) item.relocations r all ref.listed).1 alone);
   others = others;
 }
 

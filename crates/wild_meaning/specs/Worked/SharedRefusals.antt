@@ -51,6 +51,10 @@ pub record WrongAddressesAreRefused : Type 0 where
   pub moved : Refused (HasWrongNumber 0x11010 8 0x11104)
   pub replaced : Refused (HasWrongNumber 0x11008 8 0x700010)
 
+-- a distance that only the library's own symbol can have
+abbrev pub WrongOwnDistanceIsRefused : Type 0
+WrongOwnDistanceIsRefused = Refused (HasWrongNumber 0x11060 8 0xb0)
+
 -- thread-pointer offsets, in a field and in slots, which do not move with the base; and an offset in the output's own
 -- thread-local data
 pub record WrongOffsetsAreRefused : Type 0 where
