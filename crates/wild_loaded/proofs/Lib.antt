@@ -54,6 +54,7 @@ mod NumbersKept
 pub mod SitesLoaded
 pub mod SlotsLoaded
 pub mod ThunksHeld
+pub mod TextsHeld
 mod Notes
 pub mod LoadedImages
 pub mod DebugImages

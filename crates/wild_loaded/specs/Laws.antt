@@ -10,6 +10,7 @@
 --   SlotsAreThere          the slots of a layout without faults are complete
 --   PartsAreStored         memory has the tables of slots and stubs
 --   SlotsAreStored         memory has each word, each stub and the pair of the output's own thread-local data
+--   TextsAreStored         memory has the merged strings, and the path of the interpreter
 --   ThunksAreThere         memory has each thunk, if there are no faults
 --   DynamicSectionsAreThere   the dynamic section is where its segment is
 --   DynamicSectionsInformLinker    it has the information that a dynamic linker needs
@@ -42,6 +43,7 @@ use Rattle.wild_layout.specs.Faults.{flat_map_from, group_errors}
 use Rattle.wild_layout.specs.TablePlaces.{all_needed}
 use Rattle.wild_layout.specs.Geometry.{IsLaidOut}
 use Rattle.wild_geometry.specs.Loaded.{IsDecided, HasItem, InFile}
+use Rattle.wild_geometry.specs.Carried.{EachPartIsLoaded}
 use Rattle.wild_geometry.specs.Thunks.{HasThunks}
 use Rattle.wild_reloc.specs.declared.info.RelocationSize.{RelocationSize}
 use Rattle.wild_layout.specs.declared.decision.Decision.TheVariants.{DynamicField}
@@ -59,7 +61,7 @@ use Rattle.wild_meaning.specs.Section.{HasFileBytes}
 use Rattle.wild_meaning.specs.World.{IsLoadable, IsLegal, IsPastFileBytes, IsCopied, HasCopy}
 use Rattle.wild_geometry.specs.PlacedSections.{IsKeptPlacedSection}
 use Rattle.wild_meaning.specs.DynamicSection.{InformsLinker}
-use Rattle.wild_meaning.specs.LinkedImage.{HasHeader, IsSectionWithoutData, processor_of}
+use Rattle.wild_meaning.specs.LinkedImage.{HasHeader, IsSectionWithoutData, HoldsTexts, processor_of}
 use Rattle.wild_loaded.specs.Owners.{HasOneOwnerEach}
 use Rattle.wild_loaded.specs.Memory.{IsStored, headers_of, image_memory}
 use Rattle.wild_loaded.specs.WholeSlots.{HasWholeSlots}
@@ -116,6 +118,10 @@ pub record SlotsAreStored : Type 0 where
       → slice_get (slots_of l s).words k ≡ Some d → IsWordStored l w (at + word_size * k) d
   pub stubs : (l : Layout) (w : World) (i at stub : ℕ) (s : Symbol) → KeepsAll l → IsLoadable l.kind → IsLegal l w → IsLaidOut l → HasWholeSlots l → slice_get l.symbols i ≡ Some s → got_of s ≡ Some at → plt_of s ≡ Some stub → IsStubStored l w at stub
   pub pair : (l : Layout) (w : World) (at k : ℕ) (d : SlotWord) → KeepsAll l → IsLoadable l.kind → IsLegal l w → IsLaidOut l → HasWholeSlots l → l.tlsld ≡ Some at → slice_get (storage_words l) k ≡ Some d → IsWordStored l w (at + word_size * k) d
+
+-- memory has the merged strings, and the path of the interpreter
+abbrev pub TextsAreStored : Type 0
+TextsAreStored = (l : Layout) (w : World) → IsLoadable l.kind → IsLegal l w → IsLaidOut l → EachPartIsLoaded l → HoldsTexts l w (image_memory l w)
 
 -- each thunk, if no group has a fault and all tables are written
 abbrev pub ThunksAreThere : Type 0

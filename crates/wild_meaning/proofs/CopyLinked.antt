@@ -43,6 +43,7 @@ use Rattle.wild_meaning.proofs.CopyLegal.{copied_own, has_copy, copy_is}
 use Rattle.wild_meaning.proofs.CopyLoaded.{copying_loaded, copying_programs, copying_dynamic, copying_entries, copying_read, copying_tags}
 use Rattle.wild_meaning.proofs.CopyRefused.{address_formula, copied_is_own, no_code, no_string}
 use Rattle.wild_meaning.proofs.PlacedLemmas.{stood_plain, frame_input}
+use Rattle.wild_meaning.proofs.TextLemmas.{no_texts}
 use Rattle.wild_types.specs.declared.input.Slot.TheVariants as slot
 
 abbrev copied_reference : InputRelocation
@@ -233,4 +234,5 @@ copying_linked = (copying_described, record {
   kept = items_hold;
   zeros = zeros;
   copies = λ whole. copies;
+  texts = no_texts copying_layout copying_world copying_memory refl refl;
 })

@@ -6,6 +6,7 @@ pub mod PlacedLemmas
 pub mod OutputLemmas
 mod Legal
 mod SymbolUnique
+mod TextLemmas
 mod SharedLegal
 mod Read
 mod Refused

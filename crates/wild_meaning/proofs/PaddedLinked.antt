@@ -38,6 +38,7 @@ use Rattle.wild_meaning.specs.Worked.StaticRefusals.{padded_blank, padded_layout
 use Rattle.wild_meaning.proofs.SymbolUnique.{only}
 use Rattle.wild_meaning.proofs.Read.{held_from}
 use Rattle.wild_meaning.proofs.PlacedLemmas.{frame_input}
+use Rattle.wild_meaning.proofs.TextLemmas.{no_texts}
 
 padded_loaded : load static_pie_world padded_image ≡ Ok padded_memory
 unfolding load image_at image_with header program_headers segments load_segment load_segments tables first_dynamic section_tables sections section_entries relocate add_all apart notes overlay_runs places_from least_extent file_header_at file_header_fields program_header_at program_header_fields number word
@@ -129,4 +130,5 @@ padded_linked = (padded_described, record {
   kept = no_item;
   zeros = λ s k h lt _ _. zeros s h k lt;
   copies = λ whole i raw x h. absurd (no_library i h.copied);
+  texts = no_texts padded_layout static_pie_world padded_memory refl refl;
 })

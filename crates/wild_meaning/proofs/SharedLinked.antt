@@ -54,6 +54,7 @@ use Rattle.wild_meaning.proofs.SharedLegal.{no_library}
 use Rattle.wild_meaning.proofs.SharedRefused.{slot_formula, address_formula, pointer_formula, inner_formula, size_formula, pair_formula, own_pair_formula, thread_slot_formula, descriptor_formula, own_is, thread_is, open_is, other_is, no_code, no_string, no_address, left, distance_formula, no_near_code, near_uses}
 use Rattle.wild_meaning.proofs.SharedCode.{described, described_template, described_demanded}
 use Rattle.wild_meaning.proofs.SharedLoaded.{shared_loaded, shared_programs, shared_dynamic, shared_entries, shared_read, shared_tags}
+use Rattle.wild_meaning.proofs.TextLemmas.{no_texts}
 
 -- ---- symbols
 
@@ -601,4 +602,5 @@ shared_linked = (shared_described, record {
   kept = items_hold;
   zeros = λ s k h _ _ _. absurd (no_blank s h);
   copies = λ whole i raw x h. absurd (no_library i h.copied);
+  texts = no_texts shared_layout shared_world shared_memory refl refl;
 })

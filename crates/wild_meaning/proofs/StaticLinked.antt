@@ -47,6 +47,7 @@ use Rattle.wild_meaning.proofs.StaticRefused.{first_is, second_is, thread_is, ad
 use Rattle.wild_meaning.proofs.CodeRefused.{plt_formula, load_formula, descriptor_formula, call, call_template, call_demanded, load, load_template, load_demanded, described, described_template, described_demanded}
 use Rattle.wild_meaning.proofs.SequenceRefused.{pair_formula, general, general_template, getter_template}
 use Rattle.wild_meaning.proofs.PlacedLemmas.{stood_plain, frame_input}
+use Rattle.wild_meaning.proofs.TextLemmas.{no_texts}
 use Rattle.wild_types.specs.declared.input.Slot.TheVariants as slot
 
 -- ---- symbols
@@ -434,4 +435,5 @@ static_linked = (static_described, record {
   kept = items_hold;
   zeros = λ s k h _ _ _. absurd (no_blank s h);
   copies = λ whole i raw x h. absurd (no_library i h.copied);
+  texts = no_texts static_pie static_pie_world static_memory refl refl;
 })

@@ -55,6 +55,7 @@ use Rattle.wild_meaning.proofs.WordsLegal.{no_library}
 use Rattle.wild_meaning.proofs.WordsLoaded.{words_loaded, words_programs}
 use Rattle.wild_meaning.proofs.WordsTemplates.{function_is, data_is, no_string, not_absent, slot_page_formula, slot_low_formula, call_formula, slot_page_word, slot_low_word, call_word, slot_page_alone, slot_low_alone, call_alone, no_byte, slot_page_template, slot_low_template, call_template, past_template, page_template, low_template, descriptor_template, page_formula, low_formula, page_word, no_byte_of_two, kept_template, kept_page_only, kept_low_only}
 use Rattle.wild_meaning.proofs.PlacedLemmas.{stood_plain, frame_input}
+use Rattle.wild_meaning.proofs.TextLemmas.{no_texts}
 use Rattle.wild_types.specs.declared.input.Slot.TheVariants as slot
 
 -- ---- symbols
@@ -602,4 +603,5 @@ words_linked = (words_described, record {
   kept = items_hold;
   zeros = λ s k h _ _ _. absurd (no_blank s h);
   copies = λ whole i raw x h. absurd (no_library i h.copied);
+  texts = no_texts words_static words_world words_memory refl refl;
 })

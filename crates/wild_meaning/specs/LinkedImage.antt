@@ -3,10 +3,12 @@
 --   HasHeader l image     the file header has the output's type and entry; the segments are the layout's
 --   IsSectionWithoutData l s           the input section is loaded, allocated and has no data
 --   IsNotCopied l w a     the address is in no copied symbol
+--   HoldsTexts l w m      memory has the merged strings, and the path of the interpreter
 --   DescribesOutput l image   the headers are right, and a dynamic linker has its information
 --   IsLinked l w image    in that world the loader accepts the image, and memory is as required
 --   IsSound l image       the image describes its output, and is linked in every legal world
-use Rattle.std.specs.Prelude.{◌≡◌, ℕ, ◌+◌, ◌<◌, ◌≤◌, ◌⊎◌, true, false, length, List, None, Some, Ok}
+use Rattle.std.specs.Prelude.{◌≡◌, ℕ, ◌+◌, ◌<◌, ◌≤◌, ◌⊎◌, true, false, length, List, None, Some, Ok, Contains, slice_get}
+use Rattle.std.specs.List.{flat_map}
 use Rattle.wild_words.specs.Words.{HasBytesAt}
 use Rattle.wild_words.specs.Record.{spell}
 use Rattle.wild_records.specs.Abi.Header.{ev_current, et_exec, et_dyn}
@@ -17,9 +19,12 @@ use Rattle.wild_records.specs.SectionHeader.{section_header_size}
 use Rattle.wild_records.specs.declared.file_header.FileHeader.{FileHeader}
 use Rattle.wild_types.specs.declared.kind.Machine.{Machine}
 use Rattle.wild_types.specs.declared.kind.Machine.TheVariants as machine
+use Rattle.wild_types.specs.declared.part.Part.{Part}
+use Rattle.wild_types.specs.declared.part.Role.TheVariants as role
 use Rattle.wild_types.specs.declared.input.InputSection.{InputSection}
 use Rattle.wild_types.specs.declared.layout.Entry.TheVariants as entry
 use Rattle.wild_types.specs.declared.layout.Layout.{Layout}
+use Rattle.wild_types.specs.declared.layout.Merged.{Merged}
 use Rattle.wild_types.specs.Flags.{ifunc}
 use Rattle.wild_loader.specs.declared.world.World.{World}
 use Rattle.wild_loader.specs.declared.world.Answer.{Answer}
@@ -29,7 +34,7 @@ use Rattle.wild_loader.specs.declared.memory.Memory.{Memory}
 use Rattle.wild_loader.specs.Load.{load}
 use Rattle.wild_loader.specs.Memory.{byte_in, Holds}
 use Rattle.wild_meaning.specs.World.{IsFixed, IsMovable, IsLoadable, IsLegal, IsPastFileBytes, HasCopy}
-use Rattle.wild_meaning.specs.Section.{IsSet, IsForDebuggers, HasFileBytes}
+use Rattle.wild_meaning.specs.Section.{IsSet, IsAllocatedPart, IsForDebuggers, IsHeaderOnly, HasFileBytes}
 use Rattle.wild_meaning.specs.Segments.{headers_in, DescribeSegments, HasDynamicLinker}
 use Rattle.wild_meaning.specs.DynamicSection.{InformsLinker}
 use Rattle.wild_meaning.specs.Value.{IsDefinedBy, IsResolved, HasFlag}
@@ -81,6 +86,20 @@ pub record IsSectionWithoutData (l : Layout) (s : InputSection) : Type 0 where
 abbrev pub IsNotCopied : Layout → World → ℕ → Type 0
 IsNotCopied l w a = (i raw : ℕ) (x : Answer) → HasCopy l w i raw x → (a < raw) ⊎ (raw + length x.bytes ≤ a)
 
+-- memory has these bytes at the address of part n, if the part has memory and is written
+abbrev pub HoldsInPart : Layout → World → Memory → ℕ → Part → List ℕ → Type 0
+HoldsInPart l w m n p bytes = slice_get l.parts n ≡ Some p → IsAllocatedPart l n → (IsHeaderOnly l p → ⊥) → Holds m (w.base + p.address) bytes
+
+-- the merged strings of a part, consecutively
+abbrev pub string_bytes : Merged → List ℕ
+string_bytes g = flat_map (λ bs. bs) g.strings
+
+-- memory has merged strings from the start of their part on (gABI, "Section Header": SHF_MERGE), and the path of the interpreter
+-- in its part (gABI, "Program Interpreter")
+pub record HoldsTexts (l : Layout) (w : World) (m : Memory) : Type 0 where
+  pub strings : (g : Merged) (p : Part) → Contains l.merged g → HoldsInPart l w m g.part p (string_bytes g)
+  pub interpreter : (n : ℕ) (p : Part) → p.role ≡ role.Interp → HoldsInPart l w m n p l.interp
+
 -- the machine of the output
 abbrev pub processor_of : Machine → Processor
 processor_of machine.X86_64 = processors.X86_64
@@ -95,6 +114,7 @@ pub record DescribesOutput (l : Layout) (image : List ℕ) : Type 0 where
 -- The loader accepts the image for the layout's machine, and in memory:
 -- - each kept item holds;
 -- - copied symbols have their bytes;
+-- - merged strings and the interpreter's path are there;
 -- - other sections without data are zero, after file bytes or among sections that have some.
 -- An image only for debuggers has no table that a loader applies.
 pub record IsLinked (l : Layout) (w : World) (image : List ℕ) : Type 0 where
@@ -104,6 +124,7 @@ pub record IsLinked (l : Layout) (w : World) (image : List ℕ) : Type 0 where
   pub kept : (item : Item) → IsKept l item → ItemHolds l w memory item
   pub zeros : (s : InputSection) (k : ℕ) → IsSectionWithoutData l s → k < s.size → IsPastFileBytes l (s.address + k) ⊎ HasFileBytes l s.part → IsNotCopied l w (s.address + k) → byte_in memory (w.base + s.address + k) ≡ Some 0
   pub copies : (IsForDebuggers l → ⊥) → (i raw : ℕ) (x : Answer) → HasCopy l w i raw x → Holds memory (w.base + raw) x.bytes
+  pub texts : HoldsTexts l w memory
 
 -- If the output can be loaded at all, its image describes it, whatever the world, and is linked in every legal world.
 abbrev pub IsSound : Layout → List ℕ → Type 0

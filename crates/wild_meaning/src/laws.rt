@@ -5,7 +5,7 @@ ghost use Rattle.wild_meaning.specs.Worked.RefusalsAArch64.{RightWordsDo, WrongW
 ghost use Rattle.wild_meaning.specs.Worked.ReplaceableSymbols.{DynamicIsReplaceable, ExportedIsReplaceable, AnswersAreTaken};
 ghost use Rattle.wild_meaning.specs.Worked.SegmentRefusals.{WrongSegmentsAreRefused, OtherPlacesAreRefused, WrongSizesAreRefused, NoDynamicIsRefused, WrongEntriesAreRefused};
 ghost use Rattle.wild_meaning.specs.Worked.SharedRefusals.{SharedWorldIsLegal, WrongSlotsAreRefused, WrongAddressesAreRefused, WrongOffsetsAreRefused, WrongModulesAreRefused, WrongDescriptorsAreRefused, WrongSizeIsRefused, WrongByteIsRefused, WrongOwnDistanceIsRefused, WrongCodeOfLibraryIsRefused, SharedImageIsLinked};
-ghost use Rattle.wild_meaning.specs.Worked.StringRefusals.{StringsWorldIsLegal, StringsAreJudged, ReversedWordsAreJudged, StringsImageIsLinked};
+ghost use Rattle.wild_meaning.specs.Worked.StringRefusals.{StringsWorldIsLegal, StringsAreJudged, ReversedWordsAreJudged, TextsAreJudged, StringsImageIsLinked};
 ghost use Rattle.wild_meaning.specs.Worked.StaticRefusals.{StaticPieWorldIsLegal, WrongDataAreRefused, WrongCodeIsRefused, WrongBlankIsRefused, StaticImageIsLinked, PaddedImageIsLinked};
 
 use wild_records::file_header_is_read;
@@ -78,12 +78,14 @@ pub fn wrong_programs_are_refused()
 }
 
 /// A reference to the middle of a merged string holds if its field is that byte's address. No image is linked if it is another
-/// number; or if two words that must be reversed are in input order.
+/// number; if two words that must be reversed are in input order; or if a byte of a merged string, or of the interpreter's path, is
+/// another one.
 /// The world is legal, and one image is linked there.
 pub fn strings_and_reversed_words_are_judged()
     ensures legal { StringsWorldIsLegal }
     ensures strings { StringsAreJudged }
     ensures reversed { ReversedWordsAreJudged }
+    ensures texts { TextsAreJudged }
     ensures linked { StringsImageIsLinked }
 {}
 
