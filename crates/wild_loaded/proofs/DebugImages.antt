@@ -38,7 +38,7 @@ use Rattle.wild_meaning.proofs.BitLemmas.{alloc_bit}
 use Rattle.wild_meaning.proofs.OutputLemmas.{not_partial}
 use Rattle.wild_geometry.specs.Loaded.{HasItem, InFile}
 use Rattle.wild_geometry.proofs.KeptItems.{kept_laid}
-use Rattle.wild_loaded.specs.Laws.{HeadersAreThere, SegmentsAreLoadable, SectionsAreStored, ZerosAreStored, BlanksAreStored, TextsAreStored}
+use Rattle.wild_loaded.specs.Laws.{HeadersAreThere, SegmentsAreLoadable, SectionsAreStored, ZerosAreStored, BlanksAreStored, FileBytesAreStored, TextsAreStored}
 use Rattle.wild_loaded.specs.Memory.{headers_of, image_memory, EachDecided}
 use Rattle.wild_loaded.specs.LoadedMemoryLaws.{DebugImagesAreLoaded}
 use Rattle.wild_loaded.proofs.DynamicSections.{first_header, segment_place, first_listed}
@@ -54,6 +54,7 @@ pub record BareLaws : Type 0 where
   pub zeros : ZerosAreStored
   pub blanks : BlanksAreStored
   pub texts : TextsAreStored
+  pub file : FileBytesAreStored
   pub dynamic : DynamicImagesAreLoaded
   pub plain : PlainImagesAreLoaded
 
@@ -163,4 +164,5 @@ bare_loaded laws = λ l w bare kind numbers legal laid loaded decided. record {
   zeros = λ a b. laws.zeros l w a kind legal laid b;
   blanks = λ s k b f lt. laws.blanks l w s k kind legal laid b f lt;
   texts = laws.texts l w kind legal laid loaded;
+  still = λ a b file. laws.file l w a b kind legal laid file;
 }

@@ -56,6 +56,7 @@ use Rattle.wild_loaded.proofs.Blanks.{blank_moved}
 use Rattle.wild_loaded.proofs.SlotsLoaded.{slots_loaded}
 use Rattle.wild_loaded.proofs.ThunksHeld.{thunks_moved}
 use Rattle.wild_loaded.proofs.TextsHeld.{texts_moved}
+use Rattle.wild_loaded.proofs.StillBytes.{still_held}
 use Rattle.wild_loaded.proofs.Notes.{has_changed, alone, alone_made, alone_apart, alone_changed}
 
 moved_image : (l : Layout) (w : World) (m : Memory) → MovingLaws → IsFilledWell l w → HasApplied l w m → IsMovedImage l w m
@@ -113,6 +114,7 @@ memory_moved laws = λ l w m keeps kind numbers legal laid loaded decided whole 
       blanks = λ s k b f lt. blank_moved l w m s k laws.blanks h b f lt;
       copies = λ i raw y c. copy_moved l w m i raw y h c;
       texts = texts_moved l w m laws.texts h loaded;
+      still = λ a b file free. still_held l w m a b laws.file h file free;
     }
 
 -- ---- the image
@@ -178,6 +180,7 @@ images_loaded laws = λ l w keeps kind numbers legal laid parts decided whole no
       blanks = h.blanks;
       copies = h.copies;
       texts = h.texts;
+      still = h.still;
     }
   where
     by_kind : (l : Layout) (w : World) → KeepsAll l → (b : Bool) → needs_dynamic l.kind ≡ b → IsLoadable l.kind → NumbersFit l → IsLegal l w → IsLaidOut l → HasWholeSlots l → AreMade l w → IsLoadedBy l w

@@ -11,6 +11,7 @@
 --   PartsAreStored         memory has the tables of slots and stubs
 --   SlotsAreStored         memory has each word, each stub and the pair of the output's own thread-local data
 --   TextsAreStored         memory has the merged strings, and the path of the interpreter
+--   FileBytesAreStored     memory has the file bytes of segments
 --   ThunksAreThere         memory has each thunk, if there are no faults
 --   DynamicSectionsAreThere   the dynamic section is where its segment is
 --   DynamicSectionsInformLinker    it has the information that a dynamic linker needs
@@ -61,6 +62,7 @@ use Rattle.wild_meaning.specs.Section.{HasFileBytes}
 use Rattle.wild_meaning.specs.World.{IsLoadable, IsLegal, IsPastFileBytes, IsCopied, HasCopy}
 use Rattle.wild_geometry.specs.PlacedSections.{IsKeptPlacedSection}
 use Rattle.wild_meaning.specs.DynamicSection.{InformsLinker}
+use Rattle.wild_meaning.specs.Unfilled.{IsFileByte}
 use Rattle.wild_meaning.specs.LinkedImage.{HasHeader, IsSectionWithoutData, HoldsTexts, processor_of}
 use Rattle.wild_loaded.specs.Owners.{HasOneOwnerEach}
 use Rattle.wild_loaded.specs.Memory.{IsStored, headers_of, image_memory}
@@ -122,6 +124,10 @@ pub record SlotsAreStored : Type 0 where
 -- memory has the merged strings, and the path of the interpreter
 abbrev pub TextsAreStored : Type 0
 TextsAreStored = (l : Layout) (w : World) → IsLoadable l.kind → IsLegal l w → IsLaidOut l → EachPartIsLoaded l → HoldsTexts l w (image_memory l w)
+
+-- the file bytes of segments
+abbrev pub FileBytesAreStored : Type 0
+FileBytesAreStored = (l : Layout) (w : World) (a b : ℕ) → IsLoadable l.kind → IsLegal l w → IsLaidOut l → IsFileByte l (bytes l) a b → byte_in (image_memory l w) (w.base + a) ≡ Some b
 
 -- each thunk, if no group has a fault and all tables are written
 abbrev pub ThunksAreThere : Type 0

@@ -29,6 +29,7 @@ use Rattle.wild_loader.specs.SegmentLaws.{loaded_memory}
 use Rattle.wild_meaning.specs.Item.{IsKept}
 use Rattle.wild_meaning.specs.Section.{HasFileBytes}
 use Rattle.wild_meaning.specs.World.{IsPastFileBytes, HasCopy}
+use Rattle.wild_meaning.specs.Unfilled.{IsFileByte, IsUnfilled}
 use Rattle.wild_meaning.specs.LinkedImage.{IsSectionWithoutData, IsNotCopied, HoldsTexts, processor_of}
 use Rattle.wild_geometry.specs.PlacedSections.{IsPlacedSection, file_place}
 
@@ -56,8 +57,8 @@ abbrev pub EachDecided : Layout → Type 0
 EachDecided l = (s : InputSection) (k : IsPlacedSection l s) → is_read s ≡ true → is_omitted l s ≡ false → IsDecided l (item_of l k.owner s)
 
 -- The loader accepts the image. Memory has each kept item as decided, with the base added to addresses that move; the slots,
--- stubs and thunks; copies of symbols; merged strings and the interpreter's path. Otherwise it is zero after the file bytes of
--- segments, and in sections without data.
+-- stubs and thunks; copies of symbols; merged strings and the interpreter's path; and each byte of the file that nothing fills.
+-- Otherwise it is zero after the file bytes of segments, and in sections without data.
 pub record HasMemory (l : Layout) (w : World) : Type 0 where
   pub memory : Memory
   pub accepted : load w (bytes l) ≡ Ok memory
@@ -69,9 +70,10 @@ pub record HasMemory (l : Layout) (w : World) : Type 0 where
   pub blanks : (s : InputSection) (k : ℕ) → IsSectionWithoutData l s → HasFileBytes l s.part → k < s.size → byte_in memory (w.base + (s.address + k)) ≡ Some 0
   pub copies : (i raw : ℕ) (x : Answer) → HasCopy l w i raw x → Holds memory (w.base + raw) x.bytes
   pub texts : HoldsTexts l w memory
+  pub still : (a b : ℕ) → IsFileByte l (bytes l) a b → IsUnfilled l w a → byte_in memory (w.base + a) ≡ Some b
 
--- The loader accepts the image, which has no table for it to apply. Memory has each kept item, merged strings and the
--- interpreter's path as the file has them. It is zero after the file bytes of segments, and in sections without data.
+-- The loader accepts the image, which has no table for it to apply. Memory has each kept item, merged strings, the
+-- interpreter's path and every byte of the file as the file has them. It is zero after the file bytes of segments, and in sections without data.
 pub record HasMemoryWithoutTables (l : Layout) (w : World) : Type 0 where
   pub memory : Memory
   pub accepted : load w (bytes l) ≡ Ok memory
@@ -80,3 +82,4 @@ pub record HasMemoryWithoutTables (l : Layout) (w : World) : Type 0 where
   pub zeros : (a : ℕ) → IsPastFileBytes l a → byte_in memory (w.base + a) ≡ Some 0
   pub blanks : (s : InputSection) (k : ℕ) → IsSectionWithoutData l s → HasFileBytes l s.part → k < s.size → byte_in memory (w.base + (s.address + k)) ≡ Some 0
   pub texts : HoldsTexts l w memory
+  pub still : (a b : ℕ) → IsFileByte l (bytes l) a b → byte_in memory (w.base + a) ≡ Some b

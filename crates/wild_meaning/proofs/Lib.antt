@@ -9,6 +9,7 @@ mod SymbolUnique
 mod TextLemmas
 mod SharedLegal
 mod Read
+mod FileBytes
 mod Refused
 mod SlotPlaces
 mod SharedRefused

@@ -1,10 +1,10 @@
 -- The image of the worked shared object is linked in its world.
-use Rattle.std.proofs.Common.{◌==◌, if◌then◌else◌, Bool, ◌≡◌, ℕ, zero, suc, ◌+◌, ◌-◌, ◌%◌, ◌^◌, ◌<◌, ◌≤◌, ◌⊎◌, inl, inr, true, false, List, [], ◌∷◌, length, refl, sym, ap, ◌∙◌, subst, arith}
-use Rattle.std.specs.Prelude.{Option, Some, None, Contains, All, slice_index}
+use Rattle.std.proofs.Common.{◌==◌, if◌then◌else◌, Bool, ◌≡◌, ℕ, zero, suc, ◌+◌, ◌-◌, ◌%◌, ◌^◌, ◌<◌, ◌≤◌, ◌⊎◌, inl, inr, true, false, List, [], ◌∷◌, length, refl, sym, ap, ◌∙◌, subst, arith, ◌++◌}
+use Rattle.std.specs.Prelude.{Option, Some, None, Contains, All, slice_index, replicate}
 use Rattle.std.proofs.lemmas.Bool.{eqb-false}
 use Rattle.std.proofs.lemmas.List.Elements.{All-from_recursion, All-contains}
 use lib.IntN.{pos}
-use Rattle.wild_words.specs.Words.{number}
+use Rattle.wild_words.specs.Words.{number, word}
 use Rattle.wild_words.specs.Record.{spell}
 use Rattle.wild_words.proofs.RecordLemmas.{HasBytesAt-left}
 use Rattle.wild_records.specs.Abi.Relocation.{r_x86_64_64, r_x86_64_gotpcrel64, r_x86_64_tpoff64, r_x86_64_dtpoff64, r_x86_64_size64, r_x86_64_tlsgd, r_x86_64_tlsld, r_x86_64_gottpoff, r_x86_64_gotpc32_tlsdesc}
@@ -40,10 +40,13 @@ use Rattle.wild_meaning.specs.Reference.{UsesOwnDefinition, UsesOwnSymbolOnly, I
 use Rattle.wild_meaning.specs.Segments.{headers_in, DescribeSegments}
 use Rattle.wild_meaning.specs.DynamicSection.{InformsLinker}
 use Rattle.wild_meaning.specs.LinkedImage.{IsSectionWithoutData, DescribesOutput}
-use Rattle.wild_meaning.specs.Worked.Builders.{reference, file_of, group_of}
+use Rattle.wild_meaning.specs.Worked.Builders.{reference, file_of, group_of, loaded_segment}
 use Rattle.wild_meaning.specs.Worked.Shared.{shared_layout, shared_world, shared_data, shared_item, shared_bytes, shared_code, code_item, shared_reference, shared_near, near_item, near_reference, answer_of_module, own_symbol, open_symbol, own_thread, other_thread}
-use Rattle.wild_meaning.specs.Worked.SharedImage.{shared_image, shared_rest, shared_memory, shared_header, shared_third}
-use Rattle.wild_meaning.specs.Worked.SharedRefusals.{own_offset, other_offset, SharedImageIsLinked}
+use Rattle.wild_meaning.specs.Worked.SharedImage.{shared_image, shared_rest, shared_memory, shared_header, shared_third, shared_front, shared_back}
+use Rattle.wild_meaning.specs.Worked.SharedRefusals.{own_offset, other_offset, ChangedTableIsRefused, SharedImageIsLinked}
+use Rattle.wild_records.specs.ProgramHeader.{program_header_fields}
+use Rattle.wild_meaning.specs.Unfilled.{IsUnfilled}
+use Rattle.wild_meaning.proofs.FileBytes.{HasLoadedBytes, file_byte_held}
 use Rattle.wild_meaning.proofs.SymbolUnique.{only, IsPlainOwn, IsAnsweredAs}
 use Rattle.wild_meaning.proofs.Read.{held_from}
 use Rattle.wild_meaning.proofs.Refused.{not_alone, no_template}
@@ -538,6 +541,12 @@ no_blank s h =
     let both : true ≡ false = sym h.blank ∙ has in
     cc
 
+-- ---- bytes of the file
+
+file_bytes : All (HasLoadedBytes shared_memory shared_world.base shared_image) shared_layout.segments
+unfolding file_header_fields program_header_fields word
+file_bytes = All-from_recursion (HasLoadedBytes shared_memory shared_world.base shared_image) shared_layout.segments ((λ k. record { content = shared_front; stands = refl; size = refl; held = refl }), ((λ k. record { content = shared_back ++ replicate 56 0; stands = refl; size = refl; held = refl }), ((λ k. absurd (let no : 2 ≡ 1 = k in omega (arith, no))), tt)))
+
 -- ---- the whole
 
 no_load : (n : ℕ) → (n == pt_gnu_stack) ≡ false → n ≡ pt_gnu_stack → ⊥
@@ -595,12 +604,33 @@ shared_described = record {
 }
 
 pub shared_linked : SharedImageIsLinked
-shared_linked = (shared_described, record {
-  memory = shared_memory;
-  accepted = shared_loaded;
-  machine = refl;
-  kept = items_hold;
-  zeros = λ s k h _ _ _. absurd (no_blank s h);
-  copies = λ whole i raw x h. absurd (no_library i h.copied);
-  texts = no_texts shared_layout shared_world shared_memory refl refl;
-})
+shared_linked = (
+  shared_described,
+  record {
+    memory = shared_memory;
+    accepted = shared_loaded;
+    machine = refl;
+    kept = items_hold;
+    zeros = λ s k h _ _ _. absurd (no_blank s h);
+    copies = λ whole i raw x h. absurd (no_library i h.copied);
+    texts = no_texts shared_layout shared_world shared_memory refl refl;
+    still = λ a b h free. file_byte_held shared_layout shared_memory shared_world.base a b shared_image file_bytes h;
+  },
+)
+
+-- ---- a changed table
+
+-- its sections end before the dynamic section
+abbrev EndsBefore : InputSection → Type 0
+EndsBefore s = s.address + s.size ≤ 0x2068
+
+dynamic_unfilled : IsUnfilled shared_layout shared_world 0x2068
+dynamic_unfilled = record {
+  sections = λ s k. inr (All-contains EndsBefore inputs s (All-from_recursion EndsBefore inputs (omega arith, (omega arith, (omega arith, tt)))) (listed_in s k.input));
+  parts = λ p c role. absurd (omega (arith, c.1));
+  copies = λ i raw x h. absurd (no_library i h.copied);
+}
+
+pub changed_table : ChangedTableIsRefused
+changed_table image b h stands wrong =
+    wrong (h.still 0x2068 b (record { segment = loaded_segment 0x2000 0x110 0x110; listed = (1, omega arith, refl); loaded = refl; from = omega arith; within = omega arith; given = stands }) dynamic_unfilled)

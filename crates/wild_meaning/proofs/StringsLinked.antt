@@ -41,9 +41,10 @@ use Rattle.wild_meaning.specs.Segments.{headers_in, DescribeSegments}
 use Rattle.wild_meaning.specs.LinkedImage.{IsSectionWithoutData, string_bytes, DescribesOutput}
 use Rattle.wild_meaning.specs.Worked.Builders.{group_of}
 use Rattle.wild_meaning.specs.Worked.Static.{static_pie_world, second_function}
-use Rattle.wild_meaning.specs.Worked.Strings.{string_section, string_symbol, string_reference, pointer_data, reversed_data, strings_file, strings_layout, pointer_item, reversed_item, strings_memory, part_at, merged_texts, path_text}
+use Rattle.wild_meaning.specs.Worked.Strings.{string_section, string_symbol, string_reference, pointer_data, reversed_data, strings_file, strings_layout, pointer_item, reversed_item, strings_memory, part_at, merged_texts, path_text, strings_content}
 use Rattle.wild_meaning.specs.Worked.StringImage.{strings_image, strings_rest, strings_header, strings_segment}
 use Rattle.wild_meaning.specs.Worked.StringRefusals.{StringsWorldIsLegal, StringsImageIsLinked}
+use Rattle.wild_meaning.proofs.FileBytes.{HasLoadedBytes, file_byte_held}
 use Rattle.wild_meaning.proofs.SymbolUnique.{only}
 use Rattle.wild_meaning.proofs.Legal.{not_indirect, no_index}
 use Rattle.wild_meaning.proofs.Read.{held_from}
@@ -253,6 +254,12 @@ strings_legal = record {
   };
 }
 
+-- ---- bytes of the file
+
+file_bytes : All (HasLoadedBytes strings_memory static_pie_world.base strings_image) strings_layout.segments
+unfolding file_header_fields program_header_fields word
+file_bytes = All-from_recursion (HasLoadedBytes strings_memory static_pie_world.base strings_image) strings_layout.segments ((λ k. record { content = strings_content; stands = refl; size = refl; held = refl }), tt)
+
 -- ---- the whole
 
 strings_segments : DescribeSegments strings_layout strings_layout.segments (headers_in strings_image)
@@ -283,12 +290,16 @@ strings_described = record {
 }
 
 pub strings_linked : StringsImageIsLinked
-strings_linked = (strings_described, record {
-  memory = strings_memory;
-  accepted = strings_loaded;
-  machine = refl;
-  kept = items_hold;
-  zeros = λ s k h _ _ _. absurd (no_blank s h);
-  copies = λ whole i raw x h. absurd (no_library i h.copied);
-  texts = record { strings = λ g p c there room written. strings_held g p c there; interpreter = λ n p is there room written. path_there n p is there };
-})
+strings_linked = (
+  strings_described,
+  record {
+    memory = strings_memory;
+    accepted = strings_loaded;
+    machine = refl;
+    kept = items_hold;
+    zeros = λ s k h _ _ _. absurd (no_blank s h);
+    copies = λ whole i raw x h. absurd (no_library i h.copied);
+    texts = record { strings = λ g p c there room written. strings_held g p c there; interpreter = λ n p is there room written. path_there n p is there };
+    still = λ a b h free. file_byte_held strings_layout strings_memory static_pie_world.base a b strings_image file_bytes h;
+  },
+)

@@ -44,8 +44,10 @@ use Rattle.wild_meaning.specs.Segments.{headers_in, DescribeSegments}
 use Rattle.wild_meaning.specs.LinkedImage.{IsSectionWithoutData, DescribesOutput}
 use Rattle.wild_meaning.specs.Worked.Builders.{file_of, group_of}
 use Rattle.wild_meaning.specs.Worked.AArch64.{words_static, words_world, near_function, local_data, address_code, address_item, page_reference, low_reference, slot_code, slot_item, slot_page_reference, slot_low_reference, call_code, call_item, call_reference, past_code, past_item, past_reference, kept_code, kept_item, descriptor_code, descriptor_item, descriptor_page, descriptor_load, descriptor_low, descriptor_call}
-use Rattle.wild_meaning.specs.Worked.AArch64Image.{words_image, words_rest, words_memory, words_header}
+use Rattle.wild_meaning.specs.Worked.AArch64Image.{words_image, words_rest, words_memory, words_header, words_content}
 use Rattle.wild_meaning.specs.Worked.ImageRefusalsAArch64.{WordsImageIsLinked}
+use Rattle.wild_records.specs.ProgramHeader.{program_header_fields}
+use Rattle.wild_meaning.proofs.FileBytes.{HasLoadedBytes, file_byte_held}
 use Rattle.wild_meaning.proofs.SymbolUnique.{only, owner_of, stub_of, IsPlainOwn}
 use Rattle.wild_meaning.proofs.Read.{held_from}
 use Rattle.wild_meaning.proofs.EffectLemmas.{done}
@@ -513,6 +515,12 @@ kept_item_holds = all_hold kept_item
     (All-from_recursion (Both kept_item) kept_item.relocations ((kept_page_holds, own_alone kept_item page_reference 0 0x11200 refl function_is), ((kept_low_holds, own_alone kept_item low_reference 0 0x11200 refl function_is), tt)))
     (λ k lt other. absurd (within 8 k lt (other.templates page_reference 0 address_pair_words page_reference (record { listed = (0, omega arith, refl); refers = λ e. omega arith }) kept_template)))
 
+-- ---- bytes of the file
+
+file_bytes : All (HasLoadedBytes words_memory words_world.base words_image) words_static.segments
+unfolding file_header_fields program_header_fields word
+file_bytes = All-from_recursion (HasLoadedBytes words_memory words_world.base words_image) words_static.segments ((λ k. record { content = words_content; stands = refl; size = refl; held = refl }), tt)
+
 -- ---- the whole
 
 abbrev sections : List InputSection
@@ -596,12 +604,16 @@ words_described = record {
 }
 
 pub words_linked : WordsImageIsLinked
-words_linked = (words_described, record {
-  memory = words_memory;
-  accepted = words_loaded;
-  machine = refl;
-  kept = items_hold;
-  zeros = λ s k h _ _ _. absurd (no_blank s h);
-  copies = λ whole i raw x h. absurd (no_library i h.copied);
-  texts = no_texts words_static words_world words_memory refl refl;
-})
+words_linked = (
+  words_described,
+  record {
+    memory = words_memory;
+    accepted = words_loaded;
+    machine = refl;
+    kept = items_hold;
+    zeros = λ s k h _ _ _. absurd (no_blank s h);
+    copies = λ whole i raw x h. absurd (no_library i h.copied);
+    texts = no_texts words_static words_world words_memory refl refl;
+    still = λ a b h free. file_byte_held words_static words_memory words_world.base a b words_image file_bytes h;
+  },
+)

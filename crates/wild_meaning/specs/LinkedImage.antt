@@ -41,6 +41,7 @@ use Rattle.wild_meaning.specs.Value.{IsDefinedBy, IsResolved, HasFlag}
 use Rattle.wild_types.specs.Item.{Item}
 use Rattle.wild_meaning.specs.Item.{IsInput, IsLoadedSlot, IsKept}
 use Rattle.wild_meaning.specs.Reference.{ItemHolds}
+use Rattle.wild_meaning.specs.Unfilled.{IsFileByte, IsUnfilled}
 
 -- an address was decided for symbol i's definition, which is not an IFUNC
 pub record HasResolvedAddress (l : Layout) (i a : ℕ) : Type 0 where
@@ -115,6 +116,7 @@ pub record DescribesOutput (l : Layout) (image : List ℕ) : Type 0 where
 -- - each kept item holds;
 -- - copied symbols have their bytes;
 -- - merged strings and the interpreter's path are there;
+-- - bytes of the file are as in the file, outside kept sections, slots, frames and copies;
 -- - other sections without data are zero, after file bytes or among sections that have some.
 -- An image only for debuggers has no table that a loader applies.
 pub record IsLinked (l : Layout) (w : World) (image : List ℕ) : Type 0 where
@@ -125,6 +127,7 @@ pub record IsLinked (l : Layout) (w : World) (image : List ℕ) : Type 0 where
   pub zeros : (s : InputSection) (k : ℕ) → IsSectionWithoutData l s → k < s.size → IsPastFileBytes l (s.address + k) ⊎ HasFileBytes l s.part → IsNotCopied l w (s.address + k) → byte_in memory (w.base + s.address + k) ≡ Some 0
   pub copies : (IsForDebuggers l → ⊥) → (i raw : ℕ) (x : Answer) → HasCopy l w i raw x → Holds memory (w.base + raw) x.bytes
   pub texts : HoldsTexts l w memory
+  pub still : (a b : ℕ) → IsFileByte l image a b → IsUnfilled l w a → byte_in memory (w.base + a) ≡ Some b
 
 -- If the output can be loaded at all, its image describes it, whatever the world, and is linked in every legal world.
 abbrev pub IsSound : Layout → List ℕ → Type 0

@@ -4,7 +4,7 @@ ghost use Rattle.wild_meaning.specs.Worked.ImageRefusalsAArch64.{WordsWorldIsLeg
 ghost use Rattle.wild_meaning.specs.Worked.RefusalsAArch64.{RightWordsDo, WrongWordsAreRefused, CutBitsAreRefused, SlotAddendsAreRefused, PairsAreExcepted, NegatedMovesAreUnknown, ShiftedAddsAreUnknown, ThunksAreJudged};
 ghost use Rattle.wild_meaning.specs.Worked.ReplaceableSymbols.{DynamicIsReplaceable, ExportedIsReplaceable, AnswersAreTaken};
 ghost use Rattle.wild_meaning.specs.Worked.SegmentRefusals.{WrongSegmentsAreRefused, OtherPlacesAreRefused, WrongSizesAreRefused, NoDynamicIsRefused, WrongEntriesAreRefused};
-ghost use Rattle.wild_meaning.specs.Worked.SharedRefusals.{SharedWorldIsLegal, WrongSlotsAreRefused, WrongAddressesAreRefused, WrongOffsetsAreRefused, WrongModulesAreRefused, WrongDescriptorsAreRefused, WrongSizeIsRefused, WrongByteIsRefused, WrongOwnDistanceIsRefused, WrongCodeOfLibraryIsRefused, SharedImageIsLinked};
+ghost use Rattle.wild_meaning.specs.Worked.SharedRefusals.{SharedWorldIsLegal, WrongSlotsAreRefused, WrongAddressesAreRefused, WrongOffsetsAreRefused, WrongModulesAreRefused, WrongDescriptorsAreRefused, WrongSizeIsRefused, WrongByteIsRefused, WrongOwnDistanceIsRefused, ChangedTableIsRefused, WrongCodeOfLibraryIsRefused, SharedImageIsLinked};
 ghost use Rattle.wild_meaning.specs.Worked.StringRefusals.{StringsWorldIsLegal, StringsAreJudged, ReversedWordsAreJudged, TextsAreJudged, StringsImageIsLinked};
 ghost use Rattle.wild_meaning.specs.Worked.StaticRefusals.{StaticPieWorldIsLegal, WrongDataAreRefused, WrongCodeIsRefused, WrongBlankIsRefused, StaticImageIsLinked, PaddedImageIsLinked};
 
@@ -30,6 +30,7 @@ pub fn symbols_are_replaced()
 /// - a slot of an address or an offset, a word with an address, a thread-pointer offset;
 /// - the module of a pair, the offset of a descriptor, a size, a byte in no field;
 /// - a distance that only the library's own symbol can have;
+/// - a byte of the dynamic section that is not as in the file;
 /// - code that receives an offset where it requires a descriptor.
 /// One image is linked there.
 pub fn wrong_shared_objects_are_refused()
@@ -41,6 +42,7 @@ pub fn wrong_shared_objects_are_refused()
     ensures size { WrongSizeIsRefused }
     ensures byte { WrongByteIsRefused }
     ensures near { WrongOwnDistanceIsRefused }
+    ensures table { ChangedTableIsRefused }
     ensures code { WrongCodeOfLibraryIsRefused }
     ensures linked { SharedImageIsLinked }
 {}
