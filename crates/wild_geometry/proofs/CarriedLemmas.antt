@@ -23,6 +23,7 @@ use Rattle.wild_types.specs.FilePlaces.{bool_eq}
 use Rattle.wild_plan_rules.specs.Contents.{has_room}
 use Rattle.wild_plan_rules.specs.Indexes.{part_index_fits}
 use Rattle.wild_layout.specs.Loadable.{CarriesByte, IsMapped, IsPartMapped}
+use Rattle.wild_geometry.specs.Carried.{EachPartIsLoaded}
 use Rattle.wild_geometry.proofs.PlacedSectionLemmas.{Laid}
 use Rattle.wild_geometry.proofs.SectionLemmas.{Holds, Stood}
 use Rattle.wild_geometry.proofs.PieceLemmas.{place_is}
@@ -140,6 +141,12 @@ IsPartMapped-from_laid l h i d low kind loaded written k lt =
     let o = Filled-from_tests l p.section (ltb-true _ _ (h.indexes.parts i d low)) both.0 (and_from (has_data l p.section) (not (is_header_only_at l p.section)) both.1 (rw written refl)) in
     let c = byte_of_part l h kind p (h.parts.lie i d low) o k lt in
     (c.0, record { listed = c.1.listed; loaded = c.1.loaded; from = c.1.from; to = c.1.to; distance = c.1.distance })
+
+-- any part of an allocated section with bytes in the file
+pub EachPartIsLoaded-from_laid : (l : Layout) → Laid l → EachPartIsLoaded l
+EachPartIsLoaded-from_laid l h = λ kind i d low place takes k lt. (
+    let p = get_or l.parts i d in
+    byte_of_part l h kind p (h.parts.lie i d low) (Filled-from_tests l p.section (ltb-true _ _ (h.indexes.parts i d low)) place takes) k lt)
 
 -- ---- input sections
 

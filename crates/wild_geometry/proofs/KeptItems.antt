@@ -201,7 +201,7 @@ turned_fields s = by s.reversed
     by true = record { slot = refl; nobits = refl; part = refl; address = refl; size = refl; flags = refl }
     by false = record { slot = refl; nobits = refl; part = refl; address = refl; size = refl; flags = refl }
 
-loaded_same : (s : InputSection) → s.slot ≡ slot.Loaded → s ≡ as_loaded s
+pub loaded_same : (s : InputSection) → s.slot ≡ slot.Loaded → s ≡ as_loaded s
 loaded_same s e = ap (λ (k : Slot). record { slot = k; name = s.name; part = s.part; address = s.address; size = s.size; flags = s.flags; nobits = s.nobits; reversed = s.reversed; singleton = s.singleton; target = s.target; members = s.members; bytes = s.bytes; strings = s.strings; relocations = s.relocations }) e
 
 -- a loaded or sorted section as it stands

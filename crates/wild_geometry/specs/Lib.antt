@@ -4,3 +4,4 @@ pub mod Loaded
 pub mod Slots
 pub mod Thunks
 pub mod PlacedSections
+pub mod Carried

@@ -190,5 +190,5 @@ other_byte l w m s k x types asked holds lt out =
           let code = short l s r start o x f d.stands d.which in
           let here : start ≡ k = at_start k start (size_of o) r.offset code.five code.behind from to (outside l s r k x out ref.listed code.number) in
           let done : IsInputByte w m s start → ⊥ = λ h. never (subst (λ (j : ℕ). IsInputByte w m s j) here h) in
-          done (opcode_there l w m s r start o one x f t (plain_keeps l w m s r (holds.references r ref told.2 told.0 (λ alone. done (opcode_there l w m s r start o one x f t (linked_keeps l w m s r (holds.linked r ref told.2 alone (told.1 alone))))))))));
+          done (opcode_there l w m s r start o one x f t (plain_keeps l w m s r (holds.references r ref told.1 told.0 (λ alone. done (opcode_there l w m s r start o one x f t (linked_keeps l w m s r (holds.linked r ref told.1 told.0 alone)))))))));
     }))

@@ -14,6 +14,7 @@ use Rattle.wild_loader.specs.Load.{load}
 use Rattle.wild_loader.specs.declared.memory.Memory.{Memory}
 use Rattle.wild_loader.specs.declared.world.World.{World}
 use Rattle.wild_meaning.specs.World.{IsLoadable, IsLegal}
+use Rattle.wild_geometry.specs.Carried.{PartsAreLoaded}
 use Rattle.wild_loaded.specs.Laws.{SlotsAreThere}
 use Rattle.wild_loaded.specs.Memory.{HasMemory}
 use Rattle.wild_loaded.specs.LoadedMemoryLaws.{ImagesAreLoaded}
@@ -29,21 +30,21 @@ record IsImage (l : Layout) (w : World) (m : Memory) : Type 0 where
   loaded : HasMemory l w
   same : loaded.memory ≡ m
 
-image : LayoutsAreLaidOut → SlotsAreThere → ImagesAreLoaded → (l : Layout) (w : World) (m : Memory) → KeepsAll l → NumbersFit l → HaveTheirFlags l → errors l ≡ [] → IsLoadable l.kind → IsLegal l w → load w (bytes l) ≡ Ok m → IsImage l w m
-image layouts there loaded l w m keeps numbers flags none loads legal accepted =
+image : LayoutsAreLaidOut → PartsAreLoaded → SlotsAreThere → ImagesAreLoaded → (l : Layout) (w : World) (m : Memory) → KeepsAll l → NumbersFit l → HaveTheirFlags l → errors l ≡ [] → IsLoadable l.kind → IsLegal l w → load w (bytes l) ≡ Ok m → IsImage l w m
+image layouts parts there loaded l w m keeps numbers flags none loads legal accepted =
     let laid = laid_out layouts l none in
     let groups = no_group_errors l none in
-    let h = loaded l w keeps loads numbers legal laid (sections_decided l (not_partial l.kind loads) laid groups) (there l keeps flags laid groups) groups in
+    let h = loaded l w keeps loads numbers legal laid (parts l none) (sections_decided l (not_partial l.kind loads) laid groups) (there l keeps flags laid groups) groups in
     let both : Ok h.memory ≡ Ok m = sym h.accepted ∙ accepted in
     let same : h.memory ≡ m = cc in
     record { laid = laid; loaded = h; same = same }
 
-pub images_stubs : LayoutsAreLaidOut → SlotsAreThere → ImagesAreLoaded → OutputsMoveByPages → StubsJumpToSlots → StubsOfImagesJump
-images_stubs layouts there loaded pages go = λ l w m keeps numbers flags none loads legal accepted.
-    let i = image layouts there loaded l w m keeps numbers flags none loads legal accepted in
+pub images_stubs : LayoutsAreLaidOut → PartsAreLoaded → SlotsAreThere → ImagesAreLoaded → OutputsMoveByPages → StubsJumpToSlots → StubsOfImagesJump
+images_stubs layouts parts there loaded pages go = λ l w m keeps numbers flags none loads legal accepted.
+    let i = image layouts parts there loaded l w m keeps numbers flags none loads legal accepted in
     subst (λ (n : Memory). EachStubJumps l w n) i.same (go l w i.loaded.memory (pages l w numbers legal i.laid) i.loaded.machine flags i.laid.slot_flags i.loaded.slots)
 
-pub images_thunks : LayoutsAreLaidOut → SlotsAreThere → ImagesAreLoaded → OutputsMoveByPages → ThunksJumpToTargets → ThunksOfImagesJump
-images_thunks layouts there loaded pages go = λ l w m keeps numbers flags none loads legal accepted.
-    let i = image layouts there loaded l w m keeps numbers flags none loads legal accepted in
+pub images_thunks : LayoutsAreLaidOut → PartsAreLoaded → SlotsAreThere → ImagesAreLoaded → OutputsMoveByPages → ThunksJumpToTargets → ThunksOfImagesJump
+images_thunks layouts parts there loaded pages go = λ l w m keeps numbers flags none loads legal accepted.
+    let i = image layouts parts there loaded l w m keeps numbers flags none loads legal accepted in
     subst (λ (n : Memory). EachThunkJumps l w n) i.same (go l w i.loaded.memory (pages l w numbers legal i.laid) i.loaded.machine i.laid i.loaded.thunks)

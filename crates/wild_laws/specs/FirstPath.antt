@@ -138,9 +138,9 @@ pub record HasFormula (l : Layout) (w : World) (m : Memory) (s : Item) (r : Inpu
 abbrev pub IsFollowed : Layout → World → Item → InputRelocation → Type 0
 IsFollowed l w s r = MustHold l w s r × (UsesOwnSymbolOnly l s r → ⊥) × (IsOmitted l s r → ⊥)
 
--- each reference of the item is checked, one to the output's own symbol only at base 0, and the image contains what it depends on
+-- each reference of the item is checked, and the image contains what it depends on
 abbrev pub EachIsChecked : Layout → World → Item → Type 0
-EachIsChecked l w s = (r : InputRelocation) → IsRelocated s r → MustHold l w s r × (UsesOwnSymbolOnly l s r → w.base ≡ 0) × (IsOmitted l s r → ⊥)
+EachIsChecked l w s = (r : InputRelocation) → IsRelocated s r → MustHold l w s r × (IsOmitted l s r → ⊥)
 
 -- the field has the value of the judge's formula for the relocation's type, whichever type that is
 pub record HasValueOf (l : Layout) (w : World) (m : Memory) (s : Item) (r : InputRelocation) (f : Formula) : Type 0 where

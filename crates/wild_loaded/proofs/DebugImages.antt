@@ -38,7 +38,7 @@ use Rattle.wild_meaning.proofs.BitLemmas.{alloc_bit}
 use Rattle.wild_meaning.proofs.OutputLemmas.{not_partial}
 use Rattle.wild_geometry.specs.Loaded.{HasItem, InFile}
 use Rattle.wild_geometry.proofs.KeptItems.{kept_laid}
-use Rattle.wild_loaded.specs.Laws.{HeadersAreThere, SegmentsAreLoadable, SectionsAreStored, ZerosAreStored, BlanksAreStored}
+use Rattle.wild_loaded.specs.Laws.{HeadersAreThere, SegmentsAreLoadable, SectionsAreStored, ZerosAreStored, BlanksAreStored, FileBytesAreStored, TextsAreStored}
 use Rattle.wild_loaded.specs.Memory.{headers_of, image_memory, EachDecided}
 use Rattle.wild_loaded.specs.LoadedMemoryLaws.{DebugImagesAreLoaded}
 use Rattle.wild_loaded.proofs.DynamicSections.{first_header, segment_place, first_listed}
@@ -53,6 +53,8 @@ pub record BareLaws : Type 0 where
   pub sections : SectionsAreStored
   pub zeros : ZerosAreStored
   pub blanks : BlanksAreStored
+  pub texts : TextsAreStored
+  pub file : FileBytesAreStored
   pub dynamic : DynamicImagesAreLoaded
   pub plain : PlainImagesAreLoaded
 
@@ -154,11 +156,13 @@ bare_item l w item laws kind legal laid decided kept =
     subst (λ (i : Item). HasItem l w (image_memory l w) i InFile) (sym k.is) (laws.sections l w k.section kind legal laid k.kept (decided k.section k.kept.input k.kept.reads k.kept.written))
 
 pub bare_loaded : BareLaws → DebugImagesAreLoaded
-bare_loaded laws = λ l w bare kind numbers legal laid decided. record {
+bare_loaded laws = λ l w bare kind numbers legal laid loaded decided. record {
   memory = image_memory l w;
   accepted = bare_accepted l w laws bare kind numbers legal laid;
   machine = laws.segments.machine l w;
   items = λ item kept. bare_item l w item laws kind legal laid decided kept;
   zeros = λ a b. laws.zeros l w a kind legal laid b;
   blanks = λ s k b f lt. laws.blanks l w s k kind legal laid b f lt;
+  texts = laws.texts l w kind legal laid loaded;
+  still = λ a b file. laws.file l w a b kind legal laid file;
 }

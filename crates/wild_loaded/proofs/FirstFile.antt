@@ -1,13 +1,23 @@
--- What the first file alone has stands once.
-use Rattle.std.proofs.Common.{◌≡◌, ℕ, ◌≤◌, inl, inr, ◌==◌, Bool, true, false, ◌&&◌, List, [], ◌∷◌, length, None, flat_map, refl, arith}
-use Rattle.std.specs.Prelude.{◌+◌, if◌then◌else◌}
+-- What the first file alone has stands once: in lists, and in tables.
+use Rattle.std.proofs.Common.{◌≡◌, ℕ, ◌≤◌, inl, inr, ◌==◌, Bool, true, false, ◌&&◌, List, [], ◌∷◌, ◌++◌, length, None, flat_map, refl, ◌∙◌, arith}
+use Rattle.std.specs.Prelude.{◌+◌, if◌then◌else◌, Contains}
 use Rattle.std.proofs.lemmas.Bool.{cases_Bool, and_parts}
 use Rattle.std.proofs.lemmas.List.{append-nil}
+use Rattle.wild_words.proofs.ListLemmas.{Contains-here, flat_map-same}
+use Rattle.wild_types.specs.declared.part.Role.{Role}
+use Rattle.wild_types.specs.declared.part.Role.TheVariants as role
 use Rattle.wild_types.specs.declared.file.File.{File}
 use Rattle.wild_types.specs.declared.file.Group.{Group}
+use Rattle.wild_types.specs.declared.layout.Layout.{Layout}
 use Rattle.wild_types.specs.FileRoles.{is_prelude, is_epilogue}
 use Rattle.wild_types.specs.FilePlaces.{bool_eq, file_position_fits, later_positions_fit, group_positions_fit, first_misplaced_file}
 use Rattle.wild_types.proofs.FileLemmas.{same_bool}
+use Rattle.wild_placement.specs.PlacedSections.{placed_files}
+use Rattle.wild_layout.specs.Content.{content, file_content}
+use Rattle.wild_layout.specs.SearchTable.{search_table}
+use Rattle.wild_layout.specs.TablePlaces.{table_bytes}
+use Rattle.wild_layout.specs.Geometry.{IsLaidOut}
+use Rattle.wild_geometry.proofs.PlacedInputs.{laid_same_all}
 
 -- the first file has xs, the others have nothing
 abbrev pub once : {X : Type 0} → List X → File → List X
@@ -60,3 +70,46 @@ stands_once xs (g ∷ gs) some h =
           let none = groups_none xs 1 gs rest in
           rw (first, none) (append-nil xs))
     ]
+
+-- ---- the first file
+
+pub record FirstFile (l : Layout) : Type 0 where
+  pub group : Group
+  pub grouped : Contains l.groups group
+  pub file : File
+  pub filed : Contains group.files file
+  pub first : is_prelude file.role ≡ true
+
+first_of_files : (last : Bool) (fs : List File) → group_positions_fit true last fs ≡ true → (f : File) × Contains fs f × (is_prelude f.role ≡ true)
+first_of_files last [] h = cc
+first_of_files last (f ∷ fs) h = (f, Contains-here f fs, placed_first true (last && length fs == 0) f (and_parts (file_position_fits true (last && length fs == 0) f) (later_positions_fit last fs) h).0)
+
+first_of_groups : (gs : List Group) → 1 ≤ length gs → first_misplaced_file true 0 gs ≡ None → (g : Group) × Contains gs g × (f : File) × Contains g.files f × (is_prelude f.role ≡ true)
+first_of_groups [] some h = absurd (omega arith)
+first_of_groups (g ∷ gs) some h =
+    elim (cases_Bool (group_positions_fit true (length gs == 0) g.files)) [
+      | inr f ↦ cc (rw f at h)
+      | inl t ↦ (let x = first_of_files (length gs == 0) g.files t in (g, Contains-here g gs, x.0, x.1, x.2))
+    ]
+
+pub first_file : (l : Layout) → IsLaidOut l → FirstFile l
+first_file l laid = (let x = first_of_groups l.groups laid.some_group laid.files in record { group = x.0; grouped = x.1; file = x.2; filed = x.3; first = x.4 })
+
+-- ---- tables
+
+only_front : (b : Bool) (xs : List ℕ) → ((if b then xs ++ [] else []) ++ []) ++ [] ≡ (if b then xs else [])
+only_front true xs = append-nil ((xs ++ []) ++ []) ∙ append-nil (xs ++ []) ∙ append-nil xs
+only_front false xs = refl
+
+-- the bytes of a table that the first file alone gives
+by_first : (l : Layout) (r : Role) (bs : List ℕ) → IsLaidOut l → ((g : Group) → content l r g ≡ flat_map (file_content l r) (placed_files l g)) → ((f : File) → file_content l r f ≡ once bs f) → table_bytes l r ≡ bs
+by_first l r bs laid group each =
+    flat_map-same (content l r) (λ (g : Group). flat_map (once bs) (placed_files l g)) l.groups (λ g. group g ∙ flat_map-same (file_content l r) (once bs) (placed_files l g) each)
+    ∙ laid_same_all (once bs) l (λ at f. refl)
+    ∙ stands_once bs l.groups laid.some_group laid.files
+
+pub interpreter_bytes : (l : Layout) → IsLaidOut l → table_bytes l role.Interp ≡ l.interp
+interpreter_bytes l laid = by_first l role.Interp l.interp laid (λ g. append-nil (flat_map (file_content l role.Interp) (placed_files l g))) (λ f. only_front (is_prelude f.role) l.interp)
+
+pub search_bytes : (l : Layout) → IsLaidOut l → table_bytes l role.EhFrameHdr ≡ search_table l
+search_bytes l laid = by_first l role.EhFrameHdr (search_table l) laid (λ g. append-nil (flat_map (file_content l role.EhFrameHdr) (placed_files l g))) (λ f. only_front (is_prelude f.role) (search_table l))

@@ -54,6 +54,8 @@ mod NumbersKept
 pub mod SitesLoaded
 pub mod SlotsLoaded
 pub mod ThunksHeld
+pub mod TextsHeld
+pub mod StillBytes
 mod Notes
 pub mod LoadedImages
 pub mod DebugImages

@@ -55,6 +55,8 @@ use Rattle.wild_loaded.proofs.SectionsMoved.{section_moved}
 use Rattle.wild_loaded.proofs.Blanks.{blank_moved}
 use Rattle.wild_loaded.proofs.SlotsLoaded.{slots_loaded}
 use Rattle.wild_loaded.proofs.ThunksHeld.{thunks_moved}
+use Rattle.wild_loaded.proofs.TextsHeld.{texts_moved}
+use Rattle.wild_loaded.proofs.StillBytes.{still_held}
 use Rattle.wild_loaded.proofs.Notes.{has_changed, alone, alone_made, alone_apart, alone_changed}
 
 moved_image : (l : Layout) (w : World) (m : Memory) → MovingLaws → IsFilledWell l w → HasApplied l w m → IsMovedImage l w m
@@ -102,7 +104,7 @@ item_moved l w m s law h kept =
     subst (λ (i : Item). HasItem l w m i InMemory) (sym k.is) (section_moved l w m (block_for l k.kept.input.owner k.section) k.section h (kept_well l k.section h.well.laid h.well.decided k.kept))
 
 pub memory_moved : MovingLaws → MemoryHasChanges
-memory_moved laws = λ l w m keeps kind numbers legal laid decided whole none applied.
+memory_moved laws = λ l w m keeps kind numbers legal laid loaded decided whole none applied.
     let h = moved_image l w m laws (record { keeps = keeps; kind = kind; numbers = numbers; legal = legal; laid = laid; decided = decided; whole = whole; none = none }) applied in
     record {
       items = λ s kept. item_moved l w m s kept_laid h kept;
@@ -111,6 +113,8 @@ memory_moved laws = λ l w m keeps kind numbers legal laid decided whole none ap
       zeros = λ a b free. zero_moved l w m a h b free;
       blanks = λ s k b f lt. blank_moved l w m s k laws.blanks h b f lt;
       copies = λ i raw y c. copy_moved l w m i raw y h c;
+      texts = texts_moved l w m laws.texts h loaded;
+      still = λ a b file free. still_held l w m a b laws.file h file free;
     }
 
 -- ---- the image
@@ -161,10 +165,10 @@ static_loaded l w laws keeps plain kind numbers legal laid whole made =
     }
 
 pub images_loaded : ImageLaws → ImagesAreLoaded
-images_loaded laws = λ l w keeps kind numbers legal laid decided whole none.
+images_loaded laws = λ l w keeps kind numbers legal laid parts decided whole none.
     let made = laws.made l w keeps kind numbers legal laid decided whole none in
     let loaded = by_kind l w keeps (needs_dynamic l.kind) refl kind numbers legal laid whole made in
-    let h = laws.moved l w loaded.memory keeps kind numbers legal laid decided whole none loaded.applied in
+    let h = laws.moved l w loaded.memory keeps kind numbers legal laid parts decided whole none loaded.applied in
     record {
       memory = loaded.memory;
       accepted = loaded.accepted;
@@ -175,6 +179,8 @@ images_loaded laws = λ l w keeps kind numbers legal laid decided whole none.
       zeros = h.zeros;
       blanks = h.blanks;
       copies = h.copies;
+      texts = h.texts;
+      still = h.still;
     }
   where
     by_kind : (l : Layout) (w : World) → KeepsAll l → (b : Bool) → needs_dynamic l.kind ≡ b → IsLoadable l.kind → NumbersFit l → IsLegal l w → IsLaidOut l → HasWholeSlots l → AreMade l w → IsLoadedBy l w

@@ -2,7 +2,7 @@
 use Rattle.wild_types.specs.Kinds.{is_partial_link}
 use Rattle.wild_meaning.proofs.OutputLemmas.{not_partial}
 use Rattle.std.proofs.Common.{◌≡◌, ℕ, zero, suc, ◌+◌, ◌-◌, ◌^◌, ◌<◌, ◌≤◌, inl, inr, List, [], ◌∷◌, length, get_or, map, refl, sym, ap, ◌∙◌, arith, subst}
-use Rattle.std.specs.Prelude.{AllPairs, Bool, Contains, if◌then◌else◌}
+use Rattle.std.specs.Prelude.{AllPairs, Bool, Contains, if◌then◌else◌, All}
 use Rattle.std.specs.List.{flat_map}
 use Rattle.std.proofs.lemmas.Bool.{cases_lt}
 use Rattle.std.proofs.lemmas.List.{length-map}
@@ -108,9 +108,9 @@ has_headers l k numbers laid =
 
 -- ---- segments
 
-segment_loadable : (l : Layout) (w : World) (g : Segment) → (g.kind ≡ pt_load → w.base + g.address + g.mem_size ≤ 2 ^ 64) → SegmentLoads (image_size l) g → IsLaidOut l → (program_header l g).kind ≡ pt_load → IsLoadable w.base (length (bytes l)) (program_header l g)
+segment_loadable : (l : Layout) (base : ℕ) (g : Segment) → (g.kind ≡ pt_load → base + g.address + g.mem_size ≤ 2 ^ 64) → SegmentLoads (image_size l) g → IsLaidOut l → (program_header l g).kind ≡ pt_load → IsLoadable base (length (bytes l)) (program_header l g)
 unfolding program_header
-segment_loadable l w g ends h laid k =
+segment_loadable l base g ends h laid k =
     let n = length-bytes l laid in
     let file = h.file in
     record { file = omega (arith, n, file); sizes = h.sizes k; end = ends k }
@@ -132,11 +132,19 @@ AllPairs-map {X} R f (x ∷ xs) h = λ i j d l m. at R f x xs h (AllPairs-map R 
     at R f x xs h again (suc i) (suc j) d l m = again i j d (omega arith) (omega arith)
     at R f x xs h again zero (suc j) d l m = All-map (R (f x)) f xs (λ k e lt. h 0 (suc k) e (omega arith) (omega arith)) j d (omega arith)
 
-pub are_loadable : (l : Layout) (w : World) → IsLoadableKind l.kind → IsLegal l w → IsLaidOut l → AreLoadable w.base (bytes l) (map (program_header l) l.segments)
-are_loadable l w kind legal laid = record {
-  each = All-map (λ (h : ProgramHeader). h.kind ≡ pt_load → IsLoadable w.base (length (bytes l)) h) (program_header l) l.segments (λ i d lt. segment_loadable l w (get_or l.segments i d) (legal.ends i d lt) ((laid.loadable (not_partial l.kind kind)).each i d lt) laid);
+-- segments that do not wrap at a base
+loadable_at : (l : Layout) (base : ℕ) → IsLoadableKind l.kind → All (λ (g : Segment). g.kind ≡ pt_load → base + g.address + g.mem_size ≤ 2 ^ 64) l.segments → IsLaidOut l → AreLoadable base (bytes l) (map (program_header l) l.segments)
+loadable_at l base kind ends laid = record {
+  each = All-map (λ (h : ProgramHeader). h.kind ≡ pt_load → IsLoadable base (length (bytes l)) h) (program_header l) l.segments (λ i d lt. segment_loadable l base (get_or l.segments i d) (ends i d lt) ((laid.loadable (not_partial l.kind kind)).each i d lt) laid);
   ascend = AllPairs-map HeadersAscend (program_header l) l.segments (λ i j d lt m. headers_ascend l (get_or l.segments i d) (get_or l.segments j d) ((laid.loadable (not_partial l.kind kind)).ascend i j d lt m));
 }
+
+pub are_loadable : (l : Layout) (w : World) → IsLoadableKind l.kind → IsLegal l w → IsLaidOut l → AreLoadable w.base (bytes l) (map (program_header l) l.segments)
+are_loadable l w kind legal laid = loadable_at l w.base kind legal.ends laid
+
+-- each segment is low, so it wraps at no small base
+pub loadable_at_zero : (l : Layout) → IsLoadableKind l.kind → IsLaidOut l → AreLoadable 0 (bytes l) (map (program_header l) l.segments)
+loadable_at_zero l kind laid = loadable_at l 0 kind (λ i d lt loads. (let low = ((laid.loadable (not_partial l.kind kind)).each i d lt).low in omega (arith, low))) laid
 
 -- what a program header tells of a segment
 pub header_from : (l : Layout) (h : Segment) (a : ℕ) → h.address ≤ a → (program_header l h).address ≤ a

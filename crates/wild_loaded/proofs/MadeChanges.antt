@@ -20,7 +20,7 @@ use Rattle.wild_loader.specs.Relocate.{loaded_at}
 use Rattle.wild_meaning.specs.LinkedImage.{processor_of}
 use Rattle.wild_slots.specs.SlotPlaces.{SlotsArePlaced}
 use Rattle.wild_loaded.specs.Memory.{image_memory}
-use Rattle.wild_loaded.specs.Laws.{BlanksAreStored, ThunksAreThere}
+use Rattle.wild_loaded.specs.Laws.{BlanksAreStored, FileBytesAreStored, ThunksAreThere, TextsAreStored}
 use Rattle.wild_loaded.specs.Tables.{tables_of}
 use Rattle.wild_loaded.specs.Words.{value_at, place_change, entry_change}
 use Rattle.wild_loaded.proofs.Fillings.{Table, PackedTable, RelativeTable, GeneralTable, JumpTable, Filling, Misses, IsKnown, packed_at, packed_in, relative_in, general_in, jump_in}
@@ -39,6 +39,8 @@ pub record MovingLaws : Type 0 where
   pub stand : SlotsArePlaced
   pub blanks : BlanksAreStored
   pub thunks : ThunksAreThere
+  pub texts : TextsAreStored
+  pub file : FileBytesAreStored
 
 -- an image whose tables were applied
 pub record IsMovedImage (l : Layout) (w : World) (m : Memory) : Type 0 where

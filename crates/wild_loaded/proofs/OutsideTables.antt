@@ -30,7 +30,7 @@ use Rattle.wild_loaded.proofs.AllTables.{copies_of_well, stored_misses}
 use Rattle.wild_loaded.proofs.MadeChanges.{IsMovedImage}
 
 -- missed by all of them
-all_miss : (l : Layout) (w : World) (a : ℕ) → All (Misses a) (sections_filled l) → All (Misses a) (slots_filled l) → All (Misses a) (blocks_filled l) → All (Misses a) (copies_filled l w) → All (Misses a) (all_fillings l w)
+pub all_miss : (l : Layout) (w : World) (a : ℕ) → All (Misses a) (sections_filled l) → All (Misses a) (slots_filled l) → All (Misses a) (blocks_filled l) → All (Misses a) (copies_filled l w) → All (Misses a) (all_fillings l w)
 all_miss l w a s g b c = All-append (Misses a) (stored_fillings l) (copies_filled l w) (All-append (Misses a) (sections_filled l) (slots_filled l ++ blocks_filled l) s (All-append (Misses a) (slots_filled l) (blocks_filled l) g b)) c
 
 -- ---- copies
@@ -42,6 +42,19 @@ home_misses l w m h k image there lt = λ i d b. (λ j less e.
     let behind = copies_behind l w image.laws.filled.copies (copies_of_well l w image.well) i d b j less in
     let p : Filling = general_of (place_entry (h.address + k)) 1 in
     behind_misses l h (y.entry.offset + j) p image.well.kind image.well.laid there (record { from = omega arith; to = omega (arith, lt) }) behind 0 (omega arith) (omega (arith, e)))
+
+-- an address to which no symbol's bytes are copied
+pub copies_miss : (l : Layout) (w : World) (m : Memory) (a : ℕ) → IsMovedImage l w m → IsNotCopied l w a → All (Misses a) (copies_filled l w)
+copies_miss l w m a h none = All-map (Misses a) (copy_filling l w) (all_copies l) (All-each (λ (i : ℕ). Misses a (copy_filling l w i)) (all_copies l) (λ i c. missed i c))
+  where
+    missed : (i : ℕ) → Contains (all_copies l) i → Misses a (copy_filling l w i)
+    missed i c =
+        let k = copy_of l w i h.laws.filled.copies (copies_of_well l w h.well) c in
+        sides (copy_filling l w i) k.raw (length k.answer.bytes) k.place k.width (none i k.raw k.answer k.has)
+      where
+        sides : (x : Filling) (p n : ℕ) → x.entry.offset ≡ p → x.width ≡ n → (a < p) ⊎ (p + n ≤ a) → Misses a x
+        sides x p n ep en (inl lt) = λ j less e. omega (arith, ep, lt, e)
+        sides x p n ep en (inr le) = λ j less e. omega (arith, ep, en, le, less, e)
 
 -- ---- bytes of sections
 
@@ -114,13 +127,4 @@ pub behind_miss : (l : Layout) (w : World) (m : Memory) (a : ℕ) → IsMovedIma
 behind_miss l w m a h b none =
     All-append (Misses a) (stored_fillings l) (copies_filled l w)
     (λ i d lt. stored_misses l h.well.kind h.well.keeps h.well.laid h.sections h.slots i d lt a b)
-    (All-map (Misses a) (copy_filling l w) (all_copies l) (All-each (λ (i : ℕ). Misses a (copy_filling l w i)) (all_copies l) (λ i c. missed i c)))
-  where
-    missed : (i : ℕ) → Contains (all_copies l) i → Misses a (copy_filling l w i)
-    missed i c =
-        let k = copy_of l w i h.laws.filled.copies (copies_of_well l w h.well) c in
-        sides (copy_filling l w i) k.raw (length k.answer.bytes) k.place k.width (none i k.raw k.answer k.has)
-      where
-        sides : (x : Filling) (p n : ℕ) → x.entry.offset ≡ p → x.width ≡ n → (a < p) ⊎ (p + n ≤ a) → Misses a x
-        sides x p n ep en (inl lt) = λ j less e. omega (arith, ep, lt, e)
-        sides x p n ep en (inr le) = λ j less e. omega (arith, ep, en, le, less, e)
+    (copies_miss l w m a h none)

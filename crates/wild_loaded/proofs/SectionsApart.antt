@@ -1,6 +1,6 @@
 -- No two kept sections share a byte of the file.
-use Rattle.std.proofs.Common.{◌≡◌, inl, inr, Bool, true, false, [], ◌∷◌, length, sym, ap, ◌∙◌, arith, subst}
-use Rattle.std.specs.Prelude.{All, AllPairs, slice_get, if◌then◌else◌, not}
+use Rattle.std.proofs.Common.{◌≡◌, inl, inr, Bool, true, false, List, [], ◌∷◌, length, refl, sym, ap, ◌∙◌, arith, subst}
+use Rattle.std.specs.Prelude.{All, AllPairs, Contains, slice_get, if◌then◌else◌, not}
 use Rattle.std.specs.List.{flat_map}
 use Rattle.std.proofs.lemmas.Bool.{and_parts}
 use Rattle.std.proofs.lemmas.List.Elements.{All-weaker}
@@ -24,7 +24,8 @@ use Rattle.wild_geometry.specs.PlacedSections.{file_place}
 use Rattle.wild_loaded.specs.Memory.{IsStored}
 use Rattle.wild_loaded.proofs.Homes.{Home, HasHome, HomesApart}
 use Rattle.wild_loaded.proofs.PairLemmas.{AllPairs-behind, AllPairs-first, AllPairs-across, All-second}
-use Rattle.wild_geometry.proofs.PlacedInputs.{all_sections, by_files}
+use Rattle.wild_layout.proofs.SiteLemmas.{Contains-flat_map}
+use Rattle.wild_geometry.proofs.PlacedInputs.{all_sections, by_files, input_of, in_processed}
 use Rattle.wild_geometry.proofs.Rooms.{room_of, length-room, section_room, apart_at}
 use Rattle.wild_loaded.proofs.Rooms.{HasSize, lies_size, rooms_in, file_rooms, once_and_thunks, stood_files, rooms_stand}
 
@@ -45,13 +46,28 @@ section_rooms_apart l laid =
     let same = by_files (section_room l) l ∙ sym (flat_map-flat_map (rooms_in l) (placed_files l) l.groups) in
     AllPairs-from_flat_map Disjoint (section_room l) (all_sections l) (subst (AllPairs Disjoint) (sym same) sections)
 
--- nor that of a section and a thunk
+-- nor that of a section and what the first file alone has, or a thunk
+pub once_pieces_apart : (l : Layout) → IsLaidOut l → All (λ a. All (Disjoint a) (flat_map (once_and_thunks l) (stood_files l))) (flat_map (rooms_in l) (stood_files l))
+once_pieces_apart l laid = AllPairs-across Disjoint (rooms_in l) (once_and_thunks l) (stood_files l) Disjoint-flip (rooms_apart l laid)
+
 pub thunk_pieces_apart : (l : Layout) → IsLaidOut l → All (λ a. All (Disjoint a) (flat_map (thunk_pieces l) (stood_files l))) (flat_map (rooms_in l) (stood_files l))
 thunk_pieces_apart l laid =
     All-weaker (λ a. All (Disjoint a) (flat_map (once_and_thunks l) (stood_files l))) (λ a. All (Disjoint a) (flat_map (thunk_pieces l) (stood_files l)))
     (λ a h. All-second (Disjoint a) (λ (f : File). of_first_file f (merged_and_identity_pieces l)) (thunk_pieces l) (stood_files l) h)
     (flat_map (rooms_in l) (stood_files l))
-    (AllPairs-across Disjoint (rooms_in l) (once_and_thunks l) (stood_files l) Disjoint-flip (rooms_apart l laid))
+    (once_pieces_apart l laid)
+
+-- the room of a section that owns bytes is among those of all files
+pub room_listed : (l : Layout) (s : InputSection) → Contains (all_sections l) s → is_filled l s ≡ true → Contains (flat_map (rooms_in l) (stood_files l)) (room_of l s)
+room_listed l s c filled =
+    let i = input_of l s c in
+    let own : Contains (section_room l s) (room_of l s) = subst (λ (ps : List Piece). Contains ps (room_of l s)) (sym (one l s filled)) (0, omega arith, refl) in
+    let in_file = Contains-flat_map (section_room l) (processed_sections l i.file) s (room_of l s) (in_processed l i.file i.owner s i.listed) own in
+    let file = Contains-flat_map (placed_files l) l.groups i.group i.file i.grouped i.filed in
+    Contains-flat_map (rooms_in l) (stood_files l) i.file (room_of l s) file in_file
+  where
+    one : (l : Layout) (s : InputSection) → is_filled l s ≡ true → section_room l s ≡ room_of l s ∷ []
+    one l s filled = rw filled refl
 
 -- ---- two sections
 

@@ -2,8 +2,8 @@
 use Rattle.wild_placement.specs.PlacedSections.{part_address}
 use Rattle.std.proofs.lemmas.List.{get_or_default}
 use Rattle.std.proofs.lemmas.List.Elements.{All-contains}
-use Rattle.std.proofs.Common.{◌≡◌, ℕ, ◌+◌, ◌-◌, ◌<◌, ◌≤◌, inl, inr, true, List, length, get_or, refl, sym, ap, ◌∙◌, arith, subst}
-use Rattle.std.specs.Prelude.{All, AllPairs, Contains, Option, Some, None, slice_get, if◌then◌else◌, Bool}
+use Rattle.std.proofs.Common.{◌≡◌, ◌+◌, ◌-◌, ◌≤◌, inl, inr, true, length, get_or, refl, ap, ◌∙◌, arith}
+use Rattle.std.specs.Prelude.{AllPairs, Contains, Option, Some, None, slice_get, if◌then◌else◌, Bool}
 use Rattle.wild_words.specs.Overlay.{Disjoint}
 use Rattle.wild_words.proofs.ListLemmas.{Between}
 use Rattle.wild_types.specs.declared.part.Part.{Part}
@@ -12,22 +12,22 @@ use Rattle.wild_types.specs.declared.part.Role.TheVariants as role
 use Rattle.wild_types.specs.declared.input.InputSection.{InputSection}
 use Rattle.wild_types.specs.declared.layout.Layout.{Layout}
 use Rattle.wild_types.specs.HeaderOnly.{KeepsAll}
-use Rattle.wild_types.specs.Lookups.{is_filled, is_frame}
-use Rattle.wild_types.specs.Parts.{part_with, is_loaded_role}
+use Rattle.wild_types.specs.Lookups.{is_frame}
+use Rattle.wild_types.specs.Parts.{part_with, is_loaded_role, role_place}
 use Rattle.wild_plan_rules.specs.SlotPlaces.{start_of, address_of_part}
-use Rattle.wild_slots.specs.Order.{end_of}
 use Rattle.wild_layout.specs.Image.{offset_in}
 use Rattle.wild_layout.specs.SectionPlaces.{SectionLies}
 use Rattle.wild_layout.specs.Geometry.{IsLaidOut}
 use Rattle.wild_layout.specs.TablePlaces.{table_bytes}
 use Rattle.wild_geometry.specs.PlacedSections.{file_place}
 use Rattle.wild_loaded.specs.Memory.{IsStored, HasPlace, Filled, Framed}
+use Rattle.wild_loaded.proofs.PartsHeld.{placed}
 use Rattle.wild_loaded.proofs.Homes.{Home, HomesApart, homes_back}
 use Rattle.wild_geometry.proofs.PlacedInputs.{all_sections, each_at, input_of}
 use Rattle.wild_geometry.proofs.Rooms.{section_room}
 use Rattle.wild_loaded.proofs.SectionsApart.{section_home, section_rooms_apart, filled_apart}
 use Rattle.wild_loaded.proofs.FramesInPart.{FramesBeside, FrameWithin, frames_lie, frames_beside, part_base}
-use Rattle.wild_loaded.proofs.TableHomes.{role_home, home_of, roles_apart, filled_apart_from, table_ends}
+use Rattle.wild_loaded.proofs.TableHomes.{role_home, home_of, any_roles_apart, filled_apart_from, table_ends}
 
 -- ---- frames in their part
 
@@ -71,12 +71,16 @@ frame_inside l s laid c frame =
     offset_is (Some p) some = refl
 
 -- a section shares no byte with another table
-pub section_apart : (l : Layout) (r : Role) (s : InputSection) → is_loaded_role r ≡ true → (r ≡ role.EhFrame → ⊥) → KeepsAll l → IsLaidOut l → Contains (all_sections l) s → IsStored l s → HomesApart (role_home l r) (section_home l s)
-section_apart l r s loaded other keeps laid c stored = by_place stored.place
+pub any_section_apart : (l : Layout) (r : Role) (s : InputSection) → (role_place r ≡ 0 → ⊥) → (r ≡ role.EhFrame → ⊥) → KeepsAll l → IsLaidOut l → Contains (all_sections l) s → IsStored l s → HomesApart (role_home l r) (section_home l s)
+any_section_apart l r s some other keeps laid c stored = by_place stored.place
   where
     by_place : HasPlace l s → HomesApart (role_home l r) (section_home l s)
-    by_place (Filled filled) = filled_apart_from l r s loaded keeps laid (each_at (SectionLies l) l s laid.inputs (input_of l s c)) filled
-    by_place (Framed frame) = inside_apart (section_home l s) (role_home l role.EhFrame) (role_home l r) stored.some (frame_inside l s laid c frame) (roles_apart l r role.EhFrame loaded refl other keeps laid)
+    by_place (Filled filled) = filled_apart_from l r s some keeps laid (each_at (SectionLies l) l s laid.inputs (input_of l s c)) filled
+    by_place (Framed frame) = inside_apart (section_home l s) (role_home l role.EhFrame) (role_home l r) stored.some (frame_inside l s laid c frame) (any_roles_apart l r role.EhFrame some (λ e. cc) other keeps laid)
+
+-- of a role that a program reads
+pub section_apart : (l : Layout) (r : Role) (s : InputSection) → is_loaded_role r ≡ true → (r ≡ role.EhFrame → ⊥) → KeepsAll l → IsLaidOut l → Contains (all_sections l) s → IsStored l s → HomesApart (role_home l r) (section_home l s)
+section_apart l r s loaded other keeps laid c stored = any_section_apart l r s (placed r loaded) other keeps laid c stored
 
 -- ---- two sections
 
@@ -108,9 +112,9 @@ sections_aside l keeps laid = λ i j d lt m.
         by_places ss st (Filled fs) (Filled ft) = filled_apart l s t fs ft across
         by_places ss st (Filled fs) (Framed ft) =
             (inside_apart (section_home l t) (role_home l role.EhFrame) (section_home l s) st (frame_inside l t laid ct ft)
-            (homes_back (role_home l role.EhFrame) (section_home l s) (filled_apart_from l role.EhFrame s refl keeps laid (each_at (SectionLies l) l s laid.inputs (input_of l s cs)) fs)))
+            (homes_back (role_home l role.EhFrame) (section_home l s) (filled_apart_from l role.EhFrame s (λ e. cc) keeps laid (each_at (SectionLies l) l s laid.inputs (input_of l s cs)) fs)))
         by_places ss st (Framed fs) (Filled ft) =
             homes_back (section_home l t) (section_home l s)
             (inside_apart (section_home l s) (role_home l role.EhFrame) (section_home l t) ss (frame_inside l s laid cs fs)
-            (homes_back (role_home l role.EhFrame) (section_home l t) (filled_apart_from l role.EhFrame t refl keeps laid (each_at (SectionLies l) l t laid.inputs (input_of l t ct)) ft)))
+            (homes_back (role_home l role.EhFrame) (section_home l t) (filled_apart_from l role.EhFrame t (λ e. cc) keeps laid (each_at (SectionLies l) l t laid.inputs (input_of l t ct)) ft)))
         by_places ss st (Framed fs) (Framed ft) = both_framed (section_home l s) (section_home l t) (role_home l role.EhFrame) ss st (frame_inside l s laid cs fs) (frame_inside l t laid ct ft) (beside fs ft)

@@ -1,7 +1,6 @@
 -- The parts of slots and stubs in memory: they share no byte with each other, nor with an input section.
 use Rattle.std.proofs.Common.{◌≡◌, ℕ, ◌+◌, ◌-◌, ◌^◌, ◌≤◌, inl, inr, Bool, true, false, List, length, refl, sym, ap, ◌∙◌, arith, subst}
 use Rattle.std.specs.Prelude.{Option, Some, None, All, AllPairs, Contains, slice_get, ◌&&◌, not}
-use Rattle.std.proofs.lemmas.Bool.{eqb-true}
 use Rattle.std.proofs.lemmas.List.Elements.{All-contains}
 use Rattle.std.proofs.lemmas.Option.{slice_get-get_or}
 use Rattle.wild_types.specs.declared.part.Part.{Part}
@@ -12,6 +11,7 @@ use Rattle.wild_types.specs.declared.layout.Layout.{Layout}
 use Rattle.wild_types.specs.HeaderOnly.{is_header_only_role, KeepsAll}
 use Rattle.wild_types.specs.Lookups.{has_data, is_header_only_at, takes_file_bytes, is_filled}
 use Rattle.wild_types.proofs.LookupLemmas.{not_hollow_at}
+use Rattle.wild_types.proofs.PartLemmas.{not_raw}
 use Rattle.wild_types.specs.Parts.{role_place, has_role, is_loaded_role, part_with}
 use Rattle.wild_plan_rules.specs.SlotPlaces.{address_of_part, start_of}
 use Rattle.wild_layout.specs.Image.{offset_in}
@@ -20,7 +20,6 @@ use Rattle.wild_layout.specs.Geometry.{IsLaidOut}
 use Rattle.wild_meaning.specs.World.{IsLoadable}
 use Rattle.wild_slots.specs.Order.{end_of}
 use Rattle.wild_slots.specs.SlotPlaces.{IsLocatedAt}
-use Rattle.wild_loaded.specs.Memory.{IsStored}
 use Rattle.wild_loaded.proofs.PartsHeld.{placed, written_part, part_carried}
 use Rattle.wild_loaded.proofs.Fillings.{Filling, DoNotOverlap}
 use Rattle.wild_loaded.proofs.Homes.{Home, HasHome, HomesApart, LiesIn}
@@ -45,28 +44,18 @@ role_there l r loaded written kind laid = by_part (part_with r l.parts) refl
 
 -- ---- parts
 
--- a part of a role that a program reads, by its number
+-- the one part of a role, by its number
 record IsPartOf (l : Layout) (r : Role) (p : Part) : Type 0 where
   index : ℕ
   there : slice_get l.parts index ≡ Some p
   has : p.role ≡ r
   takes : takes_file_bytes l p.section ≡ true
 
-not_raw : (p : Part) → is_loaded_role p.role ≡ true → has_role role.Raw p ≡ false
-not_raw p h = by_test (has_role role.Raw p) refl
-  where
-    by_test : (b : Bool) → has_role role.Raw p ≡ b → b ≡ false
-    by_test false e = refl
-    by_test true e = absurd (placed p.role h (raw_place e))
-      where
-        raw_place : has_role role.Raw p ≡ true → role_place p.role ≡ 0
-        raw_place e = eqb-true (role_place p.role) (role_place role.Raw) e
-
-part_of : (l : Layout) (r : Role) (p : Part) → is_loaded_role r ≡ true → KeepsAll l → IsLaidOut l → part_with r l.parts ≡ Some p → IsPartOf l r p
-part_of l r p loaded keeps laid e =
-    let t = (laid.roles r (placed r loaded)).there p e in
+part_of : (l : Layout) (r : Role) (p : Part) → (role_place r ≡ 0 → ⊥) → KeepsAll l → IsLaidOut l → part_with r l.parts ≡ Some p → IsPartOf l r p
+part_of l r p some keeps laid e =
+    let t = (laid.roles r some).there p e in
     let c = t.listed in
-    let raw = not_raw p (subst (λ (x : Role). is_loaded_role x ≡ true) (sym t.has) loaded) in
+    let raw = not_raw r p some t.has in
     record {
       index = c.0;
       there = slice_get-get_or l.parts c.0 p c.1 ∙ ap (λ (q : Part). Some q) c.2;
@@ -81,8 +70,8 @@ one_part : (l : Layout) (i j : ℕ) (p q : Part) → slice_get l.parts i ≡ Som
 one_part l i j p q a b e = (let both : Some p ≡ Some q = sym a ∙ ap (λ (k : ℕ). slice_get l.parts k) e ∙ b in cc)
 
 -- the parts of two roles
-pub roles_apart : (l : Layout) (r t : Role) → is_loaded_role r ≡ true → is_loaded_role t ≡ true → (r ≡ t → ⊥) → KeepsAll l → IsLaidOut l → HomesApart (role_home l r) (role_home l t)
-roles_apart l r t lr lt other keeps laid = by_parts (part_with r l.parts) (part_with t l.parts) refl refl
+pub any_roles_apart : (l : Layout) (r t : Role) → (role_place r ≡ 0 → ⊥) → (role_place t ≡ 0 → ⊥) → (r ≡ t → ⊥) → KeepsAll l → IsLaidOut l → HomesApart (role_home l r) (role_home l t)
+any_roles_apart l r t lr lt other keeps laid = by_parts (part_with r l.parts) (part_with t l.parts) refl refl
   where
     by_parts : (o x : Option Part) → part_with r l.parts ≡ o → part_with t l.parts ≡ x → HomesApart (home_of o) (home_of x)
     by_parts None x a b = inl (omega arith)
@@ -92,9 +81,13 @@ roles_apart l r t lr lt other keeps laid = by_parts (part_with r l.parts) (part_
         let n = part_of l t q lt keeps laid b in
         laid.apart m.index n.index p q m.there n.there (λ e. other (sym m.has ∙ ap (λ (x : Part). x.role) (one_part l m.index n.index p q m.there n.there e) ∙ n.has)) m.takes n.takes
 
+-- of two roles that a program reads
+pub roles_apart : (l : Layout) (r t : Role) → is_loaded_role r ≡ true → is_loaded_role t ≡ true → (r ≡ t → ⊥) → KeepsAll l → IsLaidOut l → HomesApart (role_home l r) (role_home l t)
+roles_apart l r t lr lt other keeps laid = any_roles_apart l r t (placed r lr) (placed t lt) other keeps laid
+
 -- the part of a role and what stands in a raw part
-pub room_apart : (l : Layout) (r : Role) (k at n : ℕ) (q : Part) → is_loaded_role r ≡ true → KeepsAll l → IsLaidOut l → HasRoom l k at n q → HomesApart (role_home l r) (record { address = at; offset = offset_in (slice_get l.parts k) at; size = n })
-room_apart l r k at n q loaded keeps laid h = by_part (part_with r l.parts) refl
+pub any_room_apart : (l : Layout) (r : Role) (k at n : ℕ) (q : Part) → (role_place r ≡ 0 → ⊥) → KeepsAll l → IsLaidOut l → HasRoom l k at n q → HomesApart (role_home l r) (record { address = at; offset = offset_in (slice_get l.parts k) at; size = n })
+any_room_apart l r k at n q some keeps laid h = by_part (part_with r l.parts) refl
   where
     home : Home
     home = record { address = at; offset = offset_in (slice_get l.parts k) at; size = n }
@@ -109,17 +102,18 @@ room_apart l r k at n q loaded keeps laid h = by_part (part_with r l.parts) refl
     by_part : (o : Option Part) → part_with r l.parts ≡ o → HomesApart (home_of o) home
     by_part None e = inl (omega arith)
     by_part (Some p) e =
-        let m = part_of l r p loaded keeps laid e in
-        within p (laid.apart m.index k p q m.there h.listed (λ same. raw_not_loaded r loaded (sym m.has ∙ ap (λ (x : Part). x.role) (one_part l m.index k p q m.there h.listed same) ∙ h.raw)) m.takes h.takes)
-      where
-        raw_not_loaded : (t : Role) → is_loaded_role t ≡ true → t ≡ role.Raw → ⊥
-        raw_not_loaded t h e = (let z = subst (λ (x : Role). is_loaded_role x ≡ true) e h in cc)
+        let m = part_of l r p some keeps laid e in
+        within p (laid.apart m.index k p q m.there h.listed (λ same. some (ap role_place (sym m.has ∙ ap (λ (x : Part). x.role) (one_part l m.index k p q m.there h.listed same) ∙ h.raw))) m.takes h.takes)
+
+-- of a role that a program reads
+pub room_apart : (l : Layout) (r : Role) (k at n : ℕ) (q : Part) → is_loaded_role r ≡ true → KeepsAll l → IsLaidOut l → HasRoom l k at n q → HomesApart (role_home l r) (record { address = at; offset = offset_in (slice_get l.parts k) at; size = n })
+room_apart l r k at n q loaded keeps laid h = any_room_apart l r k at n q (placed r loaded) keeps laid h
 
 -- the part of a role and an input section
-pub filled_apart_from : (l : Layout) (r : Role) (s : InputSection) → is_loaded_role r ≡ true → KeepsAll l → IsLaidOut l → SectionLies l s → is_filled l s ≡ true → HomesApart (role_home l r) (section_home l s)
-filled_apart_from l r s loaded keeps laid lies filled =
+pub filled_apart_from : (l : Layout) (r : Role) (s : InputSection) → (role_place r ≡ 0 → ⊥) → KeepsAll l → IsLaidOut l → SectionLies l s → is_filled l s ≡ true → HomesApart (role_home l r) (section_home l s)
+filled_apart_from l r s some keeps laid lies filled =
     let q = (lies.owner filled).stands in
-    let apart = room_apart l r s.part s.address s.size q.0 loaded keeps laid q.1 in
+    let apart = any_room_apart l r s.part s.address s.size q.0 some keeps laid q.1 in
     subst (λ (k : ℕ). HomesApart (role_home l r) (record { address = s.address; offset = k; size = s.size })) (sym (filled_place l s filled)) apart
 
 -- ---- what stands in a table

@@ -1,12 +1,12 @@
 -- Thunks in the memory of an image: as the file has them, whatever its tables fill.
 use Rattle.wild_words.proofs.ListLemmas.{flat_map-flat_map}
-use Rattle.wild_placement.specs.PlacedSections.{placed_file, placed_files, processed_sections, of_last_file, sorted_inputs}
+use Rattle.wild_placement.specs.PlacedSections.{placed_file, placed_files, of_last_file, sorted_inputs}
 use Rattle.wild_geometry.specs.PlacedSections.{file_place}
 use Rattle.wild_loaded.proofs.SectionsDisjoint.{inside_apart, frame_inside}
-use Rattle.wild_geometry.proofs.PlacedInputs.{all_sections, input_of, in_processed, laid_of, laid_same_all}
-use Rattle.wild_geometry.proofs.Rooms.{room_of, length-room, section_room}
+use Rattle.wild_geometry.proofs.PlacedInputs.{all_sections, laid_of, laid_same_all}
+use Rattle.wild_geometry.proofs.Rooms.{room_of, length-room}
 use Rattle.wild_loaded.proofs.Rooms.{rooms_in, stood_files}
-use Rattle.std.proofs.Common.{◌≡◌, ℕ, ◌+◌, ◌<◌, inl, inr, Bool, true, if◌then◌else◌, List, [], ◌∷◌, length, Some, flat_map, refl, sym, ap, ◌∙◌, arith, subst, ◌++◌}
+use Rattle.std.proofs.Common.{◌≡◌, ℕ, ◌+◌, ◌<◌, inl, inr, Bool, true, if◌then◌else◌, List, [], length, Some, flat_map, refl, sym, ap, ◌∙◌, arith, subst, ◌++◌}
 use Rattle.std.specs.Prelude.{All, Contains, Result, slice_index, slice_get}
 use Rattle.std.proofs.lemmas.List.Elements.{All-contains, Contains-append_right}
 use Rattle.wild_words.specs.Words.{HasBytesAt}
@@ -44,7 +44,7 @@ use Rattle.wild_loaded.proofs.SectionBytesInMemory.{Contains-flat_map_from}
 use Rattle.wild_loaded.proofs.PartsHeld.{byte_stands, byte_carried}
 use Rattle.wild_loaded.proofs.Loads.{piece_stands}
 use Rattle.wild_loaded.proofs.Homes.{Home, HasHome, HomesApart, homes_back}
-use Rattle.wild_loaded.proofs.SectionsApart.{section_home, thunk_pieces_apart, filled_place}
+use Rattle.wild_loaded.proofs.SectionsApart.{section_home, thunk_pieces_apart, room_listed, filled_place}
 use Rattle.wild_loaded.proofs.TableHomes.{role_home, room_apart}
 use Rattle.wild_loaded.proofs.MadeChanges.{IsMovedImage, kept_at}
 use Rattle.wild_loaded.proofs.OutsideTables.{run_misses}
@@ -125,18 +125,11 @@ thunks_stood l = flat_map-flat_map (thunk_pieces l) (placed_files l) l.groups �
 -- a thunk shares no byte with a section that owns bytes
 filled_apart : (l : Layout) (t : Thunk) (s : InputSection) → KeepsAll l → IsLaidOut l → IsOfFile l t → Contains (all_sections l) s → is_filled l s ≡ true → HomesApart (thunk_home l t) (section_home l s)
 filled_apart l t s keeps laid k c filled =
-    let i = input_of l s c in
-    let own : Contains (section_room l s) (room_of l s) = subst (λ (ps : List Piece). Contains ps (room_of l s)) (sym (one l s filled)) (0, omega arith, refl) in
-    let in_file = Contains-flat_map (section_room l) (processed_sections l i.file) s (room_of l s) (in_processed l i.file i.owner s i.listed) own in
-    let file = Contains-flat_map (placed_files l) l.groups i.group i.file i.grouped i.filed in
-    let section = Contains-flat_map (rooms_in l) (stood_files l) i.file (room_of l s) file in_file in
+    let section = room_listed l s c filled in
     let thunk = subst (λ (ps : List Piece). Contains ps (thunk_at l t)) (sym (thunks_stood l)) (Contains-flat_map (thunk_pieces l) (files_of l.groups) k.file (thunk_at l t) (Contains-flat_map (λ (g : Group). g.files) l.groups k.group k.file k.grouped k.filed) (of_thunks l t keeps k)) in
     let all = All-contains (λ a. All (Disjoint a) (flat_map (thunk_pieces l) (stood_files l))) (flat_map (rooms_in l) (stood_files l)) (room_of l s) (thunk_pieces_apart l laid) section in
     sides (All-contains (Disjoint (room_of l s)) (flat_map (thunk_pieces l) (stood_files l)) (thunk_at l t) all thunk) (length-room l s) (length-thunk_bytes l t) (filled_place l s filled)
   where
-    one : (l : Layout) (s : InputSection) → is_filled l s ≡ true → section_room l s ≡ room_of l s ∷ []
-    one l s filled = rw filled refl
-
     sides : Disjoint (room_of l s) (thunk_at l t) → length (room_of l s).bytes ≡ s.size → length (thunk_bytes l t) ≡ thunk_size → file_place l s ≡ offset_in (slice_get l.parts s.part) s.address → HomesApart (thunk_home l t) (section_home l s)
     sides (inl le) fs ft e = inr (omega (arith, le, fs, e))
     sides (inr le) fs ft e = inl (omega (arith, le, ft, e))

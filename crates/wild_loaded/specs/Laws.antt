@@ -10,6 +10,8 @@
 --   SlotsAreThere          the slots of a layout without faults are complete
 --   PartsAreStored         memory has the tables of slots and stubs
 --   SlotsAreStored         memory has each word, each stub and the pair of the output's own thread-local data
+--   TextsAreStored         memory has the merged strings, and the path of the interpreter
+--   FileBytesAreStored     memory has the file bytes of segments
 --   ThunksAreThere         memory has each thunk, if there are no faults
 --   DynamicSectionsAreThere   the dynamic section is where its segment is
 --   DynamicSectionsInformLinker    it has the information that a dynamic linker needs
@@ -42,6 +44,7 @@ use Rattle.wild_layout.specs.Faults.{flat_map_from, group_errors}
 use Rattle.wild_layout.specs.TablePlaces.{all_needed}
 use Rattle.wild_layout.specs.Geometry.{IsLaidOut}
 use Rattle.wild_geometry.specs.Loaded.{IsDecided, HasItem, InFile}
+use Rattle.wild_geometry.specs.Carried.{EachPartIsLoaded}
 use Rattle.wild_geometry.specs.Thunks.{HasThunks}
 use Rattle.wild_reloc.specs.declared.info.RelocationSize.{RelocationSize}
 use Rattle.wild_layout.specs.declared.decision.Decision.TheVariants.{DynamicField}
@@ -59,7 +62,8 @@ use Rattle.wild_meaning.specs.Section.{HasFileBytes}
 use Rattle.wild_meaning.specs.World.{IsLoadable, IsLegal, IsPastFileBytes, IsCopied, HasCopy}
 use Rattle.wild_geometry.specs.PlacedSections.{IsKeptPlacedSection}
 use Rattle.wild_meaning.specs.DynamicSection.{InformsLinker}
-use Rattle.wild_meaning.specs.LinkedImage.{HasHeader, IsSectionWithoutData, processor_of}
+use Rattle.wild_meaning.specs.Unfilled.{IsFileByte}
+use Rattle.wild_meaning.specs.LinkedImage.{HasHeader, IsSectionWithoutData, HoldsTexts, processor_of}
 use Rattle.wild_loaded.specs.Owners.{HasOneOwnerEach}
 use Rattle.wild_loaded.specs.Memory.{IsStored, headers_of, image_memory}
 use Rattle.wild_loaded.specs.WholeSlots.{HasWholeSlots}
@@ -117,6 +121,14 @@ pub record SlotsAreStored : Type 0 where
   pub stubs : (l : Layout) (w : World) (i at stub : ℕ) (s : Symbol) → KeepsAll l → IsLoadable l.kind → IsLegal l w → IsLaidOut l → HasWholeSlots l → slice_get l.symbols i ≡ Some s → got_of s ≡ Some at → plt_of s ≡ Some stub → IsStubStored l w at stub
   pub pair : (l : Layout) (w : World) (at k : ℕ) (d : SlotWord) → KeepsAll l → IsLoadable l.kind → IsLegal l w → IsLaidOut l → HasWholeSlots l → l.tlsld ≡ Some at → slice_get (storage_words l) k ≡ Some d → IsWordStored l w (at + word_size * k) d
 
+-- memory has the merged strings, and the path of the interpreter
+abbrev pub TextsAreStored : Type 0
+TextsAreStored = (l : Layout) (w : World) → IsLoadable l.kind → IsLegal l w → IsLaidOut l → EachPartIsLoaded l → HoldsTexts l w (image_memory l w)
+
+-- the file bytes of segments
+abbrev pub FileBytesAreStored : Type 0
+FileBytesAreStored = (l : Layout) (w : World) (a b : ℕ) → IsLoadable l.kind → IsLegal l w → IsLaidOut l → IsFileByte l (bytes l) a b → byte_in (image_memory l w) (w.base + a) ≡ Some b
+
 -- each thunk, if no group has a fault and all tables are written
 abbrev pub ThunksAreThere : Type 0
 ThunksAreThere = (l : Layout) (w : World) → KeepsAll l → IsLoadable l.kind → IsLegal l w → IsLaidOut l → flat_map_from (group_errors l) 0 l.groups ≡ [] → HasThunks l w (image_memory l w)
@@ -130,9 +142,9 @@ pub record HasEntries (l : Layout) : Type 0 where
 abbrev pub DynamicSectionsAreThere : Type 0
 DynamicSectionsAreThere = (l : Layout) → KeepsAll l → needs_dynamic l.kind ≡ true → NumbersFit l → IsLaidOut l → HasEntries l
 
--- in every legal world its entries have the information that a dynamic linker needs
+-- its entries have the information that a dynamic linker needs
 abbrev pub DynamicSectionsInformLinker : Type 0
-DynamicSectionsInformLinker = (l : Layout) (w : World) → KeepsAll l → IsLoadable l.kind → needs_dynamic l.kind ≡ true → NumbersFit l → IsLegal l w → IsLaidOut l → HasWholeSlots l → InformsLinker (processor_of l.machine) (bytes l)
+DynamicSectionsInformLinker = (l : Layout) → KeepsAll l → IsLoadable l.kind → needs_dynamic l.kind ≡ true → NumbersFit l → IsLaidOut l → HasWholeSlots l → InformsLinker (processor_of l.machine) (bytes l)
 
 -- the image of an output that needs a dynamic section has one, and through it a loader finds the tables that the groups write
 abbrev pub TablesAreFound : Type 0

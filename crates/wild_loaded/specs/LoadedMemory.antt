@@ -9,6 +9,7 @@ use Rattle.wild_types.specs.declared.layout.Layout.{Layout}
 use Rattle.wild_geometry.specs.Slots.{HasSlots}
 use Rattle.wild_geometry.specs.Thunks.{HasThunks}
 use Rattle.wild_geometry.specs.Loaded.{HasItem, InMemory}
+use Rattle.wild_layout.specs.Image.{bytes}
 use Rattle.wild_loader.specs.declared.change.Patch.{Patch}
 use Rattle.wild_loader.specs.declared.memory.Memory.{Memory}
 use Rattle.wild_loader.specs.declared.world.World.{World}
@@ -22,7 +23,8 @@ use Rattle.wild_loader.specs.EntryLaws.{patches_of}
 use Rattle.wild_meaning.specs.Section.{HasFileBytes}
 use Rattle.wild_meaning.specs.World.{IsPastFileBytes, HasCopy}
 use Rattle.wild_meaning.specs.Item.{IsKept}
-use Rattle.wild_meaning.specs.LinkedImage.{IsSectionWithoutData, IsNotCopied, processor_of}
+use Rattle.wild_meaning.specs.Unfilled.{IsFileByte, IsUnfilled}
+use Rattle.wild_meaning.specs.LinkedImage.{IsSectionWithoutData, IsNotCopied, HoldsTexts, processor_of}
 use Rattle.wild_loaded.specs.Memory.{image_memory}
 use Rattle.wild_loaded.specs.Tables.{tables_of}
 use Rattle.wild_loaded.specs.Words.{place_change, entry_change}
@@ -40,7 +42,8 @@ pub record HasApplied (l : Layout) (w : World) (m : Memory) : Type 0 where
   pub others : (a : ℕ) → All (IsOutsideRun a) (runs_of_patches (patches_of (tables_of l) (place_change w (image_memory l w)) (entry_change w (image_memory l w)))) → byte_in m a ≡ byte_in (image_memory l w) a
 
 -- Memory has each kept item, with the base added to its addresses and with the fields that entries fill; the slots, stubs and
--- thunks; and copies of symbols. Otherwise it is zero after the file bytes of segments, and in sections without data.
+-- thunks; copies of symbols; merged strings and the interpreter's path; and each byte of the file that nothing fills. Otherwise it
+-- is zero after the file bytes of segments, and in sections without data.
 pub record HasLoadedMemory (l : Layout) (w : World) (m : Memory) : Type 0 where
   pub items : (item : Item) → IsKept l item → HasItem l w m item InMemory
   pub slots : HasSlots l w m
@@ -48,3 +51,5 @@ pub record HasLoadedMemory (l : Layout) (w : World) (m : Memory) : Type 0 where
   pub zeros : (a : ℕ) → IsPastFileBytes l a → IsNotCopied l w a → byte_in m (w.base + a) ≡ Some 0
   pub blanks : (s : InputSection) (k : ℕ) → IsSectionWithoutData l s → HasFileBytes l s.part → k < s.size → byte_in m (w.base + (s.address + k)) ≡ Some 0
   pub copies : (i raw : ℕ) (x : Answer) → HasCopy l w i raw x → Holds m (w.base + raw) x.bytes
+  pub texts : HoldsTexts l w m
+  pub still : (a b : ℕ) → IsFileByte l (bytes l) a b → IsUnfilled l w a → byte_in m (w.base + a) ≡ Some b

@@ -8,6 +8,7 @@ use Rattle.wild_types.specs.HeaderOnly.{KeepsAll}
 use Rattle.wild_layout.specs.Numbers.{NumbersFit}
 use Rattle.wild_layout.specs.Faults.{flat_map_from, group_errors}
 use Rattle.wild_layout.specs.Geometry.{IsLaidOut}
+use Rattle.wild_geometry.specs.Carried.{EachPartIsLoaded}
 use Rattle.wild_loader.specs.declared.memory.Memory.{Memory}
 use Rattle.wild_loader.specs.declared.world.World.{World}
 use Rattle.wild_meaning.specs.World.{IsLoadable, IsLegal}
@@ -20,13 +21,13 @@ use Rattle.wild_loaded.specs.LoadedMemory.{HasApplied, HasLoadedMemory}
 -- its addresses and with its fields filled. So are the slots, stubs, thunks and copies, and the zeros past file bytes and in sections
 -- without data.
 abbrev pub MemoryHasChanges : Type 0
-MemoryHasChanges = (l : Layout) (w : World) (m : Memory) → KeepsAll l → IsLoadable l.kind → NumbersFit l → IsLegal l w → IsLaidOut l → EachDecided l → HasWholeSlots l → flat_map_from (group_errors l) 0 l.groups ≡ []
+MemoryHasChanges = (l : Layout) (w : World) (m : Memory) → KeepsAll l → IsLoadable l.kind → NumbersFit l → IsLegal l w → IsLaidOut l → EachPartIsLoaded l → EachDecided l → HasWholeSlots l → flat_map_from (group_errors l) 0 l.groups ≡ []
     → HasApplied l w m → HasLoadedMemory l w m
 
 -- so the image of an output can be loaded in every legal world, with or without a dynamic section
 abbrev pub ImagesAreLoaded : Type 0
-ImagesAreLoaded = (l : Layout) (w : World) → KeepsAll l → IsLoadable l.kind → NumbersFit l → IsLegal l w → IsLaidOut l → EachDecided l → HasWholeSlots l → flat_map_from (group_errors l) 0 l.groups ≡ [] → HasMemory l w
+ImagesAreLoaded = (l : Layout) (w : World) → KeepsAll l → IsLoadable l.kind → NumbersFit l → IsLegal l w → IsLaidOut l → EachPartIsLoaded l → EachDecided l → HasWholeSlots l → flat_map_from (group_errors l) 0 l.groups ≡ [] → HasMemory l w
 
 -- an image only for debuggers has no table, and the loader applies none
 abbrev pub DebugImagesAreLoaded : Type 0
-DebugImagesAreLoaded = (l : Layout) (w : World) → IsForDebuggers l → IsLoadable l.kind → NumbersFit l → IsLegal l w → IsLaidOut l → EachDecided l → HasMemoryWithoutTables l w
+DebugImagesAreLoaded = (l : Layout) (w : World) → IsForDebuggers l → IsLoadable l.kind → NumbersFit l → IsLegal l w → IsLaidOut l → EachPartIsLoaded l → EachDecided l → HasMemoryWithoutTables l w

@@ -29,7 +29,8 @@ use Rattle.wild_loader.specs.SegmentLaws.{loaded_memory}
 use Rattle.wild_meaning.specs.Item.{IsKept}
 use Rattle.wild_meaning.specs.Section.{HasFileBytes}
 use Rattle.wild_meaning.specs.World.{IsPastFileBytes, HasCopy}
-use Rattle.wild_meaning.specs.LinkedImage.{IsSectionWithoutData, IsNotCopied, processor_of}
+use Rattle.wild_meaning.specs.Unfilled.{IsFileByte, IsUnfilled}
+use Rattle.wild_meaning.specs.LinkedImage.{IsSectionWithoutData, IsNotCopied, HoldsTexts, processor_of}
 use Rattle.wild_geometry.specs.PlacedSections.{IsPlacedSection, file_place}
 
 -- the section has bytes in the file, or in the part of frames
@@ -56,7 +57,8 @@ abbrev pub EachDecided : Layout → Type 0
 EachDecided l = (s : InputSection) (k : IsPlacedSection l s) → is_read s ≡ true → is_omitted l s ≡ false → IsDecided l (item_of l k.owner s)
 
 -- The loader accepts the image. Memory has each kept item as decided, with the base added to addresses that move; the slots,
--- stubs and thunks; and copies of symbols. Otherwise it is zero after the file bytes of segments, and in sections without data.
+-- stubs and thunks; copies of symbols; merged strings and the interpreter's path; and each byte of the file that nothing fills.
+-- Otherwise it is zero after the file bytes of segments, and in sections without data.
 pub record HasMemory (l : Layout) (w : World) : Type 0 where
   pub memory : Memory
   pub accepted : load w (bytes l) ≡ Ok memory
@@ -67,9 +69,11 @@ pub record HasMemory (l : Layout) (w : World) : Type 0 where
   pub zeros : (a : ℕ) → IsPastFileBytes l a → IsNotCopied l w a → byte_in memory (w.base + a) ≡ Some 0
   pub blanks : (s : InputSection) (k : ℕ) → IsSectionWithoutData l s → HasFileBytes l s.part → k < s.size → byte_in memory (w.base + (s.address + k)) ≡ Some 0
   pub copies : (i raw : ℕ) (x : Answer) → HasCopy l w i raw x → Holds memory (w.base + raw) x.bytes
+  pub texts : HoldsTexts l w memory
+  pub still : (a b : ℕ) → IsFileByte l (bytes l) a b → IsUnfilled l w a → byte_in memory (w.base + a) ≡ Some b
 
--- The loader accepts the image, which has no table for it to apply. Memory has each kept item as the file has it. It is zero
--- after the file bytes of segments, and in sections without data.
+-- The loader accepts the image, which has no table for it to apply. Memory has each kept item, merged strings, the
+-- interpreter's path and every byte of the file as the file has them. It is zero after the file bytes of segments, and in sections without data.
 pub record HasMemoryWithoutTables (l : Layout) (w : World) : Type 0 where
   pub memory : Memory
   pub accepted : load w (bytes l) ≡ Ok memory
@@ -77,3 +81,5 @@ pub record HasMemoryWithoutTables (l : Layout) (w : World) : Type 0 where
   pub items : (item : Item) → IsKept l item → HasItem l w memory item InFile
   pub zeros : (a : ℕ) → IsPastFileBytes l a → byte_in memory (w.base + a) ≡ Some 0
   pub blanks : (s : InputSection) (k : ℕ) → IsSectionWithoutData l s → HasFileBytes l s.part → k < s.size → byte_in memory (w.base + (s.address + k)) ≡ Some 0
+  pub texts : HoldsTexts l w memory
+  pub still : (a b : ℕ) → IsFileByte l (bytes l) a b → byte_in memory (w.base + a) ≡ Some b

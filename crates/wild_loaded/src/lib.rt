@@ -1,7 +1,7 @@
 //! The memory that a loader makes of the image of a laid out layout, before and after its entries are applied.
 #![tactic(auto)]
 
-ghost use Rattle.wild_loaded.specs.Laws.{BlanksAreStored, CopiesAreThere, DynamicSectionsAreThere, DynamicSectionsInformLinker, EntriesHaveChanges, HeadersAreThere, HeadersDescribeOutput, OwnersAreKnown, PartsAreStored, SectionTablesAreFound, SectionsAreInSegments, SectionsAreStored, SegmentsAreLoadable, SlotsAreStored, SlotsAreThere, TablesAreFound, ThunksAreThere, ZerosAreStored};
+ghost use Rattle.wild_loaded.specs.Laws.{BlanksAreStored, CopiesAreThere, DynamicSectionsAreThere, DynamicSectionsInformLinker, EntriesHaveChanges, FileBytesAreStored, HeadersAreThere, HeadersDescribeOutput, OwnersAreKnown, PartsAreStored, SectionTablesAreFound, SectionsAreInSegments, SectionsAreStored, SegmentsAreLoadable, SlotsAreStored, SlotsAreThere, TablesAreFound, TextsAreStored, ThunksAreThere, ZerosAreStored};
 ghost use Rattle.wild_loaded.specs.FilledLaws.{TablesAreMade};
 ghost use Rattle.wild_loaded.specs.LoadedMemoryLaws.{DebugImagesAreLoaded, ImagesAreLoaded, MemoryHasChanges};
 
@@ -78,6 +78,21 @@ pub fn slots_are_stored()
     each_word_is_placed();
     stubs_are_there();
     pair_is_placed();
+}
+
+/// It has the merged strings, and the path of the interpreter.
+pub fn texts_are_stored()
+    ensures { TextsAreStored }
+{
+    bytes_are_loaded();
+    tables_are_placed();
+}
+
+/// It has the file bytes of segments.
+pub fn file_bytes_are_stored()
+    ensures { FileBytesAreStored }
+{
+    bytes_are_loaded();
 }
 
 /// In a layout without faults it has each thunk.
@@ -165,6 +180,8 @@ pub fn memory_has_changes()
     sections_are_stored();
     segments_are_loadable();
     slots_are_stored();
+    texts_are_stored();
+    file_bytes_are_stored();
     thunks_are_there();
     entries_have_changes();
     copies_are_there();
@@ -201,6 +218,8 @@ pub fn debug_images_are_loaded()
 {
     headers_are_present();
     sections_are_stored();
+    texts_are_stored();
+    file_bytes_are_stored();
     segments_are_loadable();
     dynamic_images_are_loaded();
     static_images_are_loaded();

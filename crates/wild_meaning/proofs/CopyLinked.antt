@@ -1,11 +1,11 @@
 -- The image of the worked program with a copied symbol is linked in its world.
-use Rattle.std.proofs.Common.{if◌then◌else◌, Bool, ◌≡◌, ℕ, zero, suc, ◌+◌, ◌-◌, ◌<◌, ◌≤◌, ◌⊎◌, inl, inr, ◌==◌, true, false, List, [], ◌∷◌, refl, sym, ap, ◌∙◌, subst, arith}
+use Rattle.std.proofs.Common.{if◌then◌else◌, Bool, ◌≡◌, ℕ, zero, suc, ◌+◌, ◌-◌, ◌<◌, ◌≤◌, ◌⊎◌, inl, inr, ◌==◌, true, false, List, [], ◌∷◌, refl, sym, ap, ◌∙◌, subst, arith, ◌++◌}
 use Rattle.std.specs.Prelude.{Some, None, Contains, All, slice_index_or, replicate}
 use Rattle.std.proofs.lemmas.Bool.{eqb-false}
 use Rattle.std.proofs.lemmas.List.{get_or-replicate}
 use Rattle.std.proofs.lemmas.List.Elements.{All-from_recursion, All-contains}
 use lib.IntN.{pos}
-use Rattle.wild_words.specs.Words.{number}
+use Rattle.wild_words.specs.Words.{number, word}
 use Rattle.wild_words.specs.Record.{spell}
 use Rattle.wild_words.proofs.RecordLemmas.{HasBytesAt-left}
 use Rattle.wild_records.specs.Abi.Relocation.{r_x86_64_64}
@@ -31,11 +31,13 @@ use Rattle.wild_meaning.specs.Item.{IsInput, IsKept, OfSection, OfFrames}
 use Rattle.wild_meaning.specs.Reference.{UsesOwnSymbolOnly, ReferenceHolds, ItemHolds}
 use Rattle.wild_meaning.specs.Segments.{headers_in, DescribeSegments}
 use Rattle.wild_meaning.specs.DynamicSection.{InformsLinker}
-use Rattle.wild_meaning.specs.LinkedImage.{IsSectionWithoutData, IsNotCopied, HasResolvedAddress}
+use Rattle.wild_meaning.specs.LinkedImage.{IsSectionWithoutData, IsNotCopied, HasResolvedAddress, DescribesOutput}
 use Rattle.wild_meaning.specs.Worked.Builders.{reference, group_of}
 use Rattle.wild_meaning.specs.Worked.Copy.{copying_layout, copying_data, copying_item, copying_blank, copying_object, copying_library, copying_world, copied_symbol, start_symbol, copied_answer, copied_bytes}
-use Rattle.wild_meaning.specs.Worked.CopyImage.{copying_image, copying_rest, copying_memory, copying_header, copying_third, copying_words}
+use Rattle.wild_meaning.specs.Worked.CopyImage.{copying_image, copying_rest, copying_memory, copying_header, copying_third, copying_words, copying_tables}
 use Rattle.wild_meaning.specs.Worked.CopyRefusals.{CopyingImageIsLinked}
+use Rattle.wild_records.specs.ProgramHeader.{program_header_fields}
+use Rattle.wild_meaning.proofs.FileBytes.{HasLoadedBytes, file_byte_held}
 use Rattle.wild_meaning.proofs.SymbolUnique.{only, raw_of}
 use Rattle.wild_meaning.proofs.Read.{held_from}
 use Rattle.wild_meaning.proofs.Refused.{not_alone, no_template}
@@ -43,6 +45,7 @@ use Rattle.wild_meaning.proofs.CopyLegal.{copied_own, has_copy, copy_is}
 use Rattle.wild_meaning.proofs.CopyLoaded.{copying_loaded, copying_programs, copying_dynamic, copying_entries, copying_read, copying_tags}
 use Rattle.wild_meaning.proofs.CopyRefused.{address_formula, copied_is_own, no_code, no_string}
 use Rattle.wild_meaning.proofs.PlacedLemmas.{stood_plain, frame_input}
+use Rattle.wild_meaning.proofs.TextLemmas.{no_texts}
 use Rattle.wild_types.specs.declared.input.Slot.TheVariants as slot
 
 abbrev copied_reference : InputRelocation
@@ -80,7 +83,7 @@ no_other k lt (inr h) = omega (arith, lt, h)
 item_holds : ItemHolds copying_layout copying_world copying_memory copying_item
 item_holds = record {
   references = λ r ref present asked alone. (All-contains Both copying_item.relocations r each ref.listed).0;
-  linked = λ r ref present alone base. absurd ((All-contains Both copying_item.relocations r each ref.listed).1 alone);
+  linked = λ r ref present asked alone. absurd ((All-contains Both copying_item.relocations r each ref.listed).1 alone);
   others = λ k lt other. absurd (no_other k lt (other.fields 0 copied_reference (omega arith) (formula SymbolAddress Full) address_formula));
 }
 
@@ -162,6 +165,12 @@ copies i raw x h =
     let is = copy_is i raw x h in
     subst (λ (y : Answer). Holds copying_memory (copying_world.base + raw) y.bytes) (sym is.2) (subst (λ (a : ℕ). Holds copying_memory (copying_world.base + a) copied_bytes) (sym is.1) (held_from copying_memory 0x23100 copied_bytes refl))
 
+-- ---- bytes of the file
+
+file_bytes : All (HasLoadedBytes copying_memory copying_world.base copying_image) copying_layout.segments
+unfolding file_header_fields program_header_fields word
+file_bytes = All-from_recursion (HasLoadedBytes copying_memory copying_world.base copying_image) copying_layout.segments ((λ k. record { content = copying_words ++ copying_tables; stands = refl; size = refl; held = refl }), ((λ k. record { content = []; stands = refl; size = refl; held = refl }), ((λ k. absurd (let no : 2 ≡ 1 = k in omega (arith, no))), tt)))
+
 -- ---- the whole
 
 no_load : (n : ℕ) → (n == pt_gnu_stack) ≡ false → n ≡ pt_gnu_stack → ⊥
@@ -204,14 +213,8 @@ begins i a e h =
     let there : HasResolvedAddress copying_layout 1 a = subst (λ (k : ℕ). HasResolvedAddress copying_layout k a) (sym same) h in
     sym (raw_of copying_layout 1 a start_symbol _ refl refl (record { definition = there.definition; defined = there.defined; given = inl there.given }))
 
-pub copying_linked : CopyingImageIsLinked
-copying_linked = record {
-  memory = copying_memory;
-  accepted = copying_loaded;
-  machine = refl;
-  kept = items_hold;
-  zeros = zeros;
-  copies = λ whole. copies;
+copying_described : DescribesOutput copying_layout copying_image
+copying_described = record {
   header = record {
     header = copying_header;
     fits = record {
@@ -230,3 +233,18 @@ copying_linked = record {
   };
   dynamic = λ whole d. copying_told;
 }
+
+pub copying_linked : CopyingImageIsLinked
+copying_linked = (
+  copying_described,
+  record {
+    memory = copying_memory;
+    accepted = copying_loaded;
+    machine = refl;
+    kept = items_hold;
+    zeros = zeros;
+    copies = λ whole. copies;
+    texts = no_texts copying_layout copying_world copying_memory refl refl;
+    still = λ a b h free. file_byte_held copying_layout copying_memory copying_world.base a b copying_image file_bytes h;
+  },
+)

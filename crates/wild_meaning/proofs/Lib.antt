@@ -6,8 +6,10 @@ pub mod PlacedLemmas
 pub mod OutputLemmas
 mod Legal
 mod SymbolUnique
+mod TextLemmas
 mod SharedLegal
 mod Read
+mod FileBytes
 mod Refused
 mod SlotPlaces
 mod SharedRefused

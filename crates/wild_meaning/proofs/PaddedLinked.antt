@@ -1,6 +1,6 @@
 -- The image of the worked program whose one input section has no data is linked in its world.
 use Rattle.std.proofs.Common.{◌≡◌, ℕ, ◌+◌, ◌<◌, true, false, List, [], ◌∷◌, refl, sym, ap, ◌∙◌, subst, arith}
-use Rattle.std.specs.Prelude.{Ok, Some, None, Contains, replicate}
+use Rattle.std.specs.Prelude.{Ok, Some, None, Contains, replicate, All}
 use Rattle.std.proofs.lemmas.List.Elements.{All-from_recursion, All-contains}
 use Rattle.std.proofs.lemmas.List.{get_or-replicate}
 use Rattle.wild_words.specs.Words.{word, number}
@@ -30,14 +30,16 @@ use Rattle.wild_meaning.specs.World.{IsCopied}
 use Rattle.wild_meaning.specs.Item.{IsInput, IsKept, OfSection, OfFrames}
 use Rattle.wild_meaning.specs.Reference.{ItemHolds}
 use Rattle.wild_meaning.specs.Segments.{headers_in, DescribeSegments}
-use Rattle.wild_meaning.specs.LinkedImage.{IsSectionWithoutData}
+use Rattle.wild_meaning.specs.LinkedImage.{IsSectionWithoutData, DescribesOutput}
 use Rattle.wild_meaning.specs.Worked.Builders.{file_of, group_of}
 use Rattle.wild_meaning.specs.Worked.Static.{static_pie_world}
 use Rattle.wild_meaning.specs.Worked.StaticImage.{static_header, static_segment, padded_image, padded_rest, padded_memory}
 use Rattle.wild_meaning.specs.Worked.StaticRefusals.{padded_blank, padded_layout, PaddedImageIsLinked}
+use Rattle.wild_meaning.proofs.FileBytes.{HasLoadedBytes, file_byte_held}
 use Rattle.wild_meaning.proofs.SymbolUnique.{only}
 use Rattle.wild_meaning.proofs.Read.{held_from}
 use Rattle.wild_meaning.proofs.PlacedLemmas.{frame_input}
+use Rattle.wild_meaning.proofs.TextLemmas.{no_texts}
 
 padded_loaded : load static_pie_world padded_image ≡ Ok padded_memory
 unfolding load image_at image_with header program_headers segments load_segment load_segments tables first_dynamic section_tables sections section_entries relocate add_all apart notes overlay_runs places_from least_extent file_header_at file_header_fields program_header_at program_header_fields number word
@@ -92,6 +94,12 @@ section_zero = zero_at
 zeros : (s : InputSection) → IsSectionWithoutData padded_layout s → IsZero s
 zeros s h = subst IsZero (blank_is s h.input) section_zero
 
+-- ---- bytes of the file
+
+file_bytes : All (HasLoadedBytes padded_memory static_pie_world.base padded_image) padded_layout.segments
+unfolding file_header_fields program_header_fields word
+file_bytes = All-from_recursion (HasLoadedBytes padded_memory static_pie_world.base padded_image) padded_layout.segments ((λ k. record { content = replicate 272 0; stands = refl; size = refl; held = refl }), tt)
+
 -- ---- the whole
 
 padded_segments : DescribeSegments padded_layout padded_layout.segments (headers_in padded_image)
@@ -100,14 +108,8 @@ padded_segments = subst (λ (hs : List ProgramHeader). DescribeSegments padded_l
   tt,
 )
 
-pub padded_linked : PaddedImageIsLinked
-padded_linked = record {
-  memory = padded_memory;
-  accepted = padded_loaded;
-  machine = refl;
-  kept = no_item;
-  zeros = λ s k h lt _ _. zeros s h k lt;
-  copies = λ whole i raw x h. absurd (no_library i h.copied);
+padded_described : DescribesOutput padded_layout padded_image
+padded_described = record {
   header = record {
     header = static_header;
     fits = record {
@@ -126,3 +128,18 @@ padded_linked = record {
   };
   dynamic = λ whole d. absurd d;
 }
+
+pub padded_linked : PaddedImageIsLinked
+padded_linked = (
+  padded_described,
+  record {
+    memory = padded_memory;
+    accepted = padded_loaded;
+    machine = refl;
+    kept = no_item;
+    zeros = λ s k h lt _ _. zeros s h k lt;
+    copies = λ whole i raw x h. absurd (no_library i h.copied);
+    texts = no_texts padded_layout static_pie_world padded_memory refl refl;
+    still = λ a b h free. file_byte_held padded_layout padded_memory static_pie_world.base a b padded_image file_bytes h;
+  },
+)

@@ -1,5 +1,5 @@
 -- Wrong headers and wrong dynamic sections are refused.
-use Rattle.std.proofs.Common.{◌≡◌, ℕ, zero, suc, [], ◌∷◌, List, refl, sym, ap, ◌∙◌, subst, arith}
+use Rattle.std.proofs.Common.{◌≡◌, ℕ, zero, suc, inl, inr, [], ◌∷◌, List, refl, sym, ap, ◌∙◌, subst, arith}
 use Rattle.std.specs.Prelude.{Option, Some, None, Ok}
 use Rattle.wild_records.specs.Abi.Dynamic.{df_bind_now}
 use Rattle.wild_records.specs.FileHeader.{FileHeaderIsRead, file_header_at}
@@ -8,19 +8,22 @@ use Rattle.wild_records.specs.declared.dynamic.DynamicEntry.{DynamicEntry}
 use Rattle.wild_records.specs.declared.file_header.FileHeader.{FileHeader}
 use Rattle.wild_records.specs.declared.program_header.ProgramHeader.{ProgramHeader}
 use Rattle.wild_records.specs.declared.relocations.Rela.{Rela}
+use Rattle.wild_types.specs.declared.kind.OutputKind.{OutputKind}
+use Rattle.wild_types.specs.declared.kind.OutputKind.TheVariants as output
+use Rattle.wild_types.specs.declared.kind.RelocationModel.TheVariants as model
 use Rattle.wild_types.specs.declared.section.Segment.{Segment}
 use Rattle.wild_types.specs.declared.layout.Layout.{Layout}
 use Rattle.wild_loader.specs.declared.kind.DynamicKind.TheVariants as kinds
-use Rattle.wild_loader.specs.declared.world.World.{World}
 use Rattle.wild_loader.specs.Changes.{kind_of}
 use Rattle.wild_loader.specs.Headers.{program_headers}
 use Rattle.wild_loader.specs.Tables.{section_of}
 use Rattle.wild_meaning.specs.Section.{IsSet}
-use Rattle.wild_meaning.specs.Segments.{headers_in, DescribesSegment, DescribeSegments}
+use Rattle.wild_meaning.specs.Segments.{headers_in, DescribesSegment, DescribeSegments, HasDynamicLinker}
+use Rattle.wild_meaning.specs.World.{IsLoadable}
 use Rattle.wild_meaning.specs.DynamicSection.{DescribesTables}
-use Rattle.wild_meaning.specs.LinkedImage.{HasStandardSizes, IsLinked, processor_of}
+use Rattle.wild_meaning.specs.LinkedImage.{HasStandardSizes, DescribesOutput, processor_of}
 use Rattle.wild_meaning.specs.Worked.Builders.{loaded_segment}
-use Rattle.wild_meaning.specs.Worked.Static.{static_pie, static_pie_world}
+use Rattle.wild_meaning.specs.Worked.Static.{static_pie}
 use Rattle.wild_meaning.specs.Worked.SegmentRefusals.{unpaged_layout, IsDynamic, WrongSegmentsAreRefused, OtherPlacesAreRefused, WrongSizesAreRefused, NoDynamicIsRefused, WrongEntriesAreRefused}
 
 -- one segment that is told
@@ -34,12 +37,12 @@ one_told l image g zero at h = absurd h
 one_told l image g (suc zero) at h = record { told = h.0; one = refl }
 one_told l image g (suc (suc n)) at h = absurd h.1
 
-one : (l : Layout) (w : World) (image : List ℕ) (g : Segment) → l.segments ≡ g ∷ [] → IsLinked l w image → IsOne l image g (file_header_at image 0).program_count (file_header_at image 0).program_offset
-one l w image g is h =
+one : (l : Layout) (image : List ℕ) (g : Segment) → l.segments ≡ g ∷ [] → DescribesOutput l image → IsOne l image g (file_header_at image 0).program_count (file_header_at image 0).program_offset
+one l image g is h =
     one_told l image g (file_header_at image 0).program_count (file_header_at image 0).program_offset (subst (λ (gs : List Segment). DescribeSegments l gs (headers_in image)) is h.header.segments)
 
-static_one : (image : List ℕ) → IsLinked static_pie static_pie_world image → IsOne static_pie image (loaded_segment 0x1000 0x110 0x110) (file_header_at image 0).program_count (file_header_at image 0).program_offset
-static_one image h = one static_pie static_pie_world image (loaded_segment 0x1000 0x110 0x110) refl h
+static_one : (image : List ℕ) → DescribesOutput static_pie image → IsOne static_pie image (loaded_segment 0x1000 0x110 0x110) (file_header_at image 0).program_count (file_header_at image 0).program_offset
+static_one image h = one static_pie image (loaded_segment 0x1000 0x110 0x110) refl h
 
 pub wrong_segments : WrongSegmentsAreRefused
 wrong_segments = record {
@@ -55,36 +58,44 @@ wrong_segments = record {
 
 pub other_places : OtherPlacesAreRefused
 other_places image h =
-    let t = (one unpaged_layout static_pie_world image (record (loaded_segment 0x1000 0x110 0x110) { offset = 120 }) refl h).told in
+    let t = (one unpaged_layout image (record (loaded_segment 0x1000 0x110 0x110) { offset = 120 }) refl h).told in
     let same = t.congruent refl in
     let address = t.address in
     let offset = t.offset in
     omega (arith, same, address, offset)
 
 -- the file header is the one that a loader reads
-sizes_read : FileHeaderIsRead → (l : Layout) (w : World) (image : List ℕ) → IsLinked l w image → HasStandardSizes (file_header_at image 0)
-sizes_read read l w image h = subst (λ (e : FileHeader). HasStandardSizes e) (sym (read image 0 h.header.header h.header.fits h.header.stands)) h.header.sizes
+sizes_read : FileHeaderIsRead → (l : Layout) (image : List ℕ) → DescribesOutput l image → HasStandardSizes (file_header_at image 0)
+sizes_read read l image h = subst (λ (e : FileHeader). HasStandardSizes e) (sym (read image 0 h.header.header h.header.fits h.header.stands)) h.header.sizes
 
 pub wrong_sizes : FileHeaderIsRead → WrongSizesAreRefused
 wrong_sizes read = record {
-  version = λ l w image h wrong. wrong (sizes_read read l w image h).version;
-  header = λ l w image h wrong. wrong (sizes_read read l w image h).header;
-  program = λ l w image h wrong. wrong (sizes_read read l w image h).program;
-  section = λ l w image h wrong. wrong (sizes_read read l w image h).section;
+  version = λ l image loads h wrong. wrong (sizes_read read l image (h loads).0).version;
+  header = λ l image loads h wrong. wrong (sizes_read read l image (h loads).0).header;
+  program = λ l image loads h wrong. wrong (sizes_read read l image (h loads).0).program;
+  section = λ l image loads h wrong. wrong (sizes_read read l image (h loads).0).section;
 }
 
 -- ---- the dynamic section
 
+-- an output that a dynamic linker loads can be loaded
+loaded_dynamically : (kind : OutputKind) → HasDynamicLinker kind → IsLoadable kind
+loaded_dynamically (output.StaticExecutable any) h = absurd h
+loaded_dynamically (output.DynamicExecutable model.NonRelocatable) h = inl tt
+loaded_dynamically (output.DynamicExecutable model.Relocatable) h = inr tt
+loaded_dynamically output.SharedObject h = inr tt
+loaded_dynamically output.PartialObject h = absurd h
+
 pub no_dynamic : NoDynamicIsRefused
-no_dynamic l w image whole linker h none =
-    let told = h.dynamic whole linker in
+no_dynamic l image whole linker h none =
+    let told = (h (loaded_dynamically l.kind linker)).0.dynamic whole linker in
     let both : None ≡ Some told.segment = sym none ∙ told.first in
     cc
 
 -- its entries are those that are read
 told_of : (l : Layout) (image : List ℕ) (ds : List DynamicEntry) → IsDynamic l image ds → DescribesTables (processor_of l.machine) image ds
 told_of l image ds d =
-    let told = d.linked.dynamic d.whole d.linker in
+    let told = (d.sound (loaded_dynamically l.kind d.linker)).0.dynamic d.whole d.linker in
     let first : Some told.segment ≡ Some d.segment = sym told.first ∙ d.first in
     let segment : told.segment ≡ d.segment = cc in
     let both : Ok told.entries ≡ Ok ds = sym told.read ∙ ap (λ (h : ProgramHeader). section_of image h) segment ∙ d.read in

@@ -11,7 +11,7 @@ use Rattle.wild_loader.specs.declared.world.Answer.{Answer}
 use Rattle.wild_meaning.specs.Value.{IsReplaceable, HasAnswer}
 use Rattle.wild_meaning.specs.World.{HasResolver, IsAnswer, IsAnswered, IsKnownModule, IsCopied}
 use Rattle.wild_meaning.specs.Worked.Builders.{file_of, group_of}
-use Rattle.wild_meaning.specs.Worked.Shared.{shared_layout, shared_data, shared_code, shared_world, answer_of_module, own_symbol, open_symbol, own_thread, other_thread}
+use Rattle.wild_meaning.specs.Worked.Shared.{shared_layout, shared_data, shared_code, shared_near, shared_world, answer_of_module, own_symbol, open_symbol, own_thread, other_thread}
 use Rattle.wild_meaning.specs.Worked.SharedRefusals.{SharedWorldIsLegal}
 use Rattle.wild_meaning.proofs.SymbolUnique.{only, owner_of, no_answer}
 use Rattle.wild_meaning.proofs.Legal.{not_indirect, no_index, one_index}
@@ -52,8 +52,8 @@ an_answer address owner offset size a o f s k = record { address = a; offset = f
 
 pub no_library : (i : ℕ) → IsCopied shared_layout i → ⊥
 no_library i h =
-    let group = only (group_of (file_of file_role.Object (shared_data ∷ shared_code ∷ []) [] ∷ [])) h.group h.grouped in
-    let file = only (file_of file_role.Object (shared_data ∷ shared_code ∷ []) []) h.file (rw (← group) at h.filed) in
+    let group = only (group_of (file_of file_role.Object (shared_data ∷ shared_code ∷ shared_near ∷ []) [] ∷ [])) h.group h.grouped in
+    let file = only (file_of file_role.Object (shared_data ∷ shared_code ∷ shared_near ∷ []) []) h.file (rw (← group) at h.filed) in
     let role : file_role.Object ≡ file_role.Dynamic = ap (λ (f : File). f.role) file ∙ h.library in
     cc
 

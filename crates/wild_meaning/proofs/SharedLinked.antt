@@ -1,17 +1,17 @@
 -- The image of the worked shared object is linked in its world.
-use Rattle.std.proofs.Common.{◌==◌, if◌then◌else◌, Bool, ◌≡◌, ℕ, zero, suc, ◌+◌, ◌-◌, ◌%◌, ◌^◌, ◌<◌, ◌≤◌, ◌⊎◌, inl, inr, true, false, List, [], ◌∷◌, length, refl, sym, ap, ◌∙◌, subst, arith}
-use Rattle.std.specs.Prelude.{Option, Some, None, Contains, All, slice_index}
+use Rattle.std.proofs.Common.{◌==◌, if◌then◌else◌, Bool, ◌≡◌, ℕ, zero, suc, ◌+◌, ◌-◌, ◌%◌, ◌^◌, ◌<◌, ◌≤◌, ◌⊎◌, inl, inr, true, false, List, [], ◌∷◌, length, refl, sym, ap, ◌∙◌, subst, arith, ◌++◌}
+use Rattle.std.specs.Prelude.{Option, Some, None, Contains, All, slice_index, replicate}
 use Rattle.std.proofs.lemmas.Bool.{eqb-false}
 use Rattle.std.proofs.lemmas.List.Elements.{All-from_recursion, All-contains}
 use lib.IntN.{pos}
-use Rattle.wild_words.specs.Words.{number}
+use Rattle.wild_words.specs.Words.{number, word}
 use Rattle.wild_words.specs.Record.{spell}
 use Rattle.wild_words.proofs.RecordLemmas.{HasBytesAt-left}
 use Rattle.wild_records.specs.Abi.Relocation.{r_x86_64_64, r_x86_64_gotpcrel64, r_x86_64_tpoff64, r_x86_64_dtpoff64, r_x86_64_size64, r_x86_64_tlsgd, r_x86_64_tlsld, r_x86_64_gottpoff, r_x86_64_gotpc32_tlsdesc}
 use Rattle.wild_records.specs.Abi.Segment.{pt_gnu_stack}
 use Rattle.wild_records.specs.FileHeader.{file_header_fields}
 use Rattle.wild_records.specs.declared.program_header.ProgramHeader.{ProgramHeader}
-use Rattle.wild_reloc.specs.Formula.{Formula, formula, SlotDistance, AddressSlot, ThreadOffset, ModulePair, OwnModulePair, Descriptor, SymbolAddress, PointerOffset, ModuleOffset, Size, Full, Plain, Signed, sign_extended}
+use Rattle.wild_reloc.specs.Formula.{Formula, formula, SlotDistance, AddressSlot, ThreadOffset, ModulePair, OwnModulePair, Descriptor, SymbolAddress, Distance, PointerOffset, ModuleOffset, Size, Full, Plain, Signed, sign_extended}
 use Rattle.wild_reloc.specs.FormulaX86_64.{x86_64_formula}
 use Rattle.wild_types.specs.declared.file.FileRole.TheVariants as file_role
 use Rattle.wild_types.specs.declared.file.File.{File}
@@ -29,21 +29,24 @@ use Rattle.wild_loader.specs.declared.instruction.Deed.TheVariants.{Set}
 use Rattle.wild_loader.specs.Memory.{byte_in, bytes_in, Holds}
 use Rattle.wild_loader.specs.InstructionX86_64.{meaning_x86_64, effect_x86_64}
 use Rattle.wild_loader.specs.Tables.{first_dynamic}
-use Rattle.wild_meaning.specs.Value.{IsDefinedBy, IsSymbol, IsReplaceable, HasAnswer, HasValue}
+use Rattle.wild_meaning.specs.Value.{IsDefinedBy, IsSymbol, IsReplaceable, HasAnswer, HasOwnValue, HasValue}
 use Rattle.wild_meaning.specs.Thread.{HasThreadOffset}
 use Rattle.wild_meaning.specs.Slot.{HasSlotAddress, IsSlotOf}
-use Rattle.wild_meaning.specs.Item.{IsLoadedSlot, IsInput, IsKept, OfSection, OfFrames, place_at, placed_item}
+use Rattle.wild_meaning.specs.Item.{IsLoadedSlot, IsInput, IsReference, IsKept, OfSection, OfFrames, place_at, placed_item}
 use Rattle.wild_meaning.specs.Field.{FieldReads}
 use Rattle.wild_meaning.specs.Formula.{Gives}
 use Rattle.wild_meaning.specs.Template.{reads_without_calls}
-use Rattle.wild_meaning.specs.Reference.{UsesOwnDefinition, UsesOwnSymbolOnly, IsOutsideReferences, ReferenceHolds, ItemHolds}
+use Rattle.wild_meaning.specs.Reference.{UsesOwnDefinition, UsesOwnSymbolOnly, IsOutsideReferences, ReferenceHolds, LinkedHolds, ItemHolds}
 use Rattle.wild_meaning.specs.Segments.{headers_in, DescribeSegments}
 use Rattle.wild_meaning.specs.DynamicSection.{InformsLinker}
-use Rattle.wild_meaning.specs.LinkedImage.{IsSectionWithoutData}
-use Rattle.wild_meaning.specs.Worked.Builders.{reference, file_of, group_of}
-use Rattle.wild_meaning.specs.Worked.Shared.{shared_layout, shared_world, shared_data, shared_item, shared_bytes, shared_code, code_item, shared_reference, answer_of_module, own_symbol, open_symbol, own_thread, other_thread}
-use Rattle.wild_meaning.specs.Worked.SharedImage.{shared_image, shared_rest, shared_memory, shared_header, shared_third}
-use Rattle.wild_meaning.specs.Worked.SharedRefusals.{own_offset, other_offset, SharedImageIsLinked}
+use Rattle.wild_meaning.specs.LinkedImage.{IsSectionWithoutData, DescribesOutput}
+use Rattle.wild_meaning.specs.Worked.Builders.{reference, file_of, group_of, loaded_segment}
+use Rattle.wild_meaning.specs.Worked.Shared.{shared_layout, shared_world, shared_data, shared_item, shared_bytes, shared_code, code_item, shared_reference, shared_near, near_item, near_reference, answer_of_module, own_symbol, open_symbol, own_thread, other_thread}
+use Rattle.wild_meaning.specs.Worked.SharedImage.{shared_image, shared_rest, shared_memory, shared_header, shared_third, shared_front, shared_back}
+use Rattle.wild_meaning.specs.Worked.SharedRefusals.{own_offset, other_offset, ChangedTableIsRefused, SharedImageIsLinked}
+use Rattle.wild_records.specs.ProgramHeader.{program_header_fields}
+use Rattle.wild_meaning.specs.Unfilled.{IsUnfilled}
+use Rattle.wild_meaning.proofs.FileBytes.{HasLoadedBytes, file_byte_held}
 use Rattle.wild_meaning.proofs.SymbolUnique.{only, IsPlainOwn, IsAnsweredAs}
 use Rattle.wild_meaning.proofs.Read.{held_from}
 use Rattle.wild_meaning.proofs.Refused.{not_alone, no_template}
@@ -51,9 +54,10 @@ use Rattle.wild_meaning.proofs.EffectLemmas.{done}
 use Rattle.wild_meaning.proofs.OneReference.{effect_with}
 use Rattle.wild_meaning.proofs.PlacedLemmas.{frame_input}
 use Rattle.wild_meaning.proofs.SharedLegal.{no_library}
-use Rattle.wild_meaning.proofs.SharedRefused.{slot_formula, address_formula, pointer_formula, inner_formula, size_formula, pair_formula, own_pair_formula, thread_slot_formula, descriptor_formula, own_is, thread_is, open_is, other_is, no_code, no_string, no_address, left}
+use Rattle.wild_meaning.proofs.SharedRefused.{slot_formula, address_formula, pointer_formula, inner_formula, size_formula, pair_formula, own_pair_formula, thread_slot_formula, descriptor_formula, own_is, thread_is, open_is, other_is, no_code, no_string, no_address, left, distance_formula, no_near_code, near_uses}
 use Rattle.wild_meaning.proofs.SharedCode.{described, described_template, described_demanded}
 use Rattle.wild_meaning.proofs.SharedLoaded.{shared_loaded, shared_programs, shared_dynamic, shared_entries, shared_read, shared_tags}
+use Rattle.wild_meaning.proofs.TextLemmas.{no_texts}
 
 -- ---- symbols
 
@@ -228,7 +232,7 @@ Both item r = ReferenceHolds shared_layout shared_world shared_memory item r × 
 all_hold : (item : Item) → All (Both item) item.relocations → ((k : ℕ) → k < length item.bytes → IsOutsideReferences shared_layout item k → byte_in shared_memory (shared_world.base + item.address + k) ≡ Some (slice_index item.bytes k)) → ItemHolds shared_layout shared_world shared_memory item
 all_hold item all others = record {
   references = λ r ref present asked alone. (All-contains (Both item) item.relocations r all ref.listed).0;
-  linked = λ r ref present alone base. absurd ((All-contains (Both item) item.relocations r all ref.listed).1 alone);
+  linked = λ r ref present asked alone. absurd ((All-contains (Both item) item.relocations r all ref.listed).1 alone);
   others = others;
 }
 
@@ -454,10 +458,52 @@ code_item_holds : ItemHolds shared_layout shared_world shared_memory code_item
 code_item_holds = all_hold code_item (All-from_recursion (Both code_item) code_item.relocations ((described_holds, described_alone), tt))
     (λ k lt other. described_others k lt (other.templates shared_reference 0 described shared_reference (record { listed = (0, omega arith, refl); refers = λ e. omega arith }) described_template))
 
+-- ---- the distance of the own symbol
+
+near_value : HasOwnValue shared_layout shared_world 1 0x11110
+unfolding has_flag
+near_value = record {
+  raw = 0x1110;
+  given = record { definition = 1; defined = defined 1 open_symbol refl refl; given = inl (record { symbol = open_symbol; listed = refl; resolution = _; decided = refl; value = refl }) };
+  indirect = false;
+  resolved = record { definition = 1; defined = defined 1 open_symbol refl refl; symbol = open_symbol; listed = refl; flagged = refl };
+  still = false;
+  absolute = record { definition = 1; defined = defined 1 open_symbol refl refl; symbol = open_symbol; listed = refl; flagged = refl };
+  is = refl;
+}
+
+near_number : number (0xb0 ∷ 0 ∷ 0 ∷ 0 ∷ 0 ∷ 0 ∷ 0 ∷ 0 ∷ []) ≡ 0xb0
+unfolding number
+near_number = refl
+
+near_field : FieldReads shared_world shared_memory near_item near_reference Full 0xb0
+near_field = record { bytes = 0xb0 ∷ 0 ∷ 0 ∷ 0 ∷ 0 ∷ 0 ∷ 0 ∷ 0 ∷ []; wide = refl; held = held_from shared_memory 0x11060 (0xb0 ∷ 0 ∷ 0 ∷ 0 ∷ 0 ∷ 0 ∷ 0 ∷ 0 ∷ []) refl; reads = near_number; keeps = tt }
+
+near_holds : LinkedHolds shared_layout shared_world shared_memory near_item near_reference
+near_holds = inl (record {
+  formula = formula Distance Full;
+  known = distance_formula;
+  value = 0xb0;
+  gives = (0x11110, record { symbol = 0x11110; denoted = near_value; sum = refl }, refl);
+  field = near_field;
+  kept = λ start o first t. absurd (no_template shared_layout near_item near_reference start o first no_near_code t);
+})
+
+-- it is the one reference there
+near_is : (r : InputRelocation) → IsReference near_item r → near_reference ≡ r
+near_is r ref = only near_reference r ref.listed
+
+near_item_holds : ItemHolds shared_layout shared_world shared_memory near_item
+near_item_holds = record {
+  references = λ r ref present asked alone. absurd (alone (subst (λ (x : InputRelocation). UsesOwnSymbolOnly shared_layout near_item x) (near_is r ref) near_uses));
+  linked = λ r ref present asked alone. subst (λ (x : InputRelocation). LinkedHolds shared_layout shared_world shared_memory near_item x) (near_is r ref) near_holds;
+  others = λ k lt other. absurd (let low : 8 ≤ k = beyond k 0 8 (omega arith) (other.fields 0 near_reference (omega arith) (formula Distance Full) distance_formula) in omega (arith, lt, low));
+}
+
 -- ---- items
 
 abbrev inputs : List InputSection
-inputs = shared_data ∷ shared_code ∷ []
+inputs = shared_data ∷ shared_code ∷ shared_near ∷ []
 
 abbrev shared_file : File
 shared_file = file_of file_role.Object inputs []
@@ -479,10 +525,10 @@ IsLoaded s = s.slot ≡ slot.Loaded
 
 items_hold : (item : Item) → IsKept shared_layout item → ItemHolds shared_layout shared_world shared_memory item
 items_hold item (OfSection s kept is) =
-    let there : SectionHolds s = All-contains SectionHolds inputs s (All-from_recursion SectionHolds inputs (shared_item_holds, (code_item_holds, tt))) (listed_in s kept.input) in
+    let there : SectionHolds s = All-contains SectionHolds inputs s (All-from_recursion SectionHolds inputs (shared_item_holds, (code_item_holds, (near_item_holds, tt)))) (listed_in s kept.input) in
     subst (λ (i : Item). ItemHolds shared_layout shared_world shared_memory i) (sym (is ∙ ap (λ (f : File). placed_item shared_layout f s) (sym (file_is s kept.input)))) there
 items_hold item (OfFrames s kept is) =
-    let there : IsLoaded s = All-contains IsLoaded inputs s (All-from_recursion IsLoaded inputs (refl, (refl, tt))) (listed_in s (frame_input shared_layout s kept)) in
+    let there : IsLoaded s = All-contains IsLoaded inputs s (All-from_recursion IsLoaded inputs (refl, (refl, (refl, tt)))) (listed_in s (frame_input shared_layout s kept)) in
     let both : slot.Loaded ≡ slot.Frame = sym there ∙ kept.frame in
     cc
 
@@ -491,9 +537,15 @@ HasData s = s.nobits ≡ false
 
 no_blank : (s : InputSection) → IsSectionWithoutData shared_layout s → ⊥
 no_blank s h =
-    let has : HasData s = All-contains HasData inputs s (All-from_recursion HasData inputs (refl, (refl, tt))) (listed_in s h.input) in
+    let has : HasData s = All-contains HasData inputs s (All-from_recursion HasData inputs (refl, (refl, (refl, tt)))) (listed_in s h.input) in
     let both : true ≡ false = sym h.blank ∙ has in
     cc
+
+-- ---- bytes of the file
+
+file_bytes : All (HasLoadedBytes shared_memory shared_world.base shared_image) shared_layout.segments
+unfolding file_header_fields program_header_fields word
+file_bytes = All-from_recursion (HasLoadedBytes shared_memory shared_world.base shared_image) shared_layout.segments ((λ k. record { content = shared_front; stands = refl; size = refl; held = refl }), ((λ k. record { content = shared_back ++ replicate 56 0; stands = refl; size = refl; held = refl }), ((λ k. absurd (let no : 2 ≡ 1 = k in omega (arith, no))), tt)))
 
 -- ---- the whole
 
@@ -530,14 +582,8 @@ shared_informs = record {
   };
 }
 
-pub shared_linked : SharedImageIsLinked
-shared_linked = record {
-  memory = shared_memory;
-  accepted = shared_loaded;
-  machine = refl;
-  kept = items_hold;
-  zeros = λ s k h _ _ _. absurd (no_blank s h);
-  copies = λ whole i raw x h. absurd (no_library i h.copied);
+shared_described : DescribesOutput shared_layout shared_image
+shared_described = record {
   header = record {
     header = shared_header;
     fits = record {
@@ -556,3 +602,35 @@ shared_linked = record {
   };
   dynamic = λ whole d. shared_informs;
 }
+
+pub shared_linked : SharedImageIsLinked
+shared_linked = (
+  shared_described,
+  record {
+    memory = shared_memory;
+    accepted = shared_loaded;
+    machine = refl;
+    kept = items_hold;
+    zeros = λ s k h _ _ _. absurd (no_blank s h);
+    copies = λ whole i raw x h. absurd (no_library i h.copied);
+    texts = no_texts shared_layout shared_world shared_memory refl refl;
+    still = λ a b h free. file_byte_held shared_layout shared_memory shared_world.base a b shared_image file_bytes h;
+  },
+)
+
+-- ---- a changed table
+
+-- its sections end before the dynamic section
+abbrev EndsBefore : InputSection → Type 0
+EndsBefore s = s.address + s.size ≤ 0x2068
+
+dynamic_unfilled : IsUnfilled shared_layout shared_world 0x2068
+dynamic_unfilled = record {
+  sections = λ s k. inr (All-contains EndsBefore inputs s (All-from_recursion EndsBefore inputs (omega arith, (omega arith, (omega arith, tt)))) (listed_in s k.input));
+  parts = λ p c role. absurd (omega (arith, c.1));
+  copies = λ i raw x h. absurd (no_library i h.copied);
+}
+
+pub changed_table : ChangedTableIsRefused
+changed_table image b h stands wrong =
+    wrong (h.still 0x2068 b (record { segment = loaded_segment 0x2000 0x110 0x110; listed = (1, omega arith, refl); loaded = refl; from = omega arith; within = omega arith; given = stands }) dynamic_unfilled)

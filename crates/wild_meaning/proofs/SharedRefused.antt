@@ -3,31 +3,32 @@ use Rattle.std.proofs.Common.{◌≡◌, ℕ, ◌+◌, ◌-◌, ◌^◌, ◌<◌
 use Rattle.std.specs.Prelude.{◌≢◌, Some, Ok, Contains, Option, option_and_then}
 use Rattle.std.proofs.lemmas.List.Elements.{All-from_recursion}
 use lib.IntN.{pos}
-use Rattle.wild_records.specs.Abi.Relocation.{r_x86_64_none, r_x86_64_64, r_x86_64_gotpcrel64, r_x86_64_tpoff64, r_x86_64_dtpoff64, r_x86_64_size64, r_x86_64_tlsgd, r_x86_64_tlsld, r_x86_64_gottpoff, r_x86_64_gotpc32_tlsdesc}
+use Rattle.wild_records.specs.Abi.Relocation.{r_x86_64_none, r_x86_64_64, r_x86_64_pc64, r_x86_64_gotpcrel64, r_x86_64_tpoff64, r_x86_64_dtpoff64, r_x86_64_size64, r_x86_64_tlsgd, r_x86_64_tlsld, r_x86_64_gottpoff, r_x86_64_gotpc32_tlsdesc}
 use Rattle.wild_records.specs.Abi.Section.{shf_execinstr}
-use Rattle.wild_reloc.specs.Formula.{Formula, formula, SlotDistance, AddressSlot, ThreadOffset, ModulePair, OwnModulePair, Descriptor, SymbolAddress, PointerOffset, ModuleOffset, Size, Full, Plain, Signed, Value}
+use Rattle.wild_reloc.specs.Formula.{Formula, formula, SlotDistance, AddressSlot, ThreadOffset, ModulePair, OwnModulePair, Descriptor, SymbolAddress, Distance, PointerOffset, ModuleOffset, Size, Full, Plain, Signed, Value}
 use Rattle.wild_reloc.specs.FormulaX86_64.{x86_64_formula}
+use Rattle.wild_types.specs.declared.kind.Machine.TheVariants as machine
 use Rattle.wild_types.specs.declared.input.InputRelocation.{InputRelocation}
 use Rattle.wild_types.specs.declared.symbol.Resolution.{Resolution}
 use Rattle.wild_types.specs.declared.symbol.Symbol.{Symbol}
-use Rattle.wild_types.specs.Flags.{has_flag}
+use Rattle.wild_types.specs.Flags.{has_flag, ifunc, absolute}
 use Rattle.wild_loader.specs.declared.memory.Memory.{Memory}
 use Rattle.wild_loader.specs.declared.world.Answer.{Answer}
 use Rattle.wild_loader.specs.Memory.{byte_in}
 use Rattle.wild_meaning.specs.Section.{IsSet}
 use Rattle.wild_meaning.specs.Item.{IsKept, OfSection}
-use Rattle.wild_meaning.specs.Field.{form_width, InNoField}
-use Rattle.wild_meaning.specs.Reference.{ItemHolds, IsOutsideReferences, UsesOwnDefinition}
+use Rattle.wild_meaning.specs.Field.{form_width, FieldReads, InNoField}
+use Rattle.wild_meaning.specs.Reference.{ItemHolds, IsOutsideReferences, UsesOwnDefinition, UsesOwnSymbolOnly, HoldsLinked, LinkedHolds}
 use Rattle.wild_meaning.specs.Slot.{IsSlot, offset_from_first}
 use Rattle.wild_meaning.specs.Worked.Builders.{reference}
-use Rattle.wild_meaning.specs.Worked.Shared.{shared_layout, shared_data, shared_item, shared_references, shared_world, answer_of_module, own_symbol, open_symbol, own_thread, other_thread}
-use Rattle.wild_meaning.specs.Worked.SharedRefusals.{NamesAnother, NamesElsewhere, WrongSlotsAreRefused, WrongAddressesAreRefused, WrongOffsetsAreRefused, WrongSizeIsRefused, WrongByteIsRefused, Refused, own_offset, other_offset}
+use Rattle.wild_meaning.specs.Worked.Shared.{shared_layout, shared_data, shared_item, shared_near, near_item, near_reference, shared_references, shared_world, answer_of_module, own_symbol, open_symbol, own_thread, other_thread}
+use Rattle.wild_meaning.specs.Worked.SharedRefusals.{NamesAnother, NamesElsewhere, WrongSlotsAreRefused, WrongAddressesAreRefused, WrongOffsetsAreRefused, WrongSizeIsRefused, WrongByteIsRefused, WrongOwnDistanceIsRefused, Refused, own_offset, other_offset}
 use Rattle.wild_meaning.specs.Worked.Refusals.{HasWrongNumber, NamesWrongWord}
-use Rattle.wild_meaning.proofs.SymbolUnique.{told_is, IsPlainOwn, IsAnsweredAs, denoted, other_denoted, own_offset as own_offset_is, other_offset as other_offset_is, other_size, somewhere}
+use Rattle.wild_meaning.proofs.SymbolUnique.{told_is, stub_of, own_value_of, IsPlainOwn, IsAnsweredAs, denoted, other_denoted, own_offset as own_offset_is, other_offset as other_offset_is, other_size, somewhere}
 use Rattle.wild_meaning.proofs.Read.{full_of, signed_of, word_below, same_word}
 use Rattle.wild_meaning.proofs.SlotPlaces.{slot_holds}
-use Rattle.wild_meaning.proofs.Refused.{HasValueThere, value_there, no_template}
-use Rattle.wild_meaning.specs.Formula.{TakesString}
+use Rattle.wild_meaning.proofs.Refused.{HasValueThere, value_there, no_template, not_excepted}
+use Rattle.wild_meaning.specs.Formula.{TakesString, GivesLinked}
 use Rattle.wild_meaning.proofs.StringLemmas.{nothing_named}
 use Rattle.wild_meaning.proofs.SymbolLemmas.{referent_stands}
 
@@ -90,6 +91,14 @@ open_is = record { symbol = open_symbol; resolution = _; index = 1; is = refl; d
 pub other_is : IsAnsweredAs shared_layout shared_world 3 (answer_of_module 0 4 0x20 8)
 unfolding has_flag
 other_is = record { symbol = other_thread; resolution = _; index = 2; is = refl; decided = refl; replaced = refl; moves = refl; told_so = refl; given = refl; unstubbed = refl }
+
+plain_open : has_flag open_symbol.flags ifunc ≡ false
+unfolding has_flag
+plain_open = refl
+
+still_open : has_flag open_symbol.flags absolute ≡ false
+unfolding has_flag
+still_open = refl
 
 -- ---- references
 
@@ -260,6 +269,54 @@ wrong_size image h x =
       | inl e ↦ x.wrong (omega (arith, is, size, e))
       | inr s ↦ absurd (let n : 33 ≡ 32 = s.0.number in omega (arith, n))
     ]
+
+-- ---- a distance of the own symbol
+
+pub distance_formula : x86_64_formula r_x86_64_pc64 ≡ Some (formula Distance Full)
+unfolding x86_64_formula
+distance_formula = refl
+
+pub no_near_code : IsSet 2 shf_execinstr → ⊥
+no_near_code e = omega arith
+
+pub near_kept : IsKept shared_layout near_item
+near_kept = OfSection shared_near (record { input = record { group = _; grouped = (0, omega arith, refl); file = _; filed = (0, omega arith, refl); listed = (2, omega arith, refl) }; loaded = tt; room = refl; has_data = refl; written = λ p at h. (let off : false ≡ true = h.bare in cc) }) refl
+
+-- the reference is one to the output's own symbol
+pub near_uses : UsesOwnSymbolOnly shared_layout near_item near_reference
+unfolding has_flag
+near_uses = record {
+  symbol = 1;
+  named = refl;
+  replaceable = record { definition = 1; defined = record { symbol = open_symbol; listed = refl; defined = inr (refl, refl) }; symbol = open_symbol; listed = refl; told = refl };
+  formula = formula Distance Full;
+  known = distance_formula;
+  takes = inr (tt, (λ f. (let no : Distance ≡ SymbolAddress = f.value in cc)), (λ s. stub_of shared_layout 1 s.stub open_is.symbol open_is.resolution open_is.is open_is.decided open_is.unstubbed s.there));
+  direct = λ b. (let no : machine.X86_64 ≡ machine.AArch64 = b.on in cc);
+}
+
+own_distance : (m : Memory) (v : ℕ) → GivesLinked Distance shared_layout shared_world near_item near_reference v → v ≡ 0xb0
+own_distance m v g =
+    let address : g.1.symbol ≡ 0x11110 = own_value_of shared_layout shared_world 1 0x1110 g.1.symbol open_symbol _ refl refl refl plain_open still_open g.1.denoted in
+    omega (arith, address, g.1.sum, g.2)
+
+pub wrong_near : WrongOwnDistanceIsRefused
+wrong_near image h x = by_case ((h.kept near_item near_kept).linked near_reference (record { listed = (0, omega arith, refl); refers = refers r_x86_64_pc64 (omega arith) }) (λ o. (let off : false ≡ true = o.0 in cc)) (λ e. absurd (not_excepted shared_layout near_item near_reference 1 open_is.symbol refl open_is.is open_is.moves e)) near_uses)
+  where
+    by_formula : HoldsLinked shared_layout shared_world h.memory near_item near_reference → ⊥
+    by_formula l =
+        let both : Some l.formula ≡ Some (formula Distance Full) = sym l.known ∙ distance_formula in
+        let same : l.formula ≡ formula Distance Full = cc in
+        let gives = subst (λ (f : Formula). GivesLinked f.value shared_layout shared_world near_item near_reference l.value) same l.gives in
+        let field = subst (λ (f : Formula). FieldReads shared_world h.memory near_item near_reference f.form l.value) same l.field in
+        let is : l.value ≡ x.number = full_of shared_world h.memory near_item near_reference l.value x.number field x.there in
+        let right : l.value ≡ 0xb0 = own_distance h.memory l.value gives in
+        x.wrong (sym is ∙ right)
+
+    by_case : LinkedHolds shared_layout shared_world h.memory near_item near_reference → ⊥
+    by_case (inl l) = by_formula l
+    by_case (inr (inl d)) = no_near_code d.template.stands.code
+    by_case (inr (inr p)) = no_near_code p.sequence.stands.code
 
 -- a field that ends before a byte
 past : (n offset k width : ℕ) (g : Formula) → x86_64_formula n ≡ Some g → form_width g.form ≡ width → offset + width ≤ k → (f : Formula) → x86_64_formula n ≡ Some f → (k < offset) ⊎ (offset + form_width f.form ≤ k)

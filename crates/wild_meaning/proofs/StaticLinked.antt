@@ -3,7 +3,7 @@ use Rattle.std.proofs.Common.{◌==◌, if◌then◌else◌, Bool, ◌≡◌, �
 use Rattle.std.specs.Prelude.{Some, None, Contains, All, slice_index}
 use Rattle.std.proofs.lemmas.List.Elements.{All-from_recursion, All-contains}
 use lib.IntN.{pos}
-use Rattle.wild_words.specs.Words.{number}
+use Rattle.wild_words.specs.Words.{number, word}
 use Rattle.wild_words.specs.Record.{spell}
 use Rattle.wild_words.proofs.RecordLemmas.{HasBytesAt-left}
 use Rattle.wild_records.specs.Abi.Relocation.{r_x86_64_64, r_x86_64_tpoff64}
@@ -31,11 +31,13 @@ use Rattle.wild_meaning.specs.Item.{IsInput, IsKept, OfSection, OfFrames}
 use Rattle.wild_meaning.specs.Template.{DoesDemanded, reads_without_calls}
 use Rattle.wild_meaning.specs.Reference.{UsesOwnSymbolOnly, IsOutsideReferences, ReferenceHolds, ItemHolds}
 use Rattle.wild_meaning.specs.Segments.{headers_in, DescribeSegments}
-use Rattle.wild_meaning.specs.LinkedImage.{IsSectionWithoutData}
+use Rattle.wild_meaning.specs.LinkedImage.{IsSectionWithoutData, DescribesOutput}
 use Rattle.wild_meaning.specs.Worked.Builders.{reference, file_of, group_of}
 use Rattle.wild_meaning.specs.Worked.Static.{static_pie, static_pie_world, branch_code, branch_item, branch_reference, load_code, load_item, load_reference, general_code, general_item, pair_reference, getter_reference, described_code, described_item, described_reference, static_data, static_item, first_function, second_function, thread_symbol, getter_symbol}
-use Rattle.wild_meaning.specs.Worked.StaticImage.{static_image, static_rest, static_memory, static_header}
+use Rattle.wild_meaning.specs.Worked.StaticImage.{static_image, static_rest, static_memory, static_header, static_content}
 use Rattle.wild_meaning.specs.Worked.StaticRefusals.{StaticImageIsLinked}
+use Rattle.wild_records.specs.ProgramHeader.{program_header_fields}
+use Rattle.wild_meaning.proofs.FileBytes.{HasLoadedBytes, file_byte_held}
 use Rattle.wild_meaning.proofs.SymbolUnique.{only, IsPlainOwn}
 use Rattle.wild_meaning.proofs.Read.{held_from}
 use Rattle.wild_meaning.proofs.Refused.{not_alone, no_template}
@@ -47,6 +49,7 @@ use Rattle.wild_meaning.proofs.StaticRefused.{first_is, second_is, thread_is, ad
 use Rattle.wild_meaning.proofs.CodeRefused.{plt_formula, load_formula, descriptor_formula, call, call_template, call_demanded, load, load_template, load_demanded, described, described_template, described_demanded}
 use Rattle.wild_meaning.proofs.SequenceRefused.{pair_formula, general, general_template, getter_template}
 use Rattle.wild_meaning.proofs.PlacedLemmas.{stood_plain, frame_input}
+use Rattle.wild_meaning.proofs.TextLemmas.{no_texts}
 use Rattle.wild_types.specs.declared.input.Slot.TheVariants as slot
 
 -- ---- symbols
@@ -112,7 +115,7 @@ Both item r = ReferenceHolds static_pie static_pie_world static_memory item r ×
 all_hold : (item : Item) → All (Both item) item.relocations → ((k : ℕ) → k < length item.bytes → IsOutsideReferences static_pie item k → byte_in static_memory (static_pie_world.base + item.address + k) ≡ Some (slice_index item.bytes k)) → ItemHolds static_pie static_pie_world static_memory item
 all_hold item all others = record {
   references = λ r ref present asked alone. (All-contains (Both item) item.relocations r all ref.listed).0;
-  linked = λ r ref present alone base. absurd ((All-contains (Both item) item.relocations r all ref.listed).1 alone);
+  linked = λ r ref present asked alone. absurd ((All-contains (Both item) item.relocations r all ref.listed).1 alone);
   others = others;
 }
 
@@ -344,6 +347,12 @@ static_item_holds : ItemHolds static_pie static_pie_world static_memory static_i
 static_item_holds = all_hold static_item (All-from_recursion (Both static_item) static_item.relocations ((address_holds, own_alone static_item address_reference _ 1 0x1210 address_formula refl second_is), ((offset_holds, own_alone static_item offset_reference _ 2 0x3008 pointer_formula refl thread_is), tt)))
     (λ k lt other. absurd (no_other k lt (other.fields 0 address_reference (omega arith) (formula SymbolAddress Full) address_formula) (other.fields 1 address_reference (omega arith) (formula PointerOffset Full) pointer_formula)))
 
+-- ---- bytes of the file
+
+file_bytes : All (HasLoadedBytes static_memory static_pie_world.base static_image) static_pie.segments
+unfolding file_header_fields program_header_fields word
+file_bytes = All-from_recursion (HasLoadedBytes static_memory static_pie_world.base static_image) static_pie.segments ((λ k. record { content = static_content; stands = refl; size = refl; held = refl }), tt)
+
 -- ---- the whole
 
 abbrev sections : List InputSection
@@ -405,14 +414,8 @@ static_segments = subst (λ (hs : List ProgramHeader). DescribeSegments static_p
   tt,
 )
 
-pub static_linked : StaticImageIsLinked
-static_linked = record {
-  memory = static_memory;
-  accepted = static_loaded;
-  machine = refl;
-  kept = items_hold;
-  zeros = λ s k h _ _ _. absurd (no_blank s h);
-  copies = λ whole i raw x h. absurd (no_library i h.copied);
+static_described : DescribesOutput static_pie static_image
+static_described = record {
   header = record {
     header = static_header;
     fits = record {
@@ -431,3 +434,18 @@ static_linked = record {
   };
   dynamic = λ whole d. absurd d;
 }
+
+pub static_linked : StaticImageIsLinked
+static_linked = (
+  static_described,
+  record {
+    memory = static_memory;
+    accepted = static_loaded;
+    machine = refl;
+    kept = items_hold;
+    zeros = λ s k h _ _ _. absurd (no_blank s h);
+    copies = λ whole i raw x h. absurd (no_library i h.copied);
+    texts = no_texts static_pie static_pie_world static_memory refl refl;
+    still = λ a b h free. file_byte_held static_pie static_memory static_pie_world.base a b static_image file_bytes h;
+  },
+)

@@ -1,6 +1,6 @@
 -- The image of the worked program with merged strings is linked in its world, which is legal.
 use Rattle.std.proofs.Common.{◌≡◌, ℕ, zero, suc, ◌+◌, ◌^◌, ◌<◌, ◌≤◌, ◌⊎◌, inl, inr, true, false, List, [], ◌∷◌, length, refl, sym, ap, ◌∙◌, subst, arith}
-use Rattle.std.specs.Prelude.{Ok, Some, None, Contains, All, slice_index}
+use Rattle.std.specs.Prelude.{Ok, Some, None, Contains, All, slice_get, slice_index}
 use Rattle.std.proofs.lemmas.List.Elements.{All-nil, All-from_recursion, All-contains}
 use Rattle.wild_words.specs.Words.{word, number}
 use Rattle.wild_words.specs.Record.{spell}
@@ -11,6 +11,8 @@ use Rattle.wild_records.specs.FileHeader.{file_header_fields, file_header_at}
 use Rattle.wild_records.specs.ProgramHeader.{program_header_fields, program_header_at}
 use Rattle.wild_records.specs.declared.program_header.ProgramHeader.{ProgramHeader}
 use Rattle.wild_reloc.specs.Formula.{formula, SymbolAddress, Full}
+use Rattle.wild_types.specs.declared.part.Part.{Part}
+use Rattle.wild_types.specs.declared.part.Role.TheVariants as role
 use Rattle.wild_types.specs.declared.section.Segment.{Segment}
 use Rattle.wild_types.specs.declared.file.FileRole.TheVariants as file_role
 use Rattle.wild_types.specs.declared.file.File.{File}
@@ -19,10 +21,11 @@ use Rattle.wild_types.specs.declared.input.InputRelocation.{InputRelocation}
 use Rattle.wild_types.specs.declared.input.InputSection.{InputSection}
 use Rattle.wild_types.specs.declared.input.Slot.TheVariants as slot
 use Rattle.wild_types.specs.declared.layout.Entry.TheVariants as entry
+use Rattle.wild_types.specs.declared.layout.Merged.{Merged}
 use Rattle.wild_types.specs.Flags.{has_flag, ifunc}
 use Rattle.wild_types.specs.Item.{Item}
 use Rattle.wild_loader.specs.declared.world.Answer.{Answer}
-use Rattle.wild_loader.specs.Memory.{byte_in}
+use Rattle.wild_loader.specs.Memory.{byte_in, Holds}
 use Rattle.wild_loader.specs.Headers.{header, program_headers, sections}
 use Rattle.wild_loader.specs.Segments.{load_segment, load_segments, segments}
 use Rattle.wild_loader.specs.Tables.{first_dynamic, section_entries, section_tables, tables}
@@ -35,19 +38,20 @@ use Rattle.wild_meaning.specs.World.{HasResolver, IsAnswer, IsAnswered, IsKnownM
 use Rattle.wild_meaning.specs.Item.{IsLoadedSlot, IsInput, IsKept, OfSection, OfFrames, placed_item}
 use Rattle.wild_meaning.specs.Reference.{UsesOwnSymbolOnly, IsOutsideReferences, ReferenceHolds, ItemHolds}
 use Rattle.wild_meaning.specs.Segments.{headers_in, DescribeSegments}
-use Rattle.wild_meaning.specs.LinkedImage.{IsSectionWithoutData}
+use Rattle.wild_meaning.specs.LinkedImage.{IsSectionWithoutData, string_bytes, DescribesOutput}
 use Rattle.wild_meaning.specs.Worked.Builders.{group_of}
 use Rattle.wild_meaning.specs.Worked.Static.{static_pie_world, second_function}
-use Rattle.wild_meaning.specs.Worked.Strings.{string_section, string_symbol, string_reference, pointer_data, reversed_data, strings_file, strings_layout, pointer_item, reversed_item, strings_memory}
+use Rattle.wild_meaning.specs.Worked.Strings.{string_section, string_symbol, string_reference, pointer_data, reversed_data, strings_file, strings_layout, pointer_item, reversed_item, strings_memory, part_at, merged_texts, path_text, strings_content}
 use Rattle.wild_meaning.specs.Worked.StringImage.{strings_image, strings_rest, strings_header, strings_segment}
 use Rattle.wild_meaning.specs.Worked.StringRefusals.{StringsWorldIsLegal, StringsImageIsLinked}
+use Rattle.wild_meaning.proofs.FileBytes.{HasLoadedBytes, file_byte_held}
 use Rattle.wild_meaning.proofs.SymbolUnique.{only}
 use Rattle.wild_meaning.proofs.Legal.{not_indirect, no_index}
 use Rattle.wild_meaning.proofs.Read.{held_from}
 use Rattle.wild_meaning.proofs.Refused.{not_alone, no_template}
 use Rattle.wild_meaning.proofs.PlacedLemmas.{frame_input}
 use Rattle.wild_meaning.proofs.StaticRefused.{address_formula, no_code}
-use Rattle.wild_meaning.proofs.StringsRefused.{strings_judged, moved_reference, function_is, no_string}
+use Rattle.wild_meaning.proofs.StringsRefused.{strings_judged, moved_reference, function_is, no_string, texts_part, path_part}
 
 -- ---- what a loader makes of it
 
@@ -68,7 +72,7 @@ Both item r = ReferenceHolds strings_layout static_pie_world strings_memory item
 all_hold : (item : Item) → All (Both item) item.relocations → ((k : ℕ) → k < length item.bytes → IsOutsideReferences strings_layout item k → byte_in strings_memory (static_pie_world.base + item.address + k) ≡ Some (slice_index item.bytes k)) → ItemHolds strings_layout static_pie_world strings_memory item
 all_hold item all others = record {
   references = λ r ref present asked alone. (All-contains (Both item) item.relocations r all ref.listed).0;
-  linked = λ r ref present alone base. absurd ((All-contains (Both item) item.relocations r all ref.listed).1 alone);
+  linked = λ r ref present asked alone. absurd ((All-contains (Both item) item.relocations r all ref.listed).1 alone);
   others = others;
 }
 
@@ -189,6 +193,33 @@ no_library i h =
     let role : file_role.Object ≡ file_role.Dynamic = ap (λ (f : File). f.role) file ∙ h.library in
     cc
 
+-- ---- texts
+
+texts_held : Holds strings_memory 0x41120 (string_bytes merged_texts)
+texts_held = held_from strings_memory 0x41120 (string_bytes merged_texts) refl
+
+path_held : Holds strings_memory 0x41129 path_text
+path_held = held_from strings_memory 0x41129 path_text refl
+
+strings_held : (g : Merged) (p : Part) → Contains strings_layout.merged g → slice_get strings_layout.parts g.part ≡ Some p → Holds strings_memory (static_pie_world.base + p.address) (string_bytes g)
+strings_held g p c there =
+    let one = only merged_texts g c in
+    let here : Some texts_part ≡ Some p = subst (λ (x : Merged). slice_get strings_layout.parts x.part ≡ Some p) (sym one) there in
+    let part : texts_part ≡ p = cc in
+    subst (λ (x : Merged). Holds strings_memory (static_pie_world.base + p.address) (string_bytes x)) one (subst (λ (q : Part). Holds strings_memory (static_pie_world.base + q.address) (string_bytes merged_texts)) part texts_held)
+
+path_there : (n : ℕ) (p : Part) → p.role ≡ role.Interp → slice_get strings_layout.parts n ≡ Some p → Holds strings_memory (static_pie_world.base + p.address) path_text
+path_there zero p is there =
+    let part : part_at role.Raw 0x1100 0x20 ≡ p = (let both : Some (part_at role.Raw 0x1100 0x20) ≡ Some p = there in cc) in
+    absurd (let no : role.Raw ≡ role.Interp = ap (λ (q : Part). q.role) part ∙ is in cc)
+path_there (suc zero) p is there =
+    let part : texts_part ≡ p = (let both : Some texts_part ≡ Some p = there in cc) in
+    absurd (let no : role.Raw ≡ role.Interp = ap (λ (q : Part). q.role) part ∙ is in cc)
+path_there (suc (suc zero)) p is there =
+    let part : path_part ≡ p = (let both : Some path_part ≡ Some p = there in cc) in
+    subst (λ (q : Part). Holds strings_memory (static_pie_world.base + q.address) path_text) part path_held
+path_there (suc (suc (suc n))) p is there = absurd (let none : None ≡ Some p = there in cc)
+
 -- ---- the world
 
 module_1 : IsKnownModule static_pie_world 1
@@ -223,6 +254,12 @@ strings_legal = record {
   };
 }
 
+-- ---- bytes of the file
+
+file_bytes : All (HasLoadedBytes strings_memory static_pie_world.base strings_image) strings_layout.segments
+unfolding file_header_fields program_header_fields word
+file_bytes = All-from_recursion (HasLoadedBytes strings_memory static_pie_world.base strings_image) strings_layout.segments ((λ k. record { content = strings_content; stands = refl; size = refl; held = refl }), tt)
+
 -- ---- the whole
 
 strings_segments : DescribeSegments strings_layout strings_layout.segments (headers_in strings_image)
@@ -231,14 +268,8 @@ strings_segments = subst (λ (hs : List ProgramHeader). DescribeSegments strings
   tt,
 )
 
-pub strings_linked : StringsImageIsLinked
-strings_linked = record {
-  memory = strings_memory;
-  accepted = strings_loaded;
-  machine = refl;
-  kept = items_hold;
-  zeros = λ s k h _ _ _. absurd (no_blank s h);
-  copies = λ whole i raw x h. absurd (no_library i h.copied);
+strings_described : DescribesOutput strings_layout strings_image
+strings_described = record {
   header = record {
     header = strings_header;
     fits = record {
@@ -257,3 +288,18 @@ strings_linked = record {
   };
   dynamic = λ whole d. absurd d;
 }
+
+pub strings_linked : StringsImageIsLinked
+strings_linked = (
+  strings_described,
+  record {
+    memory = strings_memory;
+    accepted = strings_loaded;
+    machine = refl;
+    kept = items_hold;
+    zeros = λ s k h _ _ _. absurd (no_blank s h);
+    copies = λ whole i raw x h. absurd (no_library i h.copied);
+    texts = record { strings = λ g p c there room written. strings_held g p c there; interpreter = λ n p is there room written. path_there n p is there };
+    still = λ a b h free. file_byte_held strings_layout strings_memory static_pie_world.base a b strings_image file_bytes h;
+  },
+)

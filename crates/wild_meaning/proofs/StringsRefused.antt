@@ -6,6 +6,8 @@ use lib.IntN.{pos}
 use Rattle.wild_words.specs.Words.{number}
 use Rattle.wild_records.specs.Abi.Relocation.{r_x86_64_64}
 use Rattle.wild_reloc.specs.Formula.{Formula, formula, SymbolAddress, Full}
+use Rattle.wild_types.specs.declared.part.Part.{Part}
+use Rattle.wild_types.specs.declared.part.Role.TheVariants as role
 use Rattle.wild_types.specs.declared.symbol.Place.TheVariants as at
 use Rattle.wild_types.specs.declared.symbol.Symbol.{Symbol}
 use Rattle.wild_types.specs.declared.input.InputRelocation.{InputRelocation}
@@ -15,15 +17,16 @@ use Rattle.wild_types.specs.declared.file.File.{File}
 use Rattle.wild_types.specs.Flags.{has_flag}
 use Rattle.wild_types.specs.Lookups as lookups
 use Rattle.wild_loader.specs.Memory.{byte_in}
+use Rattle.wild_meaning.specs.Section.{IsAllocatedPart}
 use Rattle.wild_meaning.specs.Item.{IsKept, OfSection}
 use Rattle.wild_meaning.specs.Strings.{HasStrings, NamesStrings, IsStringAt, byte_of_reference, IsString}
 use Rattle.wild_meaning.specs.Formula.{TakesString, IsReferent}
 use Rattle.wild_meaning.specs.Reference.{ReferenceHolds, IsOutsideReferences}
 use Rattle.wild_meaning.specs.Worked.Builders.{Refuses, reference}
 use Rattle.wild_meaning.specs.Worked.Static.{static_pie_world, second_function}
-use Rattle.wild_meaning.specs.Worked.Strings.{first_string, second_string, string_section, string_symbol, string_reference, pointer_data, reversed_data, strings_file, strings_layout, pointer_item, reversed_item, strings_memory}
+use Rattle.wild_meaning.specs.Worked.Strings.{first_string, second_string, string_section, string_symbol, string_reference, pointer_data, reversed_data, strings_file, strings_layout, pointer_item, reversed_item, strings_memory, allocated_section, part_at, merged_texts}
 use Rattle.wild_meaning.specs.Worked.Refusals.{HasWrongNumber, HasWrongByte}
-use Rattle.wild_meaning.specs.Worked.StringRefusals.{StringsAreJudged, ReversedWordsAreJudged}
+use Rattle.wild_meaning.specs.Worked.StringRefusals.{StringsAreJudged, ReversedWordsAreJudged, TextsAreJudged}
 use Rattle.wild_meaning.proofs.SymbolUnique.{IsPlainOwn, denoted}
 use Rattle.wild_meaning.proofs.Read.{full_of, held_from}
 use Rattle.wild_meaning.proofs.Refused.{value_there, no_template}
@@ -92,7 +95,7 @@ second_is s h = by s h.ahead h.behind h.parts h.last
     by s (a ∷ []) behind e last = (let rest : second_string ∷ [] ≡ s ∷ behind = cc in let same : second_string ≡ s = cc in sym same)
     by s (a ∷ (b ∷ rest)) behind e last = (let tail : [] ≡ rest ++ (s ∷ behind) = cc in absurd (none rest s behind tail))
 
-string_there : (a : ℕ) → IsString strings_layout static_pie_world string_reference a → (a + 7) % 2 ^ 64 ≡ 0x4120a
+string_there : (a : ℕ) → IsString strings_layout static_pie_world string_reference a → (a + 7) % 2 ^ 64 ≡ 0x41122
 string_there a h =
     let zero_is : h.symbol ≡ 0 = (let both : Some h.symbol ≡ Some 0 = sym h.named in cc) in
     let is = strings_of h.symbol h.strings zero_is h.has in
@@ -106,18 +109,18 @@ string_there a h =
 pointer_kept : IsKept strings_layout pointer_item
 pointer_kept = OfSection pointer_data (record { input = record { group = _; grouped = (0, omega arith, refl); file = strings_file; filed = (0, omega arith, refl); listed = (0, omega arith, refl) }; loaded = tt; room = refl; has_data = refl; written = λ p at h. (let off : false ≡ true = h.bare in cc) }) refl
 
-wrong_string : Refuses strings_layout static_pie_world (HasWrongNumber 0x41100 8 0x4120a)
+wrong_string : Refuses strings_layout static_pie_world (HasWrongNumber 0x41100 8 0x41122)
 unfolding has_flag
 wrong_string image h x =
     let v = value_there strings_layout static_pie_world h.memory pointer_item string_reference (formula SymbolAddress Full) 0 string_symbol (λ e. (let off : false ≡ true = e in cc)) (h.kept pointer_item pointer_kept) no_code (0, omega arith, refl) (refers 1 (omega arith)) address_formula refl refl refl (λ e. absurd (let both : true ≡ false = sym e in cc)) in
     let is : v.value ≡ x.number = full_of static_pie_world h.memory pointer_item string_reference v.value x.number v.field x.there in
     by v.value x.number v.gives.symbol is v.gives.sum v.gives.denoted x.wrong
   where
-    by : (value there a : ℕ) → value ≡ there → value ≡ (a + 7) % 2 ^ 64 → IsReferent strings_layout.machine SymbolAddress strings_layout static_pie_world h.memory pointer_item string_reference a → (there ≡ 0x4120a → ⊥) → ⊥
+    by : (value there a : ℕ) → value ≡ there → value ≡ (a + 7) % 2 ^ 64 → IsReferent strings_layout.machine SymbolAddress strings_layout static_pie_world h.memory pointer_item string_reference a → (there ≡ 0x41122 → ⊥) → ⊥
     by value there a is sum (inl s) wrong = wrong (sym is ∙ sum ∙ string_there a s.1)
     by value there a is sum (inr p) wrong = p.0 (tt, names)
 
-pointer_number : number (0x0a ∷ 0x12 ∷ 0x04 ∷ 0 ∷ 0 ∷ 0 ∷ 0 ∷ 0 ∷ []) ≡ 0x4120a
+pointer_number : number (0x22 ∷ 0x11 ∷ 0x04 ∷ 0 ∷ 0 ∷ 0 ∷ 0 ∷ 0 ∷ []) ≡ 0x41122
 unfolding number
 pointer_number = refl
 
@@ -126,9 +129,9 @@ unfolding has_strings
 string_found = inl (record {
   formula = formula SymbolAddress Full;
   known = address_formula;
-  value = 0x4120a;
+  value = 0x41122;
   gives = record {
-    symbol = 0x41203;
+    symbol = 0x4111b;
     denoted = inl (
       (tt, names),
       record {
@@ -144,7 +147,7 @@ string_found = inl (record {
     );
     sum = refl;
   };
-  field = record { bytes = 0x0a ∷ 0x12 ∷ 0x04 ∷ 0 ∷ 0 ∷ 0 ∷ 0 ∷ 0 ∷ []; wide = refl; held = held_from strings_memory 0x41100 (0x0a ∷ 0x12 ∷ 0x04 ∷ 0 ∷ 0 ∷ 0 ∷ 0 ∷ 0 ∷ []) refl; reads = pointer_number; keeps = tt };
+  field = record { bytes = 0x22 ∷ 0x11 ∷ 0x04 ∷ 0 ∷ 0 ∷ 0 ∷ 0 ∷ 0 ∷ []; wide = refl; held = held_from strings_memory 0x41100 (0x22 ∷ 0x11 ∷ 0x04 ∷ 0 ∷ 0 ∷ 0 ∷ 0 ∷ 0 ∷ []) refl; reads = pointer_number; keeps = tt };
   kept = λ start o first t. absurd (no_template strings_layout pointer_item string_reference start o first no_code t);
   does = λ start o first t. absurd (no_template strings_layout pointer_item string_reference start o first no_code t);
 })
@@ -195,3 +198,34 @@ wrong_byte image h x =
 
 pub reversed_judged : ReversedWordsAreJudged
 reversed_judged = record { address = wrong_address; other = wrong_byte }
+
+-- ---- texts
+
+abbrev pub texts_part : Part
+texts_part = part_at role.Raw 0x1120 9
+
+abbrev pub path_part : Part
+path_part = part_at role.Interp 0x1129 3
+
+texts_room : IsAllocatedPart strings_layout 1
+texts_room = record { part = texts_part; listed = refl; named = λ e. (let no : 1 ≡ 0 = e in omega (arith, no)); section = allocated_section; found = refl; room = refl }
+
+path_room : IsAllocatedPart strings_layout 2
+path_room = record { part = path_part; listed = refl; named = λ e. (let no : 1 ≡ 0 = e in omega (arith, no)); section = allocated_section; found = refl; room = refl }
+
+wrong_text : Refuses strings_layout static_pie_world (HasWrongByte 0x41125 0x6e)
+wrong_text image h x =
+    let there : byte_in h.memory 0x41125 ≡ Some 0x6e = h.texts.strings merged_texts texts_part (0, omega arith, refl) refl texts_room (λ o. (let off : false ≡ true = o.bare in cc)) 5 (omega arith) in
+    let both : Some x.byte ≡ Some 0x6e = sym x.there ∙ there in
+    let same : x.byte ≡ 0x6e = cc in
+    x.wrong same
+
+wrong_path : Refuses strings_layout static_pie_world (HasWrongByte 0x4112a 0x6c)
+wrong_path image h x =
+    let there : byte_in h.memory 0x4112a ≡ Some 0x6c = h.texts.interpreter 2 path_part refl refl path_room (λ o. (let off : false ≡ true = o.bare in cc)) 1 (omega arith) in
+    let both : Some x.byte ≡ Some 0x6c = sym x.there ∙ there in
+    let same : x.byte ≡ 0x6c = cc in
+    x.wrong same
+
+pub texts_judged : TextsAreJudged
+texts_judged = record { string = wrong_text; path = wrong_path }

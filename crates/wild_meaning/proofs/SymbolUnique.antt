@@ -129,13 +129,16 @@ stub_of l i p t r e d none h =
     let numbers : None ≡ Some p = sym none ∙ number in
     cc
 
-pub own_value : (l : Layout) (w : World) (i raw a : ℕ) → IsPlainOwn l i raw → HasOwnValue l w i a → a ≡ (w.base + raw) % 2 ^ 64
-own_value l w i raw a p h = by l w i raw a p h.raw h.indirect h.still (raw_of l i h.raw p.symbol p.resolution p.is p.decided h.given) (sym (flag_of l i ifunc h.indirect p.symbol p.is h.resolved) ∙ p.plain) (sym (flag_of l i absolute h.still p.symbol p.is h.absolute) ∙ p.moves) h.is
+pub own_value_of : (l : Layout) (w : World) (i raw a : ℕ) (t : Symbol) (r : Resolution) → told l i ≡ Some t → t.resolution ≡ Some r → r.raw_value ≡ raw → has_flag t.flags ifunc ≡ false → has_flag t.flags absolute ≡ false → HasOwnValue l w i a → a ≡ (w.base + raw) % 2 ^ 64
+own_value_of l w i raw a t r e d at plain moves h = by w raw a h.raw h.indirect h.still (raw_of l i h.raw t r e d h.given ∙ at) (sym (flag_of l i ifunc h.indirect t e h.resolved) ∙ plain) (sym (flag_of l i absolute h.still t e h.absolute) ∙ moves) h.is
   where
-    by : (l : Layout) (w : World) (i raw a : ℕ) → (p : IsPlainOwn l i raw) → (b : ℕ) (indirect still : Bool) → b ≡ p.resolution.raw_value → indirect ≡ false → still ≡ false → IsValue w indirect still b a → a ≡ (w.base + raw) % 2 ^ 64
-    by l w i raw a p b true still e f g h = absurd (let both : true ≡ false = f in cc)
-    by l w i raw a p b false true e f g h = absurd (let both : true ≡ false = g in cc)
-    by l w i raw a p b false false e f g h = h ∙ ap (λ (k : ℕ). (w.base + k) % 2 ^ 64) (e ∙ p.raw_is)
+    by : (w : World) (raw a b : ℕ) (indirect still : Bool) → b ≡ raw → indirect ≡ false → still ≡ false → IsValue w indirect still b a → a ≡ (w.base + raw) % 2 ^ 64
+    by w raw a b true still e f g h = absurd (let both : true ≡ false = f in cc)
+    by w raw a b false true e f g h = absurd (let both : true ≡ false = g in cc)
+    by w raw a b false false e f g h = h ∙ ap (λ (k : ℕ). (w.base + k) % 2 ^ 64) e
+
+pub own_value : (l : Layout) (w : World) (i raw a : ℕ) → IsPlainOwn l i raw → HasOwnValue l w i a → a ≡ (w.base + raw) % 2 ^ 64
+own_value l w i raw a p h = own_value_of l w i raw a p.symbol p.resolution p.is p.decided p.raw_is p.plain p.moves h
 
 pub value_of : (l : Layout) (w : World) (i raw a : ℕ) → IsPlainOwn l i raw → HasValue l w i a → a ≡ (w.base + raw) % 2 ^ 64
 value_of l w i raw a p (inl h) = absurd (let both : true ≡ false = sym (owner_of l i true p.symbol p.is h.0) ∙ p.own in cc)

@@ -41,11 +41,13 @@ use Rattle.wild_meaning.specs.WordsAArch64.{effect_with as asked_of}
 use Rattle.wild_meaning.specs.Field.{IsInputByte}
 use Rattle.wild_meaning.specs.Reference.{ReadsOwnSlots, UsesOwnSymbolOnly, IsOutsideReferences, ReferenceHolds, ItemHolds}
 use Rattle.wild_meaning.specs.Segments.{headers_in, DescribeSegments}
-use Rattle.wild_meaning.specs.LinkedImage.{IsSectionWithoutData}
+use Rattle.wild_meaning.specs.LinkedImage.{IsSectionWithoutData, DescribesOutput}
 use Rattle.wild_meaning.specs.Worked.Builders.{file_of, group_of}
 use Rattle.wild_meaning.specs.Worked.AArch64.{words_static, words_world, near_function, local_data, address_code, address_item, page_reference, low_reference, slot_code, slot_item, slot_page_reference, slot_low_reference, call_code, call_item, call_reference, past_code, past_item, past_reference, kept_code, kept_item, descriptor_code, descriptor_item, descriptor_page, descriptor_load, descriptor_low, descriptor_call}
-use Rattle.wild_meaning.specs.Worked.AArch64Image.{words_image, words_rest, words_memory, words_header}
+use Rattle.wild_meaning.specs.Worked.AArch64Image.{words_image, words_rest, words_memory, words_header, words_content}
 use Rattle.wild_meaning.specs.Worked.ImageRefusalsAArch64.{WordsImageIsLinked}
+use Rattle.wild_records.specs.ProgramHeader.{program_header_fields}
+use Rattle.wild_meaning.proofs.FileBytes.{HasLoadedBytes, file_byte_held}
 use Rattle.wild_meaning.proofs.SymbolUnique.{only, owner_of, stub_of, IsPlainOwn}
 use Rattle.wild_meaning.proofs.Read.{held_from}
 use Rattle.wild_meaning.proofs.EffectLemmas.{done}
@@ -55,6 +57,7 @@ use Rattle.wild_meaning.proofs.WordsLegal.{no_library}
 use Rattle.wild_meaning.proofs.WordsLoaded.{words_loaded, words_programs}
 use Rattle.wild_meaning.proofs.WordsTemplates.{function_is, data_is, no_string, not_absent, slot_page_formula, slot_low_formula, call_formula, slot_page_word, slot_low_word, call_word, slot_page_alone, slot_low_alone, call_alone, no_byte, slot_page_template, slot_low_template, call_template, past_template, page_template, low_template, descriptor_template, page_formula, low_formula, page_word, no_byte_of_two, kept_template, kept_page_only, kept_low_only}
 use Rattle.wild_meaning.proofs.PlacedLemmas.{stood_plain, frame_input}
+use Rattle.wild_meaning.proofs.TextLemmas.{no_texts}
 use Rattle.wild_types.specs.declared.input.Slot.TheVariants as slot
 
 -- ---- symbols
@@ -109,7 +112,7 @@ Both item r = ReferenceHolds words_static words_world words_memory item r × (Us
 all_hold : (item : Item) → All (Both item) item.relocations → ((k : ℕ) → k < length item.bytes → IsOutsideReferences words_static item k → IsInputByte words_world words_memory item k) → ItemHolds words_static words_world words_memory item
 all_hold item all others = record {
   references = λ r ref present asked alone. (All-contains (Both item) item.relocations r all ref.listed).0;
-  linked = λ r ref present alone base. absurd ((All-contains (Both item) item.relocations r all ref.listed).1 alone);
+  linked = λ r ref present asked alone. absurd ((All-contains (Both item) item.relocations r all ref.listed).1 alone);
   others = others;
 }
 
@@ -512,6 +515,12 @@ kept_item_holds = all_hold kept_item
     (All-from_recursion (Both kept_item) kept_item.relocations ((kept_page_holds, own_alone kept_item page_reference 0 0x11200 refl function_is), ((kept_low_holds, own_alone kept_item low_reference 0 0x11200 refl function_is), tt)))
     (λ k lt other. absurd (within 8 k lt (other.templates page_reference 0 address_pair_words page_reference (record { listed = (0, omega arith, refl); refers = λ e. omega arith }) kept_template)))
 
+-- ---- bytes of the file
+
+file_bytes : All (HasLoadedBytes words_memory words_world.base words_image) words_static.segments
+unfolding file_header_fields program_header_fields word
+file_bytes = All-from_recursion (HasLoadedBytes words_memory words_world.base words_image) words_static.segments ((λ k. record { content = words_content; stands = refl; size = refl; held = refl }), tt)
+
 -- ---- the whole
 
 abbrev sections : List InputSection
@@ -573,14 +582,8 @@ words_segments = subst (λ (hs : List ProgramHeader). DescribeSegments words_sta
   tt,
 )
 
-pub words_linked : WordsImageIsLinked
-words_linked = record {
-  memory = words_memory;
-  accepted = words_loaded;
-  machine = refl;
-  kept = items_hold;
-  zeros = λ s k h _ _ _. absurd (no_blank s h);
-  copies = λ whole i raw x h. absurd (no_library i h.copied);
+words_described : DescribesOutput words_static words_image
+words_described = record {
   header = record {
     header = words_header;
     fits = record {
@@ -599,3 +602,18 @@ words_linked = record {
   };
   dynamic = λ whole d. absurd d;
 }
+
+pub words_linked : WordsImageIsLinked
+words_linked = (
+  words_described,
+  record {
+    memory = words_memory;
+    accepted = words_loaded;
+    machine = refl;
+    kept = items_hold;
+    zeros = λ s k h _ _ _. absurd (no_blank s h);
+    copies = λ whole i raw x h. absurd (no_library i h.copied);
+    texts = no_texts words_static words_world words_memory refl refl;
+    still = λ a b h free. file_byte_held words_static words_memory words_world.base a b words_image file_bytes h;
+  },
+)

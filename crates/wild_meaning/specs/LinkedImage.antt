@@ -3,9 +3,12 @@
 --   HasHeader l image     the file header has the output's type and entry; the segments are the layout's
 --   IsSectionWithoutData l s           the input section is loaded, allocated and has no data
 --   IsNotCopied l w a     the address is in no copied symbol
+--   HoldsTexts l w m      memory has the merged strings, and the path of the interpreter
+--   DescribesOutput l image   the headers are right, and a dynamic linker has its information
 --   IsLinked l w image    in that world the loader accepts the image, and memory is as required
---   IsSound l image       the image is linked in every legal world
-use Rattle.std.specs.Prelude.{◌≡◌, ℕ, ◌+◌, ◌<◌, ◌≤◌, ◌⊎◌, true, false, length, List, None, Some, Ok}
+--   IsSound l image       the image describes its output, and is linked in every legal world
+use Rattle.std.specs.Prelude.{◌≡◌, ℕ, ◌+◌, ◌<◌, ◌≤◌, ◌⊎◌, true, false, length, List, None, Some, Ok, Contains, slice_get}
+use Rattle.std.specs.List.{flat_map}
 use Rattle.wild_words.specs.Words.{HasBytesAt}
 use Rattle.wild_words.specs.Record.{spell}
 use Rattle.wild_records.specs.Abi.Header.{ev_current, et_exec, et_dyn}
@@ -16,9 +19,12 @@ use Rattle.wild_records.specs.SectionHeader.{section_header_size}
 use Rattle.wild_records.specs.declared.file_header.FileHeader.{FileHeader}
 use Rattle.wild_types.specs.declared.kind.Machine.{Machine}
 use Rattle.wild_types.specs.declared.kind.Machine.TheVariants as machine
+use Rattle.wild_types.specs.declared.part.Part.{Part}
+use Rattle.wild_types.specs.declared.part.Role.TheVariants as role
 use Rattle.wild_types.specs.declared.input.InputSection.{InputSection}
 use Rattle.wild_types.specs.declared.layout.Entry.TheVariants as entry
 use Rattle.wild_types.specs.declared.layout.Layout.{Layout}
+use Rattle.wild_types.specs.declared.layout.Merged.{Merged}
 use Rattle.wild_types.specs.Flags.{ifunc}
 use Rattle.wild_loader.specs.declared.world.World.{World}
 use Rattle.wild_loader.specs.declared.world.Answer.{Answer}
@@ -28,13 +34,14 @@ use Rattle.wild_loader.specs.declared.memory.Memory.{Memory}
 use Rattle.wild_loader.specs.Load.{load}
 use Rattle.wild_loader.specs.Memory.{byte_in, Holds}
 use Rattle.wild_meaning.specs.World.{IsFixed, IsMovable, IsLoadable, IsLegal, IsPastFileBytes, HasCopy}
-use Rattle.wild_meaning.specs.Section.{IsSet, IsForDebuggers, HasFileBytes}
+use Rattle.wild_meaning.specs.Section.{IsSet, IsAllocatedPart, IsForDebuggers, IsHeaderOnly, HasFileBytes}
 use Rattle.wild_meaning.specs.Segments.{headers_in, DescribeSegments, HasDynamicLinker}
 use Rattle.wild_meaning.specs.DynamicSection.{InformsLinker}
 use Rattle.wild_meaning.specs.Value.{IsDefinedBy, IsResolved, HasFlag}
 use Rattle.wild_types.specs.Item.{Item}
 use Rattle.wild_meaning.specs.Item.{IsInput, IsLoadedSlot, IsKept}
 use Rattle.wild_meaning.specs.Reference.{ItemHolds}
+use Rattle.wild_meaning.specs.Unfilled.{IsFileByte, IsUnfilled}
 
 -- an address was decided for symbol i's definition, which is not an IFUNC
 pub record HasResolvedAddress (l : Layout) (i a : ℕ) : Type 0 where
@@ -80,17 +87,38 @@ pub record IsSectionWithoutData (l : Layout) (s : InputSection) : Type 0 where
 abbrev pub IsNotCopied : Layout → World → ℕ → Type 0
 IsNotCopied l w a = (i raw : ℕ) (x : Answer) → HasCopy l w i raw x → (a < raw) ⊎ (raw + length x.bytes ≤ a)
 
+-- memory has these bytes at the address of part n, if the part has memory and is written
+abbrev pub HoldsInPart : Layout → World → Memory → ℕ → Part → List ℕ → Type 0
+HoldsInPart l w m n p bytes = slice_get l.parts n ≡ Some p → IsAllocatedPart l n → (IsHeaderOnly l p → ⊥) → Holds m (w.base + p.address) bytes
+
+-- the merged strings of a part, consecutively
+abbrev pub string_bytes : Merged → List ℕ
+string_bytes g = flat_map (λ bs. bs) g.strings
+
+-- memory has merged strings from the start of their part on (gABI, "Section Header": SHF_MERGE), and the path of the interpreter
+-- in its part (gABI, "Program Interpreter")
+pub record HoldsTexts (l : Layout) (w : World) (m : Memory) : Type 0 where
+  pub strings : (g : Merged) (p : Part) → Contains l.merged g → HoldsInPart l w m g.part p (string_bytes g)
+  pub interpreter : (n : ℕ) (p : Part) → p.role ≡ role.Interp → HoldsInPart l w m n p l.interp
+
 -- the machine of the output
 abbrev pub processor_of : Machine → Processor
 processor_of machine.X86_64 = processors.X86_64
 processor_of machine.AArch64 = processors.AArch64
 
+-- The headers describe the layout's output, and a dynamic section has the information that its linker needs. An image only for
+-- debuggers has no such section.
+pub record DescribesOutput (l : Layout) (image : List ℕ) : Type 0 where
+  pub header : HasHeader l image
+  pub dynamic : (IsForDebuggers l → ⊥) → HasDynamicLinker l.kind → InformsLinker (processor_of l.machine) image
+
 -- The loader accepts the image for the layout's machine, and in memory:
 -- - each kept item holds;
 -- - copied symbols have their bytes;
+-- - merged strings and the interpreter's path are there;
+-- - bytes of the file are as in the file, outside kept sections, slots, frames and copies;
 -- - other sections without data are zero, after file bytes or among sections that have some.
--- The headers describe the layout's output, and a dynamic section has the entries that its linker needs.
--- An image only for debuggers has no such section, and no table that a loader applies.
+-- An image only for debuggers has no table that a loader applies.
 pub record IsLinked (l : Layout) (w : World) (image : List ℕ) : Type 0 where
   pub memory : Memory
   pub accepted : load w image ≡ Ok memory
@@ -98,9 +126,9 @@ pub record IsLinked (l : Layout) (w : World) (image : List ℕ) : Type 0 where
   pub kept : (item : Item) → IsKept l item → ItemHolds l w memory item
   pub zeros : (s : InputSection) (k : ℕ) → IsSectionWithoutData l s → k < s.size → IsPastFileBytes l (s.address + k) ⊎ HasFileBytes l s.part → IsNotCopied l w (s.address + k) → byte_in memory (w.base + s.address + k) ≡ Some 0
   pub copies : (IsForDebuggers l → ⊥) → (i raw : ℕ) (x : Answer) → HasCopy l w i raw x → Holds memory (w.base + raw) x.bytes
-  pub header : HasHeader l image
-  pub dynamic : (IsForDebuggers l → ⊥) → HasDynamicLinker l.kind → InformsLinker (processor_of l.machine) image
+  pub texts : HoldsTexts l w memory
+  pub still : (a b : ℕ) → IsFileByte l image a b → IsUnfilled l w a → byte_in memory (w.base + a) ≡ Some b
 
--- in every legal world, if the output can be loaded at all
+-- If the output can be loaded at all, its image describes it, whatever the world, and is linked in every legal world.
 abbrev pub IsSound : Layout → List ℕ → Type 0
-IsSound l image = IsLoadable l.kind → (w : World) → IsLegal l w → IsLinked l w image
+IsSound l image = IsLoadable l.kind → DescribesOutput l image × ((w : World) → IsLegal l w → IsLinked l w image)

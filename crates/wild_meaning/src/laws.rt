@@ -1,19 +1,20 @@
 //! The images that the definitions refuse: worked layouts, legal worlds for them, and images that are not linked there.
-ghost use Rattle.wild_meaning.specs.Worked.CopyRefusals.{CopyingWorldIsLegal, WrongCopyIsRefused, WrongZeroIsRefused, WrongPlaceOfCopyIsRefused, WrongMachineIsRefused, WrongHeadersAreRefused, CopyingImageIsLinked};
+ghost use Rattle.wild_meaning.specs.Worked.CopyRefusals.{CopyingWorldIsLegal, RoomlessWorldIsLegal, WrongCopyIsRefused, WrongZeroIsRefused, WrongPlaceOfCopyIsRefused, WrongMachineIsRefused, WrongHeadersAreRefused, CopyingImageIsLinked};
 ghost use Rattle.wild_meaning.specs.Worked.ImageRefusalsAArch64.{WordsWorldIsLegal, WrongCodeOfWordsIsRefused, WordsImageIsLinked};
 ghost use Rattle.wild_meaning.specs.Worked.RefusalsAArch64.{RightWordsDo, WrongWordsAreRefused, CutBitsAreRefused, SlotAddendsAreRefused, PairsAreExcepted, NegatedMovesAreUnknown, ShiftedAddsAreUnknown, ThunksAreJudged};
 ghost use Rattle.wild_meaning.specs.Worked.ReplaceableSymbols.{DynamicIsReplaceable, ExportedIsReplaceable, AnswersAreTaken};
 ghost use Rattle.wild_meaning.specs.Worked.SegmentRefusals.{WrongSegmentsAreRefused, OtherPlacesAreRefused, WrongSizesAreRefused, NoDynamicIsRefused, WrongEntriesAreRefused};
-ghost use Rattle.wild_meaning.specs.Worked.SharedRefusals.{SharedWorldIsLegal, WrongSlotsAreRefused, WrongAddressesAreRefused, WrongOffsetsAreRefused, WrongModulesAreRefused, WrongDescriptorsAreRefused, WrongSizeIsRefused, WrongByteIsRefused, WrongCodeOfLibraryIsRefused, SharedImageIsLinked};
-ghost use Rattle.wild_meaning.specs.Worked.StringRefusals.{StringsWorldIsLegal, StringsAreJudged, ReversedWordsAreJudged, StringsImageIsLinked};
+ghost use Rattle.wild_meaning.specs.Worked.SharedRefusals.{SharedWorldIsLegal, WrongSlotsAreRefused, WrongAddressesAreRefused, WrongOffsetsAreRefused, WrongModulesAreRefused, WrongDescriptorsAreRefused, WrongSizeIsRefused, WrongByteIsRefused, WrongOwnDistanceIsRefused, ChangedTableIsRefused, WrongCodeOfLibraryIsRefused, SharedImageIsLinked};
+ghost use Rattle.wild_meaning.specs.Worked.StringRefusals.{StringsWorldIsLegal, StringsAreJudged, ReversedWordsAreJudged, TextsAreJudged, StringsImageIsLinked};
 ghost use Rattle.wild_meaning.specs.Worked.StaticRefusals.{StaticPieWorldIsLegal, WrongDataAreRefused, WrongCodeIsRefused, WrongBlankIsRefused, StaticImageIsLinked, PaddedImageIsLinked};
 
 use wild_records::file_header_is_read;
 
-/// Each worked layout has a legal world at a base other than 0.
+/// Each worked layout has a legal world at a base other than 0. So has a layout without room for a copied symbol.
 pub fn worked_worlds_are_legal()
     ensures shared { SharedWorldIsLegal }
     ensures copying { CopyingWorldIsLegal }
+    ensures roomless { RoomlessWorldIsLegal }
     ensures static_pie { StaticPieWorldIsLegal }
 {}
 
@@ -28,6 +29,8 @@ pub fn symbols_are_replaced()
 /// No image of the worked shared object is linked in its world with one fault in memory:
 /// - a slot of an address or an offset, a word with an address, a thread-pointer offset;
 /// - the module of a pair, the offset of a descriptor, a size, a byte in no field;
+/// - a distance that only the library's own symbol can have;
+/// - a byte of the dynamic section that is not as in the file;
 /// - code that receives an offset where it requires a descriptor.
 /// One image is linked there.
 pub fn wrong_shared_objects_are_refused()
@@ -38,6 +41,8 @@ pub fn wrong_shared_objects_are_refused()
     ensures descriptors { WrongDescriptorsAreRefused }
     ensures size { WrongSizeIsRefused }
     ensures byte { WrongByteIsRefused }
+    ensures near { WrongOwnDistanceIsRefused }
+    ensures table { ChangedTableIsRefused }
     ensures code { WrongCodeOfLibraryIsRefused }
     ensures linked { SharedImageIsLinked }
 {}
@@ -75,16 +80,18 @@ pub fn wrong_programs_are_refused()
 }
 
 /// A reference to the middle of a merged string holds if its field is that byte's address. No image is linked if it is another
-/// number; or if two words that must be reversed are in input order.
+/// number; if two words that must be reversed are in input order; or if a byte of a merged string, or of the interpreter's path, is
+/// another one.
 /// The world is legal, and one image is linked there.
 pub fn strings_and_reversed_words_are_judged()
     ensures legal { StringsWorldIsLegal }
     ensures strings { StringsAreJudged }
     ensures reversed { ReversedWordsAreJudged }
+    ensures texts { TextsAreJudged }
     ensures linked { StringsImageIsLinked }
 {}
 
-/// No image is linked if:
+/// No image describes its layout's output, in whatever world, if:
 /// - its segments are not the layout's, or cannot be mapped page by page;
 /// - its file header has another version or other sizes of headers;
 /// - a dynamic linker loads it and it has no dynamic section, or one that allows late binding or has a wrong type, size or number

@@ -1,18 +1,14 @@
 -- What the groups give to the parts of the interpreter's path, of notes and of the search table.
-use Rattle.std.proofs.Common.{◌≡◌, ℕ, ◌≤◌, Bool, true, false, if◌then◌else◌, List, [], ◌++◌, length, refl, sym, ap, ◌∙◌, subst}
-use Rattle.std.specs.Prelude.{Some}
+use Rattle.std.proofs.Common.{◌≡◌, ℕ, Bool, true, false, if◌then◌else◌, List, [], ◌++◌, length, refl, sym, ap, ◌∙◌, subst}
 use Rattle.std.specs.List.{flat_map}
 use Rattle.std.proofs.lemmas.List.{append-nil}
 use Rattle.wild_words.specs.Words.{HasBytesAt}
-use Rattle.wild_words.proofs.ListLemmas.{flat_map-same}
-use Rattle.wild_types.specs.declared.part.Part.{Part}
 use Rattle.wild_types.specs.declared.part.Role.{Role}
 use Rattle.wild_types.specs.declared.part.Role.TheVariants as role
-use Rattle.wild_types.specs.declared.file.File.{File}
 use Rattle.wild_types.specs.declared.file.Group.{Group}
 use Rattle.wild_types.specs.declared.layout.Layout.{Layout}
 use Rattle.wild_types.specs.FileRoles.{is_prelude, is_epilogue}
-use Rattle.wild_types.specs.Parts.{part_with, role_place}
+use Rattle.wild_types.specs.Parts.{role_place}
 use Rattle.wild_frames.specs.Table.{table_of}
 use Rattle.wild_placement.specs.PlacedSections.{placed_files}
 use Rattle.wild_layout.specs.Content.{content, file_content}
@@ -21,29 +17,10 @@ use Rattle.wild_layout.specs.Notes.{build_id_note, property_note}
 use Rattle.wild_layout.specs.SearchTable.{address_of_role, layout_fdes, search_table}
 use Rattle.wild_layout.specs.TablePlaces.{table_bytes}
 use Rattle.wild_layout.specs.Geometry.{IsLaidOut, TablesStand}
-use Rattle.wild_geometry.proofs.PlacedInputs.{laid_same, laid_same_all}
-use Rattle.wild_loaded.proofs.FirstFile.{once, stands_once}
+use Rattle.wild_geometry.proofs.PlacedInputs.{laid_same}
+use Rattle.wild_loaded.proofs.FirstFile.{interpreter_bytes, search_bytes}
 use Rattle.wild_names.specs.NoteLaws.{HoldsJust, NotesAreWritten, SearchTablesAreWritten}
 use Rattle.wild_names.proofs.HashBytes.{GivenByLast, in_groups}
-
--- ---- what the first file gives
-
-only_front : (b : Bool) (xs : List ℕ) → ((if b then xs ++ [] else []) ++ []) ++ [] ≡ (if b then xs else [])
-only_front true xs = append-nil ((xs ++ []) ++ []) ∙ append-nil (xs ++ []) ∙ append-nil xs
-only_front false xs = refl
-
--- the bytes of a table that the first file alone gives
-by_first : (l : Layout) (r : Role) (bs : List ℕ) → IsLaidOut l → ((g : Group) → content l r g ≡ flat_map (file_content l r) (placed_files l g)) → ((f : File) → file_content l r f ≡ once bs f) → table_bytes l r ≡ bs
-by_first l r bs laid group each =
-    flat_map-same (content l r) (λ (g : Group). flat_map (once bs) (placed_files l g)) l.groups (λ g. group g ∙ flat_map-same (file_content l r) (once bs) (placed_files l g) each)
-    ∙ laid_same_all (once bs) l (λ at f. refl)
-    ∙ stands_once bs l.groups laid.some_group laid.files
-
-interpreter_bytes : (l : Layout) → IsLaidOut l → table_bytes l role.Interp ≡ l.interp
-interpreter_bytes l laid = by_first l role.Interp l.interp laid (λ g. append-nil (flat_map (file_content l role.Interp) (placed_files l g))) (λ f. only_front (is_prelude f.role) l.interp)
-
-search_bytes : (l : Layout) → IsLaidOut l → table_bytes l role.EhFrameHdr ≡ search_table l
-search_bytes l laid = by_first l role.EhFrameHdr (search_table l) laid (λ g. append-nil (flat_map (file_content l role.EhFrameHdr) (placed_files l g))) (λ f. only_front (is_prelude f.role) (search_table l))
 
 -- ---- what the last file gives
 

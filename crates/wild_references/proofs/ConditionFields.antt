@@ -34,8 +34,8 @@ use Rattle.wild_layout.proofs.DecisionLemmas.{IsOwn, goes_far}
 use Rattle.wild_layout.proofs.ThunkFieldLemmas.{comes_alone}
 use Rattle.wild_loader.specs.declared.memory.Memory.{Memory}
 use Rattle.wild_loader.specs.declared.world.World.{World}
-use Rattle.wild_meaning.specs.Formula.{GivesLinked, TakesAddress, TakesOffset}
-use Rattle.wild_meaning.specs.Reference.{HasStubAddress, UsesOwnDefinition, BranchesThroughStub, UsesOwnSymbolOnly}
+use Rattle.wild_meaning.specs.Formula.{GivesLinked, IsPlaceRelative, TakesAddress, TakesOffset}
+use Rattle.wild_meaning.specs.Reference.{HasPlace, MustHold, HasStubAddress, UsesOwnDefinition, BranchesThroughStub, UsesOwnSymbolOnly}
 use Rattle.wild_meaning.specs.Value.{HasFlag, IsReplaceable}
 use Rattle.wild_meaning.proofs.BitLemmas.{code_bit, bit_code}
 use Rattle.wild_geometry.proofs.JudgedLemmas.{flag_is}
@@ -100,8 +100,8 @@ value_place l r d goals.Stub t p =
     ∙ sym (ap (λ (o : Option PageMask). value_less l (subtrahend_of kinds.Relative o) t r.addend p) (no_mask d goals.Symbol))
 
 -- what the row writes is what that of the symbol itself would
-as_symbol : (l : Layout) (w : World) (m : Memory) (s : Item) (r : InputRelocation) → (b : BranchReads l w m s r) → is_absent l r.symbol ≡ true → ((i : ℕ) → r.symbol ≡ Some i → HasStubAddress l i → ⊥) → w.base ≡ 0 → HasTerm l w m s r (new_row b.distance goals.Symbol) b.term
-as_symbol l w m s r b none bare zero =
+as_symbol : (l : Layout) (w : World) (m : Memory) (s : Item) (r : InputRelocation) → (b : BranchReads l w m s r) → is_absent l r.symbol ≡ true → ((i : ℕ) → r.symbol ≡ Some i → HasStubAddress l i → ⊥) → HasPlace l r → MustHold l w s r → HasTerm l w m s r (new_row b.distance goals.Symbol) b.term
+as_symbol l w m s r b none bare place asked =
     let t = b.there in
     let g = b.goes in
     record {
@@ -120,17 +120,17 @@ as_symbol l w m s r b none bare zero =
       place = t.place;
       ends = t.ends;
       addend = t.addend;
-      asked = λ relative movable j named absolute. zero;
+      asked = λ relative movable j named absolute. asked (record { movable = movable; symbol = j; named = named; absolute = absolute; relative = inl place });
     }
 
-near_links : (l : Layout) (w : World) (m : Memory) (s : Item) (r : InputRelocation) → LinkedLaws → (b : BranchReads l w m s r) → (a : UsesOwnSymbolOnly l s r) → w.base ≡ 0 → goes_far b.distance ≡ false → is_absent l r.symbol ≡ true → FieldIsLinked l w m s r
-near_links l w m s r laws b a zero near none =
+near_links : (l : Layout) (w : World) (m : Memory) (s : Item) (r : InputRelocation) → LinkedLaws → (b : BranchReads l w m s r) → MustHold l w s r → (a : UsesOwnSymbolOnly l s r) → goes_far b.distance ≡ false → is_absent l r.symbol ≡ true → FieldIsLinked l w m s r
+near_links l w m s r laws b asked a near none =
     let same = comes_alone l s r (new_row b.distance b.goal) b.term b.value (near_alone b.distance b.goal near) b.comes in
     let is : b.formula.value ≡ Distance = b.is ∙ near_value b.distance near in
     let bare : HasStubAddress l a.symbol → ⊥ = by (subst (λ (v : Value). UsesOwnDefinition l s a.symbol (record { value = v; form = b.formula.form })) is (taken l s r b.formula b.known a)) in
     let free : (i : ℕ) → r.symbol ≡ Some i → HasStubAddress l i → ⊥ = λ i named. (let one : a.symbol ≡ i = (let e : Some a.symbol ≡ Some i = sym a.named ∙ named in cc) in subst (λ (k : ℕ). HasStubAddress l k → ⊥) one bare) in
-    let there = subst (λ (n : ℕ). HasTerm l w m s r (new_row b.distance goals.Symbol) n) same (as_symbol l w m s r b none free zero) in
-    let linked = laws.symbol (new_row b.distance goals.Symbol) refl refl l w m s r b.value a.symbol there zero a.named a.replaceable (inl bare) in
+    let there = subst (λ (n : ℕ). HasTerm l w m s r (new_row b.distance goals.Symbol) n) same (as_symbol l w m s r b none free (record { formula = b.formula; known = b.known; relative = subst IsPlaceRelative (sym is) tt }) asked) in
+    let linked = laws.symbol (new_row b.distance goals.Symbol) refl refl l w m s r b.value a.symbol there a.named a.replaceable (inl bare) in
     record {
       formula = b.formula;
       known = b.known;
@@ -144,11 +144,11 @@ near_links l w m s r laws b a zero near none =
     by (inr t) = t.2
 
 -- a branch that takes the output's own symbol goes by no stub
-pub branch_links : (l : Layout) (w : World) (m : Memory) (s : Item) (r : InputRelocation) → LinkedLaws → BranchReads l w m s r → UsesOwnSymbolOnly l s r → w.base ≡ 0 → FieldIsLinked l w m s r
-branch_links l w m s r laws b a zero =
+pub branch_links : (l : Layout) (w : World) (m : Memory) (s : Item) (r : InputRelocation) → LinkedLaws → BranchReads l w m s r → MustHold l w s r → UsesOwnSymbolOnly l s r → FieldIsLinked l w m s r
+branch_links l w m s r laws b asked a =
     elim (cases_Bool (goes_far b.distance)) [
       | inl far ↦ absurd (takes_none l s r b.formula b.known (λ o. subst TakesOffset (b.is ∙ far_value b.distance far) o) (λ t. subst TakesAddress (b.is ∙ far_value b.distance far) t) a)
-      | inr near ↦ near_links l w m s r laws b a zero near (absent near)
+      | inr near ↦ near_links l w m s r laws b asked a near (absent near)
     ]
   where
     i : ℕ

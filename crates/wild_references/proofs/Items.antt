@@ -61,9 +61,9 @@ by_decision k machine l w m s g f r is present asked alone i (DynamicField z num
 by_decision k machine l w m s g f r is present asked alone i (Rewritten row v) has = inr (k.rewritten machine l w m s g i r row v has present asked)
 by_decision k machine l w m s g f r is present asked alone i Partner has = inr (partner_holds l w m s r (k.partners machine l w m s g i r has present))
 
-linked_plain : (k : AreKnown) (machine : Machine) (l : Layout) (w : World) (m : Memory) (s : Item) → IsLoadedItem machine l w m s → FieldsHold l w m s → (r : InputRelocation) → IsReference s r → (IsOmitted l s r → ⊥) → UsesOwnSymbolOnly l s r → w.base ≡ 0 → (i : ℕ) (d : Decision) → HasDecision l s i r d → KeepsInstruction d → LinkedHolds l w m s r
-linked_plain k machine l w m s g f r is present alone zero i d has keeps =
-    let field = f.linked i r (record { decision = d; has = has; keeps = keeps; refers = is.refers }) present alone zero in
+linked_plain : (k : AreKnown) (machine : Machine) (l : Layout) (w : World) (m : Memory) (s : Item) → IsLoadedItem machine l w m s → FieldsHold l w m s → (r : InputRelocation) → IsReference s r → (IsOmitted l s r → ⊥) → MustHold l w s r → UsesOwnSymbolOnly l s r → (i : ℕ) (d : Decision) → HasDecision l s i r d → KeepsInstruction d → LinkedHolds l w m s r
+linked_plain k machine l w m s g f r is present asked alone i d has keeps =
+    let field = f.linked i r (record { decision = d; has = has; keeps = keeps; refers = is.refers }) present asked alone in
     inl (record {
       formula = field.formula;
       known = field.known;
@@ -73,18 +73,18 @@ linked_plain k machine l w m s g f r is present alone zero i d has keeps =
       kept = k.kept machine l w m s g i r d has keeps;
     })
 
-linked_by : (k : AreKnown) (machine : Machine) (l : Layout) (w : World) (m : Memory) (s : Item) → IsLoadedItem machine l w m s → FieldsHold l w m s → (r : InputRelocation) → IsReference s r → (IsOmitted l s r → ⊥) → UsesOwnSymbolOnly l s r → w.base ≡ 0 → (i : ℕ) (d : Decision) → HasDecision l s i r d → LinkedHolds l w m s r
-linked_by k machine l w m s g f r is present alone zero i Nothing has = linked_plain k machine l w m s g f r is present alone zero i Nothing has tt
-linked_by k machine l w m s g f r is present alone zero i (Field z v) has = linked_plain k machine l w m s g f r is present alone zero i (Field z v) has tt
-linked_by k machine l w m s g f r is present alone zero i (RelativeAddress v packed) has = linked_plain k machine l w m s g f r is present alone zero i (RelativeAddress v packed) has tt
-linked_by k machine l w m s g f r is present alone zero i (DynamicField z number symbol addend) has = linked_plain k machine l w m s g f r is present alone zero i (DynamicField z number symbol addend) has tt
-linked_by k machine l w m s g f r is present alone zero i (Rewritten row v) has = absurd (k.followed l s i r row v has alone)
-linked_by k machine l w m s g f r is present alone zero i Partner has = inr (inr (k.partners machine l w m s g i r has present))
+linked_by : (k : AreKnown) (machine : Machine) (l : Layout) (w : World) (m : Memory) (s : Item) → IsLoadedItem machine l w m s → FieldsHold l w m s → (r : InputRelocation) → IsReference s r → (IsOmitted l s r → ⊥) → MustHold l w s r → UsesOwnSymbolOnly l s r → (i : ℕ) (d : Decision) → HasDecision l s i r d → LinkedHolds l w m s r
+linked_by k machine l w m s g f r is present asked alone i Nothing has = linked_plain k machine l w m s g f r is present asked alone i Nothing has tt
+linked_by k machine l w m s g f r is present asked alone i (Field z v) has = linked_plain k machine l w m s g f r is present asked alone i (Field z v) has tt
+linked_by k machine l w m s g f r is present asked alone i (RelativeAddress v packed) has = linked_plain k machine l w m s g f r is present asked alone i (RelativeAddress v packed) has tt
+linked_by k machine l w m s g f r is present asked alone i (DynamicField z number symbol addend) has = linked_plain k machine l w m s g f r is present asked alone i (DynamicField z number symbol addend) has tt
+linked_by k machine l w m s g f r is present asked alone i (Rewritten row v) has = absurd (k.followed l s i r row v has alone)
+linked_by k machine l w m s g f r is present asked alone i Partner has = inr (inr (k.partners machine l w m s g i r has present))
 
 pub items : RewrittenHold → PartnersHold → RewrittenAreFollowed → InstructionsAreKept → KeptInstructionsDo → OthersAreKept → ItemsHold
 items rewritten partners followed kept does others on l w m s g f = record {
   references = λ r is present asked alone. (let at = at_index on l w m s r g is.listed in by_decision k on l w m s g f r is present asked alone at.index at.decision at.has);
-  linked = λ r is present alone zero. (let at = at_index on l w m s r g is.listed in linked_by k on l w m s g f r is present alone zero at.index at.decision at.has);
+  linked = λ r is present asked alone. (let at = at_index on l w m s r g is.listed in linked_by k on l w m s g f r is present asked alone at.index at.decision at.has);
   others = others on l w m s g;
 }
   where

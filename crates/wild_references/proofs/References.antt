@@ -276,7 +276,7 @@ written_holds l w m s i r h present asked alone (inr (inr (inr (inr (inr f))))) 
 pub field_holds : (l : Layout) (w : World) (m : Memory) (s : Item) (i : ℕ) (r : InputRelocation) → IsItemLoaded l w m s → IsKeptReference l s i r → (IsOmitted l s r → ⊥) → MustHold l w s r → (UsesOwnSymbolOnly l s r → ⊥) → FieldHolds l w m s r
 field_holds l w m s i r h k present asked alone = written_holds l w m s i r h present asked alone (relocation_written l s i r k.decision h.tables.agree k.has k.keeps k.refers)
 
--- ---- with the output's own symbol, at base 0
+-- ---- with the output's own symbol
 
 abbrev takes_symbol : Term → Bool
 takes_symbol term.Symbol = true
@@ -321,8 +321,8 @@ no_address term.Table u none = refl
 no_address term.Size u none = refl
 no_address term.Nothing u none = refl
 
-links_by : (l : Layout) (w : World) (m : Memory) (s : Item) (r : InputRelocation) (info : RelocationKindInfo) (x i : ℕ) → LinkedLaws → writes (expression_of info.kind).class ≡ true → HasTerm l w m s r info x → w.base ≡ 0 → r.symbol ≡ Some i → IsReplaceable l i true → (HasStubAddress l i → ⊥) ⊎ TakesOffset (value_by_row info) → TakesOffset (value_by_row info) ⊎ TakesAddress (value_by_row info) → GivesLinked (value_by_row info) l w s r x
-links_by l w m s r info x i laws v h zero named whose alone t = by_term (expression_of info.kind).term refl
+links_by : (l : Layout) (w : World) (m : Memory) (s : Item) (r : InputRelocation) (info : RelocationKindInfo) (x i : ℕ) → LinkedLaws → writes (expression_of info.kind).class ≡ true → HasTerm l w m s r info x → r.symbol ≡ Some i → IsReplaceable l i true → (HasStubAddress l i → ⊥) ⊎ TakesOffset (value_by_row info) → TakesOffset (value_by_row info) ⊎ TakesAddress (value_by_row info) → GivesLinked (value_by_row info) l w s r x
+links_by l w m s r info x i laws v h named whose alone t = by_term (expression_of info.kind).term refl
   where
     -- the value of another term takes neither
     none_of : (u : Term) → takes_symbol u ≡ false → (expression_of info.kind).term ≡ u → ⊥
@@ -332,14 +332,20 @@ links_by l w m s r info x i laws v h zero named whose alone t = by_term (express
         none_taken u less none (subst (λ (q : Value). TakesOffset q ⊎ TakesAddress q) is t)
 
     by_term : (u : Term) → (expression_of info.kind).term ≡ u → GivesLinked (value_by_row info) l w s r x
-    by_term term.Symbol e = laws.symbol info e v l w m s r x i h zero named whose alone
-    by_term term.PointerOffset e = laws.pointer info e v l w m s r x i h zero named whose alone
-    by_term term.ModuleOffset e = laws.own info e v l w m s r x i h zero named whose alone
+    by_term term.Symbol e = laws.symbol info e v l w m s r x i h named whose alone
+    by_term term.PointerOffset e = laws.pointer info e v l w m s r x i h named whose alone
+    by_term term.ModuleOffset e = laws.own info e v l w m s r x i h named whose alone
     by_term term.Stub e = absurd (none_of term.Stub refl e)
     by_term (term.Slot sort) e = absurd (none_of (term.Slot sort) refl e)
     by_term term.Table e = absurd (none_of term.Table refl e)
     by_term term.Size e = absurd (none_of term.Size refl e)
     by_term term.Nothing e = absurd (none_of term.Nothing refl e)
+
+-- the value that the field of an own symbol's reference shows
+record IsSeenLinked (l : Layout) (w : World) (s : Item) (i : ℕ) (r : InputRelocation) (v : IsValue l s i r) : Type 0 where
+  value : ℕ
+  gives : GivesLinked v.fits.formula.value l w s r value
+  seen : SeenAs v.fits.formula.form v.value value
 
 -- what it takes
 alone_by : (l : Layout) (s : Item) (i : ℕ) (f : Formula) (v : Value) → v ≡ f.value → UsesOwnDefinition l s i f → (HasStubAddress l i → ⊥) ⊎ TakesOffset v
@@ -350,8 +356,8 @@ takes_by : (l : Layout) (s : Item) (i : ℕ) (f : Formula) (v : Value) → v ≡
 takes_by l s i f v e (inl offset) = inl (subst TakesOffset (sym e) offset)
 takes_by l s i f v e (inr t) = inr (subst TakesAddress (sym e) t.0)
 
-value_links : (l : Layout) (w : World) (m : Memory) (s : Item) (i : ℕ) (r : InputRelocation) → IsItemLoaded l w m s → (IsOmitted l s r → ⊥) → (a : UsesOwnSymbolOnly l s r) → w.base ≡ 0 → IsValue l s i r → FieldIsLinked l w m s r
-value_links l w m s i r h present a zero v = by_what v.field.comes
+value_links : (l : Layout) (w : World) (m : Memory) (s : Item) (i : ℕ) (r : InputRelocation) → IsItemLoaded l w m s → (IsOmitted l s r → ⊥) → MustHold l w s r → (a : UsesOwnSymbolOnly l s r) → IsValue l s i r → FieldIsLinked l w m s r
+value_links l w m s i r h present asked a v = by_what v.field.comes
   where
     t : UsesOwnDefinition l s a.symbol v.fits.formula
     t = taken l s r v.fits.formula v.fits.known a
@@ -362,18 +368,16 @@ value_links l w m s i r h present a zero v = by_what v.field.comes
     takes : TakesOffset (value_by_row v.field.row) ⊎ TakesAddress (value_by_row v.field.row)
     takes = takes_by l s a.symbol v.fits.formula (value_by_row v.field.row) v.fits.value t
 
-    by_seen : HasTerm l w m s r v.field.row v.value → IsSeen l.machine v.field.row.kind v.fits.formula.form → GivesLinked (value_by_row v.field.row) l w s r v.value
-    by_seen there (inl whole) = links_by l w m s r v.field.row v.value a.symbol h.linked whole there zero a.named a.replaceable alone takes
-    by_seen there (inr p) = h.linked.part v.field.row p.part l w m s r v.value a.symbol there zero a.named a.replaceable alone takes
+    by_seen : HasTerm l w m s r v.field.row v.value → IsSeen l.machine v.field.row.kind v.fits.formula.form → IsSeenLinked l w s i r v
+    by_seen there (inl whole) = record { value = v.value; gives = subst (λ (q : Value). GivesLinked q l w s r v.value) v.fits.value (links_by l w m s r v.field.row v.value a.symbol h.linked whole there a.named a.replaceable alone takes); seen = inl refl }
+    by_seen there (inr p) =
+        let g = h.linked.part v.field.row p.part l w m s r v.value a.symbol p.on there a.named a.replaceable alone takes in
+        record { value = g.0; gives = subst (λ (q : Value). GivesLinked q l w s r g.0) v.fits.value g.1; seen = inr (p.low, g.2) }
 
     by_what : ComesTo l s r v.field.row (value_in l v.field.row v.field.term r.addend (place_of s.address r)) v.value → FieldIsLinked l w m s r
-    by_what (inl same) = record {
-      formula = v.fits.formula;
-      known = v.fits.known;
-      value = v.value;
-      gives = subst (λ (q : Value). GivesLinked q l w s r v.value) v.fits.value (by_seen (term_is l w m s i r v.value h present (λ e. zero) v same) v.fits.seen);
-      field = value_reads l w m s i r v.value h v (inl refl);
-    }
+    by_what (inl same) =
+        let x = by_seen (term_is l w m s i r v.value h present asked v same) v.fits.seen in
+        record { formula = v.fits.formula; known = v.fits.known; value = x.value; gives = x.gives; field = value_reads l w m s i r x.value h v x.seen }
     by_what (inr c) =
         let is = carried_value l s i r v c.thunkable in
         absurd (takes_none l s r v.fits.formula v.fits.known (λ o. (let none : TakesOffset StubDistance = subst TakesOffset is o in none)) (λ a. (let none : TakesAddress StubDistance = subst TakesAddress is a in none)) a)
@@ -383,8 +387,8 @@ bare_by : (l : Layout) (s : Item) (i : ℕ) (f : Formula) → SymbolAddress ≡ 
 bare_by l s i f e (inl offset) = absurd (subst TakesOffset (sym e) offset)
 bare_by l s i f e (inr t) = t.2
 
-address_links : (l : Layout) (w : World) (m : Memory) (s : Item) (i : ℕ) (r : InputRelocation) → IsItemLoaded l w m s → KeepsAll l → (a : UsesOwnSymbolOnly l s r) → w.base ≡ 0 → IsAddress l s i r → FieldIsLinked l w m s r
-address_links l w m s i r h all a zero v =
+address_links : (l : Layout) (w : World) (m : Memory) (s : Item) (i : ℕ) (r : InputRelocation) → IsItemLoaded l w m s → KeepsAll l → (a : UsesOwnSymbolOnly l s r) → IsAddress l s i r → FieldIsLinked l w m s r
+address_links l w m s i r h all a v =
     let known = v.fits.known in
     let value : SymbolAddress ≡ v.fits.formula.value = sym (v.fits.full v.moved.by.kind v.moved.by.width).0 in
     let bare = bare_by l s a.symbol v.fits.formula value (taken l s r v.fits.formula known a) in
@@ -394,17 +398,17 @@ address_links l w m s i r h all a zero v =
       formula = v.fits.formula;
       known = known;
       value = x;
-      gives = subst (λ (q : Value). GivesLinked q l w s r x) value (h.linked.address l w m s r v.value a.symbol v.packed all h.placed listed v.plain.own.made zero a.named a.replaceable bare);
+      gives = subst (λ (q : Value). GivesLinked q l w s r x) value (h.linked.address l w m s r v.value a.symbol v.packed all h.placed listed v.plain.own.made a.named a.replaceable bare);
       field = address_reads l w m s i r h all v;
     }
 
-written_links : (l : Layout) (w : World) (m : Memory) (s : Item) (i : ℕ) (r : InputRelocation) → IsItemLoaded l w m s → (IsOmitted l s r → ⊥) → (a : UsesOwnSymbolOnly l s r) → w.base ≡ 0 → Writes l s i r → FieldIsLinked l w m s r
-written_links l w m s i r h present a zero (inl v) = value_links l w m s i r h present a zero v
-written_links l w m s i r h present a zero (inr (inl v)) = address_links l w m s i r h (address_written l w m s i r h present v) a zero v
-written_links l w m s i r h present a zero (inr (inr (inl f))) = absurd (left_follows l w m s i r h.placed (holds_at (NamesSymbol l) s.relocations i r f.plain.has.listed h.symbols) f f.fits.known a)
-written_links l w m s i r h present a zero (inr (inr (inr (inl c)))) = absurd (takes_none l s r (formula NoValue NoField) c.known (λ o. o) (λ o. o) a)
-written_links l w m s i r h present a zero (inr (inr (inr (inr (inl f))))) = (let held = row_holds l w m s i r h (λ e. zero) f in absurd (takes_none l s r held.holds.formula held.holds.known held.offset held.address a))
-written_links l w m s i r h present a zero (inr (inr (inr (inr (inr f))))) = branch_links l w m s r h.linked (branch_reads l w m s i r h present (λ e. zero) f) a zero
+written_links : (l : Layout) (w : World) (m : Memory) (s : Item) (i : ℕ) (r : InputRelocation) → IsItemLoaded l w m s → (IsOmitted l s r → ⊥) → MustHold l w s r → (a : UsesOwnSymbolOnly l s r) → Writes l s i r → FieldIsLinked l w m s r
+written_links l w m s i r h present asked a (inl v) = value_links l w m s i r h present asked a v
+written_links l w m s i r h present asked a (inr (inl v)) = address_links l w m s i r h (address_written l w m s i r h present v) a v
+written_links l w m s i r h present asked a (inr (inr (inl f))) = absurd (left_follows l w m s i r h.placed (holds_at (NamesSymbol l) s.relocations i r f.plain.has.listed h.symbols) f f.fits.known a)
+written_links l w m s i r h present asked a (inr (inr (inr (inl c)))) = absurd (takes_none l s r (formula NoValue NoField) c.known (λ o. o) (λ o. o) a)
+written_links l w m s i r h present asked a (inr (inr (inr (inr (inl f))))) = (let held = row_holds l w m s i r h asked f in absurd (takes_none l s r held.holds.formula held.holds.known held.offset held.address a))
+written_links l w m s i r h present asked a (inr (inr (inr (inr (inr f))))) = branch_links l w m s r h.linked (branch_reads l w m s i r h present asked f) asked a
 
-pub field_links : (l : Layout) (w : World) (m : Memory) (s : Item) (i : ℕ) (r : InputRelocation) → IsItemLoaded l w m s → IsKeptReference l s i r → (IsOmitted l s r → ⊥) → UsesOwnSymbolOnly l s r → w.base ≡ 0 → FieldIsLinked l w m s r
-field_links l w m s i r h k present a zero = written_links l w m s i r h present a zero (relocation_written l s i r k.decision h.tables.agree k.has k.keeps k.refers)
+pub field_links : (l : Layout) (w : World) (m : Memory) (s : Item) (i : ℕ) (r : InputRelocation) → IsItemLoaded l w m s → IsKeptReference l s i r → (IsOmitted l s r → ⊥) → MustHold l w s r → UsesOwnSymbolOnly l s r → FieldIsLinked l w m s r
+field_links l w m s i r h k present asked a = written_links l w m s i r h present asked a (relocation_written l s i r k.decision h.tables.agree k.has k.keeps k.refers)

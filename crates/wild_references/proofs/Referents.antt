@@ -190,6 +190,8 @@ pub record Refers (v : Value) (l : Layout) (w : World) (m : Memory) (s : Item) (
 pub record OwnRefers (v : Value) (l : Layout) (w : World) (s : Item) (r : InputRelocation) (a : ℕ) : Type 0 where
   pub still : Bool
   pub referent : IsOwnReferent l.machine v l w s r (with_base still w.base a)
+  pub flag : (IsPlaceRelative v → ⊥) → (i : ℕ) → r.symbol ≡ Some i → has_flag (flags_at l i) absolute ≡ still
+  pub absolute : (i : ℕ) → r.symbol ≡ Some i → still ≡ true → IsAbsolute l i
 
 -- an expression of a symbol that takes a place: what it is less
 relative_by : (less : Subtrahend) (z : RelocationSize) → is_place less ≡ true → IsPlaceRelative (sized z (expressed term.Symbol less))
@@ -310,11 +312,22 @@ own_refers l w m s r info x i h symbol named whose alone = by_own (is_own_place 
         let relative = subst IsPlaceRelative (sym (symbol_value info symbol)) (relative_by (subtrahend_of info.kind info.mask) info.size o.place) in
         let term : undefined_weak_target r.number (place_of s.address r) ≡ h.term = cc in
         let at = own_at w s r h.place ∙ ap (λ (n : ℕ). (w.base + n) % 2 ^ 64) term in
-        record { still = false; referent = subst (λ (n : ℕ). IsOwnReferent l.machine v l w s r n) at (own_place_referent v l w s r n.0 o.on n.1 (relative, a)) }
+        record {
+          still = false;
+          referent = subst (λ (n : ℕ). IsOwnReferent l.machine v l w s r n) at (own_place_referent v l w s r n.0 o.on n.1 (relative, a));
+          flag = λ none j e. absurd (none relative);
+          absolute = λ j e t. cc;
+        }
     by_own false e g =
         let given : address_of l (Some i) ≡ Ok h.term = subst (λ (o : Option ℕ). address_of l o ≡ Ok h.term) named (sym (plain_address l r (replaceable_none l r i h.placed.symbols.named named whose)) ∙ (sym (symbol_term l r info symbol) ∙ g)) in
         let t = linked l w m i h.term h.placed alone given in
-        record { still = t.still; referent = own_symbol_referent v l w s r i (with_base t.still w.base h.term) named (no_own_place l w m s r info x i h symbol named e) t.value }
+        let one : (j : ℕ) → r.symbol ≡ Some j → i ≡ j = λ j e. (let both : Some i ≡ Some j = sym named ∙ e in cc) in
+        record {
+          still = t.still;
+          referent = own_symbol_referent v l w s r i (with_base t.still w.base h.term) named (no_own_place l w m s r info x i h symbol named e) t.value;
+          flag = λ none j e. subst (λ (k : ℕ). has_flag (flags_at l k) absolute ≡ t.still) (one j e) t.flag;
+          absolute = λ j e still. subst (λ (k : ℕ). IsAbsolute l k) (one j e) (t.absolute still);
+        }
 
 -- of an expression that is S + A itself no place is taken
 pub address_referent : (l : Layout) (w : World) (m : Memory) (s : Item) (r : InputRelocation) (a : ℕ) → (NamesStrings l r → ⊥) → IsTarget l w m r.symbol a → IsReferent l.machine SymbolAddress l w m s r a

@@ -35,7 +35,7 @@ use Rattle.wild_meaning.specs.Formula.{page_of, IsReferent, IsPlaceRelative, Has
 use Rattle.wild_meaning.specs.Slot.{IsSlot}
 use Rattle.wild_meaning.specs.Reference.{HasStubAddress}
 use Rattle.wild_references.specs.Terms.{IsPlaced, is_expressed, value_by_row, IsDirect, HasTerm, IsFollowed}
-use Rattle.wild_references.specs.Laws.{RowGives, RowGivesLinked, TermGives, TermGivesLinked, StubsRepresentSymbols, SlotsGive, GivesPart, PartsGive, PartsGiveLinked}
+use Rattle.wild_references.specs.Laws.{RowGives, RowGivesLinked, TermGives, TermGivesLinked, StubsRepresentSymbols, SlotsGive, GivesPart, GivesLinkedPart, PartsGive, PartsGiveLinked}
 use Rattle.wild_references.proofs.AddressSlots.{slots_are_placed}
 use Rattle.wild_references.proofs.DescriptorSlots.{descriptors_stand}
 use Rattle.wild_references.proofs.Referents.{no_mask, with_mask, of_table, sized_is, absent, present, own_parts, not_own, named_absent, own_at, own_referent, referent}
@@ -46,7 +46,7 @@ use Rattle.wild_references.proofs.SymbolStubs.{goal_given, goal_stands}
 use Rattle.wild_references.proofs.ThreadKinds.{gives_pointer, links_pointer, gives_offset, links_offset}
 use Rattle.wild_references.proofs.ThreadPlaces.{offsets_stand, pairs_stand, own_pair_stands}
 use Rattle.wild_references.proofs.MovingSymbols.{symbol_named}
-use Rattle.wild_references.proofs.ValueKinds.{more, value_is, taken_is, plain_term, gives_sum, gives_part, gives_distance, gives_from_table, links_address, links_distance, links_from_table, gives_table, gives_size}
+use Rattle.wild_references.proofs.ValueKinds.{more, value_is, taken_is, plain_term, gives_sum, gives_part, gives_distance, gives_from_table, links_sum, links_part, links_distance, links_from_table, gives_table, gives_size}
 use Rattle.wild_meaning.specs.Value.{IsReplaceable}
 
 -- ---- S
@@ -70,7 +70,7 @@ pub symbols_link : TermGivesLinked term.Symbol
 symbols_link = λ info e v. by_kind info e (symbol_kind info.kind e v)
   where
     by_kind : (info : RelocationKindInfo) → (expression_of info.kind).term ≡ term.Symbol → (info.kind ≡ kinds.Absolute) ⊎ ((info.kind ≡ kinds.Relative) ⊎ (info.kind ≡ kinds.SymRelGotBase)) → RowGivesLinked info
-    by_kind info e (inl k) = links_address info e (ap (λ (j : RelocationKind). (expression_of j).taken) k)
+    by_kind info e (inl k) = links_sum info k
     by_kind info e (inr (inl k)) = links_distance info k
     by_kind info e (inr (inr k)) = links_from_table info k
 
@@ -350,11 +350,11 @@ no_slot sort info e f mask takes = neither (subst (λ (v : Value). TakesOffset v
     neither (inr a) = a
 
 pub parts_link : PartsGiveLinked
-parts_link = λ info c l w m s r x i h zero named whose alone takes. by_term info (part_kind info.kind c).0 (part_kind info.kind c).1 l w m s r x i h zero named whose alone takes
+parts_link = λ info c l w m s r x i on h named whose alone takes. by_term info (part_kind info.kind c).0 (part_kind info.kind c).1 l w m s r x i on h named whose alone takes
   where
-    by_term : (info : RelocationKindInfo) → (expression_of info.kind).taken ≡ taken.Nothing → ((expression_of info.kind).term ≡ term.Symbol) ⊎ ((sort : SlotSort) × ((expression_of info.kind).term ≡ term.Slot sort)) → (l : Layout) (w : World) (m : Memory) (s : Item) (r : InputRelocation) (x i : ℕ) → HasTerm l w m s r info x → w.base ≡ 0 → r.symbol ≡ Some i → IsReplaceable l i true → (HasStubAddress l i → ⊥) ⊎ TakesOffset (value_by_row info) → TakesOffset (value_by_row info) ⊎ TakesAddress (value_by_row info) → GivesLinked (value_by_row info) l w s r x
-    by_term info nothing (inl symbol) l w m s r x i h zero named whose alone takes = links_address info symbol nothing l w m s r x i h zero named whose alone
-    by_term info nothing (inr slot) l w m s r x i h zero named whose alone takes =
+    by_term : (info : RelocationKindInfo) → (expression_of info.kind).taken ≡ taken.Nothing → ((expression_of info.kind).term ≡ term.Symbol) ⊎ ((sort : SlotSort) × ((expression_of info.kind).term ≡ term.Slot sort)) → (l : Layout) (w : World) (m : Memory) (s : Item) (r : InputRelocation) (x i : ℕ) → l.machine ≡ machine.AArch64 → HasTerm l w m s r info x → r.symbol ≡ Some i → IsReplaceable l i true → (HasStubAddress l i → ⊥) ⊎ TakesOffset (value_by_row info) → TakesOffset (value_by_row info) ⊎ TakesAddress (value_by_row info) → GivesLinkedPart (value_by_row info) l w s r x
+    by_term info nothing (inl symbol) l w m s r x i on h named whose alone takes = links_part info symbol nothing l w m s r x i (paged_on l w h.placed.paged on).pages h named whose alone
+    by_term info nothing (inr slot) l w m s r x i on h named whose alone takes =
         let fit = subst (λ (t : Term). is_expressed l.machine t taken.Nothing info.mask ≡ true) slot.1 (subst (λ (u : Subtrahend). is_expressed l.machine (expression_of info.kind).term u info.mask ≡ true) nothing h.expressed) in
         absurd (no_slot slot.0 info slot.1 nothing (no_mask l.machine (term.Slot slot.0) taken.Nothing info.mask fit refl) takes)
 

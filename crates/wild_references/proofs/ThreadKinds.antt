@@ -141,7 +141,7 @@ gives_pointer info kind = λ l w m s r x h f.
     subst (λ (v : Value). Gives v l w m s r x) (sym a.value) (p.offset, followed_offset l w r PointerOffset x tt (subst (λ (v : Value). IsFollowed l r v) a.value f) p, p.sum)
 
 pub links_pointer : (info : RelocationKindInfo) → info.kind ≡ kinds.TpOff → RowGivesLinked info
-links_pointer info kind = λ l w m s r x i h zero named whose alone.
+links_pointer info kind = λ l w m s r x i h named whose alone.
     let a = offset_row PointerOffset kinds.TpOff l w m s r info x h kind refl refl (λ z. sized_is z PointerOffset refl) in
     let p = pointer_given l w m s r info x h kind a.sum in
     subst (λ (v : Value). GivesLinked v l w s r x) (sym a.value) (p.offset, own_offset_from l w r x p, p.sum)
@@ -228,7 +228,7 @@ gives_offset info kind = λ l w m s r x h f.
     subst (λ (v : Value). Gives v l w m s r x) (sym a.value) (p.offset, p.begin, subst (λ (o : Option ℕ). IsOffset l w o p.offset) (sym p.named) (inr (own, p.is)), p.counted, p.sum)
 
 pub links_offset : (info : RelocationKindInfo) → info.kind ≡ kinds.DtpOff → RowGivesLinked info
-links_offset info kind = λ l w m s r x i h zero named whose alone.
+links_offset info kind = λ l w m s r x i h named whose alone.
     let a = offset_row ModuleOffset kinds.DtpOff l w m s r info x h kind refl refl (λ z. sized_is z ModuleOffset refl) in
     let p = module_given l w m s r info x h kind a.sum in
     subst (λ (v : Value). GivesLinked v l w s r x) (sym a.value) (p.offset, p.begin, subst (λ (o : Option ℕ). IsOwnOffset l w o p.offset) (sym p.named) p.is, p.counted, p.sum)

@@ -10,7 +10,7 @@ use Rattle.wild_types.specs.declared.layout.Layout.{Layout}
 use Rattle.wild_slot.specs.declared.treatment.Treatment.TheVariants as treatments
 use Rattle.wild_types.specs.declared.symbol.Symbol.{Symbol}
 use Rattle.wild_types.specs.declared.symbol.ValueFlags.{ValueFlags}
-use Rattle.wild_types.specs.Flags.{has_flag, interposable, dynamic, non_interposable, copy_relocation, export_dynamic}
+use Rattle.wild_types.specs.Flags.{has_flag, absolute, interposable, dynamic, non_interposable, copy_relocation, export_dynamic}
 use Rattle.wild_types.specs.Kinds.{is_position_independent, is_shared_object}
 use Rattle.wild_types.specs.Lookups.{place_of, allocated}
 use Rattle.wild_slot.specs.Treatment.{flags_at, is_sized, if_defined, address_treatment, size_treatment, kind_treatment}
@@ -33,7 +33,7 @@ use Rattle.wild_layout.specs.SymbolValues.{symbol_size}
 use Rattle.wild_layout.specs.Values.{term_of, term_at, value_less, is_symbol, is_own_place, undefined_weak_target, term_by, term_value}
 use Rattle.wild_loader.specs.declared.world.World.{World}
 use Rattle.wild_loader.specs.declared.memory.Memory.{Memory}
-use Rattle.wild_meaning.specs.Value.{IsSymbol, IsReplaceable, HasOwnSize, with_base}
+use Rattle.wild_meaning.specs.Value.{IsSymbol, IsAbsolute, IsReplaceable, HasOwnSize, with_base}
 use Rattle.wild_types.specs.Item.{Item}
 use Rattle.wild_meaning.specs.Formula.{page_of, IsSum, IsExtent, Gives, IsOwnSum, GivesLinked, IsPlaceRelative, TakesAddress, TakesOffset, table_at}
 use Rattle.wild_meaning.specs.Reference.{HasStubAddress}
@@ -45,7 +45,7 @@ use Rattle.wild_references.proofs.MovingSymbols.{symbol_named, address_still, di
 use Rattle.wild_references.proofs.StubCode.{StubLaws, paged_on}
 use Rattle.wild_references.proofs.Referents.{no_mask, with_mask, sized_is, own_parts, Refers, OwnRefers, symbol_value, refers, own_refers}
 use Rattle.wild_references.specs.Terms.{IsPlaced, is_expressed, value_by_row, HasTerm, IsFollowed}
-use Rattle.wild_references.specs.Laws.{RowGives, RowGivesLinked, GivesPart}
+use Rattle.wild_references.specs.Laws.{RowGives, RowGivesLinked, GivesPart, GivesLinkedPart}
 
 -- A as it is added
 abbrev pub more : InputRelocation → ℕ
@@ -79,13 +79,13 @@ plain_term l w m s r info x h none = plain_given l r info (place_of s.address r)
 -- ---- S + A
 
 -- a value that does not move is right
-right_sum : (l : Layout) (w : World) (m : Memory) (s : Item) (r : InputRelocation) (info : RelocationKindInfo) (x : ℕ) → (h : HasTerm l w m s r info x) → info.kind ≡ kinds.Absolute → (IsPlaceRelative (value_by_row info) → ⊥) → (t : Refers (value_by_row info) l w m s r h.term) → (w.base ≡ 0) ⊎ (t.still ≡ true)
-right_sum l w m s r info x h kind none t =
+right_sum : (l : Layout) (w : World) (m : Memory) (s : Item) (r : InputRelocation) (info : RelocationKindInfo) (x : ℕ) (still : Bool) → (h : HasTerm l w m s r info x) → info.kind ≡ kinds.Absolute → (IsPlaceRelative (value_by_row info) → ⊥) → ((IsPlaceRelative (value_by_row info) → ⊥) → (i : ℕ) → r.symbol ≡ Some i → has_flag (flags_at l i) absolute ≡ still) → (w.base ≡ 0) ⊎ (still ≡ true)
+right_sum l w m s r info x still h kind none flagged =
     let treated = subst (λ (k : RelocationKind). kind_treatment l s.flags h.number r.symbol h.row k ≡ treatments.Value h.row) kind h.treated in
     let i = symbol_named r.symbol (λ k. if_defined l h.row k (address_treatment l s.flags h.number h.row k)) h.row treated in
     elim (address_still l s h.number h.row i.0 h.room (peeled l h.row i.0 (address_treatment l s.flags h.number h.row i.0) (treatments.Value h.row) (definition_there l i.0 h.placed.symbols.named (h.listed i.0 i.1)) i.2)) [
       | inl fixed ↦ inl (h.placed.still fixed)
-      | inr flag ↦ inr (sym (t.flag none i.0 i.1) ∙ flag)
+      | inr flag ↦ inr (sym (flagged none i.0 i.1) ∙ flag)
     ]
 
 -- of an address, or a part of one
@@ -132,7 +132,7 @@ gives_sum law info kind = λ l w m s r x h f.
     let a = address_row l w m s r info x h symbol (ap (λ (k : RelocationKind). (expression_of k).taken) kind) in
     let takes = subst TakesAddress (sym a.value) (takes_address info.size) in
     let t = refers law l w m s r info x h symbol takes f in
-    let e = sum_is t.still w.base h.term (more r) (right_sum l w m s r info x h kind (λ p. not_relative info.size (subst IsPlaceRelative a.value p)) t) in
+    let e = sum_is t.still w.base h.term (more r) (right_sum l w m s r info x t.still h kind (λ p. not_relative info.size (subst IsPlaceRelative a.value p)) t.flag) in
     let sum = subst (λ (n : ℕ). IsSum (value_by_row info) l w m s r n) (sym e ∙ a.sum) (sum_of (value_by_row info) l w m s r h.term t) in
     subst (λ (v : Value). Gives v l w m s r x) (sym a.value) (gives_of_sum info.size l w m s r x (subst (λ (v : Value). IsSum v l w m s r x) a.value sum))
 
@@ -152,16 +152,16 @@ gives_part law info symbol nothing l w m s r x pages h f =
 
 -- ---- S + A - P, and S + A - GOT
 
-pub right_relative : (l : Layout) (w : World) (m : Memory) (s : Item) (r : InputRelocation) (info : RelocationKindInfo) (x : ℕ) → (h : HasTerm l w m s r info x) → (info.kind ≡ kinds.Relative) ⊎ (info.kind ≡ kinds.SymRelGotBase) → IsPlaceRelative (value_by_row info) → (t : Refers (value_by_row info) l w m s r h.term) → (w.base ≡ 0) ⊎ (t.still ≡ false)
-right_relative l w m s r info x h kind relative t = by_symbol r.symbol refl
+pub right_relative : (l : Layout) (w : World) (m : Memory) (s : Item) (r : InputRelocation) (info : RelocationKindInfo) (x : ℕ) (still : Bool) → (h : HasTerm l w m s r info x) → (info.kind ≡ kinds.Relative) ⊎ (info.kind ≡ kinds.SymRelGotBase) → IsPlaceRelative (value_by_row info) → ((i : ℕ) → r.symbol ≡ Some i → still ≡ true → IsAbsolute l i) → (w.base ≡ 0) ⊎ (still ≡ false)
+right_relative l w m s r info x still h kind relative absolute = by_symbol r.symbol refl
   where
-    named_one : (i : ℕ) → r.symbol ≡ Some i → (w.base ≡ 0) ⊎ (t.still ≡ false)
+    named_one : (i : ℕ) → r.symbol ≡ Some i → (w.base ≡ 0) ⊎ (still ≡ false)
     named_one i named =
-        elim (cases_Bool t.still) [
+        elim (cases_Bool still) [
           | inr f ↦ inr f
-          | inl still ↦ elim (cases_Bool (is_position_independent l.kind)) [
+          | inl stays ↦ elim (cases_Bool (is_position_independent l.kind)) [
             | inr fixed ↦ inl (h.placed.still fixed)
-            | inl moves ↦ inl (h.asked relative (h.placed.movable moves) i named (t.absolute i named still))
+            | inl moves ↦ inl (h.asked relative (h.placed.movable moves) i named (absolute i named stays))
           ]
         ]
 
@@ -169,7 +169,7 @@ right_relative l w m s r info x h kind relative t = by_symbol r.symbol refl
     nameless (inl k) treated = h.placed.still (distance_still l s h.number h.row h.room (subst (λ (j : RelocationKind). kind_treatment l s.flags h.number None h.row j ≡ treatments.Value h.row) k treated))
     nameless (inr k) treated = (let none = subst (λ (j : RelocationKind). kind_treatment l s.flags h.number None h.row j ≡ treatments.Value h.row) k treated in cc)
 
-    by_symbol : (o : Option ℕ) → r.symbol ≡ o → (w.base ≡ 0) ⊎ (t.still ≡ false)
+    by_symbol : (o : Option ℕ) → r.symbol ≡ o → (w.base ≡ 0) ⊎ (still ≡ false)
     by_symbol None e = inl (nameless kind (subst (λ (o : Option ℕ). kind_treatment l s.flags h.number o h.row info.kind ≡ treatments.Value h.row) e h.treated))
     by_symbol (Some i) e = named_one i e
 
@@ -219,14 +219,14 @@ gives_distance law info kind = λ l w m s r x h f. by_row law info kind l w m s 
     by_row : StubLaws → (info : RelocationKindInfo) → info.kind ≡ kinds.Relative → (l : Layout) (w : World) (m : Memory) (s : Item) (r : InputRelocation) (x : ℕ) → (h : HasTerm l w m s r info x) → IsFollowed l r (value_by_row info) → IsDistanceRow l w m s r info x h.term ⊎ IsPageRow l w m s r info x h.term → Gives (value_by_row info) l w m s r x
     by_row law info kind l w m s r x h f (inl d) =
         let t = refers law l w m s r info x h (ap (λ (k : RelocationKind). (expression_of k).term) kind) (subst TakesAddress (sym d.value) tt) f in
-        let e = distance_is t.still w.base h.term (more r) (place_of s.address r) (right_relative l w m s r info x h (inl kind) (subst IsPlaceRelative (sym d.value) tt) t) h.ends in
+        let e = distance_is t.still w.base h.term (more r) (place_of s.address r) (right_relative l w m s r info x t.still h (inl kind) (subst IsPlaceRelative (sym d.value) tt) t.absolute) h.ends in
         let n = (with_base t.still w.base h.term + more r) % 2 ^ 64 in
         let at = ap (λ (p : ℕ). (n + (2 ^ 64 - p)) % 2 ^ 64) (sym h.place) in
         subst (λ (v : Value). Gives v l w m s r x) (sym d.value) (n, subst (λ (v : Value). IsSum v l w m s r n) d.value (sum_of (value_by_row info) l w m s r h.term t), sym d.distance ∙ e ∙ at)
     by_row law info kind l w m s r x h f (inr d) =
         let t = refers law l w m s r info x h (ap (λ (k : RelocationKind). (expression_of k).term) kind) (subst TakesAddress (sym d.value) tt) f in
         let pages = (paged_on l w h.placed.paged d.on).pages in
-        let e = page_distance_is t.still w.base h.term (more r) (place_of s.address r) pages (right_relative l w m s r info x h (inl kind) (subst IsPlaceRelative (sym d.value) tt) t) h.ends in
+        let e = page_distance_is t.still w.base h.term (more r) (place_of s.address r) pages (right_relative l w m s r info x t.still h (inl kind) (subst IsPlaceRelative (sym d.value) tt) t.absolute) h.ends in
         let n = (with_base t.still w.base h.term + more r) % 2 ^ 64 in
         let at = ap (λ (p : ℕ). (page_of n + (2 ^ 64 - page_of p)) % 2 ^ 64) (sym h.place) in
         subst (λ (v : Value). Gives v l w m s r x) (sym d.value) (n, subst (λ (v : Value). IsSum v l w m s r n) d.value (sum_of (value_by_row info) l w m s r h.term t), sym d.distance ∙ e ∙ at)
@@ -249,11 +249,11 @@ pub gives_from_table : StubLaws → (info : RelocationKindInfo) → info.kind �
 gives_from_table law info kind = λ l w m s r x h f.
     let d = table_row l w m s r info x h kind in
     let t = refers law l w m s r info x h (ap (λ (k : RelocationKind). (expression_of k).term) kind) (subst TakesAddress (sym d.value) tt) f in
-    let e = table_is t.still w.base h.term (more r) l.got_base (right_relative l w m s r info x h (inr kind) (subst IsPlaceRelative (sym d.value) tt) t) h.placed.got in
+    let e = table_is t.still w.base h.term (more r) l.got_base (right_relative l w m s r info x t.still h (inr kind) (subst IsPlaceRelative (sym d.value) tt) t.absolute) h.placed.got in
     let n = (with_base t.still w.base h.term + more r) % 2 ^ 64 in
     subst (λ (v : Value). Gives v l w m s r x) (sym d.value) (n, subst (λ (v : Value). IsSum v l w m s r n) d.value (sum_of (value_by_row info) l w m s r h.term t), sym d.distance ∙ e)
 
--- ---- the same with the own symbol, at base 0
+-- ---- the same with the own symbol
 
 -- such an expression takes no offset
 bare : (v : Value) (l : Layout) (i : ℕ) → (TakesOffset v → ⊥) → (HasStubAddress l i → ⊥) ⊎ TakesOffset v → HasStubAddress l i → ⊥
@@ -264,37 +264,51 @@ no_offset : (z : RelocationSize) → TakesOffset (shape.sized z SymbolAddress) �
 no_offset (ByteSize n) h = h
 no_offset (BitMasking bits) h = h
 
-pub links_address : (info : RelocationKindInfo) → (expression_of info.kind).term ≡ term.Symbol → (expression_of info.kind).taken ≡ taken.Nothing → RowGivesLinked info
-links_address info symbol nothing = λ l w m s r x i h zero named whose alone.
-    let a = address_row l w m s r info x h symbol nothing in
-    let t = own_refers l w m s r info x i h symbol named whose (bare (value_by_row info) l i (λ o. no_offset info.size (subst TakesOffset a.value o)) alone) in
-    let e = sum_is t.still w.base h.term (more r) (inl zero) in
+-- what the own symbol's address is of a row of S + A
+own_of_address : (info : RelocationKindInfo) (l : Layout) (w : World) (m : Memory) (s : Item) (r : InputRelocation) (x i : ℕ) → (symbol : (expression_of info.kind).term ≡ term.Symbol) → (h : HasTerm l w m s r info x) → IsAddressRow l w m s r info x h.term → r.symbol ≡ Some i → IsReplaceable l i true → (HasStubAddress l i → ⊥) ⊎ TakesOffset (value_by_row info) → OwnRefers (value_by_row info) l w s r h.term
+own_of_address info l w m s r x i symbol h a named whose alone = own_refers l w m s r info x i h symbol named whose (bare (value_by_row info) l i (λ o. no_offset info.size (subst TakesOffset a.value o)) alone)
+
+pub links_sum : (info : RelocationKindInfo) → info.kind ≡ kinds.Absolute → RowGivesLinked info
+links_sum info kind = λ l w m s r x i h named whose alone.
+    let symbol : (expression_of info.kind).term ≡ term.Symbol = ap (λ (k : RelocationKind). (expression_of k).term) kind in
+    let a = address_row l w m s r info x h symbol (ap (λ (k : RelocationKind). (expression_of k).taken) kind) in
+    let t = own_of_address info l w m s r x i symbol h a named whose alone in
+    let e = sum_is t.still w.base h.term (more r) (right_sum l w m s r info x t.still h kind (λ p. not_relative info.size (subst IsPlaceRelative a.value p)) t.flag) in
     let sum = subst (λ (n : ℕ). IsOwnSum (value_by_row info) l w s r n) (sym e ∙ a.sum) (own_sum (value_by_row info) l w s r h.term t) in
     subst (λ (v : Value). GivesLinked v l w s r x) (sym a.value) (links_of_sum info.size l w s r x (subst (λ (v : Value). IsOwnSum v l w s r x) a.value sum))
 
+-- the bits of it below a page
+pub links_part : (info : RelocationKindInfo) → (expression_of info.kind).term ≡ term.Symbol → (expression_of info.kind).taken ≡ taken.Nothing → (l : Layout) (w : World) (m : Memory) (s : Item) (r : InputRelocation) (x i : ℕ) → w.base % 4096 ≡ 0 → HasTerm l w m s r info x → r.symbol ≡ Some i → IsReplaceable l i true → (HasStubAddress l i → ⊥) ⊎ TakesOffset (value_by_row info) → GivesLinkedPart (value_by_row info) l w s r x
+links_part info symbol nothing l w m s r x i pages h named whose alone =
+    let a = address_row l w m s r info x h symbol nothing in
+    let t = own_of_address info l w m s r x i symbol h a named whose alone in
+    let n = (with_base t.still w.base h.term + more r) % 2 ^ 64 in
+    let sum = own_sum (value_by_row info) l w s r h.term t in
+    (n, subst (λ (v : Value). GivesLinked v l w s r n) (sym a.value) (links_of_sum info.size l w s r n (subst (λ (v : Value). IsOwnSum v l w s r n) a.value sum)), part_same t.still w.base h.term (more r) x pages a.sum)
+
 pub links_distance : (info : RelocationKindInfo) → info.kind ≡ kinds.Relative → RowGivesLinked info
-links_distance info kind = λ l w m s r x i h zero named whose alone. by_row info kind l w m s r x i h zero named whose alone (distance_row l w m s r info x h kind)
+links_distance info kind = λ l w m s r x i h named whose alone. by_row info kind l w m s r x i h named whose alone (distance_row l w m s r info x h kind)
   where
-    by_row : (info : RelocationKindInfo) → info.kind ≡ kinds.Relative → (l : Layout) (w : World) (m : Memory) (s : Item) (r : InputRelocation) (x i : ℕ) → (h : HasTerm l w m s r info x) → w.base ≡ 0 → r.symbol ≡ Some i → IsReplaceable l i true → (HasStubAddress l i → ⊥) ⊎ TakesOffset (value_by_row info) → IsDistanceRow l w m s r info x h.term ⊎ IsPageRow l w m s r info x h.term → GivesLinked (value_by_row info) l w s r x
-    by_row info kind l w m s r x i h zero named whose alone (inl d) =
+    by_row : (info : RelocationKindInfo) → info.kind ≡ kinds.Relative → (l : Layout) (w : World) (m : Memory) (s : Item) (r : InputRelocation) (x i : ℕ) → (h : HasTerm l w m s r info x) → r.symbol ≡ Some i → IsReplaceable l i true → (HasStubAddress l i → ⊥) ⊎ TakesOffset (value_by_row info) → IsDistanceRow l w m s r info x h.term ⊎ IsPageRow l w m s r info x h.term → GivesLinked (value_by_row info) l w s r x
+    by_row info kind l w m s r x i h named whose alone (inl d) =
         let t = own_refers l w m s r info x i h (ap (λ (k : RelocationKind). (expression_of k).term) kind) named whose (bare (value_by_row info) l i (λ o. subst TakesOffset d.value o) alone) in
-        let e = distance_is t.still w.base h.term (more r) (place_of s.address r) (inl zero) h.ends in
+        let e = distance_is t.still w.base h.term (more r) (place_of s.address r) (right_relative l w m s r info x t.still h (inl kind) (subst IsPlaceRelative (sym d.value) tt) t.absolute) h.ends in
         let n = (with_base t.still w.base h.term + more r) % 2 ^ 64 in
         let at = ap (λ (p : ℕ). (n + (2 ^ 64 - p)) % 2 ^ 64) (sym h.place) in
         subst (λ (v : Value). GivesLinked v l w s r x) (sym d.value) (n, subst (λ (v : Value). IsOwnSum v l w s r n) d.value (own_sum (value_by_row info) l w s r h.term t), sym d.distance ∙ e ∙ at)
-    by_row info kind l w m s r x i h zero named whose alone (inr d) =
+    by_row info kind l w m s r x i h named whose alone (inr d) =
         let t = own_refers l w m s r info x i h (ap (λ (k : RelocationKind). (expression_of k).term) kind) named whose (bare (value_by_row info) l i (λ o. subst TakesOffset d.value o) alone) in
         let pages = (paged_on l w h.placed.paged d.on).pages in
-        let e = page_distance_is t.still w.base h.term (more r) (place_of s.address r) pages (inl zero) h.ends in
+        let e = page_distance_is t.still w.base h.term (more r) (place_of s.address r) pages (right_relative l w m s r info x t.still h (inl kind) (subst IsPlaceRelative (sym d.value) tt) t.absolute) h.ends in
         let n = (with_base t.still w.base h.term + more r) % 2 ^ 64 in
         let at = ap (λ (p : ℕ). (page_of n + (2 ^ 64 - page_of p)) % 2 ^ 64) (sym h.place) in
         subst (λ (v : Value). GivesLinked v l w s r x) (sym d.value) (n, subst (λ (v : Value). IsOwnSum v l w s r n) d.value (own_sum (value_by_row info) l w s r h.term t), sym d.distance ∙ e ∙ at)
 
 pub links_from_table : (info : RelocationKindInfo) → info.kind ≡ kinds.SymRelGotBase → RowGivesLinked info
-links_from_table info kind = λ l w m s r x i h zero named whose alone.
+links_from_table info kind = λ l w m s r x i h named whose alone.
     let d = table_row l w m s r info x h kind in
     let t = own_refers l w m s r info x i h (ap (λ (k : RelocationKind). (expression_of k).term) kind) named whose (bare (value_by_row info) l i (λ o. subst TakesOffset d.value o) alone) in
-    let e = table_is t.still w.base h.term (more r) l.got_base (inl zero) h.placed.got in
+    let e = table_is t.still w.base h.term (more r) l.got_base (right_relative l w m s r info x t.still h (inr kind) (subst IsPlaceRelative (sym d.value) tt) t.absolute) h.placed.got in
     let n = (with_base t.still w.base h.term + more r) % 2 ^ 64 in
     subst (λ (v : Value). GivesLinked v l w s r x) (sym d.value) (n, subst (λ (v : Value). IsOwnSum v l w s r n) d.value (own_sum (value_by_row info) l w s r h.term t), sym d.distance ∙ e)
 

@@ -64,5 +64,5 @@ item_fields_hold tables kinds linked go = λ k l w m s h.
     let there = item_loaded k l w m s tables kinds linked go h in
     record {
       references = λ i r kept present asked alone. field_holds l w m s i r there kept present asked alone;
-      linked = λ i r kept present a zero. field_links l w m s i r there kept present a zero;
+      linked = λ i r kept present asked a. field_links l w m s i r there kept present asked a;
     }

@@ -58,10 +58,10 @@ use Rattle.wild_meaning.specs.Strings.{NamesStrings}
 abbrev pub RowGives : RelocationKindInfo → Type 0
 RowGives info = (l : Layout) (w : World) (m : Memory) (s : Item) (r : InputRelocation) (x : ℕ) → HasTerm l w m s r info x → IsFollowed l r (value_by_row info) → Gives (value_by_row info) l w m s r x
 
--- Otherwise, at base 0, it is the value of the expression with the output's own symbol. This is for rows with a symbol's address
--- or its thread-pointer offset.
+-- Otherwise it is the value of the expression with the output's own symbol. This is for rows with a symbol's address or its
+-- thread-pointer offset.
 abbrev pub RowGivesLinked : RelocationKindInfo → Type 0
-RowGivesLinked info = (l : Layout) (w : World) (m : Memory) (s : Item) (r : InputRelocation) (x i : ℕ) → HasTerm l w m s r info x → w.base ≡ 0 → r.symbol ≡ Some i → IsReplaceable l i true → (HasStubAddress l i → ⊥) ⊎ TakesOffset (value_by_row info) → GivesLinked (value_by_row info) l w s r x
+RowGivesLinked info = (l : Layout) (w : World) (m : Memory) (s : Item) (r : InputRelocation) (x i : ℕ) → HasTerm l w m s r info x → r.symbol ≡ Some i → IsReplaceable l i true → (HasStubAddress l i → ⊥) ⊎ TakesOffset (value_by_row info) → GivesLinked (value_by_row info) l w s r x
 
 -- the same for each row with that term whose field holds the whole value
 abbrev pub TermGives : Term → Type 0
@@ -88,18 +88,22 @@ GivesPart v l w m s r x = (t : ℕ) × Gives v l w m s r t × (t % 4096 ≡ x % 
 abbrev pub PartsGive : Type 0
 PartsGive = (info : RelocationKindInfo) → (expression_of info.kind).class ≡ class.Part → (l : Layout) (w : World) (m : Memory) (s : Item) (r : InputRelocation) (x : ℕ) → l.machine ≡ machine.AArch64 → HasTerm l w m s r info x → IsFollowed l r (value_by_row info) → GivesPart (value_by_row info) l w m s r x
 
--- otherwise, at base 0, with the output's own symbol
+-- the expression with the output's own symbol has a value with the same bits below its page as x
+abbrev pub GivesLinkedPart : Value → Layout → World → Item → InputRelocation → ℕ → Type 0
+GivesLinkedPart v l w s r x = (t : ℕ) × GivesLinked v l w s r t × (t % 4096 ≡ x % 4096)
+
+-- otherwise with the output's own symbol
 abbrev pub PartsGiveLinked : Type 0
-PartsGiveLinked = (info : RelocationKindInfo) → (expression_of info.kind).class ≡ class.Part → (l : Layout) (w : World) (m : Memory) (s : Item) (r : InputRelocation) (x i : ℕ) → HasTerm l w m s r info x → w.base ≡ 0 → r.symbol ≡ Some i → IsReplaceable l i true → (HasStubAddress l i → ⊥) ⊎ TakesOffset (value_by_row info) → TakesOffset (value_by_row info) ⊎ TakesAddress (value_by_row info) → GivesLinked (value_by_row info) l w s r x
+PartsGiveLinked = (info : RelocationKindInfo) → (expression_of info.kind).class ≡ class.Part → (l : Layout) (w : World) (m : Memory) (s : Item) (r : InputRelocation) (x i : ℕ) → l.machine ≡ machine.AArch64 → HasTerm l w m s r info x → r.symbol ≡ Some i → IsReplaceable l i true → (HasStubAddress l i → ⊥) ⊎ TakesOffset (value_by_row info) → TakesOffset (value_by_row info) ⊎ TakesAddress (value_by_row info) → GivesLinkedPart (value_by_row info) l w s r x
 
 -- an address decided to move with the base is S + A in the world after the base is added, if the symbol's definition is followed
 -- and all tables are written
 abbrev pub AddressesGive : Type 0
 AddressesGive = (l : Layout) (w : World) (m : Memory) (s : Item) (r : InputRelocation) (v : ℕ) (packed : Bool) → KeepsAll l → IsPlaced l w m → NamesSymbol l r → FitsSigned w64 r.addend → decided l s r ≡ Ok (RelativeAddress v packed) → IsFollowed l r SymbolAddress → IsSum SymbolAddress l w m s r (number_at InMemory w v packed)
 
--- otherwise, at base 0, with the output's own symbol
+-- otherwise with the output's own symbol
 abbrev pub AddressesGiveLinked : Type 0
-AddressesGiveLinked = (l : Layout) (w : World) (m : Memory) (s : Item) (r : InputRelocation) (v i : ℕ) (packed : Bool) → KeepsAll l → IsPlaced l w m → NamesSymbol l r → decided l s r ≡ Ok (RelativeAddress v packed) → w.base ≡ 0 → r.symbol ≡ Some i → IsReplaceable l i true → (HasStubAddress l i → ⊥) → IsOwnSum SymbolAddress l w s r (number_at InMemory w v packed)
+AddressesGiveLinked = (l : Layout) (w : World) (m : Memory) (s : Item) (r : InputRelocation) (v i : ℕ) (packed : Bool) → KeepsAll l → IsPlaced l w m → NamesSymbol l r → decided l s r ≡ Ok (RelativeAddress v packed) → r.symbol ≡ Some i → IsReplaceable l i true → (HasStubAddress l i → ⊥) → IsOwnSum SymbolAddress l w s r (number_at InMemory w v packed)
 
 -- If all tables are written, a field that is left to an entry has the value of its relocation type's formula once the entry has
 -- stored its number. The field is whole bytes.
@@ -144,10 +148,10 @@ pub record IsKeptReference (l : Layout) (s : Item) (i : ℕ) (r : InputRelocatio
   pub refers : r.number ≢ r_x86_64_none
 
 -- The fields of an item in memory. Each reference that keeps its instruction, is checked and is not left out has its formula's
--- value; one to the output's own symbol has it at base 0 with that symbol.
+-- value; one to the output's own symbol has it with that symbol.
 pub record FieldsHold (l : Layout) (w : World) (m : Memory) (s : Item) : Type 0 where
   pub references : (i : ℕ) (r : InputRelocation) → IsKeptReference l s i r → (IsOmitted l s r → ⊥) → MustHold l w s r → (UsesOwnSymbolOnly l s r → ⊥) → FieldHolds l w m s r
-  pub linked : (i : ℕ) (r : InputRelocation) → IsKeptReference l s i r → (IsOmitted l s r → ⊥) → UsesOwnSymbolOnly l s r → w.base ≡ 0 → FieldIsLinked l w m s r
+  pub linked : (i : ℕ) (r : InputRelocation) → IsKeptReference l s i r → (IsOmitted l s r → ⊥) → MustHold l w s r → UsesOwnSymbolOnly l s r → FieldIsLinked l w m s r
 
 -- the bytes of the instructions whose bits are fields
 abbrev pub HasBytes : Machine → Item → Type 0

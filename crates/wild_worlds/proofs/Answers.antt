@@ -1,6 +1,7 @@
 -- A world that answers for each dynamic symbol: what another module has of one that may be replaced, else what the output has.
-use Rattle.std.proofs.Common.{◌≡◌, ℕ, zero, suc, ◌+◌, ◌-◌, ◌%◌, ◌^◌, ◌<◌, ◌⊎◌, inl, inr, Bool, true, false, List, [], ◌∷◌, length, get_or, refl, sym, ap, ◌∙◌, arith, subst}
-use Rattle.std.specs.Prelude.{Option, Some, None, Ok, All, map, option_map, slice_get}
+use Rattle.std.proofs.Common.{◌≡◌, ℕ, suc, ◌+◌, ◌-◌, ◌%◌, ◌^◌, ◌<◌, ◌⊎◌, inl, inr, Bool, true, false, List, [], ◌∷◌, length, get_or, refl, sym, ap, ◌∙◌, arith, subst}
+use Rattle.std.specs.Prelude.{Option, Some, None, Ok, All, map, nat_le, option_map, slice_get}
+use Rattle.std.proofs.lemmas.Bool.{cases_Bool, leb-true, leb-false}
 use Rattle.std.proofs.lemmas.List.{length-map}
 use Rattle.std.proofs.lemmas.List.Elements.{All-nil, All-cons}
 use Rattle.std.proofs.lemmas.Option.{slice_get-map, slice_get-get_or, slice_get_within}
@@ -17,22 +18,10 @@ use Rattle.wild_loader.specs.declared.world.World.{World}
 use Rattle.wild_loader.specs.Changes.{answer_at}
 use Rattle.wild_meaning.specs.Value.{IsSymbol, IsDefinedBy, IsResolved, IsUnresolved, IsLocatedAt, HasRaw, IsReplaceable, IsValue, HasAnswer, with_base, may_be_replaced}
 use Rattle.wild_meaning.specs.World.{IsKnownModule, IsAnswer, IsOwnAnswer, HasCopy, HasRoomFor, DoNotOverlap, AnswersSymbols, first_module}
-use Rattle.wild_worlds.specs.Worlds.{AreAnswered, AreAddresses, OtherModule, AreNumbers, IsOtherAnswer, CopiesHaveRoom, IsConsistent, other_module}
+use Rattle.wild_worlds.specs.Worlds.{AreAnswered, AreAddresses, OtherModule, AreNumbers, IsOtherAnswer, IsConsistent, other_module}
 use Rattle.wild_laws.proofs.Symbols.{one_definition, one_symbol}
 
 -- ---- the answers
-
-abbrev zeros : ℕ → List ℕ
-zeros zero = []
-zeros (suc n) = 0 ∷ zeros n
-
-length-zeros : (n : ℕ) → length (zeros n) ≡ n
-length-zeros zero = refl
-length-zeros (suc n) = ap suc (length-zeros n)
-
-zeros_small : (n : ℕ) → All (λ (b : ℕ). b < 256) (zeros n)
-zeros_small zero = All-nil (λ (b : ℕ). b < 256)
-zeros_small (suc n) = All-cons (λ (b : ℕ). b < 256) 0 (zeros n) (omega arith) (zeros_small n)
 
 abbrev null_answer : Answer
 null_answer = record { address = 0; «module» = first_module; offset = 0; size = 0; bytes = [] }
@@ -48,14 +37,14 @@ abbrev address_by : (indirect still : Bool) → (ℕ → ℕ) → ℕ → ℕ �
 address_by true still answers base raw = answers ((base + raw) % 2 ^ 64)
 address_by false still answers base raw = with_base still base raw
 
--- as many zeros as the size says, in case the symbol is copied
+-- no bytes, in case the symbol is copied
 abbrev own_answer : Layout → ℕ → (ℕ → ℕ) → Symbol → Resolution → Answer
 own_answer l base answers s r = record {
   address = address_by (has_flag s.flags ifunc) (has_flag s.flags absolute) answers base r.raw_value;
   «module» = first_module;
   offset = (r.raw_value + (2 ^ 64 - l.tls.start)) % 2 ^ 64;
   size = s.size;
-  bytes = zeros s.size;
+  bytes = [];
 }
 
 abbrev one_of : Bool → Answer → Answer → Answer
@@ -149,25 +138,28 @@ owned l w answers o i x laid has is h = subst (λ (y : Answer). IsOwnAnswer l w 
 
 -- ---- copies
 
--- an own answer has as many bytes as its size says
-whole : (l : Layout) (w : World) (answers : ℕ → ℕ) (o : OtherModule) (i : ℕ) (x : Answer) → IsLaidOut l → HasAnswers l w answers o → IsReplaceable l i false → HasAnswer l w i x → length x.bytes ≡ x.size
-whole l w answers o i x laid has is h = subst (λ (y : Answer). length y.bytes ≡ y.size) (sym (chosen l w answers o i x false laid has h is)) (length-zeros h.symbol.size)
+-- no answer has bytes
+no_bytes : (l : Layout) (w : World) (answers : ℕ → ℕ) (o : OtherModule) (i : ℕ) (x : Answer) → IsLaidOut l → HasAnswers l w answers o → HasAnswer l w i x → length x.bytes ≡ 0
+no_bytes l w answers o i x laid has h = ap (λ (y : Answer). length y.bytes) (answer_is l w answers o i x laid has h) ∙ of_one (may_be_replaced l.kind h.symbol.flags) (others_answer o (index_of h.resolution.dynamic_symbol_index)) (own_answer l w.base answers h.symbol h.resolution) refl refl
+  where
+    of_one : (b : Bool) (y z : Answer) → length y.bytes ≡ 0 → length z.bytes ≡ 0 → length (one_of b y z).bytes ≡ 0
+    of_one true y z h g = h
+    of_one false y z h g = g
 
-copied : (l : Layout) (w : World) (answers : ℕ → ℕ) (o : OtherModule) (i raw : ℕ) (x : Answer) → IsLaidOut l → CopiesHaveRoom l → HasAnswers l w answers o → HasCopy l w i raw x → HasRoomFor l raw x
-copied l w answers o i raw x laid room has h =
-    let own = room.own i h.copied in
-    let long = whole l w answers o i x laid has own h.answer in
-    record { whole = long; behind = λ k lt. room.behind i raw x.size k h.copied h.given (owned l w answers o i x laid has own h.answer).size (omega (arith, long, lt)) }
+copied : (l : Layout) (w : World) (answers : ℕ → ℕ) (o : OtherModule) (i raw : ℕ) (x : Answer) → IsLaidOut l → HasAnswers l w answers o → HasCopy l w i raw x → HasRoomFor l raw x
+copied l w answers o i raw x laid has h =
+    let none = no_bytes l w answers o i x laid has h.answer in
+    record { within = omega (arith, none); behind = λ k lt. absurd (omega (arith, none, lt)) }
 
-copies_apart : (l : Layout) (w : World) (answers : ℕ → ℕ) (o : OtherModule) (i j c d raw other : ℕ) (x y : Answer) → IsLaidOut l → CopiesHaveRoom l → HasAnswers l w answers o → IsDefinedBy l i c → IsDefinedBy l j d → (c ≡ d → ⊥)
-    → HasCopy l w i raw x → HasCopy l w j other y → DoNotOverlap raw (length x.bytes) other (length y.bytes)
-copies_apart l w answers o i j c d raw other x y laid room has first second differ h g =
-    let own = room.own i h.copied in
-    let owns = room.own j g.copied in
-    let a = sym (whole l w answers o i x laid has own h.answer) in
-    let b = sym (whole l w answers o j y laid has owns g.answer) in
-    let apart = room.apart i j c d raw other x.size y.size h.copied g.copied first second differ h.given g.given (owned l w answers o i x laid has own h.answer).size (owned l w answers o j y laid has owns g.answer).size in
-    subst (λ (m : ℕ). DoNotOverlap raw (length x.bytes) other m) b (subst (λ (n : ℕ). DoNotOverlap raw n other y.size) a apart)
+copies_apart : (l : Layout) (w : World) (answers : ℕ → ℕ) (o : OtherModule) (i j raw other : ℕ) (x y : Answer) → IsLaidOut l → HasAnswers l w answers o → HasCopy l w i raw x → HasCopy l w j other y → DoNotOverlap raw (length x.bytes) other (length y.bytes)
+copies_apart l w answers o i j raw other x y laid has h g =
+    let a = no_bytes l w answers o i x laid has h.answer in
+    let b = no_bytes l w answers o j y laid has g.answer in
+    by_order raw other (length x.bytes) (length y.bytes) a b (cases_Bool (nat_le raw other))
+  where
+    by_order : (raw other n m : ℕ) → n ≡ 0 → m ≡ 0 → (nat_le raw other ≡ true) ⊎ (nat_le raw other ≡ false) → DoNotOverlap raw n other m
+    by_order raw other n m a b (inl t) = (let le = leb-true raw other t in inl (omega (arith, a, le)))
+    by_order raw other n m a b (inr f) = (let gt = leb-false raw other f in inr (omega (arith, b, gt)))
 
 -- ---- numbers
 
@@ -192,7 +184,7 @@ own_fits l w answers s r small is decided near = record {
   address = address_small (has_flag s.flags ifunc) (has_flag s.flags absolute) answers w.base r.raw_value small (is.numbers r decided).value;
   offset = omega arith;
   size = is.size;
-  bytes = zeros_small s.size;
+  bytes = All-nil (λ (b : ℕ). b < 256);
   owner = omega arith;
   known = near;
 }
@@ -237,6 +229,6 @@ answers_symbols l w answers o laid told small numbers has = record {
       (λ c. answer_fits l w answers o (slice_get l.symbols c) small numbers has (λ s e. record { numbers = holds_at SymbolNumbers l.symbols c s e told.numbers.symbols; size = holds_at (λ (t : Symbol). t.size < 2 ^ 64) l.symbols c s e told.sizes }))));
   there = λ k d lt r index decided listed. index_within l w answers o k index (get_or l.symbols k d) r laid has (slice_get-get_or l.symbols k d lt) decided listed;
   own = λ i x is h. owned l w answers o i x laid has is h;
-  copies = λ i raw x h. copied l w answers o i raw x laid told.copies has h;
-  apart = λ i j c d raw other x y first second differ h g. copies_apart l w answers o i j c d raw other x y laid told.copies has first second differ h g;
+  copies = λ i raw x h. copied l w answers o i raw x laid has h;
+  apart = λ i j c d raw other x y first second differ h g. copies_apart l w answers o i j raw other x y laid has h g;
 }

@@ -28,7 +28,6 @@ use Rattle.wild_types.specs.declared.input.InputRelocation.{InputRelocation}
 use Rattle.wild_types.specs.declared.input.InputSection.{InputSection}
 use Rattle.wild_types.specs.declared.input.Slot.TheVariants as slot
 use Rattle.wild_types.specs.declared.file.File.{File}
-use Rattle.wild_types.specs.declared.file.FileRole.TheVariants as file_role
 use Rattle.wild_types.specs.declared.file.Group.{Group}
 use Rattle.wild_types.specs.Flags.{has_flag, absolute, ifunc}
 use Rattle.wild_types.specs.Item.{Item, item_with}
@@ -44,7 +43,6 @@ use Rattle.wild_layout.specs.Image.{bytes}
 use Rattle.wild_layout.specs.Geometry.{LayoutsAreLaidOut}
 use Rattle.wild_layout.specs.Numbers.{NumbersFit, AddendFits, InputNumbers, InputsFit, SegmentNumbers, SectionNumbers, ResolutionNumbers, SymbolNumbers}
 use Rattle.wild_meaning.specs.Section.{IsSet, IsHeaderOnly}
-use Rattle.wild_meaning.specs.World.{IsCopied}
 use Rattle.wild_meaning.specs.Value.{IsAbsolute, HasFlag, HasRaw, IsReplaceable}
 use Rattle.wild_meaning.specs.Denotes.{HasStub, Denotes}
 use Rattle.wild_meaning.specs.Field.{formula_of, FieldReads}
@@ -180,35 +178,12 @@ flags = All-from_recursion HasItsFlags (function ∷ []) (own, tt)
 
 -- ---- the world
 
-abbrev HasNoLibrary : Group → Type 0
-HasNoLibrary g = All (λ (f : File). f.role ≡ file_role.Dynamic → ⊥) g.files
-
-no_library : (i : ℕ) → IsCopied debug_file i → ⊥
-unfolding debug_file
-no_library i h =
-    let each = All-from_recursion HasNoLibrary (debug_group ∷ []) (All-from_recursion (λ (f : File). f.role ≡ file_role.Dynamic → ⊥) debug_files (prelude, (object, (epilogue, tt))), tt) in
-    All-contains (λ (f : File). f.role ≡ file_role.Dynamic → ⊥) h.group.files h.file (All-contains HasNoLibrary (debug_group ∷ []) h.group each h.grouped) h.filed h.library
-  where
-    prelude : file_role.Prelude ≡ file_role.Dynamic → ⊥
-    prelude d = cc
-
-    object : file_role.Object ≡ file_role.Dynamic → ⊥
-    object d = cc
-
-    epilogue : file_role.Epilogue ≡ file_role.Dynamic → ⊥
-    epilogue d = cc
-
 told : IsConsistent debug_file
 unfolding debug_file
 told = record {
   faultless = faultless;
   numbers = numbers;
   sizes = All-from_recursion (λ (s : Symbol). s.size < 2 ^ 64) (function ∷ []) (omega arith, tt);
-  copies = record {
-    own = λ i h. absurd (no_library i h);
-    behind = λ i raw z j h _ _ _. absurd (no_library i h);
-    apart = λ i j a b raw other z y h _ _ _ _ _ _ _ _. absurd (no_library i h);
-  };
 }
 
 -- no symbol is another module's
@@ -510,7 +485,8 @@ joined : LayoutsAreLaidOut → ImagesAreSound → IsJoinedForDebuggers debug_fil
 unfolding debug_file note_there
 joined laws sound =
     let w = world laws in
-    let linked = sound debug_file numbers flags faultless (inr tt) w.world w.legal in
+    let right = sound debug_file numbers flags faultless (inr tt) in
+    let linked = right.1 w.world w.legal in
     let holds = asked w.world (bytes debug_file) linked in
     record {
       bare = refl;
@@ -518,6 +494,7 @@ joined laws sound =
       world = w.world;
       elsewhere = λ z. (let at = w.at in absurd (omega (arith, z, at)));
       legal = w.legal;
+      described = right.0;
       linked = linked;
       note = note_there;
       holds = holds;

@@ -1,7 +1,7 @@
 -- The layouts that call a function, and the one for debuggers alone, have all that the headline asks for.
-use Rattle.std.proofs.Common.{◌≡◌, ℕ, ◌+◌, ◌^◌, ◌<◌, ◌≤◌, inr, false, List, [], ◌∷◌, refl, ap, sym, ◌∙◌, arith, subst}
+use Rattle.std.proofs.Common.{◌≡◌, ℕ, ◌+◌, ◌^◌, ◌<◌, ◌≤◌, inr, false, [], ◌∷◌, refl, ap, sym, ◌∙◌, arith, subst}
 use Rattle.std.specs.Prelude.{Option, Some, None, All}
-use Rattle.std.proofs.lemmas.List.Elements.{All-from_recursion, All-contains}
+use Rattle.std.proofs.lemmas.List.Elements.{All-from_recursion}
 use lib.IntN.{pos}
 use Rattle.wild_records.specs.Abi.Relocation.{r_x86_64_gotpcrelx, r_aarch64_call26}
 use Rattle.wild_reloc.specs.Formula.{formula, SlotDistance, AddressSlot, StubDistance, Plain, Signed, Bits, Imm26Field, WithinPower}
@@ -19,9 +19,6 @@ use Rattle.wild_types.specs.declared.symbol.Place.TheVariants as at
 use Rattle.wild_types.specs.declared.symbol.Resolution.{Resolution}
 use Rattle.wild_types.specs.declared.symbol.Symbol.{Symbol}
 use Rattle.wild_types.specs.declared.input.InputRelocation.{InputRelocation}
-use Rattle.wild_types.specs.declared.file.FileRole.TheVariants as file_role
-use Rattle.wild_types.specs.declared.file.File.{File}
-use Rattle.wild_types.specs.declared.file.Group.{Group}
 use Rattle.wild_types.specs.ResolvedFlags.{HasItsFlags}
 use Rattle.wild_types.specs.Flags.{has_flag, absolute}
 use Rattle.wild_layout.specs.Faults.{errors}
@@ -29,7 +26,7 @@ use Rattle.wild_layout.specs.Image.{bytes}
 use Rattle.wild_layout.specs.Geometry.{LayoutsAreLaidOut}
 use Rattle.wild_layout.specs.Numbers.{NumbersFit}
 use Rattle.wild_meaning.specs.Section.{IsForDebuggers}
-use Rattle.wild_meaning.specs.World.{IsMovable, IsCopied}
+use Rattle.wild_meaning.specs.World.{IsMovable}
 use Rattle.wild_meaning.specs.Value.{IsAbsolute, HasFlag}
 use Rattle.wild_types.specs.Item.{item_with}
 use Rattle.wild_meaning.specs.Item.{IsKept, OfSection}
@@ -39,7 +36,6 @@ use Rattle.wild_laws.specs.Laws.{ImagesAreSound}
 use Rattle.wild_laws.proofs.Symbols.{not_both}
 use Rattle.wild_sample_layouts.specs.CallingPlans.{Code, called_function, calling_layout, calling_segments, code_at, stub_at, call_reference, branch_reference, by_slot, of_words, by_stub, by_branch, calling_code, calling_static, calling_dynamic, calling_shared, calling_words, calling_words_static, calling_words_shared}
 use Rattle.wild_sample_layouts.specs.Laws.{CallingFaults, CallingNumbers}
-use Rattle.wild_sample_layouts.specs.PlanOfGroups.{file_with, plain_file}
 use Rattle.wild_worlds.specs.Worlds.{HasRoomAbove, OtherModule, AreNumbers, IsConsistent, HasWorld}
 use Rattle.wild_worlds.specs.Joined.{HasCall, IsJoined, IsMet, PremisesAreJoined}
 use Rattle.wild_worlds.proofs.DebugFile.{debuggers_joined}
@@ -109,35 +105,11 @@ word_call stub k e n m f own plain =
 
 -- ---- the world
 
-abbrev HasNoLibrary : Group → Type 0
-HasNoLibrary g = All (λ (f : File). f.role ≡ file_role.Dynamic → ⊥) g.files
-
-no_library : (c : Code) (k : OutputKind) (e : Role) (n m : ℕ) (f : Symbol) (i : ℕ) → IsCopied (calling_layout c k e n m f) i → ⊥
-no_library c k e n m f i h =
-    let l = calling_layout c k e n m f in
-    let files : List File = plain_file file_role.Prelude ∷ file_with file_role.Object 0 1 (calling_code c ∷ []) ∷ plain_file file_role.Epilogue ∷ [] in
-    let each = All-from_recursion HasNoLibrary l.groups (All-from_recursion (λ (f : File). f.role ≡ file_role.Dynamic → ⊥) files (prelude, (object, (epilogue, tt))), tt) in
-    All-contains (λ (f : File). f.role ≡ file_role.Dynamic → ⊥) h.group.files h.file (All-contains HasNoLibrary l.groups h.group each h.grouped) h.filed h.library
-  where
-    prelude : file_role.Prelude ≡ file_role.Dynamic → ⊥
-    prelude d = cc
-
-    object : file_role.Object ≡ file_role.Dynamic → ⊥
-    object d = cc
-
-    epilogue : file_role.Epilogue ≡ file_role.Dynamic → ⊥
-    epilogue d = cc
-
 told : (c : Code) (k : OutputKind) (e : Role) (n m : ℕ) (f : Symbol) → f.size < 2 ^ 64 → errors (calling_layout c k e n m f) ≡ [] → NumbersFit (calling_layout c k e n m f) → IsConsistent (calling_layout c k e n m f)
 told c k e n m f small none numbers = record {
   faultless = none;
   numbers = numbers;
   sizes = All-from_recursion (λ (s : Symbol). s.size < 2 ^ 64) (f ∷ []) (small, tt);
-  copies = record {
-    own = λ i h. absurd (no_library c k e n m f i h);
-    behind = λ i raw z j h _ _ _. absurd (no_library c k e n m f i h);
-    apart = λ i j a b raw other z y h _ _ _ _ _ _ _ _. absurd (no_library c k e n m f i h);
-  };
 }
 
 -- another module has the function at 0x7000
@@ -160,12 +132,14 @@ pub joined : (c : Code) (k : OutputKind) (e : Role) (n m : ℕ) (f : Symbol) →
 joined c k e n m f short laws sound movable small call none numbers =
     let l = calling_layout c k e n m f in
     let w = world c k e n m f short laws movable (told c k e n m f small none numbers) in
-    let linked = sound (inr movable) w.world w.legal in
+    let right = sound (inr movable) in
+    let linked = right.1 w.world w.legal in
     record {
       faultless = none;
       world = w.world;
       elsewhere = λ z. (let at = w.at in absurd (omega (arith, z, at)));
       legal = w.legal;
+      described = right.0;
       linked = linked;
       call = call;
       holds = (linked.kept call.item call.kept).references call.reference call.refers (λ x. whole c k e n m f x.0) (λ x. absurd (call.ordinary x)) call.followed;

@@ -29,7 +29,7 @@ use Rattle.wild_meaning.specs.Item.{IsInput, IsLoadedSlot, IsKept, IsKeptSection
 use Rattle.wild_meaning.specs.Sequence.{Sort, Target, TargetInSlot, Instruction}
 use Rattle.wild_meaning.specs.Template.{IsTemplate}
 use Rattle.wild_meaning.specs.Reference.{IsCheckedAtZeroOnly, UsesOwnSymbolOnly, IsOmitted, ReferenceHolds}
-use Rattle.wild_meaning.specs.LinkedImage.{IsLinked}
+use Rattle.wild_meaning.specs.LinkedImage.{DescribesOutput, IsLinked}
 use Rattle.wild_meaning.specs.Worked.Builders.{Refuses}
 use Rattle.wild_meaning.specs.Worked.Refusals.{HasWrongNumber}
 
@@ -59,6 +59,7 @@ pub record IsJoined (l : Layout) : Type 0 where
   pub world : World
   pub elsewhere : world.base ≢ 0
   pub legal : IsLegal l world
+  pub described : DescribesOutput l (bytes l)
   pub linked : IsLinked l world (bytes l)
   pub call : HasCall l
   pub holds : ReferenceHolds l world linked.memory call.item call.reference
@@ -115,6 +116,7 @@ pub record IsJoinedForDebuggers (l : Layout) : Type 0 where
   pub world : World
   pub elsewhere : world.base ≢ 0
   pub legal : IsLegal l world
+  pub described : DescribesOutput l (bytes l)
   pub linked : IsLinked l world (bytes l)
   pub note : HasNote l
   pub holds : ReferenceHolds l world linked.memory note.item note.reference

@@ -20,8 +20,8 @@ use Rattle.wild_layout.specs.Faults.{errors}
 use Rattle.wild_loader.specs.declared.world.World.{World}
 use Rattle.wild_loader.specs.declared.world.Answer.{Answer}
 use Rattle.wild_loader.specs.Changes.{answer_at, distance_of}
-use Rattle.wild_meaning.specs.World.{IsFixed, IsMovable, IsLoadable, IsExecutable, IsFirstModule, HasResolver, AnswersSymbols, IsCopied, IsPastFileBytes, DoNotOverlap, IsLegal}
-use Rattle.wild_meaning.specs.Value.{IsDefinedBy, HasRaw, HasOwnSize, IsReplaceable, HasAnswer}
+use Rattle.wild_meaning.specs.World.{IsFixed, IsMovable, IsLoadable, IsExecutable, IsFirstModule, HasResolver, AnswersSymbols, IsLegal}
+use Rattle.wild_meaning.specs.Value.{IsReplaceable, HasAnswer}
 
 -- in the world an executable is the program's own module
 abbrev pub KnowsModule : Layout → World → Type 0
@@ -84,13 +84,6 @@ pub record IsOtherAnswer (o : OtherModule) (index : ℕ) (x : Answer) : Type 0 w
   pub offset : x.offset ≡ o.offset index
   pub size : x.size ≡ o.size index
 
--- Copied symbols are then the output's own. The memory for each has as many bytes as its size says, after file bytes, and no two
--- overlap.
-pub record CopiesHaveRoom (l : Layout) : Type 0 where
-  pub own : (i : ℕ) → IsCopied l i → IsReplaceable l i false
-  pub behind : (i raw z k : ℕ) → IsCopied l i → HasRaw l i raw → HasOwnSize l i z → k < z → IsPastFileBytes l (raw + k)
-  pub apart : (i j c d raw other z y : ℕ) → IsCopied l i → IsCopied l j → IsDefinedBy l i c → IsDefinedBy l j d → (c ≡ d → ⊥) → HasRaw l i raw → HasRaw l j other → HasOwnSize l i z → HasOwnSize l j y → DoNotOverlap raw z other y
-
 -- a legal world with that base, those answers of resolvers, and that other module
 pub record HasWorld (l : Layout) (base : ℕ) (answers : ℕ → ℕ) (others : OtherModule) : Type 0 where
   pub world : World
@@ -106,7 +99,6 @@ pub record IsConsistent (l : Layout) : Type 0 where
   pub faultless : errors l ≡ []
   pub numbers : NumbersFit l
   pub sizes : All (λ (s : Symbol). s.size < 2 ^ 64) l.symbols
-  pub copies : CopiesHaveRoom l
 
 -- So there are legal worlds, whatever the resolvers answer and the other module defines: at base 0 and, if the output is movable,
 -- at every base with enough room.

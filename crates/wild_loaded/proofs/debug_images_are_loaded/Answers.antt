@@ -8,6 +8,8 @@ returns c = bare_loaded (record {
   sections = c.sections_are_stored.ensures.sections;
   zeros = c.sections_are_stored.ensures.zeros;
   blanks = c.sections_are_stored.ensures.blanks;
+  texts = c.texts_are_stored.ensures;
+  file = c.file_bytes_are_stored.ensures;
   dynamic = c.dynamic_images_are_loaded.ensures;
   plain = c.static_images_are_loaded.ensures.plain;
 })

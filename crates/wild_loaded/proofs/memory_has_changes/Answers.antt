@@ -35,4 +35,6 @@ returns c = memory_moved (record {
   stand = c.slots_are_placed.ensures;
   blanks = c.sections_are_stored.ensures.blanks;
   thunks = c.thunks_are_there.ensures;
+  texts = c.texts_are_stored.ensures;
+  file = c.file_bytes_are_stored.ensures;
 })

@@ -6,6 +6,7 @@
 --   loaded_segment address file_size mem_size    a segment that is loaded
 --   dynamic_at address size              the segment of a dynamic section
 --   one_file file                        the groups of a single file
+--   IsRightImage l w image               the image describes the layout's output, and is linked in a world
 --   Refuses l w Wrong                    no image of a layout is linked in a world if memory is wrong in that way
 use Rattle.std.specs.Prelude.{ℕ, ℤ, true, false, List, [], ◌∷◌, length, Option, Some, None}
 use Rattle.wild_records.specs.Abi.Segment.{pt_load, pt_dynamic}
@@ -22,7 +23,7 @@ use Rattle.wild_types.specs.declared.file.Group.{Group}
 use Rattle.wild_types.specs.declared.layout.Layout.{Layout}
 use Rattle.wild_loader.specs.declared.memory.Memory.{Memory}
 use Rattle.wild_loader.specs.declared.world.World.{World}
-use Rattle.wild_meaning.specs.LinkedImage.{IsLinked}
+use Rattle.wild_meaning.specs.LinkedImage.{DescribesOutput, IsLinked}
 
 -- a symbol with these flags and this resolution
 abbrev pub resolved_symbol : ℕ → ℕ → ℕ → Option ℕ → Option ℕ → Option ℕ → Symbol
@@ -127,6 +128,10 @@ loaded_segment address file_size mem_size = record {
 -- a segment with the dynamic section
 abbrev pub dynamic_at : ℕ → ℕ → Segment
 dynamic_at address size = record (loaded_segment address size size) { kind = pt_dynamic; flags = 6; align = 8 }
+
+-- the image describes the layout's output, and is linked in the world
+abbrev pub IsRightImage : Layout → World → List ℕ → Type 0
+IsRightImage l w image = DescribesOutput l image × IsLinked l w image
 
 -- no image of the layout is linked in the world if memory is wrong in that way
 abbrev pub Refuses : Layout → World → (Memory → Type 0) → Type 0

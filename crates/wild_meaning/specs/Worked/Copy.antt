@@ -2,6 +2,7 @@
 --   copied_bytes     the library's bytes of the symbol
 --   copying_layout          the layout
 --   copying_world    a world with base 0x20000, in which the bytes to copy are not all 0
+--   roomless_layout, roomless_world   the same without room for a copy, and a world with no bytes to copy
 use Rattle.std.specs.Prelude.{ℕ, List, [], ◌∷◌, Some, None}
 use lib.IntN.{pos}
 use Rattle.wild_records.specs.Abi.Relocation.{r_x86_64_64}
@@ -49,16 +50,24 @@ copying_library = file_of file_role.Dynamic [] (0 ∷ [])
 abbrev pub copying_room : Segment
 copying_room = record (loaded_segment 0x3000 0 0x200) { offset = 0x1000 }
 
--- the layout: data from 0x1000 on, with the dynamic section, and zeros from 0x3000 to 0x3200
-abbrev pub copying_layout : Layout
-copying_layout = record empty_layout {
+-- a layout of these sections with these segments
+abbrev pub copying_with : List Segment → Layout
+copying_with segments = record empty_layout {
   kind = output.DynamicExecutable model.Relocatable;
   page_size = 0x1000;
-  segments = loaded_segment 0x1000 0x80 0x80 ∷ copying_room ∷ dynamic_at 0x1020 0x60 ∷ [];
+  segments = segments;
   symbols = copied_symbol ∷ start_symbol ∷ [];
   groups = group_of (copying_object ∷ copying_library ∷ []) ∷ [];
   entry = Some (entry.Symbol 1);
 }
+
+-- the layout: data from 0x1000 on, with the dynamic section, and zeros from 0x3000 to 0x3200
+abbrev pub copying_layout : Layout
+copying_layout = copying_with (loaded_segment 0x1000 0x80 0x80 ∷ copying_room ∷ dynamic_at 0x1020 0x60 ∷ [])
+
+-- the same without the zeros, so that no memory is after file bytes
+abbrev pub roomless_layout : Layout
+roomless_layout = copying_with (loaded_segment 0x1000 0x80 0x80 ∷ dynamic_at 0x1020 0x60 ∷ [])
 
 -- the library's bytes of the symbol
 abbrev pub copied_bytes : List ℕ
@@ -67,10 +76,20 @@ copied_bytes = 1 ∷ 2 ∷ 3 ∷ 4 ∷ 5 ∷ 6 ∷ 7 ∷ 8 ∷ []
 abbrev pub null_answer : Answer
 null_answer = record { address = 0; «module» = 1; offset = 0; size = 0; bytes = [] }
 
--- the symbol is the program's own, at its address there
-abbrev pub copied_answer : Answer
-copied_answer = record { address = 0x23100; «module» = 1; offset = 0x3100; size = 8; bytes = copied_bytes }
+-- the symbol is the program's own, at its address there; the library has these bytes of it
+abbrev pub answer_with : List ℕ → Answer
+answer_with bytes = record { address = 0x23100; «module» = 1; offset = 0x3100; size = 8; bytes = bytes }
 
--- a world with base 0x20000
+abbrev pub copied_answer : Answer
+copied_answer = answer_with copied_bytes
+
+-- a world with base 0x20000 and that answer
+abbrev pub world_with : List ℕ → World
+world_with bytes = record { base = 0x20000; symbols = null_answer ∷ answer_with bytes ∷ []; resolvers = []; modules = (1, pos 0) ∷ []; own_module = 1 }
+
 abbrev pub copying_world : World
-copying_world = record { base = 0x20000; symbols = null_answer ∷ copied_answer ∷ []; resolvers = []; modules = (1, pos 0) ∷ []; own_module = 1 }
+copying_world = world_with copied_bytes
+
+-- the library has no bytes of the symbol
+abbrev pub roomless_world : World
+roomless_world = world_with []

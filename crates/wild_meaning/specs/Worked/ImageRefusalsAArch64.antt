@@ -6,8 +6,7 @@ use Rattle.std.specs.Prelude.{ℕ, List, [], ◌∷◌}
 use Rattle.wild_loader.specs.declared.memory.Memory.{Memory}
 use Rattle.wild_loader.specs.Memory.{Holds}
 use Rattle.wild_meaning.specs.World.{IsLegal}
-use Rattle.wild_meaning.specs.LinkedImage.{IsLinked}
-use Rattle.wild_meaning.specs.Worked.Builders.{Refuses}
+use Rattle.wild_meaning.specs.Worked.Builders.{IsRightImage, Refuses}
 use Rattle.wild_meaning.specs.Worked.AArch64.{words_static, words_world}
 use Rattle.wild_meaning.specs.Worked.AArch64Image.{words_image}
 use Rattle.wild_meaning.specs.Worked.StaticRefusals.{MemoryHas}
@@ -68,4 +67,4 @@ pub record WrongCodeOfWordsIsRefused : Type 0 where
 
 -- an image is linked in the world, so the refusals are not vacuous
 abbrev pub WordsImageIsLinked : Type 0
-WordsImageIsLinked = IsLinked words_static words_world words_image
+WordsImageIsLinked = IsRightImage words_static words_world words_image

@@ -14,14 +14,14 @@ use Rattle.wild_records.specs.declared.relocations.Rela.{Rela}
 use Rattle.wild_types.specs.declared.layout.Layout.{Layout}
 use Rattle.wild_loader.specs.declared.kind.DynamicKind.TheVariants as kinds
 use Rattle.wild_loader.specs.declared.tables.Tables.{Tables}
-use Rattle.wild_loader.specs.declared.world.World.{World}
 use Rattle.wild_loader.specs.Changes.{kind_of}
 use Rattle.wild_loader.specs.Tables.{first_dynamic, value_of_tag, section_of, named_tables}
+use Rattle.wild_meaning.specs.World.{IsLoadable}
 use Rattle.wild_meaning.specs.Section.{IsSet, IsForDebuggers}
 use Rattle.wild_meaning.specs.Segments.{headers_in, HasDynamicLinker}
-use Rattle.wild_meaning.specs.LinkedImage.{IsLinked, processor_of}
+use Rattle.wild_meaning.specs.LinkedImage.{DescribesOutput, IsSound, processor_of}
 use Rattle.wild_meaning.specs.Worked.Builders.{loaded_segment}
-use Rattle.wild_meaning.specs.Worked.Static.{static_pie, static_pie_world}
+use Rattle.wild_meaning.specs.Worked.Static.{static_pie}
 
 -- the first program header that a loader reads
 abbrev pub first_header : List ℕ → ProgramHeader
@@ -30,39 +30,38 @@ first_header image = program_header_at image (file_header_at image 0).program_of
 -- in the worked program without a dynamic linker, which has one segment: another place or size in the file or in memory, other
 -- permissions, another alignment, or another number of segments
 pub record WrongSegmentsAreRefused : Type 0 where
-  pub offset : (image : List ℕ) → IsLinked static_pie static_pie_world image → (first_header image).offset ≢ 0x1000 → ⊥
-  pub address : (image : List ℕ) → IsLinked static_pie static_pie_world image → (first_header image).address ≢ 0x1000 → ⊥
-  pub physical : (image : List ℕ) → IsLinked static_pie static_pie_world image → (first_header image).physical ≢ 0x1000 → ⊥
-  pub file_size : (image : List ℕ) → IsLinked static_pie static_pie_world image → (first_header image).file_size ≢ 0x110 → ⊥
-  pub mem_size : (image : List ℕ) → IsLinked static_pie static_pie_world image → (first_header image).mem_size ≢ 0x110 → ⊥
-  pub flags : (image : List ℕ) → IsLinked static_pie static_pie_world image → (first_header image).flags ≢ 7 → ⊥
-  pub align : (image : List ℕ) → IsLinked static_pie static_pie_world image → (first_header image).align ≢ 0x1000 → ⊥
-  pub number : (image : List ℕ) → IsLinked static_pie static_pie_world image → (file_header_at image 0).program_count ≢ 1 → ⊥
+  pub offset : (image : List ℕ) → DescribesOutput static_pie image → (first_header image).offset ≢ 0x1000 → ⊥
+  pub address : (image : List ℕ) → DescribesOutput static_pie image → (first_header image).address ≢ 0x1000 → ⊥
+  pub physical : (image : List ℕ) → DescribesOutput static_pie image → (first_header image).physical ≢ 0x1000 → ⊥
+  pub file_size : (image : List ℕ) → DescribesOutput static_pie image → (first_header image).file_size ≢ 0x110 → ⊥
+  pub mem_size : (image : List ℕ) → DescribesOutput static_pie image → (first_header image).mem_size ≢ 0x110 → ⊥
+  pub flags : (image : List ℕ) → DescribesOutput static_pie image → (first_header image).flags ≢ 7 → ⊥
+  pub align : (image : List ℕ) → DescribesOutput static_pie image → (first_header image).align ≢ 0x1000 → ⊥
+  pub number : (image : List ℕ) → DescribesOutput static_pie image → (file_header_at image 0).program_count ≢ 1 → ⊥
 
 -- the same program with its segment directly after the headers in the file, so that no system can map it to the start of a page
 abbrev pub unpaged_layout : Layout
 unpaged_layout = record static_pie { segments = record (loaded_segment 0x1000 0x110 0x110) { offset = 120 } ∷ [] }
 
 abbrev pub OtherPlacesAreRefused : Type 0
-OtherPlacesAreRefused = (image : List ℕ) → IsLinked unpaged_layout static_pie_world image → ⊥
+OtherPlacesAreRefused = (image : List ℕ) → DescribesOutput unpaged_layout image → ⊥
 
--- for any layout, in any world
+-- for any layout of an output that can be loaded, even if it has no legal world
 pub record WrongSizesAreRefused : Type 0 where
-  pub version : (l : Layout) (w : World) (image : List ℕ) → IsLinked l w image → (file_header_at image 0).version ≢ 1 → ⊥
-  pub header : (l : Layout) (w : World) (image : List ℕ) → IsLinked l w image → (file_header_at image 0).header_size ≢ 64 → ⊥
-  pub program : (l : Layout) (w : World) (image : List ℕ) → IsLinked l w image → (file_header_at image 0).program_entry_size ≢ 56 → ⊥
-  pub section : (l : Layout) (w : World) (image : List ℕ) → IsLinked l w image → (file_header_at image 0).section_entry_size ≢ 64 → ⊥
+  pub version : (l : Layout) (image : List ℕ) → IsLoadable l.kind → IsSound l image → (file_header_at image 0).version ≢ 1 → ⊥
+  pub header : (l : Layout) (image : List ℕ) → IsLoadable l.kind → IsSound l image → (file_header_at image 0).header_size ≢ 64 → ⊥
+  pub program : (l : Layout) (image : List ℕ) → IsLoadable l.kind → IsSound l image → (file_header_at image 0).program_entry_size ≢ 56 → ⊥
+  pub section : (l : Layout) (image : List ℕ) → IsLoadable l.kind → IsSound l image → (file_header_at image 0).section_entry_size ≢ 64 → ⊥
 
--- for any layout of an output that a dynamic linker loads and that is not only for debuggers, in any world
+-- for any layout of an output that a dynamic linker loads and that is not only for debuggers, even if it has no legal world
 abbrev pub NoDynamicIsRefused : Type 0
-NoDynamicIsRefused = (l : Layout) (w : World) (image : List ℕ) → (IsForDebuggers l → ⊥) → HasDynamicLinker l.kind → IsLinked l w image → first_dynamic (headers_in image) ≡ None → ⊥
+NoDynamicIsRefused = (l : Layout) (image : List ℕ) → (IsForDebuggers l → ⊥) → HasDynamicLinker l.kind → IsSound l image → first_dynamic (headers_in image) ≡ None → ⊥
 
 -- an image of such an output, with these entries in its dynamic section
 pub record IsDynamic (l : Layout) (image : List ℕ) (ds : List DynamicEntry) : Type 0 where
-  pub world : World
   pub whole : IsForDebuggers l → ⊥
   pub linker : HasDynamicLinker l.kind
-  pub linked : IsLinked l world image
+  pub sound : IsSound l image
   pub segment : ProgramHeader
   pub first : first_dynamic (headers_in image) ≡ Some segment
   pub read : section_of image segment ≡ Ok ds

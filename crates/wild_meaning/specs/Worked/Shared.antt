@@ -2,11 +2,12 @@
 -- of each sort. In its world other modules have definitions of the interposable symbols.
 --   shared_data, shared_item   its data, and their required content
 --   shared_code, code_item     its code
+--   shared_near, near_item     its data with a distance that only its own symbol can have
 --   shared_layout                     the layout
 --   shared_world               a world with base 0x10000, where it is module 2
 use Rattle.std.specs.Prelude.{ℕ, List, [], ◌∷◌, Some, None}
 use lib.IntN.{pos, negsuc}
-use Rattle.wild_records.specs.Abi.Relocation.{r_x86_64_64, r_x86_64_gotpcrel64, r_x86_64_tpoff64, r_x86_64_dtpoff64, r_x86_64_size64, r_x86_64_tlsgd, r_x86_64_tlsld, r_x86_64_gottpoff, r_x86_64_gotpc32_tlsdesc}
+use Rattle.wild_records.specs.Abi.Relocation.{r_x86_64_64, r_x86_64_pc64, r_x86_64_gotpcrel64, r_x86_64_tpoff64, r_x86_64_dtpoff64, r_x86_64_size64, r_x86_64_tlsgd, r_x86_64_tlsld, r_x86_64_gottpoff, r_x86_64_gotpc32_tlsdesc}
 use Rattle.wild_types.specs.Empty.{empty_layout}
 use Rattle.wild_types.specs.declared.kind.OutputKind.TheVariants as output
 use Rattle.wild_types.specs.declared.symbol.Symbol.{Symbol}
@@ -77,6 +78,17 @@ shared_code = input 0x1080 6 (0x48 ∷ 0x8d ∷ 0x05 ∷ 0 ∷ 0 ∷ 0 ∷ 0 ∷
 abbrev pub code_item : Item
 code_item = item_with 0 shared_code
 
+-- the distance of the interposable symbol from the field, which no loader fills
+abbrev pub near_reference : InputRelocation
+near_reference = reference 0 r_x86_64_pc64 1 (pos 0)
+
+-- data that may not be written to
+abbrev pub shared_near : InputSection
+shared_near = input 0x1060 2 (0 ∷ 0 ∷ 0 ∷ 0 ∷ 0 ∷ 0 ∷ 0 ∷ 0 ∷ []) (near_reference ∷ [])
+
+abbrev pub near_item : Item
+near_item = item_with 0 shared_near
+
 -- the layout: data and code from 0x1000 on, slots from 0x2000 to 0x2060, then the dynamic section with 6 entries, then other
 -- words; thread-local data from 0x3000 to 0x3010
 abbrev pub shared_layout : Layout
@@ -88,7 +100,7 @@ shared_layout = record empty_layout {
   got_base = 0x2000;
   tlsld = Some 0x2050;
   symbols = own_symbol ∷ open_symbol ∷ own_thread ∷ other_thread ∷ [];
-  groups = one_file (shared_data ∷ shared_code ∷ []);
+  groups = one_file (shared_data ∷ shared_code ∷ shared_near ∷ []);
 }
 
 -- definitions in other modules: data in module 3, and thread-local data in module 4

@@ -4,12 +4,13 @@
 --   ..                    each other law names one kind of wrong memory
 --   SharedImageIsLinked   an image is linked there
 use Rattle.std.specs.Prelude.{◌≡◌, ℕ, ◌-◌, ◌^◌, List, [], ◌∷◌, Some}
+use Rattle.wild_words.specs.Words.{HasBytesAt}
 use Rattle.wild_loader.specs.declared.memory.Memory.{Memory}
-use Rattle.wild_loader.specs.Memory.{number_in, Holds}
+use Rattle.wild_loader.specs.Memory.{byte_in, number_in, Holds}
 use Rattle.wild_meaning.specs.World.{IsLegal}
-use Rattle.wild_meaning.specs.LinkedImage.{IsLinked}
 use Rattle.wild_meaning.specs.Slot.{HasWord}
-use Rattle.wild_meaning.specs.Worked.Builders.{Refuses}
+use Rattle.wild_meaning.specs.LinkedImage.{IsLinked}
+use Rattle.wild_meaning.specs.Worked.Builders.{IsRightImage, Refuses}
 use Rattle.wild_meaning.specs.Worked.Shared.{shared_layout, shared_world}
 use Rattle.wild_meaning.specs.Worked.SharedImage.{shared_image}
 use Rattle.wild_meaning.specs.Worked.Refusals.{HasWrongNumber, NamesWrongWord, NamesWrongModule, NamesWrongDescriptor, HasWrongByte}
@@ -52,6 +53,10 @@ pub record WrongAddressesAreRefused : Type 0 where
   pub moved : Refused (HasWrongNumber 0x11010 8 0x11104)
   pub replaced : Refused (HasWrongNumber 0x11008 8 0x700010)
 
+-- a distance that only the library's own symbol can have
+abbrev pub WrongOwnDistanceIsRefused : Type 0
+WrongOwnDistanceIsRefused = Refused (HasWrongNumber 0x11060 8 0xb0)
+
 -- thread-pointer offsets, in a field and in slots, which do not move with the base; and an offset in the output's own
 -- thread-local data
 pub record WrongOffsetsAreRefused : Type 0 where
@@ -92,6 +97,10 @@ WrongSizeIsRefused = Refused (HasWrongNumber 0x11030 8 24)
 abbrev pub WrongByteIsRefused : Type 0
 WrongByteIsRefused = Refused (HasWrongByte 0x11051 2)
 
+-- a byte of the dynamic section that memory does not have as the file has it: the address of the table of entries
+abbrev pub ChangedTableIsRefused : Type 0
+ChangedTableIsRefused = (image : List ℕ) (b : ℕ) (h : IsLinked shared_layout shared_world image) → HasBytesAt image 0x2068 (b ∷ []) → (byte_in h.memory 0x12068 ≡ Some b → ⊥) → ⊥
+
 -- an image is linked in the world, so the refusals are not vacuous
 abbrev pub SharedImageIsLinked : Type 0
-SharedImageIsLinked = IsLinked shared_layout shared_world shared_image
+SharedImageIsLinked = IsRightImage shared_layout shared_world shared_image

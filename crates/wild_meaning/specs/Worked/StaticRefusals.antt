@@ -14,8 +14,8 @@ use Rattle.wild_types.specs.declared.layout.Layout.{Layout}
 use Rattle.wild_loader.specs.declared.memory.Memory.{Memory}
 use Rattle.wild_loader.specs.Memory.{Holds}
 use Rattle.wild_meaning.specs.World.{IsLegal}
-use Rattle.wild_meaning.specs.LinkedImage.{IsLinked}
-use Rattle.wild_meaning.specs.Worked.Builders.{Refuses, section_without_data, one_file}
+use Rattle.wild_meaning.specs.LinkedImage.{DescribesOutput}
+use Rattle.wild_meaning.specs.Worked.Builders.{IsRightImage, Refuses, section_without_data, one_file}
 use Rattle.wild_meaning.specs.Worked.Static.{static_pie, static_pie_world}
 use Rattle.wild_meaning.specs.Worked.StaticImage.{static_image, padded_image}
 use Rattle.wild_meaning.specs.Worked.Refusals.{HasWrongNumber, HasWrongByte}
@@ -31,7 +31,7 @@ MemoryHas a bs m = Holds m a bs
 pub record WrongDataAreRefused : Type 0 where
   pub address : Refuses static_pie static_pie_world (HasWrongNumber 0x41100 8 0x41210)
   pub offset : Refuses static_pie static_pie_world (HasWrongNumber 0x41108 8 (2 ^ 64 - 8))
-  pub begin : (image : List ℕ) → IsLinked static_pie static_pie_world image → (file_header_at image 0).entry ≢ 0x1000 → ⊥
+  pub begin : (image : List ℕ) → DescribesOutput static_pie image → (file_header_at image 0).entry ≢ 0x1000 → ⊥
 
 -- `call second`, where the input calls the first function
 abbrev pub another_branch : List ℕ
@@ -76,8 +76,8 @@ WrongBlankIsRefused = Refuses padded_layout static_pie_world (HasWrongByte 0x411
 
 -- an image is linked in the world, so the refusals are not vacuous
 abbrev pub StaticImageIsLinked : Type 0
-StaticImageIsLinked = IsLinked static_pie static_pie_world static_image
+StaticImageIsLinked = IsRightImage static_pie static_pie_world static_image
 
 -- one of the program without data is, too
 abbrev pub PaddedImageIsLinked : Type 0
-PaddedImageIsLinked = IsLinked padded_layout static_pie_world padded_image
+PaddedImageIsLinked = IsRightImage padded_layout static_pie_world padded_image

@@ -15,7 +15,7 @@ abbrev pub strings_header : FileHeader
 strings_header = record static_header { entry = 0 }
 
 abbrev pub strings_segment : ProgramHeader
-strings_segment = record { kind = pt_load; flags = 7; offset = 0x1100; address = 0x1100; physical = 0x1100; file_size = 0x20; mem_size = 0x20; align = 0x1000 }
+strings_segment = record { kind = pt_load; flags = 7; offset = 0x1100; address = 0x1100; physical = 0x1100; file_size = 0x2c; mem_size = 0x2c; align = 0x1000 }
 
 -- the bytes after the file header: the program header, zeros and the data
 abbrev pub strings_rest : List ℕ

@@ -5,4 +5,4 @@ pub returns-clause-gives : goal.returns-clause-gives
 returns-clause-gives c = λ l w m s r v packed all p listed fits made f. gives_moved (record { value = c.stubs_are_read.ensures.value; plain = c.stubs_of_words_are_read.ensures.plain; marked = c.stubs_of_words_are_read.ensures.marked }) l w m s r v packed all p fits made f
 
 pub returns-clause-linked : goal.returns-clause-linked
-returns-clause-linked c = λ l w m s r v i packed all p listed made zero named alone. links_moved l w m s r v i packed p made named alone
+returns-clause-linked c = λ l w m s r v i packed all p listed made named alone. links_moved l w m s r v i packed p made named alone
