@@ -1,6 +1,7 @@
 //! Maps and sets whose growth may fail.
 
 use super::alloc::{AllocFailed, Global};
+pub use std::collections::{LinkedList, btree_map};
 use std::hash::Hash;
 
 /// `std`'s map; a call that allocates returns an error if there is no memory.
