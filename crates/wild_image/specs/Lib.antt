@@ -8,5 +8,5 @@ pub mod Pieces
 pub mod Steps
 pub mod Placed
 pub mod Owners
-pub mod Known
+pub mod LayoutFacts
 pub mod Prepared

@@ -6,7 +6,7 @@ use Rattle.wild_types.specs.declared.layout.Layout.{Layout}
 use Rattle.wild_sections.specs.SymbolTables.{HasSymbolTables}
 use Rattle.wild_contents.specs.SearchTable.{IsSearchTable}
 use Rattle.wild_image.specs.Append.{HasStarts}
-use Rattle.wild_image.specs.Known.{IsKnown}
+use Rattle.wild_image.specs.LayoutFacts.{AreFactsOf}
 use Rattle.wild_image.specs.declared.prepared.Prepared.{Prepared}
 
 -- for each group, the number of bytes that the groups before it write of each part
@@ -15,7 +15,7 @@ pub record HasGroupStarts (l : Layout) (starts : List (List ℕ)) : Type 0 where
   pub each : (j : ℕ) → j < length starts → HasStarts l j (slice_index_or starts j [])
 
 pub record IsPrepared (l : Layout) (p : Prepared) : Type 0 where
-  pub known : IsKnown l p.known
+  pub facts : AreFactsOf l p.facts
   pub symbols : HasSymbolTables l p.symbols
   pub table : IsSearchTable l p.table
   pub starts : HasGroupStarts l p.starts

@@ -21,14 +21,14 @@ ghost use Rattle.wild_contents.specs.VersionCounts.{NeedsFit};
 ghost use Rattle.wild_contents.specs.PlacedSections.{group_frames, HaveSearchTable};
 ghost use Rattle.wild_contents.specs.SearchTable.{IsTableFor, IsSearchTable};
 ghost use Rattle.wild_image.specs.Append.{GivesItsShares, HasRolesOnce, CanBeReversed, IsOfKind, SortedStands, FileStands, GroupStands};
-ghost use Rattle.wild_image.specs.Known.{IsKnown, GiveNothing};
+ghost use Rattle.wild_image.specs.LayoutFacts.{AreFactsOf, GiveNothing};
 ghost use Rattle.wild_image.specs.Pieces.{table_given, written, section_owned, sorted_owned, all_sorted, merged_and_identity_bytes, file_bytes, group_files, group_tables};
 ghost use Rattle.wild_image.specs.Placed.{kept_section_faults, placed_section_faults, PlacedApart, HasOrigins, IsRelaOrGroup, IsWhole, zeros_of, is_written_unchanged, unchanged_errors, unchanged_bytes, file_trailer_errors, file_trailer_bytes, is_plain_object};
 ghost use Rattle.wild_image.specs.Batches.{HasBatch, IsWithin, batch_errors};
 
 use crate::append::written_size;
 use crate::batch::Batch;
-use crate::known::Known;
+use crate::layout_facts::LayoutFacts;
 use std::alloc::{AllocError, Global};
 use std::thread::Threads;
 use wild_contents::{
@@ -557,10 +557,10 @@ fn add_file_trailer<A: ShardedArch, R: Threads + Sync>(
 }
 
 /// Fast test whether a file has nothing after its sections: an object without thunks, in an output without dynamic tables.
-fn has_no_trailer(known: Known, file: &File) -> bool
-    ensures { result ≡ (known.needs_no_dynamic_tables && is_plain_object file.now) }
+fn has_no_trailer(facts: LayoutFacts, file: &File) -> bool
+    ensures { result ≡ (facts.needs_no_dynamic_tables && is_plain_object file.now) }
 {
-    known.needs_no_dynamic_tables && matches!(file.role, FileRole::Object) && !file.owns_thunk_block
+    facts.needs_no_dynamic_tables && matches!(file.role, FileRole::Object) && !file.owns_thunk_block
 }
 
 /// Appends the sections of a file, whose frames begin at address `at`, and what follows them; or returns its first fault. Returns the
@@ -572,11 +572,11 @@ fn add_file<A: ShardedArch, R: Threads + Sync>(
     place: InputPlace,
     file: &File,
     at: u64,
-    known: Known,
+    facts: LayoutFacts,
     table: &SearchTable,
     bytes: &mut GroupBytes,
 ) -> Result<u64, Error>
-    requires known { IsKnown resolved.now.layout.now known }
+    requires facts { AreFactsOf resolved.now.layout.now facts }
     requires stands { FileStands resolved.now.layout.now at file.now }
     requires table { IsTableFor resolved.now.layout.now table.now file.now }
     ensures faults { Answers result (file_errors resolved.now.layout.now place.group at place.file file.now) }
@@ -586,7 +586,7 @@ fn add_file<A: ShardedArch, R: Threads + Sync>(
     ensures tables { bytes.new.tables ≡ bytes.old.tables }
 {
     let next = add_file_sections(by, resolved, place, file, at, bytes)?;
-    if has_no_trailer(known, file) {
+    if has_no_trailer(facts, file) {
         return Ok(next);
     }
     add_file_trailer(by, resolved, place, file, table, bytes)?;
@@ -600,11 +600,11 @@ fn add_files<A: ShardedArch, R: Threads + Sync>(
     resolved: &Resolved<A>,
     index: usize,
     group: &Group,
-    known: Known,
+    facts: LayoutFacts,
     table: &SearchTable,
     bytes: &mut GroupBytes,
 ) -> Result<(), Error>
-    requires known { IsKnown resolved.now.layout.now known }
+    requires facts { AreFactsOf resolved.now.layout.now facts }
     requires stands { GroupStands resolved.now.layout.now group.now }
     requires table { All (IsTableFor resolved.now.layout.now table.now) group.now.files }
     ensures faults { Answers result (files_errors resolved.now.layout.now index (frames_at resolved.now.layout.now group.now) 0 group.now.files) }
@@ -612,14 +612,14 @@ fn add_files<A: ShardedArch, R: Threads + Sync>(
     ensures frames { OnOk result (is_header_only_role resolved.now.layout.now EhFrame ≡ false → bytes.new.frames ≡ bytes.old.frames ++ group_frames resolved.now.layout.now group.now) }
     ensures tables { bytes.new.tables ≡ bytes.old.tables }
 {
-    let mut next = known.frames_at(group);
+    let mut next = facts.frames_at(group);
     for (i, file) in group.files.as_slice().iter().enumerate() {
         let place = InputPlace {
             group: index,
             file: i,
             section: 0,
         };
-        next = add_file(by, resolved, place, file, next, known, table, bytes)?;
+        next = add_file(by, resolved, place, file, next, facts, table, bytes)?;
     }
     Ok(())
 }
@@ -632,11 +632,11 @@ fn add_group_files<A: ShardedArch, R: Threads + Sync>(
     resolved: &Resolved<A>,
     index: usize,
     group: &Group,
-    known: Known,
+    facts: LayoutFacts,
     table: &SearchTable,
     bytes: &mut GroupBytes,
 ) -> Result<(), Error>
-    requires known { IsKnown resolved.now.layout.now known }
+    requires facts { AreFactsOf resolved.now.layout.now facts }
     requires stands { GroupStands resolved.now.layout.now group.now }
     requires table { All (IsTableFor resolved.now.layout.now table.now) group.now.files }
     ensures faults { Answers result (group_errors resolved.now.layout.now index group.now) }
@@ -644,8 +644,8 @@ fn add_group_files<A: ShardedArch, R: Threads + Sync>(
     ensures frames { OnOk result (is_header_only_role resolved.now.layout.now EhFrame ≡ false → bytes.new.frames ≡ bytes.old.frames ++ group_frames resolved.now.layout.now group.now) }
     ensures tables { bytes.new.tables ≡ bytes.old.tables }
 {
-    add_files(by, resolved, index, group, known, table, bytes)?;
-    if known.needs_no_dynamic_tables {
+    add_files(by, resolved, index, group, facts, table, bytes)?;
+    if facts.needs_no_dynamic_tables {
         return Ok(());
     }
     check_symbol_tables(resolved, index, group.files.as_slice())
@@ -687,12 +687,12 @@ fn total_written(layout: &Layout, i: usize, part: &Part, groups: &[Group]) -> u6
 }
 
 /// The number of bytes that a batch writes of tables: the capacity of their buffer, allocated once.
-fn room_of_tables(layout: &Layout, known: Known, batch: &Batch) -> u64
-    requires known { IsKnown layout.now known }
+fn room_of_tables(layout: &Layout, facts: LayoutFacts, batch: &Batch) -> u64
+    requires facts { AreFactsOf layout.now facts }
     requires within { IsWithin layout.now.groups batch.now }
     ensures { result ≡ 0 → GiveNothing layout.now batch.now.groups.now }
 {
-    if known.only_first_group_has_tables && batch.first != 0 {
+    if facts.only_first_group_has_tables && batch.first != 0 {
         return 0;
     }
     let mut room: u64 = 0;
@@ -723,11 +723,11 @@ pub(crate) fn add_group<A: ShardedArch, R: Threads + Sync>(
     resolved: &Resolved<A>,
     index: usize,
     group: &Group,
-    known: Known,
+    facts: LayoutFacts,
     table: &SearchTable,
     bytes: &mut GroupBytes,
 ) -> Result<(), Error>
-    requires known { IsKnown resolved.now.layout.now known }
+    requires facts { AreFactsOf resolved.now.layout.now facts }
     requires stands { GroupStands resolved.now.layout.now group.now }
     requires gives { GivesItsShares resolved.now.layout.now group.now }
     requires few { NeedsFit group.now }
@@ -738,7 +738,7 @@ pub(crate) fn add_group<A: ShardedArch, R: Threads + Sync>(
     ensures files { OnOk result (bytes.new.files ≡ bytes.old.files ++ group_files resolved.now.layout.now group.now) }
 {
     bytes.frames = PartBytes::empty(by.alloc);
-    add_group_files(by, resolved, index, group, known, table, bytes)?;
+    add_group_files(by, resolved, index, group, facts, table, bytes)?;
     let beside = FrameTables {
         frames: bytes.frames.as_slice(),
         table: table.bytes.as_slice(),
@@ -753,12 +753,12 @@ fn add_batch_group<A: ShardedArch, R: Threads + Sync>(
     resolved: &Resolved<A>,
     index: usize,
     group: &Group,
-    known: Known,
+    facts: LayoutFacts,
     table: &SearchTable,
     has_tables: bool,
     bytes: &mut GroupBytes,
 ) -> Result<(), Error>
-    requires known { IsKnown resolved.now.layout.now known }
+    requires facts { AreFactsOf resolved.now.layout.now facts }
     requires stands { GroupStands resolved.now.layout.now group.now }
     requires gives { GivesItsShares resolved.now.layout.now group.now }
     requires few { NeedsFit group.now }
@@ -770,9 +770,9 @@ fn add_batch_group<A: ShardedArch, R: Threads + Sync>(
     ensures files { OnOk result (bytes.new.files ≡ bytes.old.files ++ group_files resolved.now.layout.now group.now) }
 {
     if has_tables {
-        return add_group(by, resolved, index, group, known, table, bytes);
+        return add_group(by, resolved, index, group, facts, table, bytes);
     }
-    add_group_files(by, resolved, index, group, known, table, bytes)
+    add_group_files(by, resolved, index, group, facts, table, bytes)
 }
 
 /// All bytes of a batch, or its first fault.
@@ -780,10 +780,10 @@ pub(crate) fn bytes_of_batch<A: ShardedArch, R: Threads + Sync>(
     by: &Workers<R>,
     resolved: &Resolved<A>,
     batch: &Batch,
-    known: Known,
+    facts: LayoutFacts,
     table: &SearchTable,
 ) -> Result<GroupBytes, Error>
-    requires known { IsKnown resolved.now.layout.now known }
+    requires facts { AreFactsOf resolved.now.layout.now facts }
     requires stands { All (GroupStands resolved.now.layout.now) batch.now.groups.now }
     requires gives { All (GivesItsShares resolved.now.layout.now) batch.now.groups.now }
     requires few { All NeedsFit batch.now.groups.now }
@@ -794,7 +794,7 @@ pub(crate) fn bytes_of_batch<A: ShardedArch, R: Threads + Sync>(
     ensures faults { Answers result (batch_errors resolved.now.layout.now batch.now) }
     ensures bytes { IfOk result (HasBatch resolved.now.layout.now batch.now) }
 {
-    let tables = room_of_tables(resolved.layout, known, batch);
+    let tables = room_of_tables(resolved.layout, facts, batch);
     let files = room_of_files(resolved.layout, batch.groups);
     let mut bytes = GroupBytes::with_room(by.alloc, tables as usize, files as usize)?;
     for (i, group) in batch.groups.iter().enumerate() {
@@ -804,7 +804,7 @@ pub(crate) fn bytes_of_batch<A: ShardedArch, R: Threads + Sync>(
             resolved,
             index,
             group,
-            known,
+            facts,
             table,
             tables != 0,
             &mut bytes,

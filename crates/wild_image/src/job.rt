@@ -3,12 +3,12 @@ ghost use Rattle.std.specs.Prelude.{◌≡◌, ◌<◌, ◌^◌, length, Ok, []}
 ghost use Rattle.wild_plan_rules.specs.WellFormed.{first_clause};
 ghost use Rattle.wild_layout.specs.Faults.{flat_map_from, part_errors};
 ghost use Rattle.wild_image.specs.Batches.{AreBatches};
-ghost use Rattle.wild_image.specs.Known.{IsKnown};
+ghost use Rattle.wild_image.specs.LayoutFacts.{AreFactsOf};
 ghost use Rattle.wild_image.specs.Placed.{HasTableOrFault};
 
 use crate::batch::Batch;
 use crate::buffer::{GroupBytes, bytes_of_batch};
-use crate::known::Known;
+use crate::layout_facts::LayoutFacts;
 use crate::relocation_counts::relocation_counts_of_groups;
 use std::alloc::AllocError;
 use std::thread::Threads;
@@ -41,13 +41,13 @@ pub(crate) struct GroupJob<'r, 'a, 'l, 'b, 't, A: Arch, R> {
     pub(crate) by: Workers<'r, R>,
     pub(crate) resolved: &'a Resolved<'l, A>,
     pub(crate) batches: &'b [Batch<'b>],
-    pub(crate) known: Known,
+    pub(crate) facts: LayoutFacts,
     pub(crate) table: &'t SearchTable,
     ghost clauses: { first_clause resolved.now.layout.now ≡ Ok tt },
     ghost shares: { flat_map_from (part_errors resolved.now.layout.now) 0 resolved.now.layout.now.parts ≡ [] },
     ghost batches_are: { AreBatches resolved.now.layout.now.groups batches.now },
     ghost few: { length batches.now < 2 ^ 32 },
-    ghost known_is: { IsKnown resolved.now.layout.now known },
+    ghost facts_are: { AreFactsOf resolved.now.layout.now facts },
     ghost table_is: { HasTableOrFault resolved.now.layout.now table.now },
 }
 
@@ -77,7 +77,7 @@ impl<'r, 'a, 'l, 'b, 't, A: ShardedArch, R: Threads + Sync> Job<Outcome>
             self.resolved.layout,
             batch.groups,
         )?;
-        let bytes = bytes_of_batch(&self.by, self.resolved, batch, self.known, self.table);
+        let bytes = bytes_of_batch(&self.by, self.resolved, batch, self.facts, self.table);
         Ok(Outcome { bytes, counts })
     }
 }

@@ -6,7 +6,7 @@ mod batch;
 mod buffer;
 mod gaps;
 mod job;
-mod known;
+mod layout_facts;
 mod marks;
 mod output;
 mod padding;

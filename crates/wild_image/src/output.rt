@@ -10,13 +10,13 @@ ghost use Rattle.wild_layout.specs.Warnings.{warnings};
 ghost use Rattle.wild_layout.specs.Faults.{clause_errors, flat_map_from, part_errors, group_errors, errors};
 ghost use Rattle.wild_layout.specs.Geometry.{IsLaidOut};
 ghost use Rattle.wild_image.specs.Batches.{AreBatches, GivesBatch};
-ghost use Rattle.wild_image.specs.Known.{IsKnown};
+ghost use Rattle.wild_image.specs.LayoutFacts.{AreFactsOf};
 ghost use Rattle.wild_image.specs.declared.job.Outcome.{Outcome};
 
 use crate::append::append_all;
 use crate::batch::{Batch, batch_size, batches_of};
 use crate::job::{GroupJob, Outcome};
-use crate::known::Known;
+use crate::layout_facts::LayoutFacts;
 use crate::padding::padded_image;
 use crate::shares::{check_shares_in, first_has_all};
 use std::alloc::{AllocError, Global};
@@ -89,19 +89,19 @@ fn write_bytes<A: Arch>(
     append_all(layout, batches, outcomes, starts, out)
 }
 
-/// Writes the image of a layout whose clauses hold and whose shares are correct, or returns its first fault. `known` has
+/// Writes the image of a layout whose clauses hold and whose shares are correct, or returns its first fault. `facts` have
 /// been computed by the caller.
 fn write_resolved<A: ShardedArch + Sync, G: Gate + Sync, R: Threads + Sync>(
     rt: &R,
     alloc: Global,
     resolved: &Resolved<A>,
-    known: Known,
+    facts: LayoutFacts,
     workers: u8,
     gate: &G,
 ) -> Result<SizedOutput, Error>
 where
     A::Relaxation: Sync,
-    requires known { IsKnown resolved.now.layout.now known }
+    requires facts { AreFactsOf resolved.now.layout.now facts }
     requires workers { (1 ≤ workers) × (workers ≤ 64) }
     requires clauses { first_clause resolved.now.layout.now ≡ Ok tt }
     requires shares { flat_map_from (part_errors resolved.now.layout.now) 0 resolved.now.layout.now.parts ≡ [] }
@@ -126,7 +126,7 @@ where
         by,
         resolved,
         batches,
-        known,
+        facts,
         table: &table,
     };
     let sections = layout.sections.len() as u32;
@@ -143,20 +143,20 @@ where
     })
 }
 
-/// Writes the image of a layout whose clauses hold and whose shares are correct, or returns its first fault. `known`
-/// has been computed by the caller; `needs_owner_files` is set if relocations depend on the file that defines a symbol.
+/// Writes the image of a layout whose clauses hold and whose shares are correct, or returns its first fault. `facts`
+/// have been computed by the caller; `needs_owner_files` is set if relocations depend on the file that defines a symbol.
 fn write_laid_out<A: ShardedArch + Sync, G: Gate + Sync, R: Threads + Sync>(
     rt: &R,
     alloc: Global,
     layout: &Layout,
-    known: Known,
+    facts: LayoutFacts,
     needs_owner_files: bool,
     workers: u8,
     gate: &G,
 ) -> Result<SizedOutput, Error>
 where
     A::Relaxation: Sync,
-    requires known { IsKnown layout.now known }
+    requires facts { AreFactsOf layout.now facts }
     requires needs_owner_files { needs_owner_files ≡ layout_needs_owner_files layout.now }
     requires machine { layout.now.machine ≡ A.machine }
     requires workers { (1 ≤ workers) × (workers ≤ 64) }
@@ -171,7 +171,7 @@ where
 {
     let symbols = SymbolTables::with_survey(alloc, layout, needs_owner_files)?;
     let resolved = Resolved::<A>::new(layout, &symbols);
-    write_resolved(rt, alloc, &resolved, known, workers, gate)
+    write_resolved(rt, alloc, &resolved, facts, workers, gate)
 }
 
 /// Writes the image of a layout, or returns its first fault. `workers` threads share the work; each enters the gate before each batch
@@ -194,15 +194,15 @@ where
 {
     let seen = LayoutSurvey::of(layout);
     check_clauses(layout, seen)?;
-    let known = Known::of(
+    let facts = LayoutFacts::of(
         layout,
         seen.inner_groups_need_no_tables,
         first_has_all(layout),
     );
-    check_shares_in(layout, known)?;
+    check_shares_in(layout, facts)?;
     layouts_are_laid_out();
     let needs_owner_files = layout.kind.is_partial_link() || !seen.unmerged;
-    write_laid_out::<A, _, _>(rt, alloc, layout, known, needs_owner_files, workers, gate)
+    write_laid_out::<A, _, _>(rt, alloc, layout, facts, needs_owner_files, workers, gate)
 }
 
 /// Writes the image of a layout, or returns its first fault. `workers` threads share the work.

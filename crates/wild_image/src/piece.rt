@@ -14,12 +14,12 @@ ghost use Rattle.wild_layout.specs.SearchTable.{address_of_role};
 ghost use Rattle.wild_contents.specs.SearchTable.{IsTableFor};
 ghost use Rattle.wild_image.specs.Pieces.{group_parts, group_pairs, group_tables, group_files};
 ghost use Rattle.wild_image.specs.Jobs.{GivesPiece, PutsPieces};
-ghost use Rattle.wild_image.specs.Known.{IsKnown};
+ghost use Rattle.wild_image.specs.LayoutFacts.{AreFactsOf};
 ghost use Rattle.wild_image.specs.Prepared.{IsPrepared};
 
 use crate::append::append_group;
 use crate::buffer::{GroupBytes, add_group};
-use crate::known::Known;
+use crate::layout_facts::LayoutFacts;
 use crate::prepared::Prepared;
 use crate::relocation_counts::relocation_counts;
 use crate::split_by_part::split_by_part;
@@ -50,11 +50,11 @@ fn group_bytes<A: ShardedArch, R: Threads + Sync, L: Ledger>(
     resolved: &Resolved<A>,
     index: usize,
     group: &Group,
-    known: Known,
+    facts: LayoutFacts,
     table: &SearchTable,
     steps: &mut Steps<L>,
 ) -> Result<GroupBytes, Error>
-    requires known { IsKnown resolved.now.layout.now known }
+    requires facts { AreFactsOf resolved.now.layout.now facts }
     requires clauses { first_clause resolved.now.layout.now ≡ Ok tt }
     requires shares { flat_map_from (part_errors resolved.now.layout.now) 0 resolved.now.layout.now.parts ≡ [] }
     requires group { slice_get resolved.now.layout.now.groups index ≡ Some group.now }
@@ -67,7 +67,7 @@ fn group_bytes<A: ShardedArch, R: Threads + Sync, L: Ledger>(
     layouts_are_laid_out();
     steps.count_group();
     let mut bytes = GroupBytes::with_room(by.alloc, 0, 0)?;
-    add_group(by, resolved, index, group, known, table, &mut bytes)?;
+    add_group(by, resolved, index, group, facts, table, &mut bytes)?;
     Ok(bytes)
 }
 
@@ -77,11 +77,11 @@ fn piece_of<A: ShardedArch, R: Threads + Sync, L: Ledger>(
     resolved: &Resolved<A>,
     index: usize,
     group: &Group,
-    known: Known,
+    facts: LayoutFacts,
     table: &SearchTable,
     steps: &mut Steps<L>,
 ) -> Result<GroupPiece, Error>
-    requires known { IsKnown resolved.now.layout.now known }
+    requires facts { AreFactsOf resolved.now.layout.now facts }
     requires clauses { first_clause resolved.now.layout.now ≡ Ok tt }
     requires shares { flat_map_from (part_errors resolved.now.layout.now) 0 resolved.now.layout.now.parts ≡ [] }
     requires group { slice_get resolved.now.layout.now.groups index ≡ Some group.now }
@@ -92,7 +92,7 @@ fn piece_of<A: ShardedArch, R: Threads + Sync, L: Ledger>(
     ensures counted { steps.new ≡ steps.old + 1 }
 {
     layouts_are_laid_out();
-    let bytes = group_bytes(by, resolved, index, group, known, table, steps)?;
+    let bytes = group_bytes(by, resolved, index, group, facts, table, steps)?;
     let parts = split_by_part(by.alloc, resolved.layout, group, &bytes)?;
     let counts = Items::from_vec(relocation_counts(by.alloc, resolved.layout, group)?);
     Ok(GroupPiece { parts, counts })
@@ -154,8 +154,8 @@ pub fn write_group<A: ShardedArch, L: Ledger, R: Threads + Sync>(
         alloc,
         count: 1,
     };
-    let known = Known::of(layout, false, false);
-    piece_of(&by, &resolved, group, found, known, &table, steps)
+    let facts = LayoutFacts::of(layout, false, false);
+    piece_of(&by, &resolved, group, found, facts, &table, steps)
 }
 
 /// Copies the bytes of a group into an image, or returns the group's first fault and leaves the image as it is.
@@ -179,8 +179,8 @@ fn put_group<A: ShardedArch, R: Threads + Sync, L: Ledger>(
     ensures counted { steps.new ≡ steps.old + 1 }
 {
     layouts_are_laid_out();
-    let known = prepared.known;
-    let bytes = group_bytes(by, resolved, index, group, known, &prepared.table, steps)?;
+    let facts = prepared.facts;
+    let bytes = group_bytes(by, resolved, index, group, facts, &prepared.table, steps)?;
     let mut starts = prepared.starts_of(by.alloc, index)?;
     append_group(resolved.layout, index, group, &bytes, &mut starts, out);
     Ok(())

@@ -7,7 +7,7 @@ ghost use Rattle.wild_image.specs.Append.{EachPartLies, HasStarts};
 ghost use Rattle.wild_image.specs.Prepared.{HasGroupStarts, IsPrepared};
 
 use crate::append::written_size;
-use crate::known::Known;
+use crate::layout_facts::LayoutFacts;
 use crate::shares::first_has_all;
 use std::alloc::{AllocError, Global};
 use std::thread::Threads;
@@ -23,7 +23,7 @@ use wild_words::Items;
 /// symbols, the search table of frames, and where each group's bytes begin in each part.
 #[derive(Drop)]
 pub struct Prepared {
-    pub(crate) known: Known,
+    pub(crate) facts: LayoutFacts,
     pub(crate) symbols: SymbolTables,
     pub(crate) table: SearchTable,
     starts: Items<Items<u64>>,
@@ -92,9 +92,9 @@ impl Prepared {
         let table = make_search_table(rt, alloc, &resolved)?;
         let starts = group_starts(alloc, layout)?;
         let inside = seen.inner_groups_need_no_tables;
-        let known = Known::of(layout, inside, first_has_all(layout));
+        let facts = LayoutFacts::of(layout, inside, first_has_all(layout));
         Ok(Prepared {
-            known,
+            facts,
             symbols,
             table,
             starts,

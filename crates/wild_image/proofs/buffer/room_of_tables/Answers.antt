@@ -17,4 +17,4 @@ returns c = λ none k p at. c.loop-i.invariant none k p (let low = slice_get_wit
 pub returns-then-batch-ne0 : goal.returns-then-batch-ne0
 returns-then-batch-ne0 c = λ e.
     (let behind : 1 ≤ c.args.batch.now.first = search rules in
-    others_give_nothing c.args.layout.now c.args.batch.now (c.requires.known.only_first_group_has_tables c.if-known.true) c.requires.within behind)
+    others_give_nothing c.args.layout.now c.args.batch.now (c.requires.facts.only_first_group_has_tables c.if-facts.true) c.requires.within behind)

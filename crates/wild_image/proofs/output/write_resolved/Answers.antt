@@ -8,7 +8,7 @@ use Rattle.wild_layout.specs.Faults.{flat_map_from, part_errors}
 use Rattle.wild_layout.specs.Geometry.{IsLaidOut}
 use Rattle.wild_image.specs.declared.batch.Batch.{Batch}
 use Rattle.wild_image.specs.Batches.{AreBatches, GivesBatch, pairs_at}
-use Rattle.wild_image.specs.Known.{IsKnown}
+use Rattle.wild_image.specs.LayoutFacts.{AreFactsOf}
 use Rattle.wild_image.proofs.OutputLemmas.{FieldsFit-IsLaidOut, role_address}
 use Rattle.wild_image.proofs.GatherLemmas.{pairs_below, sums_fit, totals_are}
 use Rattle.wild_image.proofs.JobLemmas.{few_groups}
@@ -70,5 +70,5 @@ make_search_table-requires g c = (search rules, role_address c.args.resolved.now
 pub invariant_of-job-clause-table_is : goal.invariant_of-job-clause-table_is
 invariant_of-job-clause-table_is g c = made c.args.resolved.now.layout.now c.in_ok-table.table c.in_ok-table.ensures
 
-pub invariant_of-job-clause-known_is : goal.invariant_of-job-clause-known_is
-invariant_of-job-clause-known_is g c = c.requires.known
+pub invariant_of-job-clause-facts_are : goal.invariant_of-job-clause-facts_are
+invariant_of-job-clause-facts_are g c = c.requires.facts

@@ -9,7 +9,7 @@ use Rattle.wild_image.proofs.shares.shares_are_correct.Goals as goal
 pub returns-then-index-ne0 : goal.returns-then-index-ne0
 returns-then-index-ne0 c = λ e i p part.
     (let behind : 1 ≤ c.args.index = search rules in
-    others_plain c.args.layout.now i c.args.index p c.args.group.now part c.requires.group (c.requires.known.only_first_group_has_tables c.if-known.true) behind (c.is_plain-plain.ensures c.if-plain.true))
+    others_plain c.args.layout.now i c.args.index p c.args.group.now part c.requires.group (c.requires.facts.only_first_group_has_tables c.if-facts.true) behind (c.is_plain-plain.ensures c.if-plain.true))
 
 pub share_is_correct-requires-clause-part : goal.share_is_correct-requires-clause-part
 share_is_correct-requires-clause-part c = read_at c.args.layout.now.parts c.as_slice-part-items.result.now c.loop-i.i c.part-item.result c.as_slice-part-items.ensures c.loop-i-test.true c.part-item.is

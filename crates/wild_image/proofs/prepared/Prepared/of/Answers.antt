@@ -19,7 +19,7 @@ pub returns : goal.returns
 returns g c =
     let l = c.args.layout.now in
     record {
-      known = c.of-known.ensures;
+      facts = c.of-facts.ensures;
       symbols = c.in_ok-symbols.ensures;
       table = subst (λ (m : Layout). IsSearchTable m c.in_ok-table.table) c.new-resolved.ensures c.in_ok-table.ensures;
       starts = c.in_ok-starts.ensures;

@@ -1,5 +1,5 @@
 -- Properties that are computed once for a layout, or for some groups.
---   IsKnown l k            the fields of k hold of the layout: `needs_no_dynamic_tables`, `inner_groups_have_no_tables`, `only_first_group_has_tables`;
+--   AreFactsOf l k            the fields of k hold of the layout: `needs_no_dynamic_tables`, `inner_groups_have_no_tables`, `only_first_group_has_tables`;
 --                          and `frames` is the address of .eh_frame
 --   GiveNothing l gs       the groups write nothing to any table
 use Rattle.std.specs.Prelude.{◌≡◌, ℕ, true, List, Some, slice_get}
@@ -14,10 +14,10 @@ use Rattle.wild_placement.specs.PlacedSections.{part_address}
 use Rattle.wild_needs.specs.Needs.{has_no_dynamic_tables, inner_groups_need_no_tables}
 use Rattle.wild_image.specs.Pieces.{written}
 use Rattle.wild_image.specs.Steps.{OthersHaveNone}
-use Rattle.wild_image.specs.declared.known.Known.{Known}
+use Rattle.wild_image.specs.declared.layout_facts.LayoutFacts.{LayoutFacts}
 
 -- the fields hold of the layout; `needs_no_dynamic_tables` is exact, the other two may be false although the property holds
-pub record IsKnown (l : Layout) (k : Known) : Type 0 where
+pub record AreFactsOf (l : Layout) (k : LayoutFacts) : Type 0 where
   pub needs_no_dynamic_tables : k.needs_no_dynamic_tables ≡ has_no_dynamic_tables l
   pub inner_groups_have_no_tables : k.inner_groups_have_no_tables ≡ true → inner_groups_need_no_tables l ≡ true
   pub only_first_group_has_tables : k.only_first_group_has_tables ≡ true → OthersHaveNone l
