@@ -221,7 +221,8 @@ fn append_identity<'b>(layout: &Layout, bytes: &'b [u8], out: &mut [u8]) -> &'b 
     rest
 }
 
-/// Copies merged strings and the output's identity, which the first file writes, to their parts; returns the rest.
+/// Copies the merged strings and the text that identifies the linker (`identity` of the layout) to their parts; returns the rest. In a
+/// group's buffer they follow the sections of the first file.
 fn append_merged_and_identity<'b>(layout: &Layout, bytes: &'b [u8], out: &mut [u8]) -> &'b [u8]
     requires merged { All (MergedLies layout.now) layout.now.merged }
     requires identity { SomeLies layout.now layout.now.identity.part layout.now.identity.bytes }
@@ -347,7 +348,8 @@ fn append_files<'b>(layout: &Layout, group: &Group, bytes: &'b [u8], out: &mut [
     rest
 }
 
-/// The number of bytes that a group writes of its share of a part: 0 for a raw part, and 0 if the part's section is omitted.
+/// The number of bytes of tables that a group writes of its share of part `i`: 0 for a raw part, which holds input sections
+/// (`append_files` copies these), and 0 if only the header of the part's section is written.
 pub(crate) fn written_size(layout: &Layout, part: &Part, group: &Group, i: usize) -> u64
     ensures { result ≡ written layout.now part.now (given i group.now) }
 {
@@ -359,7 +361,7 @@ pub(crate) fn written_size(layout: &Layout, part: &Part, group: &Group, i: usize
     }
 }
 
-/// Copies what group `number` contributes to part i, the first `size` of `bytes`, into the image, after the contributions of the
+/// Copies what group `index` contributes to part i, the first `size` of `bytes`, into the image, after the contributions of the
 /// groups before it; returns the rest.
 fn append_table<'b>(
     layout: &Layout,
@@ -390,7 +392,7 @@ fn append_table<'b>(
     rest
 }
 
-/// Copies what group `number` contributes to each part, and advances each part's start past it; returns the rest. Stops early if
+/// Copies what group `index` contributes to each part, and advances each part's start past it; returns the rest. Stops early if
 /// `bytes` is empty.
 fn append_tables<'b>(
     layout: &Layout,

@@ -404,7 +404,8 @@ fn add_file_sections<A: ShardedArch, R: Threads + Sync>(
     Ok(next)
 }
 
-/// Appends one sorted input section, or returns its first fault, which names the section's own place in the input.
+/// Appends the input section that an entry of the sort order names, or returns its first fault, which names the section's own place in
+/// the input. An entry that names no section adds nothing.
 #[tactic(auto, using(crate::proofs::PlacedLemmas::sorted_stood, crate::proofs::StandingLemmas::one_owned))]
 fn add_sorted_section<A: ShardedArch, R: Threads + Sync>(
     by: &Workers<R>,

@@ -9,7 +9,8 @@ ghost use Rattle.wild_image.specs.Pieces.{section_pairs, file_pairs, group_pairs
 use std::alloc::{AllocError, Global};
 use wild_types::{File, Group, InputSection, Layout};
 
-/// Whether the relocations of an input section are counted: not if its output section is omitted.
+/// Whether the relocations of an input section are counted (`count` lines): those of a loaded, sorted or debug section with data
+/// (`is_counted`) whose output section is not omitted.
 fn adds_to_counts(layout: &Layout, section: &InputSection) -> bool
     ensures { result ≡ (is_counted section.now && not (is_omitted layout.now section.now)) }
 {

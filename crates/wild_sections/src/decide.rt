@@ -14,7 +14,8 @@ use wild_relax::{Arch, Row, UnknownSequence};
 use wild_reloc::{RelocationKind, RelocationKindInfo};
 use wild_types::{Fault, InputRelocation, ItemRef};
 
-/// The address of the field of a rewritten instruction, modulo 2^64.
+/// P of a rewritten instruction, modulo 2^64: the address of its field. The row rewrites from `row.back()` bytes before the relocation's
+/// offset, and its field begins `row.field()` bytes after that.
 fn place_to(item: &ItemRef, relocation: &InputRelocation, row: Row) -> u64
     ensures { result ≡ place_to (item_now item.now) relocation.now row }
 {

@@ -25,7 +25,7 @@ fn find_in_file(owner: DefiningFile, file: &File, owners: &mut [Option<DefiningF
     }
 }
 
-/// Records the files of a group.
+/// Sets each entry of `owners` (by symbol) that is None to the first file of a group whose range of symbols has the symbol.
 fn find_in_files(group: usize, files: &[File], owners: &mut [Option<DefiningFile>])
     ensures { (k : ℕ) → k < length owners.old → slice_index_or owners.new k None
         ≡ option_or (slice_index_or owners.old k None) (defining_file_in group 0 files.now k) }
@@ -35,7 +35,7 @@ fn find_in_files(group: usize, files: &[File], owners: &mut [Option<DefiningFile
     }
 }
 
-/// Records the files of all groups.
+/// Sets each entry of `owners` (by symbol) that is None to the first file whose range of symbols has the symbol.
 pub(crate) fn find_defining_files(groups: &[Group], owners: &mut [Option<DefiningFile>])
     ensures { (k : ℕ) → k < length owners.old → slice_index_or owners.new k None
         ≡ option_or (slice_index_or owners.old k None) (defining_file_among 0 groups.now k) }
@@ -46,7 +46,7 @@ pub(crate) fn find_defining_files(groups: &[Group], owners: &mut [Option<Definin
     }
 }
 
-/// The file with that position.
+/// The file that `owner` names by its group and its place in it; None if there is no such group or file.
 pub(crate) fn file_at(layout: &Layout, owner: DefiningFile) -> Option<&File>
     ensures { option_copied result ≡ file_at layout.now owner }
 {

@@ -92,14 +92,14 @@ fn has_second_slot(flags: ValueFlags) -> bool
     flags.needs_ifunc_got_for_address() || flags.needs_canonical_plt_got_for_address()
 }
 
-/// The place after a word, if there is one at `place`.
+/// The place after the word at `place`, or `place` itself if `word` is false.
 fn after_word(word: bool, place: u64) -> u64
     ensures { result ≡ after_word word place }
 {
     if word { next_word(place) } else { place }
 }
 
-/// The place after a pair of words, if there is one at `place`.
+/// The place after the pair of words at `place`, or `place` itself if `pair` is false.
 fn after_pair(pair: bool, place: u64) -> u64
     ensures { result ≡ after_pair pair place }
 {

@@ -164,7 +164,7 @@ fn is_undefined(layout: &Layout, symbol: SymbolIndex) -> bool
     }
 }
 
-/// The size of the symbol's definition in bytes.
+/// The size of the symbol's definition in bytes, 0 if there is none.
 pub(crate) fn symbol_size(layout: &Layout, symbol: SymbolIndex) -> u64
     ensures { result ≡ symbol_size layout.now symbol }
 {
