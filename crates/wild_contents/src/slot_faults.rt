@@ -1,4 +1,4 @@
-//! FrameFault GOT and PLT entries of a file's symbols cannot be written.
+//! Why GOT and PLT entries of a file's symbols cannot be written.
 ghost use Rattle.std.specs.Prelude.{◌≡◌, Some};
 ghost use Rattle.wild_types.specs.Faults.{Answers};
 ghost use Rattle.wild_slot.specs.SymbolWords.{slots_of};
@@ -27,7 +27,7 @@ fn fault_of(index: usize, fault: SlotFault) -> Fault
     }
 }
 
-/// FrameFault a symbol's GOT and PLT entries cannot be written; None for a symbol without a GOT entry.
+/// Why a symbol's GOT and PLT entries cannot be written; None for a symbol without a GOT entry.
 #[tactic(auto, unfolding(wild_slot::specs::SymbolWords::slots_of, wild_slot::specs::Slots::slot))]
 fn fault_in(layout: &Layout, symbol: &Symbol) -> Option<SlotFault>
     ensures { result ≡ (slots_of layout.now symbol.now).fault }

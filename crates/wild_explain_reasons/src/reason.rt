@@ -1,4 +1,4 @@
-//! FrameFault a layout was refused.
+//! Why a layout was refused.
 
 use crate::clauses::push_clause;
 use crate::faults::push_fault;

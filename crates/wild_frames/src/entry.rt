@@ -45,7 +45,7 @@ pub enum Found {
     Kept { entry: KeptEntry },
 }
 
-/// FrameFault frames were not written.
+/// Why frames were not written.
 #[derive(Clone, Copy, Debug, PartialEq, Eq)]
 pub enum FrameError {
     Bad(BadFrame),

@@ -25,7 +25,7 @@ pub struct Fde {
     pub address: u64,
 }
 
-/// FrameFault a table was not written.
+/// Why a table was not written.
 #[derive(Clone, Copy, Debug, PartialEq, Eq)]
 pub enum TableError {
     /// The distance of an address from the header does not fit a signed 32-bit field: the distance, modulo 2^64.

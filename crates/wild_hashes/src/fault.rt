@@ -1,6 +1,6 @@
-//! FrameFault the look-up of a name fails.
+//! Why the look-up of a name fails.
 
-/// FrameFault the look-up of a name in the bytes of tables fails.
+/// Why the look-up of a name in the bytes of tables fails.
 #[derive(Clone, Copy, Drop)]
 pub enum LookupFault {
     /// The word at this offset of the hash table goes past the end of the table.
@@ -13,7 +13,7 @@ pub enum LookupFault {
     Cycle { index: u64 },
 }
 
-/// FrameFault the look-up of a name in an image fails.
+/// Why the look-up of a name in an image fails.
 #[derive(Clone, Copy, Debug, PartialEq, Eq, Drop)]
 pub enum ImageFault {
     /// The first 64 bytes are not the header of an ELF64 little-endian executable or shared object for a known machine.

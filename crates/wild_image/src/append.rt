@@ -47,7 +47,7 @@ fn has_some(layout: &Layout, section: &InputSection) -> bool
     section.size != 0 && (!section.nobits || layout.has_data(layout.section_of(section.part)))
 }
 
-/// Whether such a section has bytes, and its part is written.
+/// Whether `has_some` holds, and more than the header of the output section is written.
 pub(crate) fn owns_room(layout: &Layout, section: &InputSection) -> bool
     ensures { result ≡ has_room layout.now section.now }
 {
@@ -66,7 +66,7 @@ fn has_range(layout: &Layout, section: &InputSection) -> bool
     }
 }
 
-/// Whether such a section has bytes, and its part is written.
+/// Whether `has_range` holds, and more than the header of the output section is written.
 pub(crate) fn owns_range(layout: &Layout, section: &InputSection) -> bool
     ensures { result ≡ ranged_room layout.now section.now }
 {
@@ -361,8 +361,8 @@ pub(crate) fn written_size(layout: &Layout, part: &Part, group: &Group, i: usize
     }
 }
 
-/// Copies what group `index` contributes to part i, the first `size` of `bytes`, into the image, after the contributions of the
-/// groups before it; returns the rest.
+/// Copies what group `index` contributes to part i, the first `size` of `bytes`, into the image, `start` bytes after the part's offset:
+/// after what the groups before it contribute. Returns the rest.
 fn append_table<'b>(
     layout: &Layout,
     index: usize,

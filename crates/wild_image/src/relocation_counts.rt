@@ -10,7 +10,7 @@ use std::alloc::{AllocError, Global};
 use wild_types::{File, Group, InputSection, Layout};
 
 /// Whether the relocations of an input section are counted (`count` lines): those of a loaded, sorted or debug section with data
-/// (`is_counted`) whose output section is not omitted.
+/// (`is_counted`), unless only the header of its output section is written.
 fn adds_to_counts(layout: &Layout, section: &InputSection) -> bool
     ensures { result ≡ (is_counted section.now && not (is_omitted layout.now section.now)) }
 {

@@ -7,7 +7,7 @@ ghost use Rattle.wild_io.specs.declared.whole_text.ReadFault.TheVariants.{Memory
 use crate::traits::{IoFailure, Sink, Source};
 use std::alloc::{AllocError, Global};
 
-/// FrameFault an input was not read to its end.
+/// Why an input was not read to its end.
 #[derive(Clone, Copy, PartialEq, Eq)]
 pub enum ReadFault {
     /// Out of memory.

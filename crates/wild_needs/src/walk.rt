@@ -15,7 +15,7 @@ pub trait TableSink {
     ghost use Rattle.wild_needs.specs.TableSymbols.{TableSymbol, item};
     ghost use Rattle.wild_words.specs.Runs.{SinkRun};
 
-    /// FrameFault a symbol is refused.
+    /// Why a symbol is refused.
     type Error: Drop;
 
     /// The relation between the state before and after a symbol is accepted.

@@ -46,7 +46,7 @@ pub enum SlotWord {
     Plt(SlotEntry),
 }
 
-/// FrameFault a slot cannot be written.
+/// Why a slot cannot be written.
 #[derive(Clone, Copy, Debug, PartialEq, Eq)]
 pub enum SlotFault {
     /// The symbol needs an index in the dynamic symbol table and has none.

@@ -1,8 +1,8 @@
-//! FrameFault the slots of a symbol could not be written.
+//! Why the slots of a symbol could not be written.
 use wild_slot::SlotFault;
 use wild_types::Error;
 
-/// FrameFault the slots of a symbol could not be written.
+/// Why the slots of a symbol could not be written.
 #[derive(Clone, Copy, Debug, PartialEq, Eq)]
 pub enum SlotWriteError {
     /// The group's share of a part is too small.

@@ -1,4 +1,4 @@
-//! FrameFault a layout has no image.
+//! Why a layout has no image.
 use std::alloc::{AllocError, AllocFailed};
 
 /// A clause of a well-formed layout that fails, with the index of the first item that fails it.
@@ -38,7 +38,7 @@ pub enum FrameFault {
     Field,
 }
 
-/// FrameFault a layout has no image. Parts, groups and symbols are indexes into their lists, in the form in which they are printed; sizes
+/// Why a layout has no image. Parts, groups and symbols are indexes into their lists, in the form in which they are printed; sizes
 /// are in bytes.
 #[derive(Clone, Copy, Debug, PartialEq, Eq)]
 pub enum Fault {
@@ -148,7 +148,7 @@ impl At {
     };
 }
 
-/// FrameFault no image was written, and where.
+/// Why no image was written, and where.
 #[derive(Clone, Copy, Debug, PartialEq, Eq)]
 pub struct Error {
     pub fault: Fault,

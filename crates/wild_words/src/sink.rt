@@ -5,7 +5,7 @@ pub trait Sink<X> {
     ghost use Rattle.std.specs.Prelude.{[], ◌∷◌};
     ghost use Rattle.wild_words.specs.Runs.{SinkRun};
 
-    /// FrameFault an item is refused.
+    /// Why an item is refused.
     type Error: Drop;
 
     /// The relation of the state before and after an item that is taken.
