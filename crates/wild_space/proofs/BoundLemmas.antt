@@ -304,7 +304,7 @@ from_loaded xs rs b o ks f s l order symbols spaces disjoint p is =
     subst P is here
 
 module _ (xs : List NamedImage) (rs : List (ℕ × ℕ)) (b : Bound) (o : List ℕ) (order : order_of xs ≡ Ok o) where
-  together : Spaces → Loaded → Bound
+  abbrev together : Spaces → Loaded → Bound
   together s l = record { order = o; binds = s.binds; worlds = l.worlds; memories = l.memories }
 
   from_disjoint : (ks : List ℕ) (f : Symbols) (s : Spaces) → symbols_of xs o rs ks 0 ≡ Ok f → later_spaces xs o rs f.binds ≡ Ok s → least_in_two (placed xs o) ≡ None → (loaded xs o rs ks f.answers f.sources s.worlds >>= λ l. Ok (together s l)) ≡ Ok b → Parts xs rs b

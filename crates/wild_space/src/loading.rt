@@ -1,5 +1,5 @@
 //! Loads the images of a space, the last one first.
-ghost use Rattle.std.specs.Prelude.{◌≡◌, ◌<◌, ◌≤◌, ◌+◌, ◌-◌, Ok, Some, length, drop};
+ghost use Rattle.std.specs.Prelude.{slice_get, ◌≡◌, ◌<◌, ◌≤◌, ◌+◌, ◌-◌, Ok, Some, length, drop};
 ghost use Rattle.wild_space.specs.Order.{AreOrdered};
 ghost use Rattle.wild_space.specs.Given.{Gives, GivesBy};
 ghost use Rattle.wild_space.specs.Binds.{place_of};
@@ -119,6 +119,13 @@ fn with_copy(
     }
 }
 
+/// The source of the copy of a symbol; None past the end of the list.
+fn source_of(sources: &[Option<Source>], index: u32) -> Option<Option<Source>>
+    ensures { result ≡ slice_get sources.now index }
+{
+    sources.get(index as usize).copied()
+}
+
 /// The answers, with the bytes of all copied symbols.
 #[tactic(auto, using(crate::proofs::Loops::copies_steps))]
 fn with_copies(
@@ -134,7 +141,7 @@ fn with_copies(
 {
     let mut answers = answers;
     for index in copies {
-        let source = sources.get(*index as usize).copied();
+        let source = source_of(sources, *index);
         answers = with_copy(alloc, order, memories, *index, source, answers)?;
     }
     Ok(answers)
