@@ -12,7 +12,7 @@ returns-in_err-answers c =
     let k = get_or c.args.copies.now c.loop-index.index-index 0 in
     let e = c.in_err-answers.field-0.0 in
     let start = with_copies order c.args.sources.now ms c.args.copies.now c.args.answers in
-    let fails = rw c.source_of.ensures at c.in_err-answers.ensures in
+    let fails = rw c.source_of-source.ensures at c.in_err-answers.ensures in
     rw (p.1, p.2) (copies_refused order c.args.sources.now ms c.args.copies.now c.loop-index.index-index c.loop-index.answers start e c.loop-index-test.true fails c.loop-index.invariant)
 
 pub loop-index-preserved : goal.loop-index-preserved
@@ -20,5 +20,5 @@ loop-index-preserved c =
     let order = c.args.order.now in
     let ms = c.args.memories.now in
     let start = with_copies order c.args.sources.now ms c.args.copies.now c.args.answers in
-    let own = rw c.source_of.ensures at c.in_ok-answers.ensures in
+    let own = rw c.source_of-source.ensures at c.in_ok-answers.ensures in
     copies_next order c.args.sources.now ms c.args.copies.now c.loop-index.index-index c.loop-index.answers c.in_ok-answers.answers start c.loop-index-test.true own c.loop-index.invariant
