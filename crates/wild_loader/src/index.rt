@@ -13,9 +13,10 @@ use std::alloc::Global;
 use std::marker::Model;
 use wild_words::Items;
 
-/// Memory whose entries are not applied yet; contracts treat it as a memory.
+/// The runs of an image's segments, with an index by address: a byte is found in time logarithmic in the number of runs. Contracts treat
+/// it as a memory; the entries of its tables are not applied.
 #[derive(Drop)]
-pub(crate) struct IndexedMemory {
+pub struct IndexedMemory {
     machine: Machine,
     runs: Vec<Run>,
     /// The start and the list index of each run, sorted by start.
@@ -107,8 +108,8 @@ fn put_at(runs: &mut Vec<Run>, place: usize, address: u128, byte: u8)
 }
 
 impl IndexedMemory {
-    /// The memory of runs that share no address.
-    pub(crate) fn new(
+    /// The memory of runs that share no address. Fails if memory is refused.
+    pub fn new(
         alloc: Global,
         machine: Machine,
         runs: Items<Run>,
@@ -126,14 +127,14 @@ impl IndexedMemory {
     }
 
     /// The machine of the image.
-    pub(crate) fn machine(&self) -> Machine
+    pub fn machine(&self) -> Machine
         ensures { result ≡ self.now.machine }
     {
         self.machine
     }
 
     /// The byte at an address; none if it is not loaded.
-    pub(crate) fn byte(&self, address: u128) -> Option<u8>
+    pub fn byte(&self, address: u128) -> Option<u8>
         ensures { result ≡ byte_in self.now address }
     {
         if address >= 1 << 64 {

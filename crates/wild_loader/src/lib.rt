@@ -27,7 +27,9 @@ pub use aarch64::step_aarch64;
 pub use change::{Change, Patch};
 pub use effect::{Effect, Value, step, step_x86_64};
 pub use fault::LoadFault;
+pub use headers::{read_header, read_programs};
 pub use image::{Image, load_image, read_image, read_machine_and_tables};
+pub use index::IndexedMemory;
 pub use instruction::{Action, Cell, Deed, Operand};
 pub use kind::{DynamicKind, dynamic_kind};
 pub use laws::{
@@ -39,6 +41,7 @@ pub use laws::{
     words_are_places,
 };
 pub use memory::{Machine, Memory, Run};
+pub use places::read_places;
 pub use reach::reaches;
 pub use relocate::relocate_runs;
 pub use table::template_x86_64;
