@@ -44,7 +44,11 @@ pub use memory::{Machine, Memory, Run};
 pub use places::read_places;
 pub use reach::reaches;
 pub use relocate::relocate_runs;
+pub use runs::check_runs;
 pub use table::template_x86_64;
-pub use tables::{Span, Tables};
+pub use tables::{
+    Span, Tables, contains_address, find_dynamic, find_tag, is_to_apply, read_dynamic, read_relas,
+    read_words,
+};
 pub use template::{Operation, Place, Prefix, Register, Sort, Template};
 pub use world::{Answer, World};

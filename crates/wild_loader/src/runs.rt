@@ -44,7 +44,7 @@ fn extents_of_patches(alloc: Global, patches: &[Patch]) -> Result<Vec<Extent>, L
 }
 
 /// Whether no two of the runs share an address.
-pub(crate) fn check_runs(alloc: Global, runs: &[Run]) -> Result<(), LoadFault>
+pub fn check_runs(alloc: Global, runs: &[Run]) -> Result<(), LoadFault>
     ensures gives { Gives result (check_no_overlap (least_shared runs.now)) }
     ensures apart { IfOk result (λ x. least_shared runs.now ≡ None) }
 {
