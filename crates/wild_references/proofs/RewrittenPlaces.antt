@@ -71,7 +71,7 @@ placed_row laws l s i r row v x86 has =
     let chosen = made.chosen in
     let q = question_of l s r chosen.symbol (slice_get s.relocations (i + 1)) in
     let stands = laws.stand q row chosen.chosen in
-    let changing : IsChanging row = record { listed = matches_cells.listed; changes = made.changes } in
+    let changing : IsChanging row = record { listed = stands.listed; changes = made.changes } in
     record {
       has = has;
       alone = rewritten_alone l s i row v has.decided;
