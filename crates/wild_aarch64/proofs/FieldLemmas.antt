@@ -1,7 +1,7 @@
 -- What a field is written into is read as before, with the field.
 use Rattle.std.proofs.Common.{◌≡◌, ℕ, ◌%◌, ◌^◌, true, [], ◌∷◌, Some, refl, subst, eqb-true, arith}
 use Rattle.std.proofs.lemmas.Bool.{and_parts}
-use Rattle.wild_aarch64.specs.Slice.{bits, stands, Fixed, is, Form}
+use Rattle.wild_aarch64.specs.Slice.{bits, has_fixed_bits, Fixed, is, Form}
 use Rattle.wild_aarch64.specs.Forms.{d, n, adrp, adr, add, add_shifted, movz, movk, movn, ldr, byte_access, half_access, word_access, ldrsw, str, prfm, vector_8, vector_128, vector_16, vector_32, vector_64, literal, vector_literal, wide_literal, br, blr, nop, bti, branch, call, b_cond, cbz_32, cbz_64, tbz_low, tbz_high, forms}
 use Rattle.wild_aarch64.specs.Code.{read}
 use Rattle.wild_aarch64.specs.Immediate.{Field, insert_bits, word_with_immediate, immediate, bits_of_field, bits_outside, Imm12, Imm14, Imm16, Imm19, Imm21, Imm26, Nowhere}
@@ -10,19 +10,19 @@ use Rattle.wild_aarch64.proofs.ReadLemmas.{reads_adrp, reads_adr, reads_add, rea
 use Rattle.wild_aarch64.proofs.ListLemmas.{for_each}
 
 -- the bits of a form, one by one
-two : (a b : Fixed) (w : ℕ) → stands (a ∷ b ∷ []) w ≡ true → (bits a.low a.count w ≡ a.value) × (bits b.low b.count w ≡ b.value)
+two : (a b : Fixed) (w : ℕ) → has_fixed_bits (a ∷ b ∷ []) w ≡ true → (bits a.low a.count w ≡ a.value) × (bits b.low b.count w ≡ b.value)
 two a b w h =
     let p = and_parts _ _ h in
     let q = and_parts _ _ p.1 in
     (eqb-true _ _ p.0, eqb-true _ _ q.0)
 
-three : (a b c : Fixed) (w : ℕ) → stands (a ∷ b ∷ c ∷ []) w ≡ true → (bits a.low a.count w ≡ a.value) × (bits b.low b.count w ≡ b.value) × (bits c.low c.count w ≡ c.value)
+three : (a b c : Fixed) (w : ℕ) → has_fixed_bits (a ∷ b ∷ c ∷ []) w ≡ true → (bits a.low a.count w ≡ a.value) × (bits b.low b.count w ≡ b.value) × (bits c.low c.count w ≡ c.value)
 three a b c w h =
     let p = and_parts _ _ h in
     let q = two b c w p.1 in
     (eqb-true _ _ p.0, q.0, q.1)
 
-four : (a b c e : Fixed) (w : ℕ) → stands (a ∷ b ∷ c ∷ e ∷ []) w ≡ true → (bits a.low a.count w ≡ a.value) × (bits b.low b.count w ≡ b.value) × (bits c.low c.count w ≡ c.value) × (bits e.low e.count w ≡ e.value)
+four : (a b c e : Fixed) (w : ℕ) → has_fixed_bits (a ∷ b ∷ c ∷ e ∷ []) w ≡ true → (bits a.low a.count w ≡ a.value) × (bits b.low b.count w ≡ b.value) × (bits c.low c.count w ≡ c.value) × (bits e.low e.count w ≡ e.value)
 four a b c e w h =
     let p = and_parts _ _ h in
     let q = three b c e w p.1 in
@@ -345,7 +345,7 @@ pub fields_are_written : FieldsAreWritten
 fields_are_written f c = for_each FieldIsWritten forms (adrp_field, (adr_field, (add_field, (add_shifted_field, (movz_field, (movk_field, (movn_field, (ldr_field, (byte_field, (half_field, (word_field, (ldrsw_field, (str_field, (prfm_field, (vector_8_field, (vector_128_field, (vector_16_field, (vector_32_field, (vector_64_field, (literal_field, (vector_literal_field, (wide_literal_field, (br_field, (blr_field, (nop_field, (bti_field, (b_field, (bl_field, (b_cond_field, (cbz_32_field, (cbz_64_field, (tbz_low_field, (tbz_high_field, tt))))))))))))))))))))))))))))))))) f c
 
 -- a form whose fields are written is read
-pub form_is_read : (f : Form) → FieldIsWritten f → (w : ℕ) → stands f.fixed w ≡ true → read w ≡ Some (f.code w (immediate f.field w))
+pub form_is_read : (f : Form) → FieldIsWritten f → (w : ℕ) → has_fixed_bits f.fixed w ≡ true → read w ≡ Some (f.code w (immediate f.field w))
 form_is_read f h w s =
     let e = h w (immediate f.field w) s in
     let e2 : read w ≡ Some (f.code w (bits_of_field f.field (immediate f.field w))) = subst (λ (u : ℕ). read u ≡ Some (f.code w (bits_of_field f.field (immediate f.field w)))) (reinserted f.field w) e in

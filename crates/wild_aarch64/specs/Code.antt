@@ -3,13 +3,13 @@
 use Rattle.std.specs.Prelude.{ℕ, if◌then◌else◌, List, [], ◌∷◌, Option, Some, None}
 use Rattle.wild_aarch64.specs.declared.code.Code.{Code}
 use Rattle.wild_aarch64.specs.Immediate.{immediate}
-use Rattle.wild_aarch64.specs.Slice.{Form, stands}
+use Rattle.wild_aarch64.specs.Slice.{Form, has_fixed_bits}
 use Rattle.wild_aarch64.specs.Forms.{addresses, accesses, vector_accesses, literals, transfers, conditions}
 
 -- the instruction of a word: that of the first form that matches
 abbrev pub read_by : List Form → ℕ → Option Code
 read_by [] w = None
-read_by (f ∷ fs) w = if stands f.fixed w then Some (f.code w (immediate f.field w)) else read_by fs w
+read_by (f ∷ fs) w = if has_fixed_bits f.fixed w then Some (f.code w (immediate f.field w)) else read_by fs w
 
 abbrev pub or_else : Option Code → Option Code → Option Code
 or_else (Some c) other = Some c

@@ -8,7 +8,7 @@
 use Rattle.std.specs.Prelude.{◌≡◌, ℕ, ◌+◌, ◌<◌, ◌≤◌, true, List, [], ◌∷◌, ◌++◌, length, map, Option, Some, option_map, Contains}
 use Rattle.wild_aarch64.specs.declared.code.Code.{Code}
 use Rattle.wild_aarch64.specs.declared.code.Code.TheVariants.{Hint}
-use Rattle.wild_aarch64.specs.Slice.{Form, stands}
+use Rattle.wild_aarch64.specs.Slice.{Form, has_fixed_bits}
 use Rattle.wild_aarch64.specs.Forms.{forms}
 use Rattle.wild_aarch64.specs.Code.{read}
 use Rattle.wild_aarch64.specs.Immediate.{word_with_immediate, immediate, bits_of_field}
@@ -24,11 +24,11 @@ use Rattle.wild_aarch64.specs.Row.{Row, rows, written, IsValueOf, branches, bran
 
 -- the order of the table does not matter
 abbrev pub FormsAreRead : Type 0
-FormsAreRead = (f : Form) → Contains forms f → (w : ℕ) → stands f.fixed w ≡ true → read w ≡ Some (f.code w (immediate f.field w))
+FormsAreRead = (f : Form) → Contains forms f → (w : ℕ) → has_fixed_bits f.fixed w ≡ true → read w ≡ Some (f.code w (immediate f.field w))
 
 -- if a number is written to its field, a word is the same instruction with the same registers and the number's low bits
 abbrev pub FieldIsWritten : Form → Type 0
-FieldIsWritten f = (w x : ℕ) → stands f.fixed w ≡ true → read (word_with_immediate f.field x w) ≡ Some (f.code w (bits_of_field f.field x))
+FieldIsWritten f = (w x : ℕ) → has_fixed_bits f.fixed w ≡ true → read (word_with_immediate f.field x w) ≡ Some (f.code w (bits_of_field f.field x))
 
 abbrev pub FieldsAreWritten : Type 0
 FieldsAreWritten = (f : Form) → Contains forms f → FieldIsWritten f
@@ -70,7 +70,7 @@ RowsAreSteps = (row : Row) → Contains rows row → RowIsStep row
 
 -- a branch with the distance in its field goes where its word demands
 abbrev pub BranchKeeps : Form → Type 0
-BranchKeeps f = (w : ℕ) (reader : Reader) → ReadsNumbers reader → (base a x v : ℕ) → stands f.fixed w ≡ true → IsReached f.field base a x v
+BranchKeeps f = (w : ℕ) (reader : Reader) → ReadsNumbers reader → (base a x v : ℕ) → has_fixed_bits f.fixed w ≡ true → IsReached f.field base a x v
     → effect reader (base + a) (word_with_immediate f.field (branch_bits f.field (distance a x)) w ∷ []) ≡ demand v (base + a) (w ∷ [])
 
 abbrev pub BranchesKeep : Type 0

@@ -25,9 +25,9 @@ abbrev pub is : ℕ → ℕ → ℕ → Fixed
 is low count value = record { low = low; count = count; value = value }
 
 -- the word has all these fixed bits
-abbrev pub stands : List Fixed → ℕ → Bool
-stands [] w = true
-stands (f ∷ fs) w = (bits f.low f.count w == f.value) && stands fs w
+abbrev pub has_fixed_bits : List Fixed → ℕ → Bool
+has_fixed_bits [] w = true
+has_fixed_bits (f ∷ fs) w = (bits f.low f.count w == f.value) && has_fixed_bits fs w
 
 -- a form: its fixed bits, the position of its immediate, and the instruction of a word with its immediate
 pub record Form : Type 0 where

@@ -49,26 +49,26 @@ along_sum step count f one v (x ∷ xs) =
 
 -- ---- whether all pass
 
-file_passed : (l : Layout) (v : Survey) (f : File) → (file_step l v f).passed ≡ (v.passed && file_passes l f)
+file_passed : (l : Layout) (v : Survey) (f : File) → (file_step l v f).tests_pass ≡ (v.tests_pass && file_passes l f)
 unfolding file_passes file_passes_without_sections section_step survey_before_sections file_step
 file_passed l v f =
     let own = symbols_are_there l f && library_names_fit f in
     let sections = list_all (section_passes l) f.sections in
-    along_all (section_step l) (λ (u : Survey). u.passed) (section_passes l) (λ u s. refl) (survey_before_sections l v f) f.sections
-    ∙ and_moved v.passed own sections
-    ∙ ap (λ (b : Bool). v.passed && b) (and_moved (symbols_are_there l f) (library_names_fit f) sections)
+    along_all (section_step l) (λ (u : Survey). u.tests_pass) (section_passes l) (λ u s. refl) (survey_before_sections l v f) f.sections
+    ∙ and_moved v.tests_pass own sections
+    ∙ ap (λ (b : Bool). v.tests_pass && b) (and_moved (symbols_are_there l f) (library_names_fit f) sections)
 
-group_passed : (l : Layout) (v : Survey) (g : Group) → (group_step l v g).passed ≡ (v.passed && group_passes l g)
+group_passed : (l : Layout) (v : Survey) (g : Group) → (group_step l v g).tests_pass ≡ (v.tests_pass && group_passes l g)
 unfolding group_passes survey_before_files group_step
 group_passed l v g =
-    along_all (file_step l) (λ (u : Survey). u.passed) (file_passes l) (file_passed l) (survey_before_files l v g) g.files
-    ∙ and_moved v.passed (has_share_for_each_part (length l.parts) g) (list_all (file_passes l) g.files)
+    along_all (file_step l) (λ (u : Survey). u.tests_pass) (file_passes l) (file_passed l) (survey_before_files l v g) g.files
+    ∙ and_moved v.tests_pass (has_share_for_each_part (length l.parts) g) (list_all (file_passes l) g.files)
 
-pub passed_told : (l : Layout) (v : Survey) → v ≡ survey_of l → v.passed ≡ groups_pass l
+pub passed_told : (l : Layout) (v : Survey) → v ≡ survey_of l → v.tests_pass ≡ groups_pass l
 unfolding survey_of groups_pass
 passed_told l v is =
-    ap (λ (u : Survey). u.passed) is
-    ∙ along_all (group_step l) (λ (u : Survey). u.passed) (group_passes l) (group_passed l) empty_survey l.groups
+    ap (λ (u : Survey). u.tests_pass) is
+    ∙ along_all (group_step l) (λ (u : Survey). u.tests_pass) (group_passes l) (group_passed l) empty_survey l.groups
 
 -- ---- whether all are ordinary
 

@@ -11,8 +11,8 @@ use Rattle.wild_plan_rules.specs.MergedSections.{are_unmerged}
 use Rattle.wild_clauses.specs.Survey.{are_ordinary}
 
 pub record IsLayoutSurvey (l : Layout) (s : LayoutSurvey) : Type 0 where
-  pub inside : s.inner_groups_need_no_tables ≡ inner_groups_need_no_tables l
+  pub no_inner_tables : s.inner_groups_need_no_tables ≡ inner_groups_need_no_tables l
   pub unmerged : s.unmerged ≡ are_unmerged l
-  pub passed : s.passed ≡ groups_pass l
+  pub tests_pass : s.tests_pass ≡ groups_pass l
   pub ordinary : s.has_no_copies_versions_or_sorting ≡ are_ordinary l.groups
   pub relocations : min (2 ^ 64 - 1) s.relocations ≡ min (2 ^ 64 - 1) (relocation_count l)

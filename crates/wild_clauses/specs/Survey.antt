@@ -46,7 +46,7 @@ fold_steps step v (x ∷ xs) = fold_steps step (step v x) xs
 
 unfoldable pub section_step : Layout → Survey → InputSection → Survey
 section_step l v s = record {
-  passed = v.passed && section_passes l s;
+  tests_pass = v.tests_pass && section_passes l s;
   has_no_copies_versions_or_sorting = v.has_no_copies_versions_or_sorting && is_unsorted s;
   unmerged = v.unmerged && is_unmerged s;
   relocations = min (2 ^ 64 - 1) (v.relocations + length s.relocations);
@@ -58,7 +58,7 @@ file_passes_without_sections l f = symbols_are_there l f && library_names_fit f
 
 unfoldable pub survey_before_sections : Layout → Survey → File → Survey
 survey_before_sections l v f = record {
-  passed = v.passed && file_passes_without_sections l f;
+  tests_pass = v.tests_pass && file_passes_without_sections l f;
   has_no_copies_versions_or_sorting = v.has_no_copies_versions_or_sorting && has_no_copies_or_versions f;
   unmerged = v.unmerged;
   relocations = v.relocations;
@@ -70,7 +70,7 @@ file_step l v f = fold_steps (section_step l) (survey_before_sections l v f) f.s
 -- without its files
 unfoldable pub survey_before_files : Layout → Survey → Group → Survey
 survey_before_files l v g = record {
-  passed = v.passed && has_share_for_each_part (length l.parts) g;
+  tests_pass = v.tests_pass && has_share_for_each_part (length l.parts) g;
   has_no_copies_versions_or_sorting = v.has_no_copies_versions_or_sorting;
   unmerged = v.unmerged;
   relocations = v.relocations;
@@ -80,7 +80,7 @@ unfoldable pub group_step : Layout → Survey → Group → Survey
 group_step l v g = fold_steps (file_step l) (survey_before_files l v g) g.files
 
 abbrev pub empty_survey : Survey
-empty_survey = record { passed = true; has_no_copies_versions_or_sorting = true; unmerged = true; relocations = 0 }
+empty_survey = record { tests_pass = true; has_no_copies_versions_or_sorting = true; unmerged = true; relocations = 0 }
 
 unfoldable pub survey_of : Layout → Survey
 survey_of l = fold_steps (group_step l) empty_survey l.groups

@@ -130,11 +130,14 @@ fn first_double_copy(layout: &Layout, groups: &[Group]) -> Option<usize>
 
 /// The same; if all files are ordinary, there are no copies to search.
 #[tactic(auto, using(crate::proofs::SurveyLemmas::none_copied))]
-pub(crate) fn first_copied_again(layout: &Layout, ordinary: bool) -> Option<usize>
-    requires { ordinary ≡ are_ordinary layout.now.groups }
+pub(crate) fn first_copied_again(
+    layout: &Layout,
+    has_no_copies_versions_or_sorting: bool,
+) -> Option<usize>
+    requires { has_no_copies_versions_or_sorting ≡ are_ordinary layout.now.groups }
     ensures { result ≡ first_double_copy layout.now [] 0 layout.now.groups }
 {
-    if ordinary {
+    if has_no_copies_versions_or_sorting {
         None
     } else {
         first_double_copy(layout, layout.groups.as_slice())

@@ -45,20 +45,20 @@ fn most_entries(layout: &Layout) -> usize
 /// Whether that table is not too long. If the files' ranges are in order, they have no more symbols than the layout, and its
 /// entries need not be counted.
 #[tactic(auto, using(crate::proofs::CountLemmas::few_in_order, crate::proofs::CountLemmas::few_entries))]
-fn table_fits(layout: &Layout, lie: bool) -> bool
-    requires { lie ≡ is_some (all_ranges_lie (length layout.now.symbols) 0 layout.now.groups) }
+fn table_fits(layout: &Layout, ranges_in_order: bool) -> bool
+    requires { ranges_in_order ≡ is_some (all_ranges_lie (length layout.now.symbols) 0 layout.now.groups) }
     ensures { result ≡ table_fits layout.now }
 {
     let all = layout.symbols.len().saturating_add(layout.dynsyms.len());
-    if lie && all < (1 << 32) - 1 {
+    if ranges_in_order && all < (1 << 32) - 1 {
         return true;
     }
     most_entries(layout) < (1 << 32) - 1 || table_length(layout) < (1 << 32) - 1
 }
 
 /// Whether no list is too long.
-fn lists_fit(layout: &Layout, lie: bool, relocations: u64) -> bool
-    requires lie { lie ≡ is_some (all_ranges_lie (length layout.now.symbols) 0 layout.now.groups) }
+fn lists_fit(layout: &Layout, ranges_in_order: bool, relocations: u64) -> bool
+    requires ranges_in_order { ranges_in_order ≡ is_some (all_ranges_lie (length layout.now.symbols) 0 layout.now.groups) }
     requires relocations { min (2 ^ 64 - 1) relocations ≡ min (2 ^ 64 - 1) (relocation_count layout.now) }
     ensures { result ≡ lists_fit layout.now }
 {
@@ -68,39 +68,42 @@ fn lists_fit(layout: &Layout, lie: bool, relocations: u64) -> bool
         && sections < 1 << 31
         && layout.segments.len() <= 65534
         && layout.symbols.len() < (1 << 32) - 1
-        && table_fits(layout, lie)
+        && table_fits(layout, ranges_in_order)
         && relocations < (1 << 32) - 1
         && 1 <= groups
         && groups < (1 << 32) - 1
 }
 
 /// Whether no list and no string table is too long, and each version can have an index.
-fn counts_fit(layout: &Layout, lie: bool, needs: u64, relocations: u64) -> bool
-    requires lie { lie ≡ is_some (all_ranges_lie (length layout.now.symbols) 0 layout.now.groups) }
+fn counts_fit(layout: &Layout, ranges_in_order: bool, needs: u64, relocations: u64) -> bool
+    requires ranges_in_order { ranges_in_order ≡ is_some (all_ranges_lie (length layout.now.symbols) 0 layout.now.groups) }
     requires needs { needs ≡ need_number layout.now }
     requires relocations { min (2 ^ 64 - 1) relocations ≡ min (2 ^ 64 - 1) (relocation_count layout.now) }
     ensures { result ≡ counts_fit layout.now }
 {
-    lists_fit(layout, lie, relocations)
+    lists_fit(layout, ranges_in_order, relocations)
         && name_bytes(layout) < 1 << 32
         && total_share(layout, Role::Dynstr) < 1 << 32
         && total_share(layout, Role::Strtab) < 1 << 32
         && versions_fit(layout, needs)
 }
 
-/// The caller knows whether the files' symbol ranges are in order (`lie`), and how many libraries with versions and relocations
+/// The caller knows whether the files' symbol ranges are in order (`ranges_in_order`), and how many libraries with versions and relocations
 /// there are.
 #[tactic(auto, unfolding(wild_plan_rules::specs::ClauseTests::check_counts))]
 pub(crate) fn check_counts(
     layout: &Layout,
-    lie: bool,
+    ranges_in_order: bool,
     needs: u64,
     relocations: u64,
 ) -> Result<(), Clause>
-    requires lie { lie ≡ is_some (all_ranges_lie (length layout.now.symbols) 0 layout.now.groups) }
+    requires ranges_in_order { ranges_in_order ≡ is_some (all_ranges_lie (length layout.now.symbols) 0 layout.now.groups) }
     requires needs { needs ≡ need_number layout.now }
     requires relocations { min (2 ^ 64 - 1) relocations ≡ min (2 ^ 64 - 1) (relocation_count layout.now) }
     ensures { result ≡ check_counts layout.now }
 {
-    fails(2, unless(counts_fit(layout, lie, needs, relocations)))
+    fails(
+        2,
+        unless(counts_fit(layout, ranges_in_order, needs, relocations)),
+    )
 }

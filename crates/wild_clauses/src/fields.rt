@@ -103,13 +103,13 @@ impl Test<InputRelocation> for FieldPasses<'_> {
 
 /// The tests run one by one only if a group fails one of them.
 #[tactic(auto, using(crate::proofs::PassedLemmas::fields_pass), unfolding(wild_plan_rules::specs::ClauseTests::check_fields))]
-pub(crate) fn check_fields(layout: &Layout, passed: bool) -> Result<(), Clause>
-    requires passed { passed ≡ groups_pass layout.now }
+pub(crate) fn check_fields(layout: &Layout, tests_pass: bool) -> Result<(), Clause>
+    requires tests_pass { tests_pass ≡ groups_pass layout.now }
     ensures { result ≡ check_fields layout.now }
 {
     let machine = layout.machine;
     let groups = layout.groups.as_slice();
-    if passed {
+    if tests_pass {
         return Ok(());
     }
     fails(10, failing_group(&FieldsLie { machine }, groups))?;

@@ -40,11 +40,11 @@ impl Test<InputSection> for ReversedFits {
 }
 
 #[tactic(auto, using(crate::proofs::PassedLemmas::reversed_pass), unfolding(wild_plan_rules::specs::ClauseTests::check_reversed))]
-pub(crate) fn check_reversed(layout: &Layout, passed: bool) -> Result<(), Clause>
-    requires passed { passed ≡ groups_pass layout.now }
+pub(crate) fn check_reversed(layout: &Layout, tests_pass: bool) -> Result<(), Clause>
+    requires tests_pass { tests_pass ≡ groups_pass layout.now }
     ensures { result ≡ check_reversed layout.now }
 {
-    if passed {
+    if tests_pass {
         return Ok(());
     }
     let machine = layout.machine;

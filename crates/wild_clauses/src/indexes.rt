@@ -218,13 +218,13 @@ fn range_out_of_order(groups: &[Group]) -> Option<usize>
     None
 }
 
-/// The same; if the ranges are in order (`lie`), nothing is searched.
+/// The same; if the ranges are in order (`ranges_in_order`), nothing is searched.
 #[tactic(auto, using(crate::proofs::AstrayLemmas::none_out_of_order))]
-fn first_out_of_order(layout: &Layout, lie: bool) -> Option<usize>
-    requires { lie ≡ is_some (all_ranges_lie (length layout.now.symbols) 0 layout.now.groups) }
+fn first_out_of_order(layout: &Layout, ranges_in_order: bool) -> Option<usize>
+    requires { ranges_in_order ≡ is_some (all_ranges_lie (length layout.now.symbols) 0 layout.now.groups) }
     ensures { result ≡ range_out_of_order 0 0 layout.now.groups }
 {
-    if lie {
+    if ranges_in_order {
         None
     } else {
         range_out_of_order(layout.groups.as_slice())
@@ -234,21 +234,21 @@ fn first_out_of_order(layout: &Layout, lie: bool) -> Option<usize>
 #[tactic(auto, using(crate::proofs::PassedLemmas::indexes_pass), unfolding(wild_plan_rules::specs::ClauseTests::check_indexes))]
 pub(crate) fn check_indexes(
     layout: &Layout,
-    passed: bool,
-    lie: bool,
-    ordinary: bool,
+    tests_pass: bool,
+    ranges_in_order: bool,
+    has_no_copies_versions_or_sorting: bool,
 ) -> Result<(), Clause>
-    requires passed { passed ≡ groups_pass layout.now }
-    requires ordinary { ordinary ≡ are_ordinary layout.now.groups }
-    requires lie { lie ≡ is_some (all_ranges_lie (length layout.now.symbols) 0 layout.now.groups) }
+    requires tests_pass { tests_pass ≡ groups_pass layout.now }
+    requires ordinary { has_no_copies_versions_or_sorting ≡ are_ordinary layout.now.groups }
+    requires ranges_in_order { ranges_in_order ≡ is_some (all_ranges_lie (length layout.now.symbols) 0 layout.now.groups) }
     ensures { result ≡ check_indexes layout.now }
 {
     let indexes = IndexesFit { layout };
     let groups = layout.groups.as_slice();
     fails(9, first_failing(&indexes, layout.parts.as_slice()))?;
     fails(9, unless(layout.primary_part < layout.parts.len()))?;
-    fails(9, symbol_misfit(layout, lie))?;
-    fails(9, failing(passed, &indexes, groups))?;
+    fails(9, symbol_misfit(layout, ranges_in_order))?;
+    fails(9, failing(tests_pass, &indexes, groups))?;
     fails(9, first_failing(&indexes, layout.dynsyms.as_slice()))?;
     fails(
         9,
@@ -259,7 +259,10 @@ pub(crate) fn check_indexes(
     fails(9, first_failing(&indexes, layout.merged.as_slice()))?;
     fails(9, unless(layout.identity.part < layout.parts.len()))?;
     fails(9, unless(entry_is_there(layout)))?;
-    fails(9, first_copied_again(layout, ordinary))?;
+    fails(
+        9,
+        first_copied_again(layout, has_no_copies_versions_or_sorting),
+    )?;
     fails(9, first_failing(&indexes, layout.symbols.as_slice()))?;
-    fails(9, first_out_of_order(layout, lie))
+    fails(9, first_out_of_order(layout, ranges_in_order))
 }

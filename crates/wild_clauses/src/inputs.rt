@@ -253,21 +253,28 @@ fn parts_fit(layout: &Layout) -> bool
 
 /// Requires that sizes and shares fit. The tests run one by one only if a group or a part fails one of them.
 #[tactic(auto, using(crate::proofs::PassedLemmas::inputs_pass), unfolding(wild_plan_rules::specs::ClauseTests::check_inputs))]
-pub(crate) fn check_inputs(layout: &Layout, passed: bool, ordinary: bool) -> Result<(), Clause>
+pub(crate) fn check_inputs(
+    layout: &Layout,
+    tests_pass: bool,
+    has_no_copies_versions_or_sorting: bool,
+) -> Result<(), Clause>
     requires sizes { check_sizes layout.now ≡ Ok tt }
     requires shares { check_shares layout.now ≡ Ok tt }
-    requires passed { passed ≡ groups_pass layout.now }
-    requires ordinary { ordinary ≡ are_ordinary layout.now.groups }
+    requires tests_pass { tests_pass ≡ groups_pass layout.now }
+    requires ordinary { has_no_copies_versions_or_sorting ≡ are_ordinary layout.now.groups }
     ensures { result ≡ check_inputs layout.now }
 {
     let groups = layout.groups.as_slice();
     fails(8, section_misplaced(layout))?;
-    fails(8, sorted_named_once(layout, ordinary))?;
+    fails(
+        8,
+        sorted_named_once(layout, has_no_copies_versions_or_sorting),
+    )?;
     fails(
         8,
         first_failing(&NamesSorted { layout }, layout.sorted.as_slice()),
     )?;
-    if passed && parts_fit(layout) {
+    if tests_pass && parts_fit(layout) {
         return Ok(());
     }
     fails(8, failing_group(&LengthFits, groups))?;

@@ -12,7 +12,7 @@ pub struct LayoutSurvey {
     pub inner_groups_need_no_tables: bool,
     /// Whether no section has merged strings.
     pub unmerged: bool,
-    pub(crate) passed: bool,
+    pub(crate) tests_pass: bool,
     pub(crate) has_no_copies_versions_or_sorting: bool,
     /// The number of relocations, at most 2^64 - 1.
     pub relocations: u64,
@@ -27,7 +27,7 @@ impl LayoutSurvey {
         LayoutSurvey {
             inner_groups_need_no_tables: inner_groups_need_no_tables(layout),
             unmerged: survey.unmerged,
-            passed: survey.passed,
+            tests_pass: survey.tests_pass,
             has_no_copies_versions_or_sorting: survey.has_no_copies_versions_or_sorting,
             relocations: survey.relocations,
         }

@@ -141,8 +141,8 @@ fn interp_fits(path: &[u8]) -> bool
 }
 
 #[tactic(auto, using(crate::proofs::PassedLemmas::names_pass), unfolding(wild_plan_rules::specs::ClauseTests::check_names))]
-pub(crate) fn check_names(layout: &Layout, passed: bool) -> Result<(), Clause>
-    requires passed { passed ≡ groups_pass layout.now }
+pub(crate) fn check_names(layout: &Layout, tests_pass: bool) -> Result<(), Clause>
+    requires tests_pass { tests_pass ≡ groups_pass layout.now }
     ensures { result ≡ check_names layout.now }
 {
     let options = &layout.options;
@@ -151,7 +151,7 @@ pub(crate) fn check_names(layout: &Layout, passed: bool) -> Result<(), Clause>
     fails(19, first_failing(&NamesFit, options.auxiliary.as_slice()))?;
     fails(19, first_failing(&NamesFit, layout.sections.as_slice()))?;
     fails(19, first_failing(&NamesFit, layout.symbols.as_slice()))?;
-    fails(19, failing(passed, &NamesFit, layout.groups.as_slice()))?;
+    fails(19, failing(tests_pass, &NamesFit, layout.groups.as_slice()))?;
     fails(19, first_failing(&NamesFit, layout.dynsyms.as_slice()))?;
     fails(19, first_failing(&NamesFit, layout.verdefs.as_slice()))?;
     fails(19, unless(interp_fits(layout.interp.as_slice())))

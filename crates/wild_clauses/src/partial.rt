@@ -212,13 +212,13 @@ impl Test<InputSection> for TableHasData {
 
 /// For other outputs the last tests follow from having nothing that only a relocatable object may have.
 #[tactic(auto, using(crate::proofs::PartialLemmas::no_partial, crate::proofs::PassedLemmas::kinds_pass), unfolding(wild_plan_rules::specs::ClauseTests::check_partial))]
-pub(crate) fn check_partial(layout: &Layout, passed: bool) -> Result<(), Clause>
-    requires passed { passed ≡ groups_pass layout.now }
+pub(crate) fn check_partial(layout: &Layout, tests_pass: bool) -> Result<(), Clause>
+    requires tests_pass { tests_pass ≡ groups_pass layout.now }
     ensures { result ≡ check_partial layout.now }
 {
     let groups = layout.groups.as_slice();
     if !layout.kind.is_partial_link() {
-        if passed {
+        if tests_pass {
             return Ok(());
         }
         return fails(21, failing_group(&IsOfKind { layout }, groups));

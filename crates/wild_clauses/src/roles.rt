@@ -93,12 +93,12 @@ fn program_headers_astray(layout: &Layout) -> Option<usize>
     role_not_at(Role::ProgramHeaders, behind, layout.parts.as_slice())
 }
 
-/// A part of a role exists, or no bytes have to be written in one. If `inside` is set, the inner groups contribute to no table.
+/// A part of a role exists, or no bytes have to be written in one. If `no_inner_tables` is set, the inner groups contribute to no table.
 #[derive(Drop)]
 struct RoleHasNeededPart<'a> {
     layout: &'a Layout,
-    inside: bool,
-    ghost inside_is: { inside ≡ true → inner_groups_need_no_tables layout.now ≡ true },
+    no_inner_tables: bool,
+    ghost no_inner_tables_is: { no_inner_tables ≡ true → inner_groups_need_no_tables layout.now ≡ true },
 }
 
 impl Test<Role> for RoleHasNeededPart<'_> {
@@ -106,7 +106,7 @@ impl Test<Role> for RoleHasNeededPart<'_> {
 
     fn passes(&self, role: &Role) -> bool {
         is_there(*role, self.layout.parts.as_slice())
-            || total_share_of(self.layout, self.inside, *role) == 0
+            || total_share_of(self.layout, self.no_inner_tables, *role) == 0
     }
 }
 
@@ -157,10 +157,10 @@ impl Test<Part> for EntriesFollow<'_> {
     }
 }
 
-/// If `inside` is set, the inner groups contribute to no table.
+/// If `no_inner_tables` is set, the inner groups contribute to no table.
 #[tactic(auto, unfolding(wild_plan_rules::specs::ClauseTests::check_roles))]
-pub(crate) fn check_roles(layout: &Layout, inside: bool) -> Result<(), Clause>
-    requires { inside ≡ inner_groups_need_no_tables layout.now }
+pub(crate) fn check_roles(layout: &Layout, no_inner_tables: bool) -> Result<(), Clause>
+    requires { no_inner_tables ≡ inner_groups_need_no_tables layout.now }
     ensures { result ≡ check_roles layout.now }
 {
     let parts = layout.parts.as_slice();
@@ -172,7 +172,13 @@ pub(crate) fn check_roles(layout: &Layout, inside: bool) -> Result<(), Clause>
     fails(4, first_failing(&EntriesFollow { parts }, parts))?;
     fails(
         4,
-        first_failing(&RoleHasNeededPart { layout, inside }, &ROLES),
+        first_failing(
+            &RoleHasNeededPart {
+                layout,
+                no_inner_tables,
+            },
+            &ROLES,
+        ),
     )?;
     fails(4, unexpected_dynamic(layout))
 }

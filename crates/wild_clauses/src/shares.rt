@@ -100,27 +100,34 @@ fn ends_misplaced(first: &Group, last: &Group, place: usize) -> Option<usize>
     }
 }
 
-/// The first group with a misplaced file. If `inside` is set, no file of the inner groups must be the first or the last of all.
-fn first_misplaced(layout: &Layout, inside: bool) -> Option<usize>
-    requires { inside ≡ inner_groups_need_no_tables layout.now }
+/// The first group with a misplaced file. If `no_inner_tables` is set, no file of the inner groups must be the first or the last of all.
+fn first_misplaced(layout: &Layout, no_inner_tables: bool) -> Option<usize>
+    requires { no_inner_tables ≡ inner_groups_need_no_tables layout.now }
     ensures { result ≡ first_misplaced_file true 0 layout.now.groups }
 {
     let groups = layout.groups.as_slice();
     match groups {
-        [first, .., last] if inside => ends_misplaced(first, last, groups.len() - 1),
+        [first, .., last] if no_inner_tables => ends_misplaced(first, last, groups.len() - 1),
         _ => first_misplaced_file(groups),
     }
 }
 
 #[tactic(auto, using(crate::proofs::PassedLemmas::shares_pass), unfolding(wild_plan_rules::specs::ClauseTests::check_shares))]
-pub(crate) fn check_shares(layout: &Layout, passed: bool, inside: bool) -> Result<(), Clause>
-    requires passed { passed ≡ groups_pass layout.now }
-    requires inside { inside ≡ inner_groups_need_no_tables layout.now }
+pub(crate) fn check_shares(
+    layout: &Layout,
+    tests_pass: bool,
+    no_inner_tables: bool,
+) -> Result<(), Clause>
+    requires tests_pass { tests_pass ≡ groups_pass layout.now }
+    requires no_inner_tables { no_inner_tables ≡ inner_groups_need_no_tables layout.now }
     ensures { result ≡ check_shares layout.now }
 {
     let groups = layout.groups.as_slice();
     let count = layout.parts.len();
     fails(7, share_mismatch(groups, layout.parts.as_slice()))?;
-    fails(7, failing(passed, &HasShareForEachPart { count }, groups))?;
-    fails(7, first_misplaced(layout, inside))
+    fails(
+        7,
+        failing(tests_pass, &HasShareForEachPart { count }, groups),
+    )?;
+    fails(7, first_misplaced(layout, no_inner_tables))
 }

@@ -111,8 +111,8 @@ fn section_misfit(sections: &[Section]) -> Option<usize>
 }
 
 #[tactic(auto, using(crate::proofs::PassedLemmas::sizes_pass), unfolding(wild_plan_rules::specs::ClauseTests::check_sizes))]
-pub(crate) fn check_sizes(layout: &Layout, passed: bool) -> Result<(), Clause>
-    requires passed { passed ≡ groups_pass layout.now }
+pub(crate) fn check_sizes(layout: &Layout, tests_pass: bool) -> Result<(), Clause>
+    requires tests_pass { tests_pass ≡ groups_pass layout.now }
     ensures { result ≡ check_sizes layout.now }
 {
     let page = layout.page_size;
@@ -124,5 +124,5 @@ pub(crate) fn check_sizes(layout: &Layout, passed: bool) -> Result<(), Clause>
     fails(1, section_misfit(layout.sections.as_slice()))?;
     fails(1, first_failing(&SizesFit, layout.segments.as_slice()))?;
     fails(1, unless(layout.tls.align.is_power_of_two()))?;
-    fails(1, failing(passed, &SizesFit, layout.groups.as_slice()))
+    fails(1, failing(tests_pass, &SizesFit, layout.groups.as_slice()))
 }

@@ -69,11 +69,14 @@ fn files_named_once(layout: &Layout, group: usize, files: &[File]) -> bool
 
 /// The first group with a sorted section that is not named exactly once. If all files are ordinary, there are none to search.
 #[tactic(auto, using(crate::proofs::SurveyLemmas::none_sorted))]
-pub(crate) fn sorted_named_once(layout: &Layout, ordinary: bool) -> Option<usize>
-    requires { ordinary ≡ are_ordinary layout.now.groups }
+pub(crate) fn sorted_named_once(
+    layout: &Layout,
+    has_no_copies_versions_or_sorting: bool,
+) -> Option<usize>
+    requires { has_no_copies_versions_or_sorting ≡ are_ordinary layout.now.groups }
     ensures { result ≡ sorted_named_once layout.now 0 layout.now.groups }
 {
-    if ordinary {
+    if has_no_copies_versions_or_sorting {
         return None;
     }
     for (i, group) in layout.groups.as_slice().iter().enumerate() {

@@ -74,7 +74,7 @@ pub fn section_passes(layout: &Layout, section: &InputSection) -> bool
 /// versions are needed from it.
 #[derive(Clone, Copy)]
 pub struct Survey {
-    pub passed: bool,
+    pub tests_pass: bool,
     pub has_no_copies_versions_or_sorting: bool,
     pub unmerged: bool,
     pub relocations: u64,
@@ -98,7 +98,7 @@ fn section_step(layout: &Layout, before: Survey, section: &InputSection) -> Surv
     ensures { result ≡ section_step layout.now before section.now }
 {
     Survey {
-        passed: before.passed && SectionPasses { layout }.passes(section),
+        tests_pass: before.tests_pass && SectionPasses { layout }.passes(section),
         has_no_copies_versions_or_sorting: before.has_no_copies_versions_or_sorting
             && is_unsorted(section),
         unmerged: before.unmerged && is_unmerged(section),
@@ -130,7 +130,7 @@ fn survey_before_sections(layout: &Layout, before: Survey, file: &File) -> Surve
     ensures { result ≡ survey_before_sections layout.now before file.now }
 {
     Survey {
-        passed: before.passed && file_passes_without_sections(layout, file),
+        tests_pass: before.tests_pass && file_passes_without_sections(layout, file),
         has_no_copies_versions_or_sorting: before.has_no_copies_versions_or_sorting
             && has_no_copies_or_versions(file),
         unmerged: before.unmerged,
@@ -157,7 +157,7 @@ fn survey_before_files(layout: &Layout, before: Survey, group: &Group) -> Survey
 {
     let count = layout.parts.len();
     Survey {
-        passed: before.passed && HasShareForEachPart { count }.passes(group),
+        tests_pass: before.tests_pass && HasShareForEachPart { count }.passes(group),
         has_no_copies_versions_or_sorting: before.has_no_copies_versions_or_sorting,
         unmerged: before.unmerged,
         relocations: before.relocations,
@@ -182,7 +182,7 @@ fn survey_of(layout: &Layout) -> Survey
     ensures { result ≡ survey_of layout.now }
 {
     let mut known = Survey {
-        passed: true,
+        tests_pass: true,
         has_no_copies_versions_or_sorting: true,
         unmerged: true,
         relocations: 0,
@@ -196,7 +196,7 @@ fn survey_of(layout: &Layout) -> Survey
 /// The survey of all groups, in one pass.
 #[tactic(auto, using(crate::proofs::SurveyLemmas::passed_told, crate::proofs::SurveyLemmas::ordinary_told, crate::proofs::SurveyLemmas::unmerged_told, crate::proofs::SurveyLemmas::relocations_told))]
 pub(crate) fn survey_groups(layout: &Layout) -> Survey
-    ensures passed { result.passed ≡ groups_pass layout.now }
+    ensures tests_pass { result.tests_pass ≡ groups_pass layout.now }
     ensures ordinary { result.has_no_copies_versions_or_sorting ≡ are_ordinary layout.now.groups }
     ensures unmerged { result.unmerged ≡ are_unmerged layout.now }
     ensures relocations { min (2 ^ 64 - 1) result.relocations ≡ min (2 ^ 64 - 1) (relocation_count layout.now) }
@@ -204,12 +204,12 @@ pub(crate) fn survey_groups(layout: &Layout) -> Survey
     survey_of(layout)
 }
 
-/// The place of the first item that fails a test; if `passed` is set, all pass and none is searched.
-pub(crate) fn failing<T, C: Test<T>>(passed: bool, test: &C, items: &[T]) -> Option<usize>
-    requires { passed ≡ true → first_failing (C.test test.now) 0 items.now ≡ None }
+/// The place of the first item that fails a test; if `tests_pass` is set, all pass and none is searched.
+pub(crate) fn failing<T, C: Test<T>>(tests_pass: bool, test: &C, items: &[T]) -> Option<usize>
+    requires { tests_pass ≡ true → first_failing (C.test test.now) 0 items.now ≡ None }
     ensures { result ≡ first_failing (C.test test.now) 0 items.now }
 {
-    if passed {
+    if tests_pass {
         None
     } else {
         first_failing(test, items)

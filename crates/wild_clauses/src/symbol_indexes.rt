@@ -198,9 +198,13 @@ fn search(layout: &Layout) -> Option<usize>
 }
 
 /// The place of the first symbol whose definition or place does not exist.
-pub(crate) fn symbol_misfit(layout: &Layout, lie: bool) -> Option<usize>
-    requires { lie ≡ is_some (all_ranges_lie (length layout.now.symbols) 0 layout.now.groups) }
+pub(crate) fn symbol_misfit(layout: &Layout, ranges_in_order: bool) -> Option<usize>
+    requires { ranges_in_order ≡ is_some (all_ranges_lie (length layout.now.symbols) 0 layout.now.groups) }
     ensures { result ≡ symbol_misfit layout.now (files_of layout.now.groups) 0 layout.now.symbols }
 {
-    if lie { walk(layout) } else { search(layout) }
+    if ranges_in_order {
+        walk(layout)
+    } else {
+        search(layout)
+    }
 }

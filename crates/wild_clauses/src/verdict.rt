@@ -62,25 +62,30 @@ pub fn well_formed_with(layout: &Layout, seen: LayoutSurvey) -> Result<(), Claus
     ensures { result ≡ first_clause layout.now }
 {
     let LayoutSurvey {
-        inner_groups_need_no_tables: inside,
-        passed,
-        has_no_copies_versions_or_sorting: ordinary,
+        inner_groups_need_no_tables: no_inner_tables,
+        tests_pass,
+        has_no_copies_versions_or_sorting,
         relocations,
         ..
     } = seen;
-    let lie = all_ranges_lie(layout.symbols.len(), layout.groups.as_slice());
-    let needs = needed_libraries(layout, ordinary);
+    let ranges_in_order = all_ranges_lie(layout.symbols.len(), layout.groups.as_slice());
+    let needs = needed_libraries(layout, has_no_copies_versions_or_sorting);
     let simple = are_simple(layout);
-    check_sizes(layout, passed)?;
-    check_counts(layout, lie, needs, relocations)?;
+    check_sizes(layout, tests_pass)?;
+    check_counts(layout, ranges_in_order, needs, relocations)?;
     check_order(layout)?;
-    check_roles(layout, inside)?;
+    check_roles(layout, no_inner_tables)?;
     check_sections(layout)?;
     check_segments(layout)?;
-    check_shares(layout, passed, inside)?;
-    check_inputs(layout, passed, ordinary)?;
-    check_indexes(layout, passed, lie, ordinary)?;
-    check_fields(layout, passed)?;
+    check_shares(layout, tests_pass, no_inner_tables)?;
+    check_inputs(layout, tests_pass, has_no_copies_versions_or_sorting)?;
+    check_indexes(
+        layout,
+        tests_pass,
+        ranges_in_order,
+        has_no_copies_versions_or_sorting,
+    )?;
+    check_fields(layout, tests_pass)?;
     check_slots(layout, simple)?;
     check_thunks(layout)?;
     check_dynsyms(layout, simple)?;
@@ -89,8 +94,8 @@ pub fn well_formed_with(layout: &Layout, seen: LayoutSurvey) -> Result<(), Claus
     check_starts(layout)?;
     check_hashes(layout)?;
     check_versions(layout, needs)?;
-    check_names(layout, passed)?;
-    check_reversed(layout, passed)?;
-    check_partial(layout, passed)?;
+    check_names(layout, tests_pass)?;
+    check_reversed(layout, tests_pass)?;
+    check_partial(layout, tests_pass)?;
     check_fronts(layout)
 }

@@ -17,11 +17,15 @@ const MOST_VERSIONS: u64 = 65535;
 
 /// From how many libraries versions are needed, at most 2^64 - 1. They are counted only if some file is not ordinary.
 #[tactic(auto, using(crate::proofs::SurveyLemmas::none_needed))]
-pub(crate) fn needed_libraries(layout: &Layout, ordinary: bool) -> u64
-    requires { ordinary ≡ are_ordinary layout.now.groups }
+pub(crate) fn needed_libraries(layout: &Layout, has_no_copies_versions_or_sorting: bool) -> u64
+    requires { has_no_copies_versions_or_sorting ≡ are_ordinary layout.now.groups }
     ensures { result ≡ need_number layout.now }
 {
-    if ordinary { 0 } else { need_count(layout) }
+    if has_no_copies_versions_or_sorting {
+        0
+    } else {
+        need_count(layout)
+    }
 }
 
 /// How many versions are needed from a file.

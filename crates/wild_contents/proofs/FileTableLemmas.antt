@@ -8,7 +8,7 @@ use Rattle.wild_words.proofs.ListLemmas.{flat_map-more, flat_map-flat_map}
 use Rattle.wild_records.specs.Relocations.{relr_size}
 use Rattle.wild_relr.specs.declared.run.Choice.{Choice}
 use Rattle.wild_relr.specs.declared.run.Choice.TheVariants.{Joins, Adds}
-use Rattle.wild_relr.specs.Encoding.{State, choice, chosen, after}
+use Rattle.wild_relr.specs.Encoding.{State, choice, apply_choice, after}
 use Rattle.wild_relr.specs.RunWords.{packed, packed_on, after_places, nothing}
 use Rattle.wild_relr.specs.WriterState.{word_bytes}
 use Rattle.wild_relr.proofs.PackedLemmas.{after_places-packed, length-with_last_bit}
@@ -45,7 +45,7 @@ entries_joined l ss = sym (sym (flat_map-flat_map _ (section_entries l) ss))
 
 -- ---- words
 
-by_choice_few : (c : Choice) (s : State) → length (chosen c s).words ≤ length s.words + 1
+by_choice_few : (c : Choice) (s : State) → length (apply_choice c s).words ≤ length s.words + 1
 by_choice_few (Joins i) s = let e = length-with_last_bit i s.words in omega (arith, e)
 by_choice_few (Adds w r) s = let e = length-append s.words (w ∷ []) in omega (arith, e)
 

@@ -33,7 +33,7 @@ use Rattle.wild_needs.specs.Needs.{frame_room, has_last}
 use Rattle.wild_needs.specs.TableSymbols.{TableSymbol, file_items, item_name, is_local, has_long, table_strings}
 use Rattle.wild_placement.specs.ReversedWords.{with_word_order, reversed_section}
 use Rattle.wild_placement.specs.FrameInputs.{frames_of, kept_size}
-use Rattle.wild_placement.specs.PlacedSections.{Input, without_relocations, unread, placed_by, placed_section, placed_sections, placed_file, placed_from, placed_files, behind, file_frames, sorted_input, sorted_inputs, sorted_sections, of_last_file, processed_sections}
+use Rattle.wild_placement.specs.PlacedSections.{Input, without_relocations, unread, placed_by, placed_section, placed_sections, placed_file, placed_from, placed_files, address_after, file_frames, sorted_input, sorted_inputs, sorted_sections, of_last_file, processed_sections}
 use Rattle.wild_table_formats.specs.declared.symbols.TableFields.{TableFields}
 use Rattle.wild_types.specs.declared.fault.Fault.{Fault}
 use Rattle.std.specs.Prelude.{Result}
@@ -84,9 +84,9 @@ room_of_laid l f at s = room_by l f at s s.slot refl
 
 -- one more section of those to come
 pub laid_more : {Y : Type 0} (G : InputSection → List Y) (l : Layout) (f : File) (at : ℕ) (ss : List InputSection) (i : ℕ) (s : InputSection) (now next whole : List Y) → i < length ss → s ≡ get_or ss i s → now ++ flat_map G (placed_sections l f at (drop i ss)) ≡ whole → next ≡ now ++ G (placed_section l f at s)
-    → next ++ flat_map G (placed_sections l f (behind at (kept_size l f s)) (drop (i + 1) ss)) ≡ whole
+    → next ++ flat_map G (placed_sections l f (address_after at (kept_size l f s)) (drop (i + 1) ss)) ≡ whole
 laid_more {Y} G l f at ss i s now next whole low read before is =
-    let rest = flat_map G (placed_sections l f (behind at (kept_size l f s)) (drop (i + 1) ss)) in
+    let rest = flat_map G (placed_sections l f (address_after at (kept_size l f s)) (drop (i + 1) ss)) in
     let cut : drop i ss ≡ s ∷ drop (i + 1) ss = drop_more ss i s low ∙ ap (λ (x : InputSection). x ∷ drop (i + 1) ss) (sym read) in
     ap (λ (ys : List Y). ys ++ rest) is
     ∙ append_assoc now (G (placed_section l f at s)) rest
@@ -99,28 +99,28 @@ laid_done {Y} G l f at ss i now whole end before =
     sym (append-nil now) ∙ sym (ap (λ (xs : List InputSection). now ++ flat_map G (placed_sections l f at xs)) (drop_all i ss end)) ∙ before
 
 -- the addresses of the frames to come
-pub reach_more : (l : Layout) (f : File) (ss : List InputSection) (i : ℕ) (s : InputSection) (at next whole : ℕ) → i < length ss → s ≡ get_or ss i s → behind at (total (kept_size l f) (drop i ss)) ≡ whole → next ≡ behind at (kept_size l f s)
-    → behind next (total (kept_size l f) (drop (i + 1) ss)) ≡ whole
+pub reach_more : (l : Layout) (f : File) (ss : List InputSection) (i : ℕ) (s : InputSection) (at next whole : ℕ) → i < length ss → s ≡ get_or ss i s → address_after at (total (kept_size l f) (drop i ss)) ≡ whole → next ≡ address_after at (kept_size l f s)
+    → address_after next (total (kept_size l f) (drop (i + 1) ss)) ≡ whole
 reach_more l f ss i s at next whole low read before is =
     let cut : drop i ss ≡ s ∷ drop (i + 1) ss = drop_more ss i s low ∙ ap (λ (x : InputSection). x ∷ drop (i + 1) ss) (sym read) in
     let t : total (kept_size l f) (drop i ss) ≡ kept_size l f s + total (kept_size l f) (drop (i + 1) ss) = ap (total (kept_size l f)) cut in
     omega (arith, t, is, before)
 
-pub reach_done : (l : Layout) (f : File) (ss : List InputSection) (i at whole : ℕ) → at < 2 ^ 64 → length ss ≤ i → behind at (total (kept_size l f) (drop i ss)) ≡ whole → at ≡ whole
+pub reach_done : (l : Layout) (f : File) (ss : List InputSection) (i at whole : ℕ) → at < 2 ^ 64 → length ss ≤ i → address_after at (total (kept_size l f) (drop i ss)) ≡ whole → at ≡ whole
 reach_done l f ss i at whole small end before =
     let t : total (kept_size l f) (drop i ss) ≡ 0 = ap (total (kept_size l f)) (drop_all i ss end) in
     omega (arith, t, small, before)
 
 -- an address behind another fits
-pub behind_small : (at n next : ℕ) → next ≡ behind at n → next < 2 ^ 64
+pub behind_small : (at n next : ℕ) → next ≡ address_after at n → next < 2 ^ 64
 behind_small at n next e = omega (arith, e)
 
 -- ---- the walk over files
 
 pub files_more : {Y : Type 0} (G : File → List Y) (l : Layout) (at : ℕ) (fs : List File) (i : ℕ) (f : File) (now next whole : List Y) → i < length fs → f ≡ get_or fs i f → now ++ flat_map G (placed_from l at (drop i fs)) ≡ whole → next ≡ now ++ G (placed_file l at f)
-    → next ++ flat_map G (placed_from l (behind at (file_frames l f)) (drop (i + 1) fs)) ≡ whole
+    → next ++ flat_map G (placed_from l (address_after at (file_frames l f)) (drop (i + 1) fs)) ≡ whole
 files_more {Y} G l at fs i f now next whole low read before is =
-    let rest = flat_map G (placed_from l (behind at (file_frames l f)) (drop (i + 1) fs)) in
+    let rest = flat_map G (placed_from l (address_after at (file_frames l f)) (drop (i + 1) fs)) in
     let cut : drop i fs ≡ f ∷ drop (i + 1) fs = drop_more fs i f low ∙ ap (λ (x : File). x ∷ drop (i + 1) fs) (sym read) in
     ap (λ (ys : List Y). ys ++ rest) is
     ∙ append_assoc now (G (placed_file l at f)) rest
@@ -156,7 +156,7 @@ part_of_laid l f at s = part_by l f at s s.slot
 listed_laid : (l : Layout) (f : File) (ss : List InputSection) (at k : ℕ) → section_of_input l (slice_get (placed_sections l f at ss) k) ≡ section_of_input l (slice_get ss k)
 listed_laid l f [] at k = refl
 listed_laid l f (s ∷ ss) at zero = let e = part_of_laid l f at s in rw e refl
-listed_laid l f (s ∷ ss) at (suc k) = listed_laid l f ss (behind at (kept_size l f s)) k
+listed_laid l f (s ∷ ss) at (suc k) = listed_laid l f ss (address_after at (kept_size l f s)) k
 
 output_laid : (l : Layout) (at : ℕ) (f : File) (p : Place) → output_section l (Some (placed_file l at f)) p ≡ output_section l (Some f) p
 output_laid l at f (places.Section k) = listed_laid l f f.sections at k
@@ -261,7 +261,7 @@ same_content l r at f plain here =
 from_same : {Y : Type 0} (G H : File → List Y) (l : Layout) (at : ℕ) (fs : List File) → ((a : ℕ) (f : File) → G (placed_file l a f) ≡ H f) → flat_map G (placed_from l at fs) ≡ flat_map H fs
 from_same G H l at [] same = refl
 from_same {Y} G H l at (f ∷ fs) same =
-    ap (λ (ys : List Y). ys ++ flat_map G (placed_from l (behind at (file_frames l f)) fs)) (same at f) ∙ ap (λ (ys : List Y). H f ++ ys) (from_same G H l (behind at (file_frames l f)) fs same)
+    ap (λ (ys : List Y). ys ++ flat_map G (placed_from l (address_after at (file_frames l f)) fs)) (same at f) ∙ ap (λ (ys : List Y). H f ++ ys) (from_same G H l (address_after at (file_frames l f)) fs same)
 
 -- what the files of a group give for which no section is read
 pub plain_files : (l : Layout) (r : Role) (g : Group) → is_applied r ≡ false → is_apart r ≡ false → flat_map (file_content l r) (placed_files l g) ≡ flat_map (file_content l r) g.files
@@ -285,8 +285,8 @@ first_by false table whole is = refl
 table_from : (l : Layout) (table : List ℕ) (at : ℕ) (fs : List File) → HaveSearchTable l table fs → flat_map (file_content l role.EhFrameHdr) (placed_from l at fs) ≡ flat_map (first_given table) fs
 table_from l table at [] is = refl
 table_from l table at (f ∷ fs) is =
-    ap (λ (ys : List ℕ). ys ++ flat_map (file_content l role.EhFrameHdr) (placed_from l (behind at (file_frames l f)) fs)) (first_by (is_prelude f.role) table (search_table l) (All-head (HasSearchTable l table) f fs is))
-    ∙ ap (λ (ys : List ℕ). first_given table f ++ ys) (table_from l table (behind at (file_frames l f)) fs (All-tail (HasSearchTable l table) f fs is))
+    ap (λ (ys : List ℕ). ys ++ flat_map (file_content l role.EhFrameHdr) (placed_from l (address_after at (file_frames l f)) fs)) (first_by (is_prelude f.role) table (search_table l) (All-head (HasSearchTable l table) f fs is))
+    ∙ ap (λ (ys : List ℕ). first_given table f ++ ys) (table_from l table (address_after at (file_frames l f)) fs (All-tail (HasSearchTable l table) f fs is))
 
 pub table_given : (l : Layout) (g : Group) (table : List ℕ) → HaveSearchTable l table g.files → flat_map (file_content l role.EhFrameHdr) (placed_files l g) ≡ flat_map (first_given table) g.files
 unfolding placed_files

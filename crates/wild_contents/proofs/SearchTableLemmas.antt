@@ -22,7 +22,7 @@ use Rattle.wild_frames.specs.Frames.{Frames, State, walk_continues, rest_of, fde
 use Rattle.wild_frames.specs.Table.{IsFirst, table_of, table_errors}
 use Rattle.wild_frames.specs.Walks.{IsNext}
 use Rattle.wild_placement.specs.FrameInputs.{frames_of, kept_size}
-use Rattle.wild_placement.specs.PlacedSections.{behind, file_frames}
+use Rattle.wild_placement.specs.PlacedSections.{address_after, file_frames}
 use Rattle.wild_layout.specs.SearchTable.{fde_at, section_fdes, sections_fdes, files_fdes, layout_fdes, address_of_role, fault_of, search_table, search_table_faults}
 use Rattle.wild_contents.specs.declared.search_table.SearchTable.{SearchTable}
 use Rattle.wild_contents.specs.SearchTable.{found_fdes, FaultIsFirst, IsSearchTable}
@@ -56,9 +56,9 @@ fdes_found l fs at xs = sym (map_joined (fde_at l fs at) xs)
 -- ---- the walks over sections and files
 
 -- one more section
-pub section_more : (l : Layout) (f : File) (at : ℕ) (ss : List InputSection) (i : ℕ) (s : InputSection) (now next whole : List Fde) → i < length ss → s ≡ get_or ss i s → now ++ sections_fdes l f at (drop i ss) ≡ whole → next ≡ now ++ section_fdes l f at s → next ++ sections_fdes l f (behind at (kept_size l f s)) (drop (i + 1) ss) ≡ whole
+pub section_more : (l : Layout) (f : File) (at : ℕ) (ss : List InputSection) (i : ℕ) (s : InputSection) (now next whole : List Fde) → i < length ss → s ≡ get_or ss i s → now ++ sections_fdes l f at (drop i ss) ≡ whole → next ≡ now ++ section_fdes l f at s → next ++ sections_fdes l f (address_after at (kept_size l f s)) (drop (i + 1) ss) ≡ whole
 section_more l f at ss i s now next whole low read before is =
-    let rest = sections_fdes l f (behind at (kept_size l f s)) (drop (i + 1) ss) in
+    let rest = sections_fdes l f (address_after at (kept_size l f s)) (drop (i + 1) ss) in
     let cut : drop i ss ≡ s ∷ drop (i + 1) ss = drop_more ss i s low ∙ ap (λ (x : InputSection). x ∷ drop (i + 1) ss) (sym read) in
     ap (λ (ys : List Fde). ys ++ rest) is ∙ append_assoc now (section_fdes l f at s) rest ∙ sym (ap (λ (xs : List InputSection). now ++ sections_fdes l f at xs) cut) ∙ before
 
@@ -66,9 +66,9 @@ pub section_done : (l : Layout) (f : File) (at : ℕ) (ss : List InputSection) (
 section_done l f at ss i now whole end before = sym (append-nil now) ∙ sym (ap (λ (xs : List InputSection). now ++ sections_fdes l f at xs) (drop_all i ss end)) ∙ before
 
 -- one more file
-pub file_more : (l : Layout) (at : ℕ) (fs : List File) (i : ℕ) (f : File) (now next whole : List Fde) → i < length fs → f ≡ get_or fs i f → now ++ files_fdes l at (drop i fs) ≡ whole → next ≡ now ++ sections_fdes l f at f.sections → next ++ files_fdes l (behind at (file_frames l f)) (drop (i + 1) fs) ≡ whole
+pub file_more : (l : Layout) (at : ℕ) (fs : List File) (i : ℕ) (f : File) (now next whole : List Fde) → i < length fs → f ≡ get_or fs i f → now ++ files_fdes l at (drop i fs) ≡ whole → next ≡ now ++ sections_fdes l f at f.sections → next ++ files_fdes l (address_after at (file_frames l f)) (drop (i + 1) fs) ≡ whole
 file_more l at fs i f now next whole low read before is =
-    let rest = files_fdes l (behind at (file_frames l f)) (drop (i + 1) fs) in
+    let rest = files_fdes l (address_after at (file_frames l f)) (drop (i + 1) fs) in
     let cut : drop i fs ≡ f ∷ drop (i + 1) fs = drop_more fs i f low ∙ ap (λ (x : File). x ∷ drop (i + 1) fs) (sym read) in
     ap (λ (ys : List Fde). ys ++ rest) is ∙ append_assoc now (sections_fdes l f at f.sections) rest ∙ sym (ap (λ (xs : List File). now ++ files_fdes l at xs) cut) ∙ before
 

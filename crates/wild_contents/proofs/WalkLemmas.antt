@@ -20,7 +20,7 @@ use Rattle.wild_table_formats.specs.TableEntries.{NamedEntry, named_entry, null_
 use Rattle.wild_table_formats.specs.TableLaws.{names_of, NamesOfFiles}
 use Rattle.wild_contents.specs.Walks.{taken_bytes, sunk, Walks, SymtabState, with_entry, Writes, WritesSection}
 use Rattle.wild_needs.specs.declared.table.TablePart.{TablePart}
-use Rattle.wild_needs.specs.declared.table.TablePart.TheVariants.{Side, Long, Strings}
+use Rattle.wild_needs.specs.declared.table.TablePart.TheVariants.{Entries, Long, Strings}
 use Rattle.wild_words.specs.Runs.{SinkRun, none, more, stop}
 
 -- ---- steps
@@ -130,11 +130,11 @@ side_first : (b : Bool) (e : SymtabEntry) (es : List SymtabEntry) → (if b then
 side_first true e es = ap (λ (bs : List ℕ). bs ++ symbol_bytes es) (append-nil _)
 side_first false e es = refl
 
-pub sides_sunk : (local : Bool) (at : ℕ) (ns : List NamedEntry) → sunk (Side local) at ns ≡ symbol_bytes (side_entries local at ns)
+pub sides_sunk : (local : Bool) (at : ℕ) (ns : List NamedEntry) → sunk (Entries local) at ns ≡ symbol_bytes (side_entries local at ns)
 unfolding sunk side_entries
 sides_sunk local at [] = refl
 sides_sunk local at (n ∷ ns) =
-    ap (λ (bs : List ℕ). taken_bytes (Side local) at n ++ bs) (sides_sunk local (offset_after_name at n.name) ns)
+    ap (λ (bs : List ℕ). taken_bytes (Entries local) at n ++ bs) (sides_sunk local (offset_after_name at n.name) ns)
     ∙ side_first (is_side local n) (entry_at (name_at at n.name) n.fields.fields) (side_entries local (offset_after_name at n.name) ns)
 
 long_first : (local : Bool) (n : NamedEntry) (ns : List NamedEntry) → taken_bytes (Long local) 0 n ++ index_bytes (long_indexes local ns) ≡ index_bytes (long_indexes local (n ∷ ns))
@@ -156,9 +156,9 @@ names_sunk at (n ∷ ns) =
     ∙ sym (flat_map-append string (option_to_list n.name) (names_of ns))
 
 -- the entries of a group
-pub table_walked : (local : Bool) (l : Layout) (g : Group) (from to : List ℕ) (next : ℕ) → Walks (Side local) from g.strtab_start to next (flat_map (file_table l) g.files) → to ≡ from ++ symbol_bytes (table_entries l local g)
+pub table_walked : (local : Bool) (l : Layout) (g : Group) (from to : List ℕ) (next : ℕ) → Walks (Entries local) from g.strtab_start to next (flat_map (file_table l) g.files) → to ≡ from ++ symbol_bytes (table_entries l local g)
 unfolding table_entries group_table
-table_walked local l g from to next h = walked (Side local) from to g.strtab_start next (flat_map (file_table l) g.files) h ∙ ap (λ (bs : List ℕ). from ++ bs) (sides_sunk local g.strtab_start (flat_map (file_table l) g.files))
+table_walked local l g from to next h = walked (Entries local) from to g.strtab_start next (flat_map (file_table l) g.files) h ∙ ap (λ (bs : List ℕ). from ++ bs) (sides_sunk local g.strtab_start (flat_map (file_table l) g.files))
 
 -- the longer section indexes of a file, where a part has them
 pub indexes_walked : (local : Bool) (l : Layout) (r : Role) (f : File) (from to : List ℕ) (at next : ℕ) → has_long l r ≡ true → Walks (Long local) from at to next (file_table l f) → to ≡ from ++ indexes_of l r local f

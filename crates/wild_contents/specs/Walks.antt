@@ -32,7 +32,7 @@ entry_of l f named i s = named_entry l f (item named i s)
 -- what a part has for an entry whose name is at an offset of the strings: the entry or its extended section index, if it is local as
 -- the part says, or the name
 abbrev pub taken_bytes : TablePart → ℕ → NamedEntry → List ℕ
-taken_bytes (parts.Side local) at n = if is_side local n then symbol_bytes (entry_at (name_at at n.name) n.fields.fields ∷ []) else []
+taken_bytes (parts.Entries local) at n = if is_side local n then symbol_bytes (entry_at (name_at at n.name) n.fields.fields ∷ []) else []
 taken_bytes (parts.Long local) at n = if is_side local n then word 4 n.fields.long else []
 taken_bytes parts.Strings at n = string_bytes (option_to_list n.name)
 

@@ -3,7 +3,7 @@ ghost use Rattle.std.specs.Prelude.{◌≡◌, ◌++◌, true, IfOk, OnOk};
 ghost use Rattle.std.specs.List.{flat_map};
 ghost use Rattle.wild_needs.specs.Needs.{frame_room};
 ghost use Rattle.wild_placement.specs.FrameInputs.{kept_size};
-ghost use Rattle.wild_placement.specs.PlacedSections.{placed_section, placed_sections, placed_file, placed_files, file_frames, behind, sorted_sections};
+ghost use Rattle.wild_placement.specs.PlacedSections.{placed_section, placed_sections, placed_file, placed_files, file_frames, address_after, sorted_sections};
 ghost use Rattle.wild_layout.specs.Content.{file_part_bytes, file_content};
 ghost use Rattle.wild_contents.specs.PlacedSections.{is_applied, section_given, sorted_given, copy_entries_before, entries_after};
 
@@ -21,7 +21,7 @@ use wild_types::{File, Group, InputSection, Role, SortedSection};
 
 /// The address after a placed section's frames, which begin at `at`. Only frames take room there.
 pub fn address_after_frames(at: u64, section: &InputSection) -> u64
-    ensures { result ≡ behind at (frame_room section.now) }
+    ensures { result ≡ address_after at (frame_room section.now) }
 {
     if section.slot.is_frame() {
         at.wrapping_add(section.size)
@@ -61,7 +61,7 @@ fn add_section<A: Arch>(
     bytes: &mut PartBytes,
 ) -> Result<u64, AllocError>
     ensures bytes { OnOk result (bytes.new ≡ bytes.old ++ section_given role resolved.now.layout.now (placed_section resolved.now.layout.now file.now at section.now)) }
-    ensures next { IfOk result (λ n. n ≡ behind at (kept_size resolved.now.layout.now file.now section.now)) }
+    ensures next { IfOk result (λ n. n ≡ address_after at (kept_size resolved.now.layout.now file.now section.now)) }
 {
     let laid = place_input(alloc, resolved.layout, file, at, section)?;
     let stood = laid.section();
@@ -80,7 +80,7 @@ fn add_sections<A: Arch>(
     bytes: &mut PartBytes,
 ) -> Result<u64, AllocError>
     ensures bytes { OnOk result (bytes.new ≡ bytes.old ++ flat_map (section_given role resolved.now.layout.now) (placed_sections resolved.now.layout.now file.now at file.now.sections)) }
-    ensures next { IfOk result (λ n. n ≡ behind at (file_frames resolved.now.layout.now file.now)) }
+    ensures next { IfOk result (λ n. n ≡ address_after at (file_frames resolved.now.layout.now file.now)) }
 {
     let mut next = at;
     for section in file.sections.as_slice() {
@@ -169,7 +169,7 @@ fn add_placed_file<A: Arch>(
 ) -> Result<u64, AllocError>
     requires { is_applied role ≡ true }
     ensures bytes { OnOk result (bytes.new ≡ bytes.old ++ file_part_bytes resolved.now.layout.now role (placed_file resolved.now.layout.now at file.now)) }
-    ensures next { IfOk result (λ n. n ≡ behind at (file_frames resolved.now.layout.now file.now)) }
+    ensures next { IfOk result (λ n. n ≡ address_after at (file_frames resolved.now.layout.now file.now)) }
 {
     add_entries_before(resolved, role, file, bytes)?;
     let next = add_sections(alloc, resolved, role, file, at, bytes)?;
@@ -189,7 +189,7 @@ fn add_file_relocations<A: Arch>(
 ) -> Result<u64, AllocError>
     requires { is_applied role ≡ true }
     ensures bytes { OnOk result (bytes.new ≡ bytes.old ++ file_content resolved.now.layout.now role (placed_file resolved.now.layout.now at file.now)) }
-    ensures next { IfOk result (λ n. n ≡ behind at (file_frames resolved.now.layout.now file.now)) }
+    ensures next { IfOk result (λ n. n ≡ address_after at (file_frames resolved.now.layout.now file.now)) }
 {
     add_unique_table(alloc, resolved, role, file, bytes)?;
     let next = add_placed_file(alloc, resolved, role, file, at, bytes)?;

@@ -7,7 +7,7 @@ ghost use Rattle.wild_types.specs.Parts.{part_with};
 ghost use Rattle.wild_frames.specs.Frames.{start, rest_of};
 ghost use Rattle.wild_frames.specs.Walks.{IsAtStart, AreOwn};
 ghost use Rattle.wild_placement.specs.FrameInputs.{frames_of, kept_size};
-ghost use Rattle.wild_placement.specs.PlacedSections.{file_frames, behind, part_address};
+ghost use Rattle.wild_placement.specs.PlacedSections.{file_frames, address_after, part_address};
 ghost use Rattle.wild_layout.specs.SearchTable.{code_at, section_fdes, sections_fdes, group_fdes, layout_fdes, address_of_role};
 ghost use Rattle.wild_contents.specs.SearchTable.{found_fdes, IsSearchTable};
 
@@ -140,7 +140,7 @@ fn add_file<A: Arch>(
     fdes: &mut Vec<Fde>,
 ) -> Result<u64, AllocError>
     ensures fdes { OnOk result (fdes.new.items ≡ fdes.old.items ++ sections_fdes resolved.now.layout.now file.now at file.now.sections) }
-    ensures next { IfOk result (λ n. n ≡ behind at (file_frames resolved.now.layout.now file.now)) }
+    ensures next { IfOk result (λ n. n ≡ address_after at (file_frames resolved.now.layout.now file.now)) }
 {
     let mut next = at;
     for section in file.sections.as_slice() {

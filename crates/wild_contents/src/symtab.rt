@@ -3,7 +3,7 @@
 ghost use Rattle.std.specs.Prelude.{◌≡◌, ◌++◌, ℕ, OnOk, IfOk};
 ghost use Rattle.wild_types.specs.declared.file.File.{File};
 ghost use Rattle.wild_types.specs.declared.layout.Layout.{Layout};
-ghost use Rattle.wild_needs.specs.declared.table.TablePart.TheVariants.{Side, Long};
+ghost use Rattle.wild_needs.specs.declared.table.TablePart.TheVariants.{Entries, Long};
 ghost use Rattle.wild_words.specs.Words.{word};
 ghost use Rattle.wild_needs.specs.DynamicStrings.{offset_after_string};
 ghost use Rattle.wild_needs.specs.TableSymbols.{full_name, table_strings};
@@ -174,7 +174,7 @@ impl<'r, 'l, 'f, A: Arch> TableBytes<'r, 'l, 'f, A> {
         index: usize,
         symbol: &Symbol,
     ) -> Result<(), AllocError>
-        ensures { OnOk result (self.new ≡ record self.old { bytes = self.old.bytes ++ taken_bytes (Side local) self.old.at (entry_of self.old.layout self.old.file named index symbol.now) }) }
+        ensures { OnOk result (self.new ≡ record self.old { bytes = self.old.bytes ++ taken_bytes (Entries local) self.old.at (entry_of self.old.layout self.old.file named index symbol.now) }) }
     {
         if is_side(local, named, symbol) {
             let fields = fields_or_none(self.resolved, self.file, named, index, symbol);
@@ -205,7 +205,7 @@ impl<'r, 'l, 'f, A: Arch> TableBytes<'r, 'l, 'f, A> {
         ensures { OnOk result (self.new ≡ record self.old { bytes = self.old.bytes ++ taken_bytes self.old.part self.old.at (entry_of self.old.layout self.old.file named index symbol.now) }) }
     {
         match self.part {
-            TablePart::Side(local) => self.add_side(local, named, index, symbol),
+            TablePart::Entries(local) => self.add_side(local, named, index, symbol),
             TablePart::Long(local) => self.add_long(local, named, index, symbol),
             TablePart::Strings => add_name(named, symbol, &mut self.bytes),
         }
@@ -216,7 +216,7 @@ impl<'r, 'l, 'f, A: Arch> TableBytes<'r, 'l, 'f, A> {
         ensures { OnOk result (self.new ≡ with_entry null_entry self.old) }
     {
         match self.part {
-            TablePart::Side(true) => add_entry(entry_at(self.at, no_fields()), &mut self.bytes)?,
+            TablePart::Entries(true) => add_entry(entry_at(self.at, no_fields()), &mut self.bytes)?,
             TablePart::Long(true) => add_index(0, &mut self.bytes)?,
             TablePart::Strings => self.bytes.extend(&[0])?,
             _ => {}
@@ -231,7 +231,7 @@ impl<'r, 'l, 'f, A: Arch> TableBytes<'r, 'l, 'f, A> {
     {
         let fields = section_fields(section);
         match self.part {
-            TablePart::Side(true) => add_entry(entry_at(0, fields.fields), &mut self.bytes),
+            TablePart::Entries(true) => add_entry(entry_at(0, fields.fields), &mut self.bytes),
             TablePart::Long(true) => add_index(fields.long, &mut self.bytes),
             _ => Ok(()),
         }
@@ -303,7 +303,7 @@ pub(crate) fn add_group_table<A: Arch>(
 {
     let mut at = group.strtab_start;
     for file in group.files.as_slice() {
-        at = add_file(alloc, resolved, TablePart::Side(local), file, at, bytes)?;
+        at = add_file(alloc, resolved, TablePart::Entries(local), file, at, bytes)?;
     }
     Ok(())
 }

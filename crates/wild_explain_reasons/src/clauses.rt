@@ -158,7 +158,7 @@ fn find_file(layout: &Layout, group: usize, test: &FileTest) -> Option<Finding> 
 /// The first input section of a group that fails a test.
 fn find_input(layout: &Layout, group: usize, test: &InputTest) -> Option<Finding> {
     let is_of_range = match test {
-        InputTest::Before | InputTest::Behind => true,
+        InputTest::ShareStart | InputTest::ShareEnd => true,
         _ => false,
     };
     if is_of_range {

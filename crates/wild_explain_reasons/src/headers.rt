@@ -91,7 +91,7 @@ pub(crate) fn test_part(layout: &Layout, index: usize, part: &Part, test: &PartT
             let end = end_before(layout, index);
             due(part.offset < end, end)
         }
-        PartTest::Again => plain(match first_of(layout, part.role) {
+        PartTest::RoleTwice => plain(match first_of(layout, part.role) {
             Some((first, _)) => first < index && !has_role(Role::Raw, part),
             None => false,
         }),
@@ -100,7 +100,7 @@ pub(crate) fn test_part(layout: &Layout, index: usize, part: &Part, test: &PartT
             let is_asked = !has_none;
             due(is_asked && part.offset != *offset, *offset)
         }
-        PartTest::Follows => match first_of(layout, Role::RelaDynRelative) {
+        PartTest::RelativeEnd => match first_of(layout, Role::RelaDynRelative) {
             Some((_, before)) => {
                 let end = before.offset.saturating_add(before.size);
                 let follows = part.address == before.address.saturating_add(before.size);
@@ -108,7 +108,7 @@ pub(crate) fn test_part(layout: &Layout, index: usize, part: &Part, test: &PartT
             }
             None => plain(false),
         },
-        PartTest::Outside => plain(match layout.sections.as_slice().get(part.section.0) {
+        PartTest::SectionRange => plain(match layout.sections.as_slice().get(part.section.0) {
             Some(section) => part.section.0 != 0 && !lies_in(layout, section, part),
             None => false,
         }),
@@ -127,12 +127,12 @@ pub(crate) fn test_part(layout: &Layout, index: usize, part: &Part, test: &PartT
             due(sum != part.size, sum)
         }
         PartTest::Section => plain(part.section.0 >= layout.sections.len()),
-        PartTest::Unasked => plain(has_role(Role::GotRelr, part) && !layout.options.relr),
-        PartTest::Noted => {
+        PartTest::RelrOption => plain(has_role(Role::GotRelr, part) && !layout.options.relr),
+        PartTest::DynamicNote => {
             let is_noted = layout.kind_at(part.section) == SHT_NOTE;
             plain(layout.options.only_keep_debug && has_role(Role::Dynamic, part) && is_noted)
         }
-        PartTest::Dropped => {
+        PartTest::OmittedHeader => {
             let is_header = matches!(
                 part.role,
                 Role::FileHeader | Role::ProgramHeaders | Role::SectionHeaders | Role::Shstrtab
@@ -273,7 +273,7 @@ pub(crate) fn test_segment(
             let is_fixed = layout.kind.has_fixed_load_address();
             plain(is_loaded && is_fixed && segment.address == 0 && segment.mem_size != 0)
         }
-        SegmentTest::BehindImage => {
+        SegmentTest::ImageEnd => {
             let size = layout.image_end().min(u128::from(u64::MAX)) as u64;
             due(
                 segment.offset.saturating_add(segment.file_size) > size,

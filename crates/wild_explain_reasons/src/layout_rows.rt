@@ -59,7 +59,7 @@ pub(crate) const LAYOUT_ROWS: [Row; 58] = [
     ),
     (
         4,
-        Test::Part(PartTest::Again),
+        Test::Part(PartTest::RoleTwice),
         "two parts have one role",
         "/role",
     ),
@@ -101,7 +101,7 @@ pub(crate) const LAYOUT_ROWS: [Row; 58] = [
     ),
     (
         4,
-        Test::Of(Role::RelaDynGeneral, PartTest::Follows),
+        Test::Of(Role::RelaDynGeneral, PartTest::RelativeEnd),
         "the part rela_dyn_general does not begin where the part rela_dyn_relative ends",
         "/offset",
     ),
@@ -125,7 +125,7 @@ pub(crate) const LAYOUT_ROWS: [Row; 58] = [
     ),
     (
         5,
-        Test::Part(PartTest::Outside),
+        Test::Part(PartTest::SectionRange),
         "the part does not lie in its section, at equal distance in file and memory",
         "/offset",
     ),
@@ -179,7 +179,7 @@ pub(crate) const LAYOUT_ROWS: [Row; 58] = [
     ),
     (
         6,
-        Test::Segment(SegmentTest::BehindImage),
+        Test::Segment(SegmentTest::ImageEnd),
         "the segment's file bytes end behind the image",
         "/file_size",
     ),
@@ -245,13 +245,13 @@ pub(crate) const LAYOUT_ROWS: [Row; 58] = [
     ),
     (
         8,
-        Test::Input(InputTest::Before),
+        Test::Input(InputTest::ShareStart),
         "the input section begins before the end of what stands ahead of it in its part",
         "/address",
     ),
     (
         8,
-        Test::Input(InputTest::Behind),
+        Test::Input(InputTest::ShareEnd),
         "the input section ends behind the group's range of its part",
         "/address",
     ),

@@ -120,7 +120,7 @@ pub(crate) fn test_file(
             plain(file.symbol_count != 0 && end > layout.symbols.len())
         }
         FileTest::Copies | FileTest::Twice => plain(is_wrong_copy(layout, file, test)),
-        FileTest::Block => {
+        FileTest::ThunkBlock => {
             let blocks = layout.thunk_blocks.len();
             plain(file.thunk_block != 0 && file.thunk_block >= blocks)
         }
@@ -211,7 +211,7 @@ fn astray(
     let (from, to) = range;
     let end = input.address.saturating_add(input.size);
     let verdict = match test {
-        InputTest::Behind => due(to < end, to),
+        InputTest::ShareEnd => due(to < end, to),
         _ => due(input.address < from, from),
     };
     let item = Item::Input(at);
@@ -261,8 +261,8 @@ pub(crate) fn test_input(layout: &Layout, section: &InputSection, test: &InputTe
     };
     match test {
         InputTest::Ends => ends_high(section.address, section.size),
-        InputTest::Before
-        | InputTest::Behind
+        InputTest::ShareStart
+        | InputTest::ShareEnd
         | InputTest::Order
         | InputTest::Target
         | InputTest::Group => false,

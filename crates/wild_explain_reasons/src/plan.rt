@@ -99,11 +99,13 @@ pub(crate) fn test_plan(layout: &Layout, index: usize, test: &PlanTest) -> Verdi
         | PlanTest::IdentityRaw
         | PlanTest::IdentitySize
         | PlanTest::IdentityAlone => test_identity(layout, test),
-        PlanTest::Segmented => {
+        PlanTest::PartialSegments => {
             plain(layout.kind.is_partial_link() && layout.segments.len() != 0)
         }
-        PlanTest::Paired => plain(layout.kind.is_partial_link() && layout.tlsld.is_some()),
-        PlanTest::Listed => plain(layout.kind.is_partial_link() && layout.dynsyms.len() != 0),
+        PlanTest::PartialPair => plain(layout.kind.is_partial_link() && layout.tlsld.is_some()),
+        PlanTest::PartialDynsyms => plain(
+            layout.kind.is_partial_link() && layout.dynsyms.len() != 0,
+        ),
         PlanTest::KeepsAll => {
             plain(layout.options.only_keep_debug && layout.kind.is_partial_link())
         }
@@ -159,7 +161,7 @@ pub(crate) fn push_plan(
                 write!(out, "role {word}, needed {needed} bytes")?;
             }
         }
-        PlanTest::Pair | PlanTest::NoPair | PlanTest::Paired => {
+        PlanTest::Pair | PlanTest::NoPair | PlanTest::PartialPair => {
             let pair = layout.tlsld.unwrap_or(0);
             write!(out, "{pair}")?;
         }

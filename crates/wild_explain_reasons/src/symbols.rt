@@ -63,7 +63,7 @@ fn astray(found: Option<u64>, expected: u64) -> Verdict {
 fn test_slots(layout: &Layout, index: usize, symbol: &Symbol, test: &SymbolTest) -> Verdict {
     let got = got_of(symbol);
     let Some((free_got, free_block, free_stub)) = free_at(layout, index) else {
-        let unwritten = matches!(test, SymbolTest::Unwritten);
+        let unwritten = matches!(test, SymbolTest::UnwrittenSlot);
         return plain(unwritten && got.is_some());
     };
     match test {
@@ -108,7 +108,7 @@ pub(crate) fn position_of(layout: &Layout, symbol: usize) -> Option<usize> {
 }
 
 /// Whether a symbol's input section is not there, or the symbol in no file's range.
-fn is_homeless(layout: &Layout, index: usize, section: usize) -> bool {
+fn is_in_no_section(layout: &Layout, index: usize, section: usize) -> bool {
     for group in layout.groups.as_slice() {
         for file in group.files.as_slice() {
             let first = file.first_symbol.0;
@@ -136,13 +136,13 @@ fn test_flags(layout: &Layout, symbol: &Symbol, test: &SymbolTest) -> bool {
             let is_asked = flags.is_dynamic() && !flags.needs_copy_relocation();
             is_asked && stub.is_some() && stub != Some(value)
         }
-        SymbolTest::StubAlone => stub.is_some() && !got,
+        SymbolTest::StubWithoutGot => stub.is_some() && !got,
         SymbolTest::TwoSeconds => {
             flags.needs_ifunc_got_for_address() && flags.needs_canonical_plt_got_for_address()
         }
         SymbolTest::ThreadStub => thread && (flags.is_ifunc() || stub.is_some()),
         SymbolTest::IfuncDynamic => flags.is_ifunc() && flags.is_dynamic(),
-        SymbolTest::Unflagged => got && !flags.needs_got() && !thread,
+        SymbolTest::SlotWithoutFlag => got && !flags.needs_got() && !thread,
         SymbolTest::NoSlot => !got && (flags.needs_got() || thread),
         SymbolTest::GotThread => flags.needs_got() && thread,
         SymbolTest::IfuncAbsolute => flags.is_ifunc() && flags.is_absolute(),
@@ -167,16 +167,16 @@ pub(crate) fn test_symbol(
             Place::Output(section) => section.0 >= layout.sections.len(),
             _ => false,
         }),
-        SymbolTest::Home => plain(match symbol.place {
-            Place::Section(section) => is_homeless(layout, index, section),
+        SymbolTest::SymbolFile => plain(match symbol.place {
+            Place::Section(section) => is_in_no_section(layout, index, section),
             _ => false,
         }),
-        SymbolTest::Defined => {
+        SymbolTest::FinalDefinition => {
             let definition = layout.canonical(SymbolIndex(index));
             let next = layout.canonical(definition);
             due(next != definition, next.0 as u64)
         }
-        SymbolTest::Unwritten | SymbolTest::Slot | SymbolTest::Stub => {
+        SymbolTest::UnwrittenSlot | SymbolTest::Slot | SymbolTest::Stub => {
             test_slots(layout, index, symbol, test)
         }
         SymbolTest::Even => plain(match got_of(symbol) {
@@ -187,11 +187,11 @@ pub(crate) fn test_symbol(
             (Some(found), Some(position)) => due(found != position as u64, position as u64),
             (found, _) => plain(found.is_some()),
         },
-        SymbolTest::Slotted => {
+        SymbolTest::PartialSlot => {
             let is_slotted = got_of(symbol).is_some() || plt_of(symbol).is_some();
             plain(layout.kind.is_partial_link() && is_slotted)
         }
-        SymbolTest::Indexed => {
+        SymbolTest::PartialIndex => {
             plain(layout.kind.is_partial_link() && dynsym_of(symbol).is_some())
         }
         SymbolTest::Name => plain(symbol.name.as_slice().contains(&0)),

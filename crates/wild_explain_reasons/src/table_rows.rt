@@ -45,7 +45,7 @@ pub(crate) const TABLE_ROWS: [Row; 97] = [
     ),
     (
         9,
-        Test::Symbol(SymbolTest::Home),
+        Test::Symbol(SymbolTest::SymbolFile),
         "the input section of a symbol is not there, or the symbol is in no file's range (`first_symbol`, `symbol_count`)",
         "/place/section",
     ),
@@ -53,7 +53,7 @@ pub(crate) const TABLE_ROWS: [Row; 97] = [
     (9, Test::File(FileTest::Copies), SYMBOLS, "/copies"),
     (
         9,
-        Test::File(FileTest::Block),
+        Test::File(FileTest::ThunkBlock),
         "a file's block of thunks is not there",
         "/thunk_block",
     ),
@@ -131,7 +131,7 @@ pub(crate) const TABLE_ROWS: [Row; 97] = [
     ),
     (
         9,
-        Test::Symbol(SymbolTest::Defined),
+        Test::Symbol(SymbolTest::FinalDefinition),
         "a symbol's definition is itself defined by another one",
         "/definition",
     ),
@@ -143,7 +143,7 @@ pub(crate) const TABLE_ROWS: [Row; 97] = [
     ),
     (
         11,
-        Test::Symbol(SymbolTest::Unwritten),
+        Test::Symbol(SymbolTest::UnwrittenSlot),
         "no file whose range has the symbol writes its slots",
         "/resolution/got",
     ),
@@ -167,7 +167,7 @@ pub(crate) const TABLE_ROWS: [Row; 97] = [
     ),
     (
         11,
-        Test::Part(PartTest::Unasked),
+        Test::Part(PartTest::RelrOption),
         "the part got_relr is there without the option `relr`",
         "/role",
     ),
@@ -197,7 +197,7 @@ pub(crate) const TABLE_ROWS: [Row; 97] = [
     ),
     (
         12,
-        Test::Thunk(ThunkTest::Owner),
+        Test::Thunk(ThunkTest::BlockFile),
         "no file owns the block of thunks",
         "",
     ),
@@ -228,7 +228,7 @@ pub(crate) const TABLE_ROWS: [Row; 97] = [
     ),
     (
         14,
-        Test::Symbol(SymbolTest::StubAlone),
+        Test::Symbol(SymbolTest::StubWithoutGot),
         "a `plt` without a `got`",
         "/resolution/got",
     ),
@@ -252,7 +252,7 @@ pub(crate) const TABLE_ROWS: [Row; 97] = [
     ),
     (
         14,
-        Test::Symbol(SymbolTest::Unflagged),
+        Test::Symbol(SymbolTest::SlotWithoutFlag),
         "a `got` without GOT or a flag of a thread-local slot",
         "/flags",
     ),
@@ -419,19 +419,19 @@ pub(crate) const TABLE_ROWS: [Row; 97] = [
     ),
     (
         21,
-        Test::Plan(PlanTest::Segmented),
+        Test::Plan(PlanTest::PartialSegments),
         "a relocatable object has no segments",
         "/segments",
     ),
     (
         21,
-        Test::Symbol(SymbolTest::Slotted),
+        Test::Symbol(SymbolTest::PartialSlot),
         "no symbol of a relocatable object has slots or a stub",
         "/resolution",
     ),
     (
         21,
-        Test::Plan(PlanTest::Paired),
+        Test::Plan(PlanTest::PartialPair),
         "a relocatable object has no slots, and no pair of them for thread-local data",
         "/tlsld",
     ),
@@ -443,13 +443,13 @@ pub(crate) const TABLE_ROWS: [Row; 97] = [
     ),
     (
         21,
-        Test::Plan(PlanTest::Listed),
+        Test::Plan(PlanTest::PartialDynsyms),
         "a relocatable object has no dynamic symbols",
         "/dynsyms",
     ),
     (
         21,
-        Test::Symbol(SymbolTest::Indexed),
+        Test::Symbol(SymbolTest::PartialIndex),
         "no symbol of a relocatable object has an index in a dynamic symbol table",
         "/resolution/dynsym",
     ),
@@ -509,7 +509,7 @@ pub(crate) const TABLE_ROWS: [Row; 97] = [
     ),
     (
         22,
-        Test::Part(PartTest::Noted),
+        Test::Part(PartTest::DynamicNote),
         "the dynamic section stands in a section of notes, in an image of debug sections alone",
         "/section",
     ),
@@ -527,7 +527,7 @@ pub(crate) const TABLE_ROWS: [Row; 97] = [
     ),
     (
         22,
-        Test::Part(PartTest::Dropped),
+        Test::Part(PartTest::OmittedHeader),
         "headers or names of sections stand in an allocated section, in an image of debug sections alone",
         "/section",
     ),

@@ -39,11 +39,11 @@ pub(crate) enum PlanTest {
     IdentityAlone,
     Interpreter,
     /// Of a relocatable object.
-    Segmented,
+    PartialSegments,
     /// The same.
-    Paired,
+    PartialPair,
     /// The same.
-    Listed,
+    PartialDynsyms,
     /// Of a relocatable object.
     KeepsAll,
 }
@@ -52,20 +52,20 @@ pub(crate) enum PlanTest {
 pub(crate) enum PartTest {
     Ends,
     Order,
-    Again,
+    RoleTwice,
     At(u64),
-    Follows,
-    Outside,
+    RelativeEnd,
+    SectionRange,
     Unallocated,
     Entries,
     Split,
     Shares,
     Section,
-    Unasked,
+    RelrOption,
     /// Of an image for debuggers alone.
-    Noted,
+    DynamicNote,
     /// The same.
-    Dropped,
+    OmittedHeader,
     Last,
 }
 
@@ -85,7 +85,7 @@ pub(crate) enum SegmentTest {
     Larger,
     Remainder,
     AtZero,
-    BehindImage,
+    ImageEnd,
     Dynamic,
 }
 
@@ -93,20 +93,20 @@ pub(crate) enum SegmentTest {
 pub(crate) enum SymbolTest {
     Definition,
     Output,
-    Home,
-    Defined,
-    Unwritten,
+    SymbolFile,
+    FinalDefinition,
+    UnwrittenSlot,
     Slot,
     Stub,
     Even,
     Position,
     DynamicOwn,
     StubValue,
-    StubAlone,
+    StubWithoutGot,
     TwoSeconds,
     ThreadStub,
     IfuncDynamic,
-    Unflagged,
+    SlotWithoutFlag,
     NoSlot,
     GotThread,
     IfuncAbsolute,
@@ -114,16 +114,16 @@ pub(crate) enum SymbolTest {
     Other,
     Name,
     /// Of a relocatable object.
-    Slotted,
+    PartialSlot,
     /// The same.
-    Indexed,
+    PartialIndex,
 }
 
 /// Tests of an input section.
 pub(crate) enum InputTest {
     Ends,
-    Before,
-    Behind,
+    ShareStart,
+    ShareEnd,
     Order,
     Length,
     Frames,
@@ -155,7 +155,7 @@ pub(crate) enum FileTest {
     Role,
     Range,
     Copies,
-    Block,
+    ThunkBlock,
     Twice,
     Order,
     Mark,
@@ -168,7 +168,7 @@ pub(crate) enum ThunkTest {
     Symbol,
     Order,
     Place,
-    Owner,
+    BlockFile,
     Last,
     /// Of a relocatable object.
     Any,

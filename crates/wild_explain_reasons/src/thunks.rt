@@ -108,7 +108,7 @@ pub(crate) fn find_thunk(layout: &Layout, index: usize, test: &ThunkTest) -> Opt
     let thunks = layout.thunk_blocks.as_slice().get(index)?.as_slice();
     let found = match test {
         ThunkTest::Symbol | ThunkTest::Order => first_wrong(layout, thunks, test)?,
-        ThunkTest::Owner if is_owned(layout, index) => return None,
+        ThunkTest::BlockFile if is_owned(layout, index) => return None,
         ThunkTest::Any if !layout.kind.is_partial_link() || thunks.is_empty() => return None,
         _ => 0,
     };

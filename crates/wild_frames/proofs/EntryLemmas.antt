@@ -12,7 +12,7 @@ use Rattle.wild_frames.specs.declared.entry.KeptEntry.{KeptEntry}
 use Rattle.wild_frames.specs.declared.entry.BadFrame.{BadFrame}
 use Rattle.wild_frames.specs.declared.entry.Found.{Found}
 use Rattle.wild_frames.specs.declared.entry.Found.TheVariants as finds
-use Rattle.wild_frames.specs.Frames.{Frames, State, start, cie_at, cie_back, behind, after, walk_continues, found, walk, rest_of, entry_bytes, tail_of, found_bytes, kept_of, kept_in, list_error, unless, found_in}
+use Rattle.wild_frames.specs.Frames.{Frames, State, start, cie_at, cie_back, state_after, after, walk_continues, found, walk, rest_of, entry_bytes, tail_of, found_bytes, kept_of, kept_in, list_error, unless, found_in}
 use Rattle.wild_frames.specs.Walks.{KeptLies}
 use Rattle.wild_frames.specs.Reading.{LeadsToItsCie, AreConsecutiveFrom, tail_found, EntriesHaveNoGaps}
 use Rattle.wild_frames.proofs.WalkLemmas.{Facts, KeptFacts, found_facts, kept_lies}
@@ -61,7 +61,7 @@ pub each_kept : (s : Frames) (st : State) (fs : List Found) → IsWalked s st fs
 each_kept s st [] w = All-nil (KeptIs s)
 each_kept s st (finds.Kept k ∷ fs) w =
     let h = w.facts in
-    All-cons (KeptIs s) k (flat_map kept_of fs) (record { lies = kept_lies s st k h; size = rw h.from h.size }) (each_kept s (behind st k) fs w.others)
+    All-cons (KeptIs s) k (flat_map kept_of fs) (record { lies = kept_lies s st k h; size = rw h.from h.size }) (each_kept s (state_after st k) fs w.others)
 each_kept s st (finds.Dropped size ∷ fs) w = each_kept s _ fs w.others
 each_kept s st (finds.End ∷ fs) w = each_kept s _ fs w.others
 each_kept s st (finds.Tail at ∷ fs) w = each_kept s _ fs w.others
@@ -71,7 +71,7 @@ each_kept s st (finds.Bad y at ∷ fs) w = each_kept s _ fs w.others
 
 lie_in : (s : Frames) (st : State) (fs : List Found) → IsWalked s st fs → AreConsecutiveFrom st.to (flat_map kept_of fs)
 lie_in s st [] w = tt
-lie_in s st (finds.Kept k ∷ fs) w = (w.facts.to, lie_in s (behind st k) fs w.others)
+lie_in s st (finds.Kept k ∷ fs) w = (w.facts.to, lie_in s (state_after st k) fs w.others)
 lie_in s st (finds.Dropped size ∷ fs) w = lie_in s (after st (finds.Dropped size)) fs w.others
 lie_in s st (finds.End ∷ fs) w = lie_in s st fs w.others
 lie_in s st (finds.Tail at ∷ fs) w = lie_in s st fs w.others
@@ -83,7 +83,7 @@ length_in s st (finds.Kept k ∷ fs) w =
     let lies = kept_lies s st k w.facts in
     let e = length-entry s k lies.least lies.within in
     let n = length-append (entry_bytes s k) (flat_map (found_bytes s) fs) in
-    let h = length_in s (behind st k) fs w.others in
+    let h = length_in s (state_after st k) fs w.others in
     omega (arith, e, n, h)
 length_in s st (finds.Dropped size ∷ fs) w = length_in s (after st (finds.Dropped size)) fs w.others
 length_in s st (finds.End ∷ fs) w = length_in s st fs w.others
@@ -106,7 +106,7 @@ stand_in s st (finds.Kept k ∷ fs) front e w =
     let at : length front + 0 ≡ k.to = let t = h.to in omega arith in
     let n = length-entry s k lies.least lies.within in
     let more : length (front ++ entry_bytes s k) ≡ st.to + k.size = simp length-append (omega (arith, n, e)) in
-    let rest = stand_in s (behind st k) fs (front ++ entry_bytes s k) more w.others in
+    let rest = stand_in s (state_after st k) fs (front ++ entry_bytes s k) more w.others in
     All-cons (λ j. HasBytesAt (front ++ (entry_bytes s k ++ bytes)) j.to (entry_bytes s j)) k (flat_map kept_of fs)
     (subst (λ (a : ℕ). HasBytesAt (front ++ (entry_bytes s k ++ bytes)) a (entry_bytes s k)) at here)
     (λ i d l. subst (λ (bs : List ℕ). HasBytesAt bs (get_or (flat_map kept_of fs) i d).to (entry_bytes s (get_or (flat_map kept_of fs) i d))) (append_assoc front (entry_bytes s k) bytes) (rest i d l))
@@ -191,7 +191,7 @@ known_further done more at to at2 to2 c h n m k = record {
   shrinks = let b = k.shrinks in omega arith;
 }
 
-known_behind : (s : Frames) (st : State) (k : KeptEntry) (done : List KeptEntry) → KeptFacts s st k → st.to ≤ st.at → All (Known done st.at st.to) st.cies → All (Known (done ++ k ∷ []) (st.at + k.size) (st.to + k.size)) (behind st k).cies
+known_behind : (s : Frames) (st : State) (k : KeptEntry) (done : List KeptEntry) → KeptFacts s st k → st.to ≤ st.at → All (Known done st.at st.to) st.cies → All (Known (done ++ k ∷ []) (st.at + k.size) (st.to + k.size)) (state_after st k).cies
 known_behind s st k done h w a =
     let P : Cie → Type 0 = Known (done ++ k ∷ []) (st.at + k.size) (st.to + k.size) in
     let old : All P st.cies = λ i d l. known_further done (done ++ k ∷ []) st.at st.to (st.at + k.size) (st.to + k.size) (get_or st.cies i d) (omega arith) (omega arith) (λ j m. Contains-left done (k ∷ []) j m) (a i d l) in
@@ -220,7 +220,7 @@ leads_in s st (finds.Kept k ∷ fs) done m a w =
     let ks = flat_map kept_of fs in
     All-cons (LeadsToItsCie s (done ++ k ∷ ks)) k ks
     (leads_here s st k done (done ++ k ∷ ks) w.facts a (λ j c. Contains-left done (k ∷ ks) j c))
-    (λ i d l. subst (λ (xs : List KeptEntry). LeadsToItsCie s xs (get_or ks i d)) (append_assoc done (k ∷ []) ks) (leads_in s (behind st k) fs (done ++ k ∷ []) (omega arith) (known_behind s st k done w.facts m a) w.others i d l))
+    (λ i d l. subst (λ (xs : List KeptEntry). LeadsToItsCie s xs (get_or ks i d)) (append_assoc done (k ∷ []) ks) (leads_in s (state_after st k) fs (done ++ k ∷ []) (omega arith) (known_behind s st k done w.facts m a) w.others i d l))
 leads_in s st (finds.Dropped size ∷ fs) done m a w =
     leads_in s (after st (finds.Dropped size)) fs done (omega arith) (λ i d l. known_further done done st.at st.to (st.at + size) st.to (get_or st.cies i d) (omega arith) (omega arith) (λ j c. c) (a i d l)) w.others
 leads_in s st (finds.End ∷ fs) done m a w = leads_in s st fs done m a w.others

@@ -13,7 +13,7 @@ use Rattle.wild_frames.specs.declared.entry.KeptEntry.{KeptEntry}
 use Rattle.wild_frames.specs.declared.entry.BadFrame.{BadFrame}
 use Rattle.wild_frames.specs.declared.entry.Found.{Found}
 use Rattle.wild_frames.specs.declared.entry.Found.TheVariants as finds
-use Rattle.wild_frames.specs.Frames.{Frames, State, start, target_first, found, behind, walk_continues, after, walk, rest_of, kept_of, list_error, unless, unsorted_in}
+use Rattle.wild_frames.specs.Frames.{Frames, State, start, target_first, found, state_after, walk_continues, after, walk, rest_of, kept_of, list_error, unless, unsorted_in}
 use Rattle.wild_frames.specs.Faults.{found_errors, unless_list_error}
 use Rattle.wild_frames.specs.Reading.{Entry, IsRead, AreRead, Ends, entry_at, is_loaded, is_kept, AreFiltered, SparesId, FieldsSpareIds}
 use Rattle.wild_frames.proofs.RelocationLemmas.{at_reach, sorted_tail}
@@ -142,7 +142,7 @@ kept_spares s st k o h =
 
 spares_in : (s : Frames) (st : State) (fs : List Found) → unsorted_in 0 s.relocations ≡ None → IsWalked s st fs → All (SparesId s) (flat_map kept_of fs)
 spares_in s st [] o w = All-nil (SparesId s)
-spares_in s st (finds.Kept k ∷ fs) o w = All-cons (SparesId s) k (flat_map kept_of fs) (kept_spares s st k o w.facts) (spares_in s (behind st k) fs o w.others)
+spares_in s st (finds.Kept k ∷ fs) o w = All-cons (SparesId s) k (flat_map kept_of fs) (kept_spares s st k o w.facts) (spares_in s (state_after st k) fs o w.others)
 spares_in s st (finds.Dropped size ∷ fs) o w = spares_in s (after st (finds.Dropped size)) fs o w.others
 spares_in s st (finds.End ∷ fs) o w = spares_in s st fs o w.others
 spares_in s st (finds.Tail at ∷ fs) o w = spares_in s st fs o w.others

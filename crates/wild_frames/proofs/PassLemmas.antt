@@ -15,7 +15,7 @@ use Rattle.wild_frames.specs.declared.entry.KeptEntry.{KeptEntry}
 use Rattle.wild_frames.specs.declared.entry.Found.{Found}
 use Rattle.wild_frames.specs.declared.entry.Found.TheVariants as finds
 use Rattle.wild_frames.specs.declared.pass.Pass.{Pass}
-use Rattle.wild_frames.specs.Frames.{Frames, State, cie_at, cie_back, kept_if, fde_entry, entry_with_id, entry_of_size, found, target_first, behind, after, walk_continues, start, list_error}
+use Rattle.wild_frames.specs.Frames.{Frames, State, cie_at, cie_back, kept_if, fde_entry, entry_with_id, entry_of_size, found, target_first, state_after, after, walk_continues, start, list_error}
 use Rattle.wild_frames.specs.Walks.{Fits, IsOwn, IsNext, IsWithinSection, AreOwn}
 use Rattle.wild_frames.specs.Passes.{reaches_offset, has_cie, cie_before, state_with_cie, state_without_cies, entry_without_id, without_id, last_cie_after, IsBoundary, FollowsWalk, IsWithin, IsReady, PassContinues, IsPassStep}
 use Rattle.wild_frames.proofs.WalkLemmas.{own_at, id_at, FdeFacts, CieFacts, KeptFacts, DroppedFacts, Facts, found_facts, goes, next_at, next_found, lies, moves_back, are_own, fits_after, fits_start}

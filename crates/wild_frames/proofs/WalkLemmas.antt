@@ -19,7 +19,7 @@ use Rattle.wild_frames.specs.declared.entry.BadFrame.{BadFrame}
 use Rattle.wild_frames.specs.declared.entry.Found.{Found}
 use Rattle.wild_frames.specs.declared.entry.Found.TheVariants as finds
 use Rattle.wild_frames.specs.declared.walk.Walk.{Walk}
-use Rattle.wild_frames.specs.Frames.{Frames, State, relocations_in, target_first, cie_back, kept_if, fde_entry, entry_with_id, entry_of_size, found, behind, walk_continues, after, walk, rest_of, start, unsorted_in, malformed_in, list_error, or_else}
+use Rattle.wild_frames.specs.Frames.{Frames, State, relocations_in, target_first, cie_back, kept_if, fde_entry, entry_with_id, entry_of_size, found, state_after, walk_continues, after, walk, rest_of, start, unsorted_in, malformed_in, list_error, or_else}
 use Rattle.wild_frames.specs.Walks.{IsSorted, CiesArePassed, Fits, IsOwn, FieldLies, KeptLies, IsWithinSection, MovesBack, AreOwn, IsAtStart, IsNext, state_of}
 
 -- ---- one thing
@@ -267,7 +267,7 @@ met_more at to size cs l m =
       before = All-append (λ c. c.from < at + size) cs (x ∷ []) g.before (All-cons (λ c. c.from < at + size) x [] (omega arith) (All-nil (λ c. c.from < at + size)));
     }
 
-met_behind : (s : Frames) (st : State) (k : KeptEntry) → KeptFacts s st k → CiesArePassed st.at st.cies → CiesArePassed (st.at + k.size) (behind st k).cies
+met_behind : (s : Frames) (st : State) (k : KeptEntry) → KeptFacts s st k → CiesArePassed st.at st.cies → CiesArePassed (st.at + k.size) (state_after st k).cies
 met_behind s st k h m =
     let l = h.least in
     elim (cases_Bool (k.id == 0)) [
@@ -287,7 +287,7 @@ fits_on s st next j n f g t m o = record {
 
 pub fits_after : (s : Frames) (st : State) (f : Found) (j n : ℕ) → Fits s st j → Facts s st f → walk_continues f ≡ true → IsOwn s st.at (after st f).at j n → Fits s (after st f) (j + n)
 fits_after s st (finds.Kept k) j n h x t o =
-    fits_on s st (behind st k) j n h (goes s st (finds.Kept k) x t) (let a = h.shrinks in omega arith) (met_behind s st k x h.met) o
+    fits_on s st (state_after st k) j n h (goes s st (finds.Kept k) x t) (let a = h.shrinks in omega arith) (met_behind s st k x h.met) o
 fits_after s st (finds.Dropped size) j n h x t o =
     fits_on s st (after st (finds.Dropped size)) j n h (goes s st (finds.Dropped size) x t) (let a = h.shrinks in omega arith) (met_further st.at (st.at + size) st.cies (omega arith) h.met) o
 fits_after s st finds.End j n h x t o = cc

@@ -95,8 +95,8 @@ found s st =
 -- ---- all entries
 
 -- the state after a kept entry
-abbrev pub behind : State → KeptEntry → State
-behind st k = record { at = st.at + k.size; to = st.to + k.size; cies = if k.id == 0 then st.cies ++ (record { from = k.from; to = k.to }) ∷ [] else st.cies }
+abbrev pub state_after : State → KeptEntry → State
+state_after st k = record { at = st.at + k.size; to = st.to + k.size; cies = if k.id == 0 then st.cies ++ (record { from = k.from; to = k.to }) ∷ [] else st.cies }
 
 -- the walk continues after what was found
 abbrev pub walk_continues : Found → Bool
@@ -105,7 +105,7 @@ walk_continues (finds.Dropped size) = true
 walk_continues _ = false
 
 abbrev pub after : State → Found → State
-after st (finds.Kept k) = behind st k
+after st (finds.Kept k) = state_after st k
 after st (finds.Dropped size) = record { at = st.at + size; to = st.to; cies = st.cies }
 after st _ = st
 

@@ -12,7 +12,7 @@ use Rattle.wild_types.specs.Lists.{total}
 use Rattle.wild_types.specs.Parts.{role_place, part_with}
 use Rattle.wild_types.proofs.ListLemmas.{total-prefix}
 use Rattle.wild_placement.specs.FrameInputs.{kept_size}
-use Rattle.wild_placement.specs.PlacedSections.{behind, part_address, placed_sections, placed_file, file_frames, placed_from, frames_at, placed_files}
+use Rattle.wild_placement.specs.PlacedSections.{address_after, part_address, placed_sections, placed_file, file_frames, placed_from, frames_at, placed_files}
 use Rattle.wild_needs.specs.Needs.{frame_room, share}
 use Rattle.wild_layout.specs.Content.{content}
 use Rattle.wild_layout.specs.TablePlaces.{table_bytes, bytes_before, TableLies}
@@ -30,7 +30,7 @@ kept_of_sections : (l : Layout) (f : File) (at : ℕ) (ss : List InputSection) �
 kept_of_sections l f at [] = refl
 kept_of_sections l f at (s ∷ ss) =
     let a = frame_room_is l f at s in
-    let b = kept_of_sections l f (behind at (kept_size l f s)) ss in
+    let b = kept_of_sections l f (address_after at (kept_size l f s)) ss in
     omega arith
 
 kept_of_file : (l : Layout) (f : File) (at : ℕ) → file_frames l f ≤ share l role.EhFrame (placed_file l at f)
@@ -40,7 +40,7 @@ kept_of_files : (l : Layout) (at : ℕ) (fs : List File) → total (file_frames 
 kept_of_files l at [] = omega arith
 kept_of_files l at (f ∷ fs) =
     let a = kept_of_file l f at in
-    let b = kept_of_files l (behind at (file_frames l f)) fs in
+    let b = kept_of_files l (address_after at (file_frames l f)) fs in
     omega arith
 
 kept_shared : (l : Layout) (g : Group) → total (file_frames l) g.files ≤ total (share l role.EhFrame) (placed_files l g)
@@ -56,7 +56,7 @@ kept_within l g =
 -- ---- where they end
 
 -- an address that is not reduced
-low_behind : (at n k limit : ℕ) → at + n + k ≤ limit → limit < 2 ^ 64 → behind at n + k ≤ limit
+low_behind : (at n k limit : ℕ) → at + n + k ≤ limit → limit < 2 ^ 64 → address_after at n + k ≤ limit
 low_behind at n k limit h low = omega arith
 
 group_ends : (l : Layout) → Laid l → (j : ℕ) (g : Group) → j < length l.groups → FramesEnd l (get_or l.groups j g)
@@ -91,11 +91,11 @@ group_ends l h j g m = by (part_with role.EhFrame l.parts) refl
     by None is =
         let none = ap length ((HasTable-from_laid l h role.EhFrame some).missing is) in
         let all = ends in
-        subst (λ (o : Option Part). behind (part_address o) x.eh_frame_start + total (file_frames l) x.files ≤ 2 ^ 62) (sym is) (low_behind 0 x.eh_frame_start (total (file_frames l) x.files) (2 ^ 62) (omega arith) (omega arith))
+        subst (λ (o : Option Part). address_after (part_address o) x.eh_frame_start + total (file_frames l) x.files ≤ 2 ^ 62) (sym is) (low_behind 0 x.eh_frame_start (total (file_frames l) x.files) (2 ^ 62) (omega arith) (omega arith))
     by (Some p) is =
         let most = low p ((HasTable-from_laid l h role.EhFrame some).there p is) in
         let all = ends in
-        subst (λ (o : Option Part). behind (part_address o) x.eh_frame_start + total (file_frames l) x.files ≤ 2 ^ 62) (sym is) (low_behind p.address x.eh_frame_start (total (file_frames l) x.files) (2 ^ 62) (omega arith) (omega arith))
+        subst (λ (o : Option Part). address_after (part_address o) x.eh_frame_start + total (file_frames l) x.files ≤ 2 ^ 62) (sym is) (low_behind p.address x.eh_frame_start (total (file_frames l) x.files) (2 ^ 62) (omega arith) (omega arith))
 
 pub frames_end : (l : Layout) → Laid l → All (FramesEnd l) l.groups
 frames_end l h = λ j g m. group_ends l h j g m

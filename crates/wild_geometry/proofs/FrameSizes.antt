@@ -20,7 +20,7 @@ use Rattle.wild_types.specs.Lookups.{is_frame, has_relocations, is_read, has_wri
 use Rattle.wild_frames.specs.Frames.{frame_bytes}
 use Rattle.wild_placement.specs.ReversedWords.{reversed_section, with_word_order}
 use Rattle.wild_placement.specs.FrameInputs.{frames_of, kept_size}
-use Rattle.wild_placement.specs.PlacedSections.{Input, placed_by, placed_section, sorted_inputs, sorted_by, sorted_in_file, sorted_in_group, files_at, sorted_input, as_loaded, unread, placed_sections, behind, placed_files}
+use Rattle.wild_placement.specs.PlacedSections.{Input, placed_by, placed_section, sorted_inputs, sorted_by, sorted_in_file, sorted_in_group, files_at, sorted_input, as_loaded, unread, placed_sections, address_after, placed_files}
 use Rattle.wild_layout.specs.Content.{frame_bytes_of, content, file_content, frames_bytes}
 use Rattle.wild_layout.specs.Sites.{item_bytes, section_bytes, sites}
 use Rattle.wild_layout.specs.SectionPlaces.{SectionLies}
@@ -120,8 +120,8 @@ pub sections_size : (l : Layout) (f g : File) (at : ℕ) (ss : List InputSection
 sections_size l f g at [] lies = refl
 sections_size l f g at (s ∷ ss) lies =
     let t = placed_section l g at s in
-    let ts = placed_sections l g (behind at (kept_size l g s)) ss in
-    let rest = sections_size l f g (behind at (kept_size l g s)) ss (All-tail (SectionLies l) t ts lies) in
+    let ts = placed_sections l g (address_after at (kept_size l g s)) ss in
+    let rest = sections_size l f g (address_after at (kept_size l g s)) ss (All-tail (SectionLies l) t ts lies) in
     let mine = one (stands_so l g at s) (All-head (SectionLies l) t ts lies) in
     let both = length-append (frame_bytes_of l f t) (flat_map (frame_bytes_of l f) ts) in
     omega (arith, rest, mine, both)

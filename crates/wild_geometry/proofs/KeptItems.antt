@@ -37,7 +37,7 @@ use Rattle.wild_frames.specs.declared.frames.Target.{Target}
 use Rattle.wild_frames.specs.Frames.{Frames, frame_bytes}
 use Rattle.wild_placement.specs.ReversedWords.{reversed_section, with_word_order}
 use Rattle.wild_placement.specs.FrameInputs.{has_symbol, home_of, target_in, target_at, symbol_target, target_by, target_of, frames_of, kept_size, section_target}
-use Rattle.wild_placement.specs.PlacedSections.{Input, placed_frames, placed_by, placed_section, placed_sections, placed_file, placed_from, placed_files, file_frames, frames_at, behind, part_address, sorted_inputs, as_loaded, processed_sections, of_last_file, sorted_sections, frame_flags, moved_relocations}
+use Rattle.wild_placement.specs.PlacedSections.{Input, placed_frames, placed_by, placed_section, placed_sections, placed_file, placed_from, placed_files, file_frames, frames_at, address_after, part_address, sorted_inputs, as_loaded, processed_sections, of_last_file, sorted_sections, frame_flags, moved_relocations}
 use Rattle.wild_placement.proofs.PlainLemmas.{unread_linked}
 use Rattle.wild_layout.specs.SectionPlaces.{HasWords, SectionLies}
 use Rattle.wild_layout.specs.Geometry.{IsLaidOut}
@@ -298,18 +298,18 @@ total_same f g (x ∷ xs) h = (let a = h x (Contains-here x xs) in let b = total
 
 -- the place in a list of laid files of the one behind others
 file_after : (l : Layout) (at : ℕ) (fs : List File) (f : File) (rest : List File) → (a : ℕ) × Contains (placed_from l at (fs ++ (f ∷ rest))) (placed_file l a f) × (a % 2 ^ 64 ≡ (at + total (file_frames l) fs) % 2 ^ 64)
-file_after l at [] f rest = (at, Contains-here (placed_file l at f) (placed_from l (behind at (file_frames l f)) rest), (let e : at ≡ at + 0 = omega arith in ap (λ (n : ℕ). n % 2 ^ 64) e))
+file_after l at [] f rest = (at, Contains-here (placed_file l at f) (placed_from l (address_after at (file_frames l f)) rest), (let e : at ≡ at + 0 = omega arith in ap (λ (n : ℕ). n % 2 ^ 64) e))
 file_after l at (g ∷ gs) f rest =
-    let r = file_after l (behind at (file_frames l g)) gs f rest in
+    let r = file_after l (address_after at (file_frames l g)) gs f rest in
     let e = r.2 in
-    (r.0, Contains-there (placed_file l r.0 f) (placed_file l at g) (placed_from l (behind at (file_frames l g)) (gs ++ (f ∷ rest))) r.1, omega (arith, e))
+    (r.0, Contains-there (placed_file l r.0 f) (placed_file l at g) (placed_from l (address_after at (file_frames l g)) (gs ++ (f ∷ rest))) r.1, omega (arith, e))
 
 section_after : (l : Layout) (f : File) (at : ℕ) (ss : List InputSection) (s : InputSection) (rest : List InputSection) → (a : ℕ) × Contains (placed_sections l f at (ss ++ (s ∷ rest))) (placed_section l f a s) × (a % 2 ^ 64 ≡ (at + total (kept_size l f) ss) % 2 ^ 64)
-section_after l f at [] s rest = (at, Contains-here (placed_section l f at s) (placed_sections l f (behind at (kept_size l f s)) rest), (let e : at ≡ at + 0 = omega arith in ap (λ (n : ℕ). n % 2 ^ 64) e))
+section_after l f at [] s rest = (at, Contains-here (placed_section l f at s) (placed_sections l f (address_after at (kept_size l f s)) rest), (let e : at ≡ at + 0 = omega arith in ap (λ (n : ℕ). n % 2 ^ 64) e))
 section_after l f at (t ∷ ts) s rest =
-    let r = section_after l f (behind at (kept_size l f t)) ts s rest in
+    let r = section_after l f (address_after at (kept_size l f t)) ts s rest in
     let e = r.2 in
-    (r.0, Contains-there (placed_section l f r.0 s) (placed_section l f at t) (placed_sections l f (behind at (kept_size l f t)) (ts ++ (s ∷ rest))) r.1, omega (arith, e))
+    (r.0, Contains-there (placed_section l f r.0 s) (placed_section l f at t) (placed_sections l f (address_after at (kept_size l f t)) (ts ++ (s ∷ rest))) r.1, omega (arith, e))
 
 -- a group gives as many bytes as its files keep, or more
 file_most : (l : Layout) (f : File) (at : ℕ) → All (SectionLies l) (processed_sections l (placed_file l at f)) → file_frames l f ≤ length (frames_bytes l (placed_file l at f))
@@ -327,9 +327,9 @@ files_most : (l : Layout) (at : ℕ) (fs : List File) → All (LiesWell l) (plac
 files_most l at [] lies = omega arith
 files_most l at (f ∷ fs) lies =
     let g = placed_file l at f in
-    let gs = placed_from l (behind at (file_frames l f)) fs in
+    let gs = placed_from l (address_after at (file_frames l f)) fs in
     let one = file_most l f at (All-head (LiesWell l) g gs lies) in
-    let rest = files_most l (behind at (file_frames l f)) fs (All-tail (LiesWell l) g gs lies) in
+    let rest = files_most l (address_after at (file_frames l f)) fs (All-tail (LiesWell l) g gs lies) in
     let both = length-append (frames_bytes l g) (flat_map (frames_bytes l) gs) in
     omega (arith, one, rest, both)
 

@@ -26,7 +26,7 @@ use Rattle.wild_frames.specs.Frames.{fdes_in}
 use Rattle.wild_frames.specs.Table.{entry_of, rank_of, header_of, put_in_order, in_order, hdr_bytes, entry_bytes, table_of}
 use Rattle.wild_frames.proofs.TableLemmas.{length-hdr, length-entry}
 use Rattle.wild_placement.specs.FrameInputs.{frames_of, kept_size, fde_count}
-use Rattle.wild_placement.specs.PlacedSections.{behind, file_frames, frames_at, all_fdes}
+use Rattle.wild_placement.specs.PlacedSections.{address_after, file_frames, frames_at, all_fdes}
 use Rattle.wild_needs.specs.Needs.{search_table_room, build_id_room, property_room, properties_room}
 use Rattle.wild_layout.specs.Notes.{gnu_note, build_id_note, value_bytes, property_bytes, property_note}
 use Rattle.wild_layout.specs.SearchTable.{fde_at, section_fdes, sections_fdes, files_fdes, group_fdes, layout_fdes, address_of_role, search_table}
@@ -133,9 +133,9 @@ section_count l f at s =
 sections_count : (l : Layout) (f : File) (at : ℕ) (ss : List InputSection) → length (sections_fdes l f at ss) ≡ total (fde_count l f) ss
 sections_count l f at [] = refl
 sections_count l f at (s ∷ ss) =
-    let a = length-append (section_fdes l f at s) (sections_fdes l f (behind at (kept_size l f s)) ss) in
+    let a = length-append (section_fdes l f at s) (sections_fdes l f (address_after at (kept_size l f s)) ss) in
     let b = section_count l f at s in
-    let c = sections_count l f (behind at (kept_size l f s)) ss in
+    let c = sections_count l f (address_after at (kept_size l f s)) ss in
     omega arith
 
 abbrev file_fdes : Layout → File → ℕ
@@ -144,9 +144,9 @@ file_fdes l f = total (fde_count l f) f.sections
 files_count : (l : Layout) (at : ℕ) (fs : List File) → length (files_fdes l at fs) ≡ total (file_fdes l) fs
 files_count l at [] = refl
 files_count l at (f ∷ fs) =
-    let a = length-append (sections_fdes l f at f.sections) (files_fdes l (behind at (file_frames l f)) fs) in
+    let a = length-append (sections_fdes l f at f.sections) (files_fdes l (address_after at (file_frames l f)) fs) in
     let b = sections_count l f at f.sections in
-    let c = files_count l (behind at (file_frames l f)) fs in
+    let c = files_count l (address_after at (file_frames l f)) fs in
     omega arith
 
 groups_count : (l : Layout) (gs : List Group) → length (flat_map (group_fdes l) gs) ≡ total (λ (g : Group). total (file_fdes l) g.files) gs

@@ -12,7 +12,7 @@ use Rattle.wild_types.specs.declared.file.Group.{Group}
 use Rattle.wild_types.specs.declared.layout.Layout.{Layout}
 use Rattle.wild_types.specs.FileRoles.{is_epilogue}
 use Rattle.wild_placement.specs.ReversedWords.{with_word_order}
-use Rattle.wild_placement.specs.PlacedSections.{Input, placed_file, placed_from, placed_files, file_frames, frames_at, behind, sorted_inputs, sorted_sections, of_last_file, processed_sections, placed_section, placed_sections}
+use Rattle.wild_placement.specs.PlacedSections.{Input, placed_file, placed_from, placed_files, file_frames, frames_at, address_after, sorted_inputs, sorted_sections, of_last_file, processed_sections, placed_section, placed_sections}
 use Rattle.wild_layout.specs.Geometry.{EachSection}
 use Rattle.wild_layout.proofs.SiteLemmas.{Contains-flat_map}
 use Rattle.wild_geometry.specs.PlacedSections.{IsSectionOfFile, Own, Ordered, IsPlacedSection}
@@ -26,7 +26,7 @@ laid_same make l g each = from make l (frames_at l g) g.files each
   where
     from : {Y : Type 0} (make : File → List Y) (l : Layout) (at : ℕ) (fs : List File) → ((at : ℕ) (f : File) → make (placed_file l at f) ≡ make f) → flat_map make (placed_from l at fs) ≡ flat_map make fs
     from make l at [] each = refl
-    from make l at (f ∷ fs) each = ap (λ ys. ys ++ flat_map make (placed_from l (behind at (file_frames l f)) fs)) (each at f) ∙ ap (λ ys. make f ++ ys) (from make l (behind at (file_frames l f)) fs each)
+    from make l at (f ∷ fs) each = ap (λ ys. ys ++ flat_map make (placed_from l (address_after at (file_frames l f)) fs)) (each at f) ∙ ap (λ ys. make f ++ ys) (from make l (address_after at (file_frames l f)) fs each)
 
 -- in all groups
 pub laid_same_all : {Y : Type 0} (make : File → List Y) (l : Layout) → ((at : ℕ) (f : File) → make (placed_file l at f) ≡ make f) → flat_map (λ (g : Group). flat_map make (placed_files l g)) l.groups ≡ flat_map (λ (g : Group). flat_map make g.files) l.groups
@@ -39,20 +39,20 @@ laid_of l g f c = from l (frames_at l g) g.files f c
   where
     from : (l : Layout) (at : ℕ) (fs : List File) (f : File) → Contains fs f → (a : ℕ) × Contains (placed_from l at fs) (placed_file l a f)
     from l at [] f c = absurd (omega (arith, c.1))
-    from l at (g ∷ gs) f c = there l at g gs f c.0 c.1 c.2 (λ c'. from l (behind at (file_frames l g)) gs f c')
+    from l at (g ∷ gs) f c = there l at g gs f c.0 c.1 c.2 (λ c'. from l (address_after at (file_frames l g)) gs f c')
       where
-        there : (l : Layout) (at : ℕ) (g : File) (gs : List File) (f : File) (k : ℕ) → k < length (g ∷ gs) → get_or (g ∷ gs) k f ≡ f → (Contains gs f → (a : ℕ) × Contains (placed_from l (behind at (file_frames l g)) gs) (placed_file l a f)) → (a : ℕ) × Contains (placed_from l at (g ∷ gs)) (placed_file l a f)
-        there l at g gs f zero lt e again = (at, subst (λ (x : File). Contains (placed_file l at g ∷ placed_from l (behind at (file_frames l g)) gs) (placed_file l at x)) e (Contains-here (placed_file l at g) (placed_from l (behind at (file_frames l g)) gs)))
-        there l at g gs f (suc k) lt e again = (let r = again (k, omega (arith, lt), e) in (r.0, Contains-there (placed_file l r.0 f) (placed_file l at g) (placed_from l (behind at (file_frames l g)) gs) r.1))
+        there : (l : Layout) (at : ℕ) (g : File) (gs : List File) (f : File) (k : ℕ) → k < length (g ∷ gs) → get_or (g ∷ gs) k f ≡ f → (Contains gs f → (a : ℕ) × Contains (placed_from l (address_after at (file_frames l g)) gs) (placed_file l a f)) → (a : ℕ) × Contains (placed_from l at (g ∷ gs)) (placed_file l a f)
+        there l at g gs f zero lt e again = (at, subst (λ (x : File). Contains (placed_file l at g ∷ placed_from l (address_after at (file_frames l g)) gs) (placed_file l at x)) e (Contains-here (placed_file l at g) (placed_from l (address_after at (file_frames l g)) gs)))
+        there l at g gs f (suc k) lt e again = (let r = again (k, omega (arith, lt), e) in (r.0, Contains-there (placed_file l r.0 f) (placed_file l at g) (placed_from l (address_after at (file_frames l g)) gs) r.1))
 
 -- a section of a file stands among those that do
 pub laid_section_of : (l : Layout) (f : File) (at : ℕ) (ss : List InputSection) (s : InputSection) → Contains ss s → (a : ℕ) × Contains (placed_sections l f at ss) (placed_section l f a s)
 laid_section_of l f at [] s c = absurd (omega (arith, c.1))
-laid_section_of l f at (t ∷ ts) s c = there l f at t ts s c.0 c.1 c.2 (λ c'. laid_section_of l f (behind at (kept_size l f t)) ts s c')
+laid_section_of l f at (t ∷ ts) s c = there l f at t ts s c.0 c.1 c.2 (λ c'. laid_section_of l f (address_after at (kept_size l f t)) ts s c')
   where
-    there : (l : Layout) (f : File) (at : ℕ) (t : InputSection) (ts : List InputSection) (s : InputSection) (k : ℕ) → k < length (t ∷ ts) → get_or (t ∷ ts) k s ≡ s → (Contains ts s → (a : ℕ) × Contains (placed_sections l f (behind at (kept_size l f t)) ts) (placed_section l f a s)) → (a : ℕ) × Contains (placed_sections l f at (t ∷ ts)) (placed_section l f a s)
-    there l f at t ts s zero lt e again = (at, subst (λ (x : InputSection). Contains (placed_section l f at t ∷ placed_sections l f (behind at (kept_size l f t)) ts) (placed_section l f at x)) e (Contains-here (placed_section l f at t) (placed_sections l f (behind at (kept_size l f t)) ts)))
-    there l f at t ts s (suc k) lt e again = (let r = again (k, omega (arith, lt), e) in (r.0, Contains-there (placed_section l f r.0 s) (placed_section l f at t) (placed_sections l f (behind at (kept_size l f t)) ts) r.1))
+    there : (l : Layout) (f : File) (at : ℕ) (t : InputSection) (ts : List InputSection) (s : InputSection) (k : ℕ) → k < length (t ∷ ts) → get_or (t ∷ ts) k s ≡ s → (Contains ts s → (a : ℕ) × Contains (placed_sections l f (address_after at (kept_size l f t)) ts) (placed_section l f a s)) → (a : ℕ) × Contains (placed_sections l f at (t ∷ ts)) (placed_section l f a s)
+    there l f at t ts s zero lt e again = (at, subst (λ (x : InputSection). Contains (placed_section l f at t ∷ placed_sections l f (address_after at (kept_size l f t)) ts) (placed_section l f at x)) e (Contains-here (placed_section l f at t) (placed_sections l f (address_after at (kept_size l f t)) ts)))
+    there l f at t ts s (suc k) lt e again = (let r = again (k, omega (arith, lt), e) in (r.0, Contains-there (placed_section l f r.0 s) (placed_section l f at t) (placed_sections l f (address_after at (kept_size l f t)) ts) r.1))
 
 -- ---- sections
 

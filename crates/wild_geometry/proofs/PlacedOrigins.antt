@@ -17,7 +17,7 @@ use Rattle.wild_types.specs.HeaderOnly.{KeepsAll}
 use Rattle.wild_types.specs.Lookups.{is_read, is_frame, is_loaded, has_relocations, allocated}
 use Rattle.wild_placement.specs.FrameInputs.{kept_size}
 use Rattle.wild_placement.specs.ReversedWords.{with_word_order}
-use Rattle.wild_placement.specs.PlacedSections.{Input, placed_frames, rela_with_target, placed_by, placed_section, placed_sections, placed_file, placed_from, placed_files, file_frames, frames_at, behind, sorted_inputs, sorted_input, sorted_by, sorted_in_file, sorted_in_group, files_at, as_loaded, unread}
+use Rattle.wild_placement.specs.PlacedSections.{Input, placed_frames, rela_with_target, placed_by, placed_section, placed_sections, placed_file, placed_from, placed_files, file_frames, frames_at, address_after, sorted_inputs, sorted_input, sorted_by, sorted_in_file, sorted_in_group, files_at, as_loaded, unread}
 use Rattle.wild_placement.proofs.PlainLemmas.{unread_linked}
 use Rattle.wild_layout.proofs.SiteLemmas.{All-one}
 use Rattle.wild_meaning.specs.Item.{IsInput, IsLoadedSlot, IsKeptSection}
@@ -36,9 +36,9 @@ record FileOrigin (l : Layout) (fs : List File) (p : File) : Type 0 where
 
 file_origin : (l : Layout) (at : ℕ) (fs : List File) (p : File) → Contains (placed_from l at fs) p → FileOrigin l fs p
 file_origin l at [] p c = absurd (omega (arith, c.1))
-file_origin l at (f ∷ fs) p c = there l at f fs p c.0 c.1 c.2 (λ c'. file_origin l (behind at (file_frames l f)) fs p c')
+file_origin l at (f ∷ fs) p c = there l at f fs p c.0 c.1 c.2 (λ c'. file_origin l (address_after at (file_frames l f)) fs p c')
   where
-    there : (l : Layout) (at : ℕ) (f : File) (fs : List File) (p : File) (k : ℕ) → k < length (placed_file l at f ∷ placed_from l (behind at (file_frames l f)) fs) → get_or (placed_file l at f ∷ placed_from l (behind at (file_frames l f)) fs) k p ≡ p → (Contains (placed_from l (behind at (file_frames l f)) fs) p → FileOrigin l fs p) → FileOrigin l (f ∷ fs) p
+    there : (l : Layout) (at : ℕ) (f : File) (fs : List File) (p : File) (k : ℕ) → k < length (placed_file l at f ∷ placed_from l (address_after at (file_frames l f)) fs) → get_or (placed_file l at f ∷ placed_from l (address_after at (file_frames l f)) fs) k p ≡ p → (Contains (placed_from l (address_after at (file_frames l f)) fs) p → FileOrigin l fs p) → FileOrigin l (f ∷ fs) p
     there l at f fs p zero lt e again = record { file = f; at = at; listed = Contains-here f fs; is = sym e }
     there l at f fs p (suc k) lt e again = (let r = again (k, omega (arith, lt), e) in record { file = r.file; at = r.at; listed = Contains-there r.file f fs r.listed; is = r.is })
 
@@ -51,9 +51,9 @@ record SectionOrigin (l : Layout) (f : File) (ss : List InputSection) (t : Input
 
 section_origin : (l : Layout) (f : File) (at : ℕ) (ss : List InputSection) (t : InputSection) → Contains (placed_sections l f at ss) t → SectionOrigin l f ss t
 section_origin l f at [] t c = absurd (omega (arith, c.1))
-section_origin l f at (s ∷ ss) t c = there l f at s ss t c.0 c.1 c.2 (λ c'. section_origin l f (behind at (kept_size l f s)) ss t c')
+section_origin l f at (s ∷ ss) t c = there l f at s ss t c.0 c.1 c.2 (λ c'. section_origin l f (address_after at (kept_size l f s)) ss t c')
   where
-    there : (l : Layout) (f : File) (at : ℕ) (s : InputSection) (ss : List InputSection) (t : InputSection) (k : ℕ) → k < length (placed_section l f at s ∷ placed_sections l f (behind at (kept_size l f s)) ss) → get_or (placed_section l f at s ∷ placed_sections l f (behind at (kept_size l f s)) ss) k t ≡ t → (Contains (placed_sections l f (behind at (kept_size l f s)) ss) t → SectionOrigin l f ss t) → SectionOrigin l f (s ∷ ss) t
+    there : (l : Layout) (f : File) (at : ℕ) (s : InputSection) (ss : List InputSection) (t : InputSection) (k : ℕ) → k < length (placed_section l f at s ∷ placed_sections l f (address_after at (kept_size l f s)) ss) → get_or (placed_section l f at s ∷ placed_sections l f (address_after at (kept_size l f s)) ss) k t ≡ t → (Contains (placed_sections l f (address_after at (kept_size l f s)) ss) t → SectionOrigin l f ss t) → SectionOrigin l f (s ∷ ss) t
     there l f at s ss t zero lt e again = record { section = s; at = at; listed = Contains-here s ss; is = sym e }
     there l f at s ss t (suc k) lt e again = (let r = again (k, omega (arith, lt), e) in record { section = r.section; at = r.at; listed = Contains-there r.section s ss r.listed; is = r.is })
 

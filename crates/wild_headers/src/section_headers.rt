@@ -78,10 +78,10 @@ fn computed_infos(layout: &Layout) -> [ComputedInfo; 5]
 }
 
 /// `sh_info` of section i: the first computed value for it, otherwise the layout's.
-fn info_at(told: &[ComputedInfo], i: SectionIndex, given: u32) -> u32
-    ensures { result ≡ info_at told.now i given }
+fn info_at(infos: &[ComputedInfo], i: SectionIndex, given: u32) -> u32
+    ensures { result ≡ info_at infos.now i given }
 {
-    for number in told {
+    for number in infos {
         if i == number.section {
             return number.info;
         }
@@ -122,38 +122,43 @@ fn section_header(layout: &Layout, info: u32, name: u32, section: &Section) -> S
 /// The header of section i, whose name begins at offset `name` of `.shstrtab`.
 fn header_of(
     layout: &Layout,
-    told: &[ComputedInfo],
+    infos: &[ComputedInfo],
     i: SectionIndex,
     name: u64,
     section: &Section,
 ) -> SectionHeader
     requires name { name < 2 ^ 32 }
     requires name_table { name_table layout.now < 2 ^ 32 }
-    ensures { result ≡ (if i == 0 then null_header layout.now else section_header layout.now (info_at told.now i section.now.info) name section.now) }
+    ensures { result ≡ (if i == 0 then null_header layout.now else section_header layout.now (info_at infos.now i section.now.info) name section.now) }
 {
     if i.0 == 0 {
         null_header(layout)
     } else {
-        section_header(layout, info_at(told, i, section.info), name as u32, section)
+        section_header(
+            layout,
+            info_at(infos, i, section.info),
+            name as u32,
+            section,
+        )
     }
 }
 
 fn put_section_header(
     layout: &Layout,
-    told: &[ComputedInfo],
+    infos: &[ComputedInfo],
     section: &Section,
     i: usize,
     name: u64,
     out: &mut [u8],
 )
     requires room { section_header_size * i + section_header_size ≤ length out.old }
-    requires told { told.now ≡ computed_infos layout.now }
+    requires infos { infos.now ≡ computed_infos layout.now }
     requires name { name < 2 ^ 32 }
     requires name_table { name_table layout.now < 2 ^ 32 }
     ensures { out.new ≡ place (section_header_size * i) (spell (section_header_fields (if i == 0 then null_header layout.now else section_header layout.now (info_at (computed_infos layout.now) i section.now.info) name section.now))) out.old }
 {
     let mut header = [0; SectionHeader::SIZE];
-    header_of(layout, told, SectionIndex(i), name, section).put(&mut header);
+    header_of(layout, infos, SectionIndex(i), name, section).put(&mut header);
     put(out, i * SectionHeader::SIZE, &header);
 }
 
@@ -164,10 +169,10 @@ pub fn write_section_headers(layout: &Layout, out: &mut [u8])
     requires name_table { name_table layout.now < 2 ^ 32 }
     ensures { out.new ≡ section_header_bytes layout.now }
 {
-    let told = computed_infos(layout);
+    let infos = computed_infos(layout);
     let mut name = 0;
     for (i, section) in layout.sections.as_slice().iter().enumerate() {
-        put_section_header(layout, &told, section, i, name, out);
+        put_section_header(layout, &infos, section, i, name, out);
         name += section.name.len() as u64 + 1;
     }
 }

@@ -26,7 +26,7 @@ use Rattle.wild_frames.specs.declared.entry.BadFrame.{BadFrame}
 use Rattle.wild_frames.specs.Faults.{frame_errors}
 use Rattle.wild_placement.specs.ReversedWords.{with_word_order, reversed_section}
 use Rattle.wild_placement.specs.FrameInputs.{frames_of, kept_size}
-use Rattle.wild_placement.specs.PlacedSections.{Input, as_loaded, without_relocations, unread, rela_with_target, origins_of, placed_by, placed_section, placed_sections, placed_file, placed_from, placed_files, behind, file_frames, frames_at, sorted_input, of_last_file}
+use Rattle.wild_placement.specs.PlacedSections.{Input, as_loaded, without_relocations, unread, rela_with_target, origins_of, placed_by, placed_section, placed_sections, placed_file, placed_from, placed_files, address_after, file_frames, frames_at, sorted_input, of_last_file}
 use Rattle.wild_placement.specs.PlacedInputs.{PlacedContent, placed_content, sorted_content, frame_faults}
 use Rattle.wild_layout.specs.Image.{unless_hollow}
 use Rattle.wild_layout.specs.Sites.{item_bytes, section_bytes, MovesApart}
@@ -284,12 +284,12 @@ one_stands l x f s e h = All-head (InputStands l) (one_input l f s) [] (subst (A
 
 -- ---- the walk over sections
 
-pub faults_more : (l : Layout) (group file : ℕ) (f : File) (ss : List InputSection) (i at next : ℕ) (s : InputSection) (whole : List Error) → i < length ss → s ≡ get_or ss i s → sections_errors l group file f at i (drop i ss) ≡ whole → section_errors l group file f at i s ≡ [] → next ≡ behind at (kept_size l f s)
+pub faults_more : (l : Layout) (group file : ℕ) (f : File) (ss : List InputSection) (i at next : ℕ) (s : InputSection) (whole : List Error) → i < length ss → s ≡ get_or ss i s → sections_errors l group file f at i (drop i ss) ≡ whole → section_errors l group file f at i s ≡ [] → next ≡ address_after at (kept_size l f s)
     → sections_errors l group file f next (i + 1) (drop (i + 1) ss) ≡ whole
 faults_more l group file f ss i at next s whole low read before none is =
     let cut : drop i ss ≡ s ∷ drop (i + 1) ss = drop_more ss i s low ∙ ap (λ (x : InputSection). x ∷ drop (i + 1) ss) (sym read) in
     ap (λ (n : ℕ). sections_errors l group file f n (i + 1) (drop (i + 1) ss)) is
-    ∙ sym (ap (λ (es : List Error). es ++ sections_errors l group file f (behind at (kept_size l f s)) (i + 1) (drop (i + 1) ss)) none)
+    ∙ sym (ap (λ (es : List Error). es ++ sections_errors l group file f (address_after at (kept_size l f s)) (i + 1) (drop (i + 1) ss)) none)
     ∙ sym (ap (sections_errors l group file f at i) cut) ∙ before
 
 pub faults_refuse : (l : Layout) (group file : ℕ) (f : File) (ss : List InputSection) (i at : ℕ) (s : InputSection) (whole : List Error) (e : Error) → i < length ss → s ≡ get_or ss i s → sections_errors l group file f at i (drop i ss) ≡ whole → Refuses e (section_errors l group file f at i s) → Refuses e whole
@@ -303,19 +303,19 @@ faults_done l group file f ss i at whole end before = sym before ∙ ap (section
 pub lies_head : (l : Layout) (f : File) (ss : List InputSection) (i at : ℕ) (s : InputSection) → i < length ss → s ≡ get_or ss i s → All (SectionLies l) (placed_sections l f at (drop i ss)) → SectionLies l (placed_section l f at s)
 lies_head l f ss i at s low read h =
     let cut : drop i ss ≡ s ∷ drop (i + 1) ss = drop_more ss i s low ∙ ap (λ (x : InputSection). x ∷ drop (i + 1) ss) (sym read) in
-    All-head (SectionLies l) (placed_section l f at s) (placed_sections l f (behind at (kept_size l f s)) (drop (i + 1) ss)) (subst (λ (xs : List InputSection). All (SectionLies l) (placed_sections l f at xs)) cut h)
+    All-head (SectionLies l) (placed_section l f at s) (placed_sections l f (address_after at (kept_size l f s)) (drop (i + 1) ss)) (subst (λ (xs : List InputSection). All (SectionLies l) (placed_sections l f at xs)) cut h)
 
-pub lies_tail : (l : Layout) (f : File) (ss : List InputSection) (i at next : ℕ) (s : InputSection) → i < length ss → s ≡ get_or ss i s → next ≡ behind at (kept_size l f s) → All (SectionLies l) (placed_sections l f at (drop i ss)) → All (SectionLies l) (placed_sections l f next (drop (i + 1) ss))
+pub lies_tail : (l : Layout) (f : File) (ss : List InputSection) (i at next : ℕ) (s : InputSection) → i < length ss → s ≡ get_or ss i s → next ≡ address_after at (kept_size l f s) → All (SectionLies l) (placed_sections l f at (drop i ss)) → All (SectionLies l) (placed_sections l f next (drop (i + 1) ss))
 lies_tail l f ss i at next s low read is h =
     let cut : drop i ss ≡ s ∷ drop (i + 1) ss = drop_more ss i s low ∙ ap (λ (x : InputSection). x ∷ drop (i + 1) ss) (sym read) in
     subst (λ (n : ℕ). All (SectionLies l) (placed_sections l f n (drop (i + 1) ss))) (sym is)
-    (All-tail (SectionLies l) (placed_section l f at s) (placed_sections l f (behind at (kept_size l f s)) (drop (i + 1) ss)) (subst (λ (xs : List InputSection). All (SectionLies l) (placed_sections l f at xs)) cut h))
+    (All-tail (SectionLies l) (placed_section l f at s) (placed_sections l f (address_after at (kept_size l f s)) (drop (i + 1) ss)) (subst (λ (xs : List InputSection). All (SectionLies l) (placed_sections l f at xs)) cut h))
 
 -- what sections give that stand from an address on
-pub given_more : {Y : Type 0} (G : InputSection → List Y) (l : Layout) (f : File) (ss : List InputSection) (i at next : ℕ) (s : InputSection) (now after whole : List Y) → i < length ss → s ≡ get_or ss i s → next ≡ behind at (kept_size l f s) → now ++ flat_map G (placed_sections l f at (drop i ss)) ≡ whole → after ≡ now ++ G (placed_section l f at s)
+pub given_more : {Y : Type 0} (G : InputSection → List Y) (l : Layout) (f : File) (ss : List InputSection) (i at next : ℕ) (s : InputSection) (now after whole : List Y) → i < length ss → s ≡ get_or ss i s → next ≡ address_after at (kept_size l f s) → now ++ flat_map G (placed_sections l f at (drop i ss)) ≡ whole → after ≡ now ++ G (placed_section l f at s)
     → after ++ flat_map G (placed_sections l f next (drop (i + 1) ss)) ≡ whole
 given_more {Y} G l f ss i at next s now after whole low read is before more =
-    let rest = flat_map G (placed_sections l f (behind at (kept_size l f s)) (drop (i + 1) ss)) in
+    let rest = flat_map G (placed_sections l f (address_after at (kept_size l f s)) (drop (i + 1) ss)) in
     let cut : drop i ss ≡ s ∷ drop (i + 1) ss = drop_more ss i s low ∙ ap (λ (x : InputSection). x ∷ drop (i + 1) ss) (sym read) in
     ap (λ (n : ℕ). after ++ flat_map G (placed_sections l f n (drop (i + 1) ss))) is
     ∙ ap (λ (ys : List Y). ys ++ rest) more
@@ -350,12 +350,12 @@ pub file_faults_by : (l : Layout) (group file at : ℕ) (f : File) → file_erro
 unfolding file_errors file_trailer_errors
 file_faults_by l group file at f = refl
 
-pub files_more : (l : Layout) (group : ℕ) (fs : List File) (i at next : ℕ) (f : File) (whole : List Error) → i < length fs → f ≡ get_or fs i f → files_errors l group at i (drop i fs) ≡ whole → file_errors l group at i f ≡ [] → next ≡ behind at (file_frames l f)
+pub files_more : (l : Layout) (group : ℕ) (fs : List File) (i at next : ℕ) (f : File) (whole : List Error) → i < length fs → f ≡ get_or fs i f → files_errors l group at i (drop i fs) ≡ whole → file_errors l group at i f ≡ [] → next ≡ address_after at (file_frames l f)
     → files_errors l group next (i + 1) (drop (i + 1) fs) ≡ whole
 files_more l group fs i at next f whole low read before none is =
     let cut : drop i fs ≡ f ∷ drop (i + 1) fs = drop_more fs i f low ∙ ap (λ (x : File). x ∷ drop (i + 1) fs) (sym read) in
     ap (λ (n : ℕ). files_errors l group n (i + 1) (drop (i + 1) fs)) is
-    ∙ sym (ap (λ (es : List Error). es ++ files_errors l group (behind at (file_frames l f)) (i + 1) (drop (i + 1) fs)) none)
+    ∙ sym (ap (λ (es : List Error). es ++ files_errors l group (address_after at (file_frames l f)) (i + 1) (drop (i + 1) fs)) none)
     ∙ sym (ap (files_errors l group at i) cut) ∙ before
 
 pub files_refuse : (l : Layout) (group : ℕ) (fs : List File) (i at : ℕ) (f : File) (whole : List Error) (e : Error) → i < length fs → f ≡ get_or fs i f → files_errors l group at i (drop i fs) ≡ whole → Refuses e (file_errors l group at i f) → Refuses e whole
@@ -371,15 +371,15 @@ stands_head l fs i at f low read h =
     let cut : drop i fs ≡ f ∷ drop (i + 1) fs = drop_more fs i f low ∙ ap (λ (x : File). x ∷ drop (i + 1) fs) (sym read) in
     (subst (StandFrom l at) cut h).0
 
-pub stands_tail : (l : Layout) (fs : List File) (i at next : ℕ) (f : File) → i < length fs → f ≡ get_or fs i f → next ≡ behind at (file_frames l f) → StandFrom l at (drop i fs) → StandFrom l next (drop (i + 1) fs)
+pub stands_tail : (l : Layout) (fs : List File) (i at next : ℕ) (f : File) → i < length fs → f ≡ get_or fs i f → next ≡ address_after at (file_frames l f) → StandFrom l at (drop i fs) → StandFrom l next (drop (i + 1) fs)
 stands_tail l fs i at next f low read is h =
     let cut : drop i fs ≡ f ∷ drop (i + 1) fs = drop_more fs i f low ∙ ap (λ (x : File). x ∷ drop (i + 1) fs) (sym read) in
     subst (λ (n : ℕ). StandFrom l n (drop (i + 1) fs)) (sym is) ((subst (StandFrom l at) cut h).1)
 
-pub framed_more : (l : Layout) (fs : List File) (i at next : ℕ) (f : File) (now after whole : List ℕ) → i < length fs → f ≡ get_or fs i f → next ≡ behind at (file_frames l f) → now ++ flat_map (frames_bytes l) (placed_from l at (drop i fs)) ≡ whole → after ≡ now ++ frames_bytes l (placed_file l at f)
+pub framed_more : (l : Layout) (fs : List File) (i at next : ℕ) (f : File) (now after whole : List ℕ) → i < length fs → f ≡ get_or fs i f → next ≡ address_after at (file_frames l f) → now ++ flat_map (frames_bytes l) (placed_from l at (drop i fs)) ≡ whole → after ≡ now ++ frames_bytes l (placed_file l at f)
     → after ++ flat_map (frames_bytes l) (placed_from l next (drop (i + 1) fs)) ≡ whole
 framed_more l fs i at next f now after whole low read is before more =
-    let rest = flat_map (frames_bytes l) (placed_from l (behind at (file_frames l f)) (drop (i + 1) fs)) in
+    let rest = flat_map (frames_bytes l) (placed_from l (address_after at (file_frames l f)) (drop (i + 1) fs)) in
     let cut : drop i fs ≡ f ∷ drop (i + 1) fs = drop_more fs i f low ∙ ap (λ (x : File). x ∷ drop (i + 1) fs) (sym read) in
     ap (λ (n : ℕ). after ++ flat_map (frames_bytes l) (placed_from l n (drop (i + 1) fs))) is
     ∙ ap (λ (ys : List ℕ). ys ++ rest) more
@@ -436,9 +436,9 @@ table_by l t group file at f written is none = λ first. (
 pub table_from : (l : Layout) (t : SearchTable) (group at i : ℕ) (fs : List File) → is_header_only_role l role.EhFrameHdr ≡ false → All (IsTableFor l t) fs → files_errors l group at i fs ≡ [] → HaveSearchTable l t.bytes fs
 table_from l t group at i [] written is none = All-nil (HasSearchTable l t.bytes)
 table_from l t group at i (f ∷ fs) written is none =
-    let parts = nil_parts (file_errors l group at i f) (files_errors l group (behind at (file_frames l f)) (i + 1) fs) none in
+    let parts = nil_parts (file_errors l group at i f) (files_errors l group (address_after at (file_frames l f)) (i + 1) fs) none in
     All-cons (HasSearchTable l t.bytes) f fs (table_by l t group i at f written (All-head (IsTableFor l t) f fs is) parts.0)
-    (table_from l t group (behind at (file_frames l f)) (i + 1) fs written (All-tail (IsTableFor l t) f fs is) parts.1)
+    (table_from l t group (address_after at (file_frames l f)) (i + 1) fs written (All-tail (IsTableFor l t) f fs is) parts.1)
 
 -- where no fault of a group is found
 pub table_of_group : (l : Layout) (t : SearchTable) (group : ℕ) (g : Group) → is_header_only_role l role.EhFrameHdr ≡ false → All (IsTableFor l t) g.files → group_errors l group g ≡ [] → HaveSearchTable l t.bytes g.files

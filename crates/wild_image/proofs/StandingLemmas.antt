@@ -19,7 +19,7 @@ use Rattle.wild_types.specs.Kinds.{is_partial_link}
 use Rattle.wild_types.specs.Lookups.{has_range, has_counted, has_fields, is_rela, is_filled, section_of, has_data, is_header_only_part}
 use Rattle.wild_placement.specs.ReversedWords.{reversed_section, with_word_order}
 use Rattle.wild_placement.specs.FrameInputs.{frames_of, kept_size}
-use Rattle.wild_placement.specs.PlacedSections.{Input, as_loaded, without_relocations, unread, placed_frames, sorted_by, sorted_in_file, sorted_in_group, files_at, placed_by, placed_section, placed_sections, placed_file, placed_from, placed_files, behind, file_frames, sorted_input, sorted_inputs, sorted_sections, of_last_file, processed_sections}
+use Rattle.wild_placement.specs.PlacedSections.{Input, as_loaded, without_relocations, unread, placed_frames, sorted_by, sorted_in_file, sorted_in_group, files_at, placed_by, placed_section, placed_sections, placed_file, placed_from, placed_files, address_after, file_frames, sorted_input, sorted_inputs, sorted_sections, of_last_file, processed_sections}
 use Rattle.wild_layout.specs.Sites.{bytes_by, section_bytes}
 use Rattle.wild_layout.specs.Image.{offset_in, merged_bytes, section_piece, section_pieces, sorted_piece, file_pieces, owned_pieces, of_first_file, merged_and_identity_pieces, thunk_pieces}
 use Rattle.wild_layout.specs.SectionPlaces.{SectionLies, IsWord, FrontLies, PartLies}
@@ -184,8 +184,8 @@ of_section G l f at s none = slot_by G l f at s s.slot refl none
 pub of_sections : {X : Type 0} (G : InputSection → List X) (l : Layout) (f : File) (at : ℕ) (ss : List InputSection) → IsOfRanged G → flat_map G (placed_sections l f at ss) ≡ flat_map (OfRanged G l f) ss
 of_sections G l f at [] none = refl
 of_sections {X} G l f at (s ∷ ss) none =
-    ap (λ (xs : List X). xs ++ flat_map G (placed_sections l f (behind at (kept_size l f s)) ss)) (of_section G l f at s none)
-    ∙ ap (λ (xs : List X). OfRanged G l f s ++ xs) (of_sections G l f (behind at (kept_size l f s)) ss none)
+    ap (λ (xs : List X). xs ++ flat_map G (placed_sections l f (address_after at (kept_size l f s)) ss)) (of_section G l f at s none)
+    ∙ ap (λ (xs : List X). OfRanged G l f s ++ xs) (of_sections G l f (address_after at (kept_size l f s)) ss none)
 
 -- ---- pieces
 
@@ -236,8 +236,8 @@ pieces_of l at f =
 pieces_from : (l : Layout) (at : ℕ) (fs : List File) → flat_map (file_pieces l) (placed_from l at fs) ≡ flat_map (file_pieces_in_order l) fs
 pieces_from l at [] = refl
 pieces_from l at (f ∷ fs) =
-    ap (λ (ps : List Piece). ps ++ flat_map (file_pieces l) (placed_from l (behind at (file_frames l f)) fs)) (pieces_of l at f)
-    ∙ ap (λ (ps : List Piece). file_pieces_in_order l f ++ ps) (pieces_from l (behind at (file_frames l f)) fs)
+    ap (λ (ps : List Piece). ps ++ flat_map (file_pieces l) (placed_from l (address_after at (file_frames l f)) fs)) (pieces_of l at f)
+    ∙ ap (λ (ps : List Piece). file_pieces_in_order l f ++ ps) (pieces_from l (address_after at (file_frames l f)) fs)
 
 -- the pieces of a group's files, as the plan has them
 pub pieces_of_group : (l : Layout) (g : Group) → owned_pieces l g ≡ flat_map (file_pieces_in_order l) g.files
@@ -261,8 +261,8 @@ sections_lie : (l : Layout) (f : File) (at : ℕ) (ss : List InputSection) → A
 sections_lie l f at [] h = All-nil (RangedLies l f)
 sections_lie l f at (s ∷ ss) h =
     All-cons (RangedLies l f) s ss
-    (ranged_lies l f at s (All-head (SectionLies l) (placed_section l f at s) (placed_sections l f (behind at (kept_size l f s)) ss) h))
-    (sections_lie l f (behind at (kept_size l f s)) ss (All-tail (SectionLies l) (placed_section l f at s) (placed_sections l f (behind at (kept_size l f s)) ss) h))
+    (ranged_lies l f at s (All-head (SectionLies l) (placed_section l f at s) (placed_sections l f (address_after at (kept_size l f s)) ss) h))
+    (sections_lie l f (address_after at (kept_size l f s)) ss (All-tail (SectionLies l) (placed_section l f at s) (placed_sections l f (address_after at (kept_size l f s)) ss) h))
 
 from_map : {X Y : Type 0} (P : Y → Type 0) (h : X → Y) (xs : List X) → All P (map h xs) → All (λ x. P (h x)) xs
 from_map P h [] a = All-nil (λ x. P (h x))
@@ -292,8 +292,8 @@ Told l P = (at : ℕ) (f : File) → Processed l (placed_file l at f) → P f
 told_from : (l : Layout) (P : File → Type 0) (at : ℕ) (fs : List File) → Told l P → All (Processed l) (placed_from l at fs) → All P fs
 told_from l P at [] t h = All-nil P
 told_from l P at (f ∷ fs) t h =
-    All-cons P f fs (t at f (All-head (Processed l) (placed_file l at f) (placed_from l (behind at (file_frames l f)) fs) h))
-    (told_from l P (behind at (file_frames l f)) fs t (All-tail (Processed l) (placed_file l at f) (placed_from l (behind at (file_frames l f)) fs) h))
+    All-cons P f fs (t at f (All-head (Processed l) (placed_file l at f) (placed_from l (address_after at (file_frames l f)) fs) h))
+    (told_from l P (address_after at (file_frames l f)) fs t (All-tail (Processed l) (placed_file l at f) (placed_from l (address_after at (file_frames l f)) fs) h))
 
 told_of_group : (l : Layout) (P : File → Type 0) (g : Group) → Told l P → All (Processed l) (placed_files l g) → All P g.files
 unfolding placed_files
@@ -408,10 +408,10 @@ sorted_stand l laid h = λ k d low. both_stand l (sorted_input l (get_or l.sorte
 stand_from : (l : Layout) (at : ℕ) (fs : List File) → IsLaidOut l → All (Processed l) (placed_from l at fs) → All (λ (f : File). All (CanBeReversed l) f.sections) fs → OfKind l fs → StandFrom l at fs
 stand_from l at [] laid h t k = tt
 stand_from l at (f ∷ fs) laid h t k =
-    let rest = placed_from l (behind at (file_frames l f)) fs in
+    let rest = placed_from l (address_after at (file_frames l f)) fs in
     let own = All-head (Processed l) (placed_file l at f) rest h in (
       record { lies = own_lie l at f own; reversed_section = All-head (λ (f : File). All (CanBeReversed l) f.sections) f fs t; kinds = All-head (λ (f : File). All (IsOfKind l) f.sections) f fs k; sorted = λ e. sorted_stand l laid (last_lie l at f own e) },
-      stand_from l (behind at (file_frames l f)) fs laid (All-tail (Processed l) (placed_file l at f) rest h) (All-tail (λ (f : File). All (CanBeReversed l) f.sections) f fs t) (All-tail (λ (f : File). All (IsOfKind l) f.sections) f fs k),
+      stand_from l (address_after at (file_frames l f)) fs laid (All-tail (Processed l) (placed_file l at f) rest h) (All-tail (λ (f : File). All (CanBeReversed l) f.sections) f fs t) (All-tail (λ (f : File). All (IsOfKind l) f.sections) f fs k),
     )
 
 group_stands : (l : Layout) (g : Group) → IsLaidOut l → All (Processed l) (placed_files l g) → All (λ (f : File). All (CanBeReversed l) f.sections) g.files → OfKind l g.files → GroupStands l g

@@ -16,7 +16,7 @@ use Rattle.wild_types.specs.HeaderOnly.{is_header_only_role, is_omitted}
 use Rattle.wild_types.specs.Lookups.{is_loaded, has_fields, has_written_relocations, is_frame, is_debug, has_range_bytes, is_filled, is_header_only_part}
 use Rattle.wild_placement.specs.ReversedWords.{with_word_order, reversed_section}
 use Rattle.wild_placement.specs.FrameInputs.{kept_size}
-use Rattle.wild_placement.specs.PlacedSections.{without_relocations, placed_by, placed_section, behind}
+use Rattle.wild_placement.specs.PlacedSections.{without_relocations, placed_by, placed_section, address_after}
 use Rattle.wild_layout.specs.Sites.{item_bytes, section_bytes, bytes_by, MovesApart}
 use Rattle.wild_layout.specs.Content.{frame_bytes_of}
 use Rattle.wild_layout.specs.Faults.{placed_section_errors, placed_section_errors_by, section_errors}
@@ -121,13 +121,13 @@ unfolding kept_size
 none_kept l f s h = rw h.loaded refl
 
 -- those behind it stand where they did
-so_next : (l : Layout) (f : File) (at : ℕ) (s : InputSection) → at < 2 ^ 64 → IsWrittenUnchanged l s → at ≡ behind at (kept_size l f s)
+so_next : (l : Layout) (f : File) (at : ℕ) (s : InputSection) → at < 2 ^ 64 → IsWrittenUnchanged l s → at ≡ address_after at (kept_size l f s)
 so_next l f at s small h = let none = none_kept l f s h in omega (arith, small, none)
 
 -- what one more section adds, and where the frames behind it stand
 pub record Adds (l : Layout) (group file section at next : ℕ) (f : File) (s : InputSection) (old now : GroupBytes) : Type 0 where
   pub faults : section_errors l group file f at section s ≡ []
-  pub place : next ≡ behind at (kept_size l f s)
+  pub place : next ≡ address_after at (kept_size l f s)
   pub files : now.files ≡ old.files ++ section_owned l f (placed_section l f at s)
   pub frames : is_header_only_role l role.EhFrame ≡ false → now.frames ≡ old.frames ++ frame_bytes_of l f (placed_section l f at s)
   pub tables : now.tables ≡ old.tables

@@ -20,7 +20,7 @@ use Rattle.wild_types.specs.FileRoles.{is_prelude, is_epilogue}
 use Rattle.wild_types.specs.Kinds.{is_partial_link}
 use Rattle.wild_types.specs.Lookups.{has_range, is_counted, is_rela, is_debug, is_header_only_part}
 use Rattle.wild_placement.specs.ReversedWords.{with_word_order}
-use Rattle.wild_placement.specs.PlacedSections.{Input, placed_sections, behind, file_frames, frames_at, sorted_input}
+use Rattle.wild_placement.specs.PlacedSections.{Input, placed_sections, address_after, file_frames, frames_at, sorted_input}
 use Rattle.wild_types.specs.FilePlaces.{given}
 use Rattle.wild_types.specs.FileThunks.{thunks_of}
 use Rattle.wild_types.specs.Parts.{role_place, part_with, has_role}
@@ -121,7 +121,7 @@ pub record FileStands (l : Layout) (at : ℕ) (f : File) : Type 0 where
 -- the same for consecutive files
 abbrev pub StandFrom : Layout → ℕ → List File → Type 0
 StandFrom l at [] = Unit {0}
-StandFrom l at (f ∷ fs) = FileStands l at f × StandFrom l (behind at (file_frames l f)) fs
+StandFrom l at (f ∷ fs) = FileStands l at f × StandFrom l (address_after at (file_frames l f)) fs
 
 unfoldable pub GroupStands : Layout → Group → Type 0
 GroupStands l g = StandFrom l (frames_at l g) g.files

@@ -12,7 +12,7 @@ ghost use Rattle.wild_types.specs.HeaderOnly.{is_header_only_role, is_omitted};
 ghost use Rattle.wild_types.specs.Lookups.{has_range_bytes, is_read, is_frame, is_debug, is_rela};
 ghost use Rattle.wild_layout.specs.Sites.{section_bytes};
 ghost use Rattle.wild_placement.specs.FrameInputs.{kept_size};
-ghost use Rattle.wild_placement.specs.PlacedSections.{placed_section, placed_sections, placed_file, file_frames, frames_at, behind, of_last_file};
+ghost use Rattle.wild_placement.specs.PlacedSections.{placed_section, placed_sections, placed_file, file_frames, frames_at, address_after, of_last_file};
 ghost use Rattle.wild_layout.specs.Faults.{section_errors, sections_errors, sorted_errors, first_errors, file_errors, files_errors, group_errors};
 ghost use Rattle.wild_layout.specs.Content.{frame_bytes_of, end_of_frames, frames_bytes};
 ghost use Rattle.wild_layout.specs.Image.{of_first_file};
@@ -102,15 +102,15 @@ fn add_group_tables<A: Arch>(
 }
 
 /// Where in the input the relocations of a placed section are, for error messages.
-fn origin_of<'a>(place: InputPlace, laid: &'a PlacedInput<'_>) -> Origin<'a>
+fn origin_of<'a>(place: InputPlace, placed_input: &'a PlacedInput<'_>) -> Origin<'a>
     ensures place { result.place ≡ place }
-    ensures relocations { result.relocations.now ≡ laid.now.origins }
-    ensures ending { option_to_list result.ending ≡ laid.now.faults }
+    ensures relocations { result.relocations.now ≡ placed_input.now.origins }
+    ensures ending { option_to_list result.ending ≡ placed_input.now.faults }
 {
     Origin {
         place,
-        relocations: laid.origins(),
-        ending: laid.fault(),
+        relocations: placed_input.origins(),
+        ending: placed_input.fault(),
     }
 }
 
@@ -121,18 +121,24 @@ fn check_data<A: Arch>(
     resolved: &Resolved<A>,
     place: InputPlace,
     file: &File,
-    laid: &PlacedInput<'_>,
+    placed_input: &PlacedInput<'_>,
 ) -> Result<(), Error>
-    requires read { is_read laid.now.section ≡ true }
-    requires moves { PlacedApart resolved.now.layout.now file.now laid.now }
-    requires none { has_range_bytes resolved.now.layout.now laid.now.section ≡ false }
-    requires loaded { is_frame laid.now.section.slot ≡ false }
-    requires lies { SectionLies resolved.now.layout.now laid.now.section }
-    ensures faults { Answers result (kept_section_faults resolved.now.layout.now place.group place.file place.section file.now laid.now) }
+    requires read { is_read placed_input.now.section ≡ true }
+    requires moves { PlacedApart resolved.now.layout.now file.now placed_input.now }
+    requires none { has_range_bytes resolved.now.layout.now placed_input.now.section ≡ false }
+    requires loaded { is_frame placed_input.now.section.slot ≡ false }
+    requires lies { SectionLies resolved.now.layout.now placed_input.now.section }
+    ensures faults { Answers result (kept_section_faults resolved.now.layout.now place.group place.file place.section file.now placed_input.now) }
 {
     let mut room = [0; 0];
-    let item = laid.section().item(resolved.layout, file);
-    write_data(alloc, resolved, &origin_of(place, laid), &item, &mut room)
+    let item = placed_input.section().item(resolved.layout, file);
+    write_data(
+        alloc,
+        resolved,
+        &origin_of(place, placed_input),
+        &item,
+        &mut room,
+    )
 }
 
 /// A vector of `count` zeros.
@@ -166,28 +172,28 @@ fn add_read<A: Arch>(
     resolved: &Resolved<A>,
     place: InputPlace,
     file: &File,
-    laid: &PlacedInput<'_>,
+    placed_input: &PlacedInput<'_>,
     bytes: &mut GroupBytes,
 ) -> Result<(), Error>
-    requires read { is_read laid.now.section ≡ true }
-    requires moves { PlacedApart resolved.now.layout.now file.now laid.now }
-    requires written { is_omitted resolved.now.layout.now laid.now.section ≡ false }
-    requires lies { SectionLies resolved.now.layout.now laid.now.section }
-    ensures faults { Answers result (kept_section_faults resolved.now.layout.now place.group place.file place.section file.now laid.now) }
-    ensures files { OnOk result (bytes.new.files ≡ bytes.old.files ++ section_owned resolved.now.layout.now file.now laid.now.section) }
-    ensures frames { OnOk result (bytes.new.frames ≡ bytes.old.frames ++ frame_bytes_of resolved.now.layout.now file.now laid.now.section) }
+    requires read { is_read placed_input.now.section ≡ true }
+    requires moves { PlacedApart resolved.now.layout.now file.now placed_input.now }
+    requires written { is_omitted resolved.now.layout.now placed_input.now.section ≡ false }
+    requires lies { SectionLies resolved.now.layout.now placed_input.now.section }
+    ensures faults { Answers result (kept_section_faults resolved.now.layout.now place.group place.file place.section file.now placed_input.now) }
+    ensures files { OnOk result (bytes.new.files ≡ bytes.old.files ++ section_owned resolved.now.layout.now file.now placed_input.now.section) }
+    ensures frames { OnOk result (bytes.new.frames ≡ bytes.old.frames ++ frame_bytes_of resolved.now.layout.now file.now placed_input.now.section) }
     ensures tables { bytes.new.tables ≡ bytes.old.tables }
 {
-    let section = laid.section();
+    let section = placed_input.section();
     let item = section.item(resolved.layout, file);
-    let origin = origin_of(place, laid);
+    let origin = origin_of(place, placed_input);
     if section.slot.is_frame() {
         return bytes.frames.add_data(alloc, resolved, &origin, &item);
     }
     if section.is_filled(resolved.layout) {
         return bytes.files.add_data(alloc, resolved, &origin, &item);
     }
-    check_data(alloc, resolved, place, file, laid)
+    check_data(alloc, resolved, place, file, placed_input)
 }
 
 /// Appends a placed debug section to `bytes`, or returns its first fault.
@@ -196,18 +202,23 @@ fn add_debug<A: ShardedArch, R: Threads + Sync>(
     by: &Workers<R>,
     resolved: &Resolved<A>,
     place: InputPlace,
-    laid: &PlacedInput<'_>,
+    placed_input: &PlacedInput<'_>,
     bytes: &mut PartBytes,
 ) -> Result<(), Error>
-    requires debug { is_debug laid.now.section.slot ≡ true }
-    requires written { is_omitted resolved.now.layout.now laid.now.section ≡ false }
-    requires whole { laid.now.section.nobits ≡ false }
-    requires origins { HasOrigins laid.now }
-    requires lies { SectionLies resolved.now.layout.now laid.now.section }
-    ensures faults { (f : File) → Answers result (kept_section_faults resolved.now.layout.now place.group place.file place.section f laid.now) }
-    ensures bytes { OnOk result ((f : File) → bytes.new ≡ bytes.old ++ section_owned resolved.now.layout.now f laid.now.section) }
+    requires debug { is_debug placed_input.now.section.slot ≡ true }
+    requires written { is_omitted resolved.now.layout.now placed_input.now.section ≡ false }
+    requires whole { placed_input.now.section.nobits ≡ false }
+    requires origins { HasOrigins placed_input.now }
+    requires lies { SectionLies resolved.now.layout.now placed_input.now.section }
+    ensures faults { (f : File) → Answers result (kept_section_faults resolved.now.layout.now place.group place.file place.section f placed_input.now) }
+    ensures bytes { OnOk result ((f : File) → bytes.new ≡ bytes.old ++ section_owned resolved.now.layout.now f placed_input.now.section) }
 {
-    bytes.add_debug(by, resolved, &origin_of(place, laid), laid.section())
+    bytes.add_debug(
+        by,
+        resolved,
+        &origin_of(place, placed_input),
+        placed_input.section(),
+    )
 }
 
 /// Whether a section is a relocation table.
@@ -245,21 +256,21 @@ fn add_unread<A: ShardedArch, R: Threads + Sync>(
     resolved: &Resolved<A>,
     place: InputPlace,
     file: &File,
-    laid: &PlacedInput<'_>,
+    placed_input: &PlacedInput<'_>,
     bytes: &mut PartBytes,
 ) -> Result<(), Error>
-    requires unread { is_read laid.now.section ≡ false }
-    requires written { is_omitted resolved.now.layout.now laid.now.section ≡ false }
-    requires whole { laid.now.section.nobits ≡ false }
-    requires kind { IsOfKind resolved.now.layout.now laid.now.section }
-    requires origins { HasOrigins laid.now }
-    requires lies { SectionLies resolved.now.layout.now laid.now.section }
-    ensures faults { Answers result (kept_section_faults resolved.now.layout.now place.group place.file place.section file.now laid.now) }
-    ensures bytes { OnOk result (bytes.new ≡ bytes.old ++ section_owned resolved.now.layout.now file.now laid.now.section) }
+    requires unread { is_read placed_input.now.section ≡ false }
+    requires written { is_omitted resolved.now.layout.now placed_input.now.section ≡ false }
+    requires whole { placed_input.now.section.nobits ≡ false }
+    requires kind { IsOfKind resolved.now.layout.now placed_input.now.section }
+    requires origins { HasOrigins placed_input.now }
+    requires lies { SectionLies resolved.now.layout.now placed_input.now.section }
+    ensures faults { Answers result (kept_section_faults resolved.now.layout.now place.group place.file place.section file.now placed_input.now) }
+    ensures bytes { OnOk result (bytes.new ≡ bytes.old ++ section_owned resolved.now.layout.now file.now placed_input.now.section) }
 {
-    let section = laid.section();
+    let section = placed_input.section();
     if section.slot.is_debug() {
-        return add_debug(by, resolved, place, laid, bytes);
+        return add_debug(by, resolved, place, placed_input, bytes);
     }
     if section.is_filled(resolved.layout) {
         add_rela_or_group(by.alloc, resolved, section, bytes)?;
@@ -274,31 +285,31 @@ fn add_placed<A: ShardedArch, R: Threads + Sync>(
     resolved: &Resolved<A>,
     place: InputPlace,
     file: &File,
-    laid: &PlacedInput<'_>,
+    placed_input: &PlacedInput<'_>,
     bytes: &mut GroupBytes,
 ) -> Result<(), Error>
-    requires whole { IsWhole laid.now.section }
-    requires moves { is_read laid.now.section ≡ true → PlacedApart resolved.now.layout.now file.now laid.now }
-    requires kind { IsOfKind resolved.now.layout.now laid.now.section }
-    requires origins { HasOrigins laid.now }
-    requires lies { SectionLies resolved.now.layout.now laid.now.section }
-    ensures faults { Answers result (placed_section_faults resolved.now.layout.now place.group place.file place.section file.now laid.now) }
-    ensures files { OnOk result (bytes.new.files ≡ bytes.old.files ++ section_owned resolved.now.layout.now file.now laid.now.section) }
-    ensures frames { OnOk result (is_header_only_role resolved.now.layout.now EhFrame ≡ false → bytes.new.frames ≡ bytes.old.frames ++ frame_bytes_of resolved.now.layout.now file.now laid.now.section) }
-    ensures plain { OnOk result (is_frame laid.now.section.slot ≡ false → bytes.new.frames ≡ bytes.old.frames) }
+    requires whole { IsWhole placed_input.now.section }
+    requires moves { is_read placed_input.now.section ≡ true → PlacedApart resolved.now.layout.now file.now placed_input.now }
+    requires kind { IsOfKind resolved.now.layout.now placed_input.now.section }
+    requires origins { HasOrigins placed_input.now }
+    requires lies { SectionLies resolved.now.layout.now placed_input.now.section }
+    ensures faults { Answers result (placed_section_faults resolved.now.layout.now place.group place.file place.section file.now placed_input.now) }
+    ensures files { OnOk result (bytes.new.files ≡ bytes.old.files ++ section_owned resolved.now.layout.now file.now placed_input.now.section) }
+    ensures frames { OnOk result (is_header_only_role resolved.now.layout.now EhFrame ≡ false → bytes.new.frames ≡ bytes.old.frames ++ frame_bytes_of resolved.now.layout.now file.now placed_input.now.section) }
+    ensures plain { OnOk result (is_frame placed_input.now.section.slot ≡ false → bytes.new.frames ≡ bytes.old.frames) }
     ensures tables { bytes.new.tables ≡ bytes.old.tables }
 {
-    let section = laid.section();
+    let section = placed_input.section();
     if section.is_omitted(resolved.layout) {
         return Ok(());
     }
     if section.is_read() {
-        return add_read(by.alloc, resolved, place, file, laid, bytes);
+        return add_read(by.alloc, resolved, place, file, placed_input, bytes);
     }
     if section.nobits {
         return Ok(add_zeros(by.alloc, resolved.layout, section, &mut bytes.files)?);
     }
-    add_unread(by, resolved, place, file, laid, &mut bytes.files)
+    add_unread(by, resolved, place, file, placed_input, &mut bytes.files)
 }
 
 /// Whether a section is loaded and has the plan's bytes, unchanged except for its relocations.
@@ -359,14 +370,14 @@ fn add_section<A: ShardedArch, R: Threads + Sync>(
     requires reversed_section { CanBeReversed resolved.now.layout.now section.now }
     requires kind { IsOfKind resolved.now.layout.now section.now }
     ensures faults { Answers result (section_errors resolved.now.layout.now place.group place.file file.now at place.section section.now) }
-    ensures next { IfOk result (λ n. n ≡ behind at (kept_size resolved.now.layout.now file.now section.now)) }
+    ensures next { IfOk result (λ n. n ≡ address_after at (kept_size resolved.now.layout.now file.now section.now)) }
     ensures files { OnOk result (bytes.new.files ≡ bytes.old.files ++ section_owned resolved.now.layout.now file.now (placed_section resolved.now.layout.now file.now at section.now)) }
     ensures frames { OnOk result (is_header_only_role resolved.now.layout.now EhFrame ≡ false → bytes.new.frames ≡ bytes.old.frames ++ frame_bytes_of resolved.now.layout.now file.now (placed_section resolved.now.layout.now file.now at section.now)) }
     ensures tables { bytes.new.tables ≡ bytes.old.tables }
 {
-    let laid = place_input(by.alloc, resolved.layout, file, at, section)?;
-    add_placed(by, resolved, place, file, &laid, bytes)?;
-    Ok(address_after_frames(at, laid.section()))
+    let placed_input = place_input(by.alloc, resolved.layout, file, at, section)?;
+    add_placed(by, resolved, place, file, &placed_input, bytes)?;
+    Ok(address_after_frames(at, placed_input.section()))
 }
 
 /// Appends the sections of a file, whose frames begin at address `at`, or returns their first fault. Returns the address after its
@@ -384,7 +395,7 @@ fn add_file_sections<A: ShardedArch, R: Threads + Sync>(
     requires reversed_section { All (CanBeReversed resolved.now.layout.now) file.now.sections }
     requires kinds { All (IsOfKind resolved.now.layout.now) file.now.sections }
     ensures faults { Answers result (sections_errors resolved.now.layout.now place.group place.file file.now at 0 file.now.sections) }
-    ensures next { IfOk result (λ n. n ≡ behind at (file_frames resolved.now.layout.now file.now)) }
+    ensures next { IfOk result (λ n. n ≡ address_after at (file_frames resolved.now.layout.now file.now)) }
     ensures files { OnOk result (bytes.new.files ≡ bytes.old.files ++ flat_map (section_owned resolved.now.layout.now file.now) (placed_sections resolved.now.layout.now file.now at file.now.sections)) }
     ensures frames { OnOk result (is_header_only_role resolved.now.layout.now EhFrame ≡ false → bytes.new.frames ≡ bytes.old.frames ++ flat_map (frame_bytes_of resolved.now.layout.now file.now) (placed_sections resolved.now.layout.now file.now at file.now.sections)) }
     ensures tables { bytes.new.tables ≡ bytes.old.tables }
@@ -426,8 +437,8 @@ fn add_sorted_section<A: ShardedArch, R: Threads + Sync>(
     };
     match sorted_input(resolved.layout, *entry) {
         Some(input) => {
-            let laid = place_sorted(by.alloc, resolved.layout, input.section)?;
-            add_placed(by, resolved, place, input.file, &laid, bytes)
+            let placed_input = place_sorted(by.alloc, resolved.layout, input.section)?;
+            add_placed(by, resolved, place, input.file, &placed_input, bytes)
         }
         None => Ok(()),
     }
@@ -581,7 +592,7 @@ fn add_file<A: ShardedArch, R: Threads + Sync>(
     requires stands { FileStands resolved.now.layout.now at file.now }
     requires table { IsTableFor resolved.now.layout.now table.now file.now }
     ensures faults { Answers result (file_errors resolved.now.layout.now place.group at place.file file.now) }
-    ensures next { IfOk result (λ n. n ≡ behind at (file_frames resolved.now.layout.now file.now)) }
+    ensures next { IfOk result (λ n. n ≡ address_after at (file_frames resolved.now.layout.now file.now)) }
     ensures files { OnOk result (bytes.new.files ≡ bytes.old.files ++ file_bytes resolved.now.layout.now file.now) }
     ensures frames { OnOk result (is_header_only_role resolved.now.layout.now EhFrame ≡ false → bytes.new.frames ≡ bytes.old.frames ++ frames_bytes resolved.now.layout.now (placed_file resolved.now.layout.now at file.now)) }
     ensures tables { bytes.new.tables ≡ bytes.old.tables }

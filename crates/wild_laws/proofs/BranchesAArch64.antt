@@ -21,7 +21,7 @@ use Rattle.wild_loader.specs.declared.memory.Memory.{Memory}
 use Rattle.wild_loader.specs.declared.world.World.{World}
 use Rattle.wild_loader.specs.declared.instruction.Deed.{Deed}
 use Rattle.wild_loader.specs.declared.instruction.Deed.TheVariants.{Call, Jump}
-use Rattle.wild_loader.specs.Instruction.{stands}
+use Rattle.wild_loader.specs.Instruction.{matches_cells}
 use Rattle.wild_loader.specs.InstructionAArch64.{demand_aarch64}
 use Rattle.wild_meaning.specs.WordsAArch64.{is_filled}
 use Rattle.wild_meaning.specs.ReferentAArch64.{IsUndefinedWeak, branch_types, own_place}
@@ -49,7 +49,7 @@ one_word (a ∷ b ∷ c ∷ []) n = absurd (omega (arith, n))
 one_word (a ∷ b ∷ c ∷ d ∷ []) n = refl
 one_word (a ∷ b ∷ c ∷ d ∷ e ∷ bs) n = absurd (omega (arith, n))
 
-any_four : (bs : List ℕ) → length bs ≡ 4 → stands (bytes_of 1).cells bs ≡ true
+any_four : (bs : List ℕ) → length bs ≡ 4 → matches_cells (bytes_of 1).cells bs ≡ true
 any_four [] n = absurd (omega (arith, n))
 any_four (a ∷ []) n = absurd (omega (arith, n))
 any_four (a ∷ b ∷ []) n = absurd (omega (arith, n))

@@ -13,7 +13,7 @@ use Rattle.wild_loader.specs.declared.instruction.Cell.TheVariants.{Is}
 use Rattle.wild_loader.specs.declared.instruction.Action.{Action}
 use Rattle.wild_loader.specs.declared.instruction.Deed.{Deed}
 use Rattle.wild_loader.specs.declared.instruction.Deed.TheVariants.{Call, Jump}
-use Rattle.wild_loader.specs.Instruction.{Template, Reader, Effect, exact_cells, field, stands, template_fills, first_meaning, effect, with_value, as_value}
+use Rattle.wild_loader.specs.Instruction.{Template, Reader, Effect, exact_cells, field, matches_cells, template_fills, first_meaning, effect, with_value, as_value}
 use Rattle.wild_loader.specs.ThreadCodeX86_64.{nop_byte}
 use Rattle.wild_loader.specs.InstructionX86_64.{templates_x86_64, meaning_x86_64, effect_x86_64}
 use Rattle.wild_meaning.specs.Sequence.{Instruction, size_of, IsOwnByte, instructions_of}
@@ -132,9 +132,9 @@ template_direct l s r start o one x f t = let q = single_of l s r start o one x 
 
 -- ---- the input's bytes
 
-pub starts : (opcode : ℕ) (cs : List Cell) (bs : List ℕ) → stands (Is opcode ∷ cs) bs ≡ true → get_or bs 0 0 ≡ opcode
+pub starts : (opcode : ℕ) (cs : List Cell) (bs : List ℕ) → matches_cells (Is opcode ∷ cs) bs ≡ true → get_or bs 0 0 ≡ opcode
 starts opcode cs [] h = cc
-starts opcode cs (b ∷ bs) h = eqb-true b opcode (and_parts (b == opcode) (stands cs bs) h).0
+starts opcode cs (b ∷ bs) h = eqb-true b opcode (and_parts (b == opcode) (matches_cells cs bs) h).0
 
 -- such an instruction's bytes are those of a call or a jump
 pub is_branch : (l : Layout) (s : Item) (r : InputRelocation) (start opcode : ℕ) (deed : Deed) → IsInstruction l s r start (direct opcode deed) → IsBranch l s r start opcode
@@ -153,14 +153,14 @@ is_branch l s r start opcode deed t =
 
 -- and a call or a jump is one
 
-four : (bs : List ℕ) → length bs ≡ 4 → stands field bs ≡ true
+four : (bs : List ℕ) → length bs ≡ 4 → matches_cells field bs ≡ true
 four [] n = absurd (omega (arith, n))
 four (a ∷ []) n = absurd (omega (arith, n))
 four (a ∷ b ∷ []) n = absurd (omega (arith, n))
 four (a ∷ b ∷ c ∷ []) n = absurd (omega (arith, n))
 four (a ∷ b ∷ c ∷ d ∷ rest) n = refl
 
-stands_from : (opcode : ℕ) (bs : List ℕ) → length bs ≡ 5 → get_or bs 0 0 ≡ opcode → stands (exact_cells (opcode ∷ []) ++ field) bs ≡ true
+stands_from : (opcode : ℕ) (bs : List ℕ) → length bs ≡ 5 → get_or bs 0 0 ≡ opcode → matches_cells (exact_cells (opcode ∷ []) ++ field) bs ≡ true
 stands_from opcode [] n e = absurd (omega (arith, n))
 stands_from opcode (a ∷ bs) n e = let t : (a == opcode) ≡ true = eq-eqb a opcode e in rw t (four bs (omega (arith, n)))
 
@@ -239,7 +239,7 @@ abbrev starts_with : ℕ → List Cell → Bool
 starts_with opcode (Is b ∷ cs) = b == opcode
 starts_with opcode other = false
 
-begins : (opcode : ℕ) (cs : List Cell) (bs : List ℕ) → starts_with opcode cs ≡ true → stands cs bs ≡ true → get_or bs 0 0 ≡ opcode
+begins : (opcode : ℕ) (cs : List Cell) (bs : List ℕ) → starts_with opcode cs ≡ true → matches_cells cs bs ≡ true → get_or bs 0 0 ≡ opcode
 begins opcode (Is b ∷ cs) bs h s = starts b cs bs s ∙ eqb-true b opcode h
 begins opcode other bs h s = cc
 

@@ -24,7 +24,7 @@ use Rattle.wild_types.specs.HeaderOnly.{is_omitted}
 use Rattle.wild_types.specs.Lookups.{is_read, is_counted, is_frame}
 use Rattle.wild_placement.specs.ReversedWords.{with_word_order, reversed_section}
 use Rattle.wild_placement.specs.FrameInputs.{frames_of, kept_size}
-use Rattle.wild_placement.specs.PlacedSections.{Input, placed_section, placed_sections, placed_file, placed_from, placed_files, file_frames, frames_at, behind, sorted_input, sorted_inputs, sorted_sections, of_last_file, processed_sections, as_loaded, kept_relocations, origins_of, unread}
+use Rattle.wild_placement.specs.PlacedSections.{Input, placed_section, placed_sections, placed_file, placed_from, placed_files, file_frames, frames_at, address_after, sorted_input, sorted_inputs, sorted_sections, of_last_file, processed_sections, as_loaded, kept_relocations, origins_of, unread}
 use Rattle.wild_layout.specs.declared.decision.Decision.{Decision}
 use Rattle.wild_layout.specs.Decide.{decide}
 use Rattle.wild_layout.specs.Sites.{MovesApart}
@@ -99,11 +99,11 @@ unfolding section_errors
 sections_of l g k f at i [] words lies none = All-nil (Decided l f)
 sections_of l g k f at i (s ∷ ss) words lies none =
     let t = placed_section l f at s in
-    let ts = placed_sections l f (behind at (kept_size l f s)) ss in
-    let parts = nil_parts (section_errors l g k f at i s) (sections_errors l g k f (behind at (kept_size l f s)) (i + 1) ss) none in
+    let ts = placed_sections l f (address_after at (kept_size l f s)) ss in
+    let parts = nil_parts (section_errors l g k f at i s) (sections_errors l g k f (address_after at (kept_size l f s)) (i + 1) ss) none in
     All-cons (Decided l f) t ts
     (λ reads written. section_decided l g k i f s t reads written (All-head (SectionLies l) t ts lies) (laid_moves l f (block_for l f t) at s (All-head (HasTheirWords l) s ss words) reads) parts.0)
-    (sections_of l g k f (behind at (kept_size l f s)) (i + 1) ss (All-tail (HasTheirWords l) s ss words) (All-tail (SectionLies l) t ts lies) parts.1)
+    (sections_of l g k f (address_after at (kept_size l f s)) (i + 1) ss (All-tail (HasTheirWords l) s ss words) (All-tail (SectionLies l) t ts lies) parts.1)
 
 -- ---- files
 
@@ -158,12 +158,12 @@ file_decided l g at k f whole laid words lies none = record {
 files_decided : (l : Layout) (g at k : ℕ) (fs : List File) → is_partial_link l.kind ≡ false → IsLaidOut l → All (λ (f : File). All (HasTheirWords l) f.sections) fs → All (λ (f : File). All (SectionLies l) (processed_sections l f)) (placed_from l at fs) → files_errors l g at k fs ≡ [] → All (FileDecided l) (placed_from l at fs)
 files_decided l g at k [] whole laid words lies none = All-nil (FileDecided l)
 files_decided l g at k (f ∷ fs) whole laid words lies none =
-    let parts = nil_parts (file_errors l g at k f) (files_errors l g (behind at (file_frames l f)) (k + 1) fs) none in
+    let parts = nil_parts (file_errors l g at k f) (files_errors l g (address_after at (file_frames l f)) (k + 1) fs) none in
     let h = placed_file l at f in
-    let hs = placed_from l (behind at (file_frames l f)) fs in
+    let hs = placed_from l (address_after at (file_frames l f)) fs in
     All-cons (FileDecided l) h hs
     (file_decided l g at k f whole laid (All-head (λ (x : File). All (HasTheirWords l) x.sections) f fs words) (All-head (λ (x : File). All (SectionLies l) (processed_sections l x)) h hs lies) parts.0)
-    (files_decided l g (behind at (file_frames l f)) (k + 1) fs whole laid (All-tail (λ (x : File). All (HasTheirWords l) x.sections) f fs words) (All-tail (λ (x : File). All (SectionLies l) (processed_sections l x)) h hs lies) parts.1)
+    (files_decided l g (address_after at (file_frames l f)) (k + 1) fs whole laid (All-tail (λ (x : File). All (HasTheirWords l) x.sections) f fs words) (All-tail (λ (x : File). All (SectionLies l) (processed_sections l x)) h hs lies) parts.1)
 
 group_decided : (l : Layout) (i : ℕ) (g : Group) → is_partial_link l.kind ≡ false → IsLaidOut l → All (λ (f : File). All (HasTheirWords l) f.sections) g.files → All (λ (f : File). All (SectionLies l) (processed_sections l f)) (placed_files l g) → group_errors l i g ≡ [] → All (FileDecided l) (placed_files l g)
 unfolding placed_files

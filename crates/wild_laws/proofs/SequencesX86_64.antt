@@ -11,7 +11,7 @@ use Rattle.wild_loader.specs.declared.instruction.Cell.TheVariants.{Is}
 use Rattle.wild_loader.specs.declared.instruction.Operand.TheVariants.{Number, Word}
 use Rattle.wild_loader.specs.declared.instruction.Deed.{Deed}
 use Rattle.wild_loader.specs.declared.instruction.Deed.TheVariants.{Call, Jump}
-use Rattle.wild_loader.specs.Instruction.{stands}
+use Rattle.wild_loader.specs.Instruction.{matches_cells}
 use Rattle.wild_loader.specs.CodeX86_64.{branch}
 use Rattle.wild_meaning.specs.Sequence.{Instruction, Partner, Target, TargetInSlot, size_of, of_field, instructions_of}
 use Rattle.wild_meaning.proofs.PairLemmas.{are_several, the_one}
@@ -131,16 +131,16 @@ behind_slots = behind others
 all_other : list_all is_other behind_slots ≡ true
 all_other = refl
 
-not_there : (cs : List Cell) (bs : List ℕ) (j : ℕ) → stands cs bs ≡ true → begins_apart (drop j cs) ≡ true → get_or bs j 0 ≡ 0xff → ⊥
+not_there : (cs : List Cell) (bs : List ℕ) (j : ℕ) → matches_cells cs bs ≡ true → begins_apart (drop j cs) ≡ true → get_or bs j 0 ≡ 0xff → ⊥
 not_there [] bs zero s b h = cc
 not_there [] bs (suc j) s b h = cc
 not_there (c ∷ cs) [] j s b h = cc
 not_there (Is n ∷ cs) (x ∷ xs) zero s b h =
-    let same = eqb-true x n (and_parts (x == n) (stands cs xs) s).0 in
+    let same = eqb-true x n (and_parts (x == n) (matches_cells cs xs) s).0 in
     let is : (n == 0xff) ≡ true = eq-eqb n 0xff (sym same ∙ h) in
     no_other (n == 0xff) b is
 not_there (c ∷ cs) (x ∷ xs) zero s b h = cc
-not_there (c ∷ cs) (x ∷ xs) (suc j) s b h = not_there cs xs j (and_parts _ (stands cs xs) s).1 b h
+not_there (c ∷ cs) (x ∷ xs) (suc j) s b h = not_there cs xs j (and_parts _ (matches_cells cs xs) s).1 b h
 
 no_slot_type : (o : Instruction) (n : ℕ) → list_all (λ m. not (is_slot m)) o.numbers ≡ true → Contains o.numbers n → is_slot n ≡ true → ⊥
 no_slot_type o n none number slot = no_other (is_slot n) (listed_passes (λ (m : ℕ). not (is_slot m)) o.numbers n none number) slot
@@ -150,7 +150,7 @@ by_tests true b c h n = cc
 by_tests false true c h n = inl refl
 by_tests false false c h n = inr h
 
-excluded : (o : Instruction) (n : ℕ) (bs : List ℕ) → is_other o ≡ true → o.partners ≡ [] → Contains o.numbers n → is_slot n ≡ true → stands o.template.cells bs ≡ true → (2 ≤ o.field → o.field < size_of o → get_or bs (o.field - 2) 0 ≡ 0xff) → ⊥
+excluded : (o : Instruction) (n : ℕ) (bs : List ℕ) → is_other o ≡ true → o.partners ≡ [] → Contains o.numbers n → is_slot n ≡ true → matches_cells o.template.cells bs ≡ true → (2 ≤ o.field → o.field < size_of o → get_or bs (o.field - 2) 0 ≡ 0xff) → ⊥
 excluded o n bs other single number slot stood byte =
     elim (by_tests (are_several o.partners) (list_all (λ m. not (is_slot m)) o.numbers) (has_other o) other (ap are_several single)) [
       | inl none ↦ no_slot_type o n none number slot
@@ -161,10 +161,10 @@ excluded o n bs other single number slot stood byte =
     ]
 
 -- an instruction of a slot's type behind the byte ff is a call or a jump through one
-pub is_through : (o : Instruction) (n : ℕ) (bs : List ℕ) → Contains (instructions_of machine.X86_64) o → o.partners ≡ [] → Contains o.numbers n → is_slot n ≡ true → stands o.template.cells bs ≡ true → (2 ≤ o.field → o.field < size_of o → get_or bs (o.field - 2) 0 ≡ 0xff) → IsThrough o
+pub is_through : (o : Instruction) (n : ℕ) (bs : List ℕ) → Contains (instructions_of machine.X86_64) o → o.partners ≡ [] → Contains o.numbers n → is_slot n ≡ true → matches_cells o.template.cells bs ≡ true → (2 ≤ o.field → o.field < size_of o → get_or bs (o.field - 2) 0 ≡ 0xff) → IsThrough o
 is_through o n bs known single number slot stood byte = at o n bs known.0 known.1 known.2 single number slot stood byte
   where
-    at : (o : Instruction) (n : ℕ) (bs : List ℕ) (k : ℕ) → k < length (instructions_of machine.X86_64) → get_or (instructions_of machine.X86_64) k o ≡ o → o.partners ≡ [] → Contains o.numbers n → is_slot n ≡ true → stands o.template.cells bs ≡ true → (2 ≤ o.field → o.field < size_of o → get_or bs (o.field - 2) 0 ≡ 0xff) → IsThrough o
+    at : (o : Instruction) (n : ℕ) (bs : List ℕ) (k : ℕ) → k < length (instructions_of machine.X86_64) → get_or (instructions_of machine.X86_64) k o ≡ o → o.partners ≡ [] → Contains o.numbers n → is_slot n ≡ true → matches_cells o.template.cells bs ≡ true → (2 ≤ o.field → o.field < size_of o → get_or bs (o.field - 2) 0 ≡ 0xff) → IsThrough o
     at o n bs zero l e single number slot stood byte = absurd (no_slot_type o n (subst (λ (p : Instruction). list_all (λ m. not (is_slot m)) p.numbers ≡ true) e refl) number slot)
     at o n bs (suc zero) l e single number slot stood byte = absurd (no_slot_type o n (subst (λ (p : Instruction). list_all (λ m. not (is_slot m)) p.numbers ≡ true) e refl) number slot)
     at o n bs (suc (suc zero)) l e single number slot stood byte = inl (sym e)

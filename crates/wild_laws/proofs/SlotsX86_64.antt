@@ -13,7 +13,7 @@ use Rattle.wild_loader.specs.declared.instruction.Cell.{Cell}
 use Rattle.wild_loader.specs.declared.instruction.Cell.TheVariants.{Is}
 use Rattle.wild_loader.specs.declared.instruction.Deed.{Deed}
 use Rattle.wild_loader.specs.declared.instruction.Deed.TheVariants.{Call, Jump}
-use Rattle.wild_loader.specs.Instruction.{exact_cells, field, stands, as_value}
+use Rattle.wild_loader.specs.Instruction.{exact_cells, field, matches_cells, as_value}
 use Rattle.wild_loader.specs.InstructionX86_64.{meaning_x86_64, effect_x86_64}
 use Rattle.wild_meaning.specs.Sequence.{Instruction, TargetInSlot, size_of, IsOwnByte, instructions_of}
 use Rattle.wild_types.specs.Item.{Item}
@@ -40,9 +40,9 @@ six P h (a ∷ b ∷ c ∷ d ∷ e ∷ []) n = absurd (omega (arith, n))
 six P h (a ∷ b ∷ c ∷ d ∷ e ∷ f ∷ []) n = h a b c d e f
 six P h (a ∷ b ∷ c ∷ d ∷ e ∷ f ∷ g ∷ bs) n = absurd (omega (arith, n))
 
-stands_from : (opcode : ℕ) (bs : List ℕ) → length bs ≡ 6 → get_or bs 0 0 ≡ 0xff → get_or bs 1 0 ≡ opcode → stands (exact_cells (0xff ∷ opcode ∷ []) ++ field) bs ≡ true
+stands_from : (opcode : ℕ) (bs : List ℕ) → length bs ≡ 6 → get_or bs 0 0 ≡ 0xff → get_or bs 1 0 ≡ opcode → matches_cells (exact_cells (0xff ∷ opcode ∷ []) ++ field) bs ≡ true
 stands_from opcode bs n h i = six
-    (λ (xs : List ℕ). get_or xs 0 0 ≡ 0xff → get_or xs 1 0 ≡ opcode → stands (exact_cells (0xff ∷ opcode ∷ []) ++ field) xs ≡ true)
+    (λ (xs : List ℕ). get_or xs 0 0 ≡ 0xff → get_or xs 1 0 ≡ opcode → matches_cells (exact_cells (0xff ∷ opcode ∷ []) ++ field) xs ≡ true)
     (λ a b c d e f first second.
     let t : (a == 0xff) ≡ true = eq-eqb a 0xff first in
     let u : (b == opcode) ≡ true = eq-eqb b opcode second in
@@ -50,12 +50,12 @@ stands_from opcode bs n h i = six
     bs n h i
 
 -- the second byte of such code
-second_byte : (opcode : ℕ) (cs : List Cell) (bs : List ℕ) → stands (Is 0xff ∷ Is opcode ∷ cs) bs ≡ true → get_or bs 1 0 ≡ opcode
+second_byte : (opcode : ℕ) (cs : List Cell) (bs : List ℕ) → matches_cells (Is 0xff ∷ Is opcode ∷ cs) bs ≡ true → get_or bs 1 0 ≡ opcode
 second_byte opcode cs [] h = cc
 second_byte opcode cs (a ∷ []) h = (let both = (and_parts (a == 0xff) false h).1 in cc)
 second_byte opcode cs (a ∷ b ∷ bs) h =
-    let rest = and_parts (a == 0xff) (b == opcode && stands cs bs) h in
-    eqb-true b opcode (and_parts (b == opcode) (stands cs bs) rest.1).0
+    let rest = and_parts (a == 0xff) (b == opcode && matches_cells cs bs) h in
+    eqb-true b opcode (and_parts (b == opcode) (matches_cells cs bs) rest.1).0
 
 -- ---- the input's code
 

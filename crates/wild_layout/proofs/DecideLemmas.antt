@@ -27,14 +27,14 @@ use Rattle.wild_reloc.specs.declared.info.RelocationSize.TheVariants.{ByteSize, 
 use Rattle.wild_reloc.specs.declared.info.Width.TheVariants.{Zero, One, Two, Four, Eight}
 use Rattle.wild_reloc.specs.declared.dynamic.DynamicRelocationKind.TheVariants.{Absolute, Irelative}
 use Rattle.wild_reloc.specs.declared.expression.Subtrahend.{Subtrahend}
-use Rattle.wild_reloc.specs.declared.expression.Subtrahend.TheVariants as taken
+use Rattle.wild_reloc.specs.declared.expression.Subtrahend.TheVariants as subtrahend
 use Rattle.wild_reloc.specs.Expression.{expression_of}
 use Rattle.wild_layout.specs.declared.decision.Decision.{Decision}
 use Rattle.wild_layout.specs.declared.decision.Decision.TheVariants.{Nothing, Field, RelativeAddress, DynamicField}
 use Rattle.wild_layout.specs.SymbolValues.{sum, symbol_size}
 use Rattle.wild_layout.specs.SlotValues.{index_of, decided_address}
 use Rattle.wild_layout.specs.Merged.{address_for}
-use Rattle.wild_layout.specs.Values.{value_less, value_by, value_in, term_at}
+use Rattle.wild_layout.specs.Values.{subtract, value_by, value_in, term_at}
 use Rattle.wild_layout.specs.SectionPlaces.{FieldLies}
 use Rattle.wild_layout.specs.Decide.{field_for, relative_decision, addend_bits, dynamic_decision, size_decision, ifunc_decision, decide_by, decided}
 use Rattle.wild_layout.specs.DynamicRelocations.{dynamic_relocation_by, dynamic_relocation, entry_for}
@@ -363,12 +363,12 @@ pub left_has : (l : Layout) (s : Item) (r : InputRelocation) (z : RelocationSize
 left_has l s r z n symbol addend h = h.field
 
 -- a value is below 2 ^ 64
-pub less_below : (l : Layout) (less : Subtrahend) (s p : ℕ) (a : ℤ) → value_less l less s a p < 2 ^ 64
-less_below l taken.Nothing s p a = omega arith
-less_below l taken.Place s p a = omega arith
-less_below l taken.Table s p a = omega arith
-less_below l taken.PagePlace s p a = omega arith
-less_below l taken.PageTable s p a = omega arith
+pub less_below : (l : Layout) (less : Subtrahend) (s p : ℕ) (a : ℤ) → subtract l less s a p < 2 ^ 64
+less_below l subtrahend.Nothing s p a = omega arith
+less_below l subtrahend.Place s p a = omega arith
+less_below l subtrahend.GotBase s p a = omega arith
+less_below l subtrahend.PageOfPlace s p a = omega arith
+less_below l subtrahend.PageOfGot s p a = omega arith
 
 pub value_below : (l : Layout) (kind : RelocationKind) (s p : ℕ) (a : ℤ) → value_by l kind s a p < 2 ^ 64
-value_below l kind s p a = less_below l (expression_of kind).taken s p a
+value_below l kind s p a = less_below l (expression_of kind).subtrahend s p a

@@ -74,7 +74,7 @@ use Rattle.wild_layout.specs.declared.decision.Decision.TheVariants.{Nothing, Fi
 use Rattle.wild_types.specs.Lookups.{place_of}
 use Rattle.wild_layout.specs.SlotValues.{index_of, decided_address}
 use Rattle.wild_layout.specs.Merged.{names_merged, address_for}
-use Rattle.wild_layout.specs.Values.{term_of, value_by, value_less, value_in, is_own_place, term_by, term_at}
+use Rattle.wild_layout.specs.Values.{term_of, value_by, subtract, value_in, weak_resolves_to_place, term_by, term_at}
 use Rattle.wild_layout.specs.Choice.{choice_of, choice_on, takes_next, is_partner}
 use Rattle.wild_layout.specs.Decide.{field_for, field_or_thunk, relative_decision, addend_bits, dynamic_decision, ifunc_decision, decide_by, decided, field_at, place_to, value_to, term_to, rewritten_decision, refused_sequence, decide_with, decide_at, decide}
 use Rattle.wild_slot.proofs.TreatmentLemmas.{HasValue, known_moved, known_symbolic, known_indirect, known_extent}
@@ -177,7 +177,7 @@ record IsMade (l : Layout) (s : Item) (r : InputRelocation) (row : Row) (d : Dec
   is : (if keeps_bytes row then Field by.info.size value else Rewritten row value) ≡ d
 
 -- on x86-64 no place stands for a symbol
-no_place : (m : Machine) (l : Layout) (r : InputRelocation) (info : RelocationKindInfo) → m ≡ machine.X86_64 → is_own_place m l r info ≡ false
+no_place : (m : Machine) (l : Layout) (r : InputRelocation) (info : RelocationKindInfo) → m ≡ machine.X86_64 → weak_resolves_to_place m l r info ≡ false
 no_place machine.X86_64 l r info is = refl
 no_place machine.AArch64 l r info is = cc
 
@@ -218,7 +218,7 @@ unthunked written.GotOff64 h = refl
 unthunked other h = cc
 
 whole_value : (l : Layout) (info : RelocationKindInfo) (a : ℕ) (addend : ℤ) (p : ℕ) → info.mask ≡ None → value_in l info a addend p ≡ value_by l info.kind a addend p
-whole_value l info a addend p none = ap (λ (m : Option PageMask). value_less l (subtrahend_of info.kind m) a addend p) none
+whole_value l info a addend p none = ap (λ (m : Option PageMask). subtract l (subtrahend_of info.kind m) a addend p) none
 
 known_on : (m : Machine) (row : Row) → m ≡ machine.X86_64 → is_aarch64 row.written ≡ false → row_of m (rewrite_of row).number ≡ Some (info_written row)
 unfolding row_of

@@ -21,7 +21,7 @@ use Rattle.wild_types.specs.Lookups.{is_header_only_part}
 use Rattle.wild_types.proofs.LookupLemmas.{not_hollow_role, not_hollow_part}
 use Rattle.wild_slot.specs.SymbolWords.{slots_of}
 use Rattle.wild_plan_rules.specs.WellFormed.{first_clause}
-use Rattle.wild_placement.specs.PlacedSections.{file_frames, frames_at, behind, of_last_file}
+use Rattle.wild_placement.specs.PlacedSections.{file_frames, frames_at, address_after, of_last_file}
 use Rattle.wild_layout.specs.SymbolValues.{raw_address}
 use Rattle.wild_layout.specs.SlotValues.{index_of}
 use Rattle.wild_layout.specs.Thunks.{thunk_fault}
@@ -107,8 +107,8 @@ files_of_group l i g h = first_empty (files_errors l i (frames_at l g) 0 g.files
 pub All-files : (l : Layout) (P : File → Type 0) (i at k : ℕ) (fs : List File) → ((at k : ℕ) (f : File) → file_errors l i at k f ≡ [] → P f) → files_errors l i at k fs ≡ [] → All P fs
 All-files l P i at k [] each h = All-nil P
 All-files l P i at k (f ∷ fs) each h =
-    All-cons P f fs (each at k f (first_empty (file_errors l i at k f) (files_errors l i (behind at (file_frames l f)) (k + 1) fs) h))
-    (All-files l P i (behind at (file_frames l f)) (k + 1) fs each (rest_empty (file_errors l i at k f) (files_errors l i (behind at (file_frames l f)) (k + 1) fs) h))
+    All-cons P f fs (each at k f (first_empty (file_errors l i at k f) (files_errors l i (address_after at (file_frames l f)) (k + 1) fs) h))
+    (All-files l P i (address_after at (file_frames l f)) (k + 1) fs each (rest_empty (file_errors l i at k f) (files_errors l i (address_after at (file_frames l f)) (k + 1) fs) h))
 
 -- where no group has a fault, what holds of each file without faults holds of all files
 pub of_files : (l : Layout) (P : File → Type 0) → ((i at k : ℕ) (f : File) → file_errors l i at k f ≡ [] → P f) → flat_map_from (group_errors l) 0 l.groups ≡ [] → All (λ (g : Group). All P g.files) l.groups

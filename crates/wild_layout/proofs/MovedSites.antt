@@ -44,7 +44,7 @@ use Rattle.wild_placement.proofs.PlainLemmas.{unread_linked}
 use Rattle.wild_types.specs.Kinds.{is_partial_link}
 use Rattle.wild_placement.specs.PlacedSections.{moved_relocation as moved_entry}
 use Rattle.wild_frames.specs.declared.entry.KeptEntry.{KeptEntry}
-use Rattle.wild_frames.specs.Frames.{Frames, State, start, behind, kept_of, found_in, kept_in}
+use Rattle.wild_frames.specs.Frames.{Frames, State, start, state_after, kept_of, found_in, kept_in}
 use Rattle.wild_frames.specs.Walks.{FieldLies}
 use Rattle.wild_frames.specs.declared.entry.Found.{Found}
 use Rattle.wild_frames.specs.declared.entry.Found.TheVariants as finds
@@ -442,7 +442,7 @@ all_behind s st [] w = All-nil (IsBehind st)
 all_behind s st (finds.Kept k ∷ fs) w =
     let at = w.facts.from in
     let to = w.facts.to in
-    let rest = all_behind s (behind st k) fs w.others in
+    let rest = all_behind s (state_after st k) fs w.others in
     All-cons (IsBehind st) k (flat_map kept_of fs) (record { from = omega (arith, at); to = omega (arith, to) }) (λ i d m. (let f = (rest i d m).from in let t = (rest i d m).to in record { from = omega (arith, f); to = omega (arith, t) }))
 all_behind s st (finds.Dropped size ∷ fs) w = (let rest = all_behind s _ fs w.others in λ i d m. (let f = (rest i d m).from in let t = (rest i d m).to in record { from = omega (arith, f); to = omega (arith, t) }))
 all_behind s st (finds.End ∷ fs) w = all_behind s _ fs w.others
@@ -454,8 +454,8 @@ all_beside s st [] w = AllPairs-nil Beside
 all_beside s st (finds.Kept k ∷ fs) w =
     let at = w.facts.from in
     let to = w.facts.to in
-    let rest = all_behind s (behind st k) fs w.others in
-    AllPairs-cons Beside k (flat_map kept_of fs) (λ i d m. (let f = (rest i d m).from in let t = (rest i d m).to in inl (record { from = omega (arith, at, f); to = omega (arith, to, t) }))) (all_beside s (behind st k) fs w.others)
+    let rest = all_behind s (state_after st k) fs w.others in
+    AllPairs-cons Beside k (flat_map kept_of fs) (λ i d m. (let f = (rest i d m).from in let t = (rest i d m).to in inl (record { from = omega (arith, at, f); to = omega (arith, to, t) }))) (all_beside s (state_after st k) fs w.others)
 all_beside s st (finds.Dropped size ∷ fs) w = all_beside s _ fs w.others
 all_beside s st (finds.End ∷ fs) w = all_beside s _ fs w.others
 all_beside s st (finds.Tail at ∷ fs) w = all_beside s _ fs w.others

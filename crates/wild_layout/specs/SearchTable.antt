@@ -24,7 +24,7 @@ use Rattle.wild_frames.specs.declared.table.TableError.TheVariants as table_erro
 use Rattle.wild_frames.specs.Frames.{Frames, fdes_in}
 use Rattle.wild_frames.specs.Table.{table_of, table_errors}
 use Rattle.wild_placement.specs.FrameInputs.{frames_of, kept_size}
-use Rattle.wild_placement.specs.PlacedSections.{entry_relocations, file_frames, frames_at, behind, part_address}
+use Rattle.wild_placement.specs.PlacedSections.{entry_relocations, file_frames, frames_at, address_after, part_address}
 use Rattle.wild_layout.specs.SymbolValues.{sum, raw_address}
 use Rattle.wild_layout.specs.RelativeRelocations.{value_or_0}
 
@@ -39,18 +39,18 @@ code_of l fs k = code_at l (entry_relocations fs k)
 
 -- an FDE of frames that begin at an address
 abbrev pub fde_at : Layout → Frames → ℕ → KeptEntry → Fde
-fde_at l fs at k = record { code = code_of l fs k; address = behind at k.to }
+fde_at l fs at k = record { code = code_of l fs k; address = address_after at k.to }
 
 abbrev pub section_fdes : Layout → File → ℕ → InputSection → List Fde
 section_fdes l f at s = if is_frame s.slot then map (fde_at l (frames_of l f s) at) (fdes_in (frames_of l f s)) else []
 
 abbrev pub sections_fdes : Layout → File → ℕ → List InputSection → List Fde
 sections_fdes l f at [] = []
-sections_fdes l f at (s ∷ ss) = section_fdes l f at s ++ sections_fdes l f (behind at (kept_size l f s)) ss
+sections_fdes l f at (s ∷ ss) = section_fdes l f at s ++ sections_fdes l f (address_after at (kept_size l f s)) ss
 
 abbrev pub files_fdes : Layout → ℕ → List File → List Fde
 files_fdes l at [] = []
-files_fdes l at (f ∷ fs) = sections_fdes l f at f.sections ++ files_fdes l (behind at (file_frames l f)) fs
+files_fdes l at (f ∷ fs) = sections_fdes l f at f.sections ++ files_fdes l (address_after at (file_frames l f)) fs
 
 abbrev pub group_fdes : Layout → Group → List Fde
 group_fdes l g = files_fdes l (frames_at l g) g.files

@@ -58,20 +58,20 @@ after_pair b at = if b then (at + 16) % 2 ^ 64 else at
 
 -- the address of a GOT entry of a sort, for a symbol with these flags whose first GOT entry is at `at`. References to an address use the
 -- second entry if there are two; the module pair follows the offset, and the descriptor follows both
-abbrev pub slot_among : SlotSort → ValueFlags → ℕ → Option ℕ
-slot_among sorts.Offset f at = if has_flag f got_tls_offset then Some at else None
-slot_among sorts.Pair f at = if has_flag f got_tls_module then Some (after_word (has_flag f got_tls_offset) at) else None
-slot_among sorts.Descriptor f at = if has_flag f got_tls_descriptor then Some (after_pair (has_flag f got_tls_module) (after_word (has_flag f got_tls_offset) at)) else None
-slot_among other f at = if has_thread_slot f then None else Some (after_word (has_second_slot f) at)
+abbrev pub slot_from_first : SlotSort → ValueFlags → ℕ → Option ℕ
+slot_from_first sorts.TpOff f at = if has_flag f got_tls_offset then Some at else None
+slot_from_first sorts.TlsGd f at = if has_flag f got_tls_module then Some (after_word (has_flag f got_tls_offset) at) else None
+slot_from_first sorts.TlsDesc f at = if has_flag f got_tls_descriptor then Some (after_pair (has_flag f got_tls_module) (after_word (has_flag f got_tls_offset) at)) else None
+slot_from_first other f at = if has_thread_slot f then None else Some (after_word (has_second_slot f) at)
 
-abbrev pub slot_decided : SlotSort → Option Resolution → Option ℕ
-slot_decided sort None = None
-slot_decided sort (Some r) = option_and_then (slot_among sort r.flags) r.got_address
+abbrev pub slot_in_resolution : SlotSort → Option Resolution → Option ℕ
+slot_in_resolution sort None = None
+slot_in_resolution sort (Some r) = option_and_then (slot_from_first sort r.flags) r.got_address
 
 -- G, by the sort; the pair for the output's own data exists once
 abbrev pub slot_of : Layout → SlotSort → ℕ → Option ℕ
-slot_of l sorts.OwnPair i = l.tlsld
-slot_of l sort i = slot_decided sort (resolution_of l i)
+slot_of l sorts.TlsLd i = l.tlsld
+slot_of l sort i = slot_in_resolution sort (resolution_of l i)
 
 abbrev pub slot_address : Layout → SlotSort → Option ℕ → Result ℕ Fault
 slot_address l sort None = Ok 0

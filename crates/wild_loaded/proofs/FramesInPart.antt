@@ -26,7 +26,7 @@ use Rattle.wild_types.proofs.LookupLemmas.{read_if}
 use Rattle.wild_frames.specs.Frames.{frame_bytes}
 use Rattle.wild_placement.specs.ReversedWords.{reversed_section, with_word_order}
 use Rattle.wild_placement.specs.FrameInputs.{frames_of, kept_size}
-use Rattle.wild_placement.specs.PlacedSections.{Input, placed_frames, placed_by, placed_section, placed_sections, placed_file, placed_from, placed_files, file_frames, frames_at, behind, part_address, sorted_inputs, sorted_sections, of_last_file, processed_sections, sorted_by, sorted_in_file, sorted_in_group, files_at, sorted_input, as_loaded}
+use Rattle.wild_placement.specs.PlacedSections.{Input, placed_frames, placed_by, placed_section, placed_sections, placed_file, placed_from, placed_files, file_frames, frames_at, address_after, part_address, sorted_inputs, sorted_sections, of_last_file, processed_sections, sorted_by, sorted_in_file, sorted_in_group, files_at, sorted_input, as_loaded}
 use Rattle.wild_plan_rules.specs.SlotPlaces.{start_of, address_of_part}
 use Rattle.wild_layout.specs.Content.{content, file_content, frame_bytes_of, frames_bytes, end_of_frames}
 use Rattle.wild_layout.specs.Sites.{item_bytes}
@@ -131,7 +131,7 @@ sections_lie l f g base whole at (s ∷ ss) up low lies st =
     let t = placed_section l g at s in
     let n = kept_size l g s in
     let so = stands_so l g at s in
-    let next = behind at n in
+    let next = address_after at n in
     let mine = All-head (SectionLies l) t (placed_sections l g next ss) lies in
     let both = length-append (frame_bytes_of l f t) (flat_map (frame_bytes_of l f) (placed_sections l g next ss)) in
     let few = at_most l f t at n mine so in
@@ -255,7 +255,7 @@ files_lie l base whole at (f ∷ []) up low alone lies st =
 files_lie l base whole at (f ∷ (h ∷ hs)) up low alone lies st =
     let g = placed_file l at f in
     let n = file_frames l f in
-    let next = behind at n in
+    let next = address_after at n in
     let fs = placed_from l next (h ∷ hs) in
     let both = length-append (frames_bytes l g) (flat_map (frames_bytes l) fs) in
     let mine = file_lies l f base whole at up (omega (arith, low, both)) (All-head (LiesWell l) g fs lies) (HasBytesAt-front whole (frames_bytes l g) (flat_map (frames_bytes l) fs) (at - base) st) in

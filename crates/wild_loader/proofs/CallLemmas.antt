@@ -13,7 +13,7 @@ use Rattle.wild_loader.specs.Memory.{byte_in, number_in, Holds}
 use Rattle.wild_loader.specs.declared.instruction.Operand.TheVariants.{Number, Word}
 use Rattle.wild_loader.specs.declared.instruction.Action.{Action}
 use Rattle.wild_loader.specs.declared.instruction.Deed.TheVariants.{Call, Jump}
-use Rattle.wild_loader.specs.Instruction.{Template, stands, signed_32}
+use Rattle.wild_loader.specs.Instruction.{Template, matches_cells, signed_32}
 use Rattle.wild_loader.specs.CodeX86_64.{branch, bare, rex, rex2, with_prefix}
 use Rattle.wild_loader.specs.InstructionX86_64.{whole_sequences, short}
 use Rattle.wild_loader.specs.Effect.{window, first_match, narrowed_value, operand_value, effect_of, step, step_of, step_x86_64}
@@ -66,7 +66,7 @@ Found m a t bs found = option_and_then (effect_of m a bs) found ≡ Some (call_t
 after : (m : Memory) (a t : ℕ) (bs : List ℕ) → Found m a t bs (first_match (jump_near ∷ short) bs) → ⊥
 unfolding first_match
 after m a t bs h =
-    elim (cases_Bool (stands jump_near.cells bs)) [
+    elim (cases_Bool (matches_cells jump_near.cells bs)) [
       | inl y ↦ not_jump m a t bs (rw y at h)
       | inr n ↦ last (first_match short bs) (rw n at h) (λ x e. standing_passes (λ (t : Template). not (length t.cells == 5)) short bs x refl e)
     ]
@@ -75,15 +75,15 @@ after m a t bs h =
     last None h other = cc
     last (Some x) h other = not_other m a t bs x (other x refl) h
 
-stands_call : (m : Memory) (a t : ℕ) (bs : List ℕ) → Found m a t bs (first_match (call_near ∷ (jump_near ∷ short)) bs) → (stands call_near.cells bs ≡ true) × (effect_of m a bs call_near ≡ Some (call_to t))
+stands_call : (m : Memory) (a t : ℕ) (bs : List ℕ) → Found m a t bs (first_match (call_near ∷ (jump_near ∷ short)) bs) → (matches_cells call_near.cells bs ≡ true) × (effect_of m a bs call_near ≡ Some (call_to t))
 unfolding first_match
 stands_call m a t bs h =
-    elim (cases_Bool (stands call_near.cells bs)) [
+    elim (cases_Bool (matches_cells call_near.cells bs)) [
       | inl y ↦ (y, rw y at h)
       | inr n ↦ absurd (after m a t bs (rw n at h))
     ]
 
-by_call : (m : Memory) (a t : ℕ) (bs : List ℕ) (found : Option Template) → found ≡ first_match before bs → Found m a t bs (option_or found (first_match (call_near ∷ (jump_near ∷ short)) bs)) → (stands call_near.cells bs ≡ true) × (effect_of m a bs call_near ≡ Some (call_to t))
+by_call : (m : Memory) (a t : ℕ) (bs : List ℕ) (found : Option Template) → found ≡ first_match before bs → Found m a t bs (option_or found (first_match (call_near ∷ (jump_near ∷ short)) bs)) → (matches_cells call_near.cells bs ≡ true) × (effect_of m a bs call_near ≡ Some (call_to t))
 by_call m a t bs None e h = stands_call m a t bs h
 by_call m a t bs (Some x) e h = absurd (not_other m a t bs x (standing_passes (λ (t : Template). not (length t.cells == 5)) before bs x refl (sym e)) h)
 
@@ -92,7 +92,7 @@ by_call m a t bs (Some x) e h = absurd (not_other m a t bs x (standing_passes (�
 abbrev IsNear : Memory → ℕ → ℕ → Type 0
 IsNear m a t = (byte_in m a ≡ Some 0xe8) × (displacement : ℕ) × (number_in m (a + 1) 4 ≡ Some displacement) × ((a + 5 + signed_32 displacement) % 2 ^ 64 ≡ t)
 
-near : (m : Memory) (a t : ℕ) (bs : List ℕ) → Holds m a bs → stands call_near.cells bs ≡ true → effect_of m a bs call_near ≡ Some (call_to t) → IsNear m a t
+near : (m : Memory) (a t : ℕ) (bs : List ℕ) → Holds m a bs → matches_cells call_near.cells bs ≡ true → effect_of m a bs call_near ≡ Some (call_to t) → IsNear m a t
 near m a t [] held s h = cc
 near m a t (x ∷ []) held s h = absurd (let f : false ≡ true = (and_parts (x == 0xe8) false s).1 in cc)
 near m a t (x ∷ b ∷ []) held s h = absurd (let f : false ≡ true = (and_parts (x == 0xe8) false s).1 in cc)

@@ -7,7 +7,7 @@ use Rattle.wild_loader.specs.declared.memory.Memory.{Memory}
 use Rattle.wild_loader.specs.declared.effect.Effect as running
 use Rattle.wild_loader.specs.declared.instruction.Cell.{Cell}
 use Rattle.wild_loader.specs.Memory.{Holds}
-use Rattle.wild_loader.specs.Instruction.{Template, fits, stands}
+use Rattle.wild_loader.specs.Instruction.{Template, fits, matches_cells}
 use Rattle.wild_loader.specs.InstructionX86_64.{templates_x86_64}
 use Rattle.wild_loader.specs.Effect.{window, first_match, operand_value, effect_of, step_x86_64}
 use Rattle.wild_loader.specs.StepLawsX86_64.{StepsAreLongest}
@@ -39,11 +39,11 @@ listed_passes test (x ∷ xs) t (suc k) all lt e = listed_passes test xs t k (an
 same_length : (x y : Template) → x ≡ y → length x.cells ≡ length y.cells
 same_length x y e = ap (λ (t : Template). length t.cells) e
 
-taken : (x u : Template) (xs : List Template) (bs : List ℕ) → stands x.cells bs ≡ true → first_match (x ∷ xs) bs ≡ Some u → x ≡ u
+taken : (x u : Template) (xs : List Template) (bs : List ℕ) → matches_cells x.cells bs ≡ true → first_match (x ∷ xs) bs ≡ Some u → x ≡ u
 unfolding first_match
 taken x u xs bs s h = (let e : Some x ≡ Some u = rw s at h in cc)
 
-passed : (x u : Template) (xs : List Template) (bs : List ℕ) → stands x.cells bs ≡ false → first_match (x ∷ xs) bs ≡ Some u → first_match xs bs ≡ Some u
+passed : (x u : Template) (xs : List Template) (bs : List ℕ) → matches_cells x.cells bs ≡ false → first_match (x ∷ xs) bs ≡ Some u → first_match xs bs ≡ Some u
 unfolding first_match
 passed x u xs bs s h = rw s at h
 
@@ -52,16 +52,16 @@ unfolding first_match
 none_stands bs u h = cc
 
 -- of those that stand the first is the longest
-longest : (ts : List Template) (bs : List ℕ) (t u : Template) (k : ℕ) → descends ts ≡ true → k < length ts → get_or ts k t ≡ t → stands t.cells bs ≡ true → first_match ts bs ≡ Some u → length t.cells ≤ length u.cells
+longest : (ts : List Template) (bs : List ℕ) (t u : Template) (k : ℕ) → descends ts ≡ true → k < length ts → get_or ts k t ≡ t → matches_cells t.cells bs ≡ true → first_match ts bs ≡ Some u → length t.cells ≤ length u.cells
 longest [] bs t u k d lt e s h = absurd (none_stands bs u h)
 longest (x ∷ xs) bs t u zero d lt e s h =
-    let here : stands x.cells bs ≡ true = subst (λ (y : Template). stands y.cells bs ≡ true) (sym e) s in
+    let here : matches_cells x.cells bs ≡ true = subst (λ (y : Template). matches_cells y.cells bs ≡ true) (sym e) s in
     let p = same_length x t e in
     let q = same_length x u (taken x u xs bs here h) in
     omega (arith, p, q)
 longest (x ∷ xs) bs t u (suc k) d lt e s h =
     let two = and_parts (list_all (is_within (length x.cells)) xs) (descends xs) d in
-    elim (cases_Bool (stands x.cells bs)) [
+    elim (cases_Bool (matches_cells x.cells bs)) [
       | inl y ↦
           (let p = leb-true (length t.cells) (length x.cells) (listed_passes (is_within (length x.cells)) xs t k two.0 (omega (arith, lt)) e) in
           let q = same_length x u (taken x u xs bs y h) in
@@ -71,23 +71,23 @@ longest (x ∷ xs) bs t u (suc k) d lt e s h =
 
 -- ---- in memory
 
-stands_more : (cs : List Cell) (bs more : List ℕ) → stands cs bs ≡ true → stands cs (bs ++ more) ≡ true
+stands_more : (cs : List Cell) (bs more : List ℕ) → matches_cells cs bs ≡ true → matches_cells cs (bs ++ more) ≡ true
 stands_more [] bs more s = refl
 stands_more (c ∷ cs) [] more s = cc
 stands_more (c ∷ cs) (b ∷ bs) more s =
-    let two = and_parts (fits c b) (stands cs bs) s in
-    and_from (fits c b) (stands cs (bs ++ more)) two.0 (stands_more cs bs more two.1)
+    let two = and_parts (fits c b) (matches_cells cs bs) s in
+    and_from (fits c b) (matches_cells cs (bs ++ more)) two.0 (stands_more cs bs more two.1)
 
 -- a template of at most 22 bytes that stands in bytes at an address stands in those that are loaded there
-stands_loaded : (m : Memory) (a : ℕ) (t : Template) (bs : List ℕ) → length t.cells ≤ 22 → Holds m a bs → stands t.cells bs ≡ true → stands t.cells (window m a 22) ≡ true
+stands_loaded : (m : Memory) (a : ℕ) (t : Template) (bs : List ℕ) → length t.cells ≤ 22 → Holds m a bs → matches_cells t.cells bs ≡ true → matches_cells t.cells (window m a 22) ≡ true
 stands_loaded m a t bs short held s =
     let own = take (length t.cells) bs in
     let long : length own ≡ length t.cells = take_long bs (length t.cells) (stands_long t.cells bs s) in
-    let stood : stands t.cells own ≡ true = stands-take t.cells bs (length t.cells) (omega arith) ∙ s in
+    let stood : matches_cells t.cells own ≡ true = stands-take t.cells bs (length t.cells) (omega arith) ∙ s in
     let loaded = window-held m a own 22 (omega (arith, long, short)) (held_front m a bs (length t.cells) held) in
-    subst (λ (xs : List ℕ). stands t.cells xs ≡ true) (sym loaded.1) (stands_more t.cells own loaded.0 stood)
+    subst (λ (xs : List ℕ). matches_cells t.cells xs ≡ true) (sym loaded.1) (stands_more t.cells own loaded.0 stood)
 
-by_found : (m : Memory) (a : ℕ) (e : running.Effect) (t : Template) (bs : List ℕ) (k : ℕ) (found : Option Template) → first_match templates_x86_64 bs ≡ found → option_and_then (effect_of m a bs) found ≡ Some e → k < length templates_x86_64 → get_or templates_x86_64 k t ≡ t → stands t.cells bs ≡ true → length t.cells ≤ e.length
+by_found : (m : Memory) (a : ℕ) (e : running.Effect) (t : Template) (bs : List ℕ) (k : ℕ) (found : Option Template) → first_match templates_x86_64 bs ≡ found → option_and_then (effect_of m a bs) found ≡ Some e → k < length templates_x86_64 → get_or templates_x86_64 k t ≡ t → matches_cells t.cells bs ≡ true → length t.cells ≤ e.length
 by_found m a e t bs k None f h lt listed s = cc
 by_found m a e t bs k (Some u) f h lt listed s =
     let own = take (length u.cells) bs in

@@ -14,7 +14,7 @@ use Rattle.wild_loader.specs.declared.instruction.Operand.{Operand}
 use Rattle.wild_loader.specs.declared.instruction.Operand.TheVariants.{Number, Word, Pair, Offset}
 use Rattle.wild_loader.specs.declared.instruction.Action.{Action}
 use Rattle.wild_loader.specs.declared.instruction.Deed.{Deed}
-use Rattle.wild_loader.specs.Instruction.{Template, Reader, fits, stands, template_fills, first_meaning, effect}
+use Rattle.wild_loader.specs.Instruction.{Template, Reader, fits, matches_cells, template_fills, first_meaning, effect}
 use Rattle.wild_loader.specs.ThreadCodeX86_64.{nop_byte}
 use Rattle.wild_loader.specs.InstructionX86_64.{templates_x86_64, meaning_x86_64}
 use Rattle.wild_loader.specs.Effect.{window, first_match, narrowed_value, operand_value, effect_in, effect_of, step_x86_64}
@@ -30,17 +30,17 @@ nop = nop_byte ∷ []
 -- ---- the first bytes
 
 -- cells speak of no more bytes than they are
-pub stands-take : (cs : List Cell) (bs : List ℕ) (n : ℕ) → length cs ≤ n → stands cs (take n bs) ≡ stands cs bs
+pub stands-take : (cs : List Cell) (bs : List ℕ) (n : ℕ) → length cs ≤ n → matches_cells cs (take n bs) ≡ matches_cells cs bs
 stands-take [] bs n short = refl
 stands-take (c ∷ cs) bs zero short = absurd (omega (arith, short))
 stands-take (c ∷ cs) [] (suc n) short = refl
 stands-take (c ∷ cs) (b ∷ bs) (suc n) short = ap (λ (r : Bool). fits c b && r) (stands-take cs bs n (omega (arith, short)))
 
 -- bytes that stand are as many
-pub stands_long : (cs : List Cell) (bs : List ℕ) → stands cs bs ≡ true → length cs ≤ length bs
+pub stands_long : (cs : List Cell) (bs : List ℕ) → matches_cells cs bs ≡ true → length cs ≤ length bs
 stands_long [] bs s = omega arith
 stands_long (c ∷ cs) [] s = cc
-stands_long (c ∷ cs) (b ∷ bs) s = (let rest = stands_long cs bs (and_parts (fits c b) (stands cs bs) s).1 in omega (arith, rest))
+stands_long (c ∷ cs) (b ∷ bs) s = (let rest = stands_long cs bs (and_parts (fits c b) (matches_cells cs bs) s).1 in omega (arith, rest))
 
 pub take_long : (bs : List ℕ) (n : ℕ) → n ≤ length bs → length (take n bs) ≡ n
 take_long bs zero short = refl
@@ -54,7 +54,7 @@ drop_take (b ∷ bs) (suc n) = drop_take bs n
 
 -- ---- the meaning of the first bytes
 
-pub first_passes : (u t : Template) (bs : List ℕ) → stands u.cells bs ≡ false → template_fills nop u (take (length t.cells) bs) ≡ false
+pub first_passes : (u t : Template) (bs : List ℕ) → matches_cells u.cells bs ≡ false → template_fills nop u (take (length t.cells) bs) ≡ false
 first_passes u t bs none =
     elim (cases_Bool (nat_le (length u.cells) (length (take (length t.cells) bs)))) [
       | inl y ↦ rw (y, stands-take u.cells bs (length t.cells) (short y), none) refl
@@ -69,11 +69,11 @@ first_passes u t bs none =
     short : nat_le (length u.cells) (length (take (length t.cells) bs)) ≡ true → length u.cells ≤ length t.cells
     short y = (let l = leb-true _ _ y in let k = taken bs (length t.cells) in omega (arith, l, k))
 
-whole_fills : (t : Template) (bs : List ℕ) → stands t.cells bs ≡ true → template_fills nop t (take (length t.cells) bs) ≡ true
+whole_fills : (t : Template) (bs : List ℕ) → matches_cells t.cells bs ≡ true → template_fills nop t (take (length t.cells) bs) ≡ true
 whole_fills t bs s =
     let n : length (take (length t.cells) bs) ≡ length t.cells = take_long bs (length t.cells) (stands_long t.cells bs s) in
     let fit : nat_le (length t.cells) (length (take (length t.cells) bs)) ≡ true = rw n (refl_le (length t.cells)) in
-    let own : stands t.cells (take (length t.cells) bs) ≡ true = stands-take t.cells bs (length t.cells) (omega arith) ∙ s in
+    let own : matches_cells t.cells (take (length t.cells) bs) ≡ true = stands-take t.cells bs (length t.cells) (omega arith) ∙ s in
     rw (fit, own, drop_take bs (length t.cells)) refl
   where
     refl_le : (n : ℕ) → nat_le n n ≡ true
@@ -83,7 +83,7 @@ pub meant : (ts : List Template) (bs : List ℕ) (t : Template) (a : ℕ) → fi
 unfolding first_match
 meant [] bs t a h = cc
 meant (u ∷ us) bs t a h =
-    elim (cases_Bool (stands u.cells bs)) [
+    elim (cases_Bool (matches_cells u.cells bs)) [
       | inl y ↦
           (let e : Some u ≡ Some t = rw y at h in
           let same : u ≡ t = cc in
@@ -92,12 +92,12 @@ meant (u ∷ us) bs t a h =
     ]
 
 -- it stands there
-pub first_stands : (ts : List Template) (bs : List ℕ) (t : Template) → first_match ts bs ≡ Some t → stands t.cells bs ≡ true
+pub first_stands : (ts : List Template) (bs : List ℕ) (t : Template) → first_match ts bs ≡ Some t → matches_cells t.cells bs ≡ true
 unfolding first_match
 first_stands [] bs t h = cc
 first_stands (u ∷ us) bs t h =
-    elim (cases_Bool (stands u.cells bs)) [
-      | inl y ↦ (let e : Some u ≡ Some t = rw y at h in let same : u ≡ t = cc in subst (λ (x : Template). stands x.cells bs ≡ true) same y)
+    elim (cases_Bool (matches_cells u.cells bs)) [
+      | inl y ↦ (let e : Some u ≡ Some t = rw y at h in let same : u ≡ t = cc in subst (λ (x : Template). matches_cells x.cells bs ≡ true) same y)
       | inr n ↦ first_stands us bs t (rw n at h)
     ]
 

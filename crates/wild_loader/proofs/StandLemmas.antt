@@ -4,7 +4,7 @@ use Rattle.std.specs.Prelude.{Option, Some, None, option_map}
 use Rattle.std.specs.Option.{option_or}
 use Rattle.std.specs.List.{list_all}
 use Rattle.std.proofs.lemmas.Bool.{cases_Bool, and_parts}
-use Rattle.wild_loader.specs.Instruction.{Template, stands}
+use Rattle.wild_loader.specs.Instruction.{Template, matches_cells}
 use Rattle.wild_loader.specs.Effect.{first_match}
 
 -- ---- of several lists
@@ -13,7 +13,7 @@ pub standing-append : (xs ys : List Template) (bs : List ℕ) → first_match (x
 unfolding first_match
 standing-append [] ys bs = refl
 standing-append (t ∷ ts) ys bs =
-    elim (cases_Bool (stands t.cells bs)) [
+    elim (cases_Bool (matches_cells t.cells bs)) [
       | inl y ↦ rw y refl
       | inr n ↦ rw n (standing-append ts ys bs)
     ]
@@ -46,7 +46,7 @@ unfolding first_match
 standing_passes test [] bs t all h = cc
 standing_passes test (u ∷ us) bs t all h =
     let two = and_parts (test u) (list_all test us) all in
-    elim (cases_Bool (stands u.cells bs)) [
+    elim (cases_Bool (matches_cells u.cells bs)) [
       | inl y ↦ (let e : Some u ≡ Some t = rw y at h in let same : u ≡ t = cc in subst (λ (x : Template). test x ≡ true) same two.0)
       | inr n ↦ standing_passes test us bs t two.1 (rw n at h)
     ]

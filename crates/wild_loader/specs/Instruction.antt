@@ -28,10 +28,10 @@ fits (Digit d) b = b / 8 == 24 + d
 fits Any b = true
 
 -- the bytes start with values that the cells allow
-abbrev pub stands : List Cell → List ℕ → Bool
-stands [] bs = true
-stands (c ∷ cs) [] = false
-stands (c ∷ cs) (b ∷ bs) = fits c b && stands cs bs
+abbrev pub matches_cells : List Cell → List ℕ → Bool
+matches_cells [] bs = true
+matches_cells (c ∷ cs) [] = false
+matches_cells (c ∷ cs) (b ∷ bs) = fits c b && matches_cells cs bs
 
 -- exactly these bytes
 abbrev pub exact_cells : List ℕ → List Cell
@@ -78,7 +78,7 @@ are_idle (n ∷ rest) [] (b ∷ bs) = b == n && are_idle (n ∷ rest) rest bs
 
 -- the template matches the start of the bytes, and only instructions that do nothing follow it
 abbrev pub template_fills : List ℕ → Template → List ℕ → Bool
-template_fills nop t bs = nat_le (length t.cells) (length bs) && (stands t.cells bs && are_idle nop [] (drop (length t.cells) bs))
+template_fills nop t bs = nat_le (length t.cells) (length bs) && (matches_cells t.cells bs && are_idle nop [] (drop (length t.cells) bs))
 
 -- the action of the first template that matches all of the bytes in this way
 abbrev pub first_meaning : List ℕ → List Template → ℕ → List ℕ → Option Action
@@ -92,7 +92,7 @@ or_else (Some act) other = Some act
 -- the same after up to n instructions that do nothing
 abbrev pub meaning_after_nops : ℕ → List ℕ → List Template → ℕ → List ℕ → Option Action
 meaning_after_nops zero nop ts a bs = first_meaning nop ts a bs
-meaning_after_nops (suc n) nop ts a bs = or_else (first_meaning nop ts a bs) (if stands (exact_cells nop) bs then meaning_after_nops n nop ts (a + length nop) (drop (length nop) bs) else None)
+meaning_after_nops (suc n) nop ts a bs = or_else (first_meaning nop ts a bs) (if matches_cells (exact_cells nop) bs then meaning_after_nops n nop ts (a + length nop) (drop (length nop) bs) else None)
 
 -- the action of these bytes of code at an address
 abbrev pub meaning : Idle → List Template → ℕ → List ℕ → Option Action

@@ -12,7 +12,7 @@ use Rattle.wild_loader.specs.declared.effect.Value.TheVariants as values
 use Rattle.wild_loader.specs.Memory.{byte_in, number_in, Holds}
 use Rattle.wild_loader.specs.declared.effect.Effect as running
 use Rattle.wild_loader.specs.declared.instruction.Deed.TheVariants.{Call, Jump}
-use Rattle.wild_loader.specs.Instruction.{Template, Reader, stands, signed_32}
+use Rattle.wild_loader.specs.Instruction.{Template, Reader, matches_cells, signed_32}
 use Rattle.wild_loader.specs.InstructionX86_64.{templates_x86_64, effect_x86_64}
 use Rattle.wild_loader.specs.Effect.{step, step_x86_64}
 use Rattle.wild_loader.specs.StepLaws.{ReadsMemory, effect_read_by}
@@ -84,4 +84,4 @@ StepsAreMeant = (m : Memory) (a : ℕ) (e : running.Effect) → step_x86_64 m a 
 
 -- no template that matches the bytes there is longer
 abbrev pub StepsAreLongest : Type 0
-StepsAreLongest = (m : Memory) (a : ℕ) (e : running.Effect) (t : Template) (bs : List ℕ) → step_x86_64 m a ≡ Some e → Contains templates_x86_64 t → Holds m a bs → stands t.cells bs ≡ true → length t.cells ≤ e.length
+StepsAreLongest = (m : Memory) (a : ℕ) (e : running.Effect) (t : Template) (bs : List ℕ) → step_x86_64 m a ≡ Some e → Contains templates_x86_64 t → Holds m a bs → matches_cells t.cells bs ≡ true → length t.cells ≤ e.length

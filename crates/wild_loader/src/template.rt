@@ -1,7 +1,7 @@
 //! Templates as data: the bytes of an instruction, and where they encode its operand.
 ghost use Rattle.std.specs.Prelude.{◌≡◌, ◌^◌, ◌<◌, slice_index, take};
 ghost use Rattle.wild_words.specs.Words.{number_at};
-ghost use Rattle.wild_loader.specs.Instruction.{fits, stands, signed_at};
+ghost use Rattle.wild_loader.specs.Instruction.{fits, matches_cells, signed_at};
 ghost use Rattle.wild_loader.specs.Rows.{template_of, deed_of, register_of, width_of, operand_at, high_reg_of, high_rm_of, prefix_length};
 
 use crate::instruction::{Action, Cell, Deed, Operand};
@@ -108,7 +108,7 @@ fn is_cell_match(cell: Cell, byte: u8) -> bool
 
 /// Whether the bytes start with values that the cells allow.
 fn is_match(cells: &[Cell], bytes: &[u8]) -> bool
-    ensures { result ≡ stands cells.now bytes.now }
+    ensures { result ≡ matches_cells cells.now bytes.now }
 {
     match cells.split_first() {
         None => true,
@@ -264,7 +264,7 @@ impl Template {
 
     /// Whether it matches the start of the bytes.
     pub fn is_match(&self, bytes: &[u8]) -> bool
-        ensures { result ≡ stands (template_of self.now).cells bytes.now }
+        ensures { result ≡ matches_cells (template_of self.now).cells bytes.now }
     {
         is_match(self.cells(), bytes)
     }

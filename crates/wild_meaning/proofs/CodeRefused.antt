@@ -11,7 +11,7 @@ use Rattle.wild_loader.specs.Memory.{Holds}
 use Rattle.wild_loader.specs.declared.instruction.Operand.TheVariants.{Number, Word}
 use Rattle.wild_loader.specs.declared.instruction.Deed.{Deed}
 use Rattle.wild_loader.specs.declared.instruction.Deed.TheVariants.{Set, Add, Subtract, Compare, Call, Jump}
-use Rattle.wild_loader.specs.Instruction.{Reader, stands, as_value, with_value}
+use Rattle.wild_loader.specs.Instruction.{Reader, matches_cells, as_value, with_value}
 use Rattle.wild_loader.specs.InstructionX86_64.{meaning_x86_64, effect_x86_64}
 use Rattle.wild_loader.specs.CodeX86_64.{rex, with_slot, branch}
 use Rattle.wild_meaning.specs.Item.{IsKept, OfSection}
@@ -84,7 +84,7 @@ call_refused read m numbers held d =
 no_call : (m : Memory) (read : Reader) → ReadsNumbers read → Holds m 0x41000 another_branch → Among (fills branch_reference.number) (IsNotDone read static_pie static_pie_world m branch_item branch_reference) (instructions_of machine.X86_64)
 no_call m read numbers held = (
   (λ start f s d. let at : start ≡ 0 = omega (arith, f) in call_refused read m numbers held (subst (λ (k : ℕ). DoesDemanded read static_pie static_pie_world m branch_item branch_reference k call) at d)),
-  ((λ start f s d. let at : start ≡ 0 = omega (arith, f) in let none : false ≡ true = subst (λ (k : ℕ). stands (branch (0xe9 ∷ []) Number Jump).cells (slice_range branch_item.bytes k (k + 5)) ≡ true) at s in absurd (cc)), tt),
+  ((λ start f s d. let at : start ≡ 0 = omega (arith, f) in let none : false ≡ true = subst (λ (k : ℕ). matches_cells (branch (0xe9 ∷ []) Number Jump).cells (slice_range branch_item.bytes k (k + 5)) ≡ true) at s in absurd (cc)), tt),
 )
 
 pub wrong_branch : Refuses static_pie static_pie_world (MemoryHas 0x41000 another_branch)
@@ -138,9 +138,9 @@ load_refused read m numbers held d =
     omega (arith, same, goal)
 
 -- another opcode does not stand there
-no_opcode : (start : ℕ) (o : Instruction) → start ≡ 0 → stands o.template.cells (slice_range load_item.bytes 0 (0 + size_of o)) ≡ false → stands o.template.cells (slice_range load_item.bytes start (start + size_of o)) ≡ true → ⊥
+no_opcode : (start : ℕ) (o : Instruction) → start ≡ 0 → matches_cells o.template.cells (slice_range load_item.bytes 0 (0 + size_of o)) ≡ false → matches_cells o.template.cells (slice_range load_item.bytes start (start + size_of o)) ≡ true → ⊥
 no_opcode start o at never s =
-    let there : stands o.template.cells (slice_range load_item.bytes 0 (0 + size_of o)) ≡ true = subst (λ (k : ℕ). stands o.template.cells (slice_range load_item.bytes k (k + size_of o)) ≡ true) at s in
+    let there : matches_cells o.template.cells (slice_range load_item.bytes 0 (0 + size_of o)) ≡ true = subst (λ (k : ℕ). matches_cells o.template.cells (slice_range load_item.bytes k (k + size_of o)) ≡ true) at s in
     let none : false ≡ true = sym never ∙ there in
     cc
 

@@ -17,7 +17,7 @@ use Rattle.wild_loader.specs.Memory.{Holds}
 use Rattle.wild_loader.proofs.HeldBytes.{held-first, held-rest}
 use Rattle.wild_loader.specs.declared.instruction.Operand.TheVariants.{Number}
 use Rattle.wild_loader.specs.declared.instruction.Deed.{Deed}
-use Rattle.wild_loader.specs.Instruction.{Reader, Effect, stands}
+use Rattle.wild_loader.specs.Instruction.{Reader, Effect, matches_cells}
 use Rattle.wild_types.specs.Item.{Item}
 use Rattle.wild_meaning.specs.Field.{form_width, formula_of, InNoField}
 use Rattle.wild_meaning.specs.Sequence.{Instruction, Partner, size_of, instructions_of}
@@ -85,7 +85,7 @@ value_in d width n e h = let one : effect_with d width n ≡ e = cc in ap (λ (x
 
 -- the instruction does not do what is demanded, where it stands in the item's bytes
 abbrev pub IsNotDone : Reader → Layout → World → Memory → Item → InputRelocation → Instruction → Type 0
-IsNotDone read l w m item r o = (start : ℕ) → r.offset ≡ start + o.field → stands o.template.cells (slice_range item.bytes start (start + size_of o)) ≡ true → DoesDemanded read l w m item r start o → ⊥
+IsNotDone read l w m item r o = (start : ℕ) → r.offset ≡ start + o.field → matches_cells o.template.cells (slice_range item.bytes start (start + size_of o)) ≡ true → DoesDemanded read l w m item r start o → ⊥
 
 not_next : (item : Item) (r : InputRelocation) (second : InputRelocation) (i : ℕ) → item.relocations ≡ r ∷ [] → slice_get item.relocations (i + 1) ≡ Some second → ⊥
 not_next item r second i e h =

@@ -10,7 +10,7 @@ use Rattle.wild_types.specs.declared.input.InputRelocation.{InputRelocation}
 use Rattle.wild_types.specs.Flags.{has_flag, ifunc}
 use Rattle.wild_loader.specs.declared.memory.Memory.{Memory}
 use Rattle.wild_loader.specs.Memory.{Holds}
-use Rattle.wild_loader.specs.Instruction.{Reader, stands}
+use Rattle.wild_loader.specs.Instruction.{Reader, matches_cells}
 use Rattle.wild_loader.specs.InstructionX86_64.{meaning_x86_64, effect_x86_64}
 use Rattle.wild_loader.specs.ThreadCodeX86_64.{general_call, general_slot_call, far_pair_call}
 use Rattle.wild_meaning.specs.Value.{HasFlag}
@@ -109,12 +109,12 @@ IsNone o = ⊥
 
 -- a sequence of that relocation does not do what is demanded, where it stands in the item's bytes
 abbrev IsNotDone : Reader → Memory → Instruction → Type 0
-IsNotDone read m o = (start : ℕ) → 4 ≡ start + o.field → stands o.template.cells (slice_range general_item.bytes start (start + size_of o)) ≡ true → DoesDemanded read static_pie static_pie_world m general_item pair_reference start o → ⊥
+IsNotDone read m o = (start : ℕ) → 4 ≡ start + o.field → matches_cells o.template.cells (slice_range general_item.bytes start (start + size_of o)) ≡ true → DoesDemanded read static_pie static_pie_world m general_item pair_reference start o → ⊥
 
 -- other code does not stand there
-not_there : (start at : ℕ) (o : Instruction) → start ≡ at → stands o.template.cells (slice_range general_item.bytes at (at + size_of o)) ≡ false → stands o.template.cells (slice_range general_item.bytes start (start + size_of o)) ≡ true → ⊥
+not_there : (start at : ℕ) (o : Instruction) → start ≡ at → matches_cells o.template.cells (slice_range general_item.bytes at (at + size_of o)) ≡ false → matches_cells o.template.cells (slice_range general_item.bytes start (start + size_of o)) ≡ true → ⊥
 not_there start at o e never s =
-    let there : stands o.template.cells (slice_range general_item.bytes at (at + size_of o)) ≡ true = subst (λ (k : ℕ). stands o.template.cells (slice_range general_item.bytes k (k + size_of o)) ≡ true) e s in
+    let there : matches_cells o.template.cells (slice_range general_item.bytes at (at + size_of o)) ≡ true = subst (λ (k : ℕ). matches_cells o.template.cells (slice_range general_item.bytes k (k + size_of o)) ≡ true) e s in
     let none : false ≡ true = sym never ∙ there in
     cc
 

@@ -3,7 +3,7 @@ use Rattle.std.proofs.Common.{◌≡◌, ℕ, Bool, true, false, [], ◌∷◌, 
 use Rattle.std.specs.Prelude.{◌==◌, ◌&&◌, ◌||◌, map}
 use Rattle.std.specs.List.{list_all}
 use Rattle.std.proofs.lemmas.Bool.{and_parts}
-use Rattle.wild_aarch64.specs.Slice.{bits, stands}
+use Rattle.wild_aarch64.specs.Slice.{bits, has_fixed_bits}
 use Rattle.wild_aarch64.specs.Forms.{add, add_shifted, movn, adrp}
 use Rattle.wild_aarch64.specs.FilledForms.{forms_filled}
 use Rattle.wild_aarch64.specs.Code.{read}
@@ -26,7 +26,7 @@ negated_unknown = λ n w s.
     and_false (list_all (is_of (forms_filled n)) (w ∷ [])) (has_known_meaning (run (shapes (w ∷ [])) 0 [])) none
 
 -- the two have bits that differ
-not_plain : (u : ℕ) → stands add_shifted.fixed u ≡ true → stands add.fixed u ≡ false
+not_plain : (u : ℕ) → has_fixed_bits add_shifted.fixed u ≡ true → has_fixed_bits add.fixed u ≡ false
 not_plain u s =
     let p = and_parts (bits 26 3 u == 4) (bits 24 5 u == 17 && (bits 22 10 u == 0x245 && true)) s in
     let q = and_parts (bits 24 5 u == 17) (bits 22 10 u == 0x245 && true) p.1 in
@@ -36,8 +36,8 @@ not_plain u s =
     rw (p.0, q.0, other) refl
 
 pub shifted_unknown : ShiftedAddsAreUnknown
-shifted_unknown w u s = by (stands adrp.fixed w) (not_plain u s)
+shifted_unknown w u s = by (has_fixed_bits adrp.fixed w) (not_plain u s)
   where
-    by : (a : Bool) → stands add.fixed u ≡ false → (((a || false) && ((stands add.fixed u || false) && true)) && (begins (codes_of kinds.AddressPair (register_in (w ∷ u ∷ []))) (map read (w ∷ u ∷ [])) && has_known_meaning (run (shapes (w ∷ u ∷ [])) 0 []))) ≡ false
+    by : (a : Bool) → has_fixed_bits add.fixed u ≡ false → (((a || false) && ((has_fixed_bits add.fixed u || false) && true)) && (begins (codes_of kinds.AddressPair (register_in (w ∷ u ∷ []))) (map read (w ∷ u ∷ [])) && has_known_meaning (run (shapes (w ∷ u ∷ [])) 0 []))) ≡ false
     by true plain = rw plain refl
     by false plain = refl

@@ -23,7 +23,7 @@ use Rattle.wild_loader.specs.Changes.{distance_of, first_value}
 use Rattle.wild_loader.specs.Memory.{number_in, Holds}
 use Rattle.wild_loader.specs.declared.instruction.Operand.TheVariants.{Number, Word, Pair, Offset}
 use Rattle.wild_loader.specs.declared.instruction.Deed.TheVariants.{Nothing}
-use Rattle.wild_loader.specs.Instruction.{Reader, Effect, stands}
+use Rattle.wild_loader.specs.Instruction.{Reader, Effect, matches_cells}
 use Rattle.wild_loader.specs.InstructionX86_64.{effect_x86_64, demand_x86_64}
 use Rattle.wild_loader.specs.InstructionAArch64.{effect_aarch64, demand_aarch64}
 use Rattle.wild_aarch64.specs.Effect.{words_of}
@@ -64,7 +64,7 @@ pub record IsInstruction (l : Layout) (item : Item) (r : InputRelocation) (start
   pub number : Contains o.numbers r.number
   pub field : r.offset ≡ start + o.field
   pub inside : start + size_of o ≤ length item.bytes
-  pub stands : stands o.template.cells (slice_range item.bytes start (start + size_of o)) ≡ true
+  pub stands : matches_cells o.template.cells (slice_range item.bytes start (start + size_of o)) ≡ true
   pub words : o.words (words_of (slice_range item.bytes start (start + size_of o))) ≡ true
   pub counts : HasOriginAddend l.machine o.sort r
   pub alone : (k : ℕ) → IsOwnByte o k → InNoField l item (start + k)

@@ -10,7 +10,7 @@ use Rattle.wild_records.specs.Abi.Relocation.{r_aarch64_jump26, r_aarch64_call26
 use Rattle.wild_aarch64.specs.declared.template.Template.{Template}
 use Rattle.wild_aarch64.specs.declared.operand.Action as run-action
 use Rattle.wild_aarch64.specs.Immediate.{word_with_immediate}
-use Rattle.wild_aarch64.specs.Slice.{Form, stands}
+use Rattle.wild_aarch64.specs.Slice.{Form, has_fixed_bits}
 use Rattle.wild_aarch64.specs.Forms.{forms}
 use Rattle.wild_aarch64.specs.FilledForms.{filled_forms, forms_filled}
 use Rattle.wild_aarch64.specs.Code.{read}
@@ -24,7 +24,7 @@ use Rattle.wild_loader.specs.InstructionAArch64.{action_of}
 -- the word is of one of the forms
 abbrev pub is_of : List Form → ℕ → Bool
 is_of [] w = false
-is_of (f ∷ fs) w = stands f.fixed w || is_of fs w
+is_of (f ∷ fs) w = has_fixed_bits f.fixed w || is_of fs w
 
 abbrev pub has_known_meaning : Option run-action.Action → Bool
 has_known_meaning None = false
@@ -59,7 +59,7 @@ filled_numbers = filter (λ n. not (n == r_aarch64_jump26 || n == r_aarch64_call
 -- the word with those bits in its field
 abbrev pub with_field_of : List Form → ℕ → ℕ → ℕ
 with_field_of [] v w = w
-with_field_of (f ∷ fs) v w = if stands f.fixed w then word_with_immediate f.field v w else with_field_of fs v w
+with_field_of (f ∷ fs) v w = if has_fixed_bits f.fixed w then word_with_immediate f.field v w else with_field_of fs v w
 
 abbrev pub with_field : ℕ → ℕ → ℕ
 with_field v w = with_field_of forms v w

@@ -13,7 +13,7 @@ use Rattle.wild_types.specs.declared.fault.Fault.{Fault}
 use Rattle.wild_needs.specs.DynamicSymbols.{output_section, section_of_input}
 use Rattle.wild_placement.specs.FrameInputs.{kept_size}
 use Rattle.wild_placement.specs.ReversedWords.{reversed_section, with_word_order}
-use Rattle.wild_placement.specs.PlacedSections.{without_relocations, unread, placed_files, placed_file, placed_section, placed_sections, placed_by, behind}
+use Rattle.wild_placement.specs.PlacedSections.{without_relocations, unread, placed_files, placed_file, placed_section, placed_sections, placed_by, address_after}
 use Rattle.wild_geometry.proofs.PlacedInputs.{laid_same}
 use Rattle.std.proofs.Common.{◌≡◌, ℕ, ◌*◌, inl, inr, Bool, true, false, if◌then◌else◌, List, [], ◌∷◌, length, map, filter, find, flat_map, option_map, Some, slice_get, refl, sym, ap, ◌∙◌, arith, subst, ◌++◌, zero, suc}
 use Rattle.std.specs.List.{list_any}
@@ -123,7 +123,7 @@ part_laid l f at s = by_slot s.slot
 section_laid : (l : Layout) (f : File) (at : ℕ) (ss : List InputSection) (k : ℕ) → section_of_input l (slice_get (placed_sections l f at ss) k) ≡ section_of_input l (slice_get ss k)
 section_laid l f at [] k = refl
 section_laid l f at (s ∷ ss) zero = ap (section_of l) (part_laid l f at s)
-section_laid l f at (s ∷ ss) (suc k) = section_laid l f (behind at (kept_size l f s)) ss k
+section_laid l f at (s ∷ ss) (suc k) = section_laid l f (address_after at (kept_size l f s)) ss k
 
 output_laid : (l : Layout) (at : ℕ) (f : File) (p : Place) → output_section l (Some (placed_file l at f)) p ≡ output_section l (Some f) p
 output_laid l at f (places.Section k) = section_laid l f at f.sections k

@@ -21,7 +21,7 @@ use Rattle.wild_types.specs.SymbolSlots.{lacks_slots}
 use Rattle.wild_types.proofs.ListLemmas.{total-append}
 use Rattle.wild_slot.specs.Treatment.{flags_at}
 use Rattle.wild_placement.specs.FrameInputs.{kept_size}
-use Rattle.wild_placement.specs.PlacedSections.{behind, placed_section, placed_sections, placed_file, of_last_file, sorted_sections}
+use Rattle.wild_placement.specs.PlacedSections.{address_after, placed_section, placed_sections, placed_file, of_last_file, sorted_sections}
 use Rattle.wild_needs.specs.declared.tally.SectionFacts.{SectionFacts}
 use Rattle.wild_needs.specs.Entries.{dynamic_relocations, general_count}
 use Rattle.wild_needs.specs.Needs.{frames_room, has_plain_role, is_plain, lacks_slots_and_import, has_no_dynamic_tables, is_read_only_input, file_needs_no_tables, group_needs_no_tables, inner_groups, inner_groups_need_no_tables, group_share, total_share}
@@ -90,7 +90,7 @@ fixed_none l f at (s ∷ ss) h own =
     let q = and_parts (not (is_frame s.slot)) (not (writable s.flags)) p.0 in
     let flags : (placed_section l f at s).flags ≡ s.flags = ap (λ (x : SectionFacts). x.flags) (other_standing l f at s (no (is_frame s.slot) q.0)) in
     let a = left_none l (placed_section l f at s) (ap writable flags ∙ no (writable s.flags) q.1) own in
-    let b = fixed_none l f (behind at (kept_size l f s)) ss p.1 own in
+    let b = fixed_none l f (address_after at (kept_size l f s)) ss p.1 own in
     omega (arith, a, b)
 
 none_kept : (l : Layout) (f : File) (s : InputSection) → is_frame s.slot ≡ false → kept_size l f s ≡ 0

@@ -14,7 +14,7 @@ use Rattle.wild_types.specs.Lookups.{is_frame}
 use Rattle.wild_frames.specs.Frames.{frame_bytes}
 use Rattle.wild_placement.specs.ReversedWords.{with_word_order}
 use Rattle.wild_placement.specs.FrameInputs.{frames_of, kept_size}
-use Rattle.wild_placement.specs.PlacedSections.{placed_by, unread, behind, placed_section, placed_sections}
+use Rattle.wild_placement.specs.PlacedSections.{placed_by, unread, address_after, placed_section, placed_sections}
 use Rattle.wild_needs.specs.Needs.{frame_room}
 
 -- a section in another slot is none of frames
@@ -48,5 +48,5 @@ pub frames_kept : (l : Layout) (f : File) (at : ℕ) (ss : List InputSection) �
 frames_kept l f at [] = refl
 frames_kept l f at (s ∷ ss) =
     let here = section_room l f at s in
-    let rest = frames_kept l f (behind at (kept_size l f s)) ss in
+    let rest = frames_kept l f (address_after at (kept_size l f s)) ss in
     omega (arith, here, rest)

@@ -19,7 +19,7 @@ use Rattle.wild_types.specs.Kinds.{is_position_independent, needs_dynamic}
 use Rattle.wild_types.specs.Lists.{total}
 use Rattle.wild_types.specs.Lookups.{has_symtab}
 use Rattle.wild_needs.specs.TableSymbols.{has_long, file_items, local_count, global_count, table_strings}
-use Rattle.wild_placement.specs.PlacedSections.{behind, file_frames, frames_at, placed_file, placed_from, placed_files, processed_sections, sorted_sections}
+use Rattle.wild_placement.specs.PlacedSections.{address_after, file_frames, frames_at, placed_file, placed_from, placed_files, processed_sections, sorted_sections}
 use Rattle.wild_needs.specs.Needs.{bytes_if_last, build_id_room, properties_room, frames_room, bytes_per_image, long_room, file_table_bytes, is_static, share, last_share, group_share, has_plain_role, is_plain, has_last, total_share}
 use Rattle.wild_types.specs.FileRoles.{is_prelude, is_epilogue}
 use Rattle.wild_types.specs.SymbolSlots.{lacks_slots}
@@ -263,9 +263,9 @@ total_plain l r (f ∷ files) h =
 places_plain : (l : Layout) (at : ℕ) (files : List File) → list_all (is_plain l) (placed_from l at files) ≡ true → flat_map (λ (f : File). flat_map (relr_got_places l) (own_symbols l f)) files ≡ []
 places_plain l at [] h = refl
 places_plain l at (f ∷ files) h =
-    let p = and_parts (is_plain l (placed_file l at f)) (list_all (is_plain l) (placed_from l (behind at (file_frames l f)) files)) h in
+    let p = and_parts (is_plain l (placed_file l at f)) (list_all (is_plain l) (placed_from l (address_after at (file_frames l f)) files)) h in
     let t = tests_of l (placed_file l at f) p.0 in
-    rw (places_without l (own_symbols l f) t.without) (places_plain l (behind at (file_frames l f)) files p.1)
+    rw (places_without l (own_symbols l f) t.without) (places_plain l (address_after at (file_frames l f)) files p.1)
 
 block_plain : (l : Layout) (r : Role) (g : Group) → list_all (is_plain l) (placed_files l g) ≡ true → relr_got_share l r g ≡ 0
 unfolding group_relr_got block placed_files
@@ -276,9 +276,9 @@ block_plain l other g h = refl
 none_last : (l : Layout) (at : ℕ) (files : List File) → list_all (is_plain l) (placed_from l at files) ≡ true → list_any (λ (f : File). is_epilogue f.role) files ≡ false
 none_last l at [] h = refl
 none_last l at (f ∷ files) h =
-    let p = and_parts (is_plain l (placed_file l at f)) (list_all (is_plain l) (placed_from l (behind at (file_frames l f)) files)) h in
+    let p = and_parts (is_plain l (placed_file l at f)) (list_all (is_plain l) (placed_from l (address_after at (file_frames l f)) files)) h in
     let t = tests_of l (placed_file l at f) p.0 in
-    let rest = none_last l (behind at (file_frames l f)) files p.1 in
+    let rest = none_last l (address_after at (file_frames l f)) files p.1 in
     rw (t.last, rest) refl
 
 last_plain : (l : Layout) (r : Role) (g : Group) → list_all (is_plain l) (placed_files l g) ≡ true → last_share l r g ≡ 0

@@ -14,11 +14,11 @@ use Rattle.wild_types.specs.declared.file.Group.{Group}
 use Rattle.wild_types.specs.FileSymbols.{own_symbols}
 use Rattle.wild_types.specs.SymbolSlots.{lacks_slots}
 use Rattle.wild_types.proofs.ListLemmas.{total-append}
-use Rattle.wild_placement.specs.PlacedSections.{behind, placed_sections, placed_file, placed_from, placed_files, file_frames, frames_at, of_last_file, sorted_sections, processed_sections}
+use Rattle.wild_placement.specs.PlacedSections.{address_after, placed_sections, placed_file, placed_from, placed_files, file_frames, frames_at, of_last_file, sorted_sections, processed_sections}
 use Rattle.wild_records.specs.Relocations.{rela_size, relr_size}
 use Rattle.wild_types.specs.FileSymbols.{copies_of}
 use Rattle.wild_needs.specs.declared.tally.Counted.{Counted}
-use Rattle.wild_needs.specs.declared.tally.Counted.TheVariants.{Listed, Packed, Left}
+use Rattle.wild_needs.specs.declared.tally.Counted.TheVariants.{Listed, Packed, Dynamic}
 use Rattle.wild_needs.specs.Tallies as tallies
 use Rattle.wild_needs.specs.Tallies.{counted_in}
 use Rattle.wild_needs.specs.Entries.{general_count}
@@ -68,7 +68,7 @@ counts_stand k l a b f h =
 
 general_stands : (l : Layout) (a b : ℕ) (f : File) → general_count l (placed_file l a f) ≡ general_count l (placed_file l b f)
 unfolding general_count
-general_stands l a b f = ap (λ (n : ℕ). length (copies_of f) + n) (counts_stand Left l a b f refl)
+general_stands l a b f = ap (λ (n : ℕ). length (copies_of f) + n) (counts_stand Dynamic l a b f refl)
 
 room_stands : (l : Layout) (a b : ℕ) (f : File) → frames_room l (placed_file l a f) ≡ frames_room l (placed_file l b f)
 room_stands l a b f = let here = frames_kept l f a f.sections in let there = frames_kept l f b f.sections in omega (arith, here, there)
@@ -105,28 +105,28 @@ files_stand : (l : Layout) (r : Role) (a b : ℕ) (fs : List File) → reads_pla
 files_stand l r a b [] h = refl
 files_stand l r a b (f ∷ fs) h =
     let here = share_stands l r a b f h in
-    let rest = files_stand l r (behind a (file_frames l f)) (behind b (file_frames l f)) fs h in
+    let rest = files_stand l r (address_after a (file_frames l f)) (address_after b (file_frames l f)) fs h in
     omega (arith, here, rest)
 
 -- ---- the files of a group
 
-from_drop : (l : Layout) (at : ℕ) (fs : List File) (i : ℕ) (f : File) → i < length fs → f ≡ get_or fs i f → placed_from l at (drop i fs) ≡ placed_file l at f ∷ placed_from l (behind at (file_frames l f)) (drop (i + 1) fs)
+from_drop : (l : Layout) (at : ℕ) (fs : List File) (i : ℕ) (f : File) → i < length fs → f ≡ get_or fs i f → placed_from l at (drop i fs) ≡ placed_file l at f ∷ placed_from l (address_after at (file_frames l f)) (drop (i + 1) fs)
 from_drop l at fs i f low read = ap (placed_from l at) (drop_more fs i f low ∙ ap (λ (x : File). x ∷ drop (i + 1) fs) (sym read))
 
 -- behind a file the others' shares are the same, where the role asks where frames begin, or it does not
-rest_stands : (l : Layout) (r : Role) (at there : ℕ) (n : ℕ) (fs : List File) → (reads_places l r ≡ true → there ≡ behind at n) → total (share l r) (placed_from l there fs) ≡ total (share l r) (placed_from l (behind at n) fs)
+rest_stands : (l : Layout) (r : Role) (at there : ℕ) (n : ℕ) (fs : List File) → (reads_places l r ≡ true → there ≡ address_after at n) → total (share l r) (placed_from l there fs) ≡ total (share l r) (placed_from l (address_after at n) fs)
 rest_stands l r at there n fs h =
     elim (cases_Bool (reads_places l r)) [
       | inl t ↦ ap (λ (a : ℕ). total (share l r) (placed_from l a fs)) (h t)
-      | inr f ↦ files_stand l r there (behind at n) fs f
+      | inr f ↦ files_stand l r there (address_after at n) fs f
     ]
 
 -- a file more
 pub file_next : (l : Layout) (r : Role) (at : ℕ) (fs : List File) (i : ℕ) (f : File) (sum n next there all : ℕ) → i < length fs → f ≡ get_or fs i f
-    → n ≡ min (2 ^ 64 - 1) (share l r (placed_file l at f)) → next ≡ min (sum + n) (2 ^ 64 - 1) → (reads_places l r ≡ true → there ≡ behind at (file_frames l f)) → min (2 ^ 64 - 1) (sum + total (share l r) (placed_from l at (drop i fs))) ≡ all
+    → n ≡ min (2 ^ 64 - 1) (share l r (placed_file l at f)) → next ≡ min (sum + n) (2 ^ 64 - 1) → (reads_places l r ≡ true → there ≡ address_after at (file_frames l f)) → min (2 ^ 64 - 1) (sum + total (share l r) (placed_from l at (drop i fs))) ≡ all
     → min (2 ^ 64 - 1) (next + total (share l r) (placed_from l there (drop (i + 1) fs))) ≡ all
 file_next l r at fs i f sum n next there all low read is added at_next h =
-    let e : total (share l r) (placed_from l at (drop i fs)) ≡ share l r (placed_file l at f) + total (share l r) (placed_from l (behind at (file_frames l f)) (drop (i + 1) fs)) = ap (total (share l r)) (from_drop l at fs i f low read) in
+    let e : total (share l r) (placed_from l at (drop i fs)) ≡ share l r (placed_file l at f) + total (share l r) (placed_from l (address_after at (file_frames l f)) (drop (i + 1) fs)) = ap (total (share l r)) (from_drop l at fs i f low read) in
     let rest = rest_stands l r at there (file_frames l f) (drop (i + 1) fs) at_next in
     omega (arith, added, is, h, e, rest)
 
@@ -148,7 +148,7 @@ files_plain : (l : Layout) (at : ℕ) (fs : List File) → list_all (λ (f : Fil
 files_plain l at [] = refl
 files_plain l at (f ∷ fs) =
     ap (λ (b : Bool). b && list_all (λ (f : File). is_plain l (placed_file l 0 f)) fs) (plain_stands l 0 at f)
-    ∙ ap (λ (b : Bool). is_plain l (placed_file l at f) && b) (files_plain l (behind at (file_frames l f)) fs)
+    ∙ ap (λ (b : Bool). is_plain l (placed_file l at f) && b) (files_plain l (address_after at (file_frames l f)) fs)
 
 -- a group's files, told with frames from 0 on
 pub group_is_plain : (l : Layout) (g : Group) → list_all (λ (f : File). is_plain l (placed_file l 0 f)) g.files ≡ list_all (is_plain l) (placed_files l g)

@@ -7,7 +7,7 @@ use Rattle.wild_types.specs.declared.symbol.Symbol.{Symbol}
 use Rattle.wild_types.specs.Lists.{total}
 use Rattle.wild_needs.specs.declared.table.SymtabName.{SymtabName}
 use Rattle.wild_needs.specs.declared.table.TablePart.{TablePart}
-use Rattle.wild_needs.specs.declared.table.TablePart.TheVariants.{Side, Strings}
+use Rattle.wild_needs.specs.declared.table.TablePart.TheVariants.{Entries, Strings}
 use Rattle.wild_needs.specs.declared.table.Count.{Count}
 use Rattle.wild_needs.specs.DynamicStrings.{text_room}
 use Rattle.wild_needs.specs.TableSymbols.{TableSymbol, item_name, is_on_side, side, prefix, suffix, full_name}
@@ -37,7 +37,7 @@ counted {a = a} {b = c} (more {b = b} {x = x} {xs = xs} h t) low =
 pub ruleset counts = (count_one, counted)
 
 -- a side's entries
-pub sides_taken : (local : Bool) (xs : List TableSymbol) → total (taken (Side local)) xs ≡ length (side local xs)
+pub sides_taken : (local : Bool) (xs : List TableSymbol) → total (taken (Entries local)) xs ≡ length (side local xs)
 sides_taken local [] = refl
 sides_taken local (x ∷ xs) =
     let rest = sides_taken local xs in

@@ -22,10 +22,10 @@ use Rattle.wild_types.proofs.ListLemmas.{total-append}
 use Rattle.wild_slot.specs.Treatment.{treatment}
 use Rattle.wild_words.specs.Runs.{SinkRun, none, more}
 use Rattle.wild_placement.specs.ReversedWords.{with_word_order}
-use Rattle.wild_placement.specs.PlacedSections.{Input, sorted_input, as_loaded, unread, rela_with_target, placed_by, placed_frames, frame_flags, behind, placed_section, placed_sections}
+use Rattle.wild_placement.specs.PlacedSections.{Input, sorted_input, as_loaded, unread, rela_with_target, placed_by, placed_frames, frame_flags, address_after, placed_section, placed_sections}
 use Rattle.wild_placement.specs.FrameInputs.{kept_size}
 use Rattle.wild_needs.specs.declared.tally.Counted.{Counted}
-use Rattle.wild_needs.specs.declared.tally.Counted.TheVariants.{Listed, Packed, Left}
+use Rattle.wild_needs.specs.declared.tally.Counted.TheVariants.{Listed, Packed, Dynamic}
 use Rattle.wild_needs.specs.declared.tally.SectionFacts.{SectionFacts}
 use Rattle.wild_needs.specs.declared.tally.Tally.{Tally}
 use Rattle.wild_needs.specs.Entries.{is_relative_by, listed_at, relr_place_at, rela_places, relr_places, words_of, has_dynamic_entry, dynamic_relocations}
@@ -102,7 +102,7 @@ kept true x xs n h = omega (arith, h)
 kept false x xs n h = omega (arith, h)
 
 pub left_step : (l : Layout) (at : SectionFacts) (run : Run) (r : InputRelocation) (rs : List InputRelocation) (n : ℕ) → n ≡ (if has_dynamic_entry (treatment l at.flags r) then 1 else 0)
-    → n + rest_of Left l at run rs ≡ rest_of Left l at run (r ∷ rs)
+    → n + rest_of Dynamic l at run rs ≡ rest_of Dynamic l at run (r ∷ rs)
 left_step l at run r rs n h = kept (has_dynamic_entry (treatment l at.flags r)) r (filter (λ r. has_dynamic_entry (treatment l at.flags r)) rs) n h
 
 pub ruleset steps = (listed_step, left_step)
@@ -111,7 +111,7 @@ pub ruleset steps = (listed_step, left_step)
 rest_none : (k : Counted) (l : Layout) (at : SectionFacts) (run : Run) → rest_of k l at run [] ≡ 0
 rest_none Listed l at run = refl
 rest_none Packed l at run = counted_none run
-rest_none Left l at run = refl
+rest_none Dynamic l at run = refl
 
 -- one relocation counted is a run
 pub tally_one : {refuses : Tally → InputRelocation → Infallible → Tally → Type 0} (a b : Tally) (r : InputRelocation) → ((rs : List InputRelocation) → tallied b rs ≡ tallied a (r ∷ rs)) → b.count < 2 ^ 64 → SinkRun Tallies refuses a (r ∷ []) (Ok tt) b
@@ -131,14 +131,14 @@ asked : (k : Counted) (l : Layout) (s : InputSection) → ((ps : List ℕ) → l
 unfolding rela_places relr_places dynamic_relocations
 asked Listed l s runs h = rw h refl
 asked Packed l s runs h = rw h (sym (runs (flat_map (λ r. option_to_list (relr_place_at l s.flags s.address r)) s.relocations)))
-asked Left l s runs h = let p = and_parts (is_read s) (allocated s.flags) h in rw p.0 refl
+asked Dynamic l s runs h = let p = and_parts (is_read s) (allocated s.flags) h in rw p.0 refl
 
 -- else it has none
 pub unasked : (k : Counted) (l : Layout) (s : InputSection) → may_have_items k l (section_facts s) ≡ false → counted_in k l s ≡ 0
 unfolding rela_places relr_places dynamic_relocations
 unasked Listed l s h = rw h refl
 unasked Packed l s h = rw h (ap length packed_none)
-unasked Left l s h = by_test (is_read s) h
+unasked Dynamic l s h = by_test (is_read s) h
   where
     by_test : (b : Bool) → (b && allocated s.flags) ≡ false → length (if b then filter (λ r. has_dynamic_entry (treatment l s.flags r)) s.relocations else []) ≡ 0
     by_test false h = refl
@@ -175,7 +175,7 @@ pub ruleset tallies = (tally_one, tally_section, unasked_section)
 -- ---- the sections of a file
 
 laid_drop : (l : Layout) (f : File) (at : ℕ) (ss : List InputSection) (i : ℕ) (s : InputSection) → i < length ss → s ≡ get_or ss i s
-    → placed_sections l f at (drop i ss) ≡ placed_section l f at s ∷ placed_sections l f (behind at (kept_size l f s)) (drop (i + 1) ss)
+    → placed_sections l f at (drop i ss) ≡ placed_section l f at s ∷ placed_sections l f (address_after at (kept_size l f s)) (drop (i + 1) ss)
 laid_drop l f at ss i s low read = ap (placed_sections l f at) (drop_more ss i s low ∙ ap (λ (x : InputSection). x ∷ drop (i + 1) ss) (sym read))
 
 -- ---- where a section stands
@@ -212,7 +212,7 @@ frames_anywhere Packed l f a b s h =
       | inl t ↦ rw (t, packed_nowhere l (frame_flags s.flags) a (placed_frames l f a s).relocations (rw t at h), packed_nowhere l (frame_flags s.flags) b (placed_frames l f a s).relocations (rw t at h)) refl
       | inr n ↦ rw n refl
     ]
-frames_anywhere Left l f a b s h = refl
+frames_anywhere Dynamic l f a b s h = refl
 
 pub section_anywhere : (k : Counted) (l : Layout) (f : File) (a b : ℕ) (s : InputSection) → reads_places k l ≡ false → counted_in k l (placed_section l f a s) ≡ counted_in k l (placed_section l f b s)
 unfolding placed_section
@@ -227,24 +227,24 @@ pub sections_anywhere : (k : Counted) (l : Layout) (f : File) (a b : ℕ) (ss : 
 sections_anywhere k l f a b [] h = refl
 sections_anywhere k l f a b (s ∷ ss) h =
     let here = section_anywhere k l f a b s h in
-    let rest = sections_anywhere k l f (behind a (kept_size l f s)) (behind b (kept_size l f s)) ss h in
+    let rest = sections_anywhere k l f (address_after a (kept_size l f s)) (address_after b (kept_size l f s)) ss h in
     omega (arith, here, rest)
 
 -- so it is with those behind a section
-rest_anywhere : (k : Counted) (l : Layout) (f : File) (at there size : ℕ) (ss : List InputSection) → (reads_places k l ≡ true → there ≡ behind at size)
-    → total (counted_in k l) (placed_sections l f there ss) ≡ total (counted_in k l) (placed_sections l f (behind at size) ss)
+rest_anywhere : (k : Counted) (l : Layout) (f : File) (at there size : ℕ) (ss : List InputSection) → (reads_places k l ≡ true → there ≡ address_after at size)
+    → total (counted_in k l) (placed_sections l f there ss) ≡ total (counted_in k l) (placed_sections l f (address_after at size) ss)
 rest_anywhere k l f at there size ss h =
     elim (cases_Bool (reads_places k l)) [
       | inl t ↦ ap (λ (a : ℕ). total (counted_in k l) (placed_sections l f a ss)) (h t)
-      | inr n ↦ sections_anywhere k l f there (behind at size) ss n
+      | inr n ↦ sections_anywhere k l f there (address_after at size) ss n
     ]
 
 -- a section more
 pub section_next : (k : Counted) (l : Layout) (f : File) (at : ℕ) (ss : List InputSection) (i : ℕ) (s : InputSection) (sum n next there all : ℕ) → i < length ss → s ≡ get_or ss i s
-    → n ≡ min (2 ^ 64 - 1) (counted_in k l (placed_section l f at s)) → next ≡ min (sum + n) (2 ^ 64 - 1) → (reads_places k l ≡ true → there ≡ behind at (kept_size l f s))
+    → n ≡ min (2 ^ 64 - 1) (counted_in k l (placed_section l f at s)) → next ≡ min (sum + n) (2 ^ 64 - 1) → (reads_places k l ≡ true → there ≡ address_after at (kept_size l f s))
     → min (2 ^ 64 - 1) (sum + total (counted_in k l) (placed_sections l f at (drop i ss))) ≡ all → min (2 ^ 64 - 1) (next + total (counted_in k l) (placed_sections l f there (drop (i + 1) ss))) ≡ all
 section_next k l f at ss i s sum n next there all low read is added at_next h =
-    let e : total (counted_in k l) (placed_sections l f at (drop i ss)) ≡ counted_in k l (placed_section l f at s) + total (counted_in k l) (placed_sections l f (behind at (kept_size l f s)) (drop (i + 1) ss)) = ap (total (counted_in k l)) (laid_drop l f at ss i s low read) in
+    let e : total (counted_in k l) (placed_sections l f at (drop i ss)) ≡ counted_in k l (placed_section l f at s) + total (counted_in k l) (placed_sections l f (address_after at (kept_size l f s)) (drop (i + 1) ss)) = ap (total (counted_in k l)) (laid_drop l f at ss i s low read) in
     let rest = rest_anywhere k l f at there (kept_size l f s) (drop (i + 1) ss) at_next in
     omega (arith, added, is, h, e, rest)
 

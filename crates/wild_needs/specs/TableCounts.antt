@@ -3,14 +3,14 @@
 --   Counts a x b   a count grows by the amount that its part needs for a symbol, to at most 2^64 - 1
 use Rattle.std.specs.Prelude.{◌≡◌, ℕ, ◌+◌, ◌-◌, ◌^◌, min, if◌then◌else◌}
 use Rattle.wild_needs.specs.declared.table.TablePart.{TablePart}
-use Rattle.wild_needs.specs.declared.table.TablePart.TheVariants.{Side, Long, Strings}
+use Rattle.wild_needs.specs.declared.table.TablePart.TheVariants.{Entries, Long, Strings}
 use Rattle.wild_needs.specs.declared.table.Count.{Count}
 use Rattle.wild_needs.specs.DynamicStrings.{text_room}
 use Rattle.wild_needs.specs.TableSymbols.{TableSymbol, item_name, is_on_side}
 
 -- 1 for an entry or an index, if the symbol is of the part's side; for the strings, the bytes of its name
 abbrev pub taken : TablePart → TableSymbol → ℕ
-taken (Side local) x = if is_on_side local x then 1 else 0
+taken (Entries local) x = if is_on_side local x then 1 else 0
 taken (Long local) x = if is_on_side local x then 1 else 0
 taken Strings x = text_room (item_name x)
 

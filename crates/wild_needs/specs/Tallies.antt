@@ -16,7 +16,7 @@ use Rattle.wild_types.specs.Kinds.{is_position_independent}
 use Rattle.wild_types.specs.Lookups.{is_read, allocated}
 use Rattle.wild_slot.specs.Treatment.{treatment}
 use Rattle.wild_needs.specs.declared.tally.Counted.{Counted}
-use Rattle.wild_needs.specs.declared.tally.Counted.TheVariants.{Listed, Packed, Left}
+use Rattle.wild_needs.specs.declared.tally.Counted.TheVariants.{Listed, Packed, Dynamic}
 use Rattle.wild_needs.specs.declared.tally.SectionFacts.{SectionFacts}
 use Rattle.wild_needs.specs.declared.tally.Tally.{Tally}
 use Rattle.wild_needs.specs.Entries.{listed_at, relr_place_at, rela_places, words_of, has_dynamic_entry, dynamic_relocations}
@@ -29,24 +29,24 @@ section_facts s = record { flags = s.flags; address = s.address; is_read = is_re
 abbrev pub counted_in : Counted → Layout → InputSection → ℕ
 counted_in Listed l s = length (rela_places l s)
 counted_in Packed l s = length (words_of l s)
-counted_in Left l s = length (dynamic_relocations l s)
+counted_in Dynamic l s = length (dynamic_relocations l s)
 
 -- a section may have items of that kind
 abbrev pub may_have_items : Counted → Layout → SectionFacts → Bool
 may_have_items Listed l at = is_position_independent l.kind && at.is_read
 may_have_items Packed l at = is_position_independent l.kind && at.is_read
-may_have_items Left l at = at.is_read && allocated at.flags
+may_have_items Dynamic l at = at.is_read && allocated at.flags
 
 -- the count depends on the addresses of sections: with RELR even places are packed, and odd ones have an entry
 abbrev pub reads_places : Counted → Layout → Bool
-reads_places Left l = false
+reads_places Dynamic l = false
 reads_places other l = is_position_independent l.kind && l.options.relr
 
 -- the number of items for relocations, given the state of the RELR run
 abbrev pub rest_of : Counted → Layout → SectionFacts → Run → List InputRelocation → ℕ
 rest_of Listed l at run rs = length (flat_map (λ r. option_to_list (listed_at l at.flags at.address r)) rs)
 rest_of Packed l at run rs = counted run (flat_map (λ r. option_to_list (relr_place_at l at.flags at.address r)) rs)
-rest_of Left l at run rs = length (filter (λ r. has_dynamic_entry (treatment l at.flags r)) rs)
+rest_of Dynamic l at run rs = length (filter (λ r. has_dynamic_entry (treatment l at.flags r)) rs)
 
 -- the count after the relocations that follow
 abbrev pub tallied : Tally → List InputRelocation → ℕ

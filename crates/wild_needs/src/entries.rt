@@ -177,5 +177,5 @@ pub fn general_count(layout: &Layout, at: u64, file: &File) -> u64
     ensures { result ≡ min (2 ^ 64 - 1) (general_count layout.now (placed_file layout.now at file.now)) }
 {
     let copied = file.copied().len() as u64;
-    copied.saturating_add(count_of_file(Counted::Left, layout, at, file))
+    copied.saturating_add(count_of_file(Counted::Dynamic, layout, at, file))
 }

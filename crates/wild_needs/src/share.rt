@@ -3,7 +3,7 @@ ghost use Rattle.std.specs.Prelude.{◌≡◌, ℕ, ◌+◌, ◌-◌, ◌^◌, m
 ghost use Rattle.std.specs.List.{list_all};
 ghost use Rattle.wild_types.specs.declared.part.Role.{Role};
 ghost use Rattle.wild_needs.specs.Needs.{total_share, name_bytes, bytes_per_image, dynsym_count, version_count, bytes_if_last, sysv_room, gnu_room, last_dynamic, reads_sections, reads_places, file_table_bytes, is_static, first_share, share, has_last, last_share, group_share, needs_of, needs, is_plain, has_no_dynamic_tables, inner_groups_need_no_tables};
-ghost use Rattle.wild_placement.specs.PlacedSections.{behind, file_frames, placed_file, placed_files};
+ghost use Rattle.wild_placement.specs.PlacedSections.{address_after, file_frames, placed_file, placed_files};
 ghost use Rattle.wild_types.specs.Lists.{total};
 ghost use Rattle.wild_needs.specs.Dynamic.{dynamic_count};
 ghost use Rattle.wild_needs.specs.DynamicStrings.{needed_count};
@@ -294,7 +294,7 @@ fn share(layout: &Layout, at: u64, role: Role, file: &File) -> u64
 
 /// The address of the frames after those of a file, if the share in parts of that role depends on it.
 fn address_after_frames(layout: &Layout, at: u64, role: Role, file: &File) -> u64
-    ensures { reads_places layout.now role ≡ true → result ≡ behind at (file_frames layout.now file.now) }
+    ensures { reads_places layout.now role ≡ true → result ≡ address_after at (file_frames layout.now file.now) }
 {
     if reads_places(layout, role) {
         at.wrapping_add(file_frames(layout, file))

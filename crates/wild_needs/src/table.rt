@@ -156,7 +156,7 @@ pub fn suffix(named: SymtabName) -> &'static [u8]
 #[derive(Clone, Copy)]
 pub enum TablePart {
     /// The entries of the local symbols, or those of the global ones.
-    Side(bool),
+    Entries(bool),
     /// The 32-bit section indexes of the same.
     Long(bool),
     /// The names.
@@ -169,7 +169,7 @@ fn taken(part: TablePart, named: SymtabName, symbol: &Symbol) -> u64
     ensures { (i : ℕ) → result ≡ min (2 ^ 64 - 1) (taken part (item named i symbol.now)) }
 {
     match part {
-        TablePart::Side(local) | TablePart::Long(local) => {
+        TablePart::Entries(local) | TablePart::Long(local) => {
             u64::from(is_on_side(local, named, symbol))
         }
         TablePart::Strings => {
@@ -231,7 +231,7 @@ fn null_count(layout: &Layout, file: &File) -> u64
 pub fn local_count(layout: &Layout, file: &File) -> u64
     ensures { result ≡ min (2 ^ 64 - 1) (local_count layout.now file.now) }
 {
-    null_count(layout, file).saturating_add(count_of(layout, TablePart::Side(true), file))
+    null_count(layout, file).saturating_add(count_of(layout, TablePart::Entries(true), file))
 }
 
 /// The number of global symbols of a file, at most 2^64 - 1.
@@ -239,7 +239,7 @@ pub fn local_count(layout: &Layout, file: &File) -> u64
 pub fn global_count(layout: &Layout, file: &File) -> u64
     ensures { result ≡ min (2 ^ 64 - 1) (global_count layout.now file.now) }
 {
-    count_of(layout, TablePart::Side(false), file)
+    count_of(layout, TablePart::Entries(false), file)
 }
 
 /// The size of a file's strings in `.strtab`, at most 2^64 - 1.

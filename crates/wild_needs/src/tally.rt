@@ -4,7 +4,7 @@ ghost use Rattle.wild_types.specs.declared.file.File.{File};
 ghost use Rattle.wild_types.specs.declared.input.InputRelocation.{InputRelocation};
 ghost use Rattle.wild_types.specs.declared.layout.Layout.{Layout};
 ghost use Rattle.wild_types.specs.Lists.{total};
-ghost use Rattle.wild_placement.specs.PlacedSections.{Input, sorted_input, behind, placed_section, placed_sections, placed_file, sorted_sections, as_loaded, unread, of_last_file, processed_sections};
+ghost use Rattle.wild_placement.specs.PlacedSections.{Input, sorted_input, address_after, placed_section, placed_sections, placed_file, sorted_sections, as_loaded, unread, of_last_file, processed_sections};
 ghost use Rattle.wild_placement.specs.FrameInputs.{kept_size};
 ghost use Rattle.wild_placement.specs.ReversedWords.{with_word_order};
 ghost use Rattle.wild_needs.specs.Entries.{rela_places, words_of, dynamic_relocations};
@@ -26,7 +26,7 @@ pub(crate) enum Counted {
     /// RELR words, which pack the other relative relocations.
     Packed,
     /// Entries that name a symbol or a resolver.
-    Left,
+    Dynamic,
 }
 
 impl Counted {
@@ -38,7 +38,7 @@ impl Counted {
             Counted::Listed | Counted::Packed => {
                 layout.kind.is_position_independent() && layout.options.relr
             }
-            Counted::Left => false,
+            Counted::Dynamic => false,
         }
     }
 }
@@ -94,7 +94,7 @@ fn may_have_items(kind: Counted, layout: &Layout, standing: SectionFacts) -> boo
         Counted::Listed | Counted::Packed => {
             layout.kind.is_position_independent() && standing.is_read
         }
-        Counted::Left => standing.is_read && is_allocated(standing.flags),
+        Counted::Dynamic => standing.is_read && is_allocated(standing.flags),
     }
 }
 
@@ -143,7 +143,7 @@ impl<'a> Tally<'a> {
                     relr_place_at(self.layout, flags, address, relocation),
                 )
             }
-            Counted::Left => {
+            Counted::Dynamic => {
                 let needs_symbolic = has_dynamic_entry_by(self.layout, flags, relocation);
                 (usize::from(needs_symbolic), self.run)
             }
@@ -215,7 +215,7 @@ pub fn section_counts(layout: &Layout, file: &File, section: &InputSection) -> S
     SectionCounts {
         listed: count_section(Counted::Listed, layout, 0, file, section),
         packed: count_section(Counted::Packed, layout, 0, file, section),
-        symbolic: count_section(Counted::Left, layout, 0, file, section),
+        symbolic: count_section(Counted::Dynamic, layout, 0, file, section),
     }
 }
 
@@ -245,7 +245,7 @@ fn next_frames_at(
     file: &File,
     section: &InputSection,
 ) -> u64
-    ensures { reads_places kind layout.now ≡ true → result ≡ behind at (kept_size layout.now file.now section.now) }
+    ensures { reads_places kind layout.now ≡ true → result ≡ address_after at (kept_size layout.now file.now section.now) }
 {
     if kind.reads_places(layout) {
         at.wrapping_add(kept_size(layout, file, section))

@@ -20,7 +20,7 @@ use Rattle.wild_types.specs.FileThunks.{thunk_size, thunks_of}
 use Rattle.wild_types.specs.Kinds.{is_partial_link}
 use Rattle.wild_types.specs.Lookups.{is_rela, has_range, has_counted, has_data, section_of, is_header_only_part, is_filled}
 use Rattle.wild_placement.specs.FrameInputs.{frames_of, kept_size}
-use Rattle.wild_placement.specs.PlacedSections.{Input, behind, unread, placed_frames_with, placed_by, placed_section, placed_sections, placed_file, file_frames, placed_from, frames_at, placed_files, of_last_file, sorted_inputs, sorted_sections, processed_sections}
+use Rattle.wild_placement.specs.PlacedSections.{Input, address_after, unread, placed_frames_with, placed_by, placed_section, placed_sections, placed_file, file_frames, placed_from, frames_at, placed_files, of_last_file, sorted_inputs, sorted_sections, processed_sections}
 use Rattle.wild_placement.specs.ReversedWords.{word_from_end, reversed_word_bytes, with_word_order}
 use Rattle.wild_change.specs.Change.{is_changeable}
 use Rattle.wild_change.specs.Outline.{outline_section, outline_file, outline_group, outline}
@@ -144,9 +144,9 @@ placed_extents-outline l f a [] = refl
 placed_extents-outline l f a (s ∷ ss) =
     let here : section_extents (outline l) (placed_section (outline l) (outline_file f) a (outline_section s)) ≡ section_extents l (placed_section l f a s) =
     ap (shape_extents (outline l)) (placed_shape-outline l f a s) ∙ shape_extents-outline l (shape_of (placed_section l f a s)) in
-    let rest = placed_extents-outline l f (behind a (kept_size l f s)) ss in
-    ap (λ n. section_extents (outline l) (placed_section (outline l) (outline_file f) a (outline_section s)) ++ flat_map (section_extents (outline l)) (placed_sections (outline l) (outline_file f) (behind a n) (map outline_section ss))) (kept_size-both l f s)
-    ∙ (ap (λ es. es ++ flat_map (section_extents (outline l)) (placed_sections (outline l) (outline_file f) (behind a (kept_size l f s)) (map outline_section ss))) here
+    let rest = placed_extents-outline l f (address_after a (kept_size l f s)) ss in
+    ap (λ n. section_extents (outline l) (placed_section (outline l) (outline_file f) a (outline_section s)) ++ flat_map (section_extents (outline l)) (placed_sections (outline l) (outline_file f) (address_after a n) (map outline_section ss))) (kept_size-both l f s)
+    ∙ (ap (λ es. es ++ flat_map (section_extents (outline l)) (placed_sections (outline l) (outline_file f) (address_after a (kept_size l f s)) (map outline_section ss))) here
     ∙ ap (λ es. section_extents l (placed_section l f a s) ++ es) rest)
 
 -- ---- the other pieces of a file
@@ -204,9 +204,9 @@ file_extents-outline l a f =
 files_extents-outline : (l : Layout) (a : ℕ) (fs : List File) → flat_map (file_extents (outline l)) (placed_from (outline l) a (map outline_file fs)) ≡ flat_map (file_extents l) (placed_from l a fs)
 files_extents-outline l a [] = refl
 files_extents-outline l a (f ∷ fs) =
-    ap (λ n. file_extents (outline l) (placed_file (outline l) a (outline_file f)) ++ flat_map (file_extents (outline l)) (placed_from (outline l) (behind a n) (map outline_file fs))) (file_frames-outline l f)
-    ∙ (ap (λ es. es ++ flat_map (file_extents (outline l)) (placed_from (outline l) (behind a (file_frames l f)) (map outline_file fs))) (file_extents-outline l a f)
-    ∙ ap (λ es. file_extents l (placed_file l a f) ++ es) (files_extents-outline l (behind a (file_frames l f)) fs))
+    ap (λ n. file_extents (outline l) (placed_file (outline l) a (outline_file f)) ++ flat_map (file_extents (outline l)) (placed_from (outline l) (address_after a n) (map outline_file fs))) (file_frames-outline l f)
+    ∙ (ap (λ es. es ++ flat_map (file_extents (outline l)) (placed_from (outline l) (address_after a (file_frames l f)) (map outline_file fs))) (file_extents-outline l a f)
+    ∙ ap (λ es. file_extents l (placed_file l a f) ++ es) (files_extents-outline l (address_after a (file_frames l f)) fs))
 
 pub group_extents : Layout → Group → List Extent
 group_extents l g = flat_map (file_extents l) (placed_files l g)

@@ -10,7 +10,7 @@ use Rattle.wild_types.specs.declared.layout.SortedSection.{SortedSection}
 use Rattle.wild_types.specs.Lookups.{is_frame}
 use Rattle.wild_types.specs.declared.input.Slot.TheVariants as slot
 use Rattle.wild_placement.specs.FrameInputs.{kept_size, frames_of}
-use Rattle.wild_placement.specs.PlacedSections.{placed_by, placed_files, placed_from, placed_section, placed_sections, processed_sections, sorted_by, sorted_in_file, sorted_in_group, sorted_input, Input, placed_frames_with, frames_at, file_frames, behind, files_at, sorted_inputs, origins_of, unread, kept_relocations, of_last_file}
+use Rattle.wild_placement.specs.PlacedSections.{placed_by, placed_files, placed_from, placed_section, placed_sections, processed_sections, sorted_by, sorted_in_file, sorted_in_group, sorted_input, Input, placed_frames_with, frames_at, file_frames, address_after, files_at, sorted_inputs, origins_of, unread, kept_relocations, of_last_file}
 use Rattle.wild_change.specs.Outline.{outline_section, outline_file, outline_group, outline}
 use Rattle.wild_change.specs.Change.{is_changeable}
 use Rattle.wild_outlines.proofs.ListLemmas.{flat_map-same, map-flat_map}
@@ -78,11 +78,11 @@ processed_sections-outline l f = ap (λ ss. f.sections ++ of_last_file f ss) (so
 
 placed_sections-outline : (l : Layout) (f : File) (at : ℕ) (ss : List InputSection) → placed_sections (outline l) f at ss ≡ placed_sections l f at ss
 placed_sections-outline l f at [] = refl
-placed_sections-outline l f at (s ∷ ss) = simp (placed_section-outline l f at s, kept_size-same_file l f s, placed_sections-outline l f (behind at (kept_size l f s)) ss)
+placed_sections-outline l f at (s ∷ ss) = simp (placed_section-outline l f at s, kept_size-same_file l f s, placed_sections-outline l f (address_after at (kept_size l f s)) ss)
 
 placed_from-outline : (l : Layout) (at : ℕ) (fs : List File) → placed_from (outline l) at fs ≡ placed_from l at fs
 placed_from-outline l at [] = refl
-placed_from-outline l at (f ∷ fs) = simp (placed_sections-outline l f at f.sections, file_frames-same_file l f, placed_from-outline l (behind at (file_frames l f)) fs)
+placed_from-outline l at (f ∷ fs) = simp (placed_sections-outline l f at f.sections, file_frames-same_file l f, placed_from-outline l (address_after at (file_frames l f)) fs)
 
 pub placed_files-outline : (l : Layout) (g : Group) → placed_files (outline l) g ≡ placed_files l g
 unfolding placed_files

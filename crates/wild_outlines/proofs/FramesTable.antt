@@ -9,7 +9,7 @@ use Rattle.wild_types.specs.Lookups.{is_frame}
 use Rattle.wild_frames.specs.declared.entry.KeptEntry.{KeptEntry}
 use Rattle.wild_frames.specs.Frames.{Frames, fdes_in}
 use Rattle.wild_placement.specs.FrameInputs.{frames_of, kept_size}
-use Rattle.wild_placement.specs.PlacedSections.{entry_relocations, file_frames, frames_at, behind}
+use Rattle.wild_placement.specs.PlacedSections.{entry_relocations, file_frames, frames_at, address_after}
 use Rattle.wild_layout.specs.SearchTable.{code_at, files_fdes, layout_fdes, search_table, search_table_faults, sections_fdes, fde_at, section_fdes, group_fdes}
 use Rattle.wild_change.specs.Outline.{outline_section, outline_file, outline_group, outline}
 use Rattle.wild_outlines.proofs.ChangedItems.{outline_section-fixed}
@@ -36,11 +36,11 @@ section_fdes_by false l f at s h = rw h refl
 
 sections_fdes-outline : (l : Layout) (f : File) (at : ℕ) (ss : List InputSection) → sections_fdes (outline l) (outline_file f) at (map outline_section ss) ≡ sections_fdes l f at ss
 sections_fdes-outline l f at [] = refl
-sections_fdes-outline l f at (s ∷ ss) = simp (section_fdes_by (is_frame s.slot) l f at s refl, kept_size-both l f s, sections_fdes-outline l f (behind at (kept_size l f s)) ss)
+sections_fdes-outline l f at (s ∷ ss) = simp (section_fdes_by (is_frame s.slot) l f at s refl, kept_size-both l f s, sections_fdes-outline l f (address_after at (kept_size l f s)) ss)
 
 files_fdes-outline : (l : Layout) (at : ℕ) (fs : List File) → files_fdes (outline l) at (map outline_file fs) ≡ files_fdes l at fs
 files_fdes-outline l at [] = refl
-files_fdes-outline l at (f ∷ fs) = simp (sections_fdes-outline l f at f.sections, file_frames-outline l f, files_fdes-outline l (behind at (file_frames l f)) fs)
+files_fdes-outline l at (f ∷ fs) = simp (sections_fdes-outline l f at f.sections, file_frames-outline l f, files_fdes-outline l (address_after at (file_frames l f)) fs)
 
 pub layout_fdes-outline : (l : Layout) → layout_fdes (outline l) ≡ layout_fdes l
 unfolding layout_fdes

@@ -12,7 +12,7 @@ use Rattle.wild_types.specs.declared.layout.Layout.{Layout}
 use Rattle.wild_types.specs.declared.layout.SortedSection.{SortedSection}
 use Rattle.wild_types.specs.Lookups.{is_frame}
 use Rattle.wild_frames.specs.Faults.{frame_errors}
-use Rattle.wild_placement.specs.PlacedSections.{Input, sorted_input, file_frames, frames_at, behind, origins_of, placed_section}
+use Rattle.wild_placement.specs.PlacedSections.{Input, sorted_input, file_frames, frames_at, address_after, origins_of, placed_section}
 use Rattle.wild_placement.specs.FrameInputs.{kept_size}
 use Rattle.wild_placement.specs.ReversedWords.{with_word_order}
 use Rattle.wild_layout.specs.Faults.{copy_errors, debug_error, debug_errors, exported_error, exported_errors, file_errors, files_errors, group_errors, placed_section_errors_by, relocation_errors, section_errors, sections_errors, slot_errors, symbol_errors, table_error, table_errors, thunk_error, thunk_errors, frame_refusal, bad_frames, relocations_errors, placed_section_errors, sorted_errors_of, sorted_errors}
@@ -97,7 +97,7 @@ section_errors-outline l group file f at section s = ap (placed_section_errors (
 
 sections_errors-outline : (l : Layout) (group file : ℕ) (f : File) (at i : ℕ) (ss : List InputSection) → sections_errors (outline l) group file f at i ss ≡ sections_errors l group file f at i ss
 sections_errors-outline l group file f at i [] = refl
-sections_errors-outline l group file f at i (s ∷ ss) = simp (section_errors-outline l group file f at i s, kept_size-same_file l f s, sections_errors-outline l group file f (behind at (kept_size l f s)) (i + 1) ss)
+sections_errors-outline l group file f at i (s ∷ ss) = simp (section_errors-outline l group file f at i s, kept_size-same_file l f s, sections_errors-outline l group file f (address_after at (kept_size l f s)) (i + 1) ss)
 
 thunk_error-each : (l : Layout) (at : At) → thunk_error (outline l) at ≡ thunk_error l at
 thunk_error-each l at = fun_ext (λ t. simp (raw_value-outline l))
@@ -113,7 +113,7 @@ file_errors-outline l group at file f =
 
 files_errors-outline : (l : Layout) (group at i : ℕ) (fs : List File) → files_errors (outline l) group at i fs ≡ files_errors l group at i fs
 files_errors-outline l group at i [] = refl
-files_errors-outline l group at i (f ∷ fs) = simp (file_errors-outline l group at i f, file_frames-same_file l f, files_errors-outline l group (behind at (file_frames l f)) (i + 1) fs)
+files_errors-outline l group at i (f ∷ fs) = simp (file_errors-outline l group at i f, file_frames-same_file l f, files_errors-outline l group (address_after at (file_frames l f)) (i + 1) fs)
 
 table_error-each : (l : Layout) (at : At) (f : File) → table_error (outline l) at f ≡ table_error l at f
 table_error-each l at f = fun_ext (λ x. simp (table_fields-outline l))

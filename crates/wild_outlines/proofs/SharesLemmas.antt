@@ -15,7 +15,7 @@ use Rattle.wild_types.specs.FileSymbols.{copies_of}
 use Rattle.wild_types.specs.Lists.{total}
 use Rattle.wild_types.specs.Parts.{has_role}
 use Rattle.wild_types.proofs.ListLemmas.{total-append}
-use Rattle.wild_placement.specs.PlacedSections.{Input, behind, placed_sections, placed_file, file_frames, placed_from, frames_at, placed_files, of_last_file, sorted_inputs, sorted_sections, processed_sections}
+use Rattle.wild_placement.specs.PlacedSections.{Input, address_after, placed_sections, placed_file, file_frames, placed_from, frames_at, placed_files, of_last_file, sorted_inputs, sorted_sections, processed_sections}
 use Rattle.wild_placement.specs.ReversedWords.{with_word_order}
 use Rattle.wild_needs.specs.Entries.{words_of, sorted_words, general_count}
 use Rattle.wild_needs.specs.Needs.{frames_room, bytes_if_last, file_table_bytes, reads_sections, first_share, share, has_last, last_share, group_share, needs_of, needs_by, needs, total_share}
@@ -137,8 +137,8 @@ files_same : (r : Role) (l m : Layout) → outline m ≡ outline l → (a : ℕ)
 files_same r l m e a [] = refl
 files_same r l m e a (f ∷ fs) =
     let here = share_itself r l m f e a in
-    let rest = files_same r l m e (behind a (file_frames l f)) fs in
-    let move = ap (λ n. total (share m r) (placed_from m (behind a n) fs)) (same_frames l m f f (record { layout = e; file = refl })) in
+    let rest = files_same r l m e (address_after a (file_frames l f)) fs in
+    let move = ap (λ n. total (share m r) (placed_from m (address_after a n) fs)) (same_frames l m f f (record { layout = e; file = refl })) in
     omega (arith, here, rest, move)
 
 -- one file replaced by one with the same outline
@@ -148,13 +148,13 @@ files_replaced r old new l m v e i [] x at k a = cc
 files_replaced r old new l m v e zero (f ∷ fs) x at k a =
     let j : SameFile r old new l m f (v f) = subst (λ (y : File). SameFile r old new l m y (v y)) (sym (some_same at)) k in
     let here = same_share old new l m f (v f) r j a in
-    let rest = files_same r l m e (behind a (file_frames l f)) fs in
-    let move = ap (λ n. total (share m r) (placed_from m (behind a n) fs)) (same_frames l m f (v f) j.outlines) in
+    let rest = files_same r l m e (address_after a (file_frames l f)) fs in
+    let move = ap (λ n. total (share m r) (placed_from m (address_after a n) fs)) (same_frames l m f (v f) j.outlines) in
     omega (arith, here, rest, move)
 files_replaced r old new l m v e (suc i) (f ∷ fs) x at k a =
     let here = share_itself r l m f e a in
-    let rest = files_replaced r old new l m v e i fs x at k (behind a (file_frames l f)) in
-    let move = ap (λ n. total (share m r) (placed_from m (behind a n) (with_item v i fs))) (same_frames l m f f (record { layout = e; file = refl })) in
+    let rest = files_replaced r old new l m v e i fs x at k (address_after a (file_frames l f)) in
+    let move = ap (λ n. total (share m r) (placed_from m (address_after a n) (with_item v i fs))) (same_frames l m f f (record { layout = e; file = refl })) in
     omega (arith, here, rest, move)
 
 -- ---- groups

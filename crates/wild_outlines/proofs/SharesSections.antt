@@ -22,7 +22,7 @@ use Rattle.wild_types.specs.Lookups.{is_frame, is_read, has_relocations, may_hav
 use Rattle.wild_types.specs.Rows.{row_of}
 use Rattle.wild_frames.specs.Frames.{frame_bytes}
 use Rattle.wild_placement.specs.FrameInputs.{frames_of, kept_size}
-use Rattle.wild_placement.specs.PlacedSections.{behind, unread, rela_with_target, placed_frames_with, placed_by, placed_section, placed_sections}
+use Rattle.wild_placement.specs.PlacedSections.{address_after, unread, rela_with_target, placed_frames_with, placed_by, placed_section, placed_sections}
 use Rattle.wild_placement.specs.ReversedWords.{with_word_order}
 use Rattle.wild_slot.specs.Treatment.{distance_treatment, class_treatment, row_treatment, row_that_accepts, treatment}
 use Rattle.wild_needs.specs.Entries.{rela_place, relr_place, rela_places, relr_places, words_of, has_dynamic_entry, dynamic_relocations}
@@ -140,8 +140,8 @@ pub sections_count : (r : Role) (l m : Layout) (f g : File) → SameOutlines l m
 sections_count r l m f g e a [] = refl
 sections_count r l m f g e a (s ∷ ss) =
     let here = placed_count r l m f g e a s in
-    let rest = sections_count r l m f g e (behind a (kept_size l f s)) ss in
-    let move = ap (λ n. total (counted_for r m) (placed_sections m g (behind a n) ss)) (same_kept l m f g e s) in
+    let rest = sections_count r l m f g e (address_after a (kept_size l f s)) ss in
+    let move = ap (λ n. total (counted_for r m) (placed_sections m g (address_after a n) ss)) (same_kept l m f g e s) in
     omega (arith, here, rest, move)
 
 -- ---- the changed section
@@ -190,13 +190,13 @@ sections_changed r l m f g c e zero (t ∷ ss) s at h a =
     let changeable : is_changeable t.slot ≡ true = ap (λ (x : InputSection). is_changeable x.slot) t_is ∙ h in
     let new = placed_count r l m f g e a (changed_section c t) ∙ (written_count r l f a (changed_section c t) changeable ∙ ap (λ (x : InputSection). counted_for r l (written_section l (changed_section c x))) t_is) in
     let old = written_count r l f a t changeable ∙ ap (λ (x : InputSection). counted_for r l (written_section l x)) t_is in
-    let rest = sections_count r l m f g e (behind a (kept_size l f t)) ss in
-    let move = ap (λ n. total (counted_for r m) (placed_sections m g (behind a n) ss)) (kept_changed m g (changed_section c t) changeable ∙ sym (kept_changed l f t changeable)) in
+    let rest = sections_count r l m f g e (address_after a (kept_size l f t)) ss in
+    let move = ap (λ n. total (counted_for r m) (placed_sections m g (address_after a n) ss)) (kept_changed m g (changed_section c t) changeable ∙ sym (kept_changed l f t changeable)) in
     omega (arith, new, old, rest, move)
 sections_changed r l m f g c e (suc i) (t ∷ ss) s at h a =
     let here = placed_count r l m f g e a t in
-    let rest = sections_changed r l m f g c e i ss s at h (behind a (kept_size l f t)) in
-    let move = ap (λ n. total (counted_for r m) (placed_sections m g (behind a n) (with_item (changed_section c) i ss))) (same_kept l m f g e t) in
+    let rest = sections_changed r l m f g c e i ss s at h (address_after a (kept_size l f t)) in
+    let move = ap (λ n. total (counted_for r m) (placed_sections m g (address_after a n) (with_item (changed_section c) i ss))) (same_kept l m f g e t) in
     omega (arith, here, rest, move)
 
 -- ---- room for entries

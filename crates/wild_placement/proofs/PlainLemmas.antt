@@ -12,7 +12,7 @@ use Rattle.wild_types.specs.Lookups.{is_frame, is_rela}
 use Rattle.wild_placement.specs.ReversedWords.{with_word_order}
 use Rattle.wild_placement.specs.FrameInputs.{kept_size}
 use Rattle.wild_placement.specs.Plain.{IsPlacedUnchanged, ArePlacedUnchanged}
-use Rattle.wild_placement.specs.PlacedSections.{placed_by, placed_section, placed_sections, placed_file, placed_from, placed_files, behind, file_frames, frames_at, unread}
+use Rattle.wild_placement.specs.PlacedSections.{placed_by, placed_section, placed_sections, placed_file, placed_from, placed_files, address_after, file_frames, frames_at, unread}
 
 turned_plain : (s : InputSection) → s.reversed ≡ false → with_word_order s ≡ s
 unfolding with_word_order
@@ -40,8 +40,8 @@ plain_section l f at s p h = by_slot s.slot l f at s p h.frame h.table h.reverse
 pub plain_sections : (l : Layout) (f : File) (at : ℕ) (ss : List InputSection) → is_partial_link l.kind ≡ false → All IsPlacedUnchanged ss → placed_sections l f at ss ≡ ss
 plain_sections l f at [] p a = refl
 plain_sections l f at (s ∷ ss) p a =
-    ap (λ (x : InputSection). x ∷ placed_sections l f (behind at (kept_size l f s)) ss) (plain_section l f at s p (All-head IsPlacedUnchanged s ss a))
-    ∙ ap (λ xs. s ∷ xs) (plain_sections l f (behind at (kept_size l f s)) ss p (All-tail IsPlacedUnchanged s ss a))
+    ap (λ (x : InputSection). x ∷ placed_sections l f (address_after at (kept_size l f s)) ss) (plain_section l f at s p (All-head IsPlacedUnchanged s ss a))
+    ∙ ap (λ xs. s ∷ xs) (plain_sections l f (address_after at (kept_size l f s)) ss p (All-tail IsPlacedUnchanged s ss a))
 
 abbrev with_sections : File → List InputSection → File
 with_sections f ss = record {
@@ -63,8 +63,8 @@ plain_laid l at f p a = ap (with_sections f) (plain_sections l f at f.sections p
 plain_from : (l : Layout) (at : ℕ) (fs : List File) → is_partial_link l.kind ≡ false → All ArePlacedUnchanged fs → placed_from l at fs ≡ fs
 plain_from l at [] p a = refl
 plain_from l at (f ∷ fs) p a =
-    ap (λ (x : File). x ∷ placed_from l (behind at (file_frames l f)) fs) (plain_laid l at f p (All-head ArePlacedUnchanged f fs a))
-    ∙ ap (λ xs. f ∷ xs) (plain_from l (behind at (file_frames l f)) fs p (All-tail ArePlacedUnchanged f fs a))
+    ap (λ (x : File). x ∷ placed_from l (address_after at (file_frames l f)) fs) (plain_laid l at f p (All-head ArePlacedUnchanged f fs a))
+    ∙ ap (λ xs. f ∷ xs) (plain_from l (address_after at (file_frames l f)) fs p (All-tail ArePlacedUnchanged f fs a))
 
 -- and the files of a group
 pub plain_files : (l : Layout) (g : Group) → is_partial_link l.kind ≡ false → All ArePlacedUnchanged g.files → placed_files l g ≡ g.files

@@ -160,12 +160,12 @@ unfoldable pub placed_section : Layout → File → ℕ → InputSection → Inp
 placed_section l f at s = placed_by s.slot l f at s
 
 -- the address after n bytes, modulo 2^64
-abbrev pub behind : ℕ → ℕ → ℕ
-behind at n = (at + n) % 2 ^ 64
+abbrev pub address_after : ℕ → ℕ → ℕ
+address_after at n = (at + n) % 2 ^ 64
 
 abbrev pub placed_sections : Layout → File → ℕ → List InputSection → List InputSection
 placed_sections l f at [] = []
-placed_sections l f at (s ∷ ss) = placed_section l f at s ∷ placed_sections l f (behind at (kept_size l f s)) ss
+placed_sections l f at (s ∷ ss) = placed_section l f at s ∷ placed_sections l f (address_after at (kept_size l f s)) ss
 
 -- a file with placed sections
 abbrev pub placed_file : Layout → ℕ → File → File
@@ -187,7 +187,7 @@ file_frames l f = total (kept_size l f) f.sections
 
 abbrev pub placed_from : Layout → ℕ → List File → List File
 placed_from l at [] = []
-placed_from l at (f ∷ fs) = placed_file l at f ∷ placed_from l (behind at (file_frames l f)) fs
+placed_from l at (f ∷ fs) = placed_file l at f ∷ placed_from l (address_after at (file_frames l f)) fs
 
 abbrev pub part_address : Option Part → ℕ
 part_address None = 0
@@ -195,7 +195,7 @@ part_address (Some p) = p.address
 
 -- the address at which the frames of a group begin
 abbrev pub frames_at : Layout → Group → ℕ
-frames_at l g = behind (part_address (part_with role.EhFrame l.parts)) g.eh_frame_start
+frames_at l g = address_after (part_address (part_with role.EhFrame l.parts)) g.eh_frame_start
 
 -- the files of a group with placed sections
 unfoldable pub placed_files : Layout → Group → List File

@@ -18,7 +18,7 @@ use wild_words::{Bytes, Items};
 #[derive(Drop)]
 pub struct PlacedInput<'a> {
     input: &'a InputSection,
-    stands: Option<InputSection>,
+    new_section: Option<InputSection>,
     origins: Option<Items<InputRelocation>>,
     fault: Option<BadFrame>,
 }
@@ -29,7 +29,7 @@ impl<'a> Model for PlacedInput<'a> {
 
     ghost Value = { PlacedContent };
 
-    ghost view = { λ a. record { section = unwrap_or a.stands a.input.now; origins = unwrap_or a.origins a.input.now.relocations; faults = option_to_list a.fault } };
+    ghost view = { λ a. record { section = unwrap_or a.new_section a.input.now; origins = unwrap_or a.origins a.input.now.relocations; faults = option_to_list a.fault } };
 }
 
 impl<'a> PlacedInput<'a> {
@@ -37,7 +37,7 @@ impl<'a> PlacedInput<'a> {
     pub fn section(&self) -> &InputSection
         ensures { result.now ≡ self.now.section }
     {
-        match &self.stands {
+        match &self.new_section {
             Some(section) => section,
             None => self.input,
         }
@@ -79,20 +79,20 @@ fn place_frames<'a>(
     let kept = keep(alloc, &frames)?;
     Ok(PlacedInput {
         input: section,
-        stands: Some(placed_frames(alloc, at, section, kept.bytes, kept.moved)),
+        new_section: Some(placed_frames(alloc, at, section, kept.bytes, kept.moved)),
         origins: Some(Items::from_vec(kept.origins)),
         fault: kept.fault,
     })
 }
 
-/// A placed section other than frames; `stands` is its new form, if it is changed. Relocations of a relocatable object are not read.
-fn laid<'a>(
+/// A placed section other than frames; `new_section` is its new form, if it is changed. Relocations of a relocatable object are not read.
+fn place_section<'a>(
     alloc: Global,
     layout: &Layout,
     section: &'a InputSection,
-    stands: Option<InputSection>,
+    new_section: Option<InputSection>,
 ) -> PlacedInput<'a>
-    ensures { result ≡ unframed_content layout.now section.now (unwrap_or stands section.now) }
+    ensures { result ≡ unframed_content layout.now section.now (unwrap_or new_section section.now) }
 {
     let origins = if layout.kind.is_partial_link() {
         Some(Items::new(alloc))
@@ -101,7 +101,7 @@ fn laid<'a>(
     };
     PlacedInput {
         input: section,
-        stands,
+        new_section,
         origins,
         fault: None,
     }
@@ -117,10 +117,10 @@ fn place_reversed<'a>(
     ensures { IfOk result (λ x. x ≡ unframed_content layout.now section.now (with_word_order section.now)) }
 {
     if !section.reversed {
-        return Ok(laid(alloc, layout, section, None));
+        return Ok(place_section(alloc, layout, section, None));
     }
-    let stands = reversed_section(alloc, section)?;
-    Ok(laid(alloc, layout, section, Some(stands)))
+    let new_section = reversed_section(alloc, section)?;
+    Ok(place_section(alloc, layout, section, Some(new_section)))
 }
 
 /// A copy of a section, with another kind and other relocations.
@@ -178,8 +178,8 @@ fn place_loaded_input<'a>(
         return place_reversed(alloc, layout, section);
     }
     let unread = copy_with(alloc, section.slot, Vec::new(alloc), section)?;
-    let stands = with_word_order(alloc, unread)?;
-    Ok(laid(alloc, layout, section, Some(stands)))
+    let new_section = with_word_order(alloc, unread)?;
+    Ok(place_section(alloc, layout, section, Some(new_section)))
 }
 
 /// Places a table of relocations, with the relocations of its target.
@@ -191,8 +191,8 @@ fn place_table<'a>(
 ) -> Result<PlacedInput<'a>, AllocError>
     ensures { IfOk result (λ x. x ≡ unframed_content layout.now section.now (rela_with_target file.now section.now)) }
 {
-    let stands = rela_with_target(alloc, file, section)?;
-    Ok(laid(alloc, layout, section, Some(stands)))
+    let new_section = rela_with_target(alloc, file, section)?;
+    Ok(place_section(alloc, layout, section, Some(new_section)))
 }
 
 /// Places a section of a file; `at` is the address of the file's next frames. One pass over the section. Allocates memory for what
@@ -216,7 +216,7 @@ pub fn place_input<'a>(
         Slot::Loaded => place_loaded_input(alloc, layout, section),
         Slot::Debug => place_reversed(alloc, layout, section),
         Slot::Rela => place_table(alloc, layout, file, section),
-        _ => Ok(laid(alloc, layout, section, None)),
+        _ => Ok(place_section(alloc, layout, section, None)),
     }
 }
 
@@ -245,6 +245,6 @@ pub fn place_sorted<'a>(
     ensures { IfOk result (λ x. x ≡ sorted_content layout.now section.now) }
 {
     let loaded = loaded(alloc, layout, section)?;
-    let stands = with_word_order(alloc, loaded)?;
-    Ok(laid(alloc, layout, section, Some(stands)))
+    let new_section = with_word_order(alloc, loaded)?;
+    Ok(place_section(alloc, layout, section, Some(new_section)))
 }

@@ -7,7 +7,7 @@ use Rattle.wild_loader.specs.declared.instruction.Cell.{Cell}
 use Rattle.wild_loader.specs.declared.instruction.Cell.TheVariants.{Is, From, Slot, Digit, Any}
 use Rattle.wild_loader.specs.declared.instruction.Operand.TheVariants.{Number, Word}
 use Rattle.wild_loader.specs.declared.instruction.Deed.TheVariants.{Set, Add, Subtract, Compare, Call, Jump}
-use Rattle.wild_loader.specs.Instruction.{fits, stands, Template}
+use Rattle.wild_loader.specs.Instruction.{fits, matches_cells, Template}
 use Rattle.wild_loader.specs.CodeX86_64.{bare, rex, rex2, branch, with_slot}
 use Rattle.wild_loader.specs.ThreadCodeX86_64.{general_call, general_slot_call, far_pair_call, local_call, local_slot_call}
 use Rattle.wild_loader.specs.InstructionX86_64.{meaning_x86_64, descriptor_call}
@@ -32,24 +32,24 @@ spelled_is Slot b h = refl
 spelled_is (Digit d) b h = refl
 spelled_is Any b h = refl
 
-from : (cs : List Cell) (bs whole : List ℕ) (k : ℕ) → ((i : ℕ) → get_or whole (k + i) 0 ≡ get_or bs i 0) → length bs ≡ length cs → stands cs bs ≡ true → bs ≡ filled cs k whole
+from : (cs : List Cell) (bs whole : List ℕ) (k : ℕ) → ((i : ℕ) → get_or whole (k + i) 0 ≡ get_or bs i 0) → length bs ≡ length cs → matches_cells cs bs ≡ true → bs ≡ filled cs k whole
 from [] [] whole k same long h = refl
 from [] (b ∷ bs) whole k same long h = absurd (omega arith)
 from (c ∷ cs) [] whole k same long h = absurd (omega arith)
 from (c ∷ cs) (b ∷ bs) whole k same long h =
     let z : k + 0 ≡ k = omega arith in
     let here : get_or whole k 0 ≡ b = subst (λ (j : ℕ). get_or whole j 0 ≡ b) z (same 0) in
-    let each = and_parts (fits c b) (stands cs bs) h in
+    let each = and_parts (fits c b) (matches_cells cs bs) h in
     let first : b ≡ spelled c b = spelled_is c b each.0 in
     let next : (i : ℕ) → get_or whole (k + 1 + i) 0 ≡ get_or bs i 0 = λ i. subst (λ (j : ℕ). get_or whole j 0 ≡ get_or bs i 0) (omega arith) (same (suc i)) in
     let rest : bs ≡ filled cs (k + 1) whole = from cs bs whole (k + 1) next (omega arith) each.1 in
     ap (λ (x : ℕ). x ∷ bs) first ∙ ap (λ (x : ℕ). spelled c x ∷ bs) (sym here) ∙ ap (λ (xs : List ℕ). spelled c (get_or whole k 0) ∷ xs) rest
 
-pub shape : (cs : List Cell) (bs : List ℕ) → length bs ≡ length cs → stands cs bs ≡ true → bs ≡ filled cs 0 bs
+pub shape : (cs : List Cell) (bs : List ℕ) → length bs ≡ length cs → matches_cells cs bs ≡ true → bs ≡ filled cs 0 bs
 shape cs bs long h = from cs bs bs 0 (λ i. subst (λ (j : ℕ). get_or bs j 0 ≡ get_or bs i 0) (omega arith) refl) long h
 
-pub shape_stands : (cs : List Cell) (bs : List ℕ) → length bs ≡ length cs → stands cs bs ≡ true → stands cs (filled cs 0 bs) ≡ true
-shape_stands cs bs long h = subst (λ (xs : List ℕ). stands cs xs ≡ true) (shape cs bs long h) h
+pub shape_stands : (cs : List Cell) (bs : List ℕ) → length bs ≡ length cs → matches_cells cs bs ≡ true → matches_cells cs (filled cs 0 bs) ≡ true
+shape_stands cs bs long h = subst (λ (xs : List ℕ). matches_cells cs xs ≡ true) (shape cs bs long h) h
 
 -- ---- what the bytes of an instruction mean
 
@@ -57,10 +57,10 @@ abbrev pub Means : Template → List ℕ → Type 0
 Means t bs = (a : ℕ) → meaning_x86_64 a bs ≡ Some (t.action a bs)
 
 abbrev pub IsMeant : Template → Type 0
-IsMeant t = (bs : List ℕ) → length bs ≡ length t.cells → stands t.cells bs ≡ true → Means t bs
+IsMeant t = (bs : List ℕ) → length bs ≡ length t.cells → matches_cells t.cells bs ≡ true → Means t bs
 
 abbrev pub IsMeantFilled : Template → Type 0
-IsMeantFilled t = (bs : List ℕ) → stands t.cells (filled t.cells 0 bs) ≡ true → Means t (filled t.cells 0 bs)
+IsMeantFilled t = (bs : List ℕ) → matches_cells t.cells (filled t.cells 0 bs) ≡ true → Means t (filled t.cells 0 bs)
 
 by_shape : (t : Template) → IsMeantFilled t → IsMeant t
 by_shape t f bs long h = subst (λ (xs : List ℕ). Means t xs) (sym (shape t.cells bs long h)) (f bs (shape_stands t.cells bs long h))

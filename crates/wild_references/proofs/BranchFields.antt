@@ -30,7 +30,7 @@ use Rattle.wild_reloc.specs.TableAArch64.{static_row, signed}
 use Rattle.wild_reloc.specs.declared.expression.Subtrahend.{Subtrahend}
 use Rattle.wild_reloc.specs.declared.range.AllowedRange.{AllowedRange}
 use Rattle.wild_reloc.specs.declared.expression.Term.TheVariants as term
-use Rattle.wild_reloc.specs.declared.expression.Subtrahend.TheVariants as taken
+use Rattle.wild_reloc.specs.declared.expression.Subtrahend.TheVariants as subtrahend
 use Rattle.wild_reloc.specs.declared.info.PageMask.{PageMask}
 use Rattle.wild_reloc.specs.declared.info.RelocationKindInfo.{RelocationKindInfo}
 use Rattle.wild_reloc.specs.declared.info.RelocationSize.{RelocationSize}
@@ -53,7 +53,7 @@ use Rattle.wild_layout.specs.Geometry.{NamesSymbol, DefinitionNames}
 use Rattle.wild_layout.specs.Merged.{names_merged, address_for}
 use Rattle.wild_layout.specs.Sites.{field_site}
 use Rattle.wild_layout.specs.SlotValues.{address_of, stub_of, stub_address}
-use Rattle.wild_layout.specs.Values.{value_less, is_absent, is_place, is_own_place, undefined_weak_target, term_at, value_in}
+use Rattle.wild_layout.specs.Values.{subtract, is_undefined_weak_without_stub, subtracts_place, weak_resolves_to_place, undefined_weak_target, term_at, value_in}
 use Rattle.wild_layout.proofs.ChoiceLemmas.{IsChosenAArch64}
 use Rattle.wild_layout.proofs.DecideLemmas.{HasField}
 use Rattle.wild_layout.proofs.ThunkFieldLemmas.{IsCarried, ComesTo}
@@ -179,9 +179,9 @@ pub suits_goal : (l : Layout) (r : InputRelocation) (d : Branch) (goal : Goal) (
 suits_goal l r d goals.Symbol i on named = subst (λ (m : Machine). row_accepts m r (new_row d goals.Symbol) ≡ true) (sym on) (suits_named _ (not (is_none (new_row d goals.Symbol).mask)) r.symbol i named)
 suits_goal l r d goals.Stub i on named = subst (λ (m : Machine). row_accepts m r (new_row d goals.Stub) ≡ true) (sym on) (suits_named _ (not (is_none (new_row d goals.Stub).mask)) r.symbol i named)
 
-pub expressed_goal : (l : Layout) (d : Branch) (goal : Goal) → l.machine ≡ machine.AArch64 → is_expressed l.machine (expression_of (new_row d goal).kind).term (expression_of (new_row d goal).kind).taken (new_row d goal).mask ≡ true
-expressed_goal l d goals.Symbol on = subst (λ (m : Machine). is_expressed m term.Symbol taken.Place (new_row d goals.Symbol).mask ≡ true) (sym on) (subst (λ (o : Option PageMask). is_expressed machine.AArch64 term.Symbol taken.Place o ≡ true) (sym (no_mask d goals.Symbol)) refl)
-expressed_goal l d goals.Stub on = subst (λ (m : Machine). is_expressed m term.Stub taken.Place (new_row d goals.Stub).mask ≡ true) (sym on) (subst (λ (o : Option PageMask). is_expressed machine.AArch64 term.Stub taken.Place o ≡ true) (sym (no_mask d goals.Stub)) refl)
+pub expressed_goal : (l : Layout) (d : Branch) (goal : Goal) → l.machine ≡ machine.AArch64 → is_expressed l.machine (expression_of (new_row d goal).kind).term (expression_of (new_row d goal).kind).subtrahend (new_row d goal).mask ≡ true
+expressed_goal l d goals.Symbol on = subst (λ (m : Machine). is_expressed m term.Symbol subtrahend.Place (new_row d goals.Symbol).mask ≡ true) (sym on) (subst (λ (o : Option PageMask). is_expressed machine.AArch64 term.Symbol subtrahend.Place o ≡ true) (sym (no_mask d goals.Symbol)) refl)
+expressed_goal l d goals.Stub on = subst (λ (m : Machine). is_expressed m term.Stub subtrahend.Place (new_row d goals.Stub).mask ≡ true) (sym on) (subst (λ (o : Option PageMask). is_expressed machine.AArch64 term.Stub subtrahend.Place o ≡ true) (sym (no_mask d goals.Stub)) refl)
 
 -- a type that bars no symbol
 not_barred : (l : Layout) (flags i : ℕ) → l.machine ≡ machine.AArch64 → is_barred l flags 0 i ≡ false
@@ -291,7 +291,7 @@ both_weak true false e h = cc
 both_weak false stub e h = cc
 
 -- a branch with the stub as its goal goes by it, but to a symbol that is not there
-stub_left : (l : Layout) (s : Item) (r : InputRelocation) (d : Branch) (term : ℕ) → IsForDebuggers l → (IsOmitted l s r → ⊥) → IsBranch l s r d → (g : GoesWell l s r d goals.Stub) → is_own_place l.machine l r (new_row d goals.Stub) ≡ false → stub_address l (Some g.symbol) ≡ Ok term → ⊥
+stub_left : (l : Layout) (s : Item) (r : InputRelocation) (d : Branch) (term : ℕ) → IsForDebuggers l → (IsOmitted l s r → ⊥) → IsBranch l s r d → (g : GoesWell l s r d goals.Stub) → weak_resolves_to_place l.machine l r (new_row d goals.Stub) ≡ false → stub_address l (Some g.symbol) ≡ Ok term → ⊥
 stub_left l s r d term bare present b g here given =
     let there = stub_there l g.symbol term (given_some missing.Stub g.symbol (stub_of l g.symbol) term given) in
     elim (cases_Bool (goes_far d)) [
@@ -323,8 +323,8 @@ stub_left l s r d term bare present b g here given =
     indirect : goes_far d ≡ true → BranchesDirectly l s r g.symbol → ⊥
     indirect far direct = (let plain = flag_is l g.symbol ifunc false direct.plain in let both : true ≡ false = sym (g.chosen refl far) ∙ plain in cc)
 
-    present_one : is_absent l (Some g.symbol) ≡ false
-    present_one = subst (λ (o : Option ℕ). is_absent l o ≡ false) g.named (not_own l.machine l r (new_row d goals.Stub) here g.on refl (ap is_place (stub_row (new_row d goals.Stub) (no_mask d goals.Stub) refl).taken))
+    present_one : is_undefined_weak_without_stub l (Some g.symbol) ≡ false
+    present_one = subst (λ (o : Option ℕ). is_undefined_weak_without_stub l o ≡ false) g.named (not_own l.machine l r (new_row d goals.Stub) here g.on refl (ap subtracts_place (stub_row (new_row d goals.Stub) (no_mask d goals.Stub) refl).taken))
 
     stubbed : goes_far d ≡ false → has_flag (flags_at l g.symbol) plt_stub ≡ true
     stubbed near = both_weak (has_flag (flags_at l g.symbol) undefined_weak) (has_flag (flags_at l g.symbol) plt_stub) (g.weak near).weak present_one
@@ -341,9 +341,9 @@ goes_direct l s r d goals.Symbol term bare present b g given = λ takes j named 
     stub = inl (inr (subst TakesStub (sym (b.is ∙ far_value d (g.own refl).0)) tt), stubbed);
   }))),
 )
-goes_direct l s r d goals.Stub term bare present b g given = by_place (is_own_place l.machine l r (new_row d goals.Stub)) refl given
+goes_direct l s r d goals.Stub term bare present b g given = by_place (weak_resolves_to_place l.machine l r (new_row d goals.Stub)) refl given
   where
-    by_place : (b : Bool) → is_own_place l.machine l r (new_row d goals.Stub) ≡ b → (if b then Ok (undefined_weak_target r.number (place_of s.address r)) else stub_address l r.symbol) ≡ Ok term → is_own_place l.machine l r (new_row d goals.Stub) ≡ true
+    by_place : (b : Bool) → weak_resolves_to_place l.machine l r (new_row d goals.Stub) ≡ b → (if b then Ok (undefined_weak_target r.number (place_of s.address r)) else stub_address l r.symbol) ≡ Ok term → weak_resolves_to_place l.machine l r (new_row d goals.Stub) ≡ true
     by_place true e h = e
     by_place false e h = absurd (stub_left l s r d term bare present b g e (subst (λ (o : Option ℕ). stub_address l o ≡ Ok term) g.named h))
 
@@ -388,7 +388,7 @@ symbol_far l w m s r d x v bare present b g h t given =
     let raw : address_of l (Some k) ≡ Ok h.term = subst (λ (o : Option ℕ). address_of l o ≡ Ok h.term) g.named given in
     let there : HasRaw l k h.term = has_raw l k h.term (address_given l (Some k) h.term (rw plain at raw)) in
     let less = (symbol_row (new_row d goals.Symbol) (no_mask d goals.Symbol) refl).taken in
-    let value : ((h.term + cast_unsigned w64 r.addend) % 2 ^ 64 + (2 ^ 64 - (s.address + r.offset) % 2 ^ 64)) % 2 ^ 64 ≡ x = subst (λ (u : Subtrahend). value_less l u h.term r.addend (place_of s.address r) ≡ x) less h.value in
+    let value : ((h.term + cast_unsigned w64 r.addend) % 2 ^ 64 + (2 ^ 64 - (s.address + r.offset) % 2 ^ 64)) % 2 ^ 64 ≡ x = subst (λ (u : Subtrahend). subtract l u h.term r.addend (place_of s.address r) ≡ x) less h.value in
     let same : b.formula ≡ far_formula =
     (let e : Some b.formula ≡ Some far_formula = sym b.known ∙ (ap (λ (j : Machine). formula_of j r.number) g.on ∙ (ap aarch64_formula b.number ∙ far.formula)) in cc) in
     let at : x ≡ (h.term + cast_unsigned w64 r.addend + (2 ^ 64 - (s.address + r.offset))) % 2 ^ 64 = sym value ∙ distance_same h.term (cast_unsigned w64 r.addend) s.address r.offset b.low in
@@ -415,14 +415,14 @@ own_far l w m s r d goal x v h t term = (let c = carries_goal d goal t.thunkable
 
 -- a branch that is not left out goes by no thunk
 no_thunk : (l : Layout) (w : World) (m : Memory) (s : Item) (r : InputRelocation) (d : Branch) (goal : Goal) (x v : ℕ) → IsForDebuggers l → (IsOmitted l s r → ⊥) → IsBranch l s r d → GoesWell l s r d goal → HasTerm l w m s r (new_row d goal) x → IsCarried l s r (new_row d goal) x v → ⊥
-no_thunk l w m s r d goals.Symbol x v bare present b g h t = by_place (is_own_place l.machine l r (new_row d goals.Symbol)) refl h.given
+no_thunk l w m s r d goals.Symbol x v bare present b g h t = by_place (weak_resolves_to_place l.machine l r (new_row d goals.Symbol)) refl h.given
   where
-    by_place : (b : Bool) → is_own_place l.machine l r (new_row d goals.Symbol) ≡ b → (if b then Ok (undefined_weak_target r.number (place_of s.address r)) else address_for l r) ≡ Ok h.term → ⊥
+    by_place : (b : Bool) → weak_resolves_to_place l.machine l r (new_row d goals.Symbol) ≡ b → (if b then Ok (undefined_weak_target r.number (place_of s.address r)) else address_for l r) ≡ Ok h.term → ⊥
     by_place true e given = own_far l w m s r d goals.Symbol x v h t (let same : undefined_weak_target r.number (place_of s.address r) ≡ h.term = cc in same)
     by_place false e given = symbol_far l w m s r d x v bare present b g h t (sym (plain_address l r g.plain) ∙ given)
-no_thunk l w m s r d goals.Stub x v bare present b g h t = by_place (is_own_place l.machine l r (new_row d goals.Stub)) refl h.given
+no_thunk l w m s r d goals.Stub x v bare present b g h t = by_place (weak_resolves_to_place l.machine l r (new_row d goals.Stub)) refl h.given
   where
-    by_place : (b : Bool) → is_own_place l.machine l r (new_row d goals.Stub) ≡ b → (if b then Ok (undefined_weak_target r.number (place_of s.address r)) else stub_address l r.symbol) ≡ Ok h.term → ⊥
+    by_place : (b : Bool) → weak_resolves_to_place l.machine l r (new_row d goals.Stub) ≡ b → (if b then Ok (undefined_weak_target r.number (place_of s.address r)) else stub_address l r.symbol) ≡ Ok h.term → ⊥
     by_place true e given = own_far l w m s r d goals.Stub x v h t (let same : undefined_weak_target r.number (place_of s.address r) ≡ h.term = cc in same)
     by_place false e given = stub_left l s r d h.term bare present b g e (subst (λ (o : Option ℕ). stub_address l o ≡ Ok h.term) g.named given)
 

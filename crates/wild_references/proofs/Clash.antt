@@ -16,7 +16,7 @@ use Rattle.wild_relax.specs.Rows.{rows_x86_64}
 use Rattle.wild_relax.specs.LinkedPattern.{pattern_of, keeps_bytes}
 use Rattle.wild_loader.specs.declared.instruction.Cell as own-cell
 use Rattle.wild_loader.specs.declared.instruction.Cell.TheVariants.{Is, From, Slot, Digit, Any}
-use Rattle.wild_loader.specs.Instruction.{fits, stands}
+use Rattle.wild_loader.specs.Instruction.{fits, matches_cells}
 use Rattle.wild_meaning.specs.Sequence.{Instruction, instructions_of}
 use Rattle.wild_references.proofs.Fills.{is_any}
 
@@ -72,13 +72,13 @@ clash [] ds = false
 clash (c ∷ cs) [] = false
 clash (c ∷ cs) (d ∷ ds) = clashes c d || clash cs ds
 
-none_stand : (cs : List own-cell.Cell) (ds : List Cell) (bs : List ℕ) → clash cs ds ≡ true → stands cs bs ≡ true → pattern.stands ds bs ≡ true → ⊥
+none_stand : (cs : List own-cell.Cell) (ds : List Cell) (bs : List ℕ) → clash cs ds ≡ true → matches_cells cs bs ≡ true → pattern.matches_cells ds bs ≡ true → ⊥
 none_stand [] ds bs h e f = cc
 none_stand (c ∷ cs) [] bs h e f = cc
 none_stand (c ∷ cs) (d ∷ ds) [] h e f = cc
 none_stand (c ∷ cs) (d ∷ ds) (b ∷ bs) h e f =
-    let x = and_parts (fits c b) (stands cs bs) e in
-    let y = and_parts (pattern.fits d b) (pattern.stands ds bs) f in
+    let x = and_parts (fits c b) (matches_cells cs bs) e in
+    let y = and_parts (pattern.fits d b) (pattern.matches_cells ds bs) f in
     elim (or_cases (clashes c d) (clash cs ds) h) [ inl k ↦ none_fits c d b k x.0 y.0 | inr k ↦ none_stand cs ds bs k x.1 y.1 ]
 
 abbrev pub is_free : Cell → Bool
@@ -151,33 +151,33 @@ each_row_ok = refl
 -- ---- two templates in the same bytes
 
 -- cells stand on the front of the bytes, and the rest on the rest
-pub stands_more : (cs : List own-cell.Cell) (n : ℕ) (bs : List ℕ) → stands cs (take n bs) ≡ true → stands cs bs ≡ true
+pub stands_more : (cs : List own-cell.Cell) (n : ℕ) (bs : List ℕ) → matches_cells cs (take n bs) ≡ true → matches_cells cs bs ≡ true
 stands_more [] n bs h = refl
 stands_more (c ∷ cs) zero bs h = cc
 stands_more (c ∷ cs) (suc n) [] h = cc
 stands_more (c ∷ cs) (suc n) (b ∷ bs) h =
-    let x = and_parts (fits c b) (stands cs (take n bs)) h in
+    let x = and_parts (fits c b) (matches_cells cs (take n bs)) h in
     rw (x.0, stands_more cs n bs x.1) refl
 
-stands_drop : (s : ℕ) (cs : List own-cell.Cell) (bs : List ℕ) → stands cs bs ≡ true → stands (drop s cs) (drop s bs) ≡ true
+stands_drop : (s : ℕ) (cs : List own-cell.Cell) (bs : List ℕ) → matches_cells cs bs ≡ true → matches_cells (drop s cs) (drop s bs) ≡ true
 stands_drop zero cs bs h = h
 stands_drop (suc s) [] bs h = refl
 stands_drop (suc s) (c ∷ cs) [] h = cc
-stands_drop (suc s) (c ∷ cs) (b ∷ bs) h = stands_drop s cs bs (and_parts (fits c b) (stands cs bs) h).1
+stands_drop (suc s) (c ∷ cs) (b ∷ bs) h = stands_drop s cs bs (and_parts (fits c b) (matches_cells cs bs) h).1
 
-its_more : (ds : List Cell) (n : ℕ) (bs : List ℕ) → pattern.stands ds (take n bs) ≡ true → pattern.stands ds bs ≡ true
+its_more : (ds : List Cell) (n : ℕ) (bs : List ℕ) → pattern.matches_cells ds (take n bs) ≡ true → pattern.matches_cells ds bs ≡ true
 its_more [] n bs h = refl
 its_more (d ∷ ds) zero bs h = cc
 its_more (d ∷ ds) (suc n) [] h = cc
 its_more (d ∷ ds) (suc n) (b ∷ bs) h =
-    let x = and_parts (pattern.fits d b) (pattern.stands ds (take n bs)) h in
+    let x = and_parts (pattern.fits d b) (pattern.matches_cells ds (take n bs)) h in
     rw (x.0, its_more ds n bs x.1) refl
 
-its_drop : (s : ℕ) (ds : List Cell) (bs : List ℕ) → pattern.stands ds bs ≡ true → pattern.stands (drop s ds) (drop s bs) ≡ true
+its_drop : (s : ℕ) (ds : List Cell) (bs : List ℕ) → pattern.matches_cells ds bs ≡ true → pattern.matches_cells (drop s ds) (drop s bs) ≡ true
 its_drop zero ds bs h = h
 its_drop (suc s) [] bs h = refl
 its_drop (suc s) (d ∷ ds) [] h = cc
-its_drop (suc s) (d ∷ ds) (b ∷ bs) h = its_drop s ds bs (and_parts (pattern.fits d b) (pattern.stands ds bs) h).1
+its_drop (suc s) (d ∷ ds) (b ∷ bs) h = its_drop s ds bs (and_parts (pattern.fits d b) (pattern.matches_cells ds bs) h).1
 
 -- no byte of a field of the first, at a, is among the bytes of the second, at b
 abbrev pub IsUncovered : List own-cell.Cell → List Cell → ℕ → ℕ → Type 0
@@ -208,8 +208,8 @@ before_not cs ds s a b e u h =
 
 -- two templates, with a byte that and_parts fix
 pub record Meet (cs : List own-cell.Cell) (ds : List Cell) (bytes : List ℕ) (a b : ℕ) : Type 0 where
-  pub first : stands cs (slice_range bytes a (a + length cs)) ≡ true
-  pub second : pattern.stands ds (slice_range bytes b (b + length ds)) ≡ true
+  pub first : matches_cells cs (slice_range bytes a (a + length cs)) ≡ true
+  pub second : pattern.matches_cells ds (slice_range bytes b (b + length ds)) ≡ true
   pub own : ℕ
   pub other : ℕ
   pub same : a + own ≡ b + other
@@ -228,7 +228,7 @@ behind cs ds bytes a b s e t h =
     let fixed : is_any (get_or (drop s cs) t.other Any) ≡ false = subst (λ (x : own-cell.Cell). is_any x ≡ false) (sym (get_or-drop s cs t.other Any)) (subst (λ (x : ℕ). is_any (get_or cs x Any) ≡ false) split t.own_fixed) in
     let touches = touch_at (drop s cs) ds t.other (omega (arith, n, inside, split)) t.other_inside fixed t.other_fixed in
     let here : drop b bytes ≡ drop s (drop a bytes) = ap (λ (x : ℕ). drop x bytes) e ∙ sym (drop-drop s a bytes) in
-    let first : stands (drop s cs) (drop b bytes) ≡ true = subst (λ (x : List ℕ). stands (drop s cs) x ≡ true) (sym here) (stands_drop s cs (drop a bytes) (stands_more cs (a + length cs - a) (drop a bytes) t.first)) in
+    let first : matches_cells (drop s cs) (drop b bytes) ≡ true = subst (λ (x : List ℕ). matches_cells (drop s cs) x ≡ true) (sym here) (stands_drop s cs (drop a bytes) (stands_more cs (a + length cs - a) (drop a bytes) t.first)) in
     let second = its_more ds (b + length ds - b) (drop b bytes) t.second in
     none_of (touch (drop s cs) ds) (clash (drop s cs) ds) (covers (drop s cs) ds) (below_at (length cs) (λ s. ok (drop s cs) ds) s (omega (arith, inside, split)) h) touches
     (λ k. none_stand (drop s cs) ds (drop b bytes) k first second)
@@ -244,7 +244,7 @@ before cs ds bytes a b s e t h =
     let touches = touch_at cs (drop s ds) t.own t.own_inside (omega (arith, n, inside, split)) t.own_fixed fixed in
     let here : drop a bytes ≡ drop s (drop b bytes) = ap (λ (x : ℕ). drop x bytes) e ∙ sym (drop-drop s b bytes) in
     let first = stands_more cs (a + length cs - a) (drop a bytes) t.first in
-    let second : pattern.stands (drop s ds) (drop a bytes) ≡ true = subst (λ (x : List ℕ). pattern.stands (drop s ds) x ≡ true) (sym here) (its_drop s ds (drop b bytes) (its_more ds (b + length ds - b) (drop b bytes) t.second)) in
+    let second : pattern.matches_cells (drop s ds) (drop a bytes) ≡ true = subst (λ (x : List ℕ). pattern.matches_cells (drop s ds) x ≡ true) (sym here) (its_drop s ds (drop b bytes) (its_more ds (b + length ds - b) (drop b bytes) t.second)) in
     none_of (touch cs (drop s ds)) (clash cs (drop s ds)) (covers cs (drop s ds)) (below_at (length ds) (λ s. ok cs (drop s ds)) s (omega (arith, inside, split)) h) touches
     (λ k. none_stand cs (drop s ds) (drop a bytes) k first second)
     (λ k. before_not cs ds s a b e t.uncovered k)

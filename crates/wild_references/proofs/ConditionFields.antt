@@ -27,7 +27,7 @@ use Rattle.wild_relax.specs.Relaxation.{chosen_row_of}
 use Rattle.wild_relax.proofs.TogetherLemmas.{conditional_chosen}
 use Rattle.wild_layout.specs.declared.decision.Decision.{Decision}
 use Rattle.wild_layout.specs.Choice.{nameless, question_around, choice_on, choice}
-use Rattle.wild_layout.specs.Values.{value_less, is_absent, undefined_weak_target, term_at, value_in}
+use Rattle.wild_layout.specs.Values.{subtract, is_undefined_weak_without_stub, undefined_weak_target, term_at, value_in}
 use Rattle.wild_layout.proofs.QuestionLemmas.{around_choice}
 use Rattle.wild_layout.proofs.ChoiceLemmas.{relocation_around}
 use Rattle.wild_layout.proofs.DecisionLemmas.{IsOwn, goes_far}
@@ -85,7 +85,7 @@ own_goes l s i r d k own listed room fit inside named whose g =
 -- ---- a branch to a weak symbol that no module has
 
 -- the place itself stands for it, whatever the row goes to
-own_term : (l : Layout) (r : InputRelocation) (d : Branch) (goal : Goal) (p : ℕ) → l.machine ≡ machine.AArch64 → is_absent l r.symbol ≡ true → term_at l r (new_row d goal) p ≡ Ok (undefined_weak_target r.number p)
+own_term : (l : Layout) (r : InputRelocation) (d : Branch) (goal : Goal) (p : ℕ) → l.machine ≡ machine.AArch64 → is_undefined_weak_without_stub l r.symbol ≡ true → term_at l r (new_row d goal) p ≡ Ok (undefined_weak_target r.number p)
 own_term l r d goals.Symbol p on none =
     let mask = no_mask d goals.Symbol in
     rw (on, mask, none) refl
@@ -96,11 +96,11 @@ own_term l r d goals.Stub p on none =
 value_place : (l : Layout) (r : InputRelocation) (d : Branch) (goal : Goal) (t p : ℕ) → value_in l (new_row d goal) t r.addend p ≡ value_in l (new_row d goals.Symbol) t r.addend p
 value_place l r d goals.Symbol t p = refl
 value_place l r d goals.Stub t p =
-    ap (λ (o : Option PageMask). value_less l (subtrahend_of kinds.PltRelative o) t r.addend p) (no_mask d goals.Stub)
-    ∙ sym (ap (λ (o : Option PageMask). value_less l (subtrahend_of kinds.Relative o) t r.addend p) (no_mask d goals.Symbol))
+    ap (λ (o : Option PageMask). subtract l (subtrahend_of kinds.PltRelative o) t r.addend p) (no_mask d goals.Stub)
+    ∙ sym (ap (λ (o : Option PageMask). subtract l (subtrahend_of kinds.Relative o) t r.addend p) (no_mask d goals.Symbol))
 
 -- what the row writes is what that of the symbol itself would
-as_symbol : (l : Layout) (w : World) (m : Memory) (s : Item) (r : InputRelocation) → (b : BranchReads l w m s r) → is_absent l r.symbol ≡ true → ((i : ℕ) → r.symbol ≡ Some i → HasStubAddress l i → ⊥) → HasPlace l r → MustHold l w s r → HasTerm l w m s r (new_row b.distance goals.Symbol) b.term
+as_symbol : (l : Layout) (w : World) (m : Memory) (s : Item) (r : InputRelocation) → (b : BranchReads l w m s r) → is_undefined_weak_without_stub l r.symbol ≡ true → ((i : ℕ) → r.symbol ≡ Some i → HasStubAddress l i → ⊥) → HasPlace l r → MustHold l w s r → HasTerm l w m s r (new_row b.distance goals.Symbol) b.term
 as_symbol l w m s r b none bare place asked =
     let t = b.there in
     let g = b.goes in
@@ -123,7 +123,7 @@ as_symbol l w m s r b none bare place asked =
       asked = λ relative movable j named absolute. asked (record { movable = movable; symbol = j; named = named; absolute = absolute; relative = inl place });
     }
 
-near_links : (l : Layout) (w : World) (m : Memory) (s : Item) (r : InputRelocation) → LinkedLaws → (b : BranchReads l w m s r) → MustHold l w s r → (a : UsesOwnSymbolOnly l s r) → goes_far b.distance ≡ false → is_absent l r.symbol ≡ true → FieldIsLinked l w m s r
+near_links : (l : Layout) (w : World) (m : Memory) (s : Item) (r : InputRelocation) → LinkedLaws → (b : BranchReads l w m s r) → MustHold l w s r → (a : UsesOwnSymbolOnly l s r) → goes_far b.distance ≡ false → is_undefined_weak_without_stub l r.symbol ≡ true → FieldIsLinked l w m s r
 near_links l w m s r laws b asked a near none =
     let same = comes_alone l s r (new_row b.distance b.goal) b.term b.value (near_alone b.distance b.goal near) b.comes in
     let is : b.formula.value ≡ Distance = b.is ∙ near_value b.distance near in
@@ -174,7 +174,7 @@ branch_links l w m s r laws b asked a =
               })))
         ]
 
-    absent : goes_far b.distance ≡ false → is_absent l r.symbol ≡ true
+    absent : goes_far b.distance ≡ false → is_undefined_weak_without_stub l r.symbol ≡ true
     absent near =
         let weak = (b.goes.weak near).weak in
         let none = stubless near in

@@ -167,8 +167,8 @@ descriptor_stands l w m i at r p all d e asked =
     let there = if pair then (if offset then at + 8 else at) + 16 else (if offset then at + 8 else at) in
     descriptor_at l w m i there (after_pair pair (after_word offset at)) (described_at l w m i there r p d asked last) (λ low. place_same w.base at offset pair low)
 
-pub descriptors_stand : (l : Layout) (w : World) (m : Memory) → IsPlaced l w m → KeepsAll l → SlotsStand sorts.Descriptor l w m
-descriptors_stand l w m p all = λ i slot h. by_slot sorts.Descriptor l i slot (λ (n : ℕ). SlotStands Descriptor l w m i n) h (λ r at d e among. by_flag i slot r at d e (has_flag r.flags got_tls_descriptor) refl among)
+pub descriptors_stand : (l : Layout) (w : World) (m : Memory) → IsPlaced l w m → KeepsAll l → SlotsStand sorts.TlsDesc l w m
+descriptors_stand l w m p all = λ i slot h. by_slot sorts.TlsDesc l i slot (λ (n : ℕ). SlotStands Descriptor l w m i n) h (λ r at d e among. by_flag i slot r at d e (has_flag r.flags got_tls_descriptor) refl among)
   where
     by_flag : (i slot : ℕ) (r : Resolution) (at : ℕ) → IsResolvedBy l i r → r.got_address ≡ Some at → (b : Bool) → has_flag r.flags got_tls_descriptor ≡ b → (if b then Some (after_pair (has_flag r.flags got_tls_module) (after_word (has_flag r.flags got_tls_offset) at)) else None) ≡ Some slot → SlotStands Descriptor l w m i slot
     by_flag i slot r at d e true asked h =

@@ -80,8 +80,8 @@ lea_kept l s r next own_row open_row i a b none named first second other thread 
     ]
 
 -- a symbol with a descriptor is none that a resolver chooses
-described_plain : (l : Layout) (i slot : ℕ) → SymbolsFit l → slot_of l sorts.Descriptor i ≡ Some slot → has_flag (flags_at l i) ifunc ≡ false
-described_plain l i slot fit h = by_slot sorts.Descriptor l i slot (λ (n : ℕ). has_flag (flags_at l i) ifunc ≡ false) h (λ r at d e among. by_flag r at d (has_flag r.flags got_tls_descriptor) refl among)
+described_plain : (l : Layout) (i slot : ℕ) → SymbolsFit l → slot_of l sorts.TlsDesc i ≡ Some slot → has_flag (flags_at l i) ifunc ≡ false
+described_plain l i slot fit h = by_slot sorts.TlsDesc l i slot (λ (n : ℕ). has_flag (flags_at l i) ifunc ≡ false) h (λ r at d e among. by_flag r at d (has_flag r.flags got_tls_descriptor) refl among)
   where
     by_flag : (r : Resolution) (at : ℕ) → IsResolvedBy l i r → (b : Bool) → has_flag r.flags got_tls_descriptor ≡ b → (if b then Some (after_pair (has_flag r.flags got_tls_module) (after_word (has_flag r.flags got_tls_offset) at)) else None) ≡ Some slot → has_flag (flags_at l i) ifunc ≡ false
     by_flag r at d false asked h = cc
@@ -95,7 +95,7 @@ described_plain l i slot fit h = by_slot sorts.Descriptor l i slot (λ (n : ℕ)
 pub descriptor_kept : (l : Layout) (s : Item) (r : InputRelocation) (next : Option InputRelocation) (i term : ℕ) → choice_of l s r next ≡ Ok None → l.machine ≡ machine.X86_64 → SymbolsFit l → r.symbol ≡ Some i → (r.number ≡ r_x86_64_gotpc32_tlsdesc) ⊎ (r.number ≡ r_x86_64_code_4_gotpc32_tlsdesc) → term_of l r.symbol kinds.TlsDesc ≡ Ok term → r.offset ≤ length s.bytes → HasOffsetMode l s → ⊥
 descriptor_kept l s r next i term none x86 fit named number given inside h =
     let here : term_of l (Some i) kinds.TlsDesc ≡ Ok term = subst (λ (o : Option ℕ). term_of l o kinds.TlsDesc ≡ Ok term) named given in
-    let plain = described_plain l i term fit (given_some missing.Slot i (slot_of l sorts.Descriptor i) term here) in
+    let plain = described_plain l i term fit (given_some missing.Slot i (slot_of l sorts.TlsDesc i) term here) in
     let q = question_of l s r i next in
     let k = rows_stand l x86 h.0 in
     let code = code_bit s.flags h.1 in

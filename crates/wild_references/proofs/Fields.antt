@@ -23,8 +23,8 @@ use Rattle.wild_reloc.specs.declared.expression.Term.TheVariants as term
 use Rattle.wild_reloc.specs.declared.info.RelocationSize.{RelocationSize}
 use Rattle.wild_reloc.specs.Expression.{subtrahend_of}
 use Rattle.wild_reloc.specs.declared.expression.Subtrahend.{Subtrahend}
-use Rattle.wild_reloc.specs.declared.expression.Subtrahend.TheVariants as taken
-use Rattle.wild_layout.specs.Values.{value_less, value_in}
+use Rattle.wild_reloc.specs.declared.expression.Subtrahend.TheVariants as subtrahend
+use Rattle.wild_layout.specs.Values.{subtract, value_in}
 use Rattle.wild_layout.specs.Sites.{field_site}
 use Rattle.wild_layout.proofs.DecideLemmas.{HasField, field_has_bytes}
 use Rattle.wild_layout.proofs.ThunkFieldLemmas.{ComesTo}
@@ -94,7 +94,7 @@ pub record KindLaws : Type 0 where
   pub thunk : ThunksGive
   pub slot : SlotsGive
   pub part : PartsGive
-  pub table : TermGives term.Table
+  pub table : TermGives term.GotBase
   pub size : TermGives term.Size
   pub pointer : TermGives term.PointerOffset
   pub own : TermGives term.ModuleOffset
@@ -192,14 +192,14 @@ row_keeps l s r row v bytes inside fits = by_machine l.machine refl bytes
     by_machine machine.X86_64 e b = unique_table r.number fits.formula (subst (λ (k : Machine). formula_of k r.number ≡ Some fits.formula) e fits.known) (old_field s r row) (written row v (old_field s r row))
     by_machine machine.AArch64 e b = fits.keeps v (old_field s r row) (small_range s.bytes r.offset (size_width row.size) b inside) (length-range s.bytes r.offset (size_width row.size) inside)
 
-less_below : (l : Layout) (less : Subtrahend) (s p : ℕ) (a : ℤ) → value_less l less s a p < 2 ^ 64
-less_below l taken.Nothing s p a = omega arith
-less_below l taken.Place s p a = omega arith
-less_below l taken.Table s p a = omega arith
-less_below l taken.PagePlace s p a = omega arith
-less_below l taken.PageTable s p a = omega arith
+less_below : (l : Layout) (less : Subtrahend) (s p : ℕ) (a : ℤ) → subtract l less s a p < 2 ^ 64
+less_below l subtrahend.Nothing s p a = omega arith
+less_below l subtrahend.Place s p a = omega arith
+less_below l subtrahend.GotBase s p a = omega arith
+less_below l subtrahend.PageOfPlace s p a = omega arith
+less_below l subtrahend.PageOfGot s p a = omega arith
 
-pub below_all : (l : Layout) (less : Subtrahend) (s p v : ℕ) (a : ℤ) → value_less l less s a p ≡ v → v < 2 ^ 64
+pub below_all : (l : Layout) (less : Subtrahend) (s p v : ℕ) (a : ℤ) → subtract l less s a p ≡ v → v < 2 ^ 64
 below_all l less s p v a e = subst (λ (n : ℕ). n < 2 ^ 64) e (less_below l less s p a)
 
 -- and so is what is written for it

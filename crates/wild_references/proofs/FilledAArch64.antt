@@ -15,7 +15,7 @@ use Rattle.wild_aarch64.specs.declared.operand.Operand as run-operand
 use Rattle.wild_aarch64.specs.declared.operand.Deed.TheVariants as runs
 use Rattle.wild_aarch64.specs.Immediate.{Field, word_with_immediate, insert_bits, bits_of_field, Imm12, Imm14, Imm16, Imm19, Imm21, Imm26}
 use Rattle.wild_aarch64.specs.Immediate as word
-use Rattle.wild_aarch64.specs.Slice.{bits, signed, Fixed, Form, stands}
+use Rattle.wild_aarch64.specs.Slice.{bits, signed, Fixed, Form, has_fixed_bits}
 use Rattle.wild_aarch64.specs.Forms.{branch, call, forms, addresses, accesses, vector_accesses, literals, transfers, conditions}
 use Rattle.wild_aarch64.specs.FilledForms.{filled_forms, forms_at, forms_filled}
 use Rattle.wild_aarch64.specs.Code.{read, read_by, read_address, read_access, read_vector_access, read_literal, read_transfer, read_condition}
@@ -56,19 +56,19 @@ no_both w f g h e k =
     let none : not true ≡ true = subst (λ (b : Bool). not b ≡ true) same two.1 in
     cc
 
-no_clash : (w : ℕ) (f : Fixed) (gs : List Fixed) → clashes f gs ≡ true → bits f.low f.count w ≡ f.value → stands gs w ≡ true → ⊥
+no_clash : (w : ℕ) (f : Fixed) (gs : List Fixed) → clashes f gs ≡ true → bits f.low f.count w ≡ f.value → has_fixed_bits gs w ≡ true → ⊥
 no_clash w f [] h e s = absurd (let none : false ≡ true = h in cc)
 no_clash w f (g ∷ gs) h e s =
-    let t = and_parts (bits g.low g.count w == g.value) (stands gs w) s in
+    let t = and_parts (bits g.low g.count w == g.value) (has_fixed_bits gs w) s in
     elim (or_cases (differs f g) (clashes f gs) h) [
       | inl d ↦ no_both w f g d e (eqb-true (bits g.low g.count w) g.value t.0)
       | inr c ↦ no_clash w f gs c e t.1
     ]
 
-not_both : (w : ℕ) (fs gs : List Fixed) → are_apart fs gs ≡ true → stands fs w ≡ true → stands gs w ≡ true → ⊥
+not_both : (w : ℕ) (fs gs : List Fixed) → are_apart fs gs ≡ true → has_fixed_bits fs w ≡ true → has_fixed_bits gs w ≡ true → ⊥
 not_both w [] gs h s t = absurd (let none : false ≡ true = h in cc)
 not_both w (f ∷ fs) gs h s t =
-    let p = and_parts (bits f.low f.count w == f.value) (stands fs w) s in
+    let p = and_parts (bits f.low f.count w == f.value) (has_fixed_bits fs w) s in
     elim (or_cases (clashes f gs) (are_apart fs gs) h) [
       | inl c ↦ no_clash w f gs c (eqb-true (bits f.low f.count w) f.value p.0) t
       | inr a ↦ not_both w fs gs a p.1 t
@@ -79,14 +79,14 @@ not_both w (f ∷ fs) gs h s t =
 is_of_none : (fs : List Form) (w : ℕ) → is_of fs w ≡ false → read_by fs w ≡ None
 is_of_none [] w h = refl
 is_of_none (f ∷ fs) w h =
-    let p = or_parts (stands f.fixed w) (is_of fs w) h in
+    let p = or_parts (has_fixed_bits f.fixed w) (is_of fs w) h in
     let rest = is_of_none fs w p.1 in
     rw (p.0, rest) refl
 
 of_both : (xs ys : List Form) (w : ℕ) → is_of (xs ++ ys) w ≡ false → (is_of xs w ≡ false) × (is_of ys w ≡ false)
 of_both [] ys w h = (refl, h)
 of_both (f ∷ xs) ys w h =
-    let p = or_parts (stands f.fixed w) (is_of (xs ++ ys) w) h in
+    let p = or_parts (has_fixed_bits f.fixed w) (is_of (xs ++ ys) w) h in
     let q = of_both xs ys w p.1 in
     (rw (p.0, q.0) refl, q.1)
 
@@ -111,14 +111,14 @@ no_form w h =
 pub record HasForm (fs : List Form) (w : ℕ) : Type 0 where
   pub form : Form
   pub known : Contains fs form
-  pub there : stands form.fixed w ≡ true
+  pub there : has_fixed_bits form.fixed w ≡ true
   pub put : (v : ℕ) → with_field_of fs v w ≡ word_with_immediate form.field v w
 
 first_form : (fs : List Form) (w : ℕ) → is_of fs w ≡ true → HasForm fs w
 first_form [] w h = absurd (let none : false ≡ true = h in cc)
-first_form (f ∷ fs) w h = by (stands f.fixed w) refl (λ later. first_form fs w later)
+first_form (f ∷ fs) w h = by (has_fixed_bits f.fixed w) refl (λ later. first_form fs w later)
   where
-    by : (b : Bool) → stands f.fixed w ≡ b → (is_of fs w ≡ true → HasForm fs w) → HasForm (f ∷ fs) w
+    by : (b : Bool) → has_fixed_bits f.fixed w ≡ b → (is_of fs w ≡ true → HasForm fs w) → HasForm (f ∷ fs) w
     by true e rest = record { form = f; known = (0, omega arith, refl); there = e; put = λ v. rw e refl }
     by false e rest =
         let later : is_of fs w ≡ true = rw e at h in
@@ -198,16 +198,16 @@ placed_in (e ∷ es) n w h s =
         let later : is_of (forms_at es n) w ≡ true = rw t at s in
         rw t (rest later)
 
-same_in : (p : Place) (fs gs : List Form) (w : ℕ) (f : Form) → list_all (λ (g : Form). same_place p g.field || are_apart f.fixed g.fixed) gs ≡ true → stands f.fixed w ≡ true → (g : Form) → Contains gs g → stands g.fixed w ≡ true → same_place p g.field ≡ true
+same_in : (p : Place) (fs gs : List Form) (w : ℕ) (f : Form) → list_all (λ (g : Form). same_place p g.field || are_apart f.fixed g.fixed) gs ≡ true → has_fixed_bits f.fixed w ≡ true → (g : Form) → Contains gs g → has_fixed_bits g.fixed w ≡ true → same_place p g.field ≡ true
 same_in p fs gs w f h s g c t =
     let one : (same_place p g.field || are_apart f.fixed g.fixed) ≡ true = listed_passes (λ (g : Form). same_place p g.field || are_apart f.fixed g.fixed) gs g h c in
     elim (or_cases (same_place p g.field) (are_apart f.fixed g.fixed) one) [ inl a ↦ a | inr b ↦ absurd (not_both w f.fixed g.fixed b s t) ]
 
-same_of : (p : Place) (fs : List Form) (w : ℕ) → places p fs ≡ true → is_of fs w ≡ true → (g : Form) → Contains forms g → stands g.fixed w ≡ true → same_place p g.field ≡ true
+same_of : (p : Place) (fs : List Form) (w : ℕ) → places p fs ≡ true → is_of fs w ≡ true → (g : Form) → Contains forms g → has_fixed_bits g.fixed w ≡ true → same_place p g.field ≡ true
 same_of p [] w h s g c t = absurd (let none : false ≡ true = s in cc)
 same_of p (f ∷ fs) w h s g c t =
     let q = and_parts (list_all (λ (g : Form). same_place p g.field || are_apart f.fixed g.fixed) forms) (places p fs) h in
-    elim (or_cases (stands f.fixed w) (is_of fs w) s) [
+    elim (or_cases (has_fixed_bits f.fixed w) (is_of fs w) s) [
       | inl here ↦ same_in p (f ∷ fs) forms w f q.0 here g c t
       | inr later ↦ same_of p fs w q.1 later g c t
     ]
@@ -262,7 +262,7 @@ one_word (a ∷ b ∷ c ∷ e ∷ []) h = refl
 one_word (a ∷ b ∷ c ∷ e ∷ x ∷ bs) h = absurd (omega (arith, h))
 
 -- with other bits in its field it does something too
-pub told_with : (w u a : ℕ) (g : Form) (v : ℕ) → Contains forms g → stands g.fixed w ≡ true → word_with_immediate g.field v w ≡ u → has_known_meaning (run (shapes (w ∷ [])) 0 []) ≡ true → IsNumbered (meaning a (u ∷ []))
+pub told_with : (w u a : ℕ) (g : Form) (v : ℕ) → Contains forms g → has_fixed_bits g.fixed w ≡ true → word_with_immediate g.field v w ≡ u → has_known_meaning (run (shapes (w ∷ [])) 0 []) ≡ true → IsNumbered (meaning a (u ∷ []))
 told_with w u a g v c s e told =
     let old : read w ≡ Some (g.code w (word.immediate g.field w)) = forms_are_read g c w s in
     let new : read u ≡ Some (g.code w (bits_of_field g.field v)) = subst (λ (k : ℕ). read k ≡ Some (g.code w (bits_of_field g.field v))) e (fields_are_written g c w v s) in
@@ -340,13 +340,13 @@ word_does n a x f old new r known filled long whole reads keeps numbers = by f.f
 -- ---- branches
 
 -- with a distance in its field the word of a branch goes that far
-pub jump_word : (w u x : ℕ) → stands branch.fixed w ≡ true → sign_extended 28 (immediate Imm26Field u * 2 ^ 2) ≡ x → others Imm26Field w ≡ others Imm26Field u → read u ≡ Some (B x)
+pub jump_word : (w u x : ℕ) → has_fixed_bits branch.fixed w ≡ true → sign_extended 28 (immediate Imm26Field u * 2 ^ 2) ≡ x → others Imm26Field w ≡ others Imm26Field u → read u ≡ Some (B x)
 jump_word w u x s decodes keeps =
     let put : word_with_immediate Imm26 (immediate Imm26Field u) w ≡ u = put_back Imm26Field Imm26 w u (immediate Imm26Field u) refl keeps refl in
     let at : bits_of_field Imm26 (immediate Imm26Field u) ≡ immediate Imm26Field u = omega arith in
     subst (λ (k : ℕ). read k ≡ Some (B x)) put (b_field w (immediate Imm26Field u) s ∙ ap (λ (i : ℕ). Some (B (signed 28 (i * 4)))) at ∙ ap (λ (d : ℕ). Some (B d)) decodes)
 
-pub call_word : (w u x : ℕ) → stands call.fixed w ≡ true → sign_extended 28 (immediate Imm26Field u * 2 ^ 2) ≡ x → others Imm26Field w ≡ others Imm26Field u → read u ≡ Some (Bl x)
+pub call_word : (w u x : ℕ) → has_fixed_bits call.fixed w ≡ true → sign_extended 28 (immediate Imm26Field u * 2 ^ 2) ≡ x → others Imm26Field w ≡ others Imm26Field u → read u ≡ Some (Bl x)
 call_word w u x s decodes keeps =
     let put : word_with_immediate Imm26 (immediate Imm26Field u) w ≡ u = put_back Imm26Field Imm26 w u (immediate Imm26Field u) refl keeps refl in
     let at : bits_of_field Imm26 (immediate Imm26Field u) ≡ immediate Imm26Field u = omega arith in
@@ -409,10 +409,10 @@ branch_does n a t x old new r one filled long whole reads keeps numbers is = by 
 
     by : (n ≡ r_aarch64_jump26) ⊎ (n ≡ r_aarch64_call26) → BranchDoes r a t old new
     by (inl e) =
-        let there : stands branch.fixed w ≡ true = alone (stands branch.fixed w) (subst (λ (k : ℕ). is_of (forms_filled k) w ≡ true) e of) in
+        let there : has_fixed_bits branch.fixed w ≡ true = alone (has_fixed_bits branch.fixed w) (subst (λ (k : ℕ). is_of (forms_filled k) w ≡ true) e of) in
         let old_read = jump_word w w (signed 28 (immediate Imm26Field w * 4)) there refl refl in
         of_words (from_jump r a t x w u _ numbers old_read (jump_word w u x there reads.decodes keeps) is)
     by (inr e) =
-        let there : stands call.fixed w ≡ true = alone (stands call.fixed w) (subst (λ (k : ℕ). is_of (forms_filled k) w ≡ true) e of) in
+        let there : has_fixed_bits call.fixed w ≡ true = alone (has_fixed_bits call.fixed w) (subst (λ (k : ℕ). is_of (forms_filled k) w ≡ true) e of) in
         let old_read = call_word w w (signed 28 (immediate Imm26Field w * 4)) there refl refl in
         of_words (from_call r a t x w u _ numbers old_read (call_word w u x there reads.decodes keeps) is)

@@ -10,7 +10,7 @@ use Rattle.wild_loader.specs.declared.instruction.Operand.TheVariants.{Number, W
 use Rattle.wild_loader.specs.declared.instruction.Action.{Action}
 use Rattle.wild_loader.specs.declared.instruction.Deed.{Deed}
 use Rattle.wild_loader.specs.declared.instruction.Deed.TheVariants.{Set, Add, Subtract, Compare, Call, Jump}
-use Rattle.wild_loader.specs.Instruction.{fits, stands, Reader, Effect, effect, with_value, as_value}
+use Rattle.wild_loader.specs.Instruction.{fits, matches_cells, Reader, Effect, effect, with_value, as_value}
 use Rattle.wild_loader.specs.CodeX86_64.{bare, rex, rex2, branch, with_slot}
 use Rattle.wild_loader.specs.ThreadCodeX86_64.{general_call, general_slot_call, far_pair_call, local_call, local_slot_call}
 use Rattle.wild_loader.specs.InstructionX86_64.{descriptor_call}
@@ -60,13 +60,13 @@ fits_any (Digit n) b d h = cc
 
 -- from cell k on
 stands_too : (own : ℕ → Bool) (cs : List Cell) (old new whole_old whole_new : List ℕ) (k : ℕ) → ((i : ℕ) → get_or whole_old (k + i) 0 ≡ get_or old i 0) → ((i : ℕ) → get_or whole_new (k + i) 0 ≡ get_or new i 0)
-    → length new ≡ length cs → ((i : ℕ) → i < k + length cs → own i ≡ true → get_or whole_new i 0 ≡ get_or whole_old i 0) → covered own cs k ≡ true → stands cs old ≡ true → stands cs new ≡ true
+    → length new ≡ length cs → ((i : ℕ) → i < k + length cs → own i ≡ true → get_or whole_new i 0 ≡ get_or whole_old i 0) → covered own cs k ≡ true → matches_cells cs old ≡ true → matches_cells cs new ≡ true
 stands_too own [] old new wo wn k so sn long same h s = refl
 stands_too own (c ∷ cs) [] new wo wn k so sn long same h s = cc
 stands_too own (c ∷ cs) (b ∷ old) [] wo wn k so sn long same h s = absurd (omega arith)
 stands_too own (c ∷ cs) (b ∷ old) (d ∷ new) wo wn k so sn long same h s =
     let z : k + 0 ≡ k = omega arith in
-    let one = and_parts (fits c b) (stands cs old) s in
+    let one = and_parts (fits c b) (matches_cells cs old) s in
     let two = and_parts (is_any c || own k) (covered own cs (k + 1)) h in
     let ob : get_or wo k 0 ≡ b = subst (λ (j : ℕ). get_or wo j 0 ≡ b) z (so 0) in
     let nd : get_or wn k 0 ≡ d = subst (λ (j : ℕ). get_or wn j 0 ≡ d) z (sn 0) in
@@ -78,12 +78,12 @@ stands_too own (c ∷ cs) (b ∷ old) (d ∷ new) wo wn k so sn long same h s =
     let no : (i : ℕ) → get_or wo (k + 1 + i) 0 ≡ get_or old i 0 = λ i. subst (λ (j : ℕ). get_or wo j 0 ≡ get_or old i 0) (omega arith) (so (suc i)) in
     let nn : (i : ℕ) → get_or wn (k + 1 + i) 0 ≡ get_or new i 0 = λ i. subst (λ (j : ℕ). get_or wn j 0 ≡ get_or new i 0) (omega arith) (sn (suc i)) in
     let rest = stands_too own cs old new wo wn (k + 1) no nn (omega arith) (λ i lt is. same i (omega arith) is) two.1 one.1 in
-    and_from (fits c d) (stands cs new) first rest
+    and_from (fits c d) (matches_cells cs new) first rest
 
 from_zero : (bs : List ℕ) (i : ℕ) → get_or bs (0 + i) 0 ≡ get_or bs i 0
 from_zero bs i = subst (λ (j : ℕ). get_or bs j 0 ≡ get_or bs i 0) (omega arith) refl
 
-filled_stands : (o : Instruction) (old new : List ℕ) → covered (is_own o) o.template.cells 0 ≡ true → IsFilled o old new → stands o.template.cells new ≡ true
+filled_stands : (o : Instruction) (old new : List ℕ) → covered (is_own o) o.template.cells 0 ≡ true → IsFilled o old new → matches_cells o.template.cells new ≡ true
 filled_stands o old new c f = stands_too (is_own o) o.template.cells old new old new 0 (from_zero old) (from_zero new) f.whole (λ i lt is. f.same i (own_is o i (omega arith) is)) c f.stood
 
 -- ---- actions

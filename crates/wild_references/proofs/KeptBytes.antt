@@ -211,7 +211,7 @@ kept_apart l s at width j q row v x x86 whole f h low high =
 record IsKeptHere (l : Layout) (s : Item) (start : ℕ) (o : Instruction) : Type 0 where
   filled : IsFilled o
   inside : start + size_of o ≤ length s.bytes
-  stands : code.stands o.template.cells (slice_range s.bytes start (start + size_of o)) ≡ true
+  stands : code.matches_cells o.template.cells (slice_range s.bytes start (start + size_of o)) ≡ true
   alone : (k : ℕ) → IsOwnByte o k → InNoField l s (start + k)
   own : FieldIsKept l s (start + o.field) o.width
   call : (p : CallField) → Contains o.partners p → FieldIsKept l s (start + p.field) p.width

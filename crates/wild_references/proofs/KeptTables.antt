@@ -24,7 +24,7 @@ use Rattle.wild_relax.specs.RewriteX86_64.{rewrite_of}
 use Rattle.wild_relax.specs.LinkedPattern.{pattern_of, pattern_size, keeps_bytes}
 use Rattle.wild_loader.specs.declared.instruction.Cell as own-cell
 use Rattle.wild_loader.specs.declared.instruction.Cell.TheVariants.{Is, From, Slot, Digit, Any}
-use Rattle.wild_loader.specs.Instruction.{fits, stands}
+use Rattle.wild_loader.specs.Instruction.{fits, matches_cells}
 use Rattle.wild_meaning.specs.Sequence.{Partner, Instruction, size_of, IsOutsidePartners, IsOwnByte, instructions_of}
 use Rattle.wild_meaning.proofs.PairLemmas.{the_one}
 use Rattle.wild_references.proofs.WindowRows.{width_of, call_width}
@@ -228,13 +228,13 @@ cell_fits Any its.RexWide b h e = cc
 cell_fits Any its.Rex2Wide b h e = cc
 cell_fits Any its.Slot b h e = cc
 
-front : (cs : List own-cell.Cell) (ds : List Cell) (bs : List ℕ) → same_front cs ds ≡ true → stands cs bs ≡ true → pattern_fits.stands ds (take (length ds) bs) ≡ true
+front : (cs : List own-cell.Cell) (ds : List Cell) (bs : List ℕ) → same_front cs ds ≡ true → matches_cells cs bs ≡ true → pattern_fits.matches_cells ds (take (length ds) bs) ≡ true
 front cs [] bs h e = refl
 front [] (d ∷ ds) bs h e = cc
 front (c ∷ cs) (d ∷ ds) [] h e = cc
 front (c ∷ cs) (d ∷ ds) (b ∷ bs) h e =
     let x = and_parts (same_cell c d) (same_front cs ds) h in
-    let y = and_parts (fits c b) (stands cs bs) e in
+    let y = and_parts (fits c b) (matches_cells cs bs) e in
     rw (cell_fits c d b x.0 y.0, front cs ds bs x.1 y.1) refl
 
 front_short : (cs : List own-cell.Cell) (ds : List Cell) → same_front cs ds ≡ true → length ds ≤ length cs
@@ -243,7 +243,7 @@ front_short [] (d ∷ ds) h = cc
 front_short (c ∷ cs) (d ∷ ds) h = let r = front_short cs ds (and_parts (same_cell c d) (same_front cs ds) h).1 in omega (arith, r)
 
 -- it stands before the field
-pub asked_before : (n : ℕ) (p : Pattern) (o : Instruction) (bytes : List ℕ) (start offset : ℕ) → IsAskedFor n p o → offset ≡ start + o.field → start + size_of o ≤ length bytes → stands o.template.cells (slice_range bytes start (start + size_of o)) ≡ true → pattern_fits.stands_before bytes offset p ≡ true
+pub asked_before : (n : ℕ) (p : Pattern) (o : Instruction) (bytes : List ℕ) (start offset : ℕ) → IsAskedFor n p o → offset ≡ start + o.field → start + size_of o ≤ length bytes → matches_cells o.template.cells (slice_range bytes start (start + size_of o)) ≡ true → pattern_fits.stands_before bytes offset p ≡ true
 unfolding pattern_fits.stands_before pattern_fits.cells_match_at
 asked_before n p o bytes start offset asked at inside h =
     let field = asked.field in
@@ -252,7 +252,7 @@ asked_before n p o bytes start offset asked at inside h =
     let low : nat_le (field_of p) offset ≡ true = le-leb (field_of p) offset (omega (arith, at, field)) in
     let room : nat_le (start + length (pattern_cells p)) (length bytes) ≡ true = le-leb (start + length (pattern_cells p)) (length bytes) (omega (arith, short, inside)) in
     let n : start + length (pattern_cells p) - start ≡ length (pattern_cells p) = omega arith in
-    let there : pattern_fits.stands (pattern_cells p) (slice_range bytes start (start + length (pattern_cells p))) ≡ true = rw n (front o.template.cells (pattern_cells p) (drop start bytes) asked.front (stands_more o.template.cells (start + size_of o - start) (drop start bytes) h)) in
+    let there : pattern_fits.matches_cells (pattern_cells p) (slice_range bytes start (start + length (pattern_cells p))) ≡ true = rw n (front o.template.cells (pattern_cells p) (drop start bytes) asked.front (stands_more o.template.cells (start + size_of o - start) (drop start bytes) h)) in
     rw (low, from, room, there) refl
 
 -- ---- rows

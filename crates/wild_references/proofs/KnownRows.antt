@@ -49,7 +49,7 @@ pub record RowFits (m : Machine) (n : ℕ) (row : RelocationKindInfo) : Type 0 w
   pub some : 0 < field_width row
   pub value : value_by_row row ≡ formula.value
   pub seen : IsSeen m row.kind formula.form
-  pub expressed : is_expressed m (expression_of row.kind).term (expression_of row.kind).taken row.mask ≡ true
+  pub expressed : is_expressed m (expression_of row.kind).term (expression_of row.kind).subtrahend row.mask ≡ true
   pub full : row.kind ≡ kinds.Absolute → field_width row ≡ 8 → (formula.value ≡ SymbolAddress) × (formula.form ≡ Full)
   pub reads : (v : ℕ) (old : List ℕ) → v < 2 ^ 64 → length old ≡ field_width row → allows row v ≡ true → Reads formula.form (written row v old) v
   pub keeps : (v : ℕ) (old : List ℕ) → All (λ b. b < 256) old → length old ≡ field_width row → Keeps formula.form old (written row v old)
@@ -135,7 +135,7 @@ carries m row = if row.thunkable then is_aarch64 m && (is_branch row.kind && (is
 abbrev row_test : Machine → ℕ → RelocationKindInfo → Bool
 row_test m n row =
     seen_by m (expression_of row.kind).class (formula_of m n)
-    && (is_expressed m (expression_of row.kind).term (expression_of row.kind).taken row.mask
+    && (is_expressed m (expression_of row.kind).term (expression_of row.kind).subtrahend row.mask
     && (same_width (formula_of m n) (field_width row)
     && (few_numbers m row.kind n && (call_formula row.kind (formula_of m n) && (full_address row.kind (field_width row) (formula_of m n) && carries m row)))))
 
@@ -159,7 +159,7 @@ passes machine.AArch64 n row is = parts_pass (row_test machine.AArch64) static_r
 -- what they say
 record Passes (m : Machine) (n : ℕ) (row : RelocationKindInfo) : Type 0 where
   seen : seen_by m (expression_of row.kind).class (formula_of m n) ≡ true
-  expressed : is_expressed m (expression_of row.kind).term (expression_of row.kind).taken row.mask ≡ true
+  expressed : is_expressed m (expression_of row.kind).term (expression_of row.kind).subtrahend row.mask ≡ true
   wide : same_width (formula_of m n) (field_width row) ≡ true
   few : few_numbers m row.kind n ≡ true
   call : call_formula row.kind (formula_of m n) ≡ true
@@ -169,7 +169,7 @@ record Passes (m : Machine) (n : ℕ) (row : RelocationKindInfo) : Type 0 where
 all_passed : (m : Machine) (n : ℕ) (row : RelocationKindInfo) → row_of m n ≡ Some row → Passes m n row
 all_passed m n row is =
     let a = and_parts (seen_by m (expression_of row.kind).class (formula_of m n)) _ (passes m n row is) in
-    let b = and_parts (is_expressed m (expression_of row.kind).term (expression_of row.kind).taken row.mask) _ a.1 in
+    let b = and_parts (is_expressed m (expression_of row.kind).term (expression_of row.kind).subtrahend row.mask) _ a.1 in
     let c = and_parts (same_width (formula_of m n) (field_width row)) _ b.1 in
     let d = and_parts (few_numbers m row.kind n) _ c.1 in
     let e = and_parts (call_formula row.kind (formula_of m n)) (full_address row.kind (field_width row) (formula_of m n) && carries m row) d.1 in
@@ -215,7 +215,7 @@ full_is kind f width h k w =
     let there : full_address kinds.Absolute 8 (Some f) ≡ true = subst (λ (x : RelocationKind). full_address x 8 (Some f) ≡ true) k (subst (λ (n : ℕ). full_address kind n (Some f) ≡ true) w h) in
     form_full f.form f.value there
 
-fits_formula : (m : Machine) (n : ℕ) (row : RelocationKindInfo) (o : Option Formula) → HasValue row.kind → row_of m n ≡ Some row → formula_of m n ≡ o → is_expressed m (expression_of row.kind).term (expression_of row.kind).taken row.mask ≡ true → seen_by m (expression_of row.kind).class o ≡ true → same_width o (field_width row) ≡ true → full_address row.kind (field_width row) o ≡ true → Agrees row o → RowFits m n row
+fits_formula : (m : Machine) (n : ℕ) (row : RelocationKindInfo) (o : Option Formula) → HasValue row.kind → row_of m n ≡ Some row → formula_of m n ≡ o → is_expressed m (expression_of row.kind).term (expression_of row.kind).subtrahend row.mask ≡ true → seen_by m (expression_of row.kind).class o ≡ true → same_width o (field_width row) ≡ true → full_address row.kind (field_width row) o ≡ true → Agrees row o → RowFits m n row
 fits_formula m n row None kind is known expressed seen wide full agrees = absurd agrees
 fits_formula m n row (Some f) kind is known expressed seen wide full agrees = record {
   formula = f;

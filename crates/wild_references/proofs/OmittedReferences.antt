@@ -27,7 +27,7 @@ use Rattle.wild_reloc.specs.Field.{field_width}
 use Rattle.wild_reloc.specs.Formula.{Size, StubDistance, StubFromTable, SlotAddress, SlotDistance, SlotPageDistance, SlotFromTable, SlotFromTablePage}
 use Rattle.wild_reloc.specs.declared.expression.SlotSort.{SlotSort}
 use Rattle.wild_reloc.specs.declared.expression.Subtrahend.{Subtrahend}
-use Rattle.wild_reloc.specs.declared.expression.Subtrahend.TheVariants as taken
+use Rattle.wild_reloc.specs.declared.expression.Subtrahend.TheVariants as subtrahend
 use Rattle.wild_reloc.specs.declared.expression.Term.{Term}
 use Rattle.wild_reloc.specs.declared.expression.Term.TheVariants as term
 use Rattle.wild_reloc.specs.declared.info.RelocationKind.{RelocationKind}
@@ -36,7 +36,7 @@ use Rattle.wild_reloc.specs.declared.info.RelocationKindInfo.{RelocationKindInfo
 use Rattle.wild_reloc.specs.declared.info.RelocationSize.{RelocationSize}
 use Rattle.wild_layout.specs.Geometry.{NamesSymbol}
 use Rattle.wild_layout.specs.SlotValues.{stub_of, stub_address}
-use Rattle.wild_layout.specs.Values.{is_own_place, undefined_weak_target, term_by}
+use Rattle.wild_layout.specs.Values.{weak_resolves_to_place, undefined_weak_target, term_by}
 use Rattle.wild_layout.proofs.DecideLemmas.{field_has, known_extent, known_indirect, known_symbolic}
 use Rattle.wild_loader.specs.declared.memory.Memory.{Memory}
 use Rattle.wild_loader.specs.declared.world.World.{World}
@@ -196,11 +196,11 @@ left_taken l w m s index r h f = by_treatment f.left.treated f.left.left f.left.
 -- ---- expressions that go by a slot or a stub
 
 slot_named : (z : RelocationSize) (sort : SlotSort) (u : Subtrahend) → IsSlotValue (sized z (expressed (term.Slot sort) u))
-slot_named z sort taken.Nothing = subst IsSlotValue (sym (sized_is z (SlotAddress (slot_sort sort)) refl)) tt
-slot_named z sort taken.Place = subst IsSlotValue (sym (sized_is z (SlotDistance (slot_sort sort)) refl)) tt
-slot_named z sort taken.Table = subst IsSlotValue (sym (sized_is z SlotFromTable refl)) tt
-slot_named z sort taken.PagePlace = subst IsSlotValue (sym (sized_is z (SlotPageDistance (slot_sort sort)) refl)) tt
-slot_named z sort taken.PageTable = subst IsSlotValue (sym (sized_is z SlotFromTablePage refl)) tt
+slot_named z sort subtrahend.Nothing = subst IsSlotValue (sym (sized_is z (SlotAddress (slot_sort sort)) refl)) tt
+slot_named z sort subtrahend.Place = subst IsSlotValue (sym (sized_is z (SlotDistance (slot_sort sort)) refl)) tt
+slot_named z sort subtrahend.GotBase = subst IsSlotValue (sym (sized_is z SlotFromTable refl)) tt
+slot_named z sort subtrahend.PageOfPlace = subst IsSlotValue (sym (sized_is z (SlotPageDistance (slot_sort sort)) refl)) tt
+slot_named z sort subtrahend.PageOfGot = subst IsSlotValue (sym (sized_is z SlotFromTablePage refl)) tt
 
 stub_kind : (k : RelocationKind) → (expression_of k).term ≡ term.Stub → (k ≡ kinds.PltRelative) ⊎ (k ≡ kinds.PltRelGotBase)
 stub_kind kinds.PltRelative e = inl refl
@@ -214,15 +214,15 @@ record IsStubRow (l : Layout) (s : Item) (r : InputRelocation) (row : Relocation
   symbol : ℕ
   named : r.symbol ≡ Some symbol
 
-stub_row : (l : Layout) (s : Item) (r : InputRelocation) (row : RelocationKindInfo) → row_of l.machine r.number ≡ Some row → treatment l s.flags r ≡ treatments.Value row → is_expressed l.machine (expression_of row.kind).term (expression_of row.kind).taken row.mask ≡ true → (row.kind ≡ kinds.PltRelative) ⊎ (row.kind ≡ kinds.PltRelGotBase) → IsStubRow l s r row
+stub_row : (l : Layout) (s : Item) (r : InputRelocation) (row : RelocationKindInfo) → row_of l.machine r.number ≡ Some row → treatment l s.flags r ≡ treatments.Value row → is_expressed l.machine (expression_of row.kind).term (expression_of row.kind).subtrahend row.mask ≡ true → (row.kind ≡ kinds.PltRelative) ⊎ (row.kind ≡ kinds.PltRelGotBase) → IsStubRow l s r row
 stub_row l s r row known treated fits (inl kind) =
-    let mask = no_mask l.machine term.Stub taken.Place row.mask (subst (λ (k : RelocationKind). is_expressed l.machine (expression_of k).term (expression_of k).taken row.mask ≡ true) kind fits) refl in
+    let mask = no_mask l.machine term.Stub subtrahend.Place row.mask (subst (λ (k : RelocationKind). is_expressed l.machine (expression_of k).term (expression_of k).subtrahend row.mask ≡ true) kind fits) refl in
     let is : value_by_row row ≡ StubDistance = value_is row kinds.PltRelative None kind mask ∙ sized_is row.size StubDistance refl in
     let by : kind_treatment l s.flags r.number r.symbol row kinds.PltRelative ≡ treatments.Value row = subst (λ (k : RelocationKind). kind_treatment l s.flags r.number r.symbol row k ≡ treatments.Value row) kind (treated_by l s r row (treatments.Value row) known treated (λ e. cc)) in
     let i = symbol_named r.symbol (λ i. treatments.Value row) row by in
     record { takes = subst TakesStub (sym is) tt; type = distance_types l.machine r.number row known kind; symbol = i.0; named = i.1 }
 stub_row l s r row known treated fits (inr kind) =
-    let mask = no_mask l.machine term.Stub taken.Table row.mask (subst (λ (k : RelocationKind). is_expressed l.machine (expression_of k).term (expression_of k).taken row.mask ≡ true) kind fits) refl in
+    let mask = no_mask l.machine term.Stub subtrahend.GotBase row.mask (subst (λ (k : RelocationKind). is_expressed l.machine (expression_of k).term (expression_of k).subtrahend row.mask ≡ true) kind fits) refl in
     let is : value_by_row row ≡ StubFromTable = value_is row kinds.PltRelGotBase None kind mask ∙ sized_is row.size StubFromTable refl in
     let by : kind_treatment l s.flags r.number r.symbol row kinds.PltRelGotBase ≡ treatments.Value row = subst (λ (k : RelocationKind). kind_treatment l s.flags r.number r.symbol row k ≡ treatments.Value row) kind (treated_by l s r row (treatments.Value row) known treated (λ e. cc)) in
     let i = symbol_named r.symbol (λ i. treatments.Value row) row by in
@@ -250,7 +250,7 @@ value_direct l w m s i r h v present = elim (all_or_bare l) [ inl all ↦ inl al
           }))),
         )
 
-    by_place : IsForDebuggers l → (expression_of row.kind).term ≡ term.Stub → (b : Bool) → is_own_place l.machine l r row ≡ b → (if b then Ok (undefined_weak_target r.number (place_of s.address r)) else term_by l r (expression_of row.kind).term) ≡ Ok v.field.term → is_own_place l.machine l r row ≡ true
+    by_place : IsForDebuggers l → (expression_of row.kind).term ≡ term.Stub → (b : Bool) → weak_resolves_to_place l.machine l r row ≡ b → (if b then Ok (undefined_weak_target r.number (place_of s.address r)) else term_by l r (expression_of row.kind).term) ≡ Ok v.field.term → weak_resolves_to_place l.machine l r row ≡ true
     by_place bare e true own g = own
     by_place bare e false own g =
         let x = stub_row l s r row v.field.known v.field.treated v.fits.expressed (stub_kind row.kind e) in
@@ -259,11 +259,11 @@ value_direct l w m s i r h v present = elim (all_or_bare l) [ inl all ↦ inl al
 
     by_term : IsForDebuggers l → (t : Term) → (expression_of row.kind).term ≡ t → IsDirect l r row t
     by_term bare term.Symbol e = λ takes j named stubbed. present (bare, inr (inr (inl (record { symbol = j; named = named; formula = v.fits.formula; known = v.fits.known; stub = inl (inl (subst TakesAddress v.fits.value takes), stubbed) }))))
-    by_term bare term.Stub e = by_place bare e (is_own_place l.machine l r row) refl v.field.given
+    by_term bare term.Stub e = by_place bare e (weak_resolves_to_place l.machine l r row) refl v.field.given
     by_term bare (term.Slot sort) e =
         let slot : IsSlotValue (value_by_row row) = subst (λ (t : Term). IsSlotValue (sized row.size (expressed t (subtrahend_of row.kind row.mask)))) (sym e) (slot_named row.size sort (subtrahend_of row.kind row.mask)) in
         present (bare, inr (inl (inl (record { formula = v.fits.formula; known = v.fits.known; slot = subst IsSlotValue v.fits.value slot }))))
-    by_term bare term.Table e = tt
+    by_term bare term.GotBase e = tt
     by_term bare term.Size e = tt
     by_term bare term.PointerOffset e = tt
     by_term bare term.ModuleOffset e = tt

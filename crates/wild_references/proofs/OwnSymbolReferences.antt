@@ -108,11 +108,11 @@ sized_back (BitMasking bits) SymbolAddress h = refl
 sized_back (BitMasking bits) other h = h
 
 -- no page is S + A
-never_place : (t : Term) → expressed t lesser.PagePlace ≡ SymbolAddress → ⊥
+never_place : (t : Term) → expressed t lesser.PageOfPlace ≡ SymbolAddress → ⊥
 never_place term.Symbol h = cc
 never_place term.Stub h = cc
 never_place (term.Slot sort) h = cc
-never_place term.Table h = cc
+never_place term.GotBase h = cc
 never_place term.Size h = cc
 never_place term.PointerOffset h = cc
 never_place term.ModuleOffset h = cc
@@ -121,11 +121,11 @@ never_place term.Nothing h = cc
 no_page : (t : Term) (mask : PageMask) (less : Subtrahend) → expressed t (paged (Some mask) less) ≡ SymbolAddress → ⊥
 no_page t masks.GotBase less h = by_term t h
   where
-    by_term : (t : Term) → expressed t lesser.PageTable ≡ SymbolAddress → ⊥
+    by_term : (t : Term) → expressed t lesser.PageOfGot ≡ SymbolAddress → ⊥
     by_term term.Symbol h = cc
     by_term term.Stub h = cc
     by_term (term.Slot sort) h = cc
-    by_term term.Table h = cc
+    by_term term.GotBase h = cc
     by_term term.Size h = cc
     by_term term.PointerOffset h = cc
     by_term term.ModuleOffset h = cc
@@ -135,7 +135,7 @@ no_page t masks.GotEntryAndPosition less h = never_place t h
 
 address_row : (k : RelocationKind) (mask : Option PageMask) (z : RelocationSize) → writes (expression_of k).class ≡ true → value_of k mask z ≡ SymbolAddress → k ≡ kinds.Absolute
 address_row k None z v e = address_kind k v (sized_back z (plain_value k) e)
-address_row k (Some mask) z v e = absurd (no_page (expression_of k).term mask (expression_of k).taken (sized_back z (expressed (expression_of k).term (subtrahend_of k (Some mask))) e))
+address_row k (Some mask) z v e = absurd (no_page (expression_of k).term mask (expression_of k).subtrahend (sized_back z (expressed (expression_of k).term (subtrahend_of k (Some mask))) e))
 
 -- the bits below a page are in no field of eight bytes
 not_wide : (form : Form) → is_low form ≡ true → form_width form ≡ 8 → ⊥

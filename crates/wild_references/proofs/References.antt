@@ -29,7 +29,7 @@ use Rattle.wild_reloc.specs.declared.info.RelocationKind.{RelocationKind}
 use Rattle.wild_reloc.specs.declared.info.RelocationKind.TheVariants as kinds
 use Rattle.wild_layout.specs.Geometry.{NamesSymbol}
 use Rattle.wild_layout.specs.Numbers.{AddendFits}
-use Rattle.wild_layout.specs.Values.{term_of, value_in, is_symbol, is_own_place, undefined_weak_target, term_by}
+use Rattle.wild_layout.specs.Values.{term_of, value_in, adds_symbol, weak_resolves_to_place, undefined_weak_target, term_by}
 use Rattle.wild_layout.proofs.DecideLemmas.{HasField, field_has, moved_has}
 use Rattle.wild_layout.proofs.ThunkFieldLemmas.{IsCarried, ComesTo}
 use Rattle.wild_layout.proofs.DecisionLemmas.{own_choice}
@@ -77,7 +77,7 @@ mode_machine l h = by_machine l.machine refl h
 gives_by : (l : Layout) (w : World) (m : Memory) (s : Item) (r : InputRelocation) (info : RelocationKindInfo) (x : ℕ) → KindLaws → writes (expression_of info.kind).class ≡ true → HasTerm l w m s r info x → IsFollowed l r (value_by_row info) → (info.kind ≡ kinds.TlsDesc → HasOffsetMode l s → ⊥) → Gives (value_by_row info) l w m s r x
 gives_by l w m s r info x laws v h f none = by_term (expression_of info.kind).term refl
   where
-    descriptor : (j : RelocationKind) → (expression_of j).term ≡ term.Slot sorts.Descriptor → writes (expression_of j).class ≡ true → j ≡ kinds.TlsDesc
+    descriptor : (j : RelocationKind) → (expression_of j).term ≡ term.Slot sorts.TlsDesc → writes (expression_of j).class ≡ true → j ≡ kinds.TlsDesc
     descriptor kinds.TlsDesc e v = refl
     descriptor other e v = cc
 
@@ -90,7 +90,7 @@ gives_by l w m s r info x laws v h f none = by_term (expression_of info.kind).te
     by_term term.Symbol e = laws.symbol info e v l w m s r x h f
     by_term term.Stub e = laws.stub info e v l w m s r x h f
     by_term (term.Slot sort) e = laws.slot sort info e v l w m s r x h (λ d. none (descriptor info.kind (e ∙ ap (λ (y : SlotSort). term.Slot y) d) v))
-    by_term term.Table e = laws.table info e v l w m s r x h f
+    by_term term.GotBase e = laws.table info e v l w m s r x h f
     by_term term.Size e = laws.size info e v l w m s r x h f
     by_term term.PointerOffset e = laws.pointer info e v l w m s r x h f
     by_term term.ModuleOffset e = laws.own info e v l w m s r x h f
@@ -142,7 +142,7 @@ no_offset l w m s i r h v kind mode =
     let named = symbol_named r.symbol (λ k. treatments.Value f.row) f.row (subst (λ (k : RelocationKind). kind_treatment l s.flags r.number r.symbol f.row k ≡ treatments.Value f.row) kind (treated_by l s r f.row (treatments.Value f.row) f.known f.treated (λ e. cc))) in
     let number = descriptor_is r.number f.row (row_here l r.number f.row x86 f.known) kind in
     let inside = field_within l w m s i r v.size h v.plain.has.listed (field_has l s r v.size v.value f) in
-    let plain = plain_given l r f.row (place_of s.address r) f.term f.given (ap (λ (k : RelocationKind). is_symbol (expression_of k).term) kind) in
+    let plain = plain_given l r f.row (place_of s.address r) f.term f.given (ap (λ (k : RelocationKind). adds_symbol (expression_of k).term) kind) in
     descriptor_kept l s r (slice_get s.relocations (i + 1)) named.0 f.term (own_choice l s i r _ v.plain.own x86) x86 h.placed.symbols named.1 number (subst (λ (k : RelocationKind). term_of l r.symbol k ≡ Ok f.term) kind plain) (omega (arith, inside)) mode
 
 -- what memory has of a value: the value itself, or a number with its bits below a page
@@ -171,7 +171,7 @@ carried_value l s i r v t =
 carried_all : (l : Layout) (w : World) (m : Memory) (s : Item) (i : ℕ) (r : InputRelocation) (x : ℕ) → (v : IsValue l s i r) → v.field.row.thunkable ≡ true → (there : HasTerm l w m s r v.field.row x) → IsCarried l s r v.field.row x v.value → KeepsAll l
 carried_all l w m s i r x v t there c = elim there.present [ inl all ↦ all | inr direct ↦ absurd (by_place direct) ]
   where
-    by_own : is_own_place l.machine l r v.field.row ≡ true → (b : Bool) → is_own_place l.machine l r v.field.row ≡ b → (if b then Ok (undefined_weak_target r.number (place_of s.address r)) else term_by l r (expression_of v.field.row.kind).term) ≡ Ok there.term → undefined_weak_target r.number (place_of s.address r) ≡ there.term
+    by_own : weak_resolves_to_place l.machine l r v.field.row ≡ true → (b : Bool) → weak_resolves_to_place l.machine l r v.field.row ≡ b → (if b then Ok (undefined_weak_target r.number (place_of s.address r)) else term_by l r (expression_of v.field.row.kind).term) ≡ Ok there.term → undefined_weak_target r.number (place_of s.address r) ≡ there.term
     by_own own true e g = cc
     by_own own false e g = (let both : true ≡ false = sym own ∙ e in cc)
 
@@ -179,8 +179,8 @@ carried_all l w m s i r x v t there c = elim there.present [ inl all ↦ all | i
     by_place direct =
         let b = branch_is l.machine r.number v.field.row v.field.known t in
         let stub : (expression_of v.field.row.kind).term ≡ term.Stub = ap (λ (k : RelocationKind). (expression_of k).term) b.kind in
-        let own : is_own_place l.machine l r v.field.row ≡ true = subst (λ (y : Term). IsDirect l r v.field.row y) stub direct in
-        not_far l w m s r v.field.row x there b.carries (from_place v.field.row b.carries) c.alone (by_own own (is_own_place l.machine l r v.field.row) refl there.given) c.far
+        let own : weak_resolves_to_place l.machine l r v.field.row ≡ true = subst (λ (y : Term). IsDirect l r v.field.row y) stub direct in
+        not_far l w m s r v.field.row x there b.carries (from_place v.field.row b.carries) c.alone (by_own own (weak_resolves_to_place l.machine l r v.field.row) refl there.given) c.far
 
 other_kind : {P : Type 0} (k : RelocationKind) → k ≡ kinds.Relative → k ≡ kinds.PltRelative → P
 other_kind k a b = (let both : kinds.Relative ≡ kinds.PltRelative = sym a ∙ b in cc)
@@ -290,15 +290,15 @@ none_taken term.PointerOffset u none h = (let both : true ≡ false = none in cc
 none_taken term.ModuleOffset u none h = (let both : true ≡ false = none in cc)
 none_taken term.Stub less.Nothing none h = elim h [ inl o ↦ o | inr a ↦ a ]
 none_taken term.Stub less.Place none h = elim h [ inl o ↦ o | inr a ↦ a ]
-none_taken term.Stub less.Table none h = elim h [ inl o ↦ o | inr a ↦ a ]
-none_taken term.Stub less.PagePlace none h = elim h [ inl o ↦ o | inr a ↦ a ]
-none_taken term.Stub less.PageTable none h = elim h [ inl o ↦ o | inr a ↦ a ]
+none_taken term.Stub less.GotBase none h = elim h [ inl o ↦ o | inr a ↦ a ]
+none_taken term.Stub less.PageOfPlace none h = elim h [ inl o ↦ o | inr a ↦ a ]
+none_taken term.Stub less.PageOfGot none h = elim h [ inl o ↦ o | inr a ↦ a ]
 none_taken (term.Slot sort) less.Nothing none h = elim h [ inl o ↦ o | inr a ↦ a ]
 none_taken (term.Slot sort) less.Place none h = elim h [ inl o ↦ o | inr a ↦ a ]
-none_taken (term.Slot sort) less.Table none h = elim h [ inl o ↦ o | inr a ↦ a ]
-none_taken (term.Slot sort) less.PagePlace none h = elim h [ inl o ↦ o | inr a ↦ a ]
-none_taken (term.Slot sort) less.PageTable none h = elim h [ inl o ↦ o | inr a ↦ a ]
-none_taken term.Table u none h = elim h [ inl o ↦ o | inr a ↦ a ]
+none_taken (term.Slot sort) less.GotBase none h = elim h [ inl o ↦ o | inr a ↦ a ]
+none_taken (term.Slot sort) less.PageOfPlace none h = elim h [ inl o ↦ o | inr a ↦ a ]
+none_taken (term.Slot sort) less.PageOfGot none h = elim h [ inl o ↦ o | inr a ↦ a ]
+none_taken term.GotBase u none h = elim h [ inl o ↦ o | inr a ↦ a ]
 none_taken term.Size u none h = elim h [ inl o ↦ o | inr a ↦ a ]
 none_taken term.Nothing u none h = elim h [ inl o ↦ o | inr a ↦ a ]
 
@@ -309,15 +309,15 @@ no_address term.PointerOffset u none = refl
 no_address term.ModuleOffset u none = refl
 no_address term.Stub less.Nothing none = refl
 no_address term.Stub less.Place none = refl
-no_address term.Stub less.Table none = refl
-no_address term.Stub less.PagePlace none = refl
-no_address term.Stub less.PageTable none = refl
+no_address term.Stub less.GotBase none = refl
+no_address term.Stub less.PageOfPlace none = refl
+no_address term.Stub less.PageOfGot none = refl
 no_address (term.Slot sort) less.Nothing none = refl
 no_address (term.Slot sort) less.Place none = refl
-no_address (term.Slot sort) less.Table none = refl
-no_address (term.Slot sort) less.PagePlace none = refl
-no_address (term.Slot sort) less.PageTable none = refl
-no_address term.Table u none = refl
+no_address (term.Slot sort) less.GotBase none = refl
+no_address (term.Slot sort) less.PageOfPlace none = refl
+no_address (term.Slot sort) less.PageOfGot none = refl
+no_address term.GotBase u none = refl
 no_address term.Size u none = refl
 no_address term.Nothing u none = refl
 
@@ -337,7 +337,7 @@ links_by l w m s r info x i laws v h named whose alone t = by_term (expression_o
     by_term term.ModuleOffset e = laws.own info e v l w m s r x i h named whose alone
     by_term term.Stub e = absurd (none_of term.Stub refl e)
     by_term (term.Slot sort) e = absurd (none_of (term.Slot sort) refl e)
-    by_term term.Table e = absurd (none_of term.Table refl e)
+    by_term term.GotBase e = absurd (none_of term.GotBase refl e)
     by_term term.Size e = absurd (none_of term.Size refl e)
     by_term term.Nothing e = absurd (none_of term.Nothing refl e)
 

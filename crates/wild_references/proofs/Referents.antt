@@ -17,7 +17,7 @@ use Rattle.wild_reloc.specs.Formula.{Value, SymbolAddress, SymbolPart, Distance,
 use Rattle.wild_reloc.specs.declared.expression.Term.{Term}
 use Rattle.wild_reloc.specs.declared.expression.Term.TheVariants as term
 use Rattle.wild_reloc.specs.declared.expression.Subtrahend.{Subtrahend}
-use Rattle.wild_reloc.specs.declared.expression.Subtrahend.TheVariants as taken
+use Rattle.wild_reloc.specs.declared.expression.Subtrahend.TheVariants as subtrahend
 use Rattle.wild_reloc.specs.declared.info.PageMask.{PageMask}
 use Rattle.wild_reloc.specs.declared.info.PageMask.TheVariants as masks
 use Rattle.wild_reloc.specs.declared.info.RelocationSize.{RelocationSize}
@@ -25,7 +25,7 @@ use Rattle.wild_reloc.specs.declared.info.RelocationSize.TheVariants.{ByteSize, 
 use Rattle.wild_reloc.specs.declared.info.RelocationKindInfo.{RelocationKindInfo}
 use Rattle.wild_layout.specs.Geometry.{NamesSymbol, DefinitionNames}
 use Rattle.wild_layout.specs.SlotValues.{address_of}
-use Rattle.wild_layout.specs.Values.{is_absent, is_place, is_symbol, is_own_place, undefined_weak_target, term_by}
+use Rattle.wild_layout.specs.Values.{is_undefined_weak_without_stub, subtracts_place, adds_symbol, weak_resolves_to_place, undefined_weak_target, term_by}
 use Rattle.wild_loader.specs.declared.world.World.{World}
 use Rattle.wild_loader.specs.declared.memory.Memory.{Memory}
 use Rattle.wild_types.specs.Item.{Item}
@@ -64,7 +64,7 @@ with_mask machine.X86_64 t less mask e = cc
 with_mask machine.AArch64 t less mask e = (refl, e)
 
 -- what is less the table itself is x86-64's
-pub of_table : (k : Machine) (t : Term) → is_expressed k t taken.Table None ≡ true → k ≡ machine.X86_64
+pub of_table : (k : Machine) (t : Term) → is_expressed k t subtrahend.GotBase None ≡ true → k ≡ machine.X86_64
 of_table machine.X86_64 t e = refl
 of_table machine.AArch64 t e = cc
 
@@ -81,7 +81,7 @@ sized_is (BitMasking bits) other e = refl
 
 -- ---- a symbol that is not there
 
-pub absent : (l : Layout) (w : World) (m : Memory) (r : InputRelocation) (i : ℕ) → IsPlaced l w m → NamesSymbol l r → r.symbol ≡ Some i → is_absent l (Some i) ≡ true → IsUndefinedWeak l i
+pub absent : (l : Layout) (w : World) (m : Memory) (r : InputRelocation) (i : ℕ) → IsPlaced l w m → NamesSymbol l r → r.symbol ≡ Some i → is_undefined_weak_without_stub l (Some i) ≡ true → IsUndefinedWeak l i
 absent l w m r i p listed named h =
     let z = slice_get_inside l.symbols i (listed i named) in
     let parts = and_parts (has_flag (flags_at l i) undefined_weak) (not (has_flag (flags_at l i) plt_stub)) h in
@@ -90,7 +90,7 @@ absent l w m r i p listed named h =
       stubless = subst (λ (b : Bool). HasFlag l i plt_stub b) (not-true _ parts.1) (flag_at l i plt_stub z.0 p.symbols.named z.1);
     }
 
-pub present : (l : Layout) (i : ℕ) → is_absent l (Some i) ≡ false → IsUndefinedWeak l i → ⊥
+pub present : (l : Layout) (i : ℕ) → is_undefined_weak_without_stub l (Some i) ≡ false → IsUndefinedWeak l i → ⊥
 present l i h a = by_flags (has_flag (flags_at l i) undefined_weak) (has_flag (flags_at l i) plt_stub) (flag_is l i undefined_weak true a.weak) (flag_is l i plt_stub false a.stubless) h
   where
     by_flags : (weak stub : Bool) → weak ≡ true → stub ≡ false → (weak && not stub) ≡ false → ⊥
@@ -101,21 +101,21 @@ present l i h a = by_flags (has_flag (flags_at l i) undefined_weak) (has_flag (f
 -- when the writer takes the place itself
 pub record IsOwn (k : Machine) (l : Layout) (r : InputRelocation) (info : RelocationKindInfo) : Type 0 where
   pub on : k ≡ machine.AArch64
-  pub symbol : is_symbol (expression_of info.kind).term ≡ true
-  pub place : is_place (subtrahend_of info.kind info.mask) ≡ true
-  pub absent : is_absent l r.symbol ≡ true
+  pub symbol : adds_symbol (expression_of info.kind).term ≡ true
+  pub place : subtracts_place (subtrahend_of info.kind info.mask) ≡ true
+  pub absent : is_undefined_weak_without_stub l r.symbol ≡ true
 
-pub own_parts : (k : Machine) (l : Layout) (r : InputRelocation) (info : RelocationKindInfo) → is_own_place k l r info ≡ true → IsOwn k l r info
+pub own_parts : (k : Machine) (l : Layout) (r : InputRelocation) (info : RelocationKindInfo) → weak_resolves_to_place k l r info ≡ true → IsOwn k l r info
 own_parts machine.X86_64 l r info h = cc
 own_parts machine.AArch64 l r info h =
-    let a = and_parts (is_symbol (expression_of info.kind).term && is_place (subtrahend_of info.kind info.mask)) (is_absent l r.symbol) h in
-    let b = and_parts (is_symbol (expression_of info.kind).term) (is_place (subtrahend_of info.kind info.mask)) a.0 in
+    let a = and_parts (adds_symbol (expression_of info.kind).term && subtracts_place (subtrahend_of info.kind info.mask)) (is_undefined_weak_without_stub l r.symbol) h in
+    let b = and_parts (adds_symbol (expression_of info.kind).term) (subtracts_place (subtrahend_of info.kind info.mask)) a.0 in
     record { on = refl; symbol = b.0; place = b.1; absent = a.1 }
 
 -- and that it does not, where it takes a place from a symbol
-pub not_own : (k : Machine) (l : Layout) (r : InputRelocation) (info : RelocationKindInfo) → is_own_place k l r info ≡ false → k ≡ machine.AArch64 → is_symbol (expression_of info.kind).term ≡ true → is_place (subtrahend_of info.kind info.mask) ≡ true → is_absent l r.symbol ≡ false
+pub not_own : (k : Machine) (l : Layout) (r : InputRelocation) (info : RelocationKindInfo) → weak_resolves_to_place k l r info ≡ false → k ≡ machine.AArch64 → adds_symbol (expression_of info.kind).term ≡ true → subtracts_place (subtrahend_of info.kind info.mask) ≡ true → is_undefined_weak_without_stub l r.symbol ≡ false
 not_own machine.X86_64 l r info h on symbol place = cc
-not_own machine.AArch64 l r info h on symbol place = by_tests (is_symbol (expression_of info.kind).term) (is_place (subtrahend_of info.kind info.mask)) (is_absent l r.symbol) symbol place h
+not_own machine.AArch64 l r info h on symbol place = by_tests (adds_symbol (expression_of info.kind).term) (subtracts_place (subtrahend_of info.kind info.mask)) (is_undefined_weak_without_stub l r.symbol) symbol place h
   where
     by_tests : (a b c : Bool) → a ≡ true → b ≡ true → (a && b && c) ≡ false → c ≡ false
     by_tests true true false e f h = refl
@@ -123,7 +123,7 @@ not_own machine.AArch64 l r info h on symbol place = by_tests (is_symbol (expres
     by_tests true false c e f h = cc
     by_tests false b c e f h = cc
 
-pub named_absent : (l : Layout) (o : Option ℕ) → is_absent l o ≡ true → (i : ℕ) × (o ≡ Some i) × (is_absent l (Some i) ≡ true)
+pub named_absent : (l : Layout) (o : Option ℕ) → is_undefined_weak_without_stub l o ≡ true → (i : ℕ) × (o ≡ Some i) × (is_undefined_weak_without_stub l (Some i) ≡ true)
 named_absent l None h = cc
 named_absent l (Some i) h = (i, refl, h)
 
@@ -194,12 +194,12 @@ pub record OwnRefers (v : Value) (l : Layout) (w : World) (s : Item) (r : InputR
   pub absolute : (i : ℕ) → r.symbol ≡ Some i → still ≡ true → IsAbsolute l i
 
 -- an expression of a symbol that takes a place: what it is less
-relative_by : (less : Subtrahend) (z : RelocationSize) → is_place less ≡ true → IsPlaceRelative (sized z (expressed term.Symbol less))
-relative_by taken.Place z e = subst IsPlaceRelative (sym (sized_is z Distance refl)) tt
-relative_by taken.PagePlace z e = subst IsPlaceRelative (sym (sized_is z PageDistance refl)) tt
-relative_by taken.Nothing z e = cc
-relative_by taken.Table z e = cc
-relative_by taken.PageTable z e = cc
+relative_by : (less : Subtrahend) (z : RelocationSize) → subtracts_place less ≡ true → IsPlaceRelative (sized z (expressed term.Symbol less))
+relative_by subtrahend.Place z e = subst IsPlaceRelative (sym (sized_is z Distance refl)) tt
+relative_by subtrahend.PageOfPlace z e = subst IsPlaceRelative (sym (sized_is z PageDistance refl)) tt
+relative_by subtrahend.Nothing z e = cc
+relative_by subtrahend.GotBase z e = cc
+relative_by subtrahend.PageOfGot z e = cc
 
 -- and one that does not
 no_relative : (z : RelocationSize) → IsPlaceRelative (sized z SymbolAddress) → ⊥
@@ -207,13 +207,13 @@ no_relative (ByteSize n) h = h
 no_relative (BitMasking bits) h = h
 
 -- of AArch64, where the writer takes no place
-not_place : (less : Subtrahend) (z : RelocationSize) → is_place less ≡ false → is_table less ≡ false → IsPlaceRelative (sized z (expressed term.Symbol less)) → ⊥
-not_place taken.Nothing z e none h = no_relative z h
-not_place taken.PageTable (ByteSize n) e none h = h
-not_place taken.PageTable (BitMasking bits) e none h = h
-not_place taken.Table z e none h = cc
-not_place taken.Place z e none h = cc
-not_place taken.PagePlace z e none h = cc
+not_place : (less : Subtrahend) (z : RelocationSize) → subtracts_place less ≡ false → is_table less ≡ false → IsPlaceRelative (sized z (expressed term.Symbol less)) → ⊥
+not_place subtrahend.Nothing z e none h = no_relative z h
+not_place subtrahend.PageOfGot (ByteSize n) e none h = h
+not_place subtrahend.PageOfGot (BitMasking bits) e none h = h
+not_place subtrahend.GotBase z e none h = cc
+not_place subtrahend.Place z e none h = cc
+not_place subtrahend.PageOfPlace z e none h = cc
 
 -- on AArch64 nothing is less the table itself
 no_table : (k : Machine) (t : Term) (less : Subtrahend) (mask : Option PageMask) → k ≡ machine.AArch64 → is_expressed k t less mask ≡ true → is_table (paged mask less) ≡ false
@@ -227,11 +227,11 @@ pub symbol_value : (info : RelocationKindInfo) → (expression_of info.kind).ter
 symbol_value info e = ap (λ (t : Term). sized info.size (expressed t (subtrahend_of info.kind info.mask))) e
 
 -- where the writer takes no place, the judge takes none
-no_own_place : (l : Layout) (w : World) (m : Memory) (s : Item) (r : InputRelocation) (info : RelocationKindInfo) (x i : ℕ) → HasTerm l w m s r info x → (expression_of info.kind).term ≡ term.Symbol → r.symbol ≡ Some i → is_own_place l.machine l r info ≡ false → l.machine ≡ machine.AArch64 → UsesOwnPlace (value_by_row info) l i → ⊥
+no_own_place : (l : Layout) (w : World) (m : Memory) (s : Item) (r : InputRelocation) (info : RelocationKindInfo) (x i : ℕ) → HasTerm l w m s r info x → (expression_of info.kind).term ≡ term.Symbol → r.symbol ≡ Some i → weak_resolves_to_place l.machine l r info ≡ false → l.machine ≡ machine.AArch64 → UsesOwnPlace (value_by_row info) l i → ⊥
 no_own_place l w m s r info x i h symbol named e on own =
-    elim (cases_Bool (is_place (subtrahend_of info.kind info.mask))) [
-      | inl p ↦ present l i (subst (λ (o : Option ℕ). is_absent l o ≡ false) named (not_own l.machine l r info e on (ap is_symbol symbol) p)) own.1
-      | inr n ↦ not_place (subtrahend_of info.kind info.mask) info.size n (no_table l.machine (expression_of info.kind).term (expression_of info.kind).taken info.mask on h.expressed) (subst IsPlaceRelative (symbol_value info symbol) own.0)
+    elim (cases_Bool (subtracts_place (subtrahend_of info.kind info.mask))) [
+      | inl p ↦ present l i (subst (λ (o : Option ℕ). is_undefined_weak_without_stub l o ≡ false) named (not_own l.machine l r info e on (ap adds_symbol symbol) p)) own.1
+      | inr n ↦ not_place (subtrahend_of info.kind info.mask) info.size n (no_table l.machine (expression_of info.kind).term (expression_of info.kind).subtrahend info.mask on h.expressed) (subst IsPlaceRelative (symbol_value info symbol) own.0)
     ]
 
 -- an expression that takes the symbol's address, and no offset, is right whichever module has it
@@ -259,7 +259,7 @@ string_refers v l w m s r i a strings named takes symbol is small given =
     }
 
 pub refers : StubLaws → (l : Layout) (w : World) (m : Memory) (s : Item) (r : InputRelocation) (info : RelocationKindInfo) (x : ℕ) → (h : HasTerm l w m s r info x) → (expression_of info.kind).term ≡ term.Symbol → TakesAddress (value_by_row info) → IsFollowed l r (value_by_row info) → Refers (value_by_row info) l w m s r h.term
-refers law l w m s r info x h symbol takes f = by_own (is_own_place l.machine l r info) refl h.given
+refers law l w m s r info x h symbol takes f = by_own (weak_resolves_to_place l.machine l r info) refl h.given
   where
     v : Value
     v = value_by_row info
@@ -267,7 +267,7 @@ refers law l w m s r info x h symbol takes f = by_own (is_own_place l.machine l 
     stands : (i : ℕ) → r.symbol ≡ Some i → Stands l i
     stands i named = elim h.present [ inl all ↦ inl all | inr direct ↦ inr (subst (λ (t : Term). IsDirect l r info t) symbol direct takes i named) ]
 
-    by_for : is_own_place l.machine l r info ≡ false → address_for l r ≡ Ok h.term → IsFor l r h.term → Refers v l w m s r h.term
+    by_for : weak_resolves_to_place l.machine l r info ≡ false → address_for l r ≡ Ok h.term → IsFor l r h.term → Refers v l w m s r h.term
     by_for e there (OfStrings i strings named is some) = string_refers v l w m s r i h.term strings h.placed.symbols.named takes named is (h.addend some) there
     by_for e there (OfSymbol none given) =
         let t = addressed law l w m r.symbol h.term h.placed stands (follows l r v takes f) given in
@@ -281,7 +281,7 @@ refers law l w m s r info x h symbol takes f = by_own (is_own_place l.machine l 
           absolute = t.absolute;
         }
 
-    by_own : (b : Bool) → is_own_place l.machine l r info ≡ b → (if b then Ok (undefined_weak_target r.number (place_of s.address r)) else term_by l r (expression_of info.kind).term) ≡ Ok h.term → Refers v l w m s r h.term
+    by_own : (b : Bool) → weak_resolves_to_place l.machine l r info ≡ b → (if b then Ok (undefined_weak_target r.number (place_of s.address r)) else term_by l r (expression_of info.kind).term) ≡ Ok h.term → Refers v l w m s r h.term
     by_own true e g =
         let o = own_parts l.machine l r info e in
         let n = named_absent l r.symbol o.absent in
@@ -299,12 +299,12 @@ refers law l w m s r info x h symbol takes f = by_own (is_own_place l.machine l 
 
 -- with the output's own symbol
 pub own_refers : (l : Layout) (w : World) (m : Memory) (s : Item) (r : InputRelocation) (info : RelocationKindInfo) (x i : ℕ) → (h : HasTerm l w m s r info x) → (expression_of info.kind).term ≡ term.Symbol → r.symbol ≡ Some i → IsReplaceable l i true → (HasStubAddress l i → ⊥) → OwnRefers (value_by_row info) l w s r h.term
-own_refers l w m s r info x i h symbol named whose alone = by_own (is_own_place l.machine l r info) refl h.given
+own_refers l w m s r info x i h symbol named whose alone = by_own (weak_resolves_to_place l.machine l r info) refl h.given
   where
     v : Value
     v = value_by_row info
 
-    by_own : (b : Bool) → is_own_place l.machine l r info ≡ b → (if b then Ok (undefined_weak_target r.number (place_of s.address r)) else term_by l r (expression_of info.kind).term) ≡ Ok h.term → OwnRefers v l w s r h.term
+    by_own : (b : Bool) → weak_resolves_to_place l.machine l r info ≡ b → (if b then Ok (undefined_weak_target r.number (place_of s.address r)) else term_by l r (expression_of info.kind).term) ≡ Ok h.term → OwnRefers v l w s r h.term
     by_own true e g =
         let o = own_parts l.machine l r info e in
         let n = named_absent l r.symbol o.absent in

@@ -117,13 +117,13 @@ backs_all cs [] = true
 backs_all [] (d ∷ ds) = false
 backs_all (c ∷ cs) (d ∷ ds) = backs c d && backs_all cs ds
 
-all_backed : (cs : List judge-cell.Cell) (ds : List Cell) (bs : List ℕ) → backs_all cs ds ≡ true → judge.stands cs bs ≡ true → writer.stands ds (take (length ds) bs) ≡ true
+all_backed : (cs : List judge-cell.Cell) (ds : List Cell) (bs : List ℕ) → backs_all cs ds ≡ true → judge.matches_cells cs bs ≡ true → writer.matches_cells ds (take (length ds) bs) ≡ true
 all_backed cs [] bs h e = refl
 all_backed [] (d ∷ ds) bs h e = cc
 all_backed (c ∷ cs) (d ∷ ds) [] h e = cc
 all_backed (c ∷ cs) (d ∷ ds) (b ∷ bs) h e =
     let x = and_parts (backs c d) (backs_all cs ds) h in
-    let y = and_parts (judge.fits c b) (judge.stands cs bs) e in
+    let y = and_parts (judge.fits c b) (judge.matches_cells cs bs) e in
     rw (backed c d b x.0 y.0, all_backed cs ds bs x.1 y.1) refl
 
 front : (bs : List ℕ) (a k n : ℕ) → k ≤ n → take k (slice_range bs a (a + n)) ≡ slice_range bs a (a + k)
@@ -133,14 +133,14 @@ front bs a k n h =
     rw (e, f) (take-take k n (drop a bs) h)
 
 -- a pattern with its field stands where the first cells of an instruction do
-pub stands_so : (cs : List judge-cell.Cell) (p : Pattern) (bs : List ℕ) (offset from : ℕ) → backs_all cs (writer.pattern_cells p) ≡ true → length (writer.pattern_cells p) ≤ length cs → offset ≡ from + writer.field_of p → from + length cs ≤ length bs → judge.stands cs (slice_range bs from (from + length cs)) ≡ true → stands_before bs offset p ≡ true
+pub stands_so : (cs : List judge-cell.Cell) (p : Pattern) (bs : List ℕ) (offset from : ℕ) → backs_all cs (writer.pattern_cells p) ≡ true → length (writer.pattern_cells p) ≤ length cs → offset ≡ from + writer.field_of p → from + length cs ≤ length bs → judge.matches_cells cs (slice_range bs from (from + length cs)) ≡ true → stands_before bs offset p ≡ true
 unfolding stands_before cells_match_at
 stands_so cs p bs offset from h short place inside e =
     let n = length (writer.pattern_cells p) in
     let start : offset - writer.field_of p ≡ from = omega (arith, place) in
     let low : nat_le (writer.field_of p) offset ≡ true = le-leb _ _ (omega (arith, place)) in
     let room : nat_le (from + n) (length bs) ≡ true = le-leb _ _ (omega (arith, short, inside)) in
-    let same = subst (λ (xs : List ℕ). writer.stands (writer.pattern_cells p) xs ≡ true) (front bs from n (length cs) short) (all_backed cs (writer.pattern_cells p) (slice_range bs from (from + length cs)) h e) in
+    let same = subst (λ (xs : List ℕ). writer.matches_cells (writer.pattern_cells p) xs ≡ true) (front bs from n (length cs) short) (all_backed cs (writer.pattern_cells p) (slice_range bs from (from + length cs)) h e) in
     rw (start, low, room, same) refl
 
 pub general_backed : backs_all general_slot_call.cells (writer.pattern_cells (pattern.General general.NoPlt)) ≡ true

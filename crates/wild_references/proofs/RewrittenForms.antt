@@ -89,14 +89,14 @@ all_long [] (d ∷ ds) h = cc
 all_long (c ∷ cs) [] h = cc
 all_long (c ∷ cs) (d ∷ ds) h = (let e = all_long cs ds (and_parts (covers c d) (covers_all cs ds) h).1 in omega (arith, e))
 
-pub all_stand : (cs : List Cell) (ds : List judge-cell.Cell) (bs : List ℕ) → covers_all cs ds ≡ true → writer.stands cs bs ≡ true → judge.stands ds bs ≡ true
+pub all_stand : (cs : List Cell) (ds : List judge-cell.Cell) (bs : List ℕ) → covers_all cs ds ≡ true → writer.matches_cells cs bs ≡ true → judge.matches_cells ds bs ≡ true
 all_stand [] [] bs h e = refl
 all_stand [] (d ∷ ds) bs h e = cc
 all_stand (c ∷ cs) [] bs h e = cc
 all_stand (c ∷ cs) (d ∷ ds) [] h e = cc
 all_stand (c ∷ cs) (d ∷ ds) (b ∷ bs) h e =
     let x = and_parts (covers c d) (covers_all cs ds) h in
-    let y = and_parts (writer.fits c b) (writer.stands cs bs) e in
+    let y = and_parts (writer.fits c b) (writer.matches_cells cs bs) e in
     rw (covered c d b x.0 y.0, all_stand cs ds bs x.1 y.1) refl
 
 -- ---- rows

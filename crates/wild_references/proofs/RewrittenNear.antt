@@ -34,7 +34,7 @@ use Rattle.wild_layout.specs.Decide.{place_to, term_to}
 use Rattle.wild_layout.specs.Geometry.{NamesSymbol}
 use Rattle.wild_layout.specs.SlotValues.{address_of}
 use Rattle.wild_layout.specs.SymbolValues.{displacement}
-use Rattle.wild_layout.specs.Values.{value_in, is_absent, is_own_place, undefined_weak_target}
+use Rattle.wild_layout.specs.Values.{value_in, is_undefined_weak_without_stub, weak_resolves_to_place, undefined_weak_target}
 use Rattle.wild_geometry.proofs.JudgedLemmas.{flag_is}
 use Rattle.wild_loader.specs.declared.memory.Memory.{Memory}
 use Rattle.wild_loader.specs.declared.world.World.{World}
@@ -90,11 +90,11 @@ pub record IsNearValue (l : Layout) (s : Item) (p : InputRelocation) (v : ℕ) :
   pub given : address_of l p.symbol ≡ Ok term
   pub value : displacement term p.addend (place_to s p ADDRESS_SECOND) ≡ v
 
-at_symbol : (j : Machine) (l : Layout) (p : InputRelocation) (o : Result ℕ Fault) (at t : ℕ) → is_absent l p.symbol ≡ false → (if is_own_place j l p near_info then Ok (undefined_weak_target p.number at) else o) ≡ Ok t → o ≡ Ok t
+at_symbol : (j : Machine) (l : Layout) (p : InputRelocation) (o : Result ℕ Fault) (at t : ℕ) → is_undefined_weak_without_stub l p.symbol ≡ false → (if weak_resolves_to_place j l p near_info then Ok (undefined_weak_target p.number at) else o) ≡ Ok t → o ≡ Ok t
 at_symbol machine.X86_64 l p o at t present h = h
 at_symbol machine.AArch64 l p o at t present h = rw present at h
 
-near_value : (l : Layout) (s : Item) (i : ℕ) (p : InputRelocation) (v : ℕ) → is_absent l p.symbol ≡ false → names_merged l p.symbol ≡ false → IsWrittenWord l s i p ADDRESS_SECOND v → IsNearValue l s p v
+near_value : (l : Layout) (s : Item) (i : ℕ) (p : InputRelocation) (v : ℕ) → is_undefined_weak_without_stub l p.symbol ≡ false → names_merged l p.symbol ≡ false → IsWrittenWord l s i p ADDRESS_SECOND v → IsNearValue l s p v
 near_value l s i p v present plain w =
     let given = subst (λ (f : RelocationKindInfo). term_to l p f (place_to s p ADDRESS_SECOND) ≡ Ok w.term) info_is w.given in
     let value = subst (λ (f : RelocationKindInfo). value_in l f w.term p.addend (place_to s p ADDRESS_SECOND) ≡ v) info_is w.value in
@@ -120,7 +120,7 @@ absent_no l k weak a =
     let both : true ≡ false = sym yes ∙ weak in
     cc
 
-present : (l : Layout) (o : Option ℕ) (k : ℕ) → o ≡ Some k → has_flag (flags_at l k) undefined_weak ≡ false → is_absent l o ≡ false
+present : (l : Layout) (o : Option ℕ) (k : ℕ) → o ≡ Some k → has_flag (flags_at l k) undefined_weak ≡ false → is_undefined_weak_without_stub l o ≡ false
 present l o k named weak = rw (named, weak) refl
 
 -- its address is more by the base

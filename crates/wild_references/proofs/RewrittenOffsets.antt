@@ -12,7 +12,7 @@ use Rattle.wild_words.proofs.Basics.{length-range}
 use Rattle.wild_words.proofs.ListLemmas.{holds_at}
 use Rattle.wild_reloc.specs.Field.{is_aligned, allows}
 use Rattle.wild_reloc.specs.TableAArch64.{tp_off, imm16, unsigned, any, static_row, thread_row}
-use Rattle.wild_reloc.specs.declared.expression.Subtrahend.TheVariants as taken
+use Rattle.wild_reloc.specs.declared.expression.Subtrahend.TheVariants as subtrahend
 use Rattle.wild_reloc.specs.declared.expression.Term.TheVariants as term
 use Rattle.wild_reloc.specs.declared.info.RelocationKind.TheVariants as kinds
 use Rattle.wild_reloc.specs.declared.info.RelocationKindInfo.{RelocationKindInfo}
@@ -45,7 +45,7 @@ use Rattle.wild_layout.specs.Decide.{place_to, term_to}
 use Rattle.wild_layout.specs.Geometry.{NamesSymbol}
 use Rattle.wild_layout.specs.Sites.{template_start}
 use Rattle.wild_layout.specs.SymbolValues.{sum}
-use Rattle.wild_layout.specs.Values.{value_in, term_of, is_own_place, undefined_weak_target}
+use Rattle.wild_layout.specs.Values.{value_in, term_of, weak_resolves_to_place, undefined_weak_target}
 use Rattle.wild_geometry.specs.Loaded.{HasDecision}
 use Rattle.wild_loader.specs.declared.memory.Memory.{Memory}
 use Rattle.wild_loader.specs.declared.world.World.{World}
@@ -123,7 +123,7 @@ pub record IsOffsetValue (l : Layout) (p : InputRelocation) (v : ℕ) : Type 0 w
   pub given : term_of l p.symbol kinds.TpOff ≡ Ok term
   pub value : sum term p.addend ≡ v
 
-at_symbol : (k : Machine) (l : Layout) (p : InputRelocation) (bits : BitMask) (range : AllowedRange) (o : Result ℕ Fault) (at t : ℕ) → (if is_own_place k l p (tp_off bits range 1) then Ok (undefined_weak_target p.number at) else o) ≡ Ok t → o ≡ Ok t
+at_symbol : (k : Machine) (l : Layout) (p : InputRelocation) (bits : BitMask) (range : AllowedRange) (o : Result ℕ Fault) (at t : ℕ) → (if weak_resolves_to_place k l p (tp_off bits range 1) then Ok (undefined_weak_target p.number at) else o) ≡ Ok t → o ≡ Ok t
 at_symbol machine.X86_64 l p bits range o at t h = h
 at_symbol machine.AArch64 l p bits range o at t h = h
 
@@ -163,7 +163,7 @@ offset_of_word law l w m s i p k v at g listed named none place inside program o
       row = wide;
       treated = pointer_value l s k p.symbol named program;
       row_that_accepts = subst (λ (j : Machine). row_accepts j p info ≡ true) (sym g.on) (suits_offset (cast_unsigned w64 p.addend == 0) p.symbol);
-      expressed = subst (λ (j : Machine). is_expressed j term.PointerOffset taken.Nothing None ≡ true) (sym g.on) refl;
+      expressed = subst (λ (j : Machine). is_expressed j term.PointerOffset subtrahend.Nothing None ≡ true) (sym g.on) refl;
       term = t.term;
       given = by_place l.machine t.given;
       value = t.value;
@@ -180,7 +180,7 @@ offset_of_word law l w m s i p k v at g listed named none place inside program o
     let same : gives.0 ≡ v = omega (arith, e, c, low_offset) in
     record { offset = subst (λ (n : ℕ). IsOffset l w p.symbol n) same is.offset; small = subst (λ (n : ℕ). n < 2 ^ 64) same low_offset }
   where
-    by_place : (j : Machine) → term_of l p.symbol kinds.TpOff ≡ Ok t.term → (if is_own_place j l p (tp_off (imm16 0 16) any 1) then Ok (undefined_weak_target p.number (place_of s.address p)) else term_of l p.symbol kinds.TpOff) ≡ Ok t.term
+    by_place : (j : Machine) → term_of l p.symbol kinds.TpOff ≡ Ok t.term → (if weak_resolves_to_place j l p (tp_off (imm16 0 16) any 1) then Ok (undefined_weak_target p.number (place_of s.address p)) else term_of l p.symbol kinds.TpOff) ≡ Ok t.term
     by_place machine.X86_64 h = h
     by_place machine.AArch64 h = h
 

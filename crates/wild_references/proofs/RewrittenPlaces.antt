@@ -34,7 +34,7 @@ use Rattle.wild_layout.proofs.ChoiceLemmas.{IsChosen}
 use Rattle.wild_layout.proofs.DecisionLemmas.{IsRewritten, rewritten_x86_64}
 use Rattle.wild_geometry.specs.Loaded.{HasDecision}
 use Rattle.wild_meaning.specs.Section.{IsSet}
-use Rattle.wild_loader.specs.Instruction.{stands}
+use Rattle.wild_loader.specs.Instruction.{matches_cells}
 use Rattle.wild_meaning.specs.Sequence.{Sort, Target, DescribedCall, Address, FieldBits, size_of}
 use Rattle.wild_meaning.specs.Template.{HasOriginAddend}
 use Rattle.wild_meaning.proofs.BitLemmas.{bit_code}
@@ -145,8 +145,8 @@ counts_ended o r h = (let e = ended r.addend h in counts_by o r (omega (arith, e
 pub size_is : (l : Layout) (s : Item) (i : ℕ) (r : InputRelocation) (row : Row) (v : ℕ) → IsPlacedRow l s i r row v → size_of (instruction_of row) ≡ pattern_size row
 size_is l s i r row v p = all_long (pattern_cells (pattern_of row)) (instruction_of row).template.cells p.fits.covers
 
-pub cells_stand : (l : Layout) (s : Item) (i : ℕ) (r : InputRelocation) (row : Row) (v : ℕ) → IsPlacedRow l s i r row v → stands (instruction_of row).template.cells (slice_range s.bytes (template_start row r) (template_start row r + size_of (instruction_of row))) ≡ true
+pub cells_stand : (l : Layout) (s : Item) (i : ℕ) (r : InputRelocation) (row : Row) (v : ℕ) → IsPlacedRow l s i r row v → matches_cells (instruction_of row).template.cells (slice_range s.bytes (template_start row r) (template_start row r + size_of (instruction_of row))) ≡ true
 cells_stand l s i r row v p =
     let e = size_is l s i r row v p in
-    subst (λ (n : ℕ). stands (instruction_of row).template.cells (slice_range s.bytes (template_start row r) (template_start row r + n)) ≡ true) (sym e)
+    subst (λ (n : ℕ). matches_cells (instruction_of row).template.cells (slice_range s.bytes (template_start row r) (template_start row r + n)) ≡ true) (sym e)
     (all_stand (pattern_cells (pattern_of row)) (instruction_of row).template.cells (slice_range s.bytes (template_start row r) (template_start row r + pattern_size row)) p.fits.covers p.whole.same)

@@ -103,19 +103,19 @@ bytes_are l s i r v from t =
 rest_covers : covers_all (pattern_cells (pattern.Wide Rex operation.Mov)) (judge-cells.From 0 0x7f ∷ judge-cells.Is 0x8b ∷ judge-cells.Slot ∷ judge.field) ≡ true
 rest_covers = refl
 
-pub stands_with : (l : Layout) (s : Item) (i : ℕ) (r : InputRelocation) (v from : ℕ) → Plain l s i r v from → (slice_index s.bytes from == 0xd5) ≡ true → judge.stands wide_load.template.cells (slice_range s.bytes from (from + 8)) ≡ true
+pub stands_with : (l : Layout) (s : Item) (i : ℕ) (r : InputRelocation) (v from : ℕ) → Plain l s i r v from → (slice_index s.bytes from == 0xd5) ≡ true → judge.matches_cells wide_load.template.cells (slice_range s.bytes from (from + 8)) ≡ true
 stands_with l s i r v from t h =
     let old = slice_range s.bytes (template_start PLAIN_LEA r) (template_start PLAIN_LEA r + 7) in
-    let rest : judge.stands (judge-cells.From 0 0x7f ∷ judge-cells.Is 0x8b ∷ judge-cells.Slot ∷ judge.field) old ≡ true = all_stand (pattern_cells (pattern.Wide Rex operation.Mov)) (judge-cells.From 0 0x7f ∷ judge-cells.Is 0x8b ∷ judge-cells.Slot ∷ judge.field) old rest_covers t.row.whole.same in
-    subst (λ (bs : List ℕ). judge.stands wide_load.template.cells bs ≡ true) (sym (bytes_are l s i r v from t)) (both_stand (slice_index s.bytes from == 0xd5) _ h rest)
+    let rest : judge.matches_cells (judge-cells.From 0 0x7f ∷ judge-cells.Is 0x8b ∷ judge-cells.Slot ∷ judge.field) old ≡ true = all_stand (pattern_cells (pattern.Wide Rex operation.Mov)) (judge-cells.From 0 0x7f ∷ judge-cells.Is 0x8b ∷ judge-cells.Slot ∷ judge.field) old rest_covers t.row.whole.same in
+    subst (λ (bs : List ℕ). judge.matches_cells wide_load.template.cells bs ≡ true) (sym (bytes_are l s i r v from t)) (both_stand (slice_index s.bytes from == 0xd5) _ h rest)
   where
     both_stand : (a b : Bool) → a ≡ true → b ≡ true → (a && b) ≡ true
     both_stand true b e f = f
     both_stand false b e f = cc
 
-stands_first : (l : Layout) (s : Item) (i : ℕ) (r : InputRelocation) (v from : ℕ) → Plain l s i r v from → judge.stands wide_load.template.cells (slice_range s.bytes from (from + 8)) ≡ true → (slice_index s.bytes from == 0xd5) ≡ true
+stands_first : (l : Layout) (s : Item) (i : ℕ) (r : InputRelocation) (v from : ℕ) → Plain l s i r v from → judge.matches_cells wide_load.template.cells (slice_range s.bytes from (from + 8)) ≡ true → (slice_index s.bytes from == 0xd5) ≡ true
 stands_first l s i r v from t h =
-    let there = subst (λ (bs : List ℕ). judge.stands wide_load.template.cells bs ≡ true) (bytes_are l s i r v from t) h in
+    let there = subst (λ (bs : List ℕ). judge.matches_cells wide_load.template.cells bs ≡ true) (bytes_are l s i r v from t) h in
     (and_parts (slice_index s.bytes from == 0xd5) _ there).0
 
 -- it stands there, with the byte before in no field

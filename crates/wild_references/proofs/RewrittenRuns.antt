@@ -22,7 +22,7 @@ use Rattle.wild_aarch64.specs.declared.code.Code.{Code}
 use Rattle.wild_aarch64.specs.declared.code.Code.TheVariants.{Adrp, Add, Ldr, Blr}
 use Rattle.wild_aarch64.specs.declared.template.Template.{Template}
 use Rattle.wild_aarch64.specs.declared.template.Template.TheVariants as kinds
-use Rattle.wild_aarch64.specs.Slice.{bits, stands}
+use Rattle.wild_aarch64.specs.Slice.{bits, has_fixed_bits}
 use Rattle.wild_aarch64.specs.Forms.{d, adrp, add, ldr}
 use Rattle.wild_aarch64.specs.Code.{read}
 use Rattle.wild_aarch64.specs.Machine.{run}
@@ -66,7 +66,7 @@ run_of Address = address_pair_words
 
 -- ---- words
 
-adrp_form : (r w : ℕ) → is_adrp r w ≡ true → stands adrp.fixed w ≡ true
+adrp_form : (r w : ℕ) → is_adrp r w ≡ true → has_fixed_bits adrp.fixed w ≡ true
 adrp_form r w h =
     let first = and_parts _ _ (and_parts _ _ h).0 in
     let top : w / 2 ^ 31 ≡ 1 = eqb-true _ _ first.0 in
@@ -76,7 +76,7 @@ adrp_form r w h =
     let c : bits 31 1 w ≡ 1 = omega (arith, top) in
     and_from _ _ (eq-eqb _ _ a) (and_from _ _ (eq-eqb _ _ b) (and_from _ _ (eq-eqb _ _ c) refl))
 
-ldr_form : (r q w : ℕ) → is_ldr r q w ≡ true → stands ldr.fixed w ≡ true
+ldr_form : (r q w : ℕ) → is_ldr r q w ≡ true → has_fixed_bits ldr.fixed w ≡ true
 ldr_form r q w h =
     let first = and_parts _ _ (and_parts _ _ h).0 in
     let top : w / 2 ^ 22 ≡ 0x3e5 = eqb-true _ _ first.0 in
@@ -86,7 +86,7 @@ ldr_form r q w h =
     let e : bits 22 2 w ≡ 1 = omega (arith, top) in
     and_from _ _ (eq-eqb _ _ a) (and_from _ _ (eq-eqb _ _ b) (and_from _ _ (eq-eqb _ _ c) (and_from _ _ (eq-eqb _ _ e) refl)))
 
-add_form : (r q w : ℕ) → is_add r q w ≡ true → stands add.fixed w ≡ true
+add_form : (r q w : ℕ) → is_add r q w ≡ true → has_fixed_bits add.fixed w ≡ true
 add_form r q w h =
     let first = and_parts _ _ (and_parts _ _ h).0 in
     let top : w / 2 ^ 22 ≡ 0x244 = eqb-true _ _ first.0 in
@@ -140,7 +140,7 @@ address_stands b c h =
     let pb = adrp_shape r b each.0 in
     let pc = add_shape r r c each.1 in
     let e = second_sets c in
-    let filled : are_filled (types_of Address) (b ∷ c ∷ []) ≡ true = two_filled (stands adrp.fixed b) (stands add.fixed c) (adrp_form r b each.0) (add_form r r c each.1) in
+    let filled : are_filled (types_of Address) (b ∷ c ∷ []) ≡ true = two_filled (has_fixed_bits adrp.fixed b) (has_fixed_bits add.fixed c) (adrp_form r b each.0) (add_form r r c each.1) in
     let codes : begins (codes_of kinds.AddressPair r) (read b ∷ read c ∷ []) ≡ true = two_fit (Adrp r 0) (Add r r 0) (read b) (read c) (fits_shape (Adrp r 0) (read b) pb (same_adrp r)) (fits_shape (Add r r 0) (read c) pc (same_add r r)) in
     let shaped : shapes (b ∷ c ∷ []) ≡ Some (Adrp r 0) ∷ Some (Add r r 0) ∷ [] = rw (pb, pc) refl in
     let told : has_known_meaning (run (shapes (b ∷ c ∷ [])) 0 []) ≡ true = ap (λ (cs : List (Option Code)). has_known_meaning (run cs 0 [])) shaped ∙ ap has_known_meaning (address_run r 0 0 0 _ (ne_eqb r 31 (λ z. omega (arith, low, z))) refl) in
@@ -155,7 +155,7 @@ slot_stands b c h =
     let pb = adrp_shape r b each.0 in
     let pc = ldr_shape r r c each.1 in
     let e = second_sets c in
-    let filled : are_filled (types_of OffsetSlot) (b ∷ c ∷ []) ≡ true = two_filled (stands adrp.fixed b) (stands ldr.fixed c) (adrp_form r b each.0) (ldr_form r r c each.1) in
+    let filled : are_filled (types_of OffsetSlot) (b ∷ c ∷ []) ≡ true = two_filled (has_fixed_bits adrp.fixed b) (has_fixed_bits ldr.fixed c) (adrp_form r b each.0) (ldr_form r r c each.1) in
     let codes : begins (codes_of kinds.SlotPair r) (read b ∷ read c ∷ []) ≡ true = two_fit (Adrp r 0) (Ldr r r 0) (read b) (read c) (fits_shape (Adrp r 0) (read b) pb (same_adrp r)) (fits_shape (Ldr r r 0) (read c) pc (same_ldr r r)) in
     let shaped : shapes (b ∷ c ∷ []) ≡ Some (Adrp r 0) ∷ Some (Ldr r r 0) ∷ [] = rw (pb, pc) refl in
     let told : has_known_meaning (run (shapes (b ∷ c ∷ [])) 0 []) ≡ true = ap (λ (cs : List (Option Code)). has_known_meaning (run cs 0 [])) shaped ∙ ap has_known_meaning (slot_run r 0 0 0 _ (ne_eqb r 31 (λ z. omega (arith, low, z))) refl) in
@@ -180,7 +180,7 @@ call_stands b c e f h =
     let pe = add_shape 0 0 e third.1 in
     let pf = blr_shape r f last.1 in
     let at = second_sets c in
-    let filled : are_filled (types_of DescriptorCall) (b ∷ c ∷ e ∷ f ∷ []) ≡ true = three_filled (stands adrp.fixed b) (stands ldr.fixed c) (stands add.fixed e) (adrp_form 0 b first.1) (ldr_form r 0 c second.1) (add_form 0 0 e third.1) in
+    let filled : are_filled (types_of DescriptorCall) (b ∷ c ∷ e ∷ f ∷ []) ≡ true = three_filled (has_fixed_bits adrp.fixed b) (has_fixed_bits ldr.fixed c) (has_fixed_bits add.fixed e) (adrp_form 0 b first.1) (ldr_form r 0 c second.1) (add_form 0 0 e third.1) in
     let codes : begins (codes_of kinds.DescriptorCall r) (read b ∷ read c ∷ read e ∷ read f ∷ []) ≡ true =
     four_fit (Adrp 0 0) (Ldr r 0 0) (Add 0 0 0) (Blr r) (read b) (read c) (read e) (read f) (fits_shape (Adrp 0 0) (read b) pb refl) (fits_shape (Ldr r 0 0) (read c) pc (same_ldr r 0)) (fits_shape (Add 0 0 0) (read e) pe refl) (fits_shape (Blr r) (read f) pf (same_blr r)) in
     let shaped : shapes (b ∷ c ∷ e ∷ f ∷ []) ≡ Some (Adrp 0 0) ∷ Some (Ldr r 0 0) ∷ Some (Add 0 0 0) ∷ Some (Blr r) ∷ [] = rw (pb, pc, pe, pf) refl in

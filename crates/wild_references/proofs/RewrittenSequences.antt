@@ -24,7 +24,7 @@ use Rattle.wild_relax.specs.Question.{zero as none_added}
 use Rattle.wild_relax.specs.SequenceAArch64.{types_of, same_symbol, relocations_match}
 use Rattle.wild_relax.proofs.TogetherLemmas.{same_is}
 use Rattle.wild_layout.specs.Choice.{nameless, info_at}
-use Rattle.wild_loader.specs.Instruction.{stands}
+use Rattle.wild_loader.specs.Instruction.{matches_cells}
 use Rattle.wild_meaning.specs.WordsAArch64.{is_run}
 use Rattle.wild_meaning.specs.Sequence.{size_of, bytes_of, by_word, IsOwnByte, descriptor_call_words, offset_pair_words, address_pair_words, instructions_of}
 use Rattle.wild_meaning.specs.Field.{InNoField}
@@ -90,7 +90,7 @@ partner l s symbol place n index start k width first named none p e = record {
 
 -- ---- its bytes
 
-any_stand : (n : ℕ) (bs : List ℕ) → length bs ≡ fours n → stands (bytes_of n).cells bs ≡ true
+any_stand : (n : ℕ) (bs : List ℕ) → length bs ≡ fours n → matches_cells (bytes_of n).cells bs ≡ true
 any_stand zero bs h = refl
 any_stand (suc n) [] h = cc
 any_stand (suc n) (a ∷ []) h = cc
@@ -108,7 +108,7 @@ run_size DescriptorCall = refl
 run_size OffsetSlot = refl
 run_size Address = refl
 
-run_stands_there : (q : Sequence) (start : ℕ) (bs : List ℕ) → start + size_of (run_of q) ≤ length bs → stands (run_of q).template.cells (slice_range bs start (start + size_of (run_of q))) ≡ true
+run_stands_there : (q : Sequence) (start : ℕ) (bs : List ℕ) → start + size_of (run_of q) ≤ length bs → matches_cells (run_of q).template.cells (slice_range bs start (start + size_of (run_of q))) ≡ true
 run_stands_there DescriptorCall start bs h = any_stand 4 (slice_range bs start (start + 16)) (length-range bs start 16 h)
 run_stands_there OffsetSlot start bs h = any_stand 2 (slice_range bs start (start + 8)) (length-range bs start 8 h)
 run_stands_there Address start bs h = any_stand 2 (slice_range bs start (start + 8)) (length-range bs start 8 h)

@@ -31,7 +31,7 @@ use Rattle.wild_relax.specs.SequenceAArch64.{words_at, words_match}
 use Rattle.wild_layout.specs.Decide.{place_to, term_to}
 use Rattle.wild_layout.specs.SlotValues.{slot_address}
 use Rattle.wild_layout.specs.SymbolValues.{sum}
-use Rattle.wild_layout.specs.Values.{value_in, is_own_place, undefined_weak_target}
+use Rattle.wild_layout.specs.Values.{value_in, weak_resolves_to_place, undefined_weak_target}
 use Rattle.wild_loader.specs.declared.memory.Memory.{Memory}
 use Rattle.wild_loader.specs.declared.world.World.{World}
 use Rattle.wild_loader.specs.Instruction.{Reader}
@@ -83,20 +83,20 @@ call_rows = rewriting DescriptorCall (CALL_FIRST ∷ CALL_SECOND ∷ CALL_THIRD_
 -- the distance of the slot's page
 record IsPageValue (l : Layout) (s : Item) (p : InputRelocation) (v : ℕ) : Type 0 where
   term : ℕ
-  given : slot_address l sorts.Offset p.symbol ≡ Ok term
+  given : slot_address l sorts.TpOff p.symbol ≡ Ok term
   value : value_in l page_info term p.addend (place_to s p CALL_THIRD_SLOT) ≡ v
 
 -- the low bits of its address
 record IsLowValue (l : Layout) (p : InputRelocation) (v : ℕ) : Type 0 where
   term : ℕ
-  given : slot_address l sorts.Offset p.symbol ≡ Ok term
+  given : slot_address l sorts.TpOff p.symbol ≡ Ok term
   value : sum term p.addend ≡ v
 
-page_at : (j : Machine) (l : Layout) (p : InputRelocation) (o : Result ℕ Fault) (at t : ℕ) → (if is_own_place j l p page_info then Ok (undefined_weak_target p.number at) else o) ≡ Ok t → o ≡ Ok t
+page_at : (j : Machine) (l : Layout) (p : InputRelocation) (o : Result ℕ Fault) (at t : ℕ) → (if weak_resolves_to_place j l p page_info then Ok (undefined_weak_target p.number at) else o) ≡ Ok t → o ≡ Ok t
 page_at machine.X86_64 l p o at t h = h
 page_at machine.AArch64 l p o at t h = h
 
-low_at : (j : Machine) (l : Layout) (p : InputRelocation) (o : Result ℕ Fault) (at t : ℕ) → (if is_own_place j l p low_info then Ok (undefined_weak_target p.number at) else o) ≡ Ok t → o ≡ Ok t
+low_at : (j : Machine) (l : Layout) (p : InputRelocation) (o : Result ℕ Fault) (at t : ℕ) → (if weak_resolves_to_place j l p low_info then Ok (undefined_weak_target p.number at) else o) ≡ Ok t → o ≡ Ok t
 low_at machine.X86_64 l p o at t h = h
 low_at machine.AArch64 l p o at t h = h
 
@@ -104,13 +104,13 @@ page_value : (l : Layout) (s : Item) (i : ℕ) (p : InputRelocation) (v : ℕ) �
 page_value l s i p v w =
     let given = subst (λ (f : RelocationKindInfo). term_to l p f (place_to s p CALL_THIRD_SLOT) ≡ Ok w.term) page_is w.given in
     let value = subst (λ (f : RelocationKindInfo). value_in l f w.term p.addend (place_to s p CALL_THIRD_SLOT) ≡ v) page_is w.value in
-    record { term = w.term; given = page_at l.machine l p (slot_address l sorts.Offset p.symbol) (place_to s p CALL_THIRD_SLOT) w.term given; value = value }
+    record { term = w.term; given = page_at l.machine l p (slot_address l sorts.TpOff p.symbol) (place_to s p CALL_THIRD_SLOT) w.term given; value = value }
 
 low_value : (l : Layout) (s : Item) (i : ℕ) (p : InputRelocation) (v : ℕ) → IsWrittenWord l s i p CALL_FOURTH_SLOT v → IsLowValue l p v
 low_value l s i p v w =
     let given = subst (λ (f : RelocationKindInfo). term_to l p f (place_to s p CALL_FOURTH_SLOT) ≡ Ok w.term) low_is w.given in
     let value = subst (λ (f : RelocationKindInfo). value_in l f w.term p.addend (place_to s p CALL_FOURTH_SLOT) ≡ v) low_is w.value in
-    record { term = w.term; given = low_at l.machine l p (slot_address l sorts.Offset p.symbol) (place_to s p CALL_FOURTH_SLOT) w.term given; value = value }
+    record { term = w.term; given = low_at l.machine l p (slot_address l sorts.TpOff p.symbol) (place_to s p CALL_FOURTH_SLOT) w.term given; value = value }
 
 -- a type of 33 signed bits takes it
 within_33 : (v : ℕ) → allows page_info v ≡ true → (v < 2 ^ 32) ⊎ (2 ^ 64 ≤ v + 2 ^ 32)
@@ -151,12 +151,12 @@ call_to_slot keeps l w m s first start k g all inside stands named p q t u =
     let high = page_value l s t.index t.relocation t.value t.written in
     let part = low_value l s u.index u.relocation u.value u.written in
     let term = high.term in
-    let at_t : slot_address l sorts.Offset (Some k) ≡ Ok term = subst (λ (o : Option ℕ). slot_address l sorts.Offset o ≡ Ok term) (t.symbol ∙ named) high.given in
-    let at_u : slot_address l sorts.Offset (Some k) ≡ Ok part.term = subst (λ (o : Option ℕ). slot_address l sorts.Offset o ≡ Ok part.term) (u.symbol ∙ named) part.given in
+    let at_t : slot_address l sorts.TpOff (Some k) ≡ Ok term = subst (λ (o : Option ℕ). slot_address l sorts.TpOff o ≡ Ok term) (t.symbol ∙ named) high.given in
+    let at_u : slot_address l sorts.TpOff (Some k) ≡ Ok part.term = subst (λ (o : Option ℕ). slot_address l sorts.TpOff o ≡ Ok part.term) (u.symbol ∙ named) part.given in
     let both : Ok term ≡ Ok part.term = sym at_t ∙ at_u in
     let one_term : part.term ≡ term = cc in
     let placed_l = placed machine.AArch64 l w m s g in
-    let slot : IsSlotOf ThreadOffset l w m k ((w.base + term) % 2 ^ 64) = slot_given sorts.Offset l w m (Some k) k term (offset_slots l placed_l.symbols.own) (offsets_stand l w m placed_l all) refl at_t in
+    let slot : IsSlotOf ThreadOffset l w m k ((w.base + term) % 2 ^ 64) = slot_given sorts.TpOff l w m (Some k) k term (offset_slots l placed_l.symbols.own) (offsets_stand l w m placed_l all) refl at_t in
     let x = term % 2 ^ 64 in
     let v = slot.holds.0 in
     let a = s.address + start in

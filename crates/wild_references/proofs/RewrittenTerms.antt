@@ -29,7 +29,7 @@ use Rattle.wild_relax.specs.RewriteX86_64.{rewrite_of}
 use Rattle.wild_relax.specs.LinkedPattern.{field_in}
 use Rattle.wild_layout.specs.Decide.{field_at}
 use Rattle.wild_layout.proofs.DecisionLemmas.{term_alone}
-use Rattle.wild_layout.specs.Values.{term_of, value_by, is_own_place, undefined_weak_target, term_by}
+use Rattle.wild_layout.specs.Values.{term_of, value_by, weak_resolves_to_place, undefined_weak_target, term_by}
 use Rattle.wild_layout.specs.Geometry.{NamesSymbol}
 use Rattle.wild_layout.specs.Sites.{template_start}
 use Rattle.wild_layout.proofs.ChoiceLemmas.{LiesInItsPattern, chosen_lies}
@@ -118,7 +118,7 @@ pub info_is : (l : Layout) (w : World) (m : Memory) (s : Item) (i : ℕ) (r : In
 info_is l w m s i r row v h p = row_here l.machine (rewrite_of row).number p.made.written.info h.on p.made.written.known
 
 -- on x86-64 no place stands for a symbol
-plain_at : (m : Machine) (l : Layout) (r : InputRelocation) (info : RelocationKindInfo) (p t : ℕ) → m ≡ machine.X86_64 → names_merged l r.symbol ≡ false → term_of l r.symbol info.kind ≡ Ok t → (if is_own_place m l r info then Ok (undefined_weak_target r.number p) else term_by l r (expression_of info.kind).term) ≡ Ok t
+plain_at : (m : Machine) (l : Layout) (r : InputRelocation) (info : RelocationKindInfo) (p t : ℕ) → m ≡ machine.X86_64 → names_merged l r.symbol ≡ false → term_of l r.symbol info.kind ≡ Ok t → (if weak_resolves_to_place m l r info then Ok (undefined_weak_target r.number p) else term_by l r (expression_of info.kind).term) ≡ Ok t
 plain_at machine.X86_64 l r info p t on plain h = term_plain l r (expression_of info.kind).term plain ∙ h
 plain_at machine.AArch64 l r info p t on plain h = cc
 
@@ -139,7 +139,7 @@ has_term l w m s i r row v k n sign h all p is term treated asked =
       row = wide;
       treated = treated;
       row_that_accepts = subst (λ (j : Machine). row_accepts j (written_as row r) (plain k n sign) ≡ true) (sym h.on) refl;
-      expressed = subst (λ (j : Machine). is_expressed j (expression_of k).term (expression_of k).taken None ≡ true) (sym h.on) refl;
+      expressed = subst (λ (j : Machine). is_expressed j (expression_of k).term (expression_of k).subtrahend None ≡ true) (sym h.on) refl;
       term = x.term;
       given = plain_at l.machine l (written_as row r) (plain k n sign) (place_of s.address (written_as row r)) x.term h.on p.chosen.plain (term x.term given);
       value = value;

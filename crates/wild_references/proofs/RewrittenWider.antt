@@ -182,7 +182,7 @@ does_wider laws l w m s i r v from h all t =
     let start = t.plain.start in
     let next : place_at w s (template_start PLAIN_LEA r) ≡ a + 1 = omega (arith, start) in
     let shape = stands_with l s i r v from t.plain t.prefix in
-    let here : judge.stands wide_load.template.cells (x ∷ old) ≡ true = subst (λ (bs : List ℕ). judge.stands wide_load.template.cells bs ≡ true) bytes shape in
+    let here : judge.matches_cells wide_load.template.cells (x ∷ old) ≡ true = subst (λ (bs : List ℕ). judge.matches_cells wide_load.template.cells bs ≡ true) bytes shape in
     let long : length (x ∷ old) ≡ 8 = (let z = p.whole.long in omega (arith, z)) in
     let e = has_effect n a 12 wide_load.template (x ∷ old) (omega arith) refl long here in
     let whole : IsWhole (pattern_cells (pattern_of LEA_2)) (x ∷ old) = record { long = long; same = both_stand (x == 0xd5) _ t.prefix p.whole.same } in

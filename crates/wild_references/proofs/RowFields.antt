@@ -1,7 +1,7 @@
 -- The fields of rows that keep the bytes around them: of an own symbol the distance of its stub is that of itself, and so is the offset from the table.
 use Rattle.std.proofs.Common.{◌≡◌, ℕ, ◌+◌, ◌-◌, ◌%◌, ◌^◌, ◌<◌, ◌⊎◌, inl, inr, true, false, refl, sym, ap, ◌∙◌, arith, subst}
 use Rattle.std.specs.Prelude.{Option, Some, Ok, List, length, slice_get}
-use Rattle.wild_reloc.specs.declared.expression.Subtrahend.TheVariants as taken
+use Rattle.wild_reloc.specs.declared.expression.Subtrahend.TheVariants as subtrahend
 use Rattle.std.proofs.lemmas.Bool.{cases_Bool, not-true}
 use Rattle.wild_words.proofs.ListLemmas.{holds_at}
 use Rattle.wild_records.specs.Abi.Relocation.{r_x86_64_pc32, r_x86_64_plt32, r_x86_64_gotoff64, r_x86_64_pltoff64}
@@ -172,7 +172,7 @@ stub_distance_holds l w m s i r term v h x86 listed asked number own value allow
     let known = formula_known l r.number (formula StubDistance (Plain 32 Signed)) x86 (ap x86_64_formula number ∙ plt32_formula) in
     let field : HasField l r info.size = record { row = plain kinds.PltRelative Four sign.Signed; known = known_here l r.number r_x86_64_plt32 (plain kinds.PltRelative Four sign.Signed) x86 number plt32_row; kind = refl; size = refl } in
     let t = value_of_own l w m s i r term h listed own in
-    let low = below_all l taken.Place term (place_of s.address r) v r.addend value in
+    let low = below_all l subtrahend.Place term (place_of s.address r) v r.addend value in
     record {
       holds = record {
         formula = formula StubDistance (Plain 32 Signed);
@@ -192,7 +192,7 @@ stub_offset_holds l w m s i r term v h x86 listed asked number own value allowed
     let known = formula_known l r.number (formula StubFromTable Full) x86 (ap x86_64_formula number ∙ pltoff64_formula) in
     let field : HasField l r info.size = record { row = plain kinds.PltRelGotBase Eight sign.Signed; known = known_here l r.number r_x86_64_pltoff64 (plain kinds.PltRelGotBase Eight sign.Signed) x86 number pltoff64_row; kind = refl; size = refl } in
     let t = value_of_own l w m s i r term h listed own in
-    let low = below_all l taken.Table term (place_of s.address r) v r.addend value in
+    let low = below_all l subtrahend.GotBase term (place_of s.address r) v r.addend value in
     record {
       holds = record {
         formula = formula StubFromTable Full;

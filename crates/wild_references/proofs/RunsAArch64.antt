@@ -12,7 +12,7 @@ use Rattle.wild_aarch64.specs.declared.operand.Deed.TheVariants as runs
 use Rattle.wild_aarch64.specs.declared.template.Template.{Template}
 use Rattle.wild_aarch64.specs.declared.template.Template.TheVariants as kinds
 use Rattle.wild_aarch64.specs.Immediate.{word_with_immediate, bits_of_field, Imm12, Imm21}
-use Rattle.wild_aarch64.specs.Slice.{signed, stands}
+use Rattle.wild_aarch64.specs.Slice.{signed, has_fixed_bits}
 use Rattle.wild_aarch64.specs.Forms.{d, n, adrp, add, ldr}
 use Rattle.wild_aarch64.specs.Code.{read}
 use Rattle.wild_aarch64.specs.Machine.{does, page, sum_64, run, meaning}
@@ -30,19 +30,19 @@ use Rattle.wild_references.proofs.FilledAArch64.{put_back}
 
 -- ---- words whose field is filled
 
-pub adrp_read : (w u x : ℕ) → stands adrp.fixed w ≡ true → others AdrField w ≡ others AdrField u → sign_extended 33 (immediate AdrField u * 2 ^ 12) ≡ x → read u ≡ Some (Adrp (d w) x)
+pub adrp_read : (w u x : ℕ) → has_fixed_bits adrp.fixed w ≡ true → others AdrField w ≡ others AdrField u → sign_extended 33 (immediate AdrField u * 2 ^ 12) ≡ x → read u ≡ Some (Adrp (d w) x)
 adrp_read w u x s keeps decodes =
     let put : word_with_immediate Imm21 (immediate AdrField u) w ≡ u = put_back AdrField Imm21 w u (immediate AdrField u) refl keeps refl in
     let at : bits_of_field Imm21 (immediate AdrField u) ≡ immediate AdrField u = omega arith in
     subst (λ (k : ℕ). read k ≡ Some (Adrp (d w) x)) put (adrp_field w (immediate AdrField u) s ∙ ap (λ (i : ℕ). Some (Adrp (d w) (signed 33 (i * 4096)))) at ∙ ap (λ (k : ℕ). Some (Adrp (d w) k)) decodes)
 
-pub add_read : (w u : ℕ) → stands add.fixed w ≡ true → others Imm12Field w ≡ others Imm12Field u → read u ≡ Some (Add (d w) (n w) (immediate Imm12Field u))
+pub add_read : (w u : ℕ) → has_fixed_bits add.fixed w ≡ true → others Imm12Field w ≡ others Imm12Field u → read u ≡ Some (Add (d w) (n w) (immediate Imm12Field u))
 add_read w u s keeps =
     let put : word_with_immediate Imm12 (immediate Imm12Field u) w ≡ u = put_back Imm12Field Imm12 w u (immediate Imm12Field u) refl keeps refl in
     let at : bits_of_field Imm12 (immediate Imm12Field u) ≡ immediate Imm12Field u = omega arith in
     subst (λ (k : ℕ). read k ≡ Some (Add (d w) (n w) (immediate Imm12Field u))) put (add_field w (immediate Imm12Field u) s ∙ ap (λ (i : ℕ). Some (Add (d w) (n w) i)) at)
 
-pub ldr_read : (w u : ℕ) → stands ldr.fixed w ≡ true → others Imm12Field w ≡ others Imm12Field u → read u ≡ Some (Ldr (d w) (n w) (immediate Imm12Field u * 8))
+pub ldr_read : (w u : ℕ) → has_fixed_bits ldr.fixed w ≡ true → others Imm12Field w ≡ others Imm12Field u → read u ≡ Some (Ldr (d w) (n w) (immediate Imm12Field u * 8))
 ldr_read w u s keeps =
     let put : word_with_immediate Imm12 (immediate Imm12Field u) w ≡ u = put_back Imm12Field Imm12 w u (immediate Imm12Field u) refl keeps refl in
     let at : bits_of_field Imm12 (immediate Imm12Field u) ≡ immediate Imm12Field u = omega arith in
@@ -131,8 +131,8 @@ address_pair_does r a t x w0 w1 u0 u1 number is k0 decodes k1 at = by (d w0 == 3
     facts : IsKnown kinds.AddressPair (r_aarch64_adr_prel_pg_hi21 ∷ r_aarch64_add_abs_lo12_nc ∷ []) (w0 ∷ w1 ∷ [])
     facts = known kinds.AddressPair (r_aarch64_adr_prel_pg_hi21 ∷ r_aarch64_add_abs_lo12_nc ∷ []) (w0 ∷ w1 ∷ []) is
 
-    there : (stands adrp.fixed w0 ≡ true) × (stands add.fixed w1 ≡ true)
-    there = two_stand (stands adrp.fixed w0) (stands add.fixed w1) facts.filled
+    there : (has_fixed_bits adrp.fixed w0 ≡ true) × (has_fixed_bits add.fixed w1 ≡ true)
+    there = two_stand (has_fixed_bits adrp.fixed w0) (has_fixed_bits add.fixed w1) facts.filled
 
     old0 : read w0 ≡ Some (Adrp (d w0) (sign_extended 33 (immediate AdrField w0 * 2 ^ 12)))
     old0 = adrp_read w0 w0 (sign_extended 33 (immediate AdrField w0 * 2 ^ 12)) there.0 refl refl
@@ -166,8 +166,8 @@ slot_pair_does r a t g x w0 w1 u0 u1 word is k0 decodes k1 at = by (d w0 == 31) 
     facts : IsKnown kinds.SlotPair (r_aarch64_tlsie_adr_gottprel_page21 ∷ r_aarch64_tlsie_ld64_gottprel_lo12_nc ∷ []) (w0 ∷ w1 ∷ [])
     facts = known kinds.SlotPair (r_aarch64_tlsie_adr_gottprel_page21 ∷ r_aarch64_tlsie_ld64_gottprel_lo12_nc ∷ []) (w0 ∷ w1 ∷ []) is
 
-    there : (stands adrp.fixed w0 ≡ true) × (stands ldr.fixed w1 ≡ true)
-    there = two_stand (stands adrp.fixed w0) (stands ldr.fixed w1) facts.filled
+    there : (has_fixed_bits adrp.fixed w0 ≡ true) × (has_fixed_bits ldr.fixed w1 ≡ true)
+    there = two_stand (has_fixed_bits adrp.fixed w0) (has_fixed_bits ldr.fixed w1) facts.filled
 
     old0 : read w0 ≡ Some (Adrp (d w0) (sign_extended 33 (immediate AdrField w0 * 2 ^ 12)))
     old0 = adrp_read w0 w0 (sign_extended 33 (immediate AdrField w0 * 2 ^ 12)) there.0 refl refl
@@ -205,8 +205,8 @@ call_does r a t g x w0 w1 w2 w3 u0 u1 u2 offset is k0 decodes k1 at k2 too = by 
     facts : IsKnown kinds.DescriptorCall types (w0 ∷ w1 ∷ w2 ∷ w3 ∷ [])
     facts = known kinds.DescriptorCall types (w0 ∷ w1 ∷ w2 ∷ w3 ∷ []) is
 
-    there : (stands adrp.fixed w0 ≡ true) × (stands ldr.fixed w1 ≡ true) × (stands add.fixed w2 ≡ true)
-    there = three_stand (stands adrp.fixed w0) (stands ldr.fixed w1) (stands add.fixed w2) facts.filled
+    there : (has_fixed_bits adrp.fixed w0 ≡ true) × (has_fixed_bits ldr.fixed w1 ≡ true) × (has_fixed_bits add.fixed w2 ≡ true)
+    there = three_stand (has_fixed_bits adrp.fixed w0) (has_fixed_bits ldr.fixed w1) (has_fixed_bits add.fixed w2) facts.filled
 
     old0 : read w0 ≡ Some (Adrp (d w0) (sign_extended 33 (immediate AdrField w0 * 2 ^ 12)))
     old0 = adrp_read w0 w0 (sign_extended 33 (immediate AdrField w0 * 2 ^ 12)) there.0 refl refl

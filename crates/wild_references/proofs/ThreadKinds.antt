@@ -17,13 +17,13 @@ use Rattle.wild_reloc.specs.Agreement.{value_of}
 use Rattle.wild_reloc.specs.Expression.{expression_of}
 use Rattle.wild_reloc.specs.Formula.{Value, PointerOffset, ModuleOffset}
 use Rattle.wild_reloc.specs.declared.expression.Subtrahend.{Subtrahend}
-use Rattle.wild_reloc.specs.declared.expression.Subtrahend.TheVariants as taken
+use Rattle.wild_reloc.specs.declared.expression.Subtrahend.TheVariants as subtrahend
 use Rattle.wild_reloc.specs.declared.info.RelocationKindInfo.{RelocationKindInfo}
 use Rattle.wild_reloc.specs.declared.info.RelocationSize.{RelocationSize}
 use Rattle.wild_reloc.specs.declared.info.RelocationKind.{RelocationKind}
 use Rattle.wild_reloc.specs.declared.info.RelocationKind.TheVariants as kinds
 use Rattle.wild_layout.specs.SymbolValues.{minus, thread_pointer, storage_start, raw_address, is_undefined}
-use Rattle.wild_layout.specs.Values.{offset_from, pointer_offset, term_of, value_less, is_symbol}
+use Rattle.wild_layout.specs.Values.{offset_from, pointer_offset, term_of, subtract, adds_symbol}
 use Rattle.wild_loader.specs.declared.world.World.{World}
 use Rattle.wild_loader.specs.declared.memory.Memory.{Memory}
 use Rattle.wild_types.specs.Item.{Item}
@@ -109,12 +109,12 @@ record IsOffsetRow (v : Value) (l : Layout) (w : World) (m : Memory) (s : Item) 
   value : value_by_row info ≡ v
   sum : (term + more r) % 2 ^ 64 ≡ x
 
-offset_row : (v : Value) (k : RelocationKind) (l : Layout) (w : World) (m : Memory) (s : Item) (r : InputRelocation) (info : RelocationKindInfo) (x : ℕ) → (h : HasTerm l w m s r info x) → info.kind ≡ k → (expression_of k).taken ≡ taken.Nothing → page_mask (expression_of k).term (expression_of k).taken ≡ None → ((z : RelocationSize) → value_of k None z ≡ v) → IsOffsetRow v l w m s r info x h.term
+offset_row : (v : Value) (k : RelocationKind) (l : Layout) (w : World) (m : Memory) (s : Item) (r : InputRelocation) (info : RelocationKindInfo) (x : ℕ) → (h : HasTerm l w m s r info x) → info.kind ≡ k → (expression_of k).subtrahend ≡ subtrahend.Nothing → page_mask (expression_of k).term (expression_of k).subtrahend ≡ None → ((z : RelocationSize) → value_of k None z ≡ v) → IsOffsetRow v l w m s r info x h.term
 offset_row v k l w m s r info x h kind nothing single is =
-    let mask = no_mask l.machine (expression_of k).term (expression_of k).taken info.mask (subst (λ (j : RelocationKind). is_expressed l.machine (expression_of j).term (expression_of j).taken info.mask ≡ true) kind h.expressed) single in
+    let mask = no_mask l.machine (expression_of k).term (expression_of k).subtrahend info.mask (subst (λ (j : RelocationKind). is_expressed l.machine (expression_of j).term (expression_of j).subtrahend info.mask ≡ true) kind h.expressed) single in
     record {
       value = value_is info k None kind mask ∙ is info.size;
-      sum = subst (λ (u : Subtrahend). value_less l u h.term r.addend (place_of s.address r) ≡ x) (taken_is info k None kind mask ∙ nothing) h.value;
+      sum = subst (λ (u : Subtrahend). subtract l u h.term r.addend (place_of s.address r) ≡ x) (taken_is info k None kind mask ∙ nothing) h.value;
     }
 
 pointer_given : (l : Layout) (w : World) (m : Memory) (s : Item) (r : InputRelocation) (info : RelocationKindInfo) (x : ℕ) → (h : HasTerm l w m s r info x) → info.kind ≡ kinds.TpOff → (h.term + more r) % 2 ^ 64 ≡ x → HasOwnPlace l w r x
@@ -122,7 +122,7 @@ pointer_given l w m s r info x h kind sum =
     let treated = subst (λ (k : RelocationKind). kind_treatment l s.flags h.number r.symbol h.row k ≡ treatments.Value h.row) kind h.treated in
     let i = symbol_named r.symbol (λ i. pointer_treatment l s.flags h.row) h.row treated in
     let program = loaded_program l.kind h.placed.loadable (pointer_kept l s h.row h.room i.2) in
-    let plain = plain_term l w m s r info x h (ap (λ (k : RelocationKind). is_symbol (expression_of k).term) kind) in
+    let plain = plain_term l w m s r info x h (ap (λ (k : RelocationKind). adds_symbol (expression_of k).term) kind) in
     let here : pointer_offset l r.symbol ≡ Ok h.term = subst (λ (k : RelocationKind). term_of l r.symbol k ≡ Ok h.term) kind plain in
     let given : pointer_offset l (Some i.0) ≡ Ok h.term = subst (λ (o : Option ℕ). pointer_offset l o ≡ Ok h.term) i.1 here in
     let p = pointer_place l w m i.0 h.term h.placed (h.placed.legal.first program) (h.listed i.0 i.1) given in
@@ -212,7 +212,7 @@ module_given : (l : Layout) (w : World) (m : Memory) (s : Item) (r : InputReloca
 module_given l w m s r info x h kind sum =
     let treated = subst (λ (k : RelocationKind). kind_treatment l s.flags h.number r.symbol h.row k ≡ treatments.Value h.row) kind h.treated in
     let i = symbol_named r.symbol (λ i. treatments.Value h.row) h.row treated in
-    let plain = plain_term l w m s r info x h (ap (λ (k : RelocationKind). is_symbol (expression_of k).term) kind) in
+    let plain = plain_term l w m s r info x h (ap (λ (k : RelocationKind). adds_symbol (expression_of k).term) kind) in
     let here : offset_from (storage_start l) (raw_address l r.symbol) ≡ Ok h.term = subst (λ (k : RelocationKind). term_of l r.symbol k ≡ Ok h.term) kind plain in
     let given : offset_from (storage_start l) (raw_address l (Some i.0)) ≡ Ok h.term = subst (λ (o : Option ℕ). offset_from (storage_start l) (raw_address l o) ≡ Ok h.term) i.1 here in
     elim (storage_cases l h.placed.loadable) [

@@ -54,8 +54,8 @@ offset_stands l w m i at r p all d e asked =
     let x = offset_first l w m i at r p d asked (thread_held l w m i at r p all d e thread) in
     record { holds = (x.value, x.there, x.is); below = word_below m (w.base + at) x.value x.there }
 
-pub offsets_stand : (l : Layout) (w : World) (m : Memory) → IsPlaced l w m → KeepsAll l → SlotsStand sorts.Offset l w m
-offsets_stand l w m p all = λ i slot h. by_slot sorts.Offset l i slot (λ (n : ℕ). SlotStands ThreadOffset l w m i n) h (λ r at d e among. by_flag i slot r at d e (has_flag r.flags got_tls_offset) refl among)
+pub offsets_stand : (l : Layout) (w : World) (m : Memory) → IsPlaced l w m → KeepsAll l → SlotsStand sorts.TpOff l w m
+offsets_stand l w m p all = λ i slot h. by_slot sorts.TpOff l i slot (λ (n : ℕ). SlotStands ThreadOffset l w m i n) h (λ r at d e among. by_flag i slot r at d e (has_flag r.flags got_tls_offset) refl among)
   where
     by_flag : (i slot : ℕ) (r : Resolution) (at : ℕ) → IsResolvedBy l i r → r.got_address ≡ Some at → (b : Bool) → has_flag r.flags got_tls_offset ≡ b → (if b then Some at else None) ≡ Some slot → SlotStands ThreadOffset l w m i slot
     by_flag i slot r at d e true asked h = let same : at ≡ slot = cc in subst (λ (n : ℕ). SlotStands ThreadOffset l w m i n) same (offset_stands l w m i at r p all d e asked)
@@ -80,8 +80,8 @@ pair_is_placed l w m i at r offset p all d e asked is = by_offset offset (pair_b
         let same : (at + 8) % 2 ^ 64 ≡ at + 8 = omega (arith, low) in
         subst (λ (n : ℕ). SlotStands ModulePair l w m i n) (sym same) there
 
-pub pairs_stand : (l : Layout) (w : World) (m : Memory) → IsPlaced l w m → KeepsAll l → SlotsStand sorts.Pair l w m
-pairs_stand l w m p all = λ i slot h. by_slot sorts.Pair l i slot (λ (n : ℕ). SlotStands ModulePair l w m i n) h (λ r at d e among. by_flag i slot r at d e (has_flag r.flags got_tls_module) refl among)
+pub pairs_stand : (l : Layout) (w : World) (m : Memory) → IsPlaced l w m → KeepsAll l → SlotsStand sorts.TlsGd l w m
+pairs_stand l w m p all = λ i slot h. by_slot sorts.TlsGd l i slot (λ (n : ℕ). SlotStands ModulePair l w m i n) h (λ r at d e among. by_flag i slot r at d e (has_flag r.flags got_tls_module) refl among)
   where
     by_flag : (i slot : ℕ) (r : Resolution) (at : ℕ) → IsResolvedBy l i r → r.got_address ≡ Some at → (b : Bool) → has_flag r.flags got_tls_module ≡ b → (if b then Some (after_word (has_flag r.flags got_tls_offset) at) else None) ≡ Some slot → SlotStands ModulePair l w m i slot
     by_flag i slot r at d e true asked h =
@@ -139,7 +139,7 @@ library_pair l w m at p x86 library h =
     }
 
 -- which AArch64 outputs have none of
-pub own_pair_stands : (l : Layout) (w : World) (m : Memory) → IsPlaced l w m → KeepsAll l → SlotsStand sorts.OwnPair l w m
+pub own_pair_stands : (l : Layout) (w : World) (m : Memory) → IsPlaced l w m → KeepsAll l → SlotsStand sorts.TlsLd l w m
 own_pair_stands l w m p all = λ i at e. by_machine i at e l.machine refl p.paged
   where
     on_x86_64 : (i at : ℕ) → l.tlsld ≡ Some at → l.machine ≡ machine.X86_64 → SlotStands OwnModulePair l w m i at

@@ -20,7 +20,7 @@ use Rattle.wild_reloc.specs.Range.{contains}
 use Rattle.wild_reloc.specs.Expression.{expression_of, subtrahend_of}
 use Rattle.wild_reloc.specs.Formula.{Value, Distance, StubDistance}
 use Rattle.wild_reloc.specs.declared.expression.Subtrahend.{Subtrahend}
-use Rattle.wild_reloc.specs.declared.expression.Subtrahend.TheVariants as taken
+use Rattle.wild_reloc.specs.declared.expression.Subtrahend.TheVariants as subtrahend
 use Rattle.wild_reloc.specs.declared.info.RelocationKind.{RelocationKind}
 use Rattle.wild_reloc.specs.declared.info.RelocationKind.TheVariants as kinds
 use Rattle.wild_reloc.specs.declared.info.RelocationKindInfo.{RelocationKindInfo}
@@ -29,7 +29,7 @@ use Rattle.wild_layout.specs.SymbolValues.{minus}
 use Rattle.wild_layout.specs.SlotValues.{resolution_of, stub_of, stub_address, address_of}
 use Rattle.wild_layout.specs.Thunks.{thunk_target, uses_definition, thunk_for}
 use Rattle.wild_layout.proofs.ThunkFieldLemmas.{thunk_found}
-use Rattle.wild_layout.specs.Values.{term_of, value_less, is_absent, is_symbol, is_place, is_own_place, undefined_weak_target, term_by}
+use Rattle.wild_layout.specs.Values.{term_of, subtract, is_undefined_weak_without_stub, adds_symbol, subtracts_place, weak_resolves_to_place, undefined_weak_target, term_by}
 use Rattle.wild_loader.specs.declared.memory.Memory.{Memory}
 use Rattle.wild_loader.specs.declared.world.World.{World}
 use Rattle.wild_loader.specs.Reach.{ReachesWithin, JumpsTo}
@@ -75,7 +75,7 @@ of_block l k i t h =
 
 -- what it takes, and its value
 pub record IsBranchRow (info : RelocationKindInfo) (v : Value) : Type 0 where
-  pub taken : subtrahend_of info.kind info.mask ≡ taken.Place
+  pub taken : subtrahend_of info.kind info.mask ≡ subtrahend.Place
   pub value : value_by_row info ≡ v
 
 pub symbol_row : (info : RelocationKindInfo) → info.mask ≡ None → info.kind ≡ kinds.Relative → IsBranchRow info Distance
@@ -96,14 +96,14 @@ near : (p d c x : ℕ) → p < 2 ^ 64 → c ≡ 0 → (((p + d) % 2 ^ 64 + c) % 
 near p d c x low none e small = omega (arith, low, none, e, small)
 
 -- the next instruction is no far target
-pub not_far : (l : Layout) (w : World) (m : Memory) (s : Item) (r : InputRelocation) (info : RelocationKindInfo) (x : ℕ) → (h : HasTerm l w m s r info x) → AllowsThunks info → subtrahend_of info.kind info.mask ≡ taken.Place → cast_unsigned w64 r.addend ≡ 0 → undefined_weak_target r.number (place_of s.address r) ≡ h.term → contains info.range x ≡ false → ⊥
+pub not_far : (l : Layout) (w : World) (m : Memory) (s : Item) (r : InputRelocation) (info : RelocationKindInfo) (x : ℕ) → (h : HasTerm l w m s r info x) → AllowsThunks info → subtrahend_of info.kind info.mask ≡ subtrahend.Place → cast_unsigned w64 r.addend ≡ 0 → undefined_weak_target r.number (place_of s.address r) ≡ h.term → contains info.range x ≡ false → ⊥
 not_far l w m s r info x h c minus none term far = by_branch (is_listed r.number branches_aarch64) refl
   where
     p : ℕ
     p = place_of s.address r
 
     value : ((h.term + more r) % 2 ^ 64 + (2 ^ 64 - p)) % 2 ^ 64 ≡ x
-    value = subst (λ (u : Subtrahend). value_less l u h.term r.addend p ≡ x) minus h.value
+    value = subst (λ (u : Subtrahend). subtract l u h.term r.addend p ≡ x) minus h.value
 
     at : (d : ℕ) → (p + d) % 2 ^ 64 ≡ h.term → d < 2 ^ 64 → contains info.range d ≡ true → ⊥
     at d e small there =
@@ -120,7 +120,7 @@ not_far l w m s r info x h c minus none term far = by_branch (is_listed r.number
 
 -- what a relocation with such a row goes to, where that is no place of its own
 record IsThere (l : Layout) (w : World) (m : Memory) (i target : ℕ) : Type 0 where
-  present : is_absent l (Some i) ≡ false
+  present : is_undefined_weak_without_stub l (Some i) ≡ false
   targeted : IsTargeted l w m i target
 
 targeted_by : StubLaws → (l : Layout) (w : World) (m : Memory) (s : Item) (r : InputRelocation) (info : RelocationKindInfo) (x i target : ℕ) (t : Thunk) → KeepsAll l → (h : HasTerm l w m s r info x) → AllowsThunks info → IsFollowed l r (value_by_row info) → r.symbol ≡ Some i → IsThunkOf l i t → thunk_target l t ≡ Ok target → term_of l (Some i) info.kind ≡ Ok h.term → IsTargeted l w m i target
@@ -141,14 +141,14 @@ targeted_by law l w m s r info x i target t all h c f named of known given = by_
         let stub : stub_address l (Some i) ≡ Ok h.term = subst (λ (k : RelocationKind). term_of l (Some i) k ≡ Ok h.term) k given in
         stub_targeted law l w m i h.term target t h.placed all of known (given_some missing.Stub i (stub_of l i) h.term stub)
 
-is_branch : (k : RelocationKind) → (k ≡ kinds.Relative) ⊎ (k ≡ kinds.PltRelative) → is_symbol (expression_of k).term ≡ true
-is_branch k (inl e) = ap (λ (k : RelocationKind). is_symbol (expression_of k).term) e
-is_branch k (inr e) = ap (λ (k : RelocationKind). is_symbol (expression_of k).term) e
+is_branch : (k : RelocationKind) → (k ≡ kinds.Relative) ⊎ (k ≡ kinds.PltRelative) → adds_symbol (expression_of k).term ≡ true
+is_branch k (inl e) = ap (λ (k : RelocationKind). adds_symbol (expression_of k).term) e
+is_branch k (inr e) = ap (λ (k : RelocationKind). adds_symbol (expression_of k).term) e
 
-pub from_place : (info : RelocationKindInfo) → AllowsThunks info → subtrahend_of info.kind info.mask ≡ taken.Place
+pub from_place : (info : RelocationKindInfo) → AllowsThunks info → subtrahend_of info.kind info.mask ≡ subtrahend.Place
 from_place info c = by_kind c.kind
   where
-    by_kind : (info.kind ≡ kinds.Relative) ⊎ (info.kind ≡ kinds.PltRelative) → subtrahend_of info.kind info.mask ≡ taken.Place
+    by_kind : (info.kind ≡ kinds.Relative) ⊎ (info.kind ≡ kinds.PltRelative) → subtrahend_of info.kind info.mask ≡ subtrahend.Place
     by_kind (inl k) = (symbol_row info c.whole k).taken
     by_kind (inr k) = (stub_row info c.whole k).taken
 
@@ -158,14 +158,14 @@ term_carried l r info (inl k) plain = term_plain l r (expression_of info.kind).t
 term_carried l r info (inr k) plain = subst (λ (j : RelocationKind). term_by l r (expression_of j).term ≡ term_of l r.symbol j) (sym k) refl
 
 there : StubLaws → (l : Layout) (w : World) (m : Memory) (s : Item) (r : InputRelocation) (info : RelocationKindInfo) (x i target : ℕ) (t : Thunk) → l.machine ≡ machine.AArch64 → KeepsAll l → (h : HasTerm l w m s r info x) → AllowsThunks info → (info.kind ≡ kinds.Relative → names_merged l r.symbol ≡ false) → IsFollowed l r (value_by_row info) → contains info.range x ≡ false → cast_unsigned w64 r.addend ≡ 0 → r.symbol ≡ Some i → IsThunkOf l i t → thunk_target l t ≡ Ok target → IsThere l w m i target
-there law l w m s r info x i target t on all h c plain f far none named of known = by_own (is_own_place l.machine l r info) refl h.given
+there law l w m s r info x i target t on all h c plain f far none named of known = by_own (weak_resolves_to_place l.machine l r info) refl h.given
   where
-    by_own : (b : Bool) → is_own_place l.machine l r info ≡ b → (if b then Ok (undefined_weak_target r.number (place_of s.address r)) else term_by l r (expression_of info.kind).term) ≡ Ok h.term → IsThere l w m i target
+    by_own : (b : Bool) → weak_resolves_to_place l.machine l r info ≡ b → (if b then Ok (undefined_weak_target r.number (place_of s.address r)) else term_by l r (expression_of info.kind).term) ≡ Ok h.term → IsThere l w m i target
     by_own true e g =
         let term : undefined_weak_target r.number (place_of s.address r) ≡ h.term = cc in
         absurd (not_far l w m s r info x h c (from_place info c) none term far)
     by_own false e g = record {
-      present = subst (λ (o : Option ℕ). is_absent l o ≡ false) named (not_own l.machine l r info e on (is_branch info.kind c.kind) (ap is_place (from_place info c)));
+      present = subst (λ (o : Option ℕ). is_undefined_weak_without_stub l o ≡ false) named (not_own l.machine l r info e on (is_branch info.kind c.kind) (ap subtracts_place (from_place info c)));
       targeted = targeted_by law l w m s r info x i target t all h c f named of known (subst (λ (o : Option ℕ). term_of l o info.kind ≡ Ok h.term) named (sym (term_carried l r info c.kind plain) ∙ g));
     }
 

@@ -21,7 +21,7 @@ use Rattle.wild_reloc.specs.Formula.{Value, SymbolAddress, Distance, PageDistanc
 use Rattle.wild_reloc.specs.declared.expression.Term.{Term}
 use Rattle.wild_reloc.specs.declared.expression.Term.TheVariants as term
 use Rattle.wild_reloc.specs.declared.expression.Subtrahend.{Subtrahend}
-use Rattle.wild_reloc.specs.declared.expression.Subtrahend.TheVariants as taken
+use Rattle.wild_reloc.specs.declared.expression.Subtrahend.TheVariants as subtrahend
 use Rattle.wild_reloc.specs.declared.info.PageMask.{PageMask}
 use Rattle.wild_reloc.specs.declared.info.PageMask.TheVariants as masks
 use Rattle.wild_reloc.specs.declared.info.RelocationKind.{RelocationKind}
@@ -30,7 +30,7 @@ use Rattle.wild_reloc.specs.declared.info.RelocationKindInfo.{RelocationKindInfo
 use Rattle.wild_reloc.specs.declared.info.RelocationSize.{RelocationSize}
 use Rattle.wild_reloc.specs.declared.info.RelocationSize.TheVariants.{ByteSize, BitMasking}
 use Rattle.wild_layout.specs.SymbolValues.{symbol_size}
-use Rattle.wild_layout.specs.Values.{term_of, term_at, value_less, is_symbol, is_own_place, undefined_weak_target, term_by, term_value}
+use Rattle.wild_layout.specs.Values.{term_of, term_at, subtract, adds_symbol, weak_resolves_to_place, undefined_weak_target, term_by, term_value}
 use Rattle.wild_loader.specs.declared.world.World.{World}
 use Rattle.wild_loader.specs.declared.memory.Memory.{Memory}
 use Rattle.wild_meaning.specs.Value.{IsSymbol, IsAbsolute, IsReplaceable, HasOwnSize, with_base}
@@ -61,19 +61,19 @@ pub taken_is : (info : RelocationKindInfo) (k : RelocationKind) (mask : Option P
 taken_is info k mask e f = ap (λ (j : RelocationKind). subtrahend_of j info.mask) e ∙ ap (λ (o : Option PageMask). subtrahend_of k o) f
 
 -- a term other than S is the symbol's alone
-term_plain : (l : Layout) (r : InputRelocation) (t : Term) → is_symbol t ≡ false → term_by l r t ≡ term_value l r.symbol t
+term_plain : (l : Layout) (r : InputRelocation) (t : Term) → adds_symbol t ≡ false → term_by l r t ≡ term_value l r.symbol t
 term_plain l r term.Symbol none = cc
 term_plain l r other none = refl
 
 -- a term that is neither S nor L is no place
-pub plain_given : (l : Layout) (r : InputRelocation) (info : RelocationKindInfo) (p term : ℕ) → term_at l r info p ≡ Ok term → is_symbol (expression_of info.kind).term ≡ false → term_of l r.symbol info.kind ≡ Ok term
-plain_given l r info p term h none = by_own (is_own_place l.machine l r info) refl h
+pub plain_given : (l : Layout) (r : InputRelocation) (info : RelocationKindInfo) (p term : ℕ) → term_at l r info p ≡ Ok term → adds_symbol (expression_of info.kind).term ≡ false → term_of l r.symbol info.kind ≡ Ok term
+plain_given l r info p term h none = by_own (weak_resolves_to_place l.machine l r info) refl h
   where
-    by_own : (b : Bool) → is_own_place l.machine l r info ≡ b → (if b then Ok (undefined_weak_target r.number p) else term_by l r (expression_of info.kind).term) ≡ Ok term → term_of l r.symbol info.kind ≡ Ok term
+    by_own : (b : Bool) → weak_resolves_to_place l.machine l r info ≡ b → (if b then Ok (undefined_weak_target r.number p) else term_by l r (expression_of info.kind).term) ≡ Ok term → term_of l r.symbol info.kind ≡ Ok term
     by_own false e g = sym (term_plain l r (expression_of info.kind).term none) ∙ g
     by_own true e g = (let o = own_parts l.machine l r info e in let f : true ≡ false = sym o.symbol ∙ none in cc)
 
-pub plain_term : (l : Layout) (w : World) (m : Memory) (s : Item) (r : InputRelocation) (info : RelocationKindInfo) (x : ℕ) → (h : HasTerm l w m s r info x) → is_symbol (expression_of info.kind).term ≡ false → term_of l r.symbol info.kind ≡ Ok h.term
+pub plain_term : (l : Layout) (w : World) (m : Memory) (s : Item) (r : InputRelocation) (info : RelocationKindInfo) (x : ℕ) → (h : HasTerm l w m s r info x) → adds_symbol (expression_of info.kind).term ≡ false → term_of l r.symbol info.kind ≡ Ok h.term
 plain_term l w m s r info x h none = plain_given l r info (place_of s.address r) h.term h.given none
 
 -- ---- S + A
@@ -116,20 +116,20 @@ record IsAddressRow (l : Layout) (w : World) (m : Memory) (s : Item) (r : InputR
   value : value_by_row info ≡ shape.sized info.size SymbolAddress
   sum : (term + more r) % 2 ^ 64 ≡ x
 
-address_row : (l : Layout) (w : World) (m : Memory) (s : Item) (r : InputRelocation) (info : RelocationKindInfo) (x : ℕ) → (h : HasTerm l w m s r info x) → (expression_of info.kind).term ≡ term.Symbol → (expression_of info.kind).taken ≡ taken.Nothing → IsAddressRow l w m s r info x h.term
+address_row : (l : Layout) (w : World) (m : Memory) (s : Item) (r : InputRelocation) (info : RelocationKindInfo) (x : ℕ) → (h : HasTerm l w m s r info x) → (expression_of info.kind).term ≡ term.Symbol → (expression_of info.kind).subtrahend ≡ subtrahend.Nothing → IsAddressRow l w m s r info x h.term
 address_row l w m s r info x h symbol nothing =
     let fit = subst (λ (u : Subtrahend). is_expressed l.machine (expression_of info.kind).term u info.mask ≡ true) nothing h.expressed in
-    let mask = no_mask l.machine term.Symbol taken.Nothing info.mask (subst (λ (t : Term). is_expressed l.machine t taken.Nothing info.mask ≡ true) symbol fit) refl in
-    let less_is : subtrahend_of info.kind info.mask ≡ taken.Nothing = ap (λ (o : Option PageMask). paged o (expression_of info.kind).taken) mask ∙ nothing in
+    let mask = no_mask l.machine term.Symbol subtrahend.Nothing info.mask (subst (λ (t : Term). is_expressed l.machine t subtrahend.Nothing info.mask ≡ true) symbol fit) refl in
+    let less_is : subtrahend_of info.kind info.mask ≡ subtrahend.Nothing = ap (λ (o : Option PageMask). paged o (expression_of info.kind).subtrahend) mask ∙ nothing in
     record {
       value = symbol_value info symbol ∙ ap (λ (u : Subtrahend). shape.sized info.size (expressed term.Symbol u)) less_is;
-      sum = subst (λ (u : Subtrahend). value_less l u h.term r.addend (place_of s.address r) ≡ x) less_is h.value;
+      sum = subst (λ (u : Subtrahend). subtract l u h.term r.addend (place_of s.address r) ≡ x) less_is h.value;
     }
 
 pub gives_sum : StubLaws → (info : RelocationKindInfo) → info.kind ≡ kinds.Absolute → RowGives info
 gives_sum law info kind = λ l w m s r x h f.
     let symbol : (expression_of info.kind).term ≡ term.Symbol = ap (λ (k : RelocationKind). (expression_of k).term) kind in
-    let a = address_row l w m s r info x h symbol (ap (λ (k : RelocationKind). (expression_of k).taken) kind) in
+    let a = address_row l w m s r info x h symbol (ap (λ (k : RelocationKind). (expression_of k).subtrahend) kind) in
     let takes = subst TakesAddress (sym a.value) (takes_address info.size) in
     let t = refers law l w m s r info x h symbol takes f in
     let e = sum_is t.still w.base h.term (more r) (right_sum l w m s r info x t.still h kind (λ p. not_relative info.size (subst IsPlaceRelative a.value p)) t.flag) in
@@ -141,7 +141,7 @@ part_same : (b : Bool) (base a c x : ℕ) → base % 4096 ≡ 0 → (a + c) % 2 
 part_same true base a c x pages e = omega (arith, e)
 part_same false base a c x pages e = omega (arith, pages, e)
 
-pub gives_part : StubLaws → (info : RelocationKindInfo) → (expression_of info.kind).term ≡ term.Symbol → (expression_of info.kind).taken ≡ taken.Nothing → (l : Layout) (w : World) (m : Memory) (s : Item) (r : InputRelocation) (x : ℕ) → w.base % 4096 ≡ 0 → HasTerm l w m s r info x → IsFollowed l r (value_by_row info) → GivesPart (value_by_row info) l w m s r x
+pub gives_part : StubLaws → (info : RelocationKindInfo) → (expression_of info.kind).term ≡ term.Symbol → (expression_of info.kind).subtrahend ≡ subtrahend.Nothing → (l : Layout) (w : World) (m : Memory) (s : Item) (r : InputRelocation) (x : ℕ) → w.base % 4096 ≡ 0 → HasTerm l w m s r info x → IsFollowed l r (value_by_row info) → GivesPart (value_by_row info) l w m s r x
 gives_part law info symbol nothing l w m s r x pages h f =
     let a = address_row l w m s r info x h symbol nothing in
     let takes = subst TakesAddress (sym a.value) (takes_address info.size) in
@@ -191,27 +191,27 @@ record IsPageRow (l : Layout) (w : World) (m : Memory) (s : Item) (r : InputRelo
   distance : ((term + more r) % 2 ^ 64 / 4096 * 4096 + (2 ^ 64 - place_of s.address r / 4096 * 4096)) % 2 ^ 64 ≡ x
 
 distance_row : (l : Layout) (w : World) (m : Memory) (s : Item) (r : InputRelocation) (info : RelocationKindInfo) (x : ℕ) → (h : HasTerm l w m s r info x) → info.kind ≡ kinds.Relative → IsDistanceRow l w m s r info x h.term ⊎ IsPageRow l w m s r info x h.term
-distance_row l w m s r info x h kind = by_mask info.mask refl (subst (λ (k : RelocationKind). is_expressed l.machine (expression_of k).term (expression_of k).taken info.mask ≡ true) kind h.expressed)
+distance_row l w m s r info x h kind = by_mask info.mask refl (subst (λ (k : RelocationKind). is_expressed l.machine (expression_of k).term (expression_of k).subtrahend info.mask ≡ true) kind h.expressed)
   where
-    paged_row : (mask : PageMask) → info.mask ≡ Some mask → subtrahend_of kinds.Relative (Some mask) ≡ taken.PagePlace → l.machine ≡ machine.AArch64 → IsPageRow l w m s r info x h.term
+    paged_row : (mask : PageMask) → info.mask ≡ Some mask → subtrahend_of kinds.Relative (Some mask) ≡ subtrahend.PageOfPlace → l.machine ≡ machine.AArch64 → IsPageRow l w m s r info x h.term
     paged_row mask e less on =
         let is = taken_is info kinds.Relative (Some mask) kind e ∙ less in
         record {
           on = on;
           value = symbol_value info (ap (λ (k : RelocationKind). (expression_of k).term) kind) ∙ (ap (λ (u : Subtrahend). shape.sized info.size (expressed term.Symbol u)) is ∙ sized_is info.size PageDistance refl);
-          distance = subst (λ (u : Subtrahend). value_less l u h.term r.addend (place_of s.address r) ≡ x) is h.value;
+          distance = subst (λ (u : Subtrahend). subtract l u h.term r.addend (place_of s.address r) ≡ x) is h.value;
         }
 
-    by_mask : (o : Option PageMask) → info.mask ≡ o → is_expressed l.machine term.Symbol taken.Place o ≡ true → IsDistanceRow l w m s r info x h.term ⊎ IsPageRow l w m s r info x h.term
+    by_mask : (o : Option PageMask) → info.mask ≡ o → is_expressed l.machine term.Symbol subtrahend.Place o ≡ true → IsDistanceRow l w m s r info x h.term ⊎ IsPageRow l w m s r info x h.term
     by_mask None e f =
-        let is : subtrahend_of info.kind info.mask ≡ taken.Place = taken_is info kinds.Relative None kind e in
+        let is : subtrahend_of info.kind info.mask ≡ subtrahend.Place = taken_is info kinds.Relative None kind e in
         inl (record {
           value = symbol_value info (ap (λ (k : RelocationKind). (expression_of k).term) kind) ∙ (ap (λ (u : Subtrahend). shape.sized info.size (expressed term.Symbol u)) is ∙ sized_is info.size Distance refl);
-          distance = subst (λ (u : Subtrahend). value_less l u h.term r.addend (place_of s.address r) ≡ x) is h.value;
+          distance = subst (λ (u : Subtrahend). subtract l u h.term r.addend (place_of s.address r) ≡ x) is h.value;
         })
-    by_mask (Some masks.SymbolPlusAddendAndPosition) e f = inr (paged_row masks.SymbolPlusAddendAndPosition e refl (with_mask l.machine term.Symbol taken.Place masks.SymbolPlusAddendAndPosition f).0)
-    by_mask (Some masks.GotEntryAndPosition) e f = (let no = (with_mask l.machine term.Symbol taken.Place masks.GotEntryAndPosition f).1 in cc)
-    by_mask (Some masks.GotBase) e f = (let no = (with_mask l.machine term.Symbol taken.Place masks.GotBase f).1 in cc)
+    by_mask (Some masks.SymbolPlusAddendAndPosition) e f = inr (paged_row masks.SymbolPlusAddendAndPosition e refl (with_mask l.machine term.Symbol subtrahend.Place masks.SymbolPlusAddendAndPosition f).0)
+    by_mask (Some masks.GotEntryAndPosition) e f = (let no = (with_mask l.machine term.Symbol subtrahend.Place masks.GotEntryAndPosition f).1 in cc)
+    by_mask (Some masks.GotBase) e f = (let no = (with_mask l.machine term.Symbol subtrahend.Place masks.GotBase f).1 in cc)
 
 pub gives_distance : StubLaws → (info : RelocationKindInfo) → info.kind ≡ kinds.Relative → RowGives info
 gives_distance law info kind = λ l w m s r x h f. by_row law info kind l w m s r x h f (distance_row l w m s r info x h kind)
@@ -238,11 +238,11 @@ record IsTableRow (l : Layout) (w : World) (m : Memory) (s : Item) (r : InputRel
 
 table_row : (l : Layout) (w : World) (m : Memory) (s : Item) (r : InputRelocation) (info : RelocationKindInfo) (x : ℕ) → (h : HasTerm l w m s r info x) → info.kind ≡ kinds.SymRelGotBase → IsTableRow l w m s r info x h.term
 table_row l w m s r info x h kind =
-    let mask = no_mask l.machine term.Symbol taken.Table info.mask (subst (λ (k : RelocationKind). is_expressed l.machine (expression_of k).term (expression_of k).taken info.mask ≡ true) kind h.expressed) refl in
-    let less : subtrahend_of info.kind info.mask ≡ taken.Table = taken_is info kinds.SymRelGotBase None kind mask in
+    let mask = no_mask l.machine term.Symbol subtrahend.GotBase info.mask (subst (λ (k : RelocationKind). is_expressed l.machine (expression_of k).term (expression_of k).subtrahend info.mask ≡ true) kind h.expressed) refl in
+    let less : subtrahend_of info.kind info.mask ≡ subtrahend.GotBase = taken_is info kinds.SymRelGotBase None kind mask in
     record {
       value = symbol_value info (ap (λ (k : RelocationKind). (expression_of k).term) kind) ∙ (ap (λ (u : Subtrahend). shape.sized info.size (expressed term.Symbol u)) less ∙ sized_is info.size FromTable refl);
-      distance = subst (λ (u : Subtrahend). value_less l u h.term r.addend (place_of s.address r) ≡ x) less h.value;
+      distance = subst (λ (u : Subtrahend). subtract l u h.term r.addend (place_of s.address r) ≡ x) less h.value;
     }
 
 pub gives_from_table : StubLaws → (info : RelocationKindInfo) → info.kind ≡ kinds.SymRelGotBase → RowGives info
@@ -271,14 +271,14 @@ own_of_address info l w m s r x i symbol h a named whose alone = own_refers l w 
 pub links_sum : (info : RelocationKindInfo) → info.kind ≡ kinds.Absolute → RowGivesLinked info
 links_sum info kind = λ l w m s r x i h named whose alone.
     let symbol : (expression_of info.kind).term ≡ term.Symbol = ap (λ (k : RelocationKind). (expression_of k).term) kind in
-    let a = address_row l w m s r info x h symbol (ap (λ (k : RelocationKind). (expression_of k).taken) kind) in
+    let a = address_row l w m s r info x h symbol (ap (λ (k : RelocationKind). (expression_of k).subtrahend) kind) in
     let t = own_of_address info l w m s r x i symbol h a named whose alone in
     let e = sum_is t.still w.base h.term (more r) (right_sum l w m s r info x t.still h kind (λ p. not_relative info.size (subst IsPlaceRelative a.value p)) t.flag) in
     let sum = subst (λ (n : ℕ). IsOwnSum (value_by_row info) l w s r n) (sym e ∙ a.sum) (own_sum (value_by_row info) l w s r h.term t) in
     subst (λ (v : Value). GivesLinked v l w s r x) (sym a.value) (links_of_sum info.size l w s r x (subst (λ (v : Value). IsOwnSum v l w s r x) a.value sum))
 
 -- the bits of it below a page
-pub links_part : (info : RelocationKindInfo) → (expression_of info.kind).term ≡ term.Symbol → (expression_of info.kind).taken ≡ taken.Nothing → (l : Layout) (w : World) (m : Memory) (s : Item) (r : InputRelocation) (x i : ℕ) → w.base % 4096 ≡ 0 → HasTerm l w m s r info x → r.symbol ≡ Some i → IsReplaceable l i true → (HasStubAddress l i → ⊥) ⊎ TakesOffset (value_by_row info) → GivesLinkedPart (value_by_row info) l w s r x
+pub links_part : (info : RelocationKindInfo) → (expression_of info.kind).term ≡ term.Symbol → (expression_of info.kind).subtrahend ≡ subtrahend.Nothing → (l : Layout) (w : World) (m : Memory) (s : Item) (r : InputRelocation) (x i : ℕ) → w.base % 4096 ≡ 0 → HasTerm l w m s r info x → r.symbol ≡ Some i → IsReplaceable l i true → (HasStubAddress l i → ⊥) ⊎ TakesOffset (value_by_row info) → GivesLinkedPart (value_by_row info) l w s r x
 links_part info symbol nothing l w m s r x i pages h named whose alone =
     let a = address_row l w m s r info x h symbol nothing in
     let t = own_of_address info l w m s r x i symbol h a named whose alone in
@@ -316,13 +316,13 @@ links_from_table info kind = λ l w m s r x i h named whose alone.
 
 pub gives_table : (info : RelocationKindInfo) → info.kind ≡ kinds.GotBaseRelative → RowGives info
 gives_table info kind = λ l w m s r x h f.
-    let mask = no_mask l.machine term.Table taken.Place info.mask (subst (λ (k : RelocationKind). is_expressed l.machine (expression_of k).term (expression_of k).taken info.mask ≡ true) kind h.expressed) refl in
+    let mask = no_mask l.machine term.GotBase subtrahend.Place info.mask (subst (λ (k : RelocationKind). is_expressed l.machine (expression_of k).term (expression_of k).subtrahend info.mask ≡ true) kind h.expressed) refl in
     let is : value_by_row info ≡ TableDistance = value_is info kinds.GotBaseRelative None kind mask ∙ sized_is info.size TableDistance refl in
-    let less : subtrahend_of info.kind info.mask ≡ taken.Place = taken_is info kinds.GotBaseRelative None kind mask in
-    let plain = plain_term l w m s r info x h (ap (λ (k : RelocationKind). is_symbol (expression_of k).term) kind) in
+    let less : subtrahend_of info.kind info.mask ≡ subtrahend.Place = taken_is info kinds.GotBaseRelative None kind mask in
+    let plain = plain_term l w m s r info x h (ap (λ (k : RelocationKind). adds_symbol (expression_of k).term) kind) in
     let given : Ok l.got_base ≡ Ok h.term = subst (λ (k : RelocationKind). term_of l r.symbol k ≡ Ok h.term) kind plain in
     let g : l.got_base ≡ h.term = cc in
-    let value : ((h.term + more r) % 2 ^ 64 + (2 ^ 64 - place_of s.address r)) % 2 ^ 64 ≡ x = subst (λ (u : Subtrahend). value_less l u h.term r.addend (place_of s.address r) ≡ x) less h.value in
+    let value : ((h.term + more r) % 2 ^ 64 + (2 ^ 64 - place_of s.address r)) % 2 ^ 64 ≡ x = subst (λ (u : Subtrahend). subtract l u h.term r.addend (place_of s.address r) ≡ x) less h.value in
     let e = moved_distance w.base l.got_base (more r) (place_of s.address r) h.ends in
     let here = ap (λ (n : ℕ). ((n + more r) % 2 ^ 64 + (2 ^ 64 - place_of s.address r)) % 2 ^ 64) g in
     let at = ap (λ (p : ℕ). (table_at l w + more r + (2 ^ 64 - p)) % 2 ^ 64) (sym h.place) in
@@ -356,16 +356,16 @@ own_size l w m s i symbol p listed room kept =
 
 pub gives_size : (info : RelocationKindInfo) → info.kind ≡ kinds.SymbolSize → RowGives info
 gives_size info kind = λ l w m s r x h f.
-    let mask = no_mask l.machine term.Size taken.Nothing info.mask (subst (λ (k : RelocationKind). is_expressed l.machine (expression_of k).term (expression_of k).taken info.mask ≡ true) kind h.expressed) refl in
+    let mask = no_mask l.machine term.Size subtrahend.Nothing info.mask (subst (λ (k : RelocationKind). is_expressed l.machine (expression_of k).term (expression_of k).subtrahend info.mask ≡ true) kind h.expressed) refl in
     let is : value_by_row info ≡ Size = value_is info kinds.SymbolSize None kind mask ∙ sized_is info.size Size refl in
     let less = taken_is info kinds.SymbolSize None kind mask in
     let treated = subst (λ (k : RelocationKind). kind_treatment l s.flags h.number r.symbol h.row k ≡ treatments.Value h.row) kind h.treated in
     let i = symbol_named r.symbol (λ k. if_defined l h.row k (size_treatment l s.flags h.row k)) h.row treated in
     let z = slice_get_inside l.symbols i.0 (h.listed i.0 i.1) in
     let own = own_size l w m s i.0 z.0 h.placed z.1 h.room (size_kept l s h.row i.0 (peeled l h.row i.0 (size_treatment l s.flags h.row i.0) (treatments.Value h.row) (definition_there l i.0 h.placed.symbols.named (h.listed i.0 i.1)) i.2)) in
-    let plain : term_of l r.symbol info.kind ≡ Ok h.term = plain_term l w m s r info x h (ap (λ (k : RelocationKind). is_symbol (expression_of k).term) kind) in
+    let plain : term_of l r.symbol info.kind ≡ Ok h.term = plain_term l w m s r info x h (ap (λ (k : RelocationKind). adds_symbol (expression_of k).term) kind) in
     let given : term_of l (Some i.0) kinds.SymbolSize ≡ Ok h.term = subst (λ (o : Option ℕ). term_of l o kinds.SymbolSize ≡ Ok h.term) i.1 (subst (λ (k : RelocationKind). term_of l r.symbol k ≡ Ok h.term) kind plain) in
     let g : symbol_size l i.0 ≡ h.term = cc in
     let size : IsExtent l w (Some i.0) h.term = inr (own, subst (λ (n : ℕ). HasOwnSize l i.0 n) g (sized l i.0 z.0 h.placed.symbols.named z.1)) in
-    let value : (h.term + more r) % 2 ^ 64 ≡ x = subst (λ (u : Subtrahend). value_less l u h.term r.addend (place_of s.address r) ≡ x) less h.value in
+    let value : (h.term + more r) % 2 ^ 64 ≡ x = subst (λ (u : Subtrahend). subtract l u h.term r.addend (place_of s.address r) ≡ x) less h.value in
     subst (λ (v : Value). Gives v l w m s r x) (sym is) (h.term, subst (λ (o : Option ℕ). IsExtent l w o h.term) (sym i.1) size, inl (sym value))

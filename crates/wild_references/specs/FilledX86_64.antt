@@ -4,13 +4,13 @@
 --   FilledInstructionsDo the law: this is so if the operand has the right value
 use Rattle.std.specs.Prelude.{◌≡◌, ℕ, true, List, length, slice_index, Some, Contains}
 use Rattle.wild_types.specs.declared.kind.Machine.TheVariants as machine
-use Rattle.wild_loader.specs.Instruction.{Reader, Effect, stands}
+use Rattle.wild_loader.specs.Instruction.{Reader, Effect, matches_cells}
 use Rattle.wild_loader.specs.InstructionX86_64.{effect_x86_64, demand_x86_64}
 use Rattle.wild_meaning.specs.Sequence.{Instruction, size_of, IsOwnByte, instructions_of}
 
 -- the old bytes are the instruction; the new bytes differ from them only in its fields
 pub record IsFilled (o : Instruction) (old new : List ℕ) : Type 0 where
-  pub stood : stands o.template.cells old ≡ true
+  pub stood : matches_cells o.template.cells old ≡ true
   pub long : length old ≡ size_of o
   pub whole : length new ≡ size_of o
   pub same : (k : ℕ) → IsOwnByte o k → slice_index new k ≡ slice_index old k

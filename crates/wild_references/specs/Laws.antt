@@ -78,7 +78,7 @@ StubsRepresentSymbols = (info : RelocationKindInfo) → info.kind ≡ kinds.PltR
 -- For slots, whichever module defines the symbol. For a descriptor, unless references in that code hold offsets ("ELF Handling
 -- For Thread-Local Storage", "Linker Relaxations").
 abbrev pub SlotsGive : Type 0
-SlotsGive = (sort : SlotSort) (info : RelocationKindInfo) → (expression_of info.kind).term ≡ term.Slot sort → writes (expression_of info.kind).class ≡ true → (l : Layout) (w : World) (m : Memory) (s : Item) (r : InputRelocation) (x : ℕ) → HasTerm l w m s r info x → (sort ≡ sorts.Descriptor → HasOffsetMode l s → ⊥) → Gives (value_by_row info) l w m s r x
+SlotsGive = (sort : SlotSort) (info : RelocationKindInfo) → (expression_of info.kind).term ≡ term.Slot sort → writes (expression_of info.kind).class ≡ true → (l : Layout) (w : World) (m : Memory) (s : Item) (r : InputRelocation) (x : ℕ) → HasTerm l w m s r info x → (sort ≡ sorts.TlsDesc → HasOffsetMode l s → ⊥) → Gives (value_by_row info) l w m s r x
 
 -- the expression has a value with the same bits below its page as x
 abbrev pub GivesPart : Value → Layout → World → Memory → Item → InputRelocation → ℕ → Type 0

@@ -26,12 +26,12 @@ use Rattle.wild_reloc.specs.Formula.{Value}
 use Rattle.wild_reloc.specs.declared.expression.Term.{Term}
 use Rattle.wild_reloc.specs.declared.expression.Term.TheVariants as term
 use Rattle.wild_reloc.specs.declared.expression.Subtrahend.{Subtrahend}
-use Rattle.wild_reloc.specs.declared.expression.Subtrahend.TheVariants as taken
+use Rattle.wild_reloc.specs.declared.expression.Subtrahend.TheVariants as subtrahend
 use Rattle.wild_reloc.specs.declared.info.PageMask.{PageMask}
 use Rattle.wild_reloc.specs.declared.info.PageMask.TheVariants as masks
 use Rattle.wild_reloc.specs.declared.info.RelocationKindInfo.{RelocationKindInfo}
 use Rattle.wild_layout.specs.Merged.{names_merged}
-use Rattle.wild_layout.specs.Values.{is_own_place, term_at, value_in}
+use Rattle.wild_layout.specs.Values.{weak_resolves_to_place, term_at, value_in}
 use Rattle.wild_layout.specs.Geometry.{DefinitionNames, DefinitionsAreFinal, NamesSymbol}
 use Rattle.wild_layout.specs.SlotOrder.{EachAgrees}
 use Rattle.wild_layout.specs.ExportedSymbols.{AreExported}
@@ -97,9 +97,9 @@ pub record IsPlaced (l : Layout) (w : World) (m : Memory) : Type 0 where
 -- The page mask of a term, in an expression that subtracts `taken` from it: for S + A, for G, or for GOT (aaelf64, "Relocation
 -- operations": Page).
 abbrev pub page_mask : Term → Subtrahend → Option PageMask
-page_mask term.Symbol taken.Place = Some masks.SymbolPlusAddendAndPosition
-page_mask (term.Slot sort) taken.Place = Some masks.GotEntryAndPosition
-page_mask (term.Slot sort) taken.Table = Some masks.GotBase
+page_mask term.Symbol subtrahend.Place = Some masks.SymbolPlusAddendAndPosition
+page_mask (term.Slot sort) subtrahend.Place = Some masks.GotEntryAndPosition
+page_mask (term.Slot sort) subtrahend.GotBase = Some masks.GotBase
 page_mask t less = None
 
 abbrev pub is_mask : Option PageMask → PageMask → Bool
@@ -109,7 +109,7 @@ is_mask (Some masks.GotBase) masks.GotBase = true
 is_mask o mask = false
 
 abbrev pub is_table : Subtrahend → Bool
-is_table taken.Table = true
+is_table subtrahend.GotBase = true
 is_table less = false
 
 -- The machine has relocation types with that expression. On x86-64 no term is reduced to its page; on AArch64 no expression
@@ -127,7 +127,7 @@ value_by_row info = value_of info.kind info.mask info.size
 -- the expression of a row uses no slot and no stub; on AArch64 an undefined weak symbol is represented by the place itself
 abbrev pub IsDirect : Layout → InputRelocation → RelocationKindInfo → Term → Type 0
 IsDirect l r info term.Symbol = TakesAddress (value_by_row info) → (i : ℕ) → r.symbol ≡ Some i → HasStubAddress l i → ⊥
-IsDirect l r info term.Stub = is_own_place l.machine l r info ≡ true
+IsDirect l r info term.Stub = weak_resolves_to_place l.machine l r info ≡ true
 IsDirect l r info (term.Slot sort) = ⊥
 IsDirect l r info other = ⊤
 
@@ -143,7 +143,7 @@ pub record HasTerm (l : Layout) (w : World) (m : Memory) (s : Item) (r : InputRe
   pub row : RelocationKindInfo
   pub treated : kind_treatment l s.flags number r.symbol row info.kind ≡ treatments.Value row
   pub row_that_accepts : row_accepts l.machine r info ≡ true
-  pub expressed : is_expressed l.machine (expression_of info.kind).term (expression_of info.kind).taken info.mask ≡ true
+  pub expressed : is_expressed l.machine (expression_of info.kind).term (expression_of info.kind).subtrahend info.mask ≡ true
   pub term : ℕ
   pub given : term_at l r info (place_of s.address r) ≡ Ok term
   pub value : value_in l info term r.addend (place_of s.address r) ≡ x

@@ -52,7 +52,7 @@ pub fn thunks_are_given()
 
 /// GOT + A - P.
 pub fn distances_of_the_table_are_given()
-    ensures { TermGives term.Table }
+    ensures { TermGives term.GotBase }
 {}
 
 /// Z + A.

@@ -38,7 +38,7 @@ use Rattle.wild_relax.specs.Pattern.{pattern_cells, field_of, opcode}
 use Rattle.wild_relax.specs.LinkedPattern.{pattern_of, keeps_bytes}
 use Rattle.wild_relax.specs.KeepX86_64.{IsWhole, distance, ReadsNumbers, no_effect, FieldIsRight, demanded, IsField, RowsKeep}
 use Rattle.wild_relax.proofs.StubLemmas.{read_back}
-use Rattle.wild_relax.proofs.ShapeLemmas.{filled, shape, shape-stands}
+use Rattle.wild_relax.proofs.ShapeLemmas.{filled, shape, shape-matches_cells}
 use Rattle.wild_relax.proofs.KeepLemmas.{placed, SlotByte, IsWide, Back, lea_bare, lea_rex, lea_rex2, call_direct, jump_direct}
 use Rattle.wild_relax.proofs.ImmediateLemmas.{IsWide2, low_bits, rex_immediate, rex2_immediate, bare_immediate, rex_descriptor, rex2_descriptor, rex_descriptor_slot, rex2_descriptor_slot}
 use Rattle.wild_relax.proofs.SequenceLemmas.{exec_for, to_number, to_slot_regular, to_slot_no_plt, to_pointer}
@@ -111,24 +111,24 @@ record IsRex2 (old : List ℕ) : Type 0 where
 
 rex_facts : (o : Operation) (old : List ℕ) → IsWhole (pattern_cells (pattern.Wide Rex o)) old → IsRex old
 rex_facts o old whole =
-    let all = shape-stands (pattern_cells (pattern.Wide Rex o)) old whole in
+    let all = shape-matches_cells (pattern_cells (pattern.Wide Rex o)) old whole in
     let first = and_parts (get_or old 0 0 == 0x48 || get_or old 0 0 == 0x4c) _ all in
     let second = and_parts (opcode o == opcode o) _ first.1 in
     record { wide = either 0x48 0x4c (get_or old 0 0) first.0; slot = (and_parts _ _ second.1).0 }
 
 rex2_facts : (o : Operation) (old : List ℕ) → IsWhole (pattern_cells (pattern.Wide Rex2 o)) old → IsRex2 old
 rex2_facts o old whole =
-    let all = shape-stands (pattern_cells (pattern.Wide Rex2 o)) old whole in
+    let all = shape-matches_cells (pattern_cells (pattern.Wide Rex2 o)) old whole in
     let first = and_parts (get_or old 1 0 == 0x48 || get_or old 1 0 == 0x4c) _ all in
     let second = and_parts (opcode o == opcode o) _ first.1 in
     record { wide = either 0x48 0x4c (get_or old 1 0) first.0; slot = (and_parts _ _ second.1).0 }
 
 mov_slot : (old : List ℕ) → IsWhole (pattern_cells pattern.Mov) old → SlotByte (get_or old 1 0)
-mov_slot old whole = (and_parts _ _ (shape-stands (pattern_cells pattern.Mov) old whole)).0
+mov_slot old whole = (and_parts _ _ (shape-matches_cells (pattern_cells pattern.Mov) old whole)).0
 
 lea_facts : (old : List ℕ) → IsWhole (pattern_cells (pattern.Lea Rex)) old → IsRex old
 lea_facts old whole =
-    let all = shape-stands (pattern_cells (pattern.Lea Rex)) old whole in
+    let all = shape-matches_cells (pattern_cells (pattern.Lea Rex)) old whole in
     let first = and_parts (get_or old 0 0 == 0x48 || get_or old 0 0 == 0x4c) _ all in
     record { wide = either 0x48 0x4c (get_or old 0 0) first.0; slot = (and_parts _ _ first.1).0 }
 
@@ -138,7 +138,7 @@ record IsRex2Lea (old : List ℕ) : Type 0 where
 
 lea2_facts : (old : List ℕ) → IsWhole (pattern_cells (pattern.Lea Rex2)) old → IsRex2Lea old
 lea2_facts old whole =
-    let all = shape-stands (pattern_cells (pattern.Lea Rex2)) old whole in
+    let all = shape-matches_cells (pattern_cells (pattern.Lea Rex2)) old whole in
     let first = and_parts (get_or old 1 0 == 0x08 || get_or old 1 0 == 0x0c || get_or old 1 0 == 0x48 || get_or old 1 0 == 0x4c) _ all in
     record { wide = either_of_four (get_or old 1 0) first.0; slot = (and_parts _ _ first.1).0 }
 

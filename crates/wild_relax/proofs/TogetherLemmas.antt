@@ -22,7 +22,7 @@ use Rattle.wild_aarch64.specs.Row as judged
 use Rattle.wild_relax.specs.FirstRow.{first_standing}
 use Rattle.wild_relax.specs.KeepAArch64.{Rewriting, rewriting}
 use Rattle.wild_relax.specs.LinkedPattern.{either_pattern, pattern_of, pattern_size, keeps_bytes, fits_in}
-use Rattle.wild_relax.specs.Pattern.{field_of, stands, field, cells_match_at, stands_before}
+use Rattle.wild_relax.specs.Pattern.{field_of, matches_cells, field, cells_match_at, stands_before}
 use Rattle.wild_relax.specs.Question.{Question, relocation_of, minus_four, no_relocation, zero as none_added}
 use Rattle.wild_relax.specs.RowSequences.{has_its_sequence, has_partner}
 use Rattle.wild_relax.specs.RowSymbols.{is_in_reach, takes_symbol, takes_value, is_mandatory}
@@ -148,7 +148,7 @@ moved q s k j n h at =
 -- ---- a row that stands
 
 -- any word stands
-any_word : (xs : List ℕ) → length xs ≡ 4 → stands field xs ≡ true
+any_word : (xs : List ℕ) → length xs ≡ 4 → matches_cells field xs ≡ true
 any_word [] h = absurd (omega (arith, h))
 any_word (a ∷ []) h = absurd (omega (arith, h))
 any_word (a ∷ b ∷ []) h = absurd (omega (arith, h))

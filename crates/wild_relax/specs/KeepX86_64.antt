@@ -16,7 +16,7 @@ use Rattle.wild_relax.specs.declared.row.Made.TheVariants.{Nop}
 use Rattle.wild_relax.specs.declared.row.Written.{Written}
 use Rattle.wild_relax.specs.declared.row.Written.TheVariants as written
 use Rattle.wild_relax.specs.declared.row.Row.{Row}
-use Rattle.wild_relax.specs.Pattern.{pattern_cells, stands}
+use Rattle.wild_relax.specs.Pattern.{pattern_cells, matches_cells}
 use Rattle.wild_types.specs.declared.kind.Machine.TheVariants.{X86_64}
 use Rattle.wild_types.specs.Rows.{row_of}
 use Rattle.wild_relax.specs.Rows.{rows_x86_64}
@@ -26,7 +26,7 @@ use Rattle.wild_relax.specs.LinkedPattern.{pattern_of, IsChanging, field_in, lin
 -- the bytes are that pattern
 pub record IsWhole (cells : List Cell) (bs : List ℕ) : Type 0 where
   pub long : length bs ≡ length cells
-  pub same : stands cells bs ≡ true
+  pub same : matches_cells cells bs ≡ true
 
 -- a number reads as itself
 abbrev pub ReadsNumbers : Reader → Type 0

@@ -26,10 +26,10 @@ fits Slot b = bit_and b 0xc7 == 5
 fits Any b = true
 
 -- the bytes start with values that the cells allow
-abbrev pub stands : List Cell → List ℕ → Bool
-stands [] bs = true
-stands (c ∷ cs) [] = false
-stands (c ∷ cs) (b ∷ bs) = fits c b && stands cs bs
+abbrev pub matches_cells : List Cell → List ℕ → Bool
+matches_cells [] bs = true
+matches_cells (c ∷ cs) [] = false
+matches_cells (c ∷ cs) (b ∷ bs) = fits c b && matches_cells cs bs
 
 abbrev pub exact : List ℕ → List Cell
 exact [] = []
@@ -99,7 +99,7 @@ field_of (Among s k) = 0
 
 -- the bytes from start on have values that the cells allow
 unfoldable pub cells_match_at : List ℕ → ℕ → List Cell → Bool
-cells_match_at bytes start cells = nat_le (start + length cells) (length bytes) && stands cells (slice_range bytes start (start + length cells))
+cells_match_at bytes start cells = nat_le (start + length cells) (length bytes) && matches_cells cells (slice_range bytes start (start + length cells))
 
 unfoldable pub stands_before : List ℕ → ℕ → Pattern → Bool
 stands_before bytes offset p = nat_le (field_of p) offset && cells_match_at bytes (offset - field_of p) (pattern_cells p)

@@ -1,7 +1,7 @@
 //! The bytes that rows match in the input: those of x86-64 (Intel SDM; x86-64 psABI, "Linker Optimization"; "ELF Handling For
 //! Thread-Local Storage", "Linker Relaxations"), and the position of AArch64's words.
 ghost use Rattle.std.specs.Prelude.{◌≡◌, ◌≤◌, length};
-ghost use Rattle.wild_relax.specs.Pattern.{fits, stands, pattern_cells, field_of, stands_before};
+ghost use Rattle.wild_relax.specs.Pattern.{fits, matches_cells, pattern_cells, field_of, stands_before};
 
 /// The prefix of a 64-bit instruction.
 #[derive(Clone, Copy)]
@@ -325,7 +325,7 @@ fn is_cell_match(cell: Cell, byte: u8) -> bool
 
 // Whether the bytes start with values that the cells allow.
 fn is_match(cells: &[Cell], bytes: &[u8]) -> bool
-    ensures { result ≡ stands cells.now bytes.now }
+    ensures { result ≡ matches_cells cells.now bytes.now }
 {
     match cells.split_first() {
         None => true,

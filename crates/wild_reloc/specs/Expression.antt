@@ -13,7 +13,7 @@ use Rattle.wild_reloc.specs.declared.expression.SlotSort.TheVariants as sorts
 use Rattle.wild_reloc.specs.declared.expression.Term.{Term}
 use Rattle.wild_reloc.specs.declared.expression.Term.TheVariants as term
 use Rattle.wild_reloc.specs.declared.expression.Subtrahend.{Subtrahend}
-use Rattle.wild_reloc.specs.declared.expression.Subtrahend.TheVariants as taken
+use Rattle.wild_reloc.specs.declared.expression.Subtrahend.TheVariants as subtrahend
 use Rattle.wild_reloc.specs.declared.expression.Class.{Class}
 use Rattle.wild_reloc.specs.declared.expression.Class.TheVariants as class
 use Rattle.wild_reloc.specs.declared.expression.Expression.{Expression}
@@ -21,41 +21,41 @@ use Rattle.wild_reloc.specs.Formula.{Slot, Value}
 use Rattle.wild_reloc.specs.Formula as formula
 
 abbrev pub expression : Term → Subtrahend → Class → Expression
-expression t less c = record { term = t; taken = less; class = c }
+expression t less c = record { term = t; subtrahend = less; class = c }
 
 -- the kinds, each with its expression
 abbrev pub expression_of : RelocationKind → Expression
-expression_of kinds.None = expression term.Nothing taken.Nothing class.Nothing
-expression_of kinds.Absolute = expression term.Symbol taken.Nothing class.Address
-expression_of kinds.AbsoluteLowPart = expression term.Symbol taken.Nothing class.Part
-expression_of kinds.Relative = expression term.Symbol taken.Place class.Distance
-expression_of kinds.SymRelGotBase = expression term.Symbol taken.Table class.Plain
-expression_of kinds.PltRelative = expression term.Stub taken.Place class.Plain
-expression_of kinds.PltRelGotBase = expression term.Stub taken.Table class.Plain
-expression_of kinds.GotBaseRelative = expression term.Table taken.Place class.Free
-expression_of kinds.Got = expression (term.Slot sorts.Address) taken.Nothing class.Part
-expression_of kinds.GotRelative = expression (term.Slot sorts.Address) taken.Place class.Plain
-expression_of kinds.GotRelGotBase = expression (term.Slot sorts.Address) taken.Table class.Plain
-expression_of kinds.TlsGd = expression (term.Slot sorts.Pair) taken.Place class.Plain
-expression_of kinds.TlsGdGot = expression (term.Slot sorts.Pair) taken.Nothing class.Part
-expression_of kinds.TlsLd = expression (term.Slot sorts.OwnPair) taken.Place class.Plain
-expression_of kinds.DtpOff = expression term.ModuleOffset taken.Nothing class.Plain
-expression_of kinds.GotTpOff = expression (term.Slot sorts.Offset) taken.Place class.Plain
-expression_of kinds.GotTpOffGot = expression (term.Slot sorts.Offset) taken.Nothing class.Part
-expression_of kinds.TpOff = expression term.PointerOffset taken.Nothing class.Pointer
-expression_of kinds.TlsDesc = expression (term.Slot sorts.Descriptor) taken.Place class.Plain
-expression_of kinds.TlsDescGot = expression (term.Slot sorts.Descriptor) taken.Nothing class.Part
-expression_of kinds.TlsDescCall = expression term.Nothing taken.Nothing class.Mark
-expression_of kinds.SymbolSize = expression term.Size taken.Nothing class.Extent
+expression_of kinds.None = expression term.Nothing subtrahend.Nothing class.Nothing
+expression_of kinds.Absolute = expression term.Symbol subtrahend.Nothing class.Address
+expression_of kinds.AbsoluteLowPart = expression term.Symbol subtrahend.Nothing class.Part
+expression_of kinds.Relative = expression term.Symbol subtrahend.Place class.Distance
+expression_of kinds.SymRelGotBase = expression term.Symbol subtrahend.GotBase class.Plain
+expression_of kinds.PltRelative = expression term.Stub subtrahend.Place class.Plain
+expression_of kinds.PltRelGotBase = expression term.Stub subtrahend.GotBase class.Plain
+expression_of kinds.GotBaseRelative = expression term.GotBase subtrahend.Place class.Free
+expression_of kinds.Got = expression (term.Slot sorts.Address) subtrahend.Nothing class.Part
+expression_of kinds.GotRelative = expression (term.Slot sorts.Address) subtrahend.Place class.Plain
+expression_of kinds.GotRelGotBase = expression (term.Slot sorts.Address) subtrahend.GotBase class.Plain
+expression_of kinds.TlsGd = expression (term.Slot sorts.TlsGd) subtrahend.Place class.Plain
+expression_of kinds.TlsGdGot = expression (term.Slot sorts.TlsGd) subtrahend.Nothing class.Part
+expression_of kinds.TlsLd = expression (term.Slot sorts.TlsLd) subtrahend.Place class.Plain
+expression_of kinds.DtpOff = expression term.ModuleOffset subtrahend.Nothing class.Plain
+expression_of kinds.GotTpOff = expression (term.Slot sorts.TpOff) subtrahend.Place class.Plain
+expression_of kinds.GotTpOffGot = expression (term.Slot sorts.TpOff) subtrahend.Nothing class.Part
+expression_of kinds.TpOff = expression term.PointerOffset subtrahend.Nothing class.Pointer
+expression_of kinds.TlsDesc = expression (term.Slot sorts.TlsDesc) subtrahend.Place class.Plain
+expression_of kinds.TlsDescGot = expression (term.Slot sorts.TlsDesc) subtrahend.Nothing class.Part
+expression_of kinds.TlsDescCall = expression term.Nothing subtrahend.Nothing class.Mark
+expression_of kinds.SymbolSize = expression term.Size subtrahend.Nothing class.Extent
 
 -- what is subtracted if a mask replaces terms by their pages (aaelf64, "Relocation operations": Page)
 abbrev pub paged : Option PageMask → Subtrahend → Subtrahend
 paged None less = less
-paged (Some masks.GotBase) less = taken.PageTable
-paged (Some both) less = taken.PagePlace
+paged (Some masks.GotBase) less = subtrahend.PageOfGot
+paged (Some both) less = subtrahend.PageOfPlace
 
 abbrev pub subtrahend_of : RelocationKind → Option PageMask → Subtrahend
-subtrahend_of kind mask = paged mask (expression_of kind).taken
+subtrahend_of kind mask = paged mask (expression_of kind).subtrahend
 
 -- the class has a value: an address, a distance, an offset or a size
 abbrev pub has_value : Class → Bool
@@ -74,25 +74,25 @@ writes other = true
 
 abbrev pub slot_sort : SlotSort → Slot
 slot_sort sorts.Address = formula.AddressSlot
-slot_sort sorts.Pair = formula.ModulePair
-slot_sort sorts.OwnPair = formula.OwnModulePair
-slot_sort sorts.Offset = formula.ThreadOffset
-slot_sort sorts.Descriptor = formula.Descriptor
+slot_sort sorts.TlsGd = formula.ModulePair
+slot_sort sorts.TlsLd = formula.OwnModulePair
+slot_sort sorts.TpOff = formula.ThreadOffset
+slot_sort sorts.TlsDesc = formula.Descriptor
 
 -- the formula's value of a term and what is subtracted
 abbrev pub expressed : Term → Subtrahend → Value
-expressed term.Symbol taken.Nothing = formula.SymbolAddress
-expressed term.Symbol taken.Place = formula.Distance
-expressed term.Symbol taken.Table = formula.FromTable
-expressed term.Symbol taken.PagePlace = formula.PageDistance
-expressed term.Stub taken.Place = formula.StubDistance
-expressed term.Stub taken.Table = formula.StubFromTable
-expressed (term.Slot sort) taken.Nothing = formula.SlotAddress (slot_sort sort)
-expressed (term.Slot sort) taken.Place = formula.SlotDistance (slot_sort sort)
-expressed (term.Slot sort) taken.Table = formula.SlotFromTable
-expressed (term.Slot sort) taken.PagePlace = formula.SlotPageDistance (slot_sort sort)
-expressed (term.Slot sort) taken.PageTable = formula.SlotFromTablePage
-expressed term.Table less = formula.TableDistance
+expressed term.Symbol subtrahend.Nothing = formula.SymbolAddress
+expressed term.Symbol subtrahend.Place = formula.Distance
+expressed term.Symbol subtrahend.GotBase = formula.FromTable
+expressed term.Symbol subtrahend.PageOfPlace = formula.PageDistance
+expressed term.Stub subtrahend.Place = formula.StubDistance
+expressed term.Stub subtrahend.GotBase = formula.StubFromTable
+expressed (term.Slot sort) subtrahend.Nothing = formula.SlotAddress (slot_sort sort)
+expressed (term.Slot sort) subtrahend.Place = formula.SlotDistance (slot_sort sort)
+expressed (term.Slot sort) subtrahend.GotBase = formula.SlotFromTable
+expressed (term.Slot sort) subtrahend.PageOfPlace = formula.SlotPageDistance (slot_sort sort)
+expressed (term.Slot sort) subtrahend.PageOfGot = formula.SlotFromTablePage
+expressed term.GotBase less = formula.TableDistance
 expressed term.Size less = formula.Size
 expressed term.PointerOffset less = formula.PointerOffset
 expressed term.ModuleOffset less = formula.ModuleOffset

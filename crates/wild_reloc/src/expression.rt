@@ -10,13 +10,13 @@ pub enum SlotSort {
     /// The symbol's address.
     Address,
     /// The pair of the symbol's module ID and its offset there.
-    Pair,
+    TlsGd,
     /// The pair of the output's own module.
-    OwnPair,
+    TlsLd,
     /// The symbol's offset from the thread pointer.
-    Offset,
+    TpOff,
     /// The symbol's TLS descriptor.
-    Descriptor,
+    TlsDesc,
 }
 
 /// The term to which A is added.
@@ -31,7 +31,7 @@ pub enum Term {
     /// G, the address of its GOT entry with these contents.
     Slot(SlotSort),
     /// GOT, the base of the GOT.
-    Table,
+    GotBase,
     /// Z, the symbol's size.
     Size,
     /// Its offset from the thread pointer.
@@ -48,11 +48,11 @@ pub enum Subtrahend {
     /// P, the place.
     Place,
     /// GOT, the base of the GOT.
-    Table,
+    GotBase,
     /// Page(P), from the page of the sum.
-    PagePlace,
+    PageOfPlace,
     /// Page(GOT), from the sum itself.
-    PageTable,
+    PageOfGot,
 }
 
 /// How a relocation is treated, as far as its expression decides.
@@ -78,13 +78,13 @@ pub enum Class {
     Part,
 }
 
-/// An expression: term + A - taken.
+/// An expression: term + A - subtrahend.
 #[derive(Clone, Copy)]
 pub struct Expression {
     /// The term to which A is added.
     pub term: Term,
     /// What is subtracted from the sum.
-    pub taken: Subtrahend,
+    pub subtrahend: Subtrahend,
     /// How it is treated.
     pub class: Class,
 }
@@ -95,15 +95,15 @@ impl RelocationKind {
     pub fn expression(self) -> Expression
         ensures { result ≡ expression_of self }
     {
-        let (term, taken, class) = match self {
+        let (term, subtrahend, class) = match self {
             RelocationKind::None => (Term::Nothing, Subtrahend::Nothing, Class::Nothing),
             RelocationKind::Absolute => (Term::Symbol, Subtrahend::Nothing, Class::Address),
             RelocationKind::AbsoluteLowPart => (Term::Symbol, Subtrahend::Nothing, Class::Part),
             RelocationKind::Relative => (Term::Symbol, Subtrahend::Place, Class::Distance),
-            RelocationKind::SymRelGotBase => (Term::Symbol, Subtrahend::Table, Class::Plain),
+            RelocationKind::SymRelGotBase => (Term::Symbol, Subtrahend::GotBase, Class::Plain),
             RelocationKind::PltRelative => (Term::Stub, Subtrahend::Place, Class::Plain),
-            RelocationKind::PltRelGotBase => (Term::Stub, Subtrahend::Table, Class::Plain),
-            RelocationKind::GotBaseRelative => (Term::Table, Subtrahend::Place, Class::Free),
+            RelocationKind::PltRelGotBase => (Term::Stub, Subtrahend::GotBase, Class::Plain),
+            RelocationKind::GotBaseRelative => (Term::GotBase, Subtrahend::Place, Class::Free),
             RelocationKind::Got => (
                 Term::Slot(SlotSort::Address),
                 Subtrahend::Nothing,
@@ -116,67 +116,67 @@ impl RelocationKind {
             ),
             RelocationKind::GotRelGotBase => (
                 Term::Slot(SlotSort::Address),
-                Subtrahend::Table,
+                Subtrahend::GotBase,
                 Class::Plain,
             ),
-            RelocationKind::TlsGd => (Term::Slot(SlotSort::Pair), Subtrahend::Place, Class::Plain),
+            RelocationKind::TlsGd => (Term::Slot(SlotSort::TlsGd), Subtrahend::Place, Class::Plain),
             RelocationKind::TlsGdGot => (
-                Term::Slot(SlotSort::Pair),
+                Term::Slot(SlotSort::TlsGd),
                 Subtrahend::Nothing,
                 Class::Part,
             ),
-            RelocationKind::TlsLd => (
-                Term::Slot(SlotSort::OwnPair),
-                Subtrahend::Place,
-                Class::Plain,
-            ),
+            RelocationKind::TlsLd => (Term::Slot(SlotSort::TlsLd), Subtrahend::Place, Class::Plain),
             RelocationKind::DtpOff => (Term::ModuleOffset, Subtrahend::Nothing, Class::Plain),
             RelocationKind::GotTpOff => (
-                Term::Slot(SlotSort::Offset),
+                Term::Slot(SlotSort::TpOff),
                 Subtrahend::Place,
                 Class::Plain,
             ),
             RelocationKind::GotTpOffGot => (
-                Term::Slot(SlotSort::Offset),
+                Term::Slot(SlotSort::TpOff),
                 Subtrahend::Nothing,
                 Class::Part,
             ),
             RelocationKind::TpOff => (Term::PointerOffset, Subtrahend::Nothing, Class::Pointer),
             RelocationKind::TlsDesc => (
-                Term::Slot(SlotSort::Descriptor),
+                Term::Slot(SlotSort::TlsDesc),
                 Subtrahend::Place,
                 Class::Plain,
             ),
             RelocationKind::TlsDescGot => (
-                Term::Slot(SlotSort::Descriptor),
+                Term::Slot(SlotSort::TlsDesc),
                 Subtrahend::Nothing,
                 Class::Part,
             ),
             RelocationKind::TlsDescCall => (Term::Nothing, Subtrahend::Nothing, Class::Mark),
             RelocationKind::SymbolSize => (Term::Size, Subtrahend::Nothing, Class::Extent),
         };
-        Expression { term, taken, class }
+        Expression {
+            term,
+            subtrahend,
+            class,
+        }
     }
 }
 
 /// What is subtracted if the row replaces terms by their pages.
 #[inline]
-fn paged(mask: Option<PageMask>, taken: Subtrahend) -> Subtrahend
-    ensures { result ≡ paged mask taken }
+fn paged(mask: Option<PageMask>, subtrahend: Subtrahend) -> Subtrahend
+    ensures { result ≡ paged mask subtrahend }
 {
     match mask {
-        None => taken,
-        Some(PageMask::GotBase) => Subtrahend::PageTable,
-        Some(_) => Subtrahend::PagePlace,
+        None => subtrahend,
+        Some(PageMask::GotBase) => Subtrahend::PageOfGot,
+        Some(_) => Subtrahend::PageOfPlace,
     }
 }
 
 impl RelocationKindInfo {
     /// What the row subtracts from the sum.
     #[inline]
-    pub fn taken(&self) -> Subtrahend
+    pub fn subtrahend(&self) -> Subtrahend
         ensures { result ≡ subtrahend_of self.now.kind self.now.mask }
     {
-        paged(self.mask, self.kind.expression().taken)
+        paged(self.mask, self.kind.expression().subtrahend)
     }
 }

@@ -12,7 +12,7 @@ use Rattle.wild_relr.specs.declared.run.Run.{Run}
 use Rattle.wild_relr.specs.declared.run.Run.TheVariants.{Closed, Address}
 use Rattle.wild_relr.specs.declared.run.Choice.{Choice}
 use Rattle.wild_relr.specs.declared.run.Choice.TheVariants.{Joins, Adds}
-use Rattle.wild_relr.specs.Encoding.{choice, State, with_last_bit, with_bit, chosen, after, Follows}
+use Rattle.wild_relr.specs.Encoding.{choice, State, with_last_bit, with_bit, apply_choice, after, Follows}
 use Rattle.wild_relr.specs.RunWords.{by_choice, packed_on, packed, block, Piece, Places, Block, words_of_piece, words_of, after_places, after_pieces, AreNew, AreRising, after_relr_slot, after_run, new_words, run_after, counted, places_of_piece, places_of_pieces, IsEven}
 use Rattle.wild_relr.proofs.PackingLemmas.{with_last_bit-push, Records-after, Follows-after}
 use Rattle.wild_relr.proofs.BlockLemmas.{places-block, block-no_base}
@@ -20,7 +20,7 @@ use Rattle.wild_relr.proofs.BlockLemmas.{places-block, block-no_base}
 -- ---- a run
 
 step_packed : (c : Choice) (r : Run) (front : List ℕ) (w : ℕ) (ps : List ℕ) → ((r : Run) (front : List ℕ) (w : ℕ) → (after_places (record { run = r; words = front ++ w ∷ [] }) ps).words ≡ front ++ packed_on r (w ∷ []) ps)
-    → (after_places (chosen c (record { run = r; words = front ++ w ∷ [] })) ps).words ≡ front ++ by_choice c (λ i. packed_on r (with_last_bit i (w ∷ [])) ps) (λ v q. (w ∷ []) ++ packed_on q (v ∷ []) ps)
+    → (after_places (apply_choice c (record { run = r; words = front ++ w ∷ [] })) ps).words ≡ front ++ by_choice c (λ i. packed_on r (with_last_bit i (w ∷ [])) ps) (λ v q. (w ∷ []) ++ packed_on q (v ∷ []) ps)
 unfolding with_last_bit
 step_packed (Joins i) r front w ps again = rw (with_last_bit-push i front w) (again r front (with_bit i w))
 step_packed (Adds v q) r front w ps again = again q (front ++ w ∷ []) v ∙ append_assoc front (w ∷ []) (packed_on q (v ∷ []) ps)
@@ -77,21 +77,21 @@ length-with_last_bit i [] = refl
 length-with_last_bit i (w ∷ []) = refl
 length-with_last_bit i (w ∷ v ∷ ws) = ap suc (length-with_last_bit i (v ∷ ws))
 
-length-chosen : (c : Choice) (s : State) → length (chosen c s).words ≡ length s.words + new_words c
-length-chosen (Joins i) s = let e = length-with_last_bit i s.words in omega arith
-length-chosen (Adds w r) s = length_push s.words w
+length-apply_choice : (c : Choice) (s : State) → length (apply_choice c s).words ≡ length s.words + new_words c
+length-apply_choice (Joins i) s = let e = length-with_last_bit i s.words in omega arith
+length-apply_choice (Adds w r) s = length_push s.words w
 
-run-chosen : (c : Choice) (s : State) → (chosen c s).run ≡ run_after c s.run
-run-chosen (Joins i) s = refl
-run-chosen (Adds w r) s = refl
+run-apply_choice : (c : Choice) (s : State) → (apply_choice c s).run ≡ run_after c s.run
+run-apply_choice (Joins i) s = refl
+run-apply_choice (Adds w r) s = refl
 
 pub length-after_places : (ps : List ℕ) (s : State) → length (after_places s ps).words ≡ length s.words + counted s.run ps
 unfolding after_places counted
 length-after_places [] s = omega arith
 length-after_places (p ∷ ps) s =
-    let here = length-chosen (choice s.run p) s in
+    let here = length-apply_choice (choice s.run p) s in
     let rest = length-after_places ps (after s p) in
-    let same = ap (λ (r : Run). counted r ps) (run-chosen (choice s.run p) s) in
+    let same = ap (λ (r : Run). counted r ps) (run-apply_choice (choice s.run p) s) in
     omega (arith, here, rest, same)
 
 pub length-packed : (ps : List ℕ) → length (packed ps) ≡ counted Closed ps

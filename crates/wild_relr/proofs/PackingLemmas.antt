@@ -12,7 +12,7 @@ use Rattle.wild_relr.specs.Places.{window, places_of, places, next_of}
 use Rattle.wild_relr.specs.declared.run.Run.{Run}
 use Rattle.wild_relr.specs.declared.run.Run.TheVariants.{Closed, Address, Bitmap}
 use Rattle.wild_relr.specs.declared.run.Choice.{Choice}
-use Rattle.wild_relr.specs.Encoding.{slot, bitmap, with_bit, starts, new_bitmap_or, last_bit_or, choice, State, with_last_bit, chosen, after, EndsInBitmap, FollowsRun, Follows, Records}
+use Rattle.wild_relr.specs.Encoding.{slot, bitmap, with_bit, starts, new_bitmap_or, last_bit_or, choice, State, with_last_bit, apply_choice, after, EndsInBitmap, FollowsRun, Follows, Records}
 use Rattle.wild_relr.proofs.PlaceLemmas.{parity, window-adds, window-holds, window-last, window-one, places_of-even, places_of-odd, next_after-even, next_after-odd, places-push, next-push}
 
 -- ---- which bit
@@ -123,15 +123,15 @@ next_of-bitmap s ws e =
 
 -- ---- the three cases
 
-opened : (o : Option ℕ) (r : Run) (ws : List ℕ) (s p : ℕ) (other : Choice) → slot s p ≡ o → next_of ws ≡ s → Records ws (chosen other (record { run = r; words = ws })).words p → Records ws (chosen (new_bitmap_or s o other) (record { run = r; words = ws })).words p
+opened : (o : Option ℕ) (r : Run) (ws : List ℕ) (s p : ℕ) (other : Choice) → slot s p ≡ o → next_of ws ≡ s → Records ws (apply_choice other (record { run = r; words = ws })).words p → Records ws (apply_choice (new_bitmap_or s o other) (record { run = r; words = ws })).words p
 opened (Some i) r ws s p other e n h = Records-bitmap ws s p i n (is_slot s p i e)
 opened None r ws s p other e n h = h
 
-joined_first : (o : Option ℕ) (r : Run) (ws : List ℕ) (s p : ℕ) (other : Choice) → slot s p ≡ o → EndsInBitmap s ws → (Contains (places ws) p → ⊥) → Records ws (chosen other (record { run = r; words = ws })).words p → Records ws (chosen (last_bit_or o other) (record { run = r; words = ws })).words p
+joined_first : (o : Option ℕ) (r : Run) (ws : List ℕ) (s p : ℕ) (other : Choice) → slot s p ≡ o → EndsInBitmap s ws → (Contains (places ws) p → ⊥) → Records ws (apply_choice other (record { run = r; words = ws })).words p → Records ws (apply_choice (last_bit_or o other) (record { run = r; words = ws })).words p
 joined_first (Some i) r ws s p other e n c h = Records-bit ws s p i n (is_slot s p i e) c
 joined_first None r ws s p other e n c h = h
 
-records_run : (r : Run) (ws : List ℕ) (p : ℕ) → FollowsRun r ws → p % 2 ≡ 0 → (Contains (places ws) p → ⊥) → Records ws (chosen (choice r p) (record { run = r; words = ws })).words p
+records_run : (r : Run) (ws : List ℕ) (p : ℕ) → FollowsRun r ws → p % 2 ≡ 0 → (Contains (places ws) p → ⊥) → Records ws (apply_choice (choice r p) (record { run = r; words = ws })).words p
 unfolding choice
 records_run Closed ws p f h c = Records-address ws p h
 records_run (Address a) ws p f h c = opened (slot (a + 8) p) (Address a) ws (a + 8) p (starts p) refl f (Records-address ws p h)
@@ -147,15 +147,15 @@ Records-after s p f h c = records_run s.run s.words p f h c
 Follows-address : (ws : List ℕ) (p : ℕ) → p % 2 ≡ 0 → next_of (ws ++ p ∷ []) ≡ p + 8
 Follows-address ws p h = next-push 0 ws p ∙ next_after-even (next_of ws) p h
 
-follows_opens : (o : Option ℕ) (r : Run) (ws : List ℕ) (s p : ℕ) (other : Choice) → next_of ws ≡ s → Follows (chosen other (record { run = r; words = ws })) → Follows (chosen (new_bitmap_or s o other) (record { run = r; words = ws }))
+follows_opens : (o : Option ℕ) (r : Run) (ws : List ℕ) (s p : ℕ) (other : Choice) → next_of ws ≡ s → Follows (apply_choice other (record { run = r; words = ws })) → Follows (apply_choice (new_bitmap_or s o other) (record { run = r; words = ws }))
 follows_opens (Some i) r ws s p other n h = record { front = ws; word = bitmap i; is = refl; starts = n; odd = bitmap-odd i }
 follows_opens None r ws s p other n h = h
 
-follows_joins : (o : Option ℕ) (ws : List ℕ) (s p : ℕ) (other : Choice) → EndsInBitmap s ws → Follows (chosen other (record { run = Bitmap s; words = ws })) → Follows (chosen (last_bit_or o other) (record { run = Bitmap s; words = ws }))
+follows_joins : (o : Option ℕ) (ws : List ℕ) (s p : ℕ) (other : Choice) → EndsInBitmap s ws → Follows (apply_choice other (record { run = Bitmap s; words = ws })) → Follows (apply_choice (last_bit_or o other) (record { run = Bitmap s; words = ws }))
 follows_joins (Some i) ws s p other e h = record { front = e.front; word = with_bit i e.word; is = ap (λ (vs : List ℕ). with_last_bit i vs) e.is ∙ with_last_bit-push i e.front e.word; starts = e.starts; odd = with_bit-odd i e.word e.odd }
 follows_joins None ws s p other e h = h
 
-follows_run : (r : Run) (ws : List ℕ) (p : ℕ) → FollowsRun r ws → p % 2 ≡ 0 → Follows (chosen (choice r p) (record { run = r; words = ws }))
+follows_run : (r : Run) (ws : List ℕ) (p : ℕ) → FollowsRun r ws → p % 2 ≡ 0 → Follows (apply_choice (choice r p) (record { run = r; words = ws }))
 unfolding choice
 follows_run Closed ws p f h = Follows-address ws p h
 follows_run (Address a) ws p f h = follows_opens (slot (a + 8) p) (Address a) ws (a + 8) p (starts p) f (Follows-address ws p h)

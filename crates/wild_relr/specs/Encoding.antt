@@ -53,13 +53,13 @@ with_last_bit i [] = []
 with_last_bit i (w ∷ []) = with_bit i w ∷ []
 with_last_bit i (w ∷ v ∷ ws) = w ∷ with_last_bit i (v ∷ ws)
 
-abbrev pub chosen : Choice → State → State
-chosen (Joins i) s = record { run = s.run; words = with_last_bit i s.words }
-chosen (Adds w r) s = record { run = r; words = s.words ++ w ∷ [] }
+abbrev pub apply_choice : Choice → State → State
+apply_choice (Joins i) s = record { run = s.run; words = with_last_bit i s.words }
+apply_choice (Adds w r) s = record { run = r; words = s.words ++ w ∷ [] }
 
 -- the state after one more place
 abbrev pub after : State → ℕ → State
-after s place = chosen (choice s.run place) s
+after s place = apply_choice (choice s.run place) s
 
 -- the last word is a bitmap whose window begins at start
 pub record EndsInBitmap (start : ℕ) (ws : List ℕ) : Type 0 where

@@ -32,7 +32,7 @@ use Rattle.wild_layout.specs.SlotValues.{symbol_is_ifunc, address_of}
 use Rattle.wild_layout.specs.Merged.{is_section_symbol, strings_in, strings_of_symbol, is_plain_own, merged_strings, names_merged, address_for}
 use Rattle.wild_reloc.specs.declared.expression.Term.TheVariants as terms
 use Rattle.wild_types.specs.declared.fault.Fault.TheVariants as faults
-use Rattle.wild_layout.specs.Values.{is_own_place, undefined_weak_target, term_by, term_at}
+use Rattle.wild_layout.specs.Values.{weak_resolves_to_place, undefined_weak_target, term_by, term_at}
 use Rattle.wild_layout.specs.Decide.{field_for, field_or_thunk, decided}
 use Rattle.wild_layout.proofs.MergedLemmas.{address_plain}
 use Rattle.wild_sections.specs.DefiningFiles.{layout_needs_owner_files}
@@ -137,7 +137,7 @@ unfolding row_of x86_64_row
 known_row m n x86 number = rw (x86, number) refl
 
 near_term : (l : Layout) (r : InputRelocation) (p a : ℕ) → l.machine ≡ machine.X86_64 → address_for l r ≡ Ok a → term_at l r near_row p ≡ Ok a
-near_term l r p a x86 is = ap (λ (m : Machine). if is_own_place m l r near_row then Ok (undefined_weak_target r.number p) else term_by l r terms.Symbol) x86 ∙ is
+near_term l r p a x86 is = ap (λ (m : Machine). if weak_resolves_to_place m l r near_row then Ok (undefined_weak_target r.number p) else term_by l r terms.Symbol) x86 ∙ is
 
 near_reached : (l : Layout) (s : Item) (r : InputRelocation) (v : ℕ) → contains (of_bits 32 Signed) v ≡ true → field_or_thunk l s r near_row v ≡ Ok (Field (ByteSize Four) v)
 unfolding field_or_thunk

@@ -2,7 +2,7 @@
 //! Table (GOT)").
 ghost use Rattle.std.specs.Prelude.{◌≡◌};
 ghost use Rattle.wild_layout.specs.SymbolValues.{resolved_address};
-ghost use Rattle.wild_layout.specs.SlotValues.{resolution_of, index_of, decided_address, stub_of, symbol_is_ifunc, stub_address, has_second_slot, after_word, after_pair, slot_among, slot_decided, slot_of, slot_address};
+ghost use Rattle.wild_layout.specs.SlotValues.{resolution_of, index_of, decided_address, stub_of, symbol_is_ifunc, stub_address, has_second_slot, after_word, after_pair, slot_from_first, slot_in_resolution, slot_of, slot_address};
 
 use wild_reloc::SlotSort;
 use wild_slot::{flags_at, next_word};
@@ -108,29 +108,29 @@ fn after_pair(pair: bool, place: u64) -> u64
 
 /// The address of the GOT entry of a sort, for a symbol with these flags whose first GOT entry is at `first`. Thread-local entries are
 /// in this order: offset (one word), pair (two), descriptor (two).
-fn slot_among(sort: SlotSort, flags: ValueFlags, first: u64) -> Option<u64>
-    ensures { result ≡ slot_among sort flags first }
+fn slot_from_first(sort: SlotSort, flags: ValueFlags, first: u64) -> Option<u64>
+    ensures { result ≡ slot_from_first sort flags first }
 {
     let offset = flags.needs_got_tls_offset();
     let module = flags.needs_got_tls_module();
     match sort {
-        SlotSort::Offset if offset => Some(first),
-        SlotSort::Pair if module => Some(after_word(offset, first)),
-        SlotSort::Descriptor if flags.needs_got_tls_descriptor() => {
+        SlotSort::TpOff if offset => Some(first),
+        SlotSort::TlsGd if module => Some(after_word(offset, first)),
+        SlotSort::TlsDesc if flags.needs_got_tls_descriptor() => {
             Some(after_pair(module, after_word(offset, first)))
         }
-        SlotSort::Offset | SlotSort::Pair | SlotSort::Descriptor => None,
+        SlotSort::TpOff | SlotSort::TlsGd | SlotSort::TlsDesc => None,
         _ if has_thread_slot(flags) => None,
         _ => Some(after_word(has_second_slot(flags), first)),
     }
 }
 
 /// The address of the GOT entry of a sort, by a resolution.
-fn slot_decided(sort: SlotSort, resolution: Option<Resolution>) -> Option<u64>
-    ensures { result ≡ slot_decided sort resolution }
+fn slot_in_resolution(sort: SlotSort, resolution: Option<Resolution>) -> Option<u64>
+    ensures { result ≡ slot_in_resolution sort resolution }
 {
     let resolution = resolution?;
-    slot_among(sort, resolution.flags, resolution.got_address?)
+    slot_from_first(sort, resolution.flags, resolution.got_address?)
 }
 
 /// The address of the symbol's GOT entry of a sort. The pair for the output's own thread-local data exists once, for all symbols.
@@ -138,8 +138,8 @@ fn slot_of(layout: &Layout, sort: SlotSort, symbol: SymbolIndex) -> Option<u64>
     ensures { result ≡ slot_of layout.now sort symbol }
 {
     match sort {
-        SlotSort::OwnPair => layout.tlsld,
-        _ => slot_decided(sort, resolution_of(layout, symbol)),
+        SlotSort::TlsLd => layout.tlsld,
+        _ => slot_in_resolution(sort, resolution_of(layout, symbol)),
     }
 }
 

@@ -2,7 +2,7 @@
 ghost use Rattle.std.specs.Prelude.{◌≡◌};
 ghost use Rattle.wild_layout.specs.SymbolValues.{sum, displacement, minus, storage_start, is_undefined, symbol_size, raw_address};
 ghost use Rattle.wild_layout.specs.SlotValues.{address_of};
-ghost use Rattle.wild_layout.specs.Values.{offset_from, pointer_offset, size_of, term_value, value_less, term_by, value_in, is_absent, is_place, is_symbol, is_own_place, undefined_weak_target, term_at};
+ghost use Rattle.wild_layout.specs.Values.{offset_from, pointer_offset, size_of, term_value, subtract, term_by, value_in, is_undefined_weak_without_stub, subtracts_place, adds_symbol, weak_resolves_to_place, undefined_weak_target, term_at};
 ghost use Rattle.wild_layout.specs.Merged.{merged_byte, address_for};
 ghost use Rattle.wild_layout.specs.RelativeRelocations.{value_or_0, relative_value};
 
@@ -61,7 +61,7 @@ fn merged_byte(layout: &Layout, symbol: SymbolIndex, relocation: &InputRelocatio
 /// that S + A is the address.
 #[inline(never)]
 #[tactic(auto, unfolding(wild_layout::specs::Merged::address_for))]
-fn address_among<A: Arch>(
+fn address_with_merged_strings<A: Arch>(
     resolved: &Resolved<A>,
     relocation: &InputRelocation,
 ) -> Result<u64, Fault>
@@ -90,7 +90,7 @@ pub fn address_for<A: Arch>(
     ensures { result ≡ address_for resolved.now.layout.now relocation.now }
 {
     if resolved.has_strings() {
-        address_among(resolved, relocation)
+        address_with_merged_strings(resolved, relocation)
     } else {
         address_of(resolved, relocation.symbol)
     }
@@ -222,7 +222,7 @@ fn term_value<A: Arch>(
     ensures { result ≡ term_value resolved.now.layout.now symbol term }
 {
     match term {
-        Term::Table => Ok(resolved.layout.got_base),
+        Term::GotBase => Ok(resolved.layout.got_base),
         Term::Size => Ok(size_of(resolved.layout, symbol)),
         Term::PointerOffset => pointer_offset(resolved, symbol),
         Term::ModuleOffset => {
@@ -254,15 +254,15 @@ fn term_by<A: Arch>(
 
 /// The term plus A, minus what the formula subtracts (P, GOT, or a page).
 #[inline]
-fn value_less(layout: &Layout, taken: Subtrahend, term: u64, addend: i64, place: u64) -> u64
-    ensures { result ≡ value_less layout.now taken term addend place }
+fn subtract(layout: &Layout, subtrahend: Subtrahend, term: u64, addend: i64, place: u64) -> u64
+    ensures { result ≡ subtract layout.now subtrahend term addend place }
 {
-    match taken {
+    match subtrahend {
         Subtrahend::Nothing => sum(term, addend),
         Subtrahend::Place => displacement(term, addend, place),
-        Subtrahend::Table => displacement(term, addend, layout.got_base),
-        Subtrahend::PagePlace => minus(page_of(sum(term, addend)), page_of(place)),
-        Subtrahend::PageTable => displacement(term, addend, page_of(layout.got_base)),
+        Subtrahend::GotBase => displacement(term, addend, layout.got_base),
+        Subtrahend::PageOfPlace => minus(page_of(sum(term, addend)), page_of(place)),
+        Subtrahend::PageOfGot => displacement(term, addend, page_of(layout.got_base)),
     }
 }
 
@@ -277,12 +277,12 @@ pub(crate) fn value_in(
 ) -> u64
     ensures { result ≡ value_in layout.now row.now term addend place }
 {
-    value_less(layout, row.taken(), term, addend, place)
+    subtract(layout, row.subtrahend(), term, addend, place)
 }
 
 /// Whether the symbol is weak and undefined, and has no PLT stub that another module's definition might serve.
-fn is_absent(layout: &Layout, symbol: Option<SymbolIndex>) -> bool
-    ensures { result ≡ is_absent layout.now symbol }
+fn is_undefined_weak_without_stub(layout: &Layout, symbol: Option<SymbolIndex>) -> bool
+    ensures { result ≡ is_undefined_weak_without_stub layout.now symbol }
 {
     let Some(symbol) = symbol else {
         return false;
@@ -292,30 +292,34 @@ fn is_absent(layout: &Layout, symbol: Option<SymbolIndex>) -> bool
 }
 
 /// Whether the formula subtracts P, or its page.
-fn is_place(taken: Subtrahend) -> bool
-    ensures { result ≡ is_place taken }
+fn subtracts_place(subtrahend: Subtrahend) -> bool
+    ensures { result ≡ subtracts_place subtrahend }
 {
-    matches!(taken, Subtrahend::Place | Subtrahend::PagePlace)
+    matches!(subtrahend, Subtrahend::Place | Subtrahend::PageOfPlace)
 }
 
 /// Whether A is added to S or L.
-fn is_symbol(term: Term) -> bool
-    ensures { result ≡ is_symbol term }
+fn adds_symbol(term: Term) -> bool
+    ensures { result ≡ adds_symbol term }
 {
     matches!(term, Term::Symbol | Term::Stub)
 }
 
 /// Whether an undefined weak symbol resolves to the place itself (AArch64).
 #[inline]
-fn is_own_place(layout: &Layout, relocation: &InputRelocation, row: &RelocationKindInfo) -> bool
-    ensures { result ≡ is_own_place layout.now.machine layout.now relocation.now row.now }
+fn weak_resolves_to_place(
+    layout: &Layout,
+    relocation: &InputRelocation,
+    row: &RelocationKindInfo,
+) -> bool
+    ensures { result ≡ weak_resolves_to_place layout.now.machine layout.now relocation.now row.now }
 {
     match layout.machine {
         Machine::X86_64 => false,
         Machine::AArch64 => {
-            is_symbol(row.kind.expression().term)
-                && is_place(row.taken())
-                && is_absent(layout, relocation.symbol)
+            adds_symbol(row.kind.expression().term)
+                && subtracts_place(row.subtrahend())
+                && is_undefined_weak_without_stub(layout, relocation.symbol)
         }
     }
 }
@@ -337,7 +341,7 @@ pub(crate) fn term_at<A: Arch>(
 ) -> Result<u64, Fault>
     ensures { result ≡ term_at resolved.now.layout.now relocation.now row.now place }
 {
-    if is_own_place(resolved.layout, relocation, row) {
+    if weak_resolves_to_place(resolved.layout, relocation, row) {
         Ok(undefined_weak_target(relocation.number, place))
     } else {
         term_by(resolved, relocation, row.kind.expression().term)

@@ -182,13 +182,13 @@ run_indexes (c ∷ cs) w local = index_next cs local c w (has_room c w) (is_in_l
 -- ---- prefixes
 
 abbrev less_symbols : ℕ → Symbols → Symbols
-less_symbols k t = record t { room = t.room - k; behind = t.behind + k }
+less_symbols k t = record t { room = t.room - k; reserved = t.reserved + k }
 
 abbrev less_indexes : ℕ → Indexes → Indexes
-less_indexes k t = record t { room = t.room - k; behind = t.behind + k }
+less_indexes k t = record t { room = t.room - k; reserved = t.reserved + k }
 
 abbrev less_strings : ℕ → Strings → Strings
-less_strings k t = record t { room = t.room - k; behind = t.behind + k }
+less_strings k t = record t { room = t.room - k; reserved = t.reserved + k }
 
 -- the writer without so much room
 abbrev limited : ReservedBytes → SymbolTableWriter → SymbolTableWriter
@@ -203,12 +203,12 @@ limited k w = record {
 front-less : (n : ℕ) (t : Symbols) → symbols_used t + 24 * n ≤ t.room → front_symbols n t ≡ less_symbols (kept_symbols n t) t
 front-less n t h =
     let e : symbols_used t + 24 * n ≡ t.room - (t.room - (symbols_used t + 24 * n)) = omega (arith, h) in
-    ap (λ (r : ℕ). record t { room = r; behind = t.behind + kept_symbols n t }) e
+    ap (λ (r : ℕ). record t { room = r; reserved = t.reserved + kept_symbols n t }) e
 
 front_indexes-less : (n : ℕ) (t : Indexes) → length t.bytes + indexes_room n t ≤ t.room → front_indexes n t ≡ less_indexes (kept_indexes n t) t
 front_indexes-less n t h =
     let e : length t.bytes + indexes_room n t ≡ t.room - (t.room - (length t.bytes + indexes_room n t)) = omega (arith, h) in
-    ap (λ (r : ℕ). record t { room = r; behind = t.behind + kept_indexes n t }) e
+    ap (λ (r : ℕ). record t { room = r; reserved = t.reserved + kept_indexes n t }) e
 
 no_room : (each : Bool) → (if each then 4 * 0 else 0) ≡ 0
 no_room true = refl
@@ -217,7 +217,7 @@ no_room false = refl
 front_strings-less : (m : ℕ) (t : Strings) → length t.bytes + m ≤ t.room → front_strings m t ≡ less_strings (kept_strings m t) t
 front_strings-less m t h =
     let e : length t.bytes + m ≡ t.room - (t.room - (length t.bytes + m)) = omega (arith, h) in
-    ap (λ (r : ℕ). record t { room = r; behind = t.behind + kept_strings m t }) e
+    ap (λ (r : ℕ). record t { room = r; reserved = t.reserved + kept_strings m t }) e
 
 -- three tests that find room
 record AllFit (a b c : Bool) : Type 0 where
@@ -309,21 +309,21 @@ strings_room_after (c ∷ cs) w = strings_room_after cs (after_call_if (has_room
 
 with_reserved_room-less : (k : ℕ) (t : Symbols) → k ≤ t.room → symbols_joined k (less_symbols k t) ≡ t
 with_reserved_room-less k t h =
-    let e : t.room - k + min k (t.behind + k) ≡ t.room = omega (arith, h) in
-    let f : t.behind + k - min k (t.behind + k) ≡ t.behind = omega arith in
-    ap (λ (r : ℕ). record t { room = r; behind = t.behind + k - min k (t.behind + k) }) e ∙ ap (λ (b : ℕ). record t { behind = b }) f
+    let e : t.room - k + min k (t.reserved + k) ≡ t.room = omega (arith, h) in
+    let f : t.reserved + k - min k (t.reserved + k) ≡ t.reserved = omega arith in
+    ap (λ (r : ℕ). record t { room = r; reserved = t.reserved + k - min k (t.reserved + k) }) e ∙ ap (λ (b : ℕ). record t { reserved = b }) f
 
 indexes_joined-less : (k : ℕ) (t : Indexes) → k ≤ t.room → indexes_joined k (less_indexes k t) ≡ t
 indexes_joined-less k t h =
-    let e : t.room - k + min k (t.behind + k) ≡ t.room = omega (arith, h) in
-    let f : t.behind + k - min k (t.behind + k) ≡ t.behind = omega arith in
-    ap (λ (r : ℕ). record t { room = r; behind = t.behind + k - min k (t.behind + k) }) e ∙ ap (λ (b : ℕ). record t { behind = b }) f
+    let e : t.room - k + min k (t.reserved + k) ≡ t.room = omega (arith, h) in
+    let f : t.reserved + k - min k (t.reserved + k) ≡ t.reserved = omega arith in
+    ap (λ (r : ℕ). record t { room = r; reserved = t.reserved + k - min k (t.reserved + k) }) e ∙ ap (λ (b : ℕ). record t { reserved = b }) f
 
 strings_joined-less : (k : ℕ) (t : Strings) → k ≤ t.room → strings_joined k (less_strings k t) ≡ t
 strings_joined-less k t h =
-    let e : t.room - k + min k (t.behind + k) ≡ t.room = omega (arith, h) in
-    let f : t.behind + k - min k (t.behind + k) ≡ t.behind = omega arith in
-    ap (λ (r : ℕ). record t { room = r; behind = t.behind + k - min k (t.behind + k) }) e ∙ ap (λ (b : ℕ). record t { behind = b }) f
+    let e : t.room - k + min k (t.reserved + k) ≡ t.room = omega (arith, h) in
+    let f : t.reserved + k - min k (t.reserved + k) ≡ t.reserved = omega arith in
+    ap (λ (r : ℕ). record t { room = r; reserved = t.reserved + k - min k (t.reserved + k) }) e ∙ ap (λ (b : ℕ). record t { reserved = b }) f
 
 with_reserved_room-limited : (k : ReservedBytes) (w : SymbolTableWriter) → k.locals ≤ w.locals.room → k.globals ≤ w.globals.room → k.local_indexes ≤ w.local_indexes.room → k.global_indexes ≤ w.global_indexes.room → k.strings ≤ w.strtab.room → with_reserved_room k (limited k w) ≡ w
 with_reserved_room-limited k w l g x y s =

@@ -20,16 +20,16 @@ pub record Indexes : Type 0 where
   pub group : ℕ
   pub bytes : List ℕ
   pub room : ℕ
-  pub behind : ℕ
+  pub reserved : ℕ
   pub each : Bool
 
 abbrev pub indexes_in : ℕ → ℕ → List ℕ → ℕ → ℕ → Bool → Indexes
-indexes_in part group bytes used behind each =
-    record { part = part; group = group; bytes = take used bytes; room = length bytes - behind; behind = behind; each = each }
+indexes_in part group bytes used reserved each =
+    record { part = part; group = group; bytes = take used bytes; room = length bytes - reserved; reserved = reserved; each = each }
 
 -- the indexes and the reserved bytes fit in the share
-pub record IsIndexes (bytes : List ℕ) (used behind : ℕ) : Type 0 where
-  pub fits : used + behind ≤ length bytes
+pub record IsIndexes (bytes : List ℕ) (used reserved : ℕ) : Type 0 where
+  pub fits : used + reserved ≤ length bytes
 
 -- the symbol has an extended index
 abbrev pub has_index : Bool → ℕ → Bool
@@ -79,8 +79,8 @@ kept_indexes n t = t.room - (length t.bytes + indexes_room n t)
 
 -- the same indexes, with room for those of n more symbols only
 abbrev pub front_indexes : ℕ → Indexes → Indexes
-front_indexes n t = record t { room = length t.bytes + indexes_room n t; behind = t.behind + kept_indexes n t }
+front_indexes n t = record t { room = length t.bytes + indexes_room n t; reserved = t.reserved + kept_indexes n t }
 
 -- the same indexes, with k of the reserved bytes usable again
 abbrev pub indexes_joined : ℕ → Indexes → Indexes
-indexes_joined k t = record t { room = t.room + min k t.behind; behind = t.behind - min k t.behind }
+indexes_joined k t = record t { room = t.room + min k t.reserved; reserved = t.reserved - min k t.reserved }

@@ -50,11 +50,11 @@ strtab_start l group = strtab_start_of (slice_get l.groups group)
 
 -- an empty symbol table for a share of the part with a role
 abbrev pub symbols_with : Layout → ℕ → Role → ℕ → Symbols
-symbols_with l group r room = record { part = part_of l r; group = group; symbols = []; room = room; behind = 0 }
+symbols_with l group r room = record { part = part_of l r; group = group; symbols = []; room = room; reserved = 0 }
 
 -- an empty table of extended section indexes
 abbrev pub indexes_with : Layout → ℕ → Role → ℕ → Bool → Indexes
-indexes_with l group r room each = record { part = part_of l r; group = group; bytes = []; room = room; behind = 0; each = each }
+indexes_with l group r room each = record { part = part_of l r; group = group; bytes = []; room = room; reserved = 0; each = each }
 
 -- empty tables; a dynamic one has no room for local symbols, nor for extended section indexes
 abbrev pub no_dynamic_symbols : Layout → ℕ → SymbolTableWriter
@@ -63,7 +63,7 @@ no_dynamic_symbols l group = record {
   globals = symbols_with l group role.Dynsym (share_of l group role.Dynsym);
   local_indexes = indexes_with l group role.SymtabShndxLocal 0 false;
   global_indexes = indexes_with l group role.SymtabShndxGlobal 0 false;
-  strtab = record { part = part_of l role.Dynstr; group = group; start = dynstr_start l group; bytes = []; room = share_of l group role.Dynstr; behind = 0 };
+  strtab = record { part = part_of l role.Dynstr; group = group; start = dynstr_start l group; bytes = []; room = share_of l group role.Dynstr; reserved = 0 };
 }
 
 -- empty tables; every symbol has an extended section index if the layout has a table of them
@@ -73,7 +73,7 @@ no_symbols l group = record {
   globals = symbols_with l group role.SymtabGlobal (share_of l group role.SymtabGlobal);
   local_indexes = indexes_with l group role.SymtabShndxLocal (share_of l group role.SymtabShndxLocal) (has_long l role.SymtabShndxLocal);
   global_indexes = indexes_with l group role.SymtabShndxGlobal (share_of l group role.SymtabShndxGlobal) (has_long l role.SymtabShndxGlobal);
-  strtab = record { part = part_of l role.Strtab; group = group; start = strtab_start l group; bytes = []; room = share_of l group role.Strtab; behind = 0 };
+  strtab = record { part = part_of l role.Strtab; group = group; start = strtab_start l group; bytes = []; room = share_of l group role.Strtab; reserved = 0 };
 }
 
 -- ---- one symbol

@@ -18,7 +18,7 @@ pub struct IndexTable {
     group: usize,
     share: Vec<u8>,
     used: usize,
-    behind: usize,
+    reserved: usize,
     each: bool,
 }
 
@@ -27,9 +27,9 @@ impl Model for IndexTable {
 
     ghost Value = { Indexes };
 
-    ghost view = { λ t. indexes_in t.part t.group t.share.items t.used t.behind t.each };
+    ghost view = { λ t. indexes_in t.part t.group t.share.items t.used t.reserved t.each };
 
-    ghost invariant = { λ t. IsIndexes t.share.items t.used t.behind };
+    ghost invariant = { λ t. IsIndexes t.share.items t.used t.reserved };
 }
 
 impl IndexTable {
@@ -41,14 +41,14 @@ impl IndexTable {
         room: usize,
         each: bool,
     ) -> Result<Self, AllocError>
-        ensures { IfOk result (λ t. t ≡ record { part = part; group = group; bytes = []; room = room; behind = 0; each = each }) }
+        ensures { IfOk result (λ t. t ≡ record { part = part; group = group; bytes = []; room = room; reserved = 0; each = each }) }
     {
         Ok(IndexTable {
             part,
             group,
             share: vec![in alloc; 0; room]?,
             used: 0,
-            behind: 0,
+            reserved: 0,
             each,
         })
     }
@@ -72,7 +72,7 @@ impl IndexTable {
     fn room(&self) -> usize
         ensures { result ≡ self.now.room }
     {
-        self.share.len() - self.behind
+        self.share.len() - self.reserved
     }
 
     /// The number of bytes of all indexes with that of one more symbol.
@@ -162,8 +162,8 @@ impl IndexTable {
         ensures front { self.new ≡ front_indexes count self.old }
         ensures kept { result ≡ kept_indexes count self.old }
     {
-        let kept = self.share.len() - self.behind - (self.used + self.room_of(count));
-        self.behind += kept;
+        let kept = self.share.len() - self.reserved - (self.used + self.room_of(count));
+        self.reserved += kept;
         kept
     }
 
@@ -181,13 +181,13 @@ impl IndexTable {
     pub(crate) fn join(&mut self, kept: usize)
         ensures { self.new ≡ indexes_joined kept self.old }
     {
-        self.behind -= kept.min(self.behind);
+        self.reserved -= kept.min(self.reserved);
     }
 
     /// The bytes of the share: those of the indexes, then the unwritten rest.
     pub fn bytes(&self) -> &[u8]
         ensures written { take (length self.now.bytes) result.now ≡ self.now.bytes }
-        ensures room { length result.now ≡ self.now.room + self.now.behind }
+        ensures room { length result.now ≡ self.now.room + self.now.reserved }
     {
         self.share.as_slice()
     }

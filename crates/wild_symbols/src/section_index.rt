@@ -14,7 +14,7 @@ use wild_types::{File, InputSection, Layout, Place, Symbol};
 use wild_words::Sink;
 
 /// The number plus 1. Fails on overflow, since no memory could hold so many entries.
-fn behind(number: usize) -> Result<usize, AllocError>
+fn next_number(number: usize) -> Result<usize, AllocError>
     ensures { IfOk result (λ n. n ≡ number + 1) }
 {
     number.checked_add(1).ok_or(AllocError)
@@ -43,7 +43,7 @@ impl SectionTable {
         ensures numbers { self.new.numbers ≡ self.old.numbers }
         ensures next { IfOk result (λ u. self.new.next ≡ self.old.next + 1) }
     {
-        self.next = behind(self.next)?;
+        self.next = next_number(self.next)?;
         Ok(())
     }
 }
@@ -90,7 +90,7 @@ impl SectionSearch {
         ensures next { IfOk result (λ u. self.new.next ≡ self.old.next + 1) }
     {
         self.found = found;
-        self.next = behind(self.next)?;
+        self.next = next_number(self.next)?;
         Ok(())
     }
 }
@@ -117,7 +117,7 @@ fn flagged_numbers(
     layout: &Layout,
 ) -> Result<(Vec<Option<usize>>, usize), AllocError>
     ensures numbers { IfOk result (λ r. HasFlaggedNumbers layout.now r.0.items) }
-    ensures behind { IfOk result (λ r. r.1 ≡ 1 + length (marked_sections 0 layout.now.sections)) }
+    ensures next { IfOk result (λ r. r.1 ≡ 1 + length (marked_sections 0 layout.now.sections)) }
 {
     let sections = layout.sections.as_slice();
     let mut table = SectionTable {
@@ -136,7 +136,7 @@ fn singleton_numbers(
     front: usize,
 ) -> Result<(Vec<Option<usize>>, usize), AllocError>
     ensures numbers { IfOk result (λ r. HasSingletonNumbers layout.now front r.0.items) }
-    ensures behind { IfOk result (λ r. r.1 ≡ front + length (singleton_sections layout.now)) }
+    ensures next { IfOk result (λ r. r.1 ≡ front + length (singleton_sections layout.now)) }
 {
     let mut table = SectionTable {
         numbers: vec![in alloc; None; layout.sections.len()]?,
@@ -150,14 +150,14 @@ fn singleton_numbers(
 #[derive(Drop)]
 pub(crate) struct SectionNumbers<'a> {
     pub(crate) layout: &'a Layout,
-    asked: Vec<Option<usize>>,
-    alone: Vec<Option<usize>>,
-    front: usize,
-    behind: usize,
-    ghost asked_are: { HasFlaggedNumbers layout.now asked.items },
-    ghost front_is: { front ≡ 1 + length (marked_sections 0 layout.now.sections) },
-    ghost alone_are: { HasSingletonNumbers layout.now front alone.items },
-    ghost behind_is: { behind ≡ front + length (singleton_sections layout.now) },
+    flagged: Vec<Option<usize>>,
+    singletons: Vec<Option<usize>>,
+    first_singleton: usize,
+    first_after_singletons: usize,
+    ghost flagged_are: { HasFlaggedNumbers layout.now flagged.items },
+    ghost first_singleton_is: { first_singleton ≡ 1 + length (marked_sections 0 layout.now.sections) },
+    ghost singletons_are: { HasSingletonNumbers layout.now first_singleton singletons.items },
+    ghost first_after_is: { first_after_singletons ≡ first_singleton + length (singleton_sections layout.now) },
 }
 
 impl<'a> SectionNumbers<'a> {
@@ -165,14 +165,18 @@ impl<'a> SectionNumbers<'a> {
     pub(crate) fn of(alloc: Global, layout: &'a Layout) -> Result<SectionNumbers<'a>, AllocError>
         ensures { IfOk result (λ n. n.layout.now ≡ layout.now) }
     {
-        let (asked, front) = flagged_numbers(alloc, layout)?;
-        let (alone, behind) = singleton_numbers(alloc, layout, front)?;
+        let (flagged, first_singleton) = flagged_numbers(alloc, layout)?;
+        let (singletons, first_after_singletons) = singleton_numbers(
+            alloc,
+            layout,
+            first_singleton,
+        )?;
         Ok(SectionNumbers {
             layout,
-            asked,
-            alone,
-            front,
-            behind,
+            flagged,
+            singletons,
+            first_singleton,
+            first_after_singletons,
         })
     }
 
@@ -182,7 +186,7 @@ impl<'a> SectionNumbers<'a> {
         ensures { result ≡ front_count self.now.layout.now }
     {
         if self.layout.kind.is_partial_link() {
-            self.behind
+            self.first_after_singletons
         } else {
             1
         }
@@ -193,7 +197,7 @@ impl<'a> SectionNumbers<'a> {
     fn flagged_number(&self, header: usize) -> Option<usize>
         ensures { result ≡ number_from header 1 (marked_sections 0 self.now.layout.now.sections) }
     {
-        match self.asked.get(header) {
+        match self.flagged.get(header) {
             Some(number) => *number,
             None => None,
         }
@@ -202,12 +206,12 @@ impl<'a> SectionNumbers<'a> {
     /// The symbol index of a section that the object keeps as one of its own, found by a walk over all of them.
     #[tactic(auto, using(crate::proofs::NumberLemmas::sought))]
     fn sought_number(&self, header: usize) -> Result<Option<usize>, AllocError>
-        ensures { IfOk result (λ n. n ≡ number_from header self.now.front (singleton_sections self.now.layout.now)) }
+        ensures { IfOk result (λ n. n ≡ number_from header self.now.first_singleton (singleton_sections self.now.layout.now)) }
     {
         let mut search = SectionSearch {
             header,
             found: None,
-            next: self.front,
+            next: self.first_singleton,
         };
         give_singletons(self.layout, &mut search)?;
         Ok(search.found)
@@ -216,9 +220,9 @@ impl<'a> SectionNumbers<'a> {
     /// The same from the table. Only for a header index that is not in the table a walk is needed.
     #[tactic(auto, using(crate::proofs::NumberLemmas::alone_looked_up))]
     fn singleton_number(&self, header: usize) -> Result<Option<usize>, AllocError>
-        ensures { IfOk result (λ n. n ≡ number_from header self.now.front (singleton_sections self.now.layout.now)) }
+        ensures { IfOk result (λ n. n ≡ number_from header self.now.first_singleton (singleton_sections self.now.layout.now)) }
     {
-        match self.alone.get(header) {
+        match self.singletons.get(header) {
             Some(number) => Ok(*number),
             None => self.sought_number(header),
         }

@@ -17,7 +17,7 @@ pub struct StrTabWriter {
     start: u32,
     share: Vec<u8>,
     used: usize,
-    behind: usize,
+    reserved: usize,
 }
 
 impl Model for StrTabWriter {
@@ -25,9 +25,9 @@ impl Model for StrTabWriter {
 
     ghost Value = { Strings };
 
-    ghost view = { λ t. strings_in t.part t.group t.start t.share.items t.used t.behind };
+    ghost view = { λ t. strings_in t.part t.group t.start t.share.items t.used t.reserved };
 
-    ghost invariant = { λ t. IsStrings t.start t.share.items t.used t.behind };
+    ghost invariant = { λ t. IsStrings t.start t.share.items t.used t.reserved };
 }
 
 /// Writes a string, given in two pieces, and its zero at an offset.
@@ -51,7 +51,7 @@ impl StrTabWriter {
         room: usize,
     ) -> Result<Self, AllocError>
         requires { start + room < 2 ^ 32 }
-        ensures { IfOk result (λ t. t ≡ record { part = part; group = group; start = start; bytes = []; room = room; behind = 0 }) }
+        ensures { IfOk result (λ t. t ≡ record { part = part; group = group; start = start; bytes = []; room = room; reserved = 0 }) }
     {
         Ok(StrTabWriter {
             part,
@@ -59,7 +59,7 @@ impl StrTabWriter {
             start,
             share: vec![in alloc; 0; room]?,
             used: 0,
-            behind: 0,
+            reserved: 0,
         })
     }
 
@@ -114,7 +114,7 @@ impl StrTabWriter {
     fn room(&self) -> usize
         ensures { result ≡ self.now.room }
     {
-        self.share.len() - self.behind
+        self.share.len() - self.reserved
     }
 
     /// Checks that `bytes` more bytes fit.
@@ -139,8 +139,8 @@ impl StrTabWriter {
         ensures front { self.new ≡ front_strings bytes self.old }
         ensures kept { result ≡ kept_strings bytes self.old }
     {
-        let kept = self.share.len() - self.behind - (self.used + bytes as usize);
-        self.behind += kept;
+        let kept = self.share.len() - self.reserved - (self.used + bytes as usize);
+        self.reserved += kept;
         kept
     }
 
@@ -148,13 +148,13 @@ impl StrTabWriter {
     pub(crate) fn join(&mut self, kept: usize)
         ensures { self.new ≡ strings_joined kept self.old }
     {
-        self.behind -= kept.min(self.behind);
+        self.reserved -= kept.min(self.reserved);
     }
 
     /// The bytes of the share: those of the strings, then the unwritten rest.
     pub fn bytes(&self) -> &[u8]
         ensures written { take (length self.now.bytes) result.now ≡ self.now.bytes }
-        ensures room { length result.now ≡ self.now.room + self.now.behind }
+        ensures room { length result.now ≡ self.now.room + self.now.reserved }
     {
         self.share.as_slice()
     }

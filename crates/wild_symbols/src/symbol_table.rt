@@ -19,7 +19,7 @@ pub struct SymbolTable {
     group: usize,
     share: Vec<u8>,
     count: usize,
-    behind: usize,
+    reserved: usize,
 }
 
 impl Model for SymbolTable {
@@ -27,9 +27,9 @@ impl Model for SymbolTable {
 
     ghost Value = { Symbols };
 
-    ghost view = { λ t. symbols_of t.part t.group t.share.items t.count t.behind };
+    ghost view = { λ t. symbols_of t.part t.group t.share.items t.count t.reserved };
 
-    ghost invariant = { λ t. IsSymbols t.share.items t.count t.behind };
+    ghost invariant = { λ t. IsSymbols t.share.items t.count t.reserved };
 }
 
 impl SymbolTable {
@@ -41,14 +41,14 @@ impl SymbolTable {
         group: usize,
         room: usize,
     ) -> Result<Self, AllocError>
-        ensures { IfOk result (λ t. t ≡ record { part = part; group = group; symbols = []; room = room; behind = 0 }) }
+        ensures { IfOk result (λ t. t ≡ record { part = part; group = group; symbols = []; room = room; reserved = 0 }) }
     {
         Ok(SymbolTable {
             part,
             group,
             share: vec![in alloc; 0; room]?,
             count: 0,
-            behind: 0,
+            reserved: 0,
         })
     }
 
@@ -65,7 +65,7 @@ impl SymbolTable {
     fn room(&self) -> usize
         ensures { result ≡ self.now.room }
     {
-        self.share.len() - self.behind
+        self.share.len() - self.reserved
     }
 
     /// Checks that one more symbol fits.
@@ -95,7 +95,7 @@ impl SymbolTable {
         requires { symbols_used self.old + symtab_entry_size ≤ self.old.room }
         ensures { self.new ≡ with_entry entry self.old }
     {
-        let left = self.share.len() - self.behind - SymtabEntry::SIZE * self.count;
+        let left = self.share.len() - self.reserved - SymtabEntry::SIZE * self.count;
         prove!(SymtabEntry::SIZE <= left);
         add_entry(self.share.as_mut_slice(), self.count, entry);
         self.count += 1;
@@ -125,7 +125,7 @@ impl SymbolTable {
     pub(crate) fn check_entries(&self, count: u32) -> Result<(), Error>
         ensures { result ≡ room_for_entries count self.now }
     {
-        let given = self.share.len() - self.behind;
+        let given = self.share.len() - self.reserved;
         let needed = self.used() + SymtabEntry::SIZE * count as usize;
         if given < needed {
             return Err(insufficient(self.part, self.group, given as u64, needed as u64));
@@ -141,8 +141,8 @@ impl SymbolTable {
         ensures kept { result ≡ kept_symbols count self.old }
     {
         let front = SymtabEntry::SIZE * self.count + SymtabEntry::SIZE * count as usize;
-        let kept = self.share.len() - self.behind - front;
-        self.behind += kept;
+        let kept = self.share.len() - self.reserved - front;
+        self.reserved += kept;
         kept
     }
 
@@ -159,7 +159,7 @@ impl SymbolTable {
     pub(crate) fn join(&mut self, kept: usize)
         ensures { self.new ≡ symbols_joined kept self.old }
     {
-        self.behind -= kept.min(self.behind);
+        self.reserved -= kept.min(self.reserved);
     }
 
     /// The bytes of the share: those of the symbols, then the unwritten rest. Symbol k is read at offset 24 k.
@@ -167,7 +167,7 @@ impl SymbolTable {
     pub fn bytes(&self) -> &[u8]
         ensures written { take (symbols_used self.now) result.now ≡ symbol_bytes self.now.symbols }
         ensures read { (k : ℕ) (d : Entry) → k < length self.now.symbols → symtab_entry_at result.now (symtab_entry_size * k) ≡ slice_index_or self.now.symbols k d }
-        ensures room { length result.now ≡ self.now.room + self.now.behind }
+        ensures room { length result.now ≡ self.now.room + self.now.reserved }
     {
         self.share.as_slice()
     }

@@ -526,7 +526,7 @@ impl SymbolTableWriter {
     pub fn symbols(&self) -> &[u8]
         ensures written { take (symbols_used self.now.globals) result.now ≡ symbol_bytes self.now.globals.symbols }
         ensures read { (k : ℕ) (d : Entry) → k < length self.now.globals.symbols → symtab_entry_at result.now (symtab_entry_size * k) ≡ slice_index_or self.now.globals.symbols k d }
-        ensures room { length result.now ≡ self.now.globals.room + self.now.globals.behind }
+        ensures room { length result.now ≡ self.now.globals.room + self.now.globals.reserved }
     {
         self.globals.bytes()
     }
@@ -536,7 +536,7 @@ impl SymbolTableWriter {
     pub fn local_symbols(&self) -> &[u8]
         ensures written { take (symbols_used self.now.locals) result.now ≡ symbol_bytes self.now.locals.symbols }
         ensures read { (k : ℕ) (d : Entry) → k < length self.now.locals.symbols → symtab_entry_at result.now (symtab_entry_size * k) ≡ slice_index_or self.now.locals.symbols k d }
-        ensures room { length result.now ≡ self.now.locals.room + self.now.locals.behind }
+        ensures room { length result.now ≡ self.now.locals.room + self.now.locals.reserved }
     {
         self.locals.bytes()
     }
@@ -544,7 +544,7 @@ impl SymbolTableWriter {
     /// The bytes of the group's share of the strings: those of the strings, then the unwritten rest.
     pub fn strings(&self) -> &[u8]
         ensures written { take (length self.now.strtab.bytes) result.now ≡ self.now.strtab.bytes }
-        ensures room { length result.now ≡ self.now.strtab.room + self.now.strtab.behind }
+        ensures room { length result.now ≡ self.now.strtab.room + self.now.strtab.reserved }
     {
         self.strtab.bytes()
     }

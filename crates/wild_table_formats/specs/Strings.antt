@@ -30,15 +30,15 @@ pub record Strings : Type 0 where
   pub start : ℕ
   pub bytes : List ℕ
   pub room : ℕ
-  pub behind : ℕ
+  pub reserved : ℕ
 
 abbrev pub strings_in : ℕ → ℕ → ℕ → List ℕ → ℕ → ℕ → Strings
-strings_in part group start bytes used behind =
-    record { part = part; group = group; start = start; bytes = take used bytes; room = length bytes - behind; behind = behind }
+strings_in part group start bytes used reserved =
+    record { part = part; group = group; start = start; bytes = take used bytes; room = length bytes - reserved; reserved = reserved }
 
 -- the strings and the reserved bytes fit in the share, which ends below 2^32
-pub record IsStrings (start : ℕ) (bytes : List ℕ) (used behind : ℕ) : Type 0 where
-  pub fits : used + behind ≤ length bytes
+pub record IsStrings (start : ℕ) (bytes : List ℕ) (used reserved : ℕ) : Type 0 where
+  pub fits : used + reserved ≤ length bytes
   pub short : start + length bytes < 2 ^ 32
 
 -- the offset of the next string in the output's string table
@@ -83,8 +83,8 @@ kept_strings m t = t.room - (length t.bytes + m)
 
 -- the same strings, with room for m more bytes only
 abbrev pub front_strings : ℕ → Strings → Strings
-front_strings m t = record t { room = length t.bytes + m; behind = t.behind + kept_strings m t }
+front_strings m t = record t { room = length t.bytes + m; reserved = t.reserved + kept_strings m t }
 
 -- the same strings, with k of the reserved bytes usable again
 abbrev pub strings_joined : ℕ → Strings → Strings
-strings_joined k t = record t { room = t.room + min k t.behind; behind = t.behind - min k t.behind }
+strings_joined k t = record t { room = t.room + min k t.reserved; reserved = t.reserved - min k t.reserved }

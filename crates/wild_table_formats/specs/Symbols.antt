@@ -33,19 +33,19 @@ pub record Symbols : Type 0 where
   pub group : ℕ
   pub symbols : List SymtabEntry
   pub room : ℕ
-  pub behind : ℕ
+  pub reserved : ℕ
 
 abbrev pub symbols_of : ℕ → ℕ → List ℕ → ℕ → ℕ → Symbols
-symbols_of part group bytes n behind =
-    record { part = part; group = group; symbols = symbols_in bytes n; room = length bytes - behind; behind = behind }
+symbols_of part group bytes n reserved =
+    record { part = part; group = group; symbols = symbols_in bytes n; room = length bytes - reserved; reserved = reserved }
 
 -- the bytes begin with those of the n symbols that are read there
 unfoldable pub IsSpelled : List ℕ → ℕ → Type 0
 IsSpelled bytes n = take (symtab_entry_size * n) bytes ≡ symbol_bytes (symbols_in bytes n)
 
 -- the symbols and the reserved bytes fit in the share, and the symbols are written there
-pub record IsSymbols (bytes : List ℕ) (n behind : ℕ) : Type 0 where
-  pub fits : symtab_entry_size * n + behind ≤ length bytes
+pub record IsSymbols (bytes : List ℕ) (n reserved : ℕ) : Type 0 where
+  pub fits : symtab_entry_size * n + reserved ≤ length bytes
   pub spelled : IsSpelled bytes n
 
 -- with a symbol appended
@@ -85,8 +85,8 @@ kept_symbols n t = t.room - (symbols_used t + symtab_entry_size * n)
 
 -- the same symbols, with room for n more only
 abbrev pub front_symbols : ℕ → Symbols → Symbols
-front_symbols n t = record t { room = symbols_used t + symtab_entry_size * n; behind = t.behind + kept_symbols n t }
+front_symbols n t = record t { room = symbols_used t + symtab_entry_size * n; reserved = t.reserved + kept_symbols n t }
 
 -- the same symbols, with k of the reserved bytes usable again
 abbrev pub symbols_joined : ℕ → Symbols → Symbols
-symbols_joined k t = record t { room = t.room + min k t.behind; behind = t.behind - min k t.behind }
+symbols_joined k t = record t { room = t.room + min k t.reserved; reserved = t.reserved - min k t.reserved }

@@ -4,7 +4,7 @@ use Rattle.std.proofs.lemmas.List.{length-append}
 use Rattle.std.proofs.lemmas.Bool.{lt-ltb}
 use Rattle.wild_relr.specs.declared.run.Choice.{Choice}
 use Rattle.wild_relr.specs.declared.run.Choice.TheVariants.{Joins, Adds}
-use Rattle.wild_relr.specs.Encoding.{choice, chosen, State, after}
+use Rattle.wild_relr.specs.Encoding.{choice, apply_choice, State, after}
 use Rattle.wild_relr.specs.WriterState.{word_bytes, state, ContainsWords, IsSpelled}
 use Rattle.wild_relr.specs.declared.writer.RelrWriter.{RelrWriter}
 use Rattle.wild_relr.proofs.WriterLemmas.{length_words_in}
@@ -15,7 +15,7 @@ use Rattle.wild_table_formats.specs.GroupTables.{Tables, packed_used, with_words
 use Rattle.wild_types.specs.Shares.{part_of, insufficient}
 use Rattle.wild_relr.proofs.PackedLemmas.{length-with_last_bit}
 
-grows_by_one : (c : Choice) (s : State) (room : ℕ) → 8 * length s.words ≤ room → room < 8 * length (chosen c s).words → 8 * length (chosen c s).words ≡ 8 * length s.words + 8
+grows_by_one : (c : Choice) (s : State) (room : ℕ) → 8 * length s.words ≤ room → room < 8 * length (apply_choice c s).words → 8 * length (apply_choice c s).words ≡ 8 * length s.words + 8
 grows_by_one (Joins i) s room h l = let e = length-with_last_bit i s.words in absurd (omega (arith, e, h, l))
 grows_by_one (Adds w r) s room h l = let e = length-append s.words (w ∷ []) in omega (arith, e)
 

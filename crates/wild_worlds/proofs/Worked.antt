@@ -17,7 +17,7 @@ use Rattle.wild_reloc.specs.FormulaX86_64.{x86_64_formula}
 use Rattle.wild_reloc.specs.FormulaAArch64.{aarch64_formula}
 use Rattle.wild_reloc.proofs.FormLemmas.{plt32_formula}
 use Rattle.wild_loader.specs.declared.instruction.Deed.TheVariants.{Call, Jump}
-use Rattle.wild_loader.specs.Instruction.{stands}
+use Rattle.wild_loader.specs.Instruction.{matches_cells}
 use Rattle.wild_meaning.specs.Field.{formula_of, form_width, InNoField}
 use Rattle.wild_meaning.specs.Value.{HasFlag}
 use Rattle.wild_meaning.specs.Sequence.{Instruction, size_of, instructions_of, IsOwnByte, address_pair_words, descriptor_call_words}
@@ -63,7 +63,7 @@ within number offset n from o all known filled e =
     not_itself m h = let same : (m == m) ≡ true = eq-eqb m m refl in cc (rw same at h)
 
 -- code of an instruction at its beginning
-at_start : (l : Layout) (address : ℕ) (bytes : List ℕ) (r : InputRelocation) (o : Instruction) → l.machine ≡ machine.X86_64 → Contains (instructions_of machine.X86_64) o → Contains o.numbers r.number → r.offset ≡ 0 + o.field → 0 + size_of o ≤ length bytes → stands o.template.cells (slice_range bytes 0 (0 + size_of o)) ≡ true → HasOriginAddend machine.X86_64 o.sort r
+at_start : (l : Layout) (address : ℕ) (bytes : List ℕ) (r : InputRelocation) (o : Instruction) → l.machine ≡ machine.X86_64 → Contains (instructions_of machine.X86_64) o → Contains o.numbers r.number → r.offset ≡ 0 + o.field → 0 + size_of o ≤ length bytes → matches_cells o.template.cells (slice_range bytes 0 (0 + size_of o)) ≡ true → HasOriginAddend machine.X86_64 o.sort r
     → ((k : ℕ) → IsOwnByte o k → k < r.offset) → IsInstruction l (worked_item address bytes (r ∷ [])) r 0 o
 at_start l address bytes r o x known number field inside standing counts own = record {
   code = refl;

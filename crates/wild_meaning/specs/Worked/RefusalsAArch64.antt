@@ -22,7 +22,7 @@ use Rattle.wild_loader.specs.declared.world.World.{World}
 use Rattle.wild_loader.specs.Memory.{number_in, Holds}
 use Rattle.wild_loader.specs.Reach.{Reaches}
 use Rattle.wild_types.specs.Item.{Item}
-use Rattle.wild_aarch64.specs.Slice.{stands}
+use Rattle.wild_aarch64.specs.Slice.{has_fixed_bits}
 use Rattle.wild_aarch64.specs.Forms.{add_shifted, movn}
 use Rattle.wild_meaning.specs.WordsAArch64.{is_filled}
 use Rattle.wild_meaning.specs.World.{IsMovable}
@@ -102,8 +102,8 @@ PairsAreExcepted = (l : Layout) (item : Item) (r first : InputRelocation) (start
 
 -- `movn` has no meaning here, so it is not an instruction that a relocation type fills
 abbrev pub NegatedMovesAreUnknown : Type 0
-NegatedMovesAreUnknown = (n w : ℕ) → stands movn.fixed w ≡ true → is_filled n (w ∷ []) ≡ false
+NegatedMovesAreUnknown = (n w : ℕ) → has_fixed_bits movn.fixed w ≡ true → is_filled n (w ∷ []) ≡ false
 
 -- R_AARCH64_ADD_ABS_LO12_NC does not fill an `add` of a number shifted by 12
 abbrev pub ShiftedAddsAreUnknown : Type 0
-ShiftedAddsAreUnknown = (w u : ℕ) → stands add_shifted.fixed u ≡ true → address_pair_words.words (w ∷ u ∷ []) ≡ false
+ShiftedAddsAreUnknown = (w u : ℕ) → has_fixed_bits add_shifted.fixed u ≡ true → address_pair_words.words (w ∷ u ∷ []) ≡ false

@@ -19,7 +19,7 @@ laws c = record {
   sum = λ sign. c.symbols_are_given.ensures.gives (plain kinds.Absolute Four sign) refl refl;
   distance = c.symbols_are_given.ensures.gives (plain kinds.Relative Four Signed) refl refl;
   pointer = c.offsets_from_the_thread_pointer_are_given.ensures.gives (plain kinds.TpOff Four Signed) refl refl;
-  slot = λ l w m s r x h f. c.slots_are_given.ensures sorts.Offset (plain kinds.GotTpOff Four Signed) refl refl l w m s r x h (λ e. cc);
+  slot = λ l w m s r x h f. c.slots_are_given.ensures sorts.TpOff (plain kinds.GotTpOff Four Signed) refl refl l w m s r x h (λ e. cc);
 }
 
 words : goal.After-stubs_of_words_are_read → LawsOfWords

@@ -4,7 +4,7 @@ use Rattle.wild_types.specs.declared.part.Role.TheVariants as role
 use Rattle.wild_types.specs.HeaderOnly.{is_header_only_role}
 use Rattle.wild_types.specs.Lists.{total}
 use Rattle.wild_placement.specs.FrameInputs.{kept_size}
-use Rattle.wild_placement.specs.PlacedSections.{placed_sections, file_frames, behind}
+use Rattle.wild_placement.specs.PlacedSections.{placed_sections, file_frames, address_after}
 use Rattle.wild_layout.specs.Content.{frame_bytes_of}
 use Rattle.wild_layout.specs.Faults.{sections_errors}
 use Rattle.wild_layout.specs.SectionPlaces.{SectionLies}
@@ -14,7 +14,7 @@ use Rattle.wild_image.proofs.buffer.add_file_sections.Given as goal
 abbrev pub invariant-loop-i : goal.invariant-loop-i
 invariant-loop-i g l = record {
   faults : sections_errors l.resolved.layout.now l.place.group l.place.file l.file l.next l.i (drop l.i l.section-items) ≡ sections_errors l.resolved.layout.now l.place.group l.place.file l.file l.at 0 l.file.sections;
-  next : behind l.next (total (kept_size l.resolved.layout.now l.file) (drop l.i l.section-items)) ≡ behind l.at (file_frames l.resolved.layout.now l.file);
+  next : address_after l.next (total (kept_size l.resolved.layout.now l.file) (drop l.i l.section-items)) ≡ address_after l.at (file_frames l.resolved.layout.now l.file);
   small : l.next < 2 ^ 64;
   files : l.bytes.files ++ flat_map (section_owned l.resolved.layout.now l.file) (placed_sections l.resolved.layout.now l.file l.next (drop l.i l.section-items)) ≡ l.initial.bytes.files ++ flat_map (section_owned l.resolved.layout.now l.file) (placed_sections l.resolved.layout.now l.file l.at l.file.sections);
   frames : is_header_only_role l.resolved.layout.now role.EhFrame ≡ false → l.bytes.frames ++ flat_map (frame_bytes_of l.resolved.layout.now l.file) (placed_sections l.resolved.layout.now l.file l.next (drop l.i l.section-items)) ≡ l.initial.bytes.frames ++ flat_map (frame_bytes_of l.resolved.layout.now l.file) (placed_sections l.resolved.layout.now l.file l.at l.file.sections);
