@@ -28,7 +28,7 @@ use Rattle.wild_geometry.proofs.RunLemmas.{sections_in}
 use Rattle.wild_geometry.proofs.StandingLemmas.{all_sections}
 use Rattle.wild_geometry.proofs.SectionLemmas.{Stood, filled_given}
 use Rattle.wild_geometry.proofs.Rooms.{room_of, length-room, section_room, rooms_in, others_in, file_rooms, all_at, apart_at}
-use Rattle.wild_geometry.proofs.ThunkRuns.{thunks_in, all_thunks, Beside}
+use Rattle.wild_geometry.proofs.ThunkRuns.{thunks_in, all_thunks, SectionThunkApart}
 use Rattle.wild_geometry.proofs.PieceLemmas.{owners_apart, stood_room, section_rooms, InImage}
 use Rattle.wild_geometry.proofs.FrontLemmas.{Front, fronts, FrontStands, FrontsStand, front_at, front_is, each_front, fronts_apart, fronts_within, sections_behind, no_thunks_there}
 use Rattle.wild_geometry.proofs.ThunkLemmas.{ThunkStood, ThunksStand, SectionsStand, pieces_of_thunks, thunk_at, thunk_room, each_thunk, thunks_apart, thunk_in_image}
@@ -36,7 +36,7 @@ use Rattle.wild_geometry.proofs.ThunkLemmas.{ThunkStood, ThunksStand, SectionsSt
 -- ---- input sections and thunks
 
 -- a thunk and an input section
-section_and_thunk : (l : Layout) → AllPairs (Follows l) l.parts → (s : InputSection) (t : Thunk) → is_filled l s ≡ true → Stood l s → ThunkStood l t → Beside l l.primary_part s t → Disjoint (room_of l s) (thunk_at l t)
+section_and_thunk : (l : Layout) → AllPairs (Follows l) l.parts → (s : InputSection) (t : Thunk) → is_filled l s ≡ true → Stood l s → ThunkStood l t → SectionThunkApart l l.primary_part s t → Disjoint (room_of l s) (thunk_at l t)
 section_and_thunk l f s t filled a b beside =
     owners_apart l f s.part l.primary_part s.address t.address (room_of l s).bytes (thunk_bytes l t) a.part b.part (stood_room l s a) (thunk_room l t b) (λ e.
     let n = length-room l s in

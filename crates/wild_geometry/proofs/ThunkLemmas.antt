@@ -34,7 +34,7 @@ use Rattle.wild_geometry.proofs.ShareLemmas.{size_from_shares}
 use Rattle.wild_geometry.proofs.RunLemmas.{get_or-map_address, length-map_address}
 use Rattle.wild_geometry.proofs.StandingLemmas.{all_sections}
 use Rattle.wild_geometry.proofs.SectionLemmas.{Stood, raw_role}
-use Rattle.wild_geometry.proofs.ThunkRuns.{thunks_in, all_thunks, LiesFrom, Ahead, Beside, unused, Spread-from_groups, Thunks-behind}
+use Rattle.wild_geometry.proofs.ThunkRuns.{thunks_in, all_thunks, LiesFrom, Ahead, SectionThunkApart, unused, Spread-from_groups, Thunks-behind}
 use Rattle.wild_geometry.proofs.PieceLemmas.{All-written, AllPairs-written, offset_is, owners_apart, owner_ends}
 use Rattle.wild_geometry.proofs.CarriedLemmas.{Filled-from_tests, byte_of_part}
 
@@ -67,7 +67,7 @@ pub record ThunkStood (l : Layout) (t : Thunk) : Type 0 where
 pub record ThunksStand (l : Layout) : Type 0 where
   pub stood : is_header_only_part l l.primary_part ≡ false → All (ThunkStood l) (all_thunks l)
   pub ascend : AllPairs Ahead (all_thunks l)
-  pub beside : All (λ s. All (Beside l l.primary_part s) (all_thunks l)) (all_sections l)
+  pub beside : All (λ s. All (SectionThunkApart l l.primary_part s) (all_thunks l)) (all_sections l)
   pub behind : (g : Group) (gs : List Group) (p : Part) → l.groups ≡ g ∷ gs → slice_get l.parts l.primary_part ≡ Some p → All (λ (t : Thunk). p.address + given l.primary_part g ≤ t.address) (flat_map (thunks_in l) gs)
 
 abbrev pub SectionsStand : Layout → Type 0
@@ -79,7 +79,7 @@ none_stand l none =
     record {
       stood = λ written. subst (All (ThunkStood l)) (sym e) (All-nil (ThunkStood l));
       ascend = subst (AllPairs Ahead) (sym e) (AllPairs-nil Ahead);
-      beside = λ i s m. subst (All (Beside l l.primary_part (get_or (all_sections l) i s))) (sym e) (All-nil (Beside l l.primary_part (get_or (all_sections l) i s)));
+      beside = λ i s m. subst (All (SectionThunkApart l l.primary_part (get_or (all_sections l) i s))) (sym e) (All-nil (SectionThunkApart l l.primary_part (get_or (all_sections l) i s)));
       behind = λ g gs p is there. (let later = flat_map-none (thunks_in l) gs (λ h. flat_map-none (thunks_of l) h.files (no_thunks l none)) in
           let P : Thunk → Type 0 = λ t. p.address + given l.primary_part g ≤ t.address in
           subst (All P) (sym later) (All-nil P));

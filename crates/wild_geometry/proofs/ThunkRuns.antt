@@ -37,8 +37,8 @@ abbrev pub Ahead : Thunk → Thunk → Type 0
 Ahead t u = t.address + thunk_size ≤ u.address
 
 -- a section that owns bytes of the part ends before the thunk, or begins behind it
-abbrev pub Beside : Layout → ℕ → InputSection → Thunk → Type 0
-Beside l part s t = Owns l part s → (s.address + s.size ≤ t.address) ⊎ (t.address + thunk_size ≤ s.address)
+abbrev pub SectionThunkApart : Layout → ℕ → InputSection → Thunk → Type 0
+SectionThunkApart l part s t = Owns l part s → (s.address + s.size ≤ t.address) ⊎ (t.address + thunk_size ≤ s.address)
 
 -- sections that own bytes of the part, and thunks, stand from low to high, each thunk beside all others
 pub record Spread (l : Layout) (part low high : ℕ) (ss : List InputSection) (ts : List Thunk) : Type 0 where
@@ -47,10 +47,10 @@ pub record Spread (l : Layout) (part low high : ℕ) (ss : List InputSection) (t
   pub to : All (To l part high) ss
   pub within : All (LiesFrom low high) ts
   pub ascend : AllPairs Ahead ts
-  pub beside : All (λ s. All (Beside l part s) ts) ss
+  pub beside : All (λ s. All (SectionThunkApart l part s) ts) ss
 
 Spread-none : (l : Layout) (part at : ℕ) → Spread l part at at [] []
-Spread-none l part at = record { grows = omega arith; from = All-nil (From l part at); to = All-nil (To l part at); within = All-nil (LiesFrom at at); ascend = AllPairs-nil Ahead; beside = All-nil (λ s. All (Beside l part s) []) }
+Spread-none l part at = record { grows = omega arith; from = All-nil (From l part at); to = All-nil (To l part at); within = All-nil (LiesFrom at at); ascend = AllPairs-nil Ahead; beside = All-nil (λ s. All (SectionThunkApart l part s) []) }
 
 Spread-append : (l : Layout) (part a b c : ℕ) (ss us : List InputSection) (ts vs : List Thunk) → Spread l part a b ss ts → Spread l part b c us vs → Spread l part a c (ss ++ us) (ts ++ vs)
 Spread-append l part a b c ss us ts vs r q =
@@ -62,9 +62,9 @@ Spread-append l part a b c ss us ts vs r q =
       to = All-append (To l part c) ss us (All-weaker (To l part b) (To l part c) (λ s f o. let z = f o in omega arith) ss r.to) q.to;
       within = All-append (LiesFrom a c) ts vs (All-weaker (LiesFrom a b) (LiesFrom a c) (λ t f. let y = f.to in record { from = f.from; to = omega arith }) ts r.within) (All-weaker (LiesFrom b c) (LiesFrom a c) (λ t f. let y = f.from in record { from = omega arith; to = f.to }) vs q.within);
       ascend = AllPairs-append Ahead ts vs r.ascend q.ascend (All-weaker (LiesFrom a b) (λ t. All (Ahead t) vs) (λ t f. All-weaker (LiesFrom b c) (Ahead t) (λ u e. let y = f.to in let z = e.from in omega arith) vs q.within) ts r.within);
-      beside = All-append (λ s. All (Beside l part s) (ts ++ vs)) ss us
-          (λ i s m. All-append (Beside l part (get_or ss i s)) ts vs (r.beside i s m) (All-weaker (LiesFrom b c) (Beside l part (get_or ss i s)) (λ t e o. inl (let y = r.to i s m o in let z = e.from in omega arith)) vs q.within))
-          (λ i s m. All-append (Beside l part (get_or us i s)) ts vs (All-weaker (LiesFrom a b) (Beside l part (get_or us i s)) (λ t e o. inr (let y = q.from i s m o in let z = e.to in omega arith)) ts r.within) (q.beside i s m));
+      beside = All-append (λ s. All (SectionThunkApart l part s) (ts ++ vs)) ss us
+          (λ i s m. All-append (SectionThunkApart l part (get_or ss i s)) ts vs (r.beside i s m) (All-weaker (LiesFrom b c) (SectionThunkApart l part (get_or ss i s)) (λ t e o. inl (let y = r.to i s m o in let z = e.from in omega arith)) vs q.within))
+          (λ i s m. All-append (SectionThunkApart l part (get_or us i s)) ts vs (All-weaker (LiesFrom a b) (SectionThunkApart l part (get_or us i s)) (λ t e o. inr (let y = q.from i s m o in let z = e.to in omega arith)) ts r.within) (q.beside i s m));
     }
 
 -- ---- steps
@@ -121,7 +121,7 @@ Passed-from_step l group start limit end s h le ends =
               to = All-cons (To l l.primary_part end) s [] (λ o. omega arith) (All-nil (To l l.primary_part end));
               within = All-nil (LiesFrom start end);
               ascend = AllPairs-nil Ahead;
-              beside = All-cons (λ x. All (Beside l l.primary_part x) []) s [] (All-nil (Beside l l.primary_part s)) (All-nil (λ x. All (Beside l l.primary_part x) []));
+              beside = All-cons (λ x. All (SectionThunkApart l l.primary_part x) []) s [] (All-nil (SectionThunkApart l l.primary_part s)) (All-nil (λ x. All (SectionThunkApart l l.primary_part x) []));
             };
           })
       | inr other ↦
@@ -134,7 +134,7 @@ Passed-from_step l group start limit end s h le ends =
               to = All-cons (To l l.primary_part end) s [] (λ o. cc) (All-nil (To l l.primary_part end));
               within = All-nil (LiesFrom start end);
               ascend = AllPairs-nil Ahead;
-              beside = All-cons (λ x. All (Beside l l.primary_part x) []) s [] (All-nil (Beside l l.primary_part s)) (All-nil (λ x. All (Beside l l.primary_part x) []));
+              beside = All-cons (λ x. All (SectionThunkApart l l.primary_part x) []) s [] (All-nil (SectionThunkApart l l.primary_part s)) (All-nil (λ x. All (SectionThunkApart l l.primary_part x) []));
             };
           })
     ]
@@ -165,7 +165,7 @@ Spread-from_thunks l part at end (t ∷ ts) h e =
       to = All-nil (To l part (at + thunk_size));
       within = All-cons (LiesFrom at (at + thunk_size)) t [] (record { from = omega arith; to = omega arith }) (All-nil (LiesFrom at (at + thunk_size)));
       ascend = AllPairs-cons Ahead t [] (All-nil (Ahead t)) (AllPairs-nil Ahead);
-      beside = All-nil (λ s. All (Beside l part s) (t ∷ []));
+      beside = All-nil (λ s. All (SectionThunkApart l part s) (t ∷ []));
     } in
     Spread-append l part at (at + thunk_size) end [] [] (t ∷ []) ts one (Spread-from_thunks l part (at + thunk_size) end ts both.1 (omega arith))
 

@@ -286,18 +286,18 @@ pub own_lie : (l : Layout) (at : ℕ) (f : File) → Processed l (placed_file l 
 own_lie l at f h = All-append-left (SectionLies l) (placed_sections l f at f.sections) (of_last_file f (sorted_sections l)) h
 
 -- what is known of each file of the plan from what is known of it as it stands
-abbrev Told : Layout → (File → Type 0) → Type 0
-Told l P = (at : ℕ) (f : File) → Processed l (placed_file l at f) → P f
+abbrev HoldsWhenPlaced : Layout → (File → Type 0) → Type 0
+HoldsWhenPlaced l P = (at : ℕ) (f : File) → Processed l (placed_file l at f) → P f
 
-told_from : (l : Layout) (P : File → Type 0) (at : ℕ) (fs : List File) → Told l P → All (Processed l) (placed_from l at fs) → All P fs
-told_from l P at [] t h = All-nil P
-told_from l P at (f ∷ fs) t h =
+holds_from : (l : Layout) (P : File → Type 0) (at : ℕ) (fs : List File) → HoldsWhenPlaced l P → All (Processed l) (placed_from l at fs) → All P fs
+holds_from l P at [] t h = All-nil P
+holds_from l P at (f ∷ fs) t h =
     All-cons P f fs (t at f (All-head (Processed l) (placed_file l at f) (placed_from l (address_after at (file_frames l f)) fs) h))
-    (told_from l P (address_after at (file_frames l f)) fs t (All-tail (Processed l) (placed_file l at f) (placed_from l (address_after at (file_frames l f)) fs) h))
+    (holds_from l P (address_after at (file_frames l f)) fs t (All-tail (Processed l) (placed_file l at f) (placed_from l (address_after at (file_frames l f)) fs) h))
 
-told_of_group : (l : Layout) (P : File → Type 0) (g : Group) → Told l P → All (Processed l) (placed_files l g) → All P g.files
+holds_of_group : (l : Layout) (P : File → Type 0) (g : Group) → HoldsWhenPlaced l P → All (Processed l) (placed_files l g) → All P g.files
 unfolding placed_files
-told_of_group l P g t h = told_from l P _ g.files t h
+holds_of_group l P g t h = holds_from l P _ g.files t h
 
 pub record SectionsLie (l : Layout) (f : File) : Type 0 where
   pub sections : All (RangedLies l f) f.sections
@@ -315,7 +315,7 @@ front_small l laid k bs h =
 -- in a layout that is laid out all that each file has lies in its parts
 pub each_file_lies : (l : Layout) → IsLaidOut l → EachFileLies l
 each_file_lies l laid = λ i g m.
-    let told = told_of_group l (SectionsLie l) (get_or l.groups i g) (λ at f h. record { sections = sections_lie l f at f.sections (own_lie l at f h); sorted = last_lie l at f h }) (laid.inputs i g m) in
+    let told = holds_of_group l (SectionsLie l) (get_or l.groups i g) (λ at f h. record { sections = sections_lie l f at f.sections (own_lie l at f h); sorted = last_lie l at f h }) (laid.inputs i g m) in
     (λ k f n. record {
       sections = (told k f n).sections;
       sorted = (told k f n).sorted;

@@ -65,26 +65,26 @@ use Rattle.wild_layout.specs.Sites.{field_site, site, sites, extent_of, extent_b
 
 -- ---- a site with the places of its relocation
 
-record Moved : Type 0 where
+record MovedPiece : Type 0 where
   piece : Piece
   from : ℕ
   to : ℕ
 
-abbrev moved_relocation : Option InputRelocation → Option InputRelocation → Piece → Moved
+abbrev moved_relocation : Option InputRelocation → Option InputRelocation → Piece → MovedPiece
 moved_relocation (Some o) (Some r) p = record { piece = p; from = o.offset; to = r.offset }
 moved_relocation a b p = record { piece = p; from = 0; to = 0 }
 
 -- where it stands, and where it stands in the input
-abbrev here : Moved → Extent
+abbrev here : MovedPiece → Extent
 here m = extent_of m.piece
 
-abbrev there : Moved → Extent
+abbrev there : MovedPiece → Extent
 there m = extent_back m.from m.to m.piece
 
-abbrev moved_site : Layout → Item → List InputRelocation → ℕ → List Moved
+abbrev moved_site : Layout → Item → List InputRelocation → ℕ → List MovedPiece
 moved_site l s origins i = map (moved_relocation (slice_get origins i) (slice_get s.relocations i)) (site l s i)
 
-abbrev moved_sites : Layout → Item → List InputRelocation → List Moved
+abbrev moved_sites : Layout → Item → List InputRelocation → List MovedPiece
 moved_sites l s origins = flat_map (moved_site l s origins) (range_with_len 0 (length s.relocations))
 
 all_here : (a b : Option InputRelocation) (ps : List Piece) → map here (map (moved_relocation a b) ps) ≡ map extent_of ps
@@ -138,8 +138,8 @@ apart_by {X} P f g (x ∷ xs) each both none =
     subst (λ (e : Extent). SharesNothing e (get_or (map f all) j d)) (sym (get_or-map f all i x d lower))
     (subst (λ (e : Extent). SharesNothing (f (get_or all i x)) e) (sym (get_or-map f all j x d low)) other)))
 
-moves_by : (l : Layout) (s : Item) (origins : List InputRelocation) (P : Moved → Type 0) → length origins ≡ length s.relocations → All P (moved_sites l s origins)
-    → ((m n : Moved) → P m → P n → SharesNothing (there m) (there n) → SharesNothing (here m) (here n)) → ((m n : Moved) → P m → P n → SharesNothing (here m) (here n) → SharesNothing (there m) (there n)) → MovesApart l s origins
+moves_by : (l : Layout) (s : Item) (origins : List InputRelocation) (P : MovedPiece → Type 0) → length origins ≡ length s.relocations → All P (moved_sites l s origins)
+    → ((m n : MovedPiece) → P m → P n → SharesNothing (there m) (there n) → SharesNothing (here m) (here n)) → ((m n : MovedPiece) → P m → P n → SharesNothing (here m) (here n) → SharesNothing (there m) (there n)) → MovesApart l s origins
 moves_by l s origins P count each both back = record {
   count = count;
   apart = λ none. ap least_extent (sym (sites_here l s origins)) ∙ apart_by P here there (moved_sites l s origins) each both (ap least_extent (sites_there l s origins) ∙ none);
@@ -164,22 +164,22 @@ stays_apart l s = record { count = refl; apart = λ none. sym (stays l s) ∙ no
 
 -- ---- a site by its relocation
 
-one_site : (P : Moved → Type 0) (a b : Option InputRelocation) (ps : List Piece) (o r : InputRelocation) (p : Piece) → a ≡ Some o → b ≡ Some r → ps ≡ p ∷ [] → P (record { piece = p; from = o.offset; to = r.offset }) → All P (map (moved_relocation a b) ps)
+one_site : (P : MovedPiece → Type 0) (a b : Option InputRelocation) (ps : List Piece) (o r : InputRelocation) (p : Piece) → a ≡ Some o → b ≡ Some r → ps ≡ p ∷ [] → P (record { piece = p; from = o.offset; to = r.offset }) → All P (map (moved_relocation a b) ps)
 one_site P a b ps o r p is listed only h = rw (is, listed, only) (All-one P (record { piece = p; from = o.offset; to = r.offset }) h)
 
-no_site : (P : Moved → Type 0) (a b : Option InputRelocation) (ps : List Piece) → ps ≡ [] → All P (map (moved_relocation a b) ps)
+no_site : (P : MovedPiece → Type 0) (a b : Option InputRelocation) (ps : List Piece) → ps ≡ [] → All P (map (moved_relocation a b) ps)
 no_site P a b ps none = rw none (All-nil P)
 
 -- a field of a relocation, with its place in the input
-record IsMovedField (l : Layout) (o : InputRelocation) (m : Moved) : Type 0 where
+record IsMovedField (l : Layout) (o : InputRelocation) (m : MovedPiece) : Type 0 where
   some : 1 ≤ length m.piece.bytes
   long : length m.piece.bytes ≡ field_bytes l.machine o.number
   here : m.piece.at ≡ m.to
   there : o.offset ≡ m.from
 
 -- where each relocation comes from one of the input of the same type, and none is rewritten, what holds of their fields holds of all sites
-each_moved : (l : Layout) (s : Item) (origins : List InputRelocation) (P : Moved → Type 0) → ((i : ℕ) (x : IsTemplateSite l s i) → ⊥)
-    → ((i : ℕ) (r : InputRelocation) → slice_get s.relocations i ≡ Some r → (o : InputRelocation) × (slice_get origins i ≡ Some o) × (r.number ≡ o.number) × ((m : Moved) → m.to ≡ r.offset → IsMovedField l o m → P m))
+each_moved : (l : Layout) (s : Item) (origins : List InputRelocation) (P : MovedPiece → Type 0) → ((i : ℕ) (x : IsTemplateSite l s i) → ⊥)
+    → ((i : ℕ) (r : InputRelocation) → slice_get s.relocations i ≡ Some r → (o : InputRelocation) × (slice_get origins i ≡ Some o) × (r.number ≡ o.number) × ((m : MovedPiece) → m.to ≡ r.offset → IsMovedField l o m → P m))
     → All P (moved_sites l s origins)
 each_moved l s origins P plain each = All-flat_map P (moved_site l s origins) (range_with_len 0 (length s.relocations)) (All-each (λ (i : ℕ). All P (moved_site l s origins i)) (range_with_len 0 (length s.relocations)) (λ i c. at i))
   where
@@ -187,7 +187,7 @@ each_moved l s origins P plain each = All-flat_map P (moved_site l s origins) (r
     field i x =
         let e = each i x.relocation x.listed in
         let p = field_site s x.relocation.offset x.written.size x.written.value in
-        let m : Moved = record { piece = p; from = e.0.offset; to = x.relocation.offset } in
+        let m : MovedPiece = record { piece = p; from = e.0.offset; to = x.relocation.offset } in
         let wide = length-field_site s x.relocation.offset x.written.size x.written.value in
         let has = field_has_bytes l x.relocation x.written.size x.field in
         let size = field_bytes_are l x.relocation x.written.size x.field in
@@ -246,13 +246,13 @@ rewritten_is_narrow l s i r row v (inr w) wide =
     other_width (row_width (aarch64_row row.number)) narrow (on_aarch64 l.machine row.number w.chosen.machine (width_on l.machine r.number row.number w.chosen.number wide))
 
 -- a word of n bytes, counted from the end
-record IsTurned (n : ℕ) (m : Moved) : Type 0 where
+record IsTurned (n : ℕ) (m : MovedPiece) : Type 0 where
   long : length m.piece.bytes ≡ 8
   here : m.piece.at ≡ m.to
   to : m.to ≡ n - m.from - 8
   within : m.from + 8 ≤ n
 
-turned_both : (n : ℕ) (x y : Moved) → IsTurned n x → IsTurned n y → SharesNothing (there x) (there y) → SharesNothing (here x) (here y)
+turned_both : (n : ℕ) (x y : MovedPiece) → IsTurned n x → IsTurned n y → SharesNothing (there x) (there y) → SharesNothing (here x) (here y)
 turned_both n x y p q nothing =
     let a = p.long in
     let b = p.here in
@@ -267,7 +267,7 @@ turned_both n x y p q nothing =
       | inr t ↦ beside-nothing (here x) (here y) (inl (omega (arith, a, b, c, d, e, f, g, h, t)))
     ]
 
-turned_back : (n : ℕ) (x y : Moved) → IsTurned n x → IsTurned n y → SharesNothing (here x) (here y) → SharesNothing (there x) (there y)
+turned_back : (n : ℕ) (x y : MovedPiece) → IsTurned n x → IsTurned n y → SharesNothing (here x) (here y) → SharesNothing (there x) (there y)
 turned_back n x y p q nothing =
     let a = p.long in
     let b = p.here in
@@ -308,7 +308,7 @@ words_apart l s n origins moved words = moves_by l s origins (IsTurned n) count 
         let o = from i x.relocation x.listed in
         rewritten_is_narrow l s i x.relocation x.row x.value x.rewritten (ap (λ (r : InputRelocation). field_bytes l.machine r.number) o.is ∙ (holds_at (IsWord l.machine n) origins i o.origin o.listed words).wide)
 
-    each : (i : ℕ) (r : InputRelocation) → slice_get s.relocations i ≡ Some r → (o : InputRelocation) × (slice_get origins i ≡ Some o) × (r.number ≡ o.number) × ((m : Moved) → m.to ≡ r.offset → IsMovedField l o m → IsTurned n m)
+    each : (i : ℕ) (r : InputRelocation) → slice_get s.relocations i ≡ Some r → (o : InputRelocation) × (slice_get origins i ≡ Some o) × (r.number ≡ o.number) × ((m : MovedPiece) → m.to ≡ r.offset → IsMovedField l o m → IsTurned n m)
     each i r listed =
         let o = from i r listed in
         let w = holds_at (IsWord l.machine n) origins i o.origin o.listed words in (
@@ -426,10 +426,10 @@ record Ahead (a b : KeptEntry) : Type 0 where
   from : a.from + a.size ≤ b.from
   to : a.to + a.size ≤ b.to
 
-abbrev Beside : KeptEntry → KeptEntry → Type 0
-Beside a b = Ahead a b ⊎ Ahead b a
+abbrev EntriesApart : KeptEntry → KeptEntry → Type 0
+EntriesApart a b = Ahead a b ⊎ Ahead b a
 
-beside_back : (a b : KeptEntry) → Beside a b → Beside b a
+beside_back : (a b : KeptEntry) → EntriesApart a b → EntriesApart b a
 beside_back a b (inl h) = inr h
 beside_back a b (inr h) = inl h
 
@@ -449,20 +449,20 @@ all_behind s st (finds.End ∷ fs) w = all_behind s _ fs w.others
 all_behind s st (finds.Tail at ∷ fs) w = all_behind s _ fs w.others
 all_behind s st (finds.Bad y at ∷ fs) w = all_behind s _ fs w.others
 
-all_beside : (s : Frames) (st : State) (fs : List Found) → IsWalked s st fs → AllPairs Beside (flat_map kept_of fs)
-all_beside s st [] w = AllPairs-nil Beside
+all_beside : (s : Frames) (st : State) (fs : List Found) → IsWalked s st fs → AllPairs EntriesApart (flat_map kept_of fs)
+all_beside s st [] w = AllPairs-nil EntriesApart
 all_beside s st (finds.Kept k ∷ fs) w =
     let at = w.facts.from in
     let to = w.facts.to in
     let rest = all_behind s (state_after st k) fs w.others in
-    AllPairs-cons Beside k (flat_map kept_of fs) (λ i d m. (let f = (rest i d m).from in let t = (rest i d m).to in inl (record { from = omega (arith, at, f); to = omega (arith, to, t) }))) (all_beside s (state_after st k) fs w.others)
+    AllPairs-cons EntriesApart k (flat_map kept_of fs) (λ i d m. (let f = (rest i d m).from in let t = (rest i d m).to in inl (record { from = omega (arith, at, f); to = omega (arith, to, t) }))) (all_beside s (state_after st k) fs w.others)
 all_beside s st (finds.Dropped size ∷ fs) w = all_beside s _ fs w.others
 all_beside s st (finds.End ∷ fs) w = all_beside s _ fs w.others
 all_beside s st (finds.Tail at ∷ fs) w = all_beside s _ fs w.others
 all_beside s st (finds.Bad y at ∷ fs) w = all_beside s _ fs w.others
 
 -- a field in a kept entry
-record IsInEntry (fs : Frames) (m : Moved) : Type 0 where
+record IsInEntry (fs : Frames) (m : MovedPiece) : Type 0 where
   entry : KeptEntry
   listed : Contains (kept_in fs) entry
   some : 1 ≤ length m.piece.bytes
@@ -471,7 +471,7 @@ record IsInEntry (fs : Frames) (m : Moved) : Type 0 where
   to : m.to ≡ entry.to + (m.from - entry.from)
   within : m.from + length m.piece.bytes ≤ entry.from + entry.size
 
-same_entry : (x y : Moved) (k j : KeptEntry) → k ≡ j → 1 ≤ length x.piece.bytes → 1 ≤ length y.piece.bytes → x.piece.at ≡ x.to → y.piece.at ≡ y.to → k.from ≤ x.from → j.from ≤ y.from
+same_entry : (x y : MovedPiece) (k j : KeptEntry) → k ≡ j → 1 ≤ length x.piece.bytes → 1 ≤ length y.piece.bytes → x.piece.at ≡ x.to → y.piece.at ≡ y.to → k.from ≤ x.from → j.from ≤ y.from
     → x.to ≡ k.to + (x.from - k.from) → y.to ≡ j.to + (y.from - j.from) → SharesNothing (there x) (there y) → SharesNothing (here x) (here y)
 same_entry x y k j e xs ys xh yh xb yb xt yt nothing =
     let from : k.from ≡ j.from = ap (λ (z : KeptEntry). z.from) e in
@@ -481,13 +481,13 @@ same_entry x y k j e xs ys xh yh xb yb xt yt nothing =
       | inr t ↦ beside-nothing (here x) (here y) (inr (omega (arith, from, to, xs, ys, xh, yh, xb, yb, xt, yt, t)))
     ]
 
-other_entry : (x y : Moved) (k j : KeptEntry) → Beside k j → x.piece.at ≡ x.to → y.piece.at ≡ y.to → k.from ≤ x.from → j.from ≤ y.from
+other_entry : (x y : MovedPiece) (k j : KeptEntry) → EntriesApart k j → x.piece.at ≡ x.to → y.piece.at ≡ y.to → k.from ≤ x.from → j.from ≤ y.from
     → x.to ≡ k.to + (x.from - k.from) → y.to ≡ j.to + (y.from - j.from) → x.from + length x.piece.bytes ≤ k.from + k.size → y.from + length y.piece.bytes ≤ j.from + j.size → SharesNothing (here x) (here y)
 other_entry x y k j (inl a) xh yh xb yb xt yt xw yw = (let b = a.to in beside-nothing (here x) (here y) (inl (omega (arith, b, xh, yh, xb, yb, xt, yt, xw, yw))))
 other_entry x y k j (inr a) xh yh xb yb xt yt xw yw = (let b = a.to in beside-nothing (here x) (here y) (inr (omega (arith, b, xh, yh, xb, yb, xt, yt, xw, yw))))
 
 -- the same the other way
-same_entry_back : (x y : Moved) (k j : KeptEntry) → k ≡ j → 1 ≤ length x.piece.bytes → 1 ≤ length y.piece.bytes → x.piece.at ≡ x.to → y.piece.at ≡ y.to → k.from ≤ x.from → j.from ≤ y.from
+same_entry_back : (x y : MovedPiece) (k j : KeptEntry) → k ≡ j → 1 ≤ length x.piece.bytes → 1 ≤ length y.piece.bytes → x.piece.at ≡ x.to → y.piece.at ≡ y.to → k.from ≤ x.from → j.from ≤ y.from
     → x.to ≡ k.to + (x.from - k.from) → y.to ≡ j.to + (y.from - j.from) → SharesNothing (here x) (here y) → SharesNothing (there x) (there y)
 same_entry_back x y k j e xs ys xh yh xb yb xt yt nothing =
     let from : k.from ≡ j.from = ap (λ (z : KeptEntry). z.from) e in
@@ -497,31 +497,31 @@ same_entry_back x y k j e xs ys xh yh xb yb xt yt nothing =
       | inr t ↦ beside-nothing (there x) (there y) (inr (omega (arith, from, to, xs, ys, xh, yh, xb, yb, xt, yt, t)))
     ]
 
-other_entry_back : (x y : Moved) (k j : KeptEntry) → Beside k j → x.piece.at ≡ x.to → y.piece.at ≡ y.to → k.from ≤ x.from → j.from ≤ y.from
+other_entry_back : (x y : MovedPiece) (k j : KeptEntry) → EntriesApart k j → x.piece.at ≡ x.to → y.piece.at ≡ y.to → k.from ≤ x.from → j.from ≤ y.from
     → x.from + length x.piece.bytes ≤ k.from + k.size → y.from + length y.piece.bytes ≤ j.from + j.size → SharesNothing (there x) (there y)
 other_entry_back x y k j (inl a) xh yh xb yb xw yw = (let b = a.from in beside-nothing (there x) (there y) (inl (omega (arith, b, xh, yh, xb, yb, xw, yw))))
 other_entry_back x y k j (inr a) xh yh xb yb xw yw = (let b = a.from in beside-nothing (there x) (there y) (inr (omega (arith, b, xh, yh, xb, yb, xw, yw))))
 
 -- two fields stand in one entry, or in two that are beside each other
-one_or_two : (fs : Frames) (x y : Moved) (p : IsInEntry fs x) (q : IsInEntry fs y) → (p.entry ≡ q.entry) ⊎ Beside p.entry q.entry
+one_or_two : (fs : Frames) (x y : MovedPiece) (p : IsInEntry fs x) (q : IsInEntry fs y) → (p.entry ≡ q.entry) ⊎ EntriesApart p.entry q.entry
 one_or_two fs x y p q =
     elim (cases_Bool (p.listed.0 == q.listed.0)) [
       | inl e ↦ inl (sym p.listed.2 ∙ ap (λ (i : ℕ). get_or (kept_in fs) i p.entry) (eqb-true _ _ e) ∙ get_or_default (kept_in fs) q.listed.0 p.entry q.entry q.listed.1 ∙ q.listed.2)
       | inr n ↦
           (let pairs = all_beside fs start (found_in fs) (found_walked fs) in
-          let both = at_places Beside (kept_in fs) beside_back pairs p.listed.0 q.listed.0 p.entry (λ e. both_ways _ n (eq-eqb _ _ e)) p.listed.1 q.listed.1 in
+          let both = at_places EntriesApart (kept_in fs) beside_back pairs p.listed.0 q.listed.0 p.entry (λ e. both_ways _ n (eq-eqb _ _ e)) p.listed.1 q.listed.1 in
           let there : get_or (kept_in fs) q.listed.0 p.entry ≡ q.entry = get_or_default (kept_in fs) q.listed.0 p.entry q.entry q.listed.1 ∙ q.listed.2 in
-          inr (subst (λ (k : KeptEntry). Beside p.entry k) there (subst (λ (k : KeptEntry). Beside k (get_or (kept_in fs) q.listed.0 p.entry)) p.listed.2 both)))
+          inr (subst (λ (k : KeptEntry). EntriesApart p.entry k) there (subst (λ (k : KeptEntry). EntriesApart k (get_or (kept_in fs) q.listed.0 p.entry)) p.listed.2 both)))
     ]
 
-entries_both : (fs : Frames) (x y : Moved) → IsInEntry fs x → IsInEntry fs y → SharesNothing (there x) (there y) → SharesNothing (here x) (here y)
+entries_both : (fs : Frames) (x y : MovedPiece) → IsInEntry fs x → IsInEntry fs y → SharesNothing (there x) (there y) → SharesNothing (here x) (here y)
 entries_both fs x y p q nothing =
     elim (one_or_two fs x y p q) [
       | inl same ↦ same_entry x y p.entry q.entry same p.some q.some p.here q.here p.behind q.behind p.to q.to nothing
       | inr other ↦ other_entry x y p.entry q.entry other p.here q.here p.behind q.behind p.to q.to p.within q.within
     ]
 
-entries_back : (fs : Frames) (x y : Moved) → IsInEntry fs x → IsInEntry fs y → SharesNothing (here x) (here y) → SharesNothing (there x) (there y)
+entries_back : (fs : Frames) (x y : MovedPiece) → IsInEntry fs x → IsInEntry fs y → SharesNothing (here x) (here y) → SharesNothing (there x) (there y)
 entries_back fs x y p q nothing =
     elim (one_or_two fs x y p q) [
       | inl same ↦ same_entry_back x y p.entry q.entry same p.some q.some p.here q.here p.behind q.behind p.to q.to nothing
@@ -556,7 +556,7 @@ frames_apart l s fs moved still wide = moves_by l s (kept_relocations fs) (IsInE
     plain : (i : ℕ) (x : IsTemplateSite l s i) → ⊥
     plain i x = both_ways (executable s.flags) still (rewritten_is_code l s i x.relocation x.row x.value x.rewritten)
 
-    in_entry : (i : ℕ) (r : InputRelocation) (o : IsOfEntry fs i r) (m : Moved) → m.to ≡ r.offset → IsMovedField l o.item.relocation m → IsInEntry fs m
+    in_entry : (i : ℕ) (r : InputRelocation) (o : IsOfEntry fs i r) (m : MovedPiece) → m.to ≡ r.offset → IsMovedField l o.item.relocation m → IsInEntry fs m
     in_entry i r o m to f =
         let lies = o.lies.lies in
         let there = f.there in
@@ -575,7 +575,7 @@ frames_apart l s fs moved still wide = moves_by l s (kept_relocations fs) (IsInE
           within = omega (arith, there, inside, size, long);
         }
 
-    each : (i : ℕ) (r : InputRelocation) → slice_get s.relocations i ≡ Some r → (o : InputRelocation) × (slice_get (kept_relocations fs) i ≡ Some o) × (r.number ≡ o.number) × ((m : Moved) → m.to ≡ r.offset → IsMovedField l o m → IsInEntry fs m)
+    each : (i : ℕ) (r : InputRelocation) → slice_get s.relocations i ≡ Some r → (o : InputRelocation) × (slice_get (kept_relocations fs) i ≡ Some o) × (r.number ≡ o.number) × ((m : MovedPiece) → m.to ≡ r.offset → IsMovedField l o m → IsInEntry fs m)
     each i r listed =
         let o = from_entry fs i r (subst (λ (rs : List InputRelocation). slice_get rs i ≡ Some r) moved listed) in
         (o.item.relocation, o.listed, ap (λ (x : InputRelocation). x.number) o.is, in_entry i r o)

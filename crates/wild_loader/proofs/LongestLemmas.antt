@@ -12,7 +12,7 @@ use Rattle.wild_loader.specs.InstructionX86_64.{templates_x86_64}
 use Rattle.wild_loader.specs.Effect.{window, first_match, operand_value, effect_of, step_x86_64}
 use Rattle.wild_loader.specs.StepLawsX86_64.{StepsAreLongest}
 use Rattle.wild_loader.proofs.Windows.{window-held}
-use Rattle.wild_loader.proofs.MeantLemmas.{stands-take, stands_long, take_long, held_front, sized}
+use Rattle.wild_loader.proofs.MeantLemmas.{matches_cells-take, stands_long, take_long, held_front, sized}
 
 -- ---- the table
 
@@ -83,7 +83,7 @@ stands_loaded : (m : Memory) (a : ℕ) (t : Template) (bs : List ℕ) → length
 stands_loaded m a t bs short held s =
     let own = take (length t.cells) bs in
     let long : length own ≡ length t.cells = take_long bs (length t.cells) (stands_long t.cells bs s) in
-    let stood : matches_cells t.cells own ≡ true = stands-take t.cells bs (length t.cells) (omega arith) ∙ s in
+    let stood : matches_cells t.cells own ≡ true = matches_cells-take t.cells bs (length t.cells) (omega arith) ∙ s in
     let loaded = window-held m a own 22 (omega (arith, long, short)) (held_front m a bs (length t.cells) held) in
     subst (λ (xs : List ℕ). matches_cells t.cells xs ≡ true) (sym loaded.1) (stands_more t.cells own loaded.0 stood)
 

@@ -30,11 +30,11 @@ nop = nop_byte ∷ []
 -- ---- the first bytes
 
 -- cells speak of no more bytes than they are
-pub stands-take : (cs : List Cell) (bs : List ℕ) (n : ℕ) → length cs ≤ n → matches_cells cs (take n bs) ≡ matches_cells cs bs
-stands-take [] bs n short = refl
-stands-take (c ∷ cs) bs zero short = absurd (omega (arith, short))
-stands-take (c ∷ cs) [] (suc n) short = refl
-stands-take (c ∷ cs) (b ∷ bs) (suc n) short = ap (λ (r : Bool). fits c b && r) (stands-take cs bs n (omega (arith, short)))
+pub matches_cells-take : (cs : List Cell) (bs : List ℕ) (n : ℕ) → length cs ≤ n → matches_cells cs (take n bs) ≡ matches_cells cs bs
+matches_cells-take [] bs n short = refl
+matches_cells-take (c ∷ cs) bs zero short = absurd (omega (arith, short))
+matches_cells-take (c ∷ cs) [] (suc n) short = refl
+matches_cells-take (c ∷ cs) (b ∷ bs) (suc n) short = ap (λ (r : Bool). fits c b && r) (matches_cells-take cs bs n (omega (arith, short)))
 
 -- bytes that stand are as many
 pub stands_long : (cs : List Cell) (bs : List ℕ) → matches_cells cs bs ≡ true → length cs ≤ length bs
@@ -57,7 +57,7 @@ drop_take (b ∷ bs) (suc n) = drop_take bs n
 pub first_passes : (u t : Template) (bs : List ℕ) → matches_cells u.cells bs ≡ false → template_fills nop u (take (length t.cells) bs) ≡ false
 first_passes u t bs none =
     elim (cases_Bool (nat_le (length u.cells) (length (take (length t.cells) bs)))) [
-      | inl y ↦ rw (y, stands-take u.cells bs (length t.cells) (short y), none) refl
+      | inl y ↦ rw (y, matches_cells-take u.cells bs (length t.cells) (short y), none) refl
       | inr n ↦ rw n refl
     ]
   where
@@ -73,7 +73,7 @@ whole_fills : (t : Template) (bs : List ℕ) → matches_cells t.cells bs ≡ tr
 whole_fills t bs s =
     let n : length (take (length t.cells) bs) ≡ length t.cells = take_long bs (length t.cells) (stands_long t.cells bs s) in
     let fit : nat_le (length t.cells) (length (take (length t.cells) bs)) ≡ true = rw n (refl_le (length t.cells)) in
-    let own : matches_cells t.cells (take (length t.cells) bs) ≡ true = stands-take t.cells bs (length t.cells) (omega arith) ∙ s in
+    let own : matches_cells t.cells (take (length t.cells) bs) ≡ true = matches_cells-take t.cells bs (length t.cells) (omega arith) ∙ s in
     rw (fit, own, drop_take bs (length t.cells)) refl
   where
     refl_le : (n : ℕ) → nat_le n n ≡ true

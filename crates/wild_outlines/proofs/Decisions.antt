@@ -22,7 +22,7 @@ use Rattle.wild_change.specs.Outline.{outline}
 use Rattle.wild_outlines.proofs.ListLemmas.{flat_map-same}
 use Rattle.wild_outlines.proofs.SharesSections.{treatment-outline}
 use Rattle.wild_outlines.proofs.ValuesFiles.{raw_value-outline}
-use Rattle.wild_outlines.proofs.ValuesSymbols.{address_for-outline, is_own_place-outline, merged_strings-outline, term_by-outline, value_less-outline}
+use Rattle.wild_outlines.proofs.ValuesSymbols.{address_for-outline, merged_strings-outline, subtract-outline, term_by-outline, weak_resolves_to_place-outline}
 
 choice_around_by-outline : (l : Layout) (s : Item) (i : ℕ) (r : InputRelocation) (o : Option ℕ) → choice_around_by (outline l) s i r o ≡ choice_around_by l s i r o
 unfolding choice_around_by
@@ -63,7 +63,7 @@ field_or_thunk-outline l s r row v = simp (thunk_for-outline l)
 
 field_for-outline : (l : Layout) (s : Item) (r : InputRelocation) (row : RelocationKindInfo) (d : Result ℕ Fault) → field_for (outline l) s r row d ≡ field_for l s r row d
 field_for-outline l s r row (Err f) = refl
-field_for-outline l s r row (Ok a) = simp (field_or_thunk-outline l, value_less-outline l)
+field_for-outline l s r row (Ok a) = simp (field_or_thunk-outline l, subtract-outline l)
 
 ifunc_decision-outline : (l : Layout) (r : InputRelocation) (d : Result ℕ Fault) → ifunc_decision (outline l) r d ≡ ifunc_decision l r d
 ifunc_decision-outline l r (Err f) = refl
@@ -79,7 +79,7 @@ size_decision-outline l r row i (Ok d) = refl
 
 decide_by-outline : (l : Layout) (s : Item) (r : InputRelocation) (t : Treatment) → decide_by (outline l) s r t ≡ decide_by l s r t
 decide_by-outline l s r treatments.Nothing = refl
-decide_by-outline l s r (treatments.Value row) = simp (field_for-outline l, is_own_place-outline l, term_by-outline l)
+decide_by-outline l s r (treatments.Value row) = simp (field_for-outline l, weak_resolves_to_place-outline l, term_by-outline l)
 decide_by-outline l s r treatments.BaseRelative = simp (relative_decision-outline l, address_for-outline l)
 decide_by-outline l s r (treatments.Symbolic i) = refl
 decide_by-outline l s r (treatments.Indirect i) = simp (ifunc_decision-outline l)
@@ -91,14 +91,14 @@ unfolding decided
 decided-outline l s r = simp (decide_by-outline l, treatment-outline l)
 
 term_to-outline : (l : Layout) (r : InputRelocation) (info : RelocationKindInfo) (p : ℕ) → term_to (outline l) r info p ≡ term_to l r info p
-term_to-outline l r info p = simp (is_own_place-outline l, term_by-outline l)
+term_to-outline l r info p = simp (weak_resolves_to_place-outline l, term_by-outline l)
 
 refused_sequence-outline : (l : Layout) (s : Item) (r : InputRelocation) (e : UnknownSequence) → refused_sequence (outline l) s r e ≡ refused_sequence l s r e
 refused_sequence-outline l s r e = simp (term_to-outline l)
 
 value_to-outline : (l : Layout) (s : Item) (r : InputRelocation) (row : Row) (d : Result ℕ Fault) → value_to (outline l) s r row d ≡ value_to l s r row d
 value_to-outline l s r row (Err f) = refl
-value_to-outline l s r row (Ok a) = simp (value_less-outline l, field_or_thunk-outline l)
+value_to-outline l s r row (Ok a) = simp (subtract-outline l, field_or_thunk-outline l)
 
 decide_with-outline : (l : Layout) (s : Item) (r : InputRelocation) (x : Result (Option Row) UnknownSequence) → decide_with (outline l) s r x ≡ decide_with l s r x
 decide_with-outline l s r (Ok None) = simp (decided-outline l)

@@ -6,7 +6,7 @@ use Rattle.wild_reloc.specs.declared.expression.Subtrahend.{Subtrahend}
 use Rattle.wild_reloc.specs.declared.expression.Term.{Term}
 use Rattle.wild_reloc.specs.declared.info.RelocationKindInfo.{RelocationKindInfo}
 use Rattle.wild_reloc.specs.declared.expression.SlotSort.TheVariants as sorts
-use Rattle.wild_reloc.specs.declared.expression.Subtrahend.TheVariants as taken
+use Rattle.wild_reloc.specs.declared.expression.Subtrahend.TheVariants as subtrahend
 use Rattle.wild_reloc.specs.declared.expression.Term.TheVariants as term
 use Rattle.wild_types.specs.declared.input.InputRelocation.{InputRelocation}
 use Rattle.wild_types.specs.declared.input.MergedString.{MergedString}
@@ -25,7 +25,7 @@ use Rattle.wild_slot.specs.Treatment.{flags_at}
 use Rattle.wild_layout.specs.Merged.{address_by, address_for, address_named, merged_strings, strings_by, strings_of, strings_at, strings_in, strings_of_symbol, is_plain_own}
 use Rattle.wild_layout.specs.SlotValues.{address_of, slot_address, slot_of, stub_address}
 use Rattle.wild_layout.specs.SymbolValues.{is_undefined, raw_address, storage_start}
-use Rattle.wild_layout.specs.Values.{is_absent, is_own_place, pointer_offset, size_of, term_by, term_value, value_less}
+use Rattle.wild_layout.specs.Values.{is_undefined_weak_without_stub, pointer_offset, size_of, subtract, term_by, term_value, weak_resolves_to_place}
 use Rattle.wild_change.specs.Outline.{outline_section, outline_file, outline}
 use Rattle.wild_outlines.proofs.ClausesGroups.{file_of-layout}
 use Rattle.wild_outlines.proofs.ValuesFiles.{raw_value-outline}
@@ -82,20 +82,20 @@ pointer_offset-outline : (l : Layout) (o : Option ℕ) → pointer_offset (outli
 pointer_offset-outline l None = refl
 pointer_offset-outline l (Some i) = simp (is_undefined-outline l, raw_value-outline l)
 
-pub value_less-outline : (l : Layout) (t : Subtrahend) (s : ℕ) (a : ℤ) (p : ℕ) → value_less (outline l) t s a p ≡ value_less l t s a p
-value_less-outline l taken.Nothing s a p = refl
-value_less-outline l other s a p = refl
+pub subtract-outline : (l : Layout) (t : Subtrahend) (s : ℕ) (a : ℤ) (p : ℕ) → subtract (outline l) t s a p ≡ subtract l t s a p
+subtract-outline l subtrahend.Nothing s a p = refl
+subtract-outline l other s a p = refl
 
-is_absent-outline : (l : Layout) (o : Option ℕ) → is_absent (outline l) o ≡ is_absent l o
-is_absent-outline l None = refl
-is_absent-outline l (Some i) = refl
+is_undefined_weak_without_stub-outline : (l : Layout) (o : Option ℕ) → is_undefined_weak_without_stub (outline l) o ≡ is_undefined_weak_without_stub l o
+is_undefined_weak_without_stub-outline l None = refl
+is_undefined_weak_without_stub-outline l (Some i) = refl
 
-pub is_own_place-outline : (l : Layout) (m : Machine) (r : InputRelocation) (row : RelocationKindInfo) → is_own_place m (outline l) r row ≡ is_own_place m l r row
-is_own_place-outline l machine.X86_64 r row = refl
-is_own_place-outline l machine.AArch64 r row = simp (is_absent-outline l)
+pub weak_resolves_to_place-outline : (l : Layout) (m : Machine) (r : InputRelocation) (row : RelocationKindInfo) → weak_resolves_to_place m (outline l) r row ≡ weak_resolves_to_place m l r row
+weak_resolves_to_place-outline l machine.X86_64 r row = refl
+weak_resolves_to_place-outline l machine.AArch64 r row = simp (is_undefined_weak_without_stub-outline l)
 
 slot_of-outline : (l : Layout) (sort : SlotSort) (i : ℕ) → slot_of (outline l) sort i ≡ slot_of l sort i
-slot_of-outline l sorts.OwnPair i = refl
+slot_of-outline l sorts.TlsLd i = refl
 slot_of-outline l sort i = refl
 
 slot_address-outline : (l : Layout) (sort : SlotSort) (o : Option ℕ) → slot_address (outline l) sort o ≡ slot_address l sort o
@@ -114,7 +114,7 @@ size_of-outline l None = refl
 size_of-outline l (Some i) = refl
 
 term_value-outline : (l : Layout) (symbol : Option ℕ) (t : Term) → term_value (outline l) symbol t ≡ term_value l symbol t
-term_value-outline l symbol term.Table = refl
+term_value-outline l symbol term.GotBase = refl
 term_value-outline l symbol term.Size = simp (size_of-outline l)
 term_value-outline l symbol term.PointerOffset = simp (pointer_offset-outline l)
 term_value-outline l symbol term.ModuleOffset = simp (storage_start-outline l, raw_address-outline l)
