@@ -66,6 +66,13 @@ impl Test<InputSection> for FieldsLie {
     }
 }
 
+/// Whether the fields of a section's relocations lie in it.
+pub fn fields_lie(machine: Machine, section: &InputSection) -> bool
+    ensures { result ≡ fields_lie machine section.now }
+{
+    FieldsLie { machine }.passes(section)
+}
+
 /// The reader of the input failed at no relocation; in frames the frames' own check reports that.
 struct IsRead;
 
@@ -83,6 +90,13 @@ impl Test<InputSection> for IsRead {
     fn passes(&self, section: &InputSection) -> bool {
         section.slot.is_frame() || all_pass(self, section.relocations.as_slice())
     }
+}
+
+/// Whether the reader of the input failed at no relocation of a section, or the section has frames.
+pub fn relocations_are_read(section: &InputSection) -> bool
+    ensures { result ≡ relocations_are_read section.now }
+{
+    IsRead.passes(section)
 }
 
 /// A relocation passes both tests.

@@ -39,6 +39,13 @@ impl Test<InputSection> for ReversedFits {
     }
 }
 
+/// Whether a section whose words are reversed has only whole words, and relocations of whole words.
+pub fn reversed_fits(machine: Machine, section: &InputSection) -> bool
+    ensures { result ≡ reversed_fits machine section.now }
+{
+    ReversedFits { machine }.passes(section)
+}
+
 #[tactic(auto, using(crate::proofs::PassedLemmas::reversed_pass), unfolding(wild_plan_rules::specs::ClauseTests::check_reversed))]
 pub(crate) fn check_reversed(layout: &Layout, tests_pass: bool) -> Result<(), Clause>
     requires tests_pass { tests_pass ≡ groups_pass layout.now }

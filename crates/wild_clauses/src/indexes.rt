@@ -95,6 +95,13 @@ impl Test<InputSection> for IndexesFit<'_> {
     }
 }
 
+/// Whether the indexes in a section and its relocations name items that exist.
+pub fn section_indexes_fit(layout: &Layout, section: &InputSection) -> bool
+    ensures { result ≡ section_indexes_fit layout.now section.now }
+{
+    IndexesFit { layout }.passes(section)
+}
+
 impl Test<File> for IndexesFit<'_> {
     ghost test = { λ t. file_indexes_fit t.layout.now };
 

@@ -36,6 +36,9 @@ mod thunks;
 mod verdict;
 mod versions;
 
+pub use fields::{fields_lie, relocations_are_read};
+pub use fronts::reversed_fits;
+pub use indexes::section_indexes_fit;
 pub use layout_survey::LayoutSurvey;
 pub use partial::file_tables_fit;
 pub use survey::section_passes;
