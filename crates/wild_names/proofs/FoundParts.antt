@@ -97,11 +97,11 @@ pub gnu_told : (l : Layout) (room : ℕ) → ImageLaws → needs_dynamic l.kind 
 unfolding dynamic_number dynamic_entry
 gnu_told l room laws needs = told l room tags.GnuHash laws needs (λ e. cc)
 
-symbols_told : (l : Layout) (room : ℕ) → ImageLaws → needs_dynamic l.kind ≡ true → value_of_tag dt_symtab (entries_read l room) ≡ part_address (part_with role.Dynsym l.parts)
+pub symbols_told : (l : Layout) (room : ℕ) → ImageLaws → needs_dynamic l.kind ≡ true → value_of_tag dt_symtab (entries_read l room) ≡ part_address (part_with role.Dynsym l.parts)
 unfolding dynamic_number dynamic_entry
 symbols_told l room laws needs = told l room tags.SymbolTable laws needs (λ e. cc)
 
-strings_told : (l : Layout) (room : ℕ) → ImageLaws → needs_dynamic l.kind ≡ true → value_of_tag dt_strtab (entries_read l room) ≡ part_address (part_with role.Dynstr l.parts)
+pub strings_told : (l : Layout) (room : ℕ) → ImageLaws → needs_dynamic l.kind ≡ true → value_of_tag dt_strtab (entries_read l room) ≡ part_address (part_with role.Dynstr l.parts)
 unfolding dynamic_number dynamic_entry
 strings_told l room laws needs = told l room tags.StringTable laws needs (λ e. cc)
 
@@ -136,7 +136,7 @@ with_hash l r p laid hash loaded found =
     any-contains (λ (q : Part). is_hash_role q.role) l.parts p t.listed (subst (λ (x : Role). is_hash_role x ≡ true) (sym t.has) hash)
 
 -- a look-up finds a part that is not empty
-found_role : (l : Layout) (r : Role) (p : Part) → TablesStand → KeepsAll l → IsLaidOut l → needs_dynamic l.kind ≡ true → has_hashes l ≡ true → is_look_up_role r ≡ true → (role_place r ≡ 0 → ⊥) → part_with r l.parts ≡ Some p → 1 ≤ p.size → (f : Found) × IsFoundPart (bytes l) (headers_of l) p f
+pub found_role : (l : Layout) (r : Role) (p : Part) → TablesStand → KeepsAll l → IsLaidOut l → needs_dynamic l.kind ≡ true → has_hashes l ≡ true → is_look_up_role r ≡ true → (role_place r ≡ 0 → ⊥) → part_with r l.parts ≡ Some p → 1 ≤ p.size → (f : Found) × IsFoundPart (bytes l) (headers_of l) p f
 found_role l r p stand keeps laid needs hashes asked loaded found some =
     let written = not_hollow_at l p.section keeps in
     let c = (laid.loadable (dynamic_whole l.kind needs)).look_ups needs hashes r p asked found written some in
@@ -155,7 +155,7 @@ pub record HasParts (l : Layout) (tag : ℕ) (p : Part) : Type 0 where
   pub room : p.size ≤ parts.hashes.size
   pub numbered : AreNumbered (bytes_or_none (bytes l) parts.symbols) (bytes_or_none (bytes l) parts.strings) (first_listed l) l.dynsyms
 
-at_address : (image : List ℕ) (hs : List ProgramHeader) (tag : ℕ) (p : Part) (f : Found) → IsFoundPart image hs p f → part_of image hs tag (Some p.address) ≡ Ok f
+pub at_address : (image : List ℕ) (hs : List ProgramHeader) (tag : ℕ) (p : Part) (f : Found) → IsFoundPart image hs p f → part_of image hs tag (Some p.address) ≡ Ok f
 unfolding part_of
 at_address image hs tag p f found = found.is
 
