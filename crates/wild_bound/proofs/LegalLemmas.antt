@@ -22,7 +22,7 @@ use Rattle.wild_loader.specs.Load.{load}
 use Rattle.wild_layout.specs.Geometry.{LayoutsAreLaidOut}
 use Rattle.wild_layout.specs.Image.{bytes}
 use Rattle.wild_loaded.proofs.CopiedSymbols.{raw_is}
-use Rattle.wild_layout.specs.Numbers.{SymbolNumbers}
+use Rattle.wild_layout.specs.Numbers.{SymbolNumbers as ResolutionsFit}
 use Rattle.wild_names.specs.LookUpLaws.{IsWritten}
 use Rattle.wild_names.specs.ReadLaws.{AreReadBack, DynamicSymbolsAreRead}
 use Rattle.wild_names.proofs.ShapeLemmas.{well_formed}
@@ -42,7 +42,7 @@ use Rattle.wild_space.specs.Bound.{bound}
 use Rattle.wild_space.specs.BoundLaws.{IsSameAnswer, IsMadeSymbol, IsMade, SpacesAreMade}
 use Rattle.wild_space.specs.Order.{bytes_at}
 use Rattle.wild_bound.specs.Legal.{BoundWorldsAreLegal, IsLinkedAt, BoundImagesAreLinked}
-use Rattle.wild_bound.specs.Premises.{HasOwnSymbol, HasPair, AreCounted, AnswerNumbers, WorldNumbers, HasLayout}
+use Rattle.wild_bound.specs.Premises.{HasOwnSymbol, HasPair, AreCounted, SymbolNumbers, AnswerNumbers, WorldNumbers, HasLayout}
 use Rattle.wild_bound.proofs.AnswerLemmas.{IsAnswerFor, answered, bound_inside}
 use Rattle.wild_bound.proofs.EntryLemmas.{table_entry}
 use Rattle.wild_bound.proofs.ModuleLemmas.{pair_of, pair_none, kept_pair}
@@ -194,12 +194,12 @@ read_entry laws xs rs b n c k l s r h o =
     let place = e.1 in
     let same : e.0 + 1 ≡ k = omega (arith, place) in
     let there : symbol_of xs (place_of b.order n) k ≡ Ok back.entry = subst (λ (q : ℕ). symbol_of xs (place_of b.order n) q ≡ Ok back.entry) same (symbol_is xs (place_of b.order n) (e.0 + 1) l back.entry has read back.read) in
-    let small = (holds_at SymbolNumbers l.symbols c s o.listed h.is.numbers.symbols r o.decided).value in
+    let small = (holds_at ResolutionsFit l.symbols c s o.listed h.is.numbers.symbols r o.decided).value in
     let defined = itself_defined laws.first xs b.order n k back.entry (h.own.itself c k s r o) there in
     record {
       entry = back.entry;
       there = there;
-      own = own_entry l read.tables (e.0 + 1) t.fields s r back t.are (h.own.fits c k s r o) plain small defined;
+      own = own_entry l read.tables (e.0 + 1) t.fields s r back t.are (holds_at SymbolNumbers l.symbols c s o.listed h.is.symbols) plain small defined;
       starts = start_is xs (place_of b.order n) l has read ∙ ap (λ (q : List ProgramHeader). Ok (thread_address q)) read.headers ∙ ap (λ (q : ℕ). Ok q) h.placed.threads;
     }
 

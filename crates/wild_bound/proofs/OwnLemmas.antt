@@ -31,7 +31,7 @@ use Rattle.wild_space.specs.BindLaws.{IsBound, BindsAreFirst}
 use Rattle.wild_space.specs.Binds.{place_of, symbol_of, find_in, thread_start_of, is_own, bind, address_of, offset_of}
 use Rattle.wild_space.specs.Given.{◌>>=◌, known, look}
 use Rattle.wild_space.specs.Order.{bytes_at, bytes_of_image, tables_of}
-use Rattle.wild_bound.specs.Premises.{IsBoundToItself, SymbolFits, HasPlainEntry}
+use Rattle.wild_bound.specs.Premises.{IsBoundToItself, SymbolNumbers, HasPlainEntry}
 use Rattle.wild_bound.proofs.EntryLemmas.{counted_value, HasOwnFields, AreUndefinedOrOwn}
 
 -- ---- what is read of the image
@@ -43,7 +43,7 @@ HasBytes xs i l = bytes_at xs i ≡ bytes l
 pub bytes_are : (xs : List NamedImage) (i : ℕ) (x : NamedImage) (l : Layout) → slice_get xs i ≡ Some x → x.bytes ≡ bytes l → HasBytes xs i l
 bytes_are xs i x l there is = ap bytes_of_image there ∙ is
 
-tables_are : (xs : List NamedImage) (i : ℕ) (l : Layout) → HasBytes xs i l → (read : AreReadBack l) → tables_of xs i ≡ Ok read.tables
+pub tables_are : (xs : List NamedImage) (i : ℕ) (l : Layout) → HasBytes xs i l → (read : AreReadBack l) → tables_of xs i ≡ Ok read.tables
 unfolding tables_of
 tables_are xs i l has read = rw (has, read.are) refl
 
@@ -183,7 +183,7 @@ counted_small true true raw start h = h
 counted_small true false raw start h = omega arith
 counted_small false still raw start h = h
 
-pub own_entry : (l : Layout) (t : ImageTables) (k : ℕ) (n : NamedFields) (s : Symbol) (r : Resolution) → (b : IsReadBack l t k n) → AreUndefinedOrOwn l s r n.fields → SymbolFits s → HasPlainEntry l s r → r.raw_value < 2 ^ 64 → (b.entry.section == shn_undef) ≡ false → IsOwnEntry l s r b.entry
+pub own_entry : (l : Layout) (t : ImageTables) (k : ℕ) (n : NamedFields) (s : Symbol) (r : Resolution) → (b : IsReadBack l t k n) → AreUndefinedOrOwn l s r n.fields → SymbolNumbers s → HasPlainEntry l s r → r.raw_value < 2 ^ 64 → (b.entry.section == shn_undef) ≡ false → IsOwnEntry l s r b.entry
 own_entry l t k n s r b are fits plain small defined = elim are [
   | inl u ↦
       (let none : n.fields.section < 2 ^ 16 = omega (arith, u) in

@@ -42,11 +42,17 @@ use Rattle.wild_space.specs.Binds.{place_of, count_of, bind}
 
 -- ---- the image
 
+-- the type and the size of a symbol are in their types' ranges
+pub record SymbolNumbers (s : Symbol) : Type 0 where
+  pub info : s.info < 2 ^ 8
+  pub size : s.size < 2 ^ 64
+
 -- the image is that of an executable or shared object without faults, of which all is written
 pub record IsImageOf (l : Layout) (x : NamedImage) : Type 0 where
   pub is : x.bytes ≡ image_bytes l
   pub none : errors l ≡ []
   pub numbers : NumbersFit l
+  pub symbols : All SymbolNumbers l.symbols
   pub flags : HaveTheirFlags l
   pub keeps : KeepsAll l
   pub loadable : IsLoadable l.kind
@@ -96,11 +102,6 @@ pub record HasPlainEntry (l : Layout) (s : Symbol) (r : Resolution) : Type 0 whe
   pub stub : has_stub_address l s ≡ false
   pub copied : has_flag s.flags copy_relocation ≡ true → (is_thread_symbol s ≡ false) × (has_flag s.flags absolute ≡ false)
 
--- the type and the size of a symbol are in their fields' ranges
-pub record SymbolFits (s : Symbol) : Type 0 where
-  pub info : s.info < 2 ^ 8
-  pub size : s.size < 2 ^ 64
-
 -- symbol k of the image at place n of the order is bound to itself
 abbrev pub IsBoundToItself : List NamedImage → List ℕ → ℕ → ℕ → Type 0
 IsBoundToItself xs order n k = bind xs order n k ≡ Ok (Some (record { image = n; index = k }))
@@ -109,7 +110,6 @@ IsBoundToItself xs order n k = bind xs order n k ≡ Ok (Some (record { image = 
 -- table, with which the symbols and their names are in one segment each.
 pub record AreOwnSymbolsKept (xs : List NamedImage) (order : List ℕ) (n : ℕ) (l : Layout) : Type 0 where
   pub plain : (c k : ℕ) (s : Symbol) (r : Resolution) → HasOwnSymbol l c k s r → HasPlainEntry l s r
-  pub fits : (c k : ℕ) (s : Symbol) (r : Resolution) → HasOwnSymbol l c k s r → SymbolFits s
   pub itself : (c k : ℕ) (s : Symbol) (r : Resolution) → HasOwnSymbol l c k s r → IsBoundToItself xs order n k
   pub dynamic : (c k : ℕ) (s : Symbol) (r : Resolution) → HasOwnSymbol l c k s r → needs_dynamic l.kind ≡ true
   pub hashes : (c k : ℕ) (s : Symbol) (r : Resolution) → HasOwnSymbol l c k s r → has_hashes l ≡ true

@@ -1,12 +1,21 @@
 //! The images of a name space are linked: the world of each is legal for its layout.
 #![tactic(auto)]
 
+ghost use Rattle.wild_bound.specs.Kept.{FirstSymbolsAreBound, IndexesAreCounted, VisibleSymbolsAreBound};
 ghost use Rattle.wild_bound.specs.Legal.{BoundImagesAreLinked, BoundWorldsAreLegal};
 
 use wild_geometry::layouts_are_laid_out;
+use wild_hashes::{
+    gnu_look_up_finds_the_first, neighbours_ascend, sysv_look_up_finds_the_first,
+};
 use wild_laws::images_are_sound;
 use wild_names::dynamic_symbols_are_read;
+use wild_records::gnu_hash_header_is_read;
 use wild_space::{binds_are_first, spaces_are_made};
+
+mod numbers;
+
+pub use numbers::{symbol_numbers_fit, world_numbers_fit};
 
 /// The world of each image of a space is legal for the layout of that image, if its own symbols are bound to themselves and the other
 /// conditions hold.
@@ -26,4 +35,27 @@ pub fn bound_images_are_linked()
     spaces_are_made();
     bound_worlds_are_legal();
     images_are_sound();
+}
+
+/// An exported symbol is bound to itself if its visibility is not the default. So is one of the first image that is the first with its
+/// name there, if that image has a hash table.
+pub fn exported_symbols_are_bound()
+    ensures visible { VisibleSymbolsAreBound }
+    ensures first { FirstSymbolsAreBound }
+{
+    layouts_are_laid_out();
+    dynamic_symbols_are_read();
+    gnu_look_up_finds_the_first();
+    sysv_look_up_finds_the_first();
+    neighbours_ascend();
+}
+
+/// In an image with a hash table each index in the dynamic symbol table is below the number of symbols that is read of the image.
+pub fn indexes_are_counted()
+    ensures { IndexesAreCounted }
+{
+    layouts_are_laid_out();
+    dynamic_symbols_are_read();
+    gnu_hash_header_is_read();
+    neighbours_ascend();
 }

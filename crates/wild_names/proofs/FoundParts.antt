@@ -170,7 +170,7 @@ strings_at image hs p f found =
     rw (found.is, fits) refl
 
 -- a part that is not empty is a filled one
-filled_is : (l : Layout) (r : Role) (p : Part) → part_with r l.parts ≡ Some p → 1 ≤ p.size → filled_part l r ≡ Some p
+pub filled_is : (l : Layout) (r : Role) (p : Part) → part_with r l.parts ≡ Some p → 1 ≤ p.size → filled_part l r ≡ Some p
 filled_is l r p found some = let e : (p.size == 0) ≡ false = ne_eqb p.size 0 (λ z. omega (arith, some, z)) in ap unless_empty found ∙ rw e refl
 
 pub has_parts : (l : Layout) (r : Role) (tag : ℕ) (p : Part) → ImageLaws → NameLaws → (read : IsRead l) → needs_dynamic l.kind ≡ true → is_hash_role r ≡ true → is_look_up_role r ≡ true → (role_place r ≡ 0 → ⊥) → value_of_tag tag (entries_read l read.entries.room) ≡ part_address (filled_part l r) → part_with r l.parts ≡ Some p → 1 ≤ p.size → HasParts l tag p
@@ -194,7 +194,7 @@ has_parts l r tag p laws names read needs hash asked loaded telling found some =
       is = parts_read l tag laws read ∙ rw (here, own.1.is, symbols, text, text_size, at_address (bytes l) (headers_of l) dt_symtab t.table table.0 table.1, strings_at (bytes l) (headers_of l) t.strings strings.0 strings.1) refl;
       start = own.1.start;
       room = own.1.room;
-      numbered = are_numbered l t.table t.strings table.0 (first_of strings.0 t.strings.size) all (record { start = table.1.start; room = table.1.room; strings_start = strings.1.start; strings_size = refl }) laid.indexes laid.dynsyms.named;
+      numbered = are_numbered l t.table t.strings table.0 (first_of strings.0 t.strings.size) all (record { start = table.1.start; room = table.1.room; strings_start = strings.1.start; strings_room = omega arith }) laid.indexes laid.dynsyms.named;
     }
 
 -- without the part of a table, or with an empty one, there are none

@@ -94,7 +94,7 @@ pub record HasTables (l : Layout) (table strings : Part) (f g : Found) : Type 0 
   pub start : f.start ≡ table.offset
   pub room : table.size ≤ f.size
   pub strings_start : g.start ≡ strings.offset
-  pub strings_size : g.size ≡ strings.size
+  pub strings_room : strings.size ≤ g.size
 
 named_at : (l : Layout) (table strings : Part) (f g : Found) (i : ℕ) (n : NamedFields) → HasTables l table strings f g → symtab_entry_size * i + symtab_entry_size ≤ table.size → HasEntry l table strings i n → ((k : ℕ) → k < length n.name → slice_index_or n.name k 0 ≡ 0 → ⊥)
     → IsNamed (bytes_of (bytes l) f) (bytes_of (bytes l) g) i n.name
@@ -110,7 +110,7 @@ named_at l table strings f g i n found room h whole =
     let text = n.name ++ 0 ∷ [] in
     let long = length-append n.name (0 ∷ []) in
     let within = h.name.within in
-    let holds = found.strings_size in
+    let holds = found.strings_room in
     let there = stands_cut (bytes l) text g strings.offset h.at found.strings_start (omega (arith, within, holds, long)) h.name.stands in
     record {
       inside = omega (arith, inside, size);

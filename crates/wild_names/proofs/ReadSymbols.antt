@@ -1,6 +1,6 @@
 -- Dynamic symbols and their names, read back from an image without faults.
 use Rattle.std.proofs.Common.{◌≡◌, ℕ, ◌+◌, ◌*◌, ◌/◌, ◌^◌, ◌<◌, ◌≤◌, inl, inr, true, false, List, [], ◌∷◌, ◌++◌, length, map, Some, Ok, refl, sym, ap, ◌∙◌, arith, subst, add-zero}
-use Rattle.std.specs.Prelude.{◌==◌, nat_le, slice_get}
+use Rattle.std.specs.Prelude.{◌==◌, nat_le, slice_get, Option, None, Result}
 use Rattle.std.proofs.lemmas.Bool.{cases_Bool, eqb-true, le-leb}
 use Rattle.std.proofs.lemmas.List.{length-append}
 use Rattle.std.proofs.lemmas.Option.{slice_get_within}
@@ -16,38 +16,45 @@ use Rattle.wild_records.specs.declared.program_header.ProgramHeader.{ProgramHead
 use Rattle.wild_records.specs.declared.section_header.SectionHeader.{SectionHeader}
 use Rattle.wild_records.specs.declared.symtab_entry.SymtabEntry.{SymtabEntry}
 use Rattle.wild_types.specs.declared.part.Part.{Part}
+use Rattle.wild_types.specs.declared.part.Role.{Role}
 use Rattle.wild_types.specs.declared.part.Role.TheVariants as role
 use Rattle.wild_types.specs.declared.layout.Layout.{Layout}
-use Rattle.wild_types.specs.Parts.{part_with, has_hashes}
+use Rattle.wild_types.specs.Parts.{role_place, part_with, is_look_up_role, has_hashes}
 use Rattle.wild_types.proofs.LookupLemmas.{not_hollow_at}
-use Rattle.wild_needs.specs.DynamicPlaces.{part_address}
+use Rattle.wild_needs.specs.DynamicPlaces.{part_address, filled_part}
+use Rattle.wild_needs.specs.DynamicSymbols.{first_listed}
 use Rattle.wild_table_formats.specs.Headers.{file_header, section_headers_of}
 use Rattle.wild_table_formats.specs.DynamicEntries.{NamedFields, entry_at}
 use Rattle.wild_table_formats.specs.DynamicSection.{dynamic_records}
 use Rattle.wild_layout.specs.Image.{bytes}
-use Rattle.wild_layout.specs.TablePlaces.{all_needed}
+use Rattle.wild_layout.specs.TablePlaces.{all_needed, table_bytes}
 use Rattle.wild_loader.specs.Headers.{is_loadable_header, program_headers}
 use Rattle.wild_loader.specs.Laws.{HasDynamic, entries_before_null}
 use Rattle.wild_loader.specs.SegmentLaws.{HasHeaders}
 use Rattle.wild_loader.specs.Tables.{dynamic_entries, first_dynamic, value_of_tag}
 use Rattle.wild_loader.proofs.RecordLists.{dynamics-read}
 use Rattle.wild_loader.proofs.TableLemmas.{nothing-read}
-use Rattle.wild_hashes.specs.declared.fault.LookupFault.{LookupFault}
+use Rattle.wild_hashes.specs.declared.fault.ImageFault.{ImageFault}
 use Rattle.wild_hashes.specs.declared.image.Part.{Part as Found}
 use Rattle.wild_hashes.specs.declared.image.Records.{Records}
 use Rattle.wild_hashes.specs.declared.tables.ImageTables.{ImageTables}
-use Rattle.wild_hashes.specs.Image.{bytes_of, dynamic_records as records_of, part_of}
+use Rattle.wild_hashes.specs.Image.{bytes_of, bytes_or_none, dynamic_records as records_of, part_of}
 use Rattle.wild_hashes.specs.ImageTables.{image_tables, tables_at, headers_of, entries_of, hash_part, symbol_in, symbol_at, text_at}
-use Rattle.wild_hashes.specs.Reading.{HasNoZero, string_at}
+use Rattle.wild_hashes.specs.Laws.{AreNumbered}
+use Rattle.wild_hashes.specs.Reading.{HasNoZero}
+use Rattle.wild_hashes.specs.Tables.{gnu_hash_of, gnu_header, gnu_table, sysv_hash_of, sysv_table}
 use Rattle.wild_hashes.proofs.NameLemmas.{string_stands}
 use Rattle.wild_loaded.specs.Memory.{headers_of as layout_headers}
 use Rattle.wild_names.specs.Laws.{HasEntry, SymbolsAreThere, table_symbols}
 use Rattle.wild_names.specs.LookUpLaws.{IsWritten}
 use Rattle.wild_names.specs.LowerLaws.{RecordLaws, ImageLaws, NameLaws}
-use Rattle.wild_names.specs.ReadLaws.{IsReadBack, AreReadBack, DynamicSymbolsAreRead}
-use Rattle.wild_names.proofs.FoundParts.{IsRead, is_read, entries_read, symbols_told, strings_told, found_role, at_address}
+use Rattle.wild_names.specs.ReadLaws.{IsReadBack, HasTableAt, AreHashTablesFound, AreReadBack, DynamicSymbolsAreRead}
+use Rattle.wild_names.proofs.FoundParts.{IsRead, is_read, entries_read, sysv_told, gnu_told, symbols_told, strings_told, found_role, at_address, filled_is}
+use Rattle.wild_names.proofs.HashBytes.{sysv_stands as sysv_bytes_are, gnu_stands as gnu_bytes_are}
 use Rattle.wild_names.proofs.ImageTables.{header_found, headers_found}
-use Rattle.wild_names.proofs.PartBytes.{IsFoundPart, stands_cut}
+use Rattle.wild_names.proofs.LookUps.{some_sysv, some_gnu, filled}
+use Rattle.wild_names.proofs.NumberedLemmas.{are_numbered}
+use Rattle.wild_names.proofs.PartBytes.{stands_cut}
 
 -- ---- the tables
 
@@ -212,6 +219,55 @@ found_tables l laws names w hashes =
       };
     }
 
+-- ---- the hash tables
+
+-- a table that is in the part of a role is found there
+table_at : (l : Layout) (laws : ImageLaws) (r : Role) (tag : ℕ) (p : Part) (table : List ℕ) (found : Option (Result Found ImageFault)) → (w : IsWritten l) → has_hashes l ≡ true → is_look_up_role r ≡ true → (role_place r ≡ 0 → ⊥) → part_with r l.parts ≡ Some p → table_bytes l r ≡ table → 1 ≤ length table
+    → value_of_tag tag (entries_read l (is_read l laws w).entries.room) ≡ part_address (filled_part l r) → found ≡ hash_part (bytes l) (layout_headers l) (value_of_tag tag (entries_read l (is_read l laws w).entries.room)) → HasTableAt (bytes l) found table
+table_at l laws r tag p table found w hashes asked loaded there is some telling from =
+    let read = is_read l laws w in
+    let laid = read.laid in
+    let keeps = read.keeps in
+    let full = filled l r p table laid loaded there is some in
+    let own = found_role l r p laws.stand keeps laid w.dynamic hashes asked loaded there full in
+    let here : value_of_tag tag (entries_read l read.entries.room) ≡ Some p.address = telling ∙ ap part_address (filled_is l r p there full) in
+    let bytes_there = subst (λ (bs : List ℕ). HasBytesAt (bytes l) p.offset bs) is (laws.stand l laid r loaded p there (not_hollow_at l p.section keeps) full) in
+    let moved = subst (λ (n : ℕ). HasBytesAt (bytes l) n table) (sym (add-zero p.offset)) bytes_there in
+    let size = ((laid.roles r loaded).there p there).size in
+    let same = ap (λ (bs : List ℕ). length bs) is in
+    let room = own.1.room in
+    record {
+      part = own.0;
+      is = from ∙ ap (hash_part (bytes l) (layout_headers l)) here ∙ ap (λ (q : Result Found ImageFault). Some q) own.1.is;
+      there = stands_cut (bytes l) table own.0 p.offset 0 own.1.start (omega (arith, size, same, room)) moved;
+    }
+
+-- without the part of a table, or with an empty one, there is none
+none_at : (l : Layout) (laws : ImageLaws) (r : Role) (tag : ℕ) (found : Option (Result Found ImageFault)) → (w : IsWritten l) → value_of_tag tag (entries_read l (is_read l laws w).entries.room) ≡ part_address (filled_part l r) → filled_part l r ≡ None
+    → found ≡ hash_part (bytes l) (layout_headers l) (value_of_tag tag (entries_read l (is_read l laws w).entries.room)) → found ≡ None
+none_at l laws r tag found w telling missing from = from ∙ ap (hash_part (bytes l) (layout_headers l)) (telling ∙ ap part_address missing)
+
+hashes_found : (l : Layout) (laws : ImageLaws) (names : NameLaws) (w : IsWritten l) (hashes : has_hashes l ≡ true) → AreHashTablesFound l (found_tables l laws names w hashes).tables.tables
+hashes_found l laws names w hashes =
+    let f = found_tables l laws names w hashes in
+    let t = f.tables.tables in
+    let read = is_read l laws w in
+    let laid = read.laid in
+    let room = read.entries.room in
+    let gnu = gnu_told l room laws w.dynamic in
+    let sysv = sysv_told l room laws w.dynamic in
+    record {
+      gnu = λ h p shape there. table_at l laws role.GnuHash dt_gnu_hash p (gnu_table (gnu_header h) (map gnu_hash_of l.dynsyms)) t.gnu_hash w hashes refl (λ e. cc) there (gnu_bytes_are l h laid w.dynamic shape) (some_gnu (gnu_header h) (map gnu_hash_of l.dynsyms)) gnu f.tables.gnu_hash;
+      sysv = λ h p shape there. table_at l laws role.SysvHash dt_hash p (sysv_table h.buckets (first_listed l) (map sysv_hash_of l.dynsyms)) t.sysv_hash w hashes refl (λ e. cc) there (sysv_bytes_are l h laid w.dynamic shape) (some_sysv h.buckets (first_listed l) (map sysv_hash_of l.dynsyms)) sysv f.tables.sysv_hash;
+      no_gnu = λ missing. none_at l laws role.GnuHash dt_gnu_hash t.gnu_hash w gnu missing f.tables.gnu_hash;
+      no_sysv = λ missing. none_at l laws role.SysvHash dt_hash t.sysv_hash w sysv missing f.tables.sysv_hash;
+      numbered = (
+          let found = f.found in
+          let n = are_numbered l f.table f.strings found.symbols found.text f.all (record { start = found.start; room = found.room; strings_start = found.text_start; strings_room = found.text_room }) laid.indexes laid.dynsyms.named in
+          subst (λ (q : Result Found ImageFault). AreNumbered (bytes_or_none (bytes l) q) (bytes_or_none (bytes l) t.strings) (first_listed l) l.dynsyms) (sym found.symbols_are)
+          (subst (λ (q : Result Found ImageFault). AreNumbered (bytes_of (bytes l) found.symbols) (bytes_or_none (bytes l) q) (first_listed l) l.dynsyms) (sym found.text_is) n));
+    }
+
 pub symbols_read : ImageLaws → NameLaws → FieldsAreRead → DynamicSymbolsAreRead
 symbols_read laws names law = λ l w hashes.
     let f = found_tables l laws names w hashes in
@@ -223,4 +279,5 @@ symbols_read laws names law = λ l w hashes.
       each = λ k n is. (
           let lt = slice_get_within (table_symbols l) k n is in
           read_back l f.tables.tables f.table f.strings (k + 1) n law f.found (omega (arith, size, lt)) (f.all.each k n is));
+      hashes = hashes_found l laws names w hashes;
     }
