@@ -49,7 +49,7 @@ def rust(source, crate, names):
     text = re.sub(r'\bcrate::', f'crate::{crate}::', text)
     text = re.sub(rf'(?<![:\w])({"|".join(names)})::', r'crate::\1::', text)
     text = re.sub(rf'(?<![:\w])({"|".join(LIBRARIES)})::', r'crate::shim::\1::', text)
-    text = re.sub(r'\bstd::(alloc|test|thread)\b', r'crate::shim::\1', text)
+    text = re.sub(r'\bstd::(alloc|collections|test|thread)\b', r'crate::shim::\1', text)
     # Every type may be dropped in Rust, and no type has a second form for contracts.
     text = re.sub(r'#\[derive\(([^)]*)\)\]\n', derives, text)
     text = re.sub(r'\s*\+ Drop\b|\bDrop \+\s*|:\s*Drop\b(?=[,>{; \n])', '', text)

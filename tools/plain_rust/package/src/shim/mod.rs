@@ -3,6 +3,7 @@
 pub mod alloc;
 pub mod atomic_table;
 pub mod bitflags;
+pub mod collections;
 pub mod env;
 pub mod hex;
 pub mod rayon;

@@ -33,6 +33,14 @@ impl<T> Vec<T> {
         Ok(())
     }
 
+    pub fn insert(&mut self, index: usize, entry: T) -> Result<(), AllocFailed<T>> {
+        if self.0.try_reserve(1).is_err() {
+            return Err(AllocFailed { value: entry });
+        }
+        self.0.insert(index, entry);
+        Ok(())
+    }
+
     pub fn reserve(&mut self, count: usize) -> Result<(), AllocError> {
         self.0.try_reserve(count).map_err(|_| AllocError)
     }
