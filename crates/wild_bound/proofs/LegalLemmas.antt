@@ -42,7 +42,7 @@ use Rattle.wild_space.specs.Bound.{bound}
 use Rattle.wild_space.specs.BoundLaws.{IsSameAnswer, IsMadeSymbol, IsMade, SpacesAreMade}
 use Rattle.wild_space.specs.Order.{bytes_at}
 use Rattle.wild_bound.specs.Legal.{BoundWorldsAreLegal, IsLinkedAt, BoundImagesAreLinked}
-use Rattle.wild_bound.specs.Premises.{HasOwnSymbol, HasPair, AreCounted, SymbolNumbers, AnswerNumbers, WorldNumbers, HasLayout}
+use Rattle.wild_bound.specs.Premises.{HasOwnSymbol, HasPair, AreIndexesInRange, SymbolNumbers, AnswerNumbers, WorldNumbers, HasLayout}
 use Rattle.wild_bound.proofs.AnswerLemmas.{IsAnswerFor, answered, bound_inside}
 use Rattle.wild_bound.proofs.EntryLemmas.{table_entry}
 use Rattle.wild_bound.proofs.ModuleLemmas.{pair_of, pair_none, kept_pair}
@@ -155,8 +155,8 @@ own_answer xs order rs n i w l e made x h low resolvers base own entry moves a i
     let raw = h.resolution.raw_value in
     let b = base_of xs (place_of order n) in
     let at : address_of rs b l.tls.start e ≡ Ok x.address =
-        subst (λ (q : ℕ). address_of rs b l.tls.start e ≡ Ok q) (sym same.address)
-        (subst (λ (q : ℕ). address_of rs b q e ≡ Ok made.address) starts (subst (λ (q : SymtabEntry). address_of rs b a.start q ≡ Ok made.address) is a.address)) in
+    subst (λ (q : ℕ). address_of rs b l.tls.start e ≡ Ok q) (sym same.address)
+    (subst (λ (q : ℕ). address_of rs b q e ≡ Ok made.address) starts (subst (λ (q : SymtabEntry). address_of rs b a.start q ≡ Ok made.address) is a.address)) in
     let offset : x.offset ≡ offset_of l.tls.start e = same.offset ∙ a.offset ∙ ap (λ (q : ℕ). offset_of q a.entry) starts ∙ ap (λ (q : SymtabEntry). offset_of l.tls.start q) is in
     record {
       address = record {
@@ -188,7 +188,7 @@ read_entry laws xs rs b n c k l s r h o =
     let read = laws.read l written (h.own.hashes c k s r o) in
     let has = bytes_are xs (place_of b.order n) h.image l h.there h.is.is in
     let e = laid.dynsyms.indexed c k s r o.listed o.decided o.index in
-    let plain = h.own.plain c k s r o in
+    let plain = h.own.entries c k s r o in
     let t = table_entry l c e.0 s r e.2 o.listed plain o.decided in
     let back = read.each e.0 t.fields t.is in
     let place = e.1 in
@@ -229,7 +229,7 @@ own_known laws xs rs b n i l x h m replaced a =
     let start : f.start ≡ l.tls.start = cc in
     let answers : Some s.answer ≡ Some x = sym s.answered ∙ a.given in
     let answer : s.answer ≡ x = cc in
-    own_answer xs b.order rs n i w l e.entry s.made x a h.is.numbers.tls.start m.resolvers m.base m.own e.own (h.own.plain a.definition k a.symbol a.resolution o).moves f entry start (subst (λ (q : Answer). IsSameAnswer q s.made) answer s.same)
+    own_answer xs b.order rs n i w l e.entry s.made x a h.is.numbers.tls.start m.resolvers m.base m.own e.own (h.own.entries a.definition k a.symbol a.resolution o).moves f entry start (subst (λ (q : Answer). IsSameAnswer q s.made) answer s.same)
 
 -- ---- the whole
 
@@ -250,7 +250,7 @@ legal laws = λ xs rs b n l some is h.
         owner = h.numbers.own;
         known = subst (IsKnownModule w) (sym m.own) (known_in w (modules_of xs b.order) (n + 1) h.numbers m.modules (distance_of xs (get_or b.order n 0), pair_of xs b.order n h.inside));
         each = λ k d lt. answer_is laws.first xs rs b.order n k w (get_or w.symbols k d) h.inside h.numbers m (slice_get-get_or w.symbols k d lt);
-        there = λ k d lt. answered_by xs b.order n l k (get_or l.symbols k d) w m.symbols m.counted m.many h.counted (slice_get-get_or l.symbols k d lt);
+        there = λ k d lt. answered_by xs b.order n l k (get_or l.symbols k d) w m.symbols m.counted m.many h.indexes (slice_get-get_or l.symbols k d lt);
         own = λ i a replaced has. own_known laws xs rs b n i l a h m replaced has;
         copies = h.room.copies;
         apart = h.room.apart;
@@ -280,7 +280,7 @@ legal laws = λ xs rs b n l some is h.
           known = known_in w (modules_of xs order) x.«module» numbers m.modules (one_of_each law xs rs order n k w x inside m is);
         }
 
-    answered_by : (xs : List NamedImage) (order : List ℕ) (n : ℕ) (l : Layout) (c : ℕ) (s : Symbol) (w : World) (symbols : ℕ) → count_of xs (place_of order n) ≡ Ok symbols → length w.symbols ≡ 1 + (symbols - 1) → AreCounted xs order n l → slice_get l.symbols c ≡ Some s → IsAnswered w s
+    answered_by : (xs : List NamedImage) (order : List ℕ) (n : ℕ) (l : Layout) (c : ℕ) (s : Symbol) (w : World) (symbols : ℕ) → count_of xs (place_of order n) ≡ Ok symbols → length w.symbols ≡ 1 + (symbols - 1) → AreIndexesInRange xs order n l → slice_get l.symbols c ≡ Some s → IsAnswered w s
     answered_by xs order n l c s w symbols counted many each listed = λ r index decided told. (
         let lt = each symbols c index s r counted listed decided told in
         omega (arith, lt, many))

@@ -3,6 +3,6 @@ pub mod AnswerLemmas
 pub mod EntryLemmas
 pub mod OwnLemmas
 pub mod LegalLemmas
-pub mod KeptLemmas
-pub mod CountLemmas
-pub mod CountedLemmas
+pub mod SelfBindingLemmas
+pub mod HashTableCounts
+pub mod SymbolCounts

@@ -1,3 +1,3 @@
 pub mod Premises
 pub mod Legal
-pub mod Kept
+pub mod SelfBinding

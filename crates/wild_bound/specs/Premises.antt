@@ -108,15 +108,15 @@ IsBoundToItself xs order n k = bind xs order n k ≡ Ok (Some (record { image = 
 
 -- Each own symbol with an index has such an entry and is bound to itself. If there is one, the output has a dynamic section and a hash
 -- table, with which the symbols and their names are in one segment each.
-pub record AreOwnSymbolsKept (xs : List NamedImage) (order : List ℕ) (n : ℕ) (l : Layout) : Type 0 where
-  pub plain : (c k : ℕ) (s : Symbol) (r : Resolution) → HasOwnSymbol l c k s r → HasPlainEntry l s r
+pub record AreOwnSymbolsBound (xs : List NamedImage) (order : List ℕ) (n : ℕ) (l : Layout) : Type 0 where
+  pub entries : (c k : ℕ) (s : Symbol) (r : Resolution) → HasOwnSymbol l c k s r → HasPlainEntry l s r
   pub itself : (c k : ℕ) (s : Symbol) (r : Resolution) → HasOwnSymbol l c k s r → IsBoundToItself xs order n k
   pub dynamic : (c k : ℕ) (s : Symbol) (r : Resolution) → HasOwnSymbol l c k s r → needs_dynamic l.kind ≡ true
   pub hashes : (c k : ℕ) (s : Symbol) (r : Resolution) → HasOwnSymbol l c k s r → has_hashes l ≡ true
 
 -- each index in the dynamic symbol table is less than the number of symbols that is read of the image
-abbrev pub AreCounted : List NamedImage → List ℕ → ℕ → Layout → Type 0
-AreCounted xs order n l = (symbols c k : ℕ) (s : Symbol) (r : Resolution) → count_of xs (place_of order n) ≡ Ok symbols → IsSymbol l c s → s.resolution ≡ Some r → r.dynamic_symbol_index ≡ Some k → k < symbols
+abbrev pub AreIndexesInRange : List NamedImage → List ℕ → ℕ → Layout → Type 0
+AreIndexesInRange xs order n l = (symbols c k : ℕ) (s : Symbol) (r : Resolution) → count_of xs (place_of order n) ≡ Ok symbols → IsSymbol l c s → s.resolution ≡ Some r → r.dynamic_symbol_index ≡ Some k → k < symbols
 
 -- ---- the world
 
@@ -148,8 +148,8 @@ pub record HasLayout (xs : List NamedImage) (rs : List (ℕ × ℕ)) (b : Bound)
   pub is : IsImageOf l image
   pub placed : IsPlaced l image n
   pub resolvers : All (HasPair rs image.base) l.symbols
-  pub own : AreOwnSymbolsKept xs b.order n l
-  pub counted : AreCounted xs b.order n l
+  pub own : AreOwnSymbolsBound xs b.order n l
+  pub indexes : AreIndexesInRange xs b.order n l
   pub world : World
   pub has_world : slice_get b.worlds n ≡ Some world
   pub numbers : WorldNumbers world

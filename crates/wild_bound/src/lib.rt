@@ -1,13 +1,11 @@
 //! The images of a name space are linked: the world of each is legal for its layout.
 #![tactic(auto)]
 
-ghost use Rattle.wild_bound.specs.Kept.{FirstSymbolsAreBound, IndexesAreCounted, VisibleSymbolsAreBound};
+ghost use Rattle.wild_bound.specs.SelfBinding.{FirstSymbolsAreBound, IndexesAreInRange, VisibleSymbolsAreBound};
 ghost use Rattle.wild_bound.specs.Legal.{BoundImagesAreLinked, BoundWorldsAreLegal};
 
 use wild_geometry::layouts_are_laid_out;
-use wild_hashes::{
-    gnu_look_up_finds_the_first, neighbours_ascend, sysv_look_up_finds_the_first,
-};
+use wild_hashes::{gnu_look_up_finds_the_first, neighbours_ascend, sysv_look_up_finds_the_first};
 use wild_laws::images_are_sound;
 use wild_names::dynamic_symbols_are_read;
 use wild_records::gnu_hash_header_is_read;
@@ -51,8 +49,8 @@ pub fn exported_symbols_are_bound()
 }
 
 /// In an image with a hash table each index in the dynamic symbol table is below the number of symbols that is read of the image.
-pub fn indexes_are_counted()
-    ensures { IndexesAreCounted }
+pub fn indexes_are_in_range()
+    ensures { IndexesAreInRange }
 {
     layouts_are_laid_out();
     dynamic_symbols_are_read();

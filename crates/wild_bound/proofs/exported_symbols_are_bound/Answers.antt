@@ -1,4 +1,4 @@
-use Rattle.wild_bound.proofs.KeptLemmas.{visible_bound, first_bound}
+use Rattle.wild_bound.proofs.SelfBindingLemmas.{visible_bound, first_bound}
 use Rattle.wild_bound.proofs.exported_symbols_are_bound.Goals as goal
 
 pub returns-clause-visible : goal.returns-clause-visible

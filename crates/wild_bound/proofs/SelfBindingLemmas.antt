@@ -38,7 +38,7 @@ use Rattle.wild_names.proofs.ShapeLemmas.{well_formed, gnu_laid_out}
 use Rattle.wild_space.specs.declared.binds.Definition.{Definition}
 use Rattle.wild_space.specs.declared.image.NamedImage.{NamedImage}
 use Rattle.wild_space.specs.Binds.{place_of, symbol_of, name_in, find_in, is_own, first_definition, definition_or, definition_of_name, demanded, bind, bind_entry}
-use Rattle.wild_bound.specs.Kept.{HasImage, HasGnuTable, HasSysvTable, HasLookUpTable, IsDefined, VisibleSymbolsAreBound, FirstSymbolsAreBound}
+use Rattle.wild_bound.specs.SelfBinding.{HasImage, HasGnuTable, HasSysvTable, HasLookUpTable, IsDefined, VisibleSymbolsAreBound, FirstSymbolsAreBound}
 use Rattle.wild_bound.specs.Premises.{IsBoundToItself}
 use Rattle.wild_bound.proofs.OwnLemmas.{HasBytes, bytes_are, tables_are, symbol_is}
 

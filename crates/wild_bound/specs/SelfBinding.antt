@@ -4,7 +4,7 @@
 --   IsDefined f                 the fields are those of a defined symbol
 --   VisibleSymbolsAreBound      an exported symbol that is not of default visibility is bound to itself
 --   FirstSymbolsAreBound        an exported symbol of the first image is bound to itself, if it is the first one with its name
---   IndexesAreCounted           each index in the dynamic symbol table is below the number of symbols that is read
+--   IndexesAreInRange           each index in the dynamic symbol table is below the number of symbols that is read
 use Rattle.std.specs.Prelude.{◌≡◌, ◌≢◌, ℕ, ◌+◌, ◌%◌, ◌^◌, ◌<◌, ◌≤◌, ◌⊎◌, true, List, length, Some, None, slice_get}
 use Rattle.wild_records.specs.Abi.Section.{shn_undef}
 use Rattle.wild_records.specs.Abi.Symbol.{stv_default}
@@ -23,7 +23,7 @@ use Rattle.wild_layout.specs.Image.{bytes as image_bytes}
 use Rattle.wild_names.specs.LookUpLaws.{IsWritten, first_with_name}
 use Rattle.wild_space.specs.declared.image.NamedImage.{NamedImage}
 use Rattle.wild_space.specs.Binds.{place_of}
-use Rattle.wild_bound.specs.Premises.{IsBoundToItself, AreCounted}
+use Rattle.wild_bound.specs.Premises.{IsBoundToItself, AreIndexesInRange}
 
 -- the image at place n is that of an output with a dynamic section and a hash table, without faults
 pub record HasImage (xs : List NamedImage) (order : List ℕ) (n : ℕ) (l : Layout) : Type 0 where
@@ -71,5 +71,5 @@ abbrev pub HasCountTable : Layout → Type 0
 HasCountTable l = HasSysvTable l ⊎ ((filled_part l role.SysvHash ≡ None) × HasGnuTable l)
 
 -- each index in the dynamic symbol table is below the number of symbols that is read
-abbrev pub IndexesAreCounted : Type 0
-IndexesAreCounted = (xs : List NamedImage) (order : List ℕ) (n : ℕ) (l : Layout) → HasImage xs order n l → HasCountTable l → AreCounted xs order n l
+abbrev pub IndexesAreInRange : Type 0
+IndexesAreInRange = (xs : List NamedImage) (order : List ℕ) (n : ℕ) (l : Layout) → HasImage xs order n l → HasCountTable l → AreIndexesInRange xs order n l

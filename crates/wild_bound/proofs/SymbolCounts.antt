@@ -23,8 +23,8 @@ use Rattle.wild_names.specs.ReadLaws.{AreReadBack, DynamicSymbolsAreRead}
 use Rattle.wild_names.proofs.ShapeLemmas.{well_formed, gnu_laid_out}
 use Rattle.wild_space.specs.declared.image.NamedImage.{NamedImage}
 use Rattle.wild_space.specs.Binds.{place_of, count_of}
-use Rattle.wild_bound.specs.Kept.{HasGnuTable, HasSysvTable, HasCountTable, IndexesAreCounted}
-use Rattle.wild_bound.proofs.CountLemmas.{sysv_counted, gnu_counted, hashes_small}
+use Rattle.wild_bound.specs.SelfBinding.{HasGnuTable, HasSysvTable, HasCountTable, IndexesAreInRange}
+use Rattle.wild_bound.proofs.HashTableCounts.{sysv_counted, gnu_counted, hashes_small}
 use Rattle.wild_bound.proofs.OwnLemmas.{HasBytes, bytes_are, tables_are}
 
 -- the laws on which the proof depends
@@ -82,7 +82,7 @@ count_is : (xs : List NamedImage) (i n : ℕ) (l : Layout) → HasBytes xs i l �
 unfolding count_of
 count_is xs i n l has read is = rw (tables_are xs i l has read, has, is) refl
 
-pub counted : CountLaws → IndexesAreCounted
+pub counted : CountLaws → IndexesAreInRange
 counted laws = λ xs order n l h table symbols c k s r is listed decided index. (
     let read = laws.read l h.written h.hashes in
     let formed = well_formed l h.written.none in
