@@ -58,21 +58,21 @@ pub record Laws : Type 0 where
 -- ---- the world
 
 -- what binding makes of a world
-record IsMadeWorld (xs : List NamedImage) (rs : List (ℕ × ℕ)) (order : List ℕ) (n : ℕ) (w : World) : Type 0 where
-  base : w.base ≡ base_of xs (place_of order n)
-  resolvers : w.resolvers ≡ rs
-  modules : w.modules ≡ modules_of xs order
-  own : w.own_module ≡ n + 1
-  symbols : ℕ
-  counted : count_of xs (place_of order n) ≡ Ok symbols
-  many : length w.symbols ≡ 1 + (symbols - 1)
-  null : Answer
-  has_null : slice_get w.symbols 0 ≡ Some null
-  null_same : IsSameAnswer null no_answer
-  binds : List (Option Definition)
-  each : (k : ℕ) → 1 ≤ k → k < symbols → IsMadeSymbol xs order rs n k binds w
+pub record IsMadeWorld (xs : List NamedImage) (rs : List (ℕ × ℕ)) (order : List ℕ) (n : ℕ) (w : World) : Type 0 where
+  pub base : w.base ≡ base_of xs (place_of order n)
+  pub resolvers : w.resolvers ≡ rs
+  pub modules : w.modules ≡ modules_of xs order
+  pub own : w.own_module ≡ n + 1
+  pub symbols : ℕ
+  pub counted : count_of xs (place_of order n) ≡ Ok symbols
+  pub many : length w.symbols ≡ 1 + (symbols - 1)
+  pub null : Answer
+  pub has_null : slice_get w.symbols 0 ≡ Some null
+  pub null_same : IsSameAnswer null no_answer
+  pub binds : List (Option Definition)
+  pub each : (k : ℕ) → 1 ≤ k → k < symbols → IsMadeSymbol xs order rs n k binds w
 
-made_world : (xs : List NamedImage) (rs : List (ℕ × ℕ)) (b : Bound) (n : ℕ) (w : World) → IsMade xs rs b n → slice_get b.worlds n ≡ Some w → IsMadeWorld xs rs b.order n w
+pub made_world : (xs : List NamedImage) (rs : List (ℕ × ℕ)) (b : Bound) (n : ℕ) (w : World) → IsMade xs rs b n → slice_get b.worlds n ≡ Some w → IsMadeWorld xs rs b.order n w
 made_world xs rs b n w m is =
     let both : Some m.world ≡ Some w = sym m.has_world ∙ is in
     let same : m.world ≡ w = cc in

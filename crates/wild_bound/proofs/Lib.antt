@@ -6,3 +6,4 @@ pub mod LegalLemmas
 pub mod SelfBindingLemmas
 pub mod HashTableCounts
 pub mod SymbolCounts
+pub mod ValueLemmas

@@ -2,9 +2,12 @@
 --   IsImageOf l x             the image is that of a layout without faults
 --   IsPlaced l x n            its base and its place in the order are those of the layout
 --   IsAnsweredBy rs a         the pairs have exactly one answer of the resolver at an address
+--   HasPair rs base s         so it is for the resolver of an IFUNC
 --   HasOwnSymbol l c k s r    symbol c is the output's own, and has index k in the dynamic symbol table
 --   HasPlainEntry l s r       the entry of an own symbol has its address, type and size
 --   IsBoundToItself xs order n k   symbol k of the image at place n is bound to itself
+--   AreOwnSymbolsBound xs order n l   so is each own symbol with an index
+--   AreIndexesInRange xs order n l    each index is below the number of symbols that is read of the image
 --   HaveRoom l w              the bytes of copied symbols fit into the output
 --   WorldNumbers w            the numbers of the world are in their types' ranges
 --   HasLayout xs rs b n l     the image at place n is that of layout l, and all of these hold
@@ -92,8 +95,9 @@ abbrev pub is_absolute_place : Place → Bool
 is_absolute_place at.Absolute = true
 is_absolute_place other = false
 
--- The entry of an own symbol says where it is: it is at an absolute place exactly if its value does not move with the base, it has the type of
--- an IFUNC exactly if it is one, and its entry does not have its stub's address. A copied symbol is neither thread-local nor absolute.
+-- The entry of an own symbol says where it is. The symbol is at an absolute place exactly if its value does not move with the base. It has
+-- the type of an IFUNC exactly if it is one, and then its value moves. The entry does not have the stub's address. A copied symbol is neither
+-- thread-local nor absolute.
 pub record HasPlainEntry (l : Layout) (s : Symbol) (r : Resolution) : Type 0 where
   pub still : is_absolute_place s.place ≡ has_flag s.flags absolute
   pub value : s.place ≡ at.Absolute → s.value ≡ r.raw_value

@@ -1,8 +1,9 @@
 //! The images of a name space are linked: the world of each is legal for its layout.
 #![tactic(auto)]
 
-ghost use Rattle.wild_bound.specs.SelfBinding.{FirstSymbolsAreBound, IndexesAreInRange, VisibleSymbolsAreBound};
 ghost use Rattle.wild_bound.specs.Legal.{BoundImagesAreLinked, BoundWorldsAreLegal};
+ghost use Rattle.wild_bound.specs.SelfBinding.{FirstSymbolsAreBound, IndexesAreInRange, VisibleSymbolsAreBound};
+ghost use Rattle.wild_bound.specs.Values.{BoundValuesAreDefinitions};
 
 use wild_geometry::layouts_are_laid_out;
 use wild_hashes::{gnu_look_up_finds_the_first, neighbours_ascend, sysv_look_up_finds_the_first};
@@ -56,4 +57,14 @@ pub fn indexes_are_in_range()
     dynamic_symbols_are_read();
     gnu_hash_header_is_read();
     neighbours_ascend();
+}
+
+/// In the world of an image of a space, the value of a symbol that another module may define is the address of its definition: the
+/// first of its name in the order, at the base of that image.
+pub fn bound_values_are_definitions()
+    ensures { BoundValuesAreDefinitions }
+{
+    binds_are_first();
+    spaces_are_made();
+    layouts_are_laid_out();
 }
