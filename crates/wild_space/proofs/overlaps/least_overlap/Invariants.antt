@@ -1,0 +1,7 @@
+use Rattle.std.proofs.Common.{◌≡◌, ℕ, take}
+use Rattle.wild_space.specs.Counts.{total, count}
+use Rattle.wild_space.specs.Overlaps.{placed}
+use Rattle.wild_space.proofs.overlaps.least_overlap.Given as goal
+
+abbrev pub invariant-loop-n : goal.invariant-loop-n
+invariant-loop-n l = (a : ℕ) → total a l.all.items ≡ count a (placed l.space.images.now (take l.n l.space.order))

@@ -1,0 +1,11 @@
+pub mod Given
+pub mod Names
+pub mod Order
+pub mod OrderLaws
+pub mod Binds
+pub mod Copies
+pub mod BindLaws
+pub mod Overlaps
+pub mod Counts
+pub mod Bound
+pub mod BoundLaws
