@@ -290,7 +290,7 @@ pub linked : SpacesAreMade → BoundWorldsAreLegal → ImagesAreSound → BoundI
 linked made legal sound = λ xs rs b n l some is h.
     let w = h.world in
     let m = (made xs rs b some is).1 n h.inside in
-    let good = sound l h.is.numbers h.is.flags h.is.none h.is.loadable w (legal xs rs b n l some is h) in
+    let good = (sound l h.is.numbers h.is.flags h.is.none h.is.loadable).1 w (legal xs rs b n l some is h) in
     let both : Some m.world ≡ Some w = sym m.has_world ∙ h.has_world in
     let same : m.world ≡ w = cc in
     let loaded : load w (bytes_at xs (place_of b.order n)) ≡ Ok m.memory = subst (λ (q : World). load q (bytes_at xs (place_of b.order n)) ≡ Ok m.memory) same m.loaded in
