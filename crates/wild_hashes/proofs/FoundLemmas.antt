@@ -38,7 +38,8 @@ sysv_read_found read named at n base ns name s r b p =
     let enough : length ns ≤ base + length hs = let a = length-map ns sysv_hash in omega arith in
     rw (s.buckets_count, s.count, some, first) (sysv_scan_finds (chain_word read (at + 8 + 4 * n) 0) named name n (base + length hs) base ns in_range b enough chain r)
 
-chains_small : (n : ℕ) (hs : List ℕ) → ((k : ℕ) → k < length hs → get_or hs k 0 < 2 ^ 32) → (k : ℕ) → k < length (gnu_chains n hs) → get_or (gnu_chains n hs) k 0 < 2 ^ 32
+-- a word of a chain has 32 bits
+pub chains_small : (n : ℕ) (hs : List ℕ) → ((k : ℕ) → k < length hs → get_or hs k 0 < 2 ^ 32) → (k : ℕ) → k < length (gnu_chains n hs) → get_or (gnu_chains n hs) k 0 < 2 ^ 32
 chains_small n [] h k l = absurd (omega arith)
 chains_small n (g ∷ hs) h zero l = bit (is_last n g hs) g (h 0 (omega arith))
   where
@@ -48,7 +49,7 @@ chains_small n (g ∷ hs) h zero l = bit (is_last n g hs) g (h 0 (omega arith))
 chains_small n (g ∷ hs) h (suc k) l = chains_small n hs (λ j m. h (suc j) (omega arith)) k (omega arith)
 
 -- a hash has 32 bits
-hash_small : (name : List ℕ) → gnu_hash name < 2 ^ 32
+pub hash_small : (name : List ℕ) → gnu_hash name < 2 ^ 32
 unfolding gnu_hash
 hash_small name = from gnu_start name (lit< tt)
   where

@@ -89,7 +89,7 @@ copies_there = λ l w i legal laid none c.
 -- ---- their entries
 
 -- the definition has the answer's resolution, so the address is what was decided of it
-raw_is : (l : Layout) (w : World) (i raw : ℕ) (x : Answer) → HasRaw l i raw → (a : HasAnswer l w i x) → a.resolution.raw_value ≡ raw
+pub raw_is : (l : Layout) (w : World) (i raw : ℕ) (x : Answer) → HasRaw l i raw → (a : HasAnswer l w i x) → a.resolution.raw_value ≡ raw
 raw_is l w i raw x h a = by_case h.given
   where
     same : h.definition ≡ a.definition

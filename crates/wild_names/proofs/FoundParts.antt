@@ -97,11 +97,11 @@ pub gnu_told : (l : Layout) (room : ℕ) → ImageLaws → needs_dynamic l.kind 
 unfolding dynamic_number dynamic_entry
 gnu_told l room laws needs = told l room tags.GnuHash laws needs (λ e. cc)
 
-symbols_told : (l : Layout) (room : ℕ) → ImageLaws → needs_dynamic l.kind ≡ true → value_of_tag dt_symtab (entries_read l room) ≡ part_address (part_with role.Dynsym l.parts)
+pub symbols_told : (l : Layout) (room : ℕ) → ImageLaws → needs_dynamic l.kind ≡ true → value_of_tag dt_symtab (entries_read l room) ≡ part_address (part_with role.Dynsym l.parts)
 unfolding dynamic_number dynamic_entry
 symbols_told l room laws needs = told l room tags.SymbolTable laws needs (λ e. cc)
 
-strings_told : (l : Layout) (room : ℕ) → ImageLaws → needs_dynamic l.kind ≡ true → value_of_tag dt_strtab (entries_read l room) ≡ part_address (part_with role.Dynstr l.parts)
+pub strings_told : (l : Layout) (room : ℕ) → ImageLaws → needs_dynamic l.kind ≡ true → value_of_tag dt_strtab (entries_read l room) ≡ part_address (part_with role.Dynstr l.parts)
 unfolding dynamic_number dynamic_entry
 strings_told l room laws needs = told l room tags.StringTable laws needs (λ e. cc)
 
@@ -136,7 +136,7 @@ with_hash l r p laid hash loaded found =
     any-contains (λ (q : Part). is_hash_role q.role) l.parts p t.listed (subst (λ (x : Role). is_hash_role x ≡ true) (sym t.has) hash)
 
 -- a look-up finds a part that is not empty
-found_role : (l : Layout) (r : Role) (p : Part) → TablesStand → KeepsAll l → IsLaidOut l → needs_dynamic l.kind ≡ true → has_hashes l ≡ true → is_look_up_role r ≡ true → (role_place r ≡ 0 → ⊥) → part_with r l.parts ≡ Some p → 1 ≤ p.size → (f : Found) × IsFoundPart (bytes l) (headers_of l) p f
+pub found_role : (l : Layout) (r : Role) (p : Part) → TablesStand → KeepsAll l → IsLaidOut l → needs_dynamic l.kind ≡ true → has_hashes l ≡ true → is_look_up_role r ≡ true → (role_place r ≡ 0 → ⊥) → part_with r l.parts ≡ Some p → 1 ≤ p.size → (f : Found) × IsFoundPart (bytes l) (headers_of l) p f
 found_role l r p stand keeps laid needs hashes asked loaded found some =
     let written = not_hollow_at l p.section keeps in
     let c = (laid.loadable (dynamic_whole l.kind needs)).look_ups needs hashes r p asked found written some in
@@ -155,7 +155,7 @@ pub record HasParts (l : Layout) (tag : ℕ) (p : Part) : Type 0 where
   pub room : p.size ≤ parts.hashes.size
   pub numbered : AreNumbered (bytes_or_none (bytes l) parts.symbols) (bytes_or_none (bytes l) parts.strings) (first_listed l) l.dynsyms
 
-at_address : (image : List ℕ) (hs : List ProgramHeader) (tag : ℕ) (p : Part) (f : Found) → IsFoundPart image hs p f → part_of image hs tag (Some p.address) ≡ Ok f
+pub at_address : (image : List ℕ) (hs : List ProgramHeader) (tag : ℕ) (p : Part) (f : Found) → IsFoundPart image hs p f → part_of image hs tag (Some p.address) ≡ Ok f
 unfolding part_of
 at_address image hs tag p f found = found.is
 
@@ -170,7 +170,7 @@ strings_at image hs p f found =
     rw (found.is, fits) refl
 
 -- a part that is not empty is a filled one
-filled_is : (l : Layout) (r : Role) (p : Part) → part_with r l.parts ≡ Some p → 1 ≤ p.size → filled_part l r ≡ Some p
+pub filled_is : (l : Layout) (r : Role) (p : Part) → part_with r l.parts ≡ Some p → 1 ≤ p.size → filled_part l r ≡ Some p
 filled_is l r p found some = let e : (p.size == 0) ≡ false = ne_eqb p.size 0 (λ z. omega (arith, some, z)) in ap unless_empty found ∙ rw e refl
 
 pub has_parts : (l : Layout) (r : Role) (tag : ℕ) (p : Part) → ImageLaws → NameLaws → (read : IsRead l) → needs_dynamic l.kind ≡ true → is_hash_role r ≡ true → is_look_up_role r ≡ true → (role_place r ≡ 0 → ⊥) → value_of_tag tag (entries_read l read.entries.room) ≡ part_address (filled_part l r) → part_with r l.parts ≡ Some p → 1 ≤ p.size → HasParts l tag p
@@ -194,7 +194,7 @@ has_parts l r tag p laws names read needs hash asked loaded telling found some =
       is = parts_read l tag laws read ∙ rw (here, own.1.is, symbols, text, text_size, at_address (bytes l) (headers_of l) dt_symtab t.table table.0 table.1, strings_at (bytes l) (headers_of l) t.strings strings.0 strings.1) refl;
       start = own.1.start;
       room = own.1.room;
-      numbered = are_numbered l t.table t.strings table.0 (first_of strings.0 t.strings.size) all (record { start = table.1.start; room = table.1.room; strings_start = strings.1.start; strings_size = refl }) laid.indexes laid.dynsyms.named;
+      numbered = are_numbered l t.table t.strings table.0 (first_of strings.0 t.strings.size) all (record { start = table.1.start; room = table.1.room; strings_start = strings.1.start; strings_room = omega arith }) laid.indexes laid.dynsyms.named;
     }
 
 -- without the part of a table, or with an empty one, there are none

@@ -22,7 +22,7 @@ use Rattle.wild_names.specs.LowerLaws.{RecordLaws}
 
 -- ---- headers
 
-header_found : (image : List ℕ) (e : FileHeader) (hs : List ProgramHeader) (ss : List SectionHeader) → RecordLaws → HasHeaders image e hs ss → is_loadable_header e ≡ true → image_header image ≡ Ok e
+pub header_found : (image : List ℕ) (e : FileHeader) (hs : List ProgramHeader) (ss : List SectionHeader) → RecordLaws → HasHeaders image e hs ss → is_loadable_header e ≡ true → image_header image ≡ Ok e
 unfolding image_header
 header_found image e hs ss laws has taken =
     let size = length-file_header e in
@@ -35,7 +35,7 @@ header_found image e hs ss laws has taken =
     let lie : nat_le (e.program_offset + program_header_size * e.program_count) (length image) ≡ true = le-leb _ _ (omega (arith, count, records, behind)) in
     rw (long, is, taken, lie) refl
 
-headers_found : (image : List ℕ) (e : FileHeader) (hs : List ProgramHeader) (ss : List SectionHeader) → RecordLaws → HasHeaders image e hs ss → program_headers image e.program_count e.program_offset ≡ hs
+pub headers_found : (image : List ℕ) (e : FileHeader) (hs : List ProgramHeader) (ss : List SectionHeader) → RecordLaws → HasHeaders image e hs ss → program_headers image e.program_count e.program_offset ≡ hs
 headers_found image e hs ss laws has = let count = has.program_count in rw count (programs-read laws.programs image hs e.program_offset has.programs_fit has.programs)
 
 -- ---- the dynamic section

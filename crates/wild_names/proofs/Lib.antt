@@ -37,3 +37,4 @@ pub mod Relinked
 pub mod ObjectTables
 pub mod NamedLemmas
 pub mod EntryVersions
+pub mod ReadSymbols

@@ -27,11 +27,11 @@ use Rattle.wild_names.proofs.ShapeLemmas.{gnu_laid_out}
 
 -- ---- tables are not empty
 
-some_sysv : (n base : ℕ) (hs : List ℕ) → 1 ≤ length (sysv_table n base hs)
+pub some_sysv : (n base : ℕ) (hs : List ℕ) → 1 ≤ length (sysv_table n base hs)
 unfolding sysv_table words word
 some_sysv n base hs = omega arith
 
-some_gnu : (t : GnuHashHeader) (hs : List ℕ) → 1 ≤ length (gnu_table t hs)
+pub some_gnu : (t : GnuHashHeader) (hs : List ℕ) → 1 ≤ length (gnu_table t hs)
 unfolding gnu_table gnu_hash_header_fields word
 some_gnu t hs = omega arith
 
@@ -45,7 +45,7 @@ table_stands l r tag p table stand laid loaded first_with_name written some is p
     let room = parts.room in
     stands_cut (bytes l) table parts.parts.hashes p.offset 0 parts.start (omega (arith, size, same, room)) there
 
-filled : (l : Layout) (r : Role) (p : Part) (table : List ℕ) → IsLaidOut l → (role_place r ≡ 0 → ⊥) → part_with r l.parts ≡ Some p → table_bytes l r ≡ table → 1 ≤ length table → 1 ≤ p.size
+pub filled : (l : Layout) (r : Role) (p : Part) (table : List ℕ) → IsLaidOut l → (role_place r ≡ 0 → ⊥) → part_with r l.parts ≡ Some p → table_bytes l r ≡ table → 1 ≤ length table → 1 ≤ p.size
 filled l r p table laid loaded first_with_name is some =
     let size = ((laid.roles r loaded).there p first_with_name).size in
     let same = ap (λ (bs : List ℕ). length bs) is in

@@ -37,10 +37,10 @@ length-places test i (x ∷ xs) =
     ]
 
 -- the symbols that other modules define
-abbrev defined_elsewhere : Layout → List File → List NamedFields
+abbrev pub defined_elsewhere : Layout → List File → List NamedFields
 defined_elsewhere l fs = flat_map (λ (f : File). map (undefined f.role) (undefined_symbols l.symbols f)) fs
 
-length-elsewhere : (l : Layout) (fs : List File) → length (defined_elsewhere l fs) ≡ length (undefined_entries l.symbols fs)
+pub length-elsewhere : (l : Layout) (fs : List File) → length (defined_elsewhere l fs) ≡ length (undefined_entries l.symbols fs)
 length-elsewhere l [] = refl
 length-elsewhere l (f ∷ fs) =
     let own = map (undefined f.role) (undefined_symbols l.symbols f) in
@@ -73,7 +73,7 @@ listed_at l (d ∷ ds) (suc k) lt fit =
     let later = listed_at l ds k (omega (arith, lt)) (All-tail (λ d. HasNoZero d.name) d ds fit) in
     record { symbol = later.symbol; is = later.is; name = later.name; fits = later.fits }
 
-behind : {X : Type 0} (xs ys : List X) (k : ℕ) → slice_get (xs ++ ys) (length xs + k) ≡ slice_get ys k
+pub behind : {X : Type 0} (xs ys : List X) (k : ℕ) → slice_get (xs ++ ys) (length xs + k) ≡ slice_get ys k
 behind [] ys k = (let z : 0 + k ≡ k = omega arith in ap (λ (n : ℕ). slice_get ys n) z)
 behind (x ∷ xs) ys k = (let z : suc (length xs) + k ≡ suc (length xs + k) = omega arith in ap (λ (n : ℕ). slice_get (x ∷ (xs ++ ys)) n) z ∙ behind xs ys k)
 
@@ -94,7 +94,7 @@ pub record HasTables (l : Layout) (table strings : Part) (f g : Found) : Type 0 
   pub start : f.start ≡ table.offset
   pub room : table.size ≤ f.size
   pub strings_start : g.start ≡ strings.offset
-  pub strings_size : g.size ≡ strings.size
+  pub strings_room : strings.size ≤ g.size
 
 named_at : (l : Layout) (table strings : Part) (f g : Found) (i : ℕ) (n : NamedFields) → HasTables l table strings f g → symtab_entry_size * i + symtab_entry_size ≤ table.size → HasEntry l table strings i n → ((k : ℕ) → k < length n.name → slice_index_or n.name k 0 ≡ 0 → ⊥)
     → IsNamed (bytes_of (bytes l) f) (bytes_of (bytes l) g) i n.name
@@ -110,7 +110,7 @@ named_at l table strings f g i n found room h whole =
     let text = n.name ++ 0 ∷ [] in
     let long = length-append n.name (0 ∷ []) in
     let within = h.name.within in
-    let holds = found.strings_size in
+    let holds = found.strings_room in
     let there = stands_cut (bytes l) text g strings.offset h.at found.strings_start (omega (arith, within, holds, long)) h.name.stands in
     record {
       inside = omega (arith, inside, size);

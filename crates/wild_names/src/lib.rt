@@ -7,6 +7,7 @@ ghost use Rattle.wild_names.specs.Laws.{LibrariesAreNamed, SymbolTablesAreThere,
 ghost use Rattle.wild_names.specs.VersionLaws.{DefinitionsAreWritten, NeedsAreWritten, VersionsAreWritten};
 ghost use Rattle.wild_names.specs.LowerLaws.{ImageLaws, NameLaws};
 ghost use Rattle.wild_names.specs.NoteLaws.{NotesAreWritten, SearchTablesAreWritten};
+ghost use Rattle.wild_names.specs.ReadLaws.{DynamicSymbolsAreRead};
 ghost use Rattle.wild_names.specs.LookUpLaws.{GnuLookUpsFind, LookUpsWithoutTable, SysvLookUpsFind};
 
 use wild_geometry::{layouts_are_laid_out, tables_are_placed};
@@ -143,4 +144,13 @@ pub fn names_without_a_table()
     ensures { LookUpsWithoutTable }
 {
     tables_are_read();
+}
+
+/// In an image with a hash table, of which all is written, each dynamic symbol and its name are read back through the tables that the
+/// dynamic section names.
+pub fn dynamic_symbols_are_read()
+    ensures { DynamicSymbolsAreRead }
+{
+    tables_are_read();
+    fields_of_records();
 }

@@ -1,0 +1,7 @@
+use Rattle.std.proofs.Common.{take}
+use Rattle.std.specs.Prelude.{All}
+use Rattle.wild_bound.specs.Premises.{AnswerNumbers}
+use Rattle.wild_bound.proofs.numbers.answers_fit.Given as goal
+
+abbrev pub invariant-loop-answer : goal.invariant-loop-answer
+invariant-loop-answer l = All AnswerNumbers (take l.answer-index l.answers)

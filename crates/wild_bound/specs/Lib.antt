@@ -1,0 +1,4 @@
+pub mod Premises
+pub mod Legal
+pub mod SelfBinding
+pub mod Values
