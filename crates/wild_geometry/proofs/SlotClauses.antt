@@ -78,6 +78,7 @@ agrees l h i s at is =
       stub = asked l stub_has_slot i s (None-from_fails 14 _ c.first) at is;
       alone = asked l thread_slot_alone i s (None-from_fails 14 _ e.first) at is;
       chosen = asked l resolver_is_own i s (None-from_fails 14 _ f.first) at is;
+      sorts = asked l slot_agrees i s (None-from_fails 14 _ g.first) at is;
       moves = asked l resolver_moves i s (None-from_fails 14 _ m.first) at is;
       second = asked l (second_slot_fits l) i s (None-from_fails 14 _ m.rest) at is;
     }

@@ -14,7 +14,7 @@ use Rattle.wild_types.specs.FilePlaces.{first_misplaced_file}
 use Rattle.wild_types.specs.Lookups.{canonical}
 use Rattle.wild_needs.specs.SlotShares.{word_size}
 use Rattle.wild_plan_rules.specs.SlotPlaces.{start_of, slots_astray, slot_is_even, block_has_base}
-use Rattle.wild_plan_rules.specs.SlotFlags.{dynamic_is_interposable, stub_has_slot, thread_slot_alone, resolver_is_own, resolver_moves, second_slot_fits}
+use Rattle.wild_plan_rules.specs.SlotFlags.{dynamic_is_interposable, stub_has_slot, thread_slot_alone, resolver_is_own, slot_agrees, resolver_moves, second_slot_fits}
 use Rattle.wild_types.specs.ResolvedFlags.{HaveTheirFlags}
 use Rattle.wild_plan_rules.specs.WellFormed.{first_clause}
 
@@ -27,12 +27,14 @@ pub record SlotsFollow (l : Layout) : Type 0 where
   pub based : All (λ (p : Part). block_has_base p ≡ true) l.parts
 
 -- a symbol of another module is interposable; an IFUNC is defined by the output and moves with the load bias; a symbol with a stub has a
--- GOT entry; one with a thread-local GOT entry is no function; a second GOT entry is not in a run of GOT words
+-- GOT entry; one with a thread-local GOT entry is no function; a GOT entry has the flag of its sort; a second GOT entry is not in a
+-- run of GOT words
 pub record FlagsAgree (l : Layout) (s : Symbol) : Type 0 where
   pub interposable : dynamic_is_interposable s ≡ true
   pub stub : stub_has_slot s ≡ true
   pub alone : thread_slot_alone s ≡ true
   pub chosen : resolver_is_own s ≡ true
+  pub sorts : slot_agrees s ≡ true
   pub moves : resolver_moves s ≡ true
   pub second : second_slot_fits l s ≡ true
 

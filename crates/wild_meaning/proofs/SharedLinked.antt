@@ -124,7 +124,7 @@ own_slot_there : IsSlotOf AddressSlot shared_layout shared_world shared_memory 0
 unfolding has_flag
 own_slot_there = record {
   slot = 0x2000;
-  given = record { definition = 0; defined = defined 0 own_symbol refl refl; symbol = own_symbol; listed = refl; resolution = _; decided = refl; first = 0x2000; given = refl; place = refl };
+  given = record { definition = 0; defined = defined 0 own_symbol refl refl; symbol = own_symbol; listed = refl; flagged = refl; resolution = _; decided = refl; first = 0x2000; given = refl; place = refl };
   moves = refl;
   holds = (0x11100, refl, inl own_value);
 }
@@ -133,7 +133,7 @@ open_slot_there : IsSlotOf AddressSlot shared_layout shared_world shared_memory 
 unfolding has_flag
 open_slot_there = record {
   slot = 0x2008;
-  given = record { definition = 1; defined = defined 1 open_symbol refl refl; symbol = open_symbol; listed = refl; resolution = _; decided = refl; first = 0x2008; given = refl; place = refl };
+  given = record { definition = 1; defined = defined 1 open_symbol refl refl; symbol = open_symbol; listed = refl; flagged = refl; resolution = _; decided = refl; first = 0x2008; given = refl; place = refl };
   moves = refl;
   holds = (0x700010, refl, inl open_value);
 }
@@ -142,7 +142,7 @@ own_offset_slot : IsSlotOf ThreadOffset shared_layout shared_world shared_memory
 unfolding has_flag
 own_offset_slot = record {
   slot = 0x2010;
-  given = record { definition = 2; defined = defined 2 own_thread refl refl; symbol = own_thread; listed = refl; resolution = _; decided = refl; first = 0x2010; given = refl; place = refl };
+  given = record { definition = 2; defined = defined 2 own_thread refl refl; symbol = own_thread; listed = refl; flagged = refl; resolution = _; decided = refl; first = 0x2010; given = refl; place = refl };
   moves = refl;
   holds = (own_offset, refl, thread_offset);
 }
@@ -151,7 +151,7 @@ own_pair_slot : IsSlotOf ModulePair shared_layout shared_world shared_memory 2 0
 unfolding has_flag
 own_pair_slot = record {
   slot = 0x2018;
-  given = record { definition = 2; defined = defined 2 own_thread refl refl; symbol = own_thread; listed = refl; resolution = _; decided = refl; first = 0x2010; given = refl; place = refl };
+  given = record { definition = 2; defined = defined 2 own_thread refl refl; symbol = own_thread; listed = refl; flagged = refl; resolution = _; decided = refl; first = 0x2010; given = refl; place = refl };
   moves = refl;
   holds = (own_offset, record { owner = 2; first = refl; offset = 8; second = refl; distance = 2 ^ 64 - 0x60; known = refl; sum = refl }, thread_offset);
 }
@@ -160,7 +160,7 @@ own_descriptor : IsSlotOf Descriptor shared_layout shared_world shared_memory 2 
 unfolding has_flag
 own_descriptor = record {
   slot = 0x2028;
-  given = record { definition = 2; defined = defined 2 own_thread refl refl; symbol = own_thread; listed = refl; resolution = _; decided = refl; first = 0x2010; given = refl; place = refl };
+  given = record { definition = 2; defined = defined 2 own_thread refl refl; symbol = own_thread; listed = refl; flagged = refl; resolution = _; decided = refl; first = 0x2010; given = refl; place = refl };
   moves = refl;
   holds = (own_offset, refl, thread_offset);
 }
@@ -169,7 +169,7 @@ other_offset_slot : IsSlotOf ThreadOffset shared_layout shared_world shared_memo
 unfolding has_flag
 other_offset_slot = record {
   slot = 0x2038;
-  given = record { definition = 3; defined = defined 3 other_thread refl refl; symbol = other_thread; listed = refl; resolution = _; decided = refl; first = 0x2038; given = refl; place = refl };
+  given = record { definition = 3; defined = defined 3 other_thread refl refl; symbol = other_thread; listed = refl; flagged = refl; resolution = _; decided = refl; first = 0x2038; given = refl; place = refl };
   moves = refl;
   holds = (other_offset, refl, other_thread_offset);
 }
@@ -178,7 +178,7 @@ other_pair_slot : IsSlotOf ModulePair shared_layout shared_world shared_memory 3
 unfolding has_flag
 other_pair_slot = record {
   slot = 0x2040;
-  given = record { definition = 3; defined = defined 3 other_thread refl refl; symbol = other_thread; listed = refl; resolution = _; decided = refl; first = 0x2038; given = refl; place = refl };
+  given = record { definition = 3; defined = defined 3 other_thread refl refl; symbol = other_thread; listed = refl; flagged = refl; resolution = _; decided = refl; first = 0x2038; given = refl; place = refl };
   moves = refl;
   holds = (other_offset, record { owner = 4; first = refl; offset = 0x20; second = refl; distance = 2 ^ 64 - 0x2000; known = refl; sum = refl }, other_thread_offset);
 }

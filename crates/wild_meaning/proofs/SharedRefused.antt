@@ -5,7 +5,7 @@ use Rattle.std.proofs.lemmas.List.Elements.{All-from_recursion}
 use lib.IntN.{pos}
 use Rattle.wild_records.specs.Abi.Relocation.{r_x86_64_none, r_x86_64_64, r_x86_64_gotpcrel64, r_x86_64_tpoff64, r_x86_64_dtpoff64, r_x86_64_size64, r_x86_64_tlsgd, r_x86_64_tlsld, r_x86_64_gottpoff, r_x86_64_gotpc32_tlsdesc}
 use Rattle.wild_records.specs.Abi.Section.{shf_execinstr}
-use Rattle.wild_reloc.specs.Formula.{Formula, formula, SlotDistance, AddressSlot, ThreadOffset, ModulePair, OwnModulePair, Descriptor, SymbolAddress, PointerOffset, ModuleOffset, Size, Full, Plain, Signed, Value}
+use Rattle.wild_reloc.specs.Formula.{Slot, Formula, formula, SlotDistance, AddressSlot, ThreadOffset, ModulePair, OwnModulePair, Descriptor, SymbolAddress, PointerOffset, ModuleOffset, Size, Full, Plain, Signed, Value}
 use Rattle.wild_reloc.specs.FormulaX86_64.{x86_64_formula}
 use Rattle.wild_types.specs.declared.input.InputRelocation.{InputRelocation}
 use Rattle.wild_types.specs.declared.symbol.Resolution.{Resolution}
@@ -18,12 +18,12 @@ use Rattle.wild_meaning.specs.Section.{IsSet}
 use Rattle.wild_meaning.specs.Item.{IsKept, OfSection}
 use Rattle.wild_meaning.specs.Field.{form_width, InNoField}
 use Rattle.wild_meaning.specs.Reference.{ItemHolds, IsOutsideReferences, UsesOwnDefinition}
-use Rattle.wild_meaning.specs.Slot.{IsSlot, offset_from_first}
+use Rattle.wild_meaning.specs.Slot.{IsSlot, has_slot_of, offset_from_first, HasSlotAddress}
 use Rattle.wild_meaning.specs.Worked.Builders.{reference}
 use Rattle.wild_meaning.specs.Worked.Shared.{shared_layout, shared_data, shared_item, shared_references, shared_world, answer_of_module, own_symbol, open_symbol, own_thread, other_thread}
-use Rattle.wild_meaning.specs.Worked.SharedRefusals.{NamesAnother, NamesElsewhere, WrongSlotsAreRefused, WrongAddressesAreRefused, WrongOffsetsAreRefused, WrongSizeIsRefused, WrongByteIsRefused, Refused, own_offset, other_offset}
+use Rattle.wild_meaning.specs.Worked.SharedRefusals.{NamesAnother, NamesElsewhere, WrongSlotsAreRefused, SlotsNeedTheirFlags, WrongAddressesAreRefused, WrongOffsetsAreRefused, WrongSizeIsRefused, WrongByteIsRefused, Refused, own_offset, other_offset}
 use Rattle.wild_meaning.specs.Worked.Refusals.{HasWrongNumber, NamesWrongWord}
-use Rattle.wild_meaning.proofs.SymbolUnique.{told_is, IsPlainOwn, IsAnsweredAs, denoted, other_denoted, own_offset as own_offset_is, other_offset as other_offset_is, other_size, somewhere}
+use Rattle.wild_meaning.proofs.SymbolUnique.{told, told_is, IsPlainOwn, IsAnsweredAs, denoted, other_denoted, own_offset as own_offset_is, other_offset as other_offset_is, other_size, somewhere}
 use Rattle.wild_meaning.proofs.Read.{full_of, signed_of, word_below, same_word}
 use Rattle.wild_meaning.proofs.SlotPlaces.{slot_holds}
 use Rattle.wild_meaning.proofs.Refused.{HasValueThere, value_there, no_template}
@@ -171,6 +171,23 @@ elsewhere_slot image h x =
 
 pub wrong_slots : WrongSlotsAreRefused
 wrong_slots = record { own = own_slot; other = other_slot; another = another_slot; elsewhere = elsewhere_slot }
+
+-- ---- flags of slots
+
+flag_missing : (sort : Slot) (i p : ℕ) (t : Symbol) → told shared_layout i ≡ Some t → has_slot_of sort t.flags ≡ false → HasSlotAddress sort shared_layout i p → ⊥
+flag_missing sort i p t there none h =
+    let same : h.symbol ≡ t = told_is shared_layout i h.definition h.symbol t there h.defined h.listed in
+    let both : true ≡ false = sym h.flagged ∙ ap (λ (s : Symbol). has_slot_of sort s.flags) same ∙ none in
+    cc
+
+pub slots_need_flags : SlotsNeedTheirFlags
+unfolding has_flag
+slots_need_flags = record {
+  address = λ p h. flag_missing AddressSlot 2 p own_thread refl refl h;
+  offset = λ p h. flag_missing ThreadOffset 0 p own_symbol refl refl h;
+  pair = λ p h. flag_missing ModulePair 0 p own_symbol refl refl h;
+  descriptor = λ p h. flag_missing Descriptor 3 p other_thread refl refl h;
+}
 
 -- ---- addresses
 

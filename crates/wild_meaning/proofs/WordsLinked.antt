@@ -173,7 +173,7 @@ slot_there : IsSlot AddressSlot words_static words_world words_memory (Some 0) 0
 unfolding has_flag
 slot_there = record {
   slot = 0x11080;
-  given = record { definition = 0; defined = defined 0 near_function refl refl; symbol = near_function; listed = refl; resolution = _; decided = refl; first = 0x11080; given = refl; place = refl };
+  given = record { definition = 0; defined = defined 0 near_function refl refl; symbol = near_function; listed = refl; flagged = refl; resolution = _; decided = refl; first = 0x11080; given = refl; place = refl };
   moves = refl;
   holds = (0x11200, refl, inl function_value);
 }

@@ -170,7 +170,7 @@ stubs_give law = λ info e v. by_kind law info (stub_kind info.kind e)
 
 -- the slots of each sort are the reader's, and stand in memory where all is written
 slots_agree : (sort : SlotSort) (l : Layout) (w : World) (m : Memory) → IsPlaced l w m → SlotsAgree sort l
-slots_agree sorts.Address l w m p = address_slots l p.symbols.own
+slots_agree sorts.Address l w m p = address_slots l p.symbols.own p.symbols.flags
 slots_agree sorts.Pair l w m p = pair_slots l p.symbols.own
 slots_agree sorts.OwnPair l w m p = own_pair_slot l
 slots_agree sorts.Offset l w m p = offset_slots l p.symbols.own

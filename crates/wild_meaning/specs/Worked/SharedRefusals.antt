@@ -1,14 +1,16 @@
 -- Images of the worked shared object that are refused in its world.
 --   SharedWorldIsLegal    the world is legal
 --   WrongSlotsAreRefused  a slot of an address or an offset that holds another word
+--   SlotsNeedTheirFlags   a slot of a sort whose flag the symbol lacks
 --   ..                    each other law names one kind of wrong memory
 --   SharedImageIsLinked   an image is linked there
 use Rattle.std.specs.Prelude.{◌≡◌, ℕ, ◌-◌, ◌^◌, List, [], ◌∷◌, Some}
+use Rattle.wild_reloc.specs.Formula.{AddressSlot, ModulePair, ThreadOffset, Descriptor}
 use Rattle.wild_loader.specs.declared.memory.Memory.{Memory}
 use Rattle.wild_loader.specs.Memory.{number_in, Holds}
 use Rattle.wild_meaning.specs.World.{IsLegal}
 use Rattle.wild_meaning.specs.LinkedImage.{IsLinked}
-use Rattle.wild_meaning.specs.Slot.{HasWord}
+use Rattle.wild_meaning.specs.Slot.{HasWord, HasSlot}
 use Rattle.wild_meaning.specs.Worked.Builders.{Refuses}
 use Rattle.wild_meaning.specs.Worked.Shared.{shared_layout, shared_world}
 use Rattle.wild_meaning.specs.Worked.SharedImage.{shared_image}
@@ -46,6 +48,14 @@ pub record WrongSlotsAreRefused : Type 0 where
   pub other : Refused (NamesWrongWord 0x11038 8 0xfd0 0x12008 0x700010)
   pub another : Refused NamesAnother
   pub elsewhere : Refused NamesElsewhere
+
+-- A symbol has no slot of a sort whose flag it lacks: the symbol with a slot for its address has none for an offset or a pair, the
+-- thread-local data have none for an address, and those of another module no descriptor.
+pub record SlotsNeedTheirFlags : Type 0 where
+  pub address : (p : ℕ) → HasSlot AddressSlot shared_layout 2 p → ⊥
+  pub offset : (p : ℕ) → HasSlot ThreadOffset shared_layout 0 p → ⊥
+  pub pair : (p : ℕ) → HasSlot ModulePair shared_layout 0 p → ⊥
+  pub descriptor : (p : ℕ) → HasSlot Descriptor shared_layout 3 p → ⊥
 
 -- a word with an address: it moves with the base; for an interposable symbol it is another module's
 pub record WrongAddressesAreRefused : Type 0 where
