@@ -17,8 +17,7 @@ use Rattle.wild_meaning.specs.Item.{place_at}
 use Rattle.wild_meaning.specs.ReferentAArch64.{IsUndefinedWeak, branch_types, own_place}
 use Rattle.wild_meaning.specs.Formula.{IsTarget, Gives, TakesAddress, IsReferent, IsReferentOnMachine, IsReferentOnAArch64}
 use Rattle.wild_meaning.specs.Reference.{HoldsPlain}
-use Rattle.wild_meaning.proofs.SymbolLemmas.{target_reached}
-use Rattle.wild_laws.specs.FirstPath.{IsAddress, Demands, NamesAreAddresses, RepresentsSymbol, IsNamed, HasFormula}
+use Rattle.wild_laws.specs.FirstPath.{IsAddress, IsGoal, Demands, NamesAreAddresses, RepresentsSymbol, IsNamed, HasFormula}
 use Rattle.wild_laws.proofs.Symbols.{own_value, plain_value}
 
 -- ---- symbols
@@ -38,9 +37,18 @@ alone : (l : Layout) (w : World) (m : Memory) (i a : ℕ) → IsReplaceable l i 
 alone l w m i a own f none (inl h) = address l w i a f (own_value l w i a own h)
 alone l w m i a own f none (inr s) = absurd (none s.stub s.given)
 
+-- what represents a symbol leads to it
+reached : (l : Layout) (w : World) (m : Memory) (i a : ℕ) → Denotes l w m i a → IsGoal l w m (Some i) a
+reached l w m i a (inl h) = (a, h, inl refl)
+reached l w m i a (inr h) = (h.value, h.is, h.reaches)
+
+pub target_reached : (l : Layout) (w : World) (m : Memory) (symbol : Option ℕ) (a : ℕ) → IsTarget l w m symbol a → IsGoal l w m symbol a
+target_reached l w m None a h = h
+target_reached l w m (Some i) a h = reached l w m i a h
+
 pub names_addresses : NamesAreAddresses
 names_addresses = record {
-  stands = λ l w m i a h. target_reached l w m (Some i) a h;
+  stands = reached;
   alone = alone;
   goals = λ l w m i a own f h. (h.0, address l w i h.0 f (own_value l w i h.0 own h.1), h.2);
 }

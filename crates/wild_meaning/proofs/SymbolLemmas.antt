@@ -10,9 +10,11 @@ use Rattle.wild_types.specs.declared.layout.Layout.{Layout}
 use Rattle.wild_types.specs.Lookups.{canonical}
 use Rattle.wild_loader.specs.declared.world.World.{World}
 use Rattle.wild_loader.specs.declared.memory.Memory.{Memory}
+use Rattle.wild_loader.specs.Reach.{ReachesWithin}
+use Rattle.wild_meaning.specs.Jump.{GoesTo}
 use Rattle.wild_meaning.specs.Value.{IsDefinedBy}
 use Rattle.wild_types.specs.Item.{Item}
-use Rattle.wild_meaning.specs.Formula.{IsTarget, IsOwnTarget, TakesString, IsReferent, IsOwnReferent, IsGoal}
+use Rattle.wild_meaning.specs.Formula.{IsTarget, IsOwnTarget, TakesString, IsReferent, IsOwnReferent}
 use Rattle.wild_meaning.proofs.StringLemmas.{referent_by}
 
 -- the symbol that defines another is the one that the layout looks up
@@ -42,11 +44,10 @@ own_definition l i s e = by_symbol (slice_get l.symbols i) refl
         let both : Some s ≡ None = sym e ∙ ap (λ (k : ℕ). slice_get l.symbols k) same ∙ there in
         cc
 
--- a target is a goal
-pub target_reached : (l : Layout) (w : World) (m : Memory) (symbol : Option ℕ) (a : ℕ) → IsTarget l w m symbol a → IsGoal l w m symbol a
-target_reached l w m None a h = h
-target_reached l w m (Some i) a (inl h) = (a, h, inl refl)
-target_reached l w m (Some i) a (inr h) = (h.value, h.is, h.reaches)
+-- a thunk is at most one jump
+pub goes_within : (l : Layout) (m : Memory) (a v : ℕ) → GoesTo l m a v → ReachesWithin 1 m a v
+goes_within l m a v (inl e) = inl e
+goes_within l m a v (inr h) = inr (v, h.jumps, refl)
 
 -- ---- S on x86-64, of a reference that takes no string
 

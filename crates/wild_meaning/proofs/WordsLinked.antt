@@ -21,12 +21,14 @@ use Rattle.wild_types.specs.Flags.{has_flag}
 use Rattle.wild_aarch64.specs.Immediate.{insert_bits}
 use Rattle.wild_aarch64.specs.Code.{read, read_address, read_access, read_vector_access, read_literal, read_transfer, read_condition}
 use Rattle.wild_loader.specs.Memory.{byte_in, Holds}
-use Rattle.wild_loader.specs.declared.instruction.Deed.TheVariants.{Call, Set, Load}
+use Rattle.wild_types.specs.FileThunks.{thunk_size}
+use Rattle.wild_loader.specs.declared.instruction.Deed.TheVariants.{Call, Set, Load, Jump}
 use Rattle.wild_loader.specs.declared.instruction.Operand.TheVariants.{Number, Word}
 use Rattle.wild_loader.specs.declared.instruction.Action.{Action}
 use Rattle.wild_loader.specs.InstructionAArch64.{meaning_aarch64}
 use Rattle.wild_loader.specs.Effect.{step}
 use Rattle.wild_loader.specs.StepLawsAArch64.{jumps}
+use Rattle.wild_meaning.specs.Jump.{JumpsBy}
 use Rattle.wild_loader.proofs.StepLemmasAArch64.{thunks-read}
 use Rattle.wild_meaning.specs.Value.{IsDefinedBy, IsSymbol, IsReplaceable, HasValue}
 use Rattle.wild_meaning.specs.Thread.{HasThreadOffset}
@@ -274,16 +276,26 @@ slot_item_holds = all_hold slot_item
 
 -- ---- a branch by a thunk, and one with an addend
 
+abbrev thunk_bytes : List ℕ
+thunk_bytes = 0x10 ∷ 0 ∷ 0 ∷ 0x90 ∷ 0x10 ∷ 0x02 ∷ 0x08 ∷ 0x91 ∷ 0 ∷ 0x02 ∷ 0x1f ∷ 0xd6 ∷ []
+
 thunk_held : Holds words_memory 0x11060 (flat_map (word 4) (0x90000010 ∷ 0x91080210 ∷ 0xd61f0200 ∷ []))
 unfolding word
-thunk_held = held_from words_memory 0x11060 (0x10 ∷ 0 ∷ 0 ∷ 0x90 ∷ 0x10 ∷ 0x02 ∷ 0x08 ∷ 0x91 ∷ 0 ∷ 0x02 ∷ 0x1f ∷ 0xd6 ∷ []) refl
+thunk_held = held_from words_memory 0x11060 thunk_bytes refl
 
 thunk_goes : step words_memory 0x11060 ≡ Some (jumps 12 0x11200)
 unfolding insert_bits
 thunk_goes = thunks-read words_memory 0 0x11060 0x11200 refl (record { above = omega arith; below = omega arith }) refl (omega arith) thunk_held
 
+thunk_means : meaning_aarch64 0x11060 thunk_bytes ≡ Some (record { deed = Jump; width = 64; operand = Number 0x11200 })
+unfolding word number read read_address read_access read_vector_access read_literal read_transfer read_condition
+thunk_means = refl
+
+thunk_jumps : JumpsBy words_static words_memory 0x11060 thunk_size (Number 0x11200) 0x11200
+thunk_jumps = record { bytes = thunk_bytes; whole = refl; held = held_from words_memory 0x11060 thunk_bytes refl; means = thunk_means; jumps = record { effect = jumps 12 0x11200; known = thunk_goes; jump = refl } }
+
 by_thunk : IsReferent words_static.machine StubDistance words_static words_world words_memory call_item call_reference 0x11060
-by_thunk = inr (no_string StubDistance call_reference, inr ((λ h. not_absent h.1), record { symbol = 0x11200; denoted = inl function_value; comes = inr (0x11200, record { effect = jumps 12 0x11200; known = thunk_goes; jump = refl }, refl) }))
+by_thunk = inr (no_string StubDistance call_reference, inr ((λ h. not_absent h.1), record { symbol = 0x11200; denoted = inl function_value; comes = inr thunk_jumps }))
 
 past_it : IsReferent words_static.machine StubDistance words_static words_world words_memory past_item past_reference 0x11200
 past_it = inr (no_string StubDistance past_reference, inr ((λ h. not_absent h.1), record { symbol = 0x11200; denoted = inl function_value; comes = inl refl }))

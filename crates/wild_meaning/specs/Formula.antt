@@ -7,7 +7,6 @@
 --   IsOffset l w symbol t    t is S's offset from the thread pointer
 --   IsExtent l w symbol z    z is Z, the symbol's size
 --   IsWhole l r n x          x is Z + A; for another module's symbol in a field of four bytes, x may be its low half
---   IsGoal l w m symbol a    execution that starts at a reaches S
 --   HasOffsetMode l item     a reference to a descriptor in the item holds the thread-pointer offset itself
 --   IsPlaceRelative value    the expression subtracts P, Page(P) or GOT from an address
 --   Gives value l w m item r x   x is the value of the expression
@@ -26,8 +25,7 @@ use Rattle.wild_types.specs.declared.layout.Layout.{Layout}
 use Rattle.wild_loader.specs.declared.memory.Memory.{Memory}
 use Rattle.wild_loader.specs.declared.world.World.{World}
 use Rattle.wild_meaning.specs.Section.{IsSet}
-use Rattle.wild_meaning.specs.Value.{IsReplaceable, HasValue, HasOwnValue, HasSize}
-use Rattle.wild_loader.specs.Reach.{Reaches}
+use Rattle.wild_meaning.specs.Value.{IsReplaceable, HasOwnValue, HasSize}
 use Rattle.wild_meaning.specs.Denotes.{Denotes}
 use Rattle.wild_meaning.specs.ReferentAArch64.{IsUndefinedWeak, own_place, RepresentsOnAArch64}
 use Rattle.wild_meaning.specs.Thread.{HasThreadOffset, HasOwnOffset, IsOffsetBase}
@@ -40,11 +38,6 @@ use Rattle.wild_meaning.specs.Item.{place_at}
 abbrev pub IsTarget : Layout → World → Memory → Option ℕ → ℕ → Type 0
 IsTarget l w m None a = a ≡ 0
 IsTarget l w m (Some i) a = Denotes l w m i a
-
--- execution that starts at a reaches S
-abbrev pub IsGoal : Layout → World → Memory → Option ℕ → ℕ → Type 0
-IsGoal l w m None a = a ≡ 0
-IsGoal l w m (Some i) a = (v : ℕ) × HasValue l w i v × Reaches m a v
 
 -- The expression subtracts P, Page(P) or GOT from S or L, even if it has no value yet. GOT + A - P does not count, because both
 -- terms move with the base.

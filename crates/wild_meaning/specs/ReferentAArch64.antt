@@ -15,7 +15,7 @@ use Rattle.wild_types.specs.Flags.{ifunc, absolute, undefined_weak, plt_stub}
 use Rattle.wild_loader.specs.declared.memory.Memory.{Memory}
 use Rattle.wild_loader.specs.declared.world.World.{World}
 use Rattle.wild_meaning.specs.Value.{HasRaw, HasFlag, HasValue}
-use Rattle.wild_loader.specs.Reach.{ReachesWithin}
+use Rattle.wild_meaning.specs.Jump.{GoesTo}
 use Rattle.wild_meaning.specs.Denotes.{HasStub, Denotes}
 use Rattle.wild_types.specs.Item.{Item}
 use Rattle.wild_meaning.specs.Item.{place_at}
@@ -48,12 +48,12 @@ pub record IsAddressStub (l : Layout) (i p : ℕ) : Type 0 where
 abbrev pub IsOneAddress : Layout → World → Memory → ℕ → ℕ → Type 0
 IsOneAddress l w m i a = ((p : ℕ) × IsAddressStub l i p × (a ≡ (w.base + p) % 2 ^ 64) × Denotes l w m i a) ⊎ (((p : ℕ) → IsAddressStub l i p → ⊥) × HasValue l w i a)
 
--- a is L in a branch. Execution that starts at a + A reaches an address that represents the symbol, plus A; or a thunk that leads
--- there (aaelf64, "Call and Jump relocations").
+-- a is L in a branch: a + A is an address that represents the symbol, plus A, or a thunk that leads there (aaelf64, "Call and Jump
+-- relocations")
 pub record IsBranchedTo (l : Layout) (w : World) (m : Memory) (r : InputRelocation) (i a : ℕ) : Type 0 where
   pub symbol : ℕ
   pub denoted : Denotes l w m i symbol
-  pub comes : ReachesWithin 1 m ((a + cast_unsigned w64 r.addend) % 2 ^ 64) ((symbol + cast_unsigned w64 r.addend) % 2 ^ 64)
+  pub comes : GoesTo l m ((a + cast_unsigned w64 r.addend) % 2 ^ 64) ((symbol + cast_unsigned w64 r.addend) % 2 ^ 64)
 
 -- On AArch64 several instructions each hold a part of one address, and a branch may go through a thunk (aaelf64, "Relocation
 -- operations", "Call and Jump relocations").

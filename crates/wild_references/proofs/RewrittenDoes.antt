@@ -285,7 +285,7 @@ does_row laws l w m s i r row v h whole p asked = by (cases_Bool (is_call (instr
     act all TargetInSlot value.Own sort takes acts plain there so =
         let f = and_parts (writes r_x86_64_pc32 row) (counts_ends row) so in
         let x = lands_far laws l w m s i r row v h all p (eqb-true (number_written row.written) r_x86_64_pc32 f.0) (kept f.1) (ends f.1) (not-true (interposable q.flags) (taken value.Own takes)) (not-true (has_flag q.flags ifunc) plain) (λ movable abs. asked sort movable abs) in
-        far TargetInSlot x (eqb-true (number_written row.written) r_x86_64_pc32 f.0) sort acts x.is.goal (λ a old e k. k)
+        far TargetInSlot x (eqb-true (number_written row.written) r_x86_64_pc32 f.0) sort acts x.is.target (λ a old e k. k)
     act all OffsetInSlot value.Own sort takes acts plain there so = own all OffsetInSlot sort takes acts (there refl) so (λ n k. k) (λ n a old e k. k)
     act all SymbolPair value.Own sort takes acts plain there so = own all SymbolPair sort takes acts (there refl) so (λ n k. k) (λ n a old e k. k)
     act all Described value.Own sort takes acts plain there so = own all Described sort takes acts (there refl) so (λ n k. inl (mode (ap is_thread sort), k)) (λ n a old e k. k)

@@ -31,7 +31,7 @@ use Rattle.wild_meaning.specs.Value.{IsAbsolute}
 use Rattle.wild_meaning.specs.Denotes.{Denotes}
 use Rattle.wild_types.specs.Item.{Item}
 use Rattle.wild_meaning.specs.Item.{place_at}
-use Rattle.wild_meaning.specs.Formula.{IsTarget, IsGoal}
+use Rattle.wild_meaning.specs.Formula.{IsTarget}
 use Rattle.wild_meaning.proofs.SymbolLemmas.{referent_stands}
 use Rattle.wild_geometry.proofs.JudgedLemmas.{flag_is}
 use Rattle.wild_references.specs.Laws.{IsLoadedItem}
@@ -76,17 +76,12 @@ not_moved l k h m a = fixed_not l.kind (linked_by (has_flag (flags_at l k) absol
 -- what stands for the symbol, a number of the machine
 pub record IsOperand (l : Layout) (w : World) (m : Memory) (symbol : Option ℕ) (n : ℕ) : Type 0 where
   pub target : IsTarget l w m symbol n
-  pub goal : IsGoal l w m symbol n
   pub small : n < 2 ^ 64
-
-goal_is : (l : Layout) (w : World) (m : Memory) (k n : ℕ) → Denotes l w m k n → IsGoal l w m (Some k) n
-goal_is l w m k n (inl h) = (n, h, inl refl)
-goal_is l w m k n (inr h) = (h.value, h.is, h.reaches)
 
 operand_at : (l : Layout) (w : World) (m : Memory) (s : Item) (k n : ℕ) (symbol : Option ℕ) → IsLoadedItem machine.X86_64 l w m s → symbol ≡ Some k → has_flag (flags_at l k) ifunc ≡ false → IsTarget l w m symbol n → IsOperand l w m symbol n
 operand_at l w m s k n symbol h e plain t =
     let d : Denotes l w m k n = subst (λ (o : Option ℕ). IsTarget l w m o n) e t in
-    record { target = t; goal = subst (λ (o : Option ℕ). IsGoal l w m o n) (sym e) (goal_is l w m k n d); small = denoted_small l w m k n (placed machine.X86_64 l w m s h) plain d }
+    record { target = t; small = denoted_small l w m k n (placed machine.X86_64 l w m s h) plain d }
 
 -- the field has its distance
 pub record LandsFar (l : Layout) (w : World) (m : Memory) (s : Item) (r : InputRelocation) (row : Row) (v : ℕ) : Type 0 where

@@ -11,8 +11,8 @@ ghost use Rattle.wild_references.specs.EffectLaws.{InstructionsAreKept, ItemsHol
 use wild_geometry::machines_have_their_facts;
 use wild_loader::{stubs_are_read, stubs_of_words_are_read};
 use wild_relax::{
-    aarch64_rewrites_keep_the_effect, aarch64_rows_apply_together, rewrites_keep_the_effect,
-    rewrites_stay_in_their_patterns,
+    aarch64_code_reaches, aarch64_rewrites_keep_the_effect, aarch64_rows_apply_together,
+    rewrites_keep_the_effect, rewrites_stay_in_their_patterns,
 };
 use wild_reloc::widths_of_fields;
 
@@ -114,6 +114,7 @@ pub fn stubs_jump_to_slots()
 pub fn thunks_jump_to_targets()
     ensures { ThunksJumpToTargets }
 {
+    aarch64_code_reaches();
     stubs_of_words_are_read();
 }
 
