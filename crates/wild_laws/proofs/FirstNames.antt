@@ -40,7 +40,7 @@ alone l w m i a own f none (inr s) = absurd (none s.stub s.given)
 -- what represents a symbol leads to it
 reached : (l : Layout) (w : World) (m : Memory) (i a : ℕ) → Denotes l w m i a → IsGoal l w m (Some i) a
 reached l w m i a (inl h) = (a, h, inl refl)
-reached l w m i a (inr h) = (h.value, h.is, h.reaches)
+reached l w m i a (inr h) = (h.value, h.is, inr (h.value, h.code.jumps, inl refl))
 
 pub target_reached : (l : Layout) (w : World) (m : Memory) (symbol : Option ℕ) (a : ℕ) → IsTarget l w m symbol a → IsGoal l w m symbol a
 target_reached l w m None a h = h

@@ -36,7 +36,7 @@ use Rattle.wild_meaning.specs.Worked.Builders.{reference, group_of}
 use Rattle.wild_meaning.specs.Worked.Copy.{copying_layout, copying_data, copying_item, copying_blank, copying_object, copying_library, copying_world, copied_symbol, start_symbol, copied_answer, copied_bytes}
 use Rattle.wild_meaning.specs.Worked.CopyImage.{copying_image, copying_rest, copying_memory, copying_header, copying_third, copying_words}
 use Rattle.wild_meaning.specs.Worked.CopyRefusals.{CopyingImageIsLinked}
-use Rattle.wild_meaning.proofs.SymbolUnique.{only, raw_of}
+use Rattle.wild_meaning.proofs.SymbolUnique.{only, raw_of, IsUnstubbed, no_stubs}
 use Rattle.wild_meaning.proofs.Read.{held_from}
 use Rattle.wild_meaning.proofs.Refused.{not_alone, no_template}
 use Rattle.wild_meaning.proofs.CopyLegal.{copied_own, has_copy, copy_is}
@@ -211,6 +211,7 @@ copying_linked = record {
   machine = refl;
   kept = items_hold;
   zeros = zeros;
+  stubs = λ whole i p h. absurd (no_stubs copying_layout i p (All-from_recursion IsUnstubbed copying_layout.symbols (refl, (refl, tt))) h);
   copies = λ whole. copies;
   header = record {
     header = copying_header;

@@ -35,7 +35,7 @@ use Rattle.wild_meaning.specs.Worked.Builders.{file_of, group_of}
 use Rattle.wild_meaning.specs.Worked.Static.{static_pie_world}
 use Rattle.wild_meaning.specs.Worked.StaticImage.{static_header, static_segment, padded_image, padded_rest, padded_memory}
 use Rattle.wild_meaning.specs.Worked.StaticRefusals.{padded_blank, padded_layout, PaddedImageIsLinked}
-use Rattle.wild_meaning.proofs.SymbolUnique.{only}
+use Rattle.wild_meaning.proofs.SymbolUnique.{only, IsUnstubbed, no_stubs}
 use Rattle.wild_meaning.proofs.Read.{held_from}
 use Rattle.wild_meaning.proofs.PlacedLemmas.{frame_input}
 
@@ -107,6 +107,7 @@ padded_linked = record {
   machine = refl;
   kept = no_item;
   zeros = λ s k h lt _ _. zeros s h k lt;
+  stubs = λ whole i p h. absurd (no_stubs padded_layout i p (All-from_recursion IsUnstubbed padded_layout.symbols (refl, (refl, (refl, (refl, tt))))) h);
   copies = λ whole i raw x h. absurd (no_library i h.copied);
   header = record {
     header = static_header;

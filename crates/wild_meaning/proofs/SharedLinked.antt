@@ -26,7 +26,11 @@ use Rattle.wild_types.specs.Item.{Item}
 use Rattle.wild_loader.specs.declared.memory.Machine.TheVariants as processors
 use Rattle.wild_loader.specs.declared.world.Answer.{Answer}
 use Rattle.wild_loader.specs.declared.instruction.Deed.TheVariants.{Set}
-use Rattle.wild_loader.specs.Memory.{byte_in, bytes_in, Holds}
+use Rattle.wild_loader.specs.Memory.{byte_in, bytes_in, number_in, Holds}
+use Rattle.wild_loader.specs.Instruction.{signed_32, jump_through}
+use Rattle.wild_loader.specs.StepLawsX86_64.{stub_bytes}
+use Rattle.wild_loader.proofs.StepLemmas.{stub-held}
+use Rattle.wild_meaning.specs.Denotes.{HasStub, IsStub}
 use Rattle.wild_loader.specs.InstructionX86_64.{meaning_x86_64, effect_x86_64}
 use Rattle.wild_loader.specs.Tables.{first_dynamic}
 use Rattle.wild_meaning.specs.Value.{IsDefinedBy, IsSymbol, IsReplaceable, HasAnswer, HasValue}
@@ -41,10 +45,10 @@ use Rattle.wild_meaning.specs.Segments.{headers_in, DescribeSegments}
 use Rattle.wild_meaning.specs.DynamicSection.{InformsLinker}
 use Rattle.wild_meaning.specs.LinkedImage.{IsSectionWithoutData}
 use Rattle.wild_meaning.specs.Worked.Builders.{reference, file_of, group_of}
-use Rattle.wild_meaning.specs.Worked.Shared.{shared_layout, shared_world, shared_data, shared_item, shared_bytes, shared_code, code_item, shared_reference, answer_of_module, own_symbol, open_symbol, own_thread, other_thread}
+use Rattle.wild_meaning.specs.Worked.Shared.{shared_layout, shared_world, shared_data, shared_item, shared_bytes, shared_code, code_item, shared_reference, answer_of_module, own_symbol, open_symbol, own_thread, other_thread, stubbed_function}
 use Rattle.wild_meaning.specs.Worked.SharedImage.{shared_image, shared_rest, shared_memory, shared_header, shared_third}
 use Rattle.wild_meaning.specs.Worked.SharedRefusals.{own_offset, other_offset, SharedImageIsLinked}
-use Rattle.wild_meaning.proofs.SymbolUnique.{only, IsPlainOwn, IsAnsweredAs}
+use Rattle.wild_meaning.proofs.SymbolUnique.{only, stub_of, stub_is, IsPlainOwn, IsAnsweredAs}
 use Rattle.wild_meaning.proofs.Read.{held_from}
 use Rattle.wild_meaning.proofs.Refused.{not_alone, no_template}
 use Rattle.wild_meaning.proofs.EffectLemmas.{done}
@@ -530,6 +534,68 @@ shared_informs = record {
   };
 }
 
+-- ---- the stub
+
+function_value : HasValue shared_layout shared_world 4 0x11088
+unfolding has_flag
+function_value = inr (
+  record { definition = 4; defined = defined 4 stubbed_function refl refl; symbol = stubbed_function; listed = refl; told = refl },
+  record {
+    raw = 0x1088;
+    given = record { definition = 4; defined = defined 4 stubbed_function refl refl; given = inl (record { symbol = stubbed_function; listed = refl; resolution = _; decided = refl; value = refl }) };
+    indirect = false;
+    resolved = record { definition = 4; defined = defined 4 stubbed_function refl refl; symbol = stubbed_function; listed = refl; flagged = refl };
+    still = false;
+    absolute = record { definition = 4; defined = defined 4 stubbed_function refl refl; symbol = stubbed_function; listed = refl; flagged = refl };
+    is = refl;
+  },
+)
+
+abbrev stub_field : List ℕ
+stub_field = 0xed ∷ 0xff ∷ 0xff ∷ 0xff ∷ []
+
+stub_there : Holds shared_memory 0x120e0 (stub_bytes stub_field)
+stub_there = held_from shared_memory 0x120e0 (stub_bytes stub_field) refl
+
+function_word : number_in shared_memory 0x120d8 8 ≡ Some 0x11088
+unfolding number
+function_word = refl
+
+named_word : number_in shared_memory ((0x120e0 + 11 + signed_32 (number stub_field)) % 2 ^ 64) 8 ≡ Some 0x11088
+unfolding number
+named_word = refl
+
+stub_means : meaning_x86_64 0x120e0 (stub_bytes stub_field) ≡ Some (jump_through 0x120d8)
+unfolding meaning_x86_64 number
+stub_means = refl
+
+function_stub : IsStub shared_layout shared_world shared_memory 4 0x120e0
+function_stub = record {
+  stub = 0x20e0;
+  given = record { definition = 4; defined = defined 4 stubbed_function refl refl; symbol = stubbed_function; listed = refl; resolution = _; decided = refl; stub = refl };
+  moves = refl;
+  value = 0x11088;
+  is = function_value;
+  slot = 0x20d8;
+  first = refl;
+  word = function_word;
+  code = record {
+    bytes = stub_bytes stub_field;
+    whole = refl;
+    held = stub_there;
+    means = stub_means;
+    jumps = record { effect = _; known = stub-held shared_memory 0x120e0 0x11088 stub_field refl refl stub_there named_word; jump = refl };
+  };
+}
+
+stubs_jump : (i p : ℕ) → HasStub shared_layout i p → IsStub shared_layout shared_world shared_memory i ((0x10000 + p) % 2 ^ 64)
+stubs_jump zero p h = absurd (stub_of shared_layout 0 p own_symbol _ refl refl refl h)
+stubs_jump (suc zero) p h = absurd (stub_of shared_layout 1 p open_symbol _ refl refl refl h)
+stubs_jump (suc (suc zero)) p h = absurd (stub_of shared_layout 2 p own_thread _ refl refl refl h)
+stubs_jump (suc (suc (suc zero))) p h = absurd (stub_of shared_layout 3 p other_thread _ refl refl refl h)
+stubs_jump (suc (suc (suc (suc zero)))) p h = (let same : 0x20e0 ≡ p = stub_is shared_layout 4 p 0x20e0 stubbed_function _ refl refl refl h in subst (λ (q : ℕ). IsStub shared_layout shared_world shared_memory 4 ((0x10000 + q) % 2 ^ 64)) same function_stub)
+stubs_jump (suc (suc (suc (suc (suc i))))) p h = absurd (let both : None ≡ Some h.defined.symbol = h.defined.listed in cc)
+
 pub shared_linked : SharedImageIsLinked
 shared_linked = record {
   memory = shared_memory;
@@ -537,6 +603,7 @@ shared_linked = record {
   machine = refl;
   kept = items_hold;
   zeros = λ s k h _ _ _. absurd (no_blank s h);
+  stubs = λ whole. stubs_jump;
   copies = λ whole i raw x h. absurd (no_library i h.copied);
   header = record {
     header = shared_header;

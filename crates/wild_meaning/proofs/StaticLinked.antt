@@ -36,7 +36,7 @@ use Rattle.wild_meaning.specs.Worked.Builders.{reference, file_of, group_of}
 use Rattle.wild_meaning.specs.Worked.Static.{static_pie, static_pie_world, branch_code, branch_item, branch_reference, load_code, load_item, load_reference, general_code, general_item, pair_reference, getter_reference, described_code, described_item, described_reference, static_data, static_item, first_function, second_function, thread_symbol, getter_symbol}
 use Rattle.wild_meaning.specs.Worked.StaticImage.{static_image, static_rest, static_memory, static_header}
 use Rattle.wild_meaning.specs.Worked.StaticRefusals.{StaticImageIsLinked}
-use Rattle.wild_meaning.proofs.SymbolUnique.{only, IsPlainOwn}
+use Rattle.wild_meaning.proofs.SymbolUnique.{only, IsPlainOwn, IsUnstubbed, no_stubs}
 use Rattle.wild_meaning.proofs.Read.{held_from}
 use Rattle.wild_meaning.proofs.Refused.{not_alone, no_template}
 use Rattle.wild_meaning.proofs.EffectLemmas.{done}
@@ -412,6 +412,7 @@ static_linked = record {
   machine = refl;
   kept = items_hold;
   zeros = λ s k h _ _ _. absurd (no_blank s h);
+  stubs = λ whole i p h. absurd (no_stubs static_pie i p (All-from_recursion IsUnstubbed static_pie.symbols (refl, (refl, (refl, (refl, tt))))) h);
   copies = λ whole i raw x h. absurd (no_library i h.copied);
   header = record {
     header = static_header;

@@ -41,7 +41,7 @@ use Rattle.wild_meaning.specs.Worked.Static.{static_pie_world, second_function}
 use Rattle.wild_meaning.specs.Worked.Strings.{string_section, string_symbol, string_reference, pointer_data, reversed_data, strings_file, strings_layout, pointer_item, reversed_item, strings_memory}
 use Rattle.wild_meaning.specs.Worked.StringImage.{strings_image, strings_rest, strings_header, strings_segment}
 use Rattle.wild_meaning.specs.Worked.StringRefusals.{StringsWorldIsLegal, StringsImageIsLinked}
-use Rattle.wild_meaning.proofs.SymbolUnique.{only}
+use Rattle.wild_meaning.proofs.SymbolUnique.{only, IsUnstubbed, no_stubs}
 use Rattle.wild_meaning.proofs.Legal.{not_indirect, no_index}
 use Rattle.wild_meaning.proofs.Read.{held_from}
 use Rattle.wild_meaning.proofs.Refused.{not_alone, no_template}
@@ -238,6 +238,7 @@ strings_linked = record {
   machine = refl;
   kept = items_hold;
   zeros = λ s k h _ _ _. absurd (no_blank s h);
+  stubs = λ whole i p h. absurd (no_stubs strings_layout i p (All-from_recursion IsUnstubbed strings_layout.symbols (refl, (refl, tt))) h);
   copies = λ whole i raw x h. absurd (no_library i h.copied);
   header = record {
     header = strings_header;

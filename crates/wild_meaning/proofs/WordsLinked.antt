@@ -48,7 +48,7 @@ use Rattle.wild_meaning.specs.Worked.Builders.{file_of, group_of}
 use Rattle.wild_meaning.specs.Worked.AArch64.{words_static, words_world, near_function, local_data, address_code, address_item, page_reference, low_reference, slot_code, slot_item, slot_page_reference, slot_low_reference, call_code, call_item, call_reference, past_code, past_item, past_reference, kept_code, kept_item, descriptor_code, descriptor_item, descriptor_page, descriptor_load, descriptor_low, descriptor_call}
 use Rattle.wild_meaning.specs.Worked.AArch64Image.{words_image, words_rest, words_memory, words_header}
 use Rattle.wild_meaning.specs.Worked.ImageRefusalsAArch64.{WordsImageIsLinked}
-use Rattle.wild_meaning.proofs.SymbolUnique.{only, owner_of, stub_of, IsPlainOwn}
+use Rattle.wild_meaning.proofs.SymbolUnique.{only, owner_of, stub_of, IsPlainOwn, IsUnstubbed, no_stubs}
 use Rattle.wild_meaning.proofs.Read.{held_from}
 use Rattle.wild_meaning.proofs.EffectLemmas.{done}
 use Rattle.wild_meaning.proofs.OneReference.{effect_with, same_bytes}
@@ -592,6 +592,7 @@ words_linked = record {
   machine = refl;
   kept = items_hold;
   zeros = λ s k h _ _ _. absurd (no_blank s h);
+  stubs = λ whole i p h. absurd (no_stubs words_static i p (All-from_recursion IsUnstubbed words_static.symbols (refl, (refl, tt))) h);
   copies = λ whole i raw x h. absurd (no_library i h.copied);
   header = record {
     header = words_header;

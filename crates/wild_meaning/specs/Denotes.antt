@@ -1,5 +1,6 @@
 -- Addresses that represent a symbol in memory: its value, or a stub that leads to it.
 --   HasStub l i p         the layout has a stub for symbol i at p
+--   IsStub l w m i a      a is the loaded address of symbol i's stub, which jumps by the symbol's first slot
 --   Denotes l w m i a     a represents symbol i
 use Rattle.std.specs.Prelude.{◌≡◌, ℕ, ◌+◌, ◌%◌, ◌^◌, ◌⊎◌, Some}
 use Rattle.wild_types.specs.declared.symbol.Resolution.{Resolution}
@@ -7,7 +8,9 @@ use Rattle.wild_types.specs.declared.symbol.Symbol.{Symbol}
 use Rattle.wild_types.specs.declared.layout.Layout.{Layout}
 use Rattle.wild_loader.specs.declared.memory.Memory.{Memory}
 use Rattle.wild_loader.specs.declared.world.World.{World}
-use Rattle.wild_loader.specs.Reach.{Reaches}
+use Rattle.wild_loader.specs.declared.instruction.Operand.TheVariants.{Word}
+use Rattle.wild_loader.specs.Memory.{number_in}
+use Rattle.wild_meaning.specs.Jump.{JumpsBy}
 use Rattle.wild_meaning.specs.Value.{IsSymbol, IsDefinedBy, HasValue}
 
 -- p is the address in the layout of the stub of symbol i's definition
@@ -20,14 +23,21 @@ pub record HasStub (l : Layout) (i p : ℕ) : Type 0 where
   pub decided : symbol.resolution ≡ Some resolution
   pub stub : resolution.plt_address ≡ Some p
 
--- a is the loaded address of symbol i's stub, from which execution reaches the symbol's value
+-- the bytes of a stub (x86-64 psABI, "Procedure Linkage Table"; aaelf64, "Program Linkage Table")
+abbrev pub stub_size : ℕ
+stub_size = 16
+
+-- a is the loaded address of symbol i's stub: code that jumps to the address in the symbol's first slot, where the symbol's value is
 pub record IsStub (l : Layout) (w : World) (m : Memory) (i a : ℕ) : Type 0 where
   pub stub : ℕ
   pub given : HasStub l i stub
   pub moves : a ≡ (w.base + stub) % 2 ^ 64
   pub value : ℕ
   pub is : HasValue l w i value
-  pub reaches : Reaches m a value
+  pub slot : ℕ
+  pub first : given.resolution.got_address ≡ Some slot
+  pub word : number_in m (w.base + slot) 8 ≡ Some value
+  pub code : JumpsBy l m a stub_size (Word ((w.base + slot) % 2 ^ 64)) value
 
 -- a represents symbol i in a memory: it is the symbol's value, or its stub (x86-64 psABI, "Function Addresses")
 abbrev pub Denotes : Layout → World → Memory → ℕ → ℕ → Type 0

@@ -5,7 +5,7 @@
 --   IsNotCopied l w a     the address is in no copied symbol
 --   IsLinked l w image    in that world the loader accepts the image, and memory is as required
 --   IsSound l image       the image is linked in every legal world
-use Rattle.std.specs.Prelude.{◌≡◌, ℕ, ◌+◌, ◌<◌, ◌≤◌, ◌⊎◌, true, false, length, List, None, Some, Ok}
+use Rattle.std.specs.Prelude.{◌≡◌, ℕ, ◌+◌, ◌%◌, ◌^◌, ◌<◌, ◌≤◌, ◌⊎◌, true, false, length, List, None, Some, Ok}
 use Rattle.wild_words.specs.Words.{HasBytesAt}
 use Rattle.wild_words.specs.Record.{spell}
 use Rattle.wild_records.specs.Abi.Header.{ev_current, et_exec, et_dyn}
@@ -32,6 +32,7 @@ use Rattle.wild_meaning.specs.Section.{IsSet, IsForDebuggers, HasFileBytes}
 use Rattle.wild_meaning.specs.Segments.{headers_in, DescribeSegments, HasDynamicLinker}
 use Rattle.wild_meaning.specs.DynamicSection.{InformsLinker}
 use Rattle.wild_meaning.specs.Value.{IsDefinedBy, IsResolved, HasFlag}
+use Rattle.wild_meaning.specs.Denotes.{HasStub, IsStub}
 use Rattle.wild_types.specs.Item.{Item}
 use Rattle.wild_meaning.specs.Item.{IsInput, IsLoadedSlot, IsKept}
 use Rattle.wild_meaning.specs.Reference.{ItemHolds}
@@ -87,6 +88,7 @@ processor_of machine.AArch64 = processors.AArch64
 
 -- The loader accepts the image for the layout's machine, and in memory:
 -- - each kept item holds;
+-- - each stub jumps by its symbol's first slot, whether or not a reference uses it;
 -- - copied symbols have their bytes;
 -- - other sections without data are zero, after file bytes or among sections that have some.
 -- The headers describe the layout's output, and a dynamic section has the entries that its linker needs.
@@ -96,6 +98,7 @@ pub record IsLinked (l : Layout) (w : World) (image : List ℕ) : Type 0 where
   pub accepted : load w image ≡ Ok memory
   pub machine : memory.machine ≡ processor_of l.machine
   pub kept : (item : Item) → IsKept l item → ItemHolds l w memory item
+  pub stubs : (IsForDebuggers l → ⊥) → (i p : ℕ) → HasStub l i p → IsStub l w memory i ((w.base + p) % 2 ^ 64)
   pub zeros : (s : InputSection) (k : ℕ) → IsSectionWithoutData l s → k < s.size → IsPastFileBytes l (s.address + k) ⊎ HasFileBytes l s.part → IsNotCopied l w (s.address + k) → byte_in memory (w.base + s.address + k) ≡ Some 0
   pub copies : (IsForDebuggers l → ⊥) → (i raw : ℕ) (x : Answer) → HasCopy l w i raw x → Holds memory (w.base + raw) x.bytes
   pub header : HasHeader l image

@@ -2,6 +2,7 @@
 --   SharedWorldIsLegal    the world is legal
 --   WrongSlotsAreRefused  a slot of an address or an offset that holds another word
 --   SlotsNeedTheirFlags   a slot of a sort whose flag the symbol lacks
+--   WrongStubsAreRefused  a stub that jumps by another word, or to another address
 --   ..                    each other law names one kind of wrong memory
 --   SharedImageIsLinked   an image is linked there
 use Rattle.std.specs.Prelude.{◌≡◌, ℕ, ◌-◌, ◌^◌, List, [], ◌∷◌, Some}
@@ -56,6 +57,19 @@ pub record SlotsNeedTheirFlags : Type 0 where
   pub offset : (p : ℕ) → HasSlot ThreadOffset shared_layout 0 p → ⊥
   pub pair : (p : ℕ) → HasSlot ModulePair shared_layout 0 p → ⊥
   pub descriptor : (p : ℕ) → HasSlot Descriptor shared_layout 3 p → ⊥
+
+-- a stub of the function that jumps to the address in another word, which has the same content
+abbrev pub stub_by_another_word : List ℕ
+stub_by_another_word = 0xf3 ∷ 0x0f ∷ 0x1e ∷ 0xfa ∷ 0xf2 ∷ 0xff ∷ 0x25 ∷ 0x15 ∷ 0 ∷ 0 ∷ 0 ∷ 0x0f ∷ 0x1f ∷ 0x44 ∷ 0 ∷ 0 ∷ []
+
+pub record JumpsByAnotherWord (m : Memory) : Type 0 where
+  pub stub : Holds m 0x120e0 stub_by_another_word
+  pub there : HasWord m 0x12100 0x11088
+
+-- A stub jumps by its symbol's own slot, even if no reference uses it. The slot has the symbol's value.
+pub record WrongStubsAreRefused : Type 0 where
+  pub another : Refused JumpsByAnotherWord
+  pub value : Refused (HasWrongNumber 0x120d8 8 0x11088)
 
 -- a word with an address: it moves with the base; for an interposable symbol it is another module's
 pub record WrongAddressesAreRefused : Type 0 where
