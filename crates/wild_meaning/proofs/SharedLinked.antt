@@ -40,7 +40,9 @@ use Rattle.wild_meaning.specs.Item.{IsLoadedSlot, IsInput, IsKept, OfSection, Of
 use Rattle.wild_meaning.specs.Field.{FieldReads}
 use Rattle.wild_meaning.specs.Formula.{Gives}
 use Rattle.wild_meaning.specs.Template.{reads_without_calls}
-use Rattle.wild_meaning.specs.Reference.{UsesOwnDefinition, UsesOwnSymbolOnly, IsOutsideReferences, ReferenceHolds, ItemHolds}
+use Rattle.wild_types.specs.declared.kind.Machine.TheVariants as machine
+use Rattle.wild_loader.specs.declared.instruction.Operand.TheVariants.{Number}
+use Rattle.wild_meaning.specs.Reference.{ReadsOffsetSlots, UsesOwnDefinition, UsesOwnSymbolOnly, IsOutsideReferences, ReferenceHolds, ItemHolds}
 use Rattle.wild_meaning.specs.Segments.{headers_in, DescribeSegments}
 use Rattle.wild_meaning.specs.DynamicSection.{InformsLinker}
 use Rattle.wild_meaning.specs.LinkedImage.{IsSectionWithoutData}
@@ -52,7 +54,7 @@ use Rattle.wild_meaning.proofs.SymbolUnique.{only, stub_of, stub_is, IsPlainOwn,
 use Rattle.wild_meaning.proofs.Read.{held_from}
 use Rattle.wild_meaning.proofs.Refused.{not_alone, no_template}
 use Rattle.wild_meaning.proofs.EffectLemmas.{done}
-use Rattle.wild_meaning.proofs.OneReference.{effect_with}
+use Rattle.wild_meaning.proofs.OneReference.{effect_with, no_words}
 use Rattle.wild_meaning.proofs.PlacedLemmas.{frame_input}
 use Rattle.wild_meaning.proofs.SharedLegal.{no_library}
 use Rattle.wild_meaning.proofs.SharedRefused.{slot_formula, address_formula, pointer_formula, inner_formula, size_formula, pair_formula, own_pair_formula, thread_slot_formula, descriptor_formula, own_is, thread_is, open_is, other_is, no_code, no_string, no_address, left}
@@ -416,13 +418,20 @@ described_done = refl
 described_held : Holds shared_memory 0x11080 (0x48 ∷ 0x8d ∷ 0x05 ∷ 0xa1 ∷ 0x0f ∷ 0 ∷ 0 ∷ [])
 described_held = held_from shared_memory 0x11080 (0x48 ∷ 0x8d ∷ 0x05 ∷ 0xa1 ∷ 0x0f ∷ 0 ∷ 0 ∷ []) refl
 
+described_means : meaning_x86_64 0x11080 (0x48 ∷ 0x8d ∷ 0x05 ∷ 0xa1 ∷ 0x0f ∷ 0 ∷ 0 ∷ []) ≡ Some (record { deed = Set 0; width = 64; operand = Number 0x12028 })
+unfolding meaning_x86_64 number
+described_means = refl
+
+described_words : ReadsOffsetSlots machine.X86_64 shared_layout shared_world shared_memory code_item shared_reference 0 described
+described_words = no_words machine.X86_64 shared_layout shared_world shared_memory code_item shared_reference 0 described (0x48 ∷ 0x8d ∷ 0x05 ∷ 0xa1 ∷ 0x0f ∷ 0 ∷ 0 ∷ []) _ 0x12028 refl described_held described_means refl
+
 described_holds : ReferenceHolds shared_layout shared_world shared_memory code_item shared_reference
 described_holds = inr (record {
   start = 0;
   instruction = described;
   first = shared_reference;
   template = described_template;
-  words = tt;
+  words = described_words;
   does = done (reads_without_calls shared_world shared_memory) shared_layout shared_world shared_memory code_item shared_reference 0 described (record {
     value = 0x12028;
     demands = inr ((λ h. absurd h.0), 0x12028, own_descriptor, refl);

@@ -33,7 +33,7 @@ use Rattle.wild_meaning.specs.Formula.{IsReferent, IsReferentOnAArch64, Gives}
 use Rattle.wild_meaning.specs.Sequence.{Instruction, descriptor_call_words}
 use Rattle.wild_meaning.specs.WordsAArch64.{effect_with as asked_of}
 use Rattle.wild_meaning.specs.Template.{IsTemplate, IsFieldBits, bits_of, old_bytes, reads, reads_without_calls, DoesDemanded}
-use Rattle.wild_meaning.specs.Reference.{IsOwnSlot, ReadsOwnSlots, ReferenceHolds, ItemHolds}
+use Rattle.wild_meaning.specs.Reference.{IsOffsetSlot, ReadsOffsetSlots, ReferenceHolds, ItemHolds}
 use Rattle.wild_meaning.specs.Worked.Builders.{Refuses}
 use Rattle.wild_meaning.specs.Worked.AArch64.{words_static, words_world, near_function, local_data, slot_code, slot_item, slot_low_reference, call_code, call_item, call_reference, past_code, past_item, past_reference, descriptor_code, descriptor_item, descriptor_page, descriptor_load}
 use Rattle.wild_meaning.specs.Worked.StaticRefusals.{MemoryHas}
@@ -295,10 +295,10 @@ word_refused m held (inl h) = by h.formula h.known h.value h.gives
         let given = subst (λ (k : Formula). Gives k.value words_static words_world m descriptor_item descriptor_load x) same gives in
         no_slot Descriptor given.1.0.slot given.1.0.given
 word_refused m held (inr h) =
-    let words = load_only (λ start o first. ReadsOwnSlots words_static.machine words_static words_world m descriptor_item first start o → IsOwnSlot words_static words_world (Some 1) 0x11080) (λ each. each load_of_word (record { deed = Set 0; width = 64; operand = Word 0x11080 }) 0x11080 refl held word_means refl) h.start h.instruction h.first h.template h.words in
+    let words = load_only (λ start o first. ReadsOffsetSlots words_static.machine words_static words_world m descriptor_item first start o → IsOffsetSlot words_static words_world (Some 1) 0x11080) (λ each. each load_of_word (record { deed = Set 0; width = 64; operand = Word 0x11080 }) 0x11080 refl held word_means refl) h.start h.instruction h.first h.template h.words in
     let both : Some 1 ≡ Some words.index = words.named in
     let same : words.index ≡ 1 = cc in
-    no_slot words.sort words.slot (subst (λ (i : ℕ). HasSlot words.sort words_static i words.slot) same words.given)
+    no_slot ThreadOffset words.slot (subst (λ (i : ℕ). HasSlot ThreadOffset words_static i words.slot) same words.given)
 
 wrong_word : Refuses words_static words_world (MemoryHas 0x11030 load_of_word)
 wrong_word image h x = word_refused h.memory x (holds_there h.memory descriptor_item descriptor_load 1 0x30008 (h.kept descriptor_item descriptor_kept) load_reference refl data_is)

@@ -41,7 +41,7 @@ use Rattle.wild_meaning.specs.Sequence.{Instruction, size_of, IsOwnByte, descrip
 use Rattle.wild_meaning.specs.Template.{DoesDemanded, effect_of, demand_of, old_bytes, reads, reads_without_calls}
 use Rattle.wild_meaning.specs.WordsAArch64.{effect_with as asked_of}
 use Rattle.wild_meaning.specs.Field.{IsInputByte}
-use Rattle.wild_meaning.specs.Reference.{ReadsOwnSlots, UsesOwnSymbolOnly, IsOutsideReferences, ReferenceHolds, ItemHolds}
+use Rattle.wild_meaning.specs.Reference.{ReadsOffsetSlots, UsesOwnSymbolOnly, IsOutsideReferences, ReferenceHolds, ItemHolds}
 use Rattle.wild_meaning.specs.Segments.{headers_in, DescribeSegments}
 use Rattle.wild_meaning.specs.LinkedImage.{IsSectionWithoutData}
 use Rattle.wild_meaning.specs.Worked.Builders.{file_of, group_of}
@@ -51,7 +51,8 @@ use Rattle.wild_meaning.specs.Worked.ImageRefusalsAArch64.{WordsImageIsLinked}
 use Rattle.wild_meaning.proofs.SymbolUnique.{only, owner_of, stub_of, IsPlainOwn, IsUnstubbed, no_stubs}
 use Rattle.wild_meaning.proofs.Read.{held_from}
 use Rattle.wild_meaning.proofs.EffectLemmas.{done}
-use Rattle.wild_meaning.proofs.OneReference.{effect_with, same_bytes}
+use Rattle.wild_types.specs.declared.kind.Machine.TheVariants as machine
+use Rattle.wild_meaning.proofs.OneReference.{effect_with, no_words}
 use Rattle.wild_meaning.proofs.InstructionsAArch64.{alone_only}
 use Rattle.wild_meaning.proofs.WordsLegal.{no_library}
 use Rattle.wild_meaning.proofs.WordsLoaded.{words_loaded, words_programs}
@@ -115,16 +116,6 @@ all_hold item all others = record {
   others = others;
 }
 
--- code that sets a register to a number reads no word
-no_words : (item : Item) (first : InputRelocation) (start : ℕ) (o : Instruction) (bytes : List ℕ) (d n : ℕ) → length bytes ≡ size_of o → Holds words_memory (place_at words_world item start) bytes
-    → meaning_aarch64 (place_at words_world item start) bytes ≡ Some (record { deed = Set d; width = 64; operand = Number n }) → ReadsOwnSlots words_static.machine words_static words_world words_memory item first start o
-no_words item first start o bytes d n long held means = λ others act a whole there known word.
-    let same : others ≡ bytes = same_bytes words_memory (place_at words_world item start) others bytes (whole ∙ sym long) there held in
-    let here : Some (record { deed = Set d; width = 64; operand = Number n }) ≡ Some act = sym means ∙ subst (λ (bs : List ℕ). meaning_aarch64 (place_at words_world item start) bs ≡ Some act) same known in
-    let one : record { deed = Set d; width = 64; operand = Number n } ≡ act = cc in
-    let both : Number n ≡ Word a = ap (λ (x : Action). x.operand) one ∙ word in
-    cc
-
 -- ---- an address in two instructions
 
 function_sum : IsSum PageDistance words_static words_world words_memory address_item page_reference 0x11200
@@ -154,8 +145,8 @@ address_means : meaning_aarch64 0x11000 (0x1f ∷ 0x20 ∷ 0x03 ∷ 0xd5 ∷ 0xe
 unfolding word number read read_address read_access read_vector_access read_literal read_transfer read_condition
 address_means = refl
 
-address_words : ReadsOwnSlots words_static.machine words_static words_world words_memory address_item page_reference 0 address_pair_words
-address_words = no_words address_item page_reference 0 address_pair_words (0x1f ∷ 0x20 ∷ 0x03 ∷ 0xd5 ∷ 0xe0 ∷ 0x0f ∷ 0 ∷ 0x10 ∷ []) 0 0x11200 refl (held_from words_memory 0x11000 (0x1f ∷ 0x20 ∷ 0x03 ∷ 0xd5 ∷ 0xe0 ∷ 0x0f ∷ 0 ∷ 0x10 ∷ []) refl) address_means
+address_words : ReadsOffsetSlots words_static.machine words_static words_world words_memory address_item page_reference 0 address_pair_words
+address_words = no_words machine.AArch64 words_static words_world words_memory address_item page_reference 0 address_pair_words (0x1f ∷ 0x20 ∷ 0x03 ∷ 0xd5 ∷ 0xe0 ∷ 0x0f ∷ 0 ∷ 0x10 ∷ []) _ 0x11200 refl (held_from words_memory 0x11000 (0x1f ∷ 0x20 ∷ 0x03 ∷ 0xd5 ∷ 0xe0 ∷ 0x0f ∷ 0 ∷ 0x10 ∷ []) refl) address_means refl
 
 within : (n k : ℕ) → k < n → (k < 0) ⊎ (n ≤ k) → ⊥
 within n k lt (inl h) = omega (arith, h)
@@ -420,8 +411,8 @@ descriptor_means : meaning_aarch64 0x11030 rewritten_call ≡ Some (record { dee
 unfolding word number read read_address read_access read_vector_access read_literal read_transfer read_condition
 descriptor_means = refl
 
-descriptor_words : ReadsOwnSlots words_static.machine words_static words_world words_memory descriptor_item descriptor_page 0 descriptor_call_words
-descriptor_words = no_words descriptor_item descriptor_page 0 descriptor_call_words rewritten_call 0 0x18 refl (held_from words_memory 0x11030 rewritten_call refl) descriptor_means
+descriptor_words : ReadsOffsetSlots words_static.machine words_static words_world words_memory descriptor_item descriptor_page 0 descriptor_call_words
+descriptor_words = no_words machine.AArch64 words_static words_world words_memory descriptor_item descriptor_page 0 descriptor_call_words rewritten_call _ 0x18 refl (held_from words_memory 0x11030 rewritten_call refl) descriptor_means refl
 
 descriptor_holds : (r : InputRelocation) → Contains descriptor_item.relocations r → ReferenceHolds words_static words_world words_memory descriptor_item r
 descriptor_holds r c = inr (record { start = 0; instruction = descriptor_call_words; first = descriptor_page; template = descriptor_template r c; does = descriptor_does; words = descriptor_words })

@@ -37,15 +37,17 @@ use Rattle.wild_meaning.specs.Value.{IsAbsolute}
 use Rattle.wild_types.specs.Item.{Item}
 use Rattle.wild_meaning.specs.Item.{place_at}
 use Rattle.wild_loader.specs.Instruction.{Effect, Reader, sum_64}
-use Rattle.wild_loader.specs.InstructionX86_64.{demand_x86_64}
+use Rattle.wild_loader.specs.InstructionX86_64.{effect_x86_64, demand_x86_64}
 use Rattle.wild_meaning.specs.Sequence.{Sort, TargetInSlot, AddressInSlot, OffsetInSlot, SymbolPair, OwnPair, Described, DescribedCall}
-use Rattle.wild_meaning.specs.Template.{reads_without_calls, demand_of, Demands, IsDemanded, no_effect, old_bytes, DoesDemanded}
-use Rattle.wild_loader.specs.declared.instruction.Operand.TheVariants.{Word}
+use Rattle.wild_meaning.specs.Template.{reads_without_calls, demand_of, Demands, IsDemanded, no_effect, old_bytes}
+use Rattle.wild_loader.specs.declared.instruction.Operand.TheVariants.{Number, Word}
+use Rattle.wild_meaning.specs.WordsAArch64.{reads_numbers}
 use Rattle.wild_meaning.specs.Formula.{IsOffset, HasOffsetMode}
 use Rattle.wild_layout.specs.Choice.{question_of}
 use Rattle.wild_relax.proofs.RoomLemmas.{applied}
 use Rattle.wild_relax.proofs.RowLemmas.{signed_32s, unsigned_32}
 use Rattle.wild_references.specs.Laws.{IsLoadedItem}
+use Rattle.wild_references.proofs.RewrittenReads.{IsDone, ReadsOnlySlots, reads_at, reads_there, no_slots, one_slot, reads_only}
 use Rattle.wild_references.proofs.RewrittenForms.{instruction_of}
 use Rattle.wild_references.proofs.RewrittenPairs.{paired}
 use Rattle.wild_references.proofs.RewrittenPlaces.{LawsBelow, IsPlacedRow, is_code, mandatory_static}
@@ -57,9 +59,9 @@ use Rattle.wild_references.proofs.RewrittenOperands.{LandsFar, LandsItself, not_
 use Rattle.wild_references.proofs.RewrittenThreads.{LandsOffset, lands_offset, lands_slot, offset_mode, own_base}
 use Rattle.wild_references.proofs.RewrittenEffects.{old_of, effect_kept, on_machine, whole_is, does_by}
 
--- the row's code does what the instruction demands
+-- the row's code does what the instruction demands, and reads no word but the slot of the symbol's offset
 abbrev pub DoesRow : Layout → World → Memory → Item → InputRelocation → Row → Type 0
-DoesRow l w m s r row = DoesDemanded (reads_without_calls w m) l w m s r (template_start row r) (instruction_of row)
+DoesRow l w m s r row = IsDone machine.X86_64 l w m s r (template_start row r) (instruction_of row)
 
 -- ---- addresses
 
@@ -237,39 +239,46 @@ does_row laws l w m s i r row v h whole p asked = by (cases_Bool (is_call (instr
     kept : counts_ends row ≡ true → (rewrite_of row).addend r.addend ≡ r.addend
     kept e = ap (λ (b : Bool). addend_by b r.addend) (and_parts (change_of row.made).keeps_addend ((row.ends || row.needs_end) || is_skip (rewrite_of row).next) e).0
 
-    itself : (n : ℕ) → counts_none row ≡ true → v ≡ n → FieldIsRight row.written (reads_without_calls w m) place n v
-    itself n e h = lands_as row.written (reads_without_calls w m) place n v (and_parts (not (change_of row.made).keeps_addend) (is_itself row.written) e).1 h
+    itself : (n : ℕ) → counts_none row ≡ true → v ≡ n → (read : Reader) → FieldIsRight row.written read place n v
+    itself n e h read = lands_as row.written read place n v (and_parts (not (change_of row.made).keeps_addend) (is_itself row.written) e).1 h
 
     taken : (t : ValueTest) → row.value ≡ t → takes_value t q ≡ true
     taken t e = subst (λ (x : ValueTest). takes_value x q ≡ true) e p.stands.taken.value
 
-    finish : (o : Sort) (n : ℕ) → (instruction_of row).sort ≡ o → is_nop row.made ≡ false → Demands o l w m s r n → n < 2 ^ 64 → FieldIsRight row.written (reads_without_calls w m) place n v
+    finish : (o : Sort) (n : ℕ) → (instruction_of row).sort ≡ o → is_nop row.made ≡ false → Demands o l w m s r n → n < 2 ^ 64 → FieldIsRight row.written (reads_without_calls w m) place n v → (only : Reader) → ReadsOnlySlots l w r.symbol only → FieldIsRight row.written only place n v
         → ((a : ℕ) (old : List ℕ) (e : Effect) → demand_of l.machine n a old ≡ Some e → IsDemanded o l s n a old e) → DoesRow l w m s r row
-    finish o n sort acts demands small lands told =
-        does_by laws l w m s i r row v n h p (subst (λ (x : Sort). Demands x l w m s r n) (sym sort) demands) small lands (λ a old. demanded_as row.made n a old acts)
+    finish o n sort acts demands small lands only reads lands_only told =
+        does_by laws l w m s i r row v n h p (subst (λ (x : Sort). Demands x l w m s r n) (sym sort) demands) small lands only reads lands_only (λ a old. demanded_as row.made n a old acts)
         (λ a old e k. subst (λ (x : Sort). IsDemanded x l s n a old e) (sym sort) (told a old e k))
+
+    -- an operand that is in the code itself
+    finish_number : (o : Sort) (n : ℕ) → (instruction_of row).sort ≡ o → is_nop row.made ≡ false → Demands o l w m s r n → n < 2 ^ 64 → ((read : Reader) → FieldIsRight row.written read place n v)
+        → ((a : ℕ) (old : List ℕ) (e : Effect) → demand_of l.machine n a old ≡ Some e → IsDemanded o l s n a old e) → DoesRow l w m s r row
+    finish_number o n sort acts demands small lands told = finish o n sort acts demands small (lands (reads_without_calls w m)) reads_numbers (no_slots l w r.symbol) (lands reads_numbers) told
 
     number : KeepsAll l → (t : ValueTest) (held : Bool) → takes_value t q ≡ (is_own q && (is_known q && held)) → ((rewrite_of row).number ≡ 11) ⊎ ((rewrite_of row).number ≡ 10) → row.value ≡ t → (instruction_of row).sort ≡ AddressInSlot → is_nop row.made ≡ false → not (has_flag q.flags ifunc) ≡ true → counts_none row ≡ true → DoesRow l w m s r row
     number all t held is written takes sort acts plain counts =
         let x = number_itself laws l w m s i r row v held h all p written (none counts) plain (sym is ∙ taken t takes) in
-        finish AddressInSlot x.operand sort acts x.is.target x.is.small (itself x.operand counts x.lands) (λ a old e k. k)
+        finish_number AddressInSlot x.operand sort acts x.is.target x.is.small (itself x.operand counts x.lands) (λ a old e k. k)
 
     far : (o : Sort) (x : LandsFar l w m s r row v) → (rewrite_of row).number ≡ 2 → (instruction_of row).sort ≡ o → is_nop row.made ≡ false → Demands o l w m s r x.operand → ((a : ℕ) (old : List ℕ) (e : Effect) → demand_of l.machine x.operand a old ≡ Some e → IsDemanded o l s x.operand a old e) → DoesRow l w m s r row
-    far o x written sort acts demands told = finish o x.operand sort acts demands x.is.small (lands_far_as row.written (reads_without_calls w m) place x.operand v written x.lands) told
+    far o x written sort acts demands told = finish_number o x.operand sort acts demands x.is.small (λ read. lands_far_as row.written read place x.operand v written x.lands) told
 
     own : KeepsAll l → (o : Sort) → (instruction_of row).sort ≡ o → row.value ≡ value.Own → is_nop row.made ≡ false → is_executable l.kind ≡ true → (writes r_x86_64_tpoff32 row && counts_none row) ≡ true → ((n : ℕ) → IsOffset l w r.symbol n → Demands o l w m s r n)
         → ((n a : ℕ) (old : List ℕ) (e : Effect) → demand_of l.machine n a old ≡ Some e → IsDemanded o l s n a old e) → DoesRow l w m s r row
     own all o sort takes acts there so demands told =
         let f = and_parts (writes r_x86_64_tpoff32 row) (counts_none row) so in
         let x = own_offset laws l w m s i r row v h all p (eqb-true (number_written row.written) r_x86_64_tpoff32 f.0) (none f.1) there (taken value.Own takes) in
-        finish o x.operand sort acts (demands x.operand x.is.offset) x.is.small (itself x.operand f.1 x.lands) (told x.operand)
+        finish_number o x.operand sort acts (demands x.operand x.is.offset) x.is.small (itself x.operand f.1 x.lands) (told x.operand)
 
     slot : KeepsAll l → (o : Sort) → (instruction_of row).sort ≡ o → is_nop row.made ≡ false → (writes r_x86_64_gottpoff row && counts_ends row) ≡ true → ((n : ℕ) → IsOffset l w r.symbol n → Demands o l w m s r n)
         → ((n a : ℕ) (old : List ℕ) (e : Effect) → demand_of l.machine n a old ≡ Some e → IsDemanded o l s n a old e) → DoesRow l w m s r row
     slot all o sort acts so demands told =
         let f = and_parts (writes r_x86_64_gottpoff row) (counts_ends row) so in
         let x = lands_slot laws l w m s i r row v h all p (eqb-true (number_written row.written) r_x86_64_gottpoff f.0) (kept f.1) (ends f.1) in
-        finish o x.operand sort acts (demands x.operand x.is.offset) x.is.small (lands_slot_as row.written (reads_without_calls w m) place x.operand v (eqb-true (number_written row.written) r_x86_64_gottpoff f.0) x.lands) (told x.operand)
+        let number = eqb-true (number_written row.written) r_x86_64_gottpoff f.0 in
+        let at = sum_64 (place + 4) v in
+        finish o x.operand sort acts (demands x.operand x.is.offset) x.is.small (lands_slot_as row.written (reads_without_calls w m) place x.operand v number x.lands) (reads_at at x.operand) (one_slot l w r.symbol at x.operand x.slot) (lands_slot_as row.written (reads_at at x.operand) place x.operand v number (reads_there at x.operand)) (told x.operand)
 
     act : KeepsAll l → (o : Sort) (t : ValueTest) → (instruction_of row).sort ≡ o → row.value ≡ t → is_nop row.made ≡ false → not (has_flag q.flags ifunc) ≡ true → (is_thread o ≡ true → is_executable l.kind ≡ true) → does_so o t row ≡ true → DoesRow l w m s r row
     act all AddressInSlot value.OwnSigned sort takes acts plain there so = (let f = and_parts (writes r_x86_64_32s row) (counts_none row) so in number all value.OwnSigned (is_in_32 Signed q.value) refl (inl (eqb-true (number_written row.written) r_x86_64_32s f.0)) takes sort acts plain f.1)
@@ -291,7 +300,7 @@ does_row laws l w m s i r row v h whole p asked = by (cases_Bool (is_call (instr
     act all Described value.Own sort takes acts plain there so = own all Described sort takes acts (there refl) so (λ n k. inl (mode (ap is_thread sort), k)) (λ n a old e k. k)
     act all SymbolPair value.Interposable sort takes acts plain there so = slot all SymbolPair sort acts so (λ n k. k) (λ n a old e k. k)
     act all Described value.Interposable sort takes acts plain there so = slot all Described sort acts so (λ n k. inl (mode (ap is_thread sort), k)) (λ n a old e k. k)
-    act all OwnPair value.Any sort takes acts plain there so = finish OwnPair 0 sort acts (own_base l w h.on (there refl)) (omega arith) (lands_start row.written (reads_without_calls w m) place v (eqb-true (number_written row.written) r_x86_64_none so)) (λ a old e k. k)
+    act all OwnPair value.Any sort takes acts plain there so = finish_number OwnPair 0 sort acts (own_base l w h.on (there refl)) (omega arith) (λ read. lands_start row.written read place v (eqb-true (number_written row.written) r_x86_64_none so)) (λ a old e k. k)
     act all o t sort takes acts plain there so = cc
 
     call_sort : (o : Sort) → is_call o ≡ true → o ≡ DescribedCall
@@ -302,17 +311,23 @@ does_row laws l w m s i r row v h whole p asked = by (cases_Bool (is_call (instr
     left_out call =
         let sort = call_sort (instruction_of row).sort call in
         let f = and_parts (is_nop row.made) (writes r_x86_64_none row) (rw call at well.1) in
+        let number = eqb-true (number_written row.written) r_x86_64_none f.1 in
+        let bytes = template_of row v (old_of s row r) in
+        let whole = whole_is l w m s i r row v h p in
+        let held = h.item.rewritten i r row v p.has in
+        let done : (read : Reader) → ((k : ℕ) → read (Number k) ≡ Some k) → effect_x86_64 read (place_at w s (template_start row r)) bytes ≡ Some no_effect = λ read numbers. effect_kept laws read numbers l w m s i r row v 0 (place_at w s (template_start row r)) h p (omega arith) (lands_start row.written read place v number) ∙ demanded_none row.made 0 (place_at w s (template_start row r)) (old_of s row r) f.0 in
         record {
-          value = 0;
+          words = reads_only reads_numbers l w m s r (template_start row r) (instruction_of row) bytes no_effect (no_slots l w r.symbol) whole held (done reads_numbers (λ k. refl));
+          does = record { value = 0;
           demands = subst (λ (x : Sort). Demands x l w m s r 0) (sym sort) refl;
           code = record {
             effect = no_effect;
             demanded = subst (λ (x : Sort). IsDemanded x l s 0 (place_at w s (template_start row r)) (old_bytes s (template_start row r) (instruction_of row)) no_effect) (sym sort) (inl (mode (ap is_thread sort), refl));
-            bytes = template_of row v (old_of s row r);
-            whole = whole_is l w m s i r row v h p;
-            held = h.item.rewritten i r row v p.has;
-            does = on_machine l.machine (reads_without_calls w m) (place_at w s (template_start row r)) (template_of row v (old_of s row r)) h.on ∙ (effect_kept laws l w m s i r row v 0 (place_at w s (template_start row r)) h p (omega arith) (lands_start row.written (reads_without_calls w m) place v (eqb-true (number_written row.written) r_x86_64_none f.1)) ∙ demanded_none row.made 0 (place_at w s (template_start row r)) (old_of s row r) f.0);
-          };
+            bytes = bytes;
+            whole = whole;
+            held = held;
+            does = on_machine l.machine (reads_without_calls w m) (place_at w s (template_start row r)) bytes h.on ∙ done (reads_without_calls w m) (λ k. refl);
+          }; };
         }
 
     by : (is_call (instruction_of row).sort ≡ true) ⊎ (is_call (instruction_of row).sort ≡ false) → DoesRow l w m s r row
