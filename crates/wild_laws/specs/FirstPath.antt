@@ -28,7 +28,7 @@ use Rattle.wild_loader.specs.Reach.{Reaches, ReachesWithin}
 use Rattle.wild_meaning.specs.Denotes.{HasStub, Denotes}
 use Rattle.wild_meaning.specs.ReferentAArch64.{IsUndefinedWeak}
 use Rattle.wild_meaning.specs.Field.{formula_of, form_width, InNoField}
-use Rattle.wild_meaning.specs.Formula.{IsTarget, Gives}
+use Rattle.wild_meaning.specs.Formula.{IsSymbolAddress, IsTarget, Gives}
 use Rattle.wild_loader.specs.declared.instruction.Deed.{Deed}
 use Rattle.wild_loader.specs.declared.instruction.Deed.TheVariants.{Call, Jump}
 use Rattle.wild_meaning.specs.Sequence.{Instruction}
@@ -53,10 +53,10 @@ pub record IsDistanceOfUndefinedWeak (v : Value) (l : Layout) (r : InputRelocati
   pub distance : v ≡ Distance
   pub symbol : NamesUndefinedWeak l r
 
--- a represents the symbol in an address or a distance
+-- a represents the symbol in an address or a distance: its value, or its stub if the output uses that as its address
 abbrev pub RepresentsSymbol : Machine → Value → Layout → World → Memory → Item → InputRelocation → ℕ → Type 0
-RepresentsSymbol machine.X86_64 v l w m s r a = IsTarget l w m r.symbol a
-RepresentsSymbol machine.AArch64 v l w m s r a = (IsDistanceOfUndefinedWeak v l r × (a ≡ address_at w s r.offset % 2 ^ 64)) ⊎ ((IsDistanceOfUndefinedWeak v l r → ⊥) × IsTarget l w m r.symbol a)
+RepresentsSymbol machine.X86_64 v l w m s r a = IsSymbolAddress l w m r.symbol a
+RepresentsSymbol machine.AArch64 v l w m s r a = (IsDistanceOfUndefinedWeak v l r × (a ≡ address_at w s r.offset % 2 ^ 64)) ⊎ ((IsDistanceOfUndefinedWeak v l r → ⊥) × IsSymbolAddress l w m r.symbol a)
 
 -- a is S there: it represents the symbol; for merged strings, a and A together make the address of a byte of a string
 abbrev pub IsNamed : Value → Layout → World → Memory → Item → InputRelocation → ℕ → Type 0

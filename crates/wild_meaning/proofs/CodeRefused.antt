@@ -31,7 +31,7 @@ use Rattle.wild_meaning.proofs.EffectLemmas.{meant}
 use Rattle.wild_meaning.proofs.AmongLemmas.{Among}
 use Rattle.wild_meaning.proofs.OneReference.{beside, effect_with, value_in, ReadsNumbers, IsNotDone, fills, same_bytes, single_only, single_refused, template_there}
 use Rattle.wild_meaning.proofs.StaticRefused.{first_is, thread_is, thread_offset, holds_there, no_string}
-use Rattle.wild_meaning.proofs.SymbolLemmas.{referent_stands}
+use Rattle.wild_meaning.proofs.SymbolLemmas.{referent_stands, in_slot_denotes}
 use Rattle.wild_meaning.proofs.StringLemmas.{branch_stands}
 
 -- ---- formulas
@@ -139,7 +139,7 @@ load_refused read m numbers held d =
     let done : Some (effect_with (Set 0) 64 0x41201) ≡ Some h.effect = sym (load_done read numbers) ∙ subst (λ (bs : List ℕ). effect_x86_64 read 0x41010 bs ≡ Some h.effect) bytes h.does in
     let demanded : Some (effect_with (Set 0) 64 (h.value % 2 ^ 64)) ≡ Some h.effect = sym (load_demanded h.value) ∙ h.demanded in
     let same : 0x41201 ≡ h.value % 2 ^ 64 = value_in (Set 0) 64 0x41201 h.effect done ∙ sym (value_in (Set 0) 64 (h.value % 2 ^ 64) h.effect demanded) in
-    let goal : h.value ≡ 0x41200 = denoted static_pie static_pie_world m 0 0x1200 h.value first_is h.demands in
+    let goal : h.value ≡ 0x41200 = denoted static_pie static_pie_world m 0 0x1200 h.value first_is (in_slot_denotes static_pie static_pie_world m 0 h.value h.demands) in
     omega (arith, same, goal)
 
 -- another opcode does not stand there

@@ -132,7 +132,7 @@ own_slot_there = record {
   slot = 0x2000;
   given = record { definition = 0; defined = defined 0 own_symbol refl refl; symbol = own_symbol; listed = refl; flagged = refl; resolution = _; decided = refl; first = 0x2000; given = refl; place = refl };
   moves = refl;
-  holds = (0x11100, refl, inl own_value);
+  holds = (0x11100, refl, inl (inl own_value));
 }
 
 open_slot_there : IsSlotOf AddressSlot shared_layout shared_world shared_memory 1 0x12008
@@ -141,7 +141,7 @@ open_slot_there = record {
   slot = 0x2008;
   given = record { definition = 1; defined = defined 1 open_symbol refl refl; symbol = open_symbol; listed = refl; flagged = refl; resolution = _; decided = refl; first = 0x2008; given = refl; place = refl };
   moves = refl;
-  holds = (0x700010, refl, inl open_value);
+  holds = (0x700010, refl, inl (inl open_value));
 }
 
 own_offset_slot : IsSlotOf ThreadOffset shared_layout shared_world shared_memory 2 0x12010

@@ -29,7 +29,7 @@ use Rattle.wild_meaning.proofs.SlotPlaces.{slot_holds}
 use Rattle.wild_meaning.proofs.Refused.{HasValueThere, value_there, no_template}
 use Rattle.wild_meaning.specs.Formula.{TakesString}
 use Rattle.wild_meaning.proofs.StringLemmas.{nothing_named}
-use Rattle.wild_meaning.proofs.SymbolLemmas.{referent_stands}
+use Rattle.wild_meaning.proofs.SymbolLemmas.{referent_stands, in_slot_denotes}
 
 -- its data is kept
 pub kept : IsKept shared_layout shared_item
@@ -124,7 +124,7 @@ own_slot image h x =
     let slot = slot_holds AddressSlot shared_layout shared_world h.memory 0 v.gives.0 v.gives.1 in
     let below : v.gives.0 < 2 ^ 64 = word_below h.memory v.gives.0 slot.0 slot.1 in
     let at : v.gives.0 ≡ 0x12000 = omega (arith, is, below, v.gives.2) in
-    let address : slot.0 ≡ 0x11100 = denoted shared_layout shared_world h.memory 0 0x1100 slot.0 own_is slot.2 in
+    let address : slot.0 ≡ 0x11100 = denoted shared_layout shared_world h.memory 0 0x1100 slot.0 own_is (in_slot_denotes shared_layout shared_world h.memory 0 slot.0 slot.2) in
     x.wrong (sym (same_word h.memory v.gives.0 0x12000 slot.0 x.word at slot.1 x.there) ∙ address)
 
 other_slot : Refused (NamesWrongWord 0x11038 8 0xfd0 0x12008 0x700010)
@@ -135,7 +135,7 @@ other_slot image h x =
     let slot = slot_holds AddressSlot shared_layout shared_world h.memory 1 v.gives.0 v.gives.1 in
     let below : v.gives.0 < 2 ^ 64 = word_below h.memory v.gives.0 slot.0 slot.1 in
     let at : v.gives.0 ≡ 0x12008 = omega (arith, is, below, v.gives.2) in
-    let address : slot.0 ≡ 0x700010 = other_denoted shared_layout shared_world h.memory 1 slot.0 _ open_is slot.2 in
+    let address : slot.0 ≡ 0x700010 = other_denoted shared_layout shared_world h.memory 1 slot.0 _ open_is (in_slot_denotes shared_layout shared_world h.memory 1 slot.0 slot.2) in
     x.wrong (sym (same_word h.memory v.gives.0 0x12008 slot.0 x.word at slot.1 x.there) ∙ address)
 
 another_slot : Refused NamesAnother
@@ -146,7 +146,7 @@ another_slot image h x =
     let slot = slot_holds AddressSlot shared_layout shared_world h.memory 0 v.gives.0 v.gives.1 in
     let below : v.gives.0 < 2 ^ 64 = word_below h.memory v.gives.0 slot.0 slot.1 in
     let at : v.gives.0 ≡ 0x12008 = omega (arith, is, below, v.gives.2) in
-    let address : slot.0 ≡ 0x11100 = denoted shared_layout shared_world h.memory 0 0x1100 slot.0 own_is slot.2 in
+    let address : slot.0 ≡ 0x11100 = denoted shared_layout shared_world h.memory 0 0x1100 slot.0 own_is (in_slot_denotes shared_layout shared_world h.memory 0 slot.0 slot.2) in
     let word : slot.0 ≡ 0x700010 = same_word h.memory v.gives.0 0x12008 slot.0 0x700010 at slot.1 x.there in
     omega (arith, address, word)
 

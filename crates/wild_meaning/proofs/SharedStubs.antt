@@ -1,5 +1,5 @@
 -- Wrong stubs of the worked shared object are refused.
-use Rattle.std.proofs.Common.{◌≡◌, ℕ, ◌+◌, ◌%◌, ◌^◌, inl, inr, Bool, true, false, List, refl, sym, ap, ◌∙◌, arith, subst}
+use Rattle.std.proofs.Common.{◌≡◌, ℕ, ◌+◌, ◌%◌, ◌^◌, ◌⊎◌, inl, inr, Bool, true, false, List, refl, sym, ap, ◌∙◌, arith, subst}
 use Rattle.std.specs.Prelude.{Option, Some, option_and_then}
 use Rattle.wild_words.specs.Words.{number}
 use Rattle.wild_types.specs.declared.symbol.Resolution.{Resolution}
@@ -10,13 +10,19 @@ use Rattle.wild_loader.specs.declared.instruction.Action.{Action}
 use Rattle.wild_loader.specs.declared.instruction.Operand.TheVariants.{Word}
 use Rattle.wild_loader.specs.Instruction.{jump_through}
 use Rattle.wild_loader.specs.InstructionX86_64.{meaning_x86_64}
-use Rattle.wild_meaning.specs.Value.{IsValue, HasValue}
-use Rattle.wild_meaning.specs.Denotes.{HasStub, IsStub}
+use Rattle.wild_meaning.specs.Value.{IsValue, HasRaw, HasFlag, HasValue}
+use Rattle.wild_meaning.specs.Denotes.{HasStub, IsStub, IsAddressStub, IsAddressOf}
+use Rattle.wild_meaning.specs.Formula.{IsSymbolAddress, IsReferent}
+use Rattle.wild_types.specs.declared.input.InputRelocation.{InputRelocation}
+use Rattle.wild_types.specs.Item.{Item}
+use Rattle.wild_reloc.specs.Formula.{SymbolAddress}
 use Rattle.wild_meaning.specs.LinkedImage.{IsLinked}
 use Rattle.wild_meaning.specs.Worked.Refusals.{HasWrongNumber}
 use Rattle.wild_meaning.specs.Worked.Shared.{shared_layout, shared_world, stubbed_function}
 use Rattle.wild_meaning.specs.Worked.SharedRefusals.{Refused, stub_by_another_word, JumpsByAnotherWord, WrongStubsAreRefused}
-use Rattle.wild_meaning.proofs.SymbolUnique.{told_is, flag_of, owner_of, raw_of}
+use Rattle.wild_meaning.proofs.SymbolUnique.{told_is, flag_of, owner_of, raw_of, stub_is}
+use Rattle.wild_meaning.proofs.SymbolLemmas.{referent_address}
+use Rattle.wild_meaning.proofs.SharedRefused.{no_string}
 use Rattle.wild_meaning.proofs.OneReference.{same_bytes}
 use Rattle.wild_meaning.proofs.Read.{same_word}
 
@@ -70,5 +76,24 @@ another_value image h x =
     let same : s.value ≡ x.number = same_word h.memory (0x10000 + s.slot) 0x120d8 s.value x.number place s.word x.there in
     x.wrong (sym same ∙ value_is s.value s.is)
 
+-- the layout has an address for the function that is not its stub's
+no_address_stub : (p : ℕ) → IsAddressStub shared_layout 4 p → ⊥
+unfolding has_flag
+no_address_stub p h = by h.stands
+  where
+    by : HasFlag shared_layout 4 ifunc true ⊎ HasRaw shared_layout 4 p → ⊥
+    by (inl chosen) = (let both : false ≡ true = flag_of shared_layout 4 ifunc true stubbed_function refl chosen in cc)
+    by (inr raw) =
+        let at : p ≡ 0x1088 = raw_of shared_layout 4 p stubbed_function _ refl refl raw in
+        let there : 0x20e0 ≡ p = stub_is shared_layout 4 p 0x20e0 stubbed_function _ refl refl refl h.stub in
+        omega (arith, at, there)
+
+no_address : (m : Memory) (item : Item) (r : InputRelocation) → r.symbol ≡ Some 4 → IsReferent shared_layout.machine SymbolAddress shared_layout shared_world m item r 0x120e0 → ⊥
+no_address m item r named h = by (subst (λ (o : Option ℕ). IsSymbolAddress shared_layout shared_world m o 0x120e0) named (referent_address SymbolAddress shared_layout shared_world m item r 0x120e0 tt refl (no_string SymbolAddress r) h))
+  where
+    by : IsAddressOf shared_layout shared_world m 4 0x120e0 → ⊥
+    by (inl v) = (let at : 0x120e0 ≡ 0x11088 = value_is 0x120e0 v in omega (arith, at))
+    by (inr s) = no_address_stub s.0 s.1
+
 pub wrong_stubs : WrongStubsAreRefused
-wrong_stubs = record { another = another_word; value = another_value }
+wrong_stubs = record { another = another_word; value = another_value; address = no_address }

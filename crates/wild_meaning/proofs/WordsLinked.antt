@@ -32,7 +32,7 @@ use Rattle.wild_meaning.specs.Jump.{JumpsBy}
 use Rattle.wild_loader.proofs.StepLemmasAArch64.{thunks-read}
 use Rattle.wild_meaning.specs.Value.{IsDefinedBy, IsSymbol, IsReplaceable, HasValue}
 use Rattle.wild_meaning.specs.Thread.{HasThreadOffset}
-use Rattle.wild_meaning.specs.ReferentAArch64.{IsAddressStub}
+use Rattle.wild_meaning.specs.Denotes.{IsAddressStub}
 use Rattle.wild_meaning.specs.Formula.{IsReferent, IsSum, Gives}
 use Rattle.wild_meaning.specs.Slot.{IsSlot}
 use Rattle.wild_types.specs.Item.{Item, item_of, item_with}
@@ -168,7 +168,7 @@ slot_there = record {
   slot = 0x11080;
   given = record { definition = 0; defined = defined 0 near_function refl refl; symbol = near_function; listed = refl; flagged = refl; resolution = _; decided = refl; first = 0x11080; given = refl; place = refl };
   moves = refl;
-  holds = (0x11200, refl, inl function_value);
+  holds = (0x11200, refl, inl (inl function_value));
 }
 
 slot_page_gives : Gives (SlotPageDistance AddressSlot) words_static words_world words_memory slot_item slot_page_reference 0

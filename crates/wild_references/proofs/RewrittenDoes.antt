@@ -48,6 +48,7 @@ use Rattle.wild_relax.proofs.RoomLemmas.{applied}
 use Rattle.wild_relax.proofs.RowLemmas.{signed_32s, unsigned_32}
 use Rattle.wild_references.specs.Laws.{IsLoadedItem}
 use Rattle.wild_references.proofs.RewrittenReads.{IsDone, ReadsOnlySlots, reads_at, reads_there, no_slots, one_slot, reads_only}
+use Rattle.wild_meaning.proofs.SymbolLemmas.{target_of, slot_address_of}
 use Rattle.wild_references.proofs.RewrittenForms.{instruction_of}
 use Rattle.wild_references.proofs.RewrittenPairs.{paired}
 use Rattle.wild_references.proofs.RewrittenPlaces.{LawsBelow, IsPlacedRow, is_code, mandatory_static}
@@ -259,7 +260,7 @@ does_row laws l w m s i r row v h whole p asked = by (cases_Bool (is_call (instr
     number : KeepsAll l → (t : ValueTest) (held : Bool) → takes_value t q ≡ (is_own q && (is_known q && held)) → ((rewrite_of row).number ≡ 11) ⊎ ((rewrite_of row).number ≡ 10) → row.value ≡ t → (instruction_of row).sort ≡ AddressInSlot → is_nop row.made ≡ false → not (has_flag q.flags ifunc) ≡ true → counts_none row ≡ true → DoesRow l w m s r row
     number all t held is written takes sort acts plain counts =
         let x = number_itself laws l w m s i r row v held h all p written (none counts) plain (sym is ∙ taken t takes) in
-        finish_number AddressInSlot x.operand sort acts x.is.target x.is.small (itself x.operand counts x.lands) (λ a old e k. k)
+        finish_number AddressInSlot x.operand sort acts (slot_address_of l w m r.symbol x.operand x.is.target) x.is.small (itself x.operand counts x.lands) (λ a old e k. k)
 
     far : (o : Sort) (x : LandsFar l w m s r row v) → (rewrite_of row).number ≡ 2 → (instruction_of row).sort ≡ o → is_nop row.made ≡ false → Demands o l w m s r x.operand → ((a : ℕ) (old : List ℕ) (e : Effect) → demand_of l.machine x.operand a old ≡ Some e → IsDemanded o l s x.operand a old e) → DoesRow l w m s r row
     far o x written sort acts demands told = finish_number o x.operand sort acts demands x.is.small (λ read. lands_far_as row.written read place x.operand v written x.lands) told
@@ -286,15 +287,15 @@ does_row laws l w m s i r row v h whole p asked = by (cases_Bool (is_call (instr
     act all AddressInSlot value.OwnMoving sort takes acts plain there so =
         let f = and_parts (writes r_x86_64_pc32 row) (counts_ends row) so in
         let x = lea_far laws l w m s i r row v h all p (eqb-true (number_written row.written) r_x86_64_pc32 f.0) (kept f.1) (ends f.1) plain (taken value.OwnMoving takes) in
-        far AddressInSlot x (eqb-true (number_written row.written) r_x86_64_pc32 f.0) sort acts x.is.target (λ a old e k. k)
+        far AddressInSlot x (eqb-true (number_written row.written) r_x86_64_pc32 f.0) sort acts (slot_address_of l w m r.symbol x.operand x.is.target) (λ a old e k. k)
     act all AddressInSlot value.OwnFixed sort takes acts plain there so =
         let f = and_parts (writes r_x86_64_pc32 row) (counts_ends row) so in
         let x = plain_far laws l w m s i r row v h all p (eqb-true (number_written row.written) r_x86_64_pc32 f.0) (kept f.1) (ends f.1) plain (taken value.OwnFixed takes) in
-        far AddressInSlot x (eqb-true (number_written row.written) r_x86_64_pc32 f.0) sort acts x.is.target (λ a old e k. k)
+        far AddressInSlot x (eqb-true (number_written row.written) r_x86_64_pc32 f.0) sort acts (slot_address_of l w m r.symbol x.operand x.is.target) (λ a old e k. k)
     act all TargetInSlot value.Own sort takes acts plain there so =
         let f = and_parts (writes r_x86_64_pc32 row) (counts_ends row) so in
         let x = lands_far laws l w m s i r row v h all p (eqb-true (number_written row.written) r_x86_64_pc32 f.0) (kept f.1) (ends f.1) (not-true (interposable q.flags) (taken value.Own takes)) (not-true (has_flag q.flags ifunc) plain) (λ movable abs. asked sort movable abs) in
-        far TargetInSlot x (eqb-true (number_written row.written) r_x86_64_pc32 f.0) sort acts x.is.target (λ a old e k. k)
+        far TargetInSlot x (eqb-true (number_written row.written) r_x86_64_pc32 f.0) sort acts (target_of l w m r.symbol x.operand x.is.target) (λ a old e k. k)
     act all OffsetInSlot value.Own sort takes acts plain there so = own all OffsetInSlot sort takes acts (there refl) so (λ n k. k) (λ n a old e k. k)
     act all SymbolPair value.Own sort takes acts plain there so = own all SymbolPair sort takes acts (there refl) so (λ n k. k) (λ n a old e k. k)
     act all Described value.Own sort takes acts plain there so = own all Described sort takes acts (there refl) so (λ n k. inl (mode (ap is_thread sort), k)) (λ n a old e k. k)

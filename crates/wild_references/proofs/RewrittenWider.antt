@@ -44,6 +44,7 @@ use Rattle.wild_meaning.specs.Template.{reads_without_calls}
 use Rattle.wild_references.specs.Laws.{IsLoadedItem}
 use Rattle.wild_references.proofs.Clash.{is_free, are_calls, pair_ok, row_ok, each_row_ok, IsUncovered, apart_templates}
 use Rattle.wild_references.proofs.KeptBytes.{OutOfWindows, input_byte, Window, window, free_not}
+use Rattle.wild_meaning.proofs.SymbolLemmas.{slot_address_of}
 use Rattle.wild_references.proofs.RewrittenReads.{IsDone, no_slots, reads_only}
 use Rattle.wild_references.proofs.RewrittenPlaces.{LawsBelow}
 use Rattle.wild_references.proofs.RewrittenTerms.{info_is}
@@ -199,7 +200,7 @@ does_wider laws l w m s i r v from h all t =
     let held = held_more m a (place_at w s (template_start PLAIN_LEA r)) x (template_of PLAIN_LEA v old) next (prefix_stays laws l w m s i r v from h t) (h.item.rewritten i r PLAIN_LEA v p.has) in
     record { words = reads_only reads_numbers l w m s r from wide_load (x ∷ template_of PLAIN_LEA v old) e.0 (no_slots l w r.symbol) long_whole held (done reads_numbers (λ k. refl)); does = record {
       value = n;
-      demands = far.is.target;
+      demands = slot_address_of l w m r.symbol n far.is.target;
       code = record {
         effect = e.0;
         demanded = demand_on l.machine n a (slice_range s.bytes from (from + 8)) h.on ∙ (ap (λ (bs : List ℕ). demand_x86_64 n a bs) bytes ∙ e.1);

@@ -18,7 +18,8 @@ use Rattle.wild_loader.specs.declared.world.World.{World}
 use Rattle.wild_reloc.specs.Formula.{Value, StubDistance, Distance}
 use Rattle.wild_types.specs.declared.input.InputRelocation.{InputRelocation}
 use Rattle.wild_meaning.specs.Formula.{IsTarget}
-use Rattle.wild_meaning.specs.ReferentAArch64.{RepresentsOnAArch64}
+use Rattle.wild_reloc.specs.BarredTypes.{is_listed}
+use Rattle.wild_meaning.specs.ReferentAArch64.{branch_types, RepresentsOnAArch64}
 use Rattle.wild_meaning.specs.Value.{HasValue}
 use Rattle.wild_loader.specs.declared.instruction.Operand.TheVariants.{Word}
 use Rattle.wild_meaning.specs.Slot.{HasWord}
@@ -122,12 +123,12 @@ goal_given law l w m symbol i term p all named given =
     let goal : Denotes l w m i ((w.base + term) % 2 ^ 64) = inr (stub_is l w m i term (stub_stands law l w m i term p all (given_some missing.Stub i (stub_of l i) term here))) in
     subst (λ (o : Option ℕ). IsTarget l w m o ((w.base + term) % 2 ^ 64)) (sym named) goal
 
--- and it is L to an AArch64 reader: a branch with the addend is at what stands for the symbol and that; and S in a distance
-pub goal_stands : StubLaws → (v : Value) (l : Layout) (w : World) (m : Memory) (r : InputRelocation) (i term : ℕ) → IsPlaced l w m → KeepsAll l → (v ≡ StubDistance) ⊎ (v ≡ Distance) → stub_address l (Some i) ≡ Ok term → RepresentsOnAArch64 v l w m r i ((w.base + term) % 2 ^ 64)
+-- and it is L to an AArch64 reader: a branch with the addend is at what stands for the symbol and that; and S in a branch's distance
+pub goal_stands : StubLaws → (v : Value) (l : Layout) (w : World) (m : Memory) (r : InputRelocation) (i term : ℕ) → IsPlaced l w m → KeepsAll l → (v ≡ StubDistance) ⊎ ((v ≡ Distance) × (is_listed r.number branch_types ≡ true)) → stub_address l (Some i) ≡ Ok term → RepresentsOnAArch64 v l w m r i ((w.base + term) % 2 ^ 64)
 goal_stands law v l w m r i term p all which given =
     let there : Denotes l w m i ((w.base + term) % 2 ^ 64) = inr (stub_is l w m i term (stub_stands law l w m i term p all (given_some missing.Stub i (stub_of l i) term given))) in
     let P : Value → Type 0 = λ q. RepresentsOnAArch64 q l w m r i ((w.base + term) % 2 ^ 64) in
     elim which [
       | inl e ↦ subst P (sym e) (record { symbol = (w.base + term) % 2 ^ 64; denoted = there; comes = inl refl })
-      | inr e ↦ subst P (sym e) there
+      | inr e ↦ subst P (sym e.0) (inr (e.1, there))
     ]

@@ -6,7 +6,10 @@
 --   ..                    each other law names one kind of wrong memory
 --   SharedImageIsLinked   an image is linked there
 use Rattle.std.specs.Prelude.{◌≡◌, ℕ, ◌-◌, ◌^◌, List, [], ◌∷◌, Some}
-use Rattle.wild_reloc.specs.Formula.{AddressSlot, ModulePair, ThreadOffset, Descriptor}
+use Rattle.wild_types.specs.declared.input.InputRelocation.{InputRelocation}
+use Rattle.wild_types.specs.Item.{Item}
+use Rattle.wild_meaning.specs.Formula.{IsReferent}
+use Rattle.wild_reloc.specs.Formula.{SymbolAddress, AddressSlot, ModulePair, ThreadOffset, Descriptor}
 use Rattle.wild_loader.specs.declared.memory.Memory.{Memory}
 use Rattle.wild_loader.specs.Memory.{number_in, Holds}
 use Rattle.wild_meaning.specs.World.{IsLegal}
@@ -66,10 +69,12 @@ pub record JumpsByAnotherWord (m : Memory) : Type 0 where
   pub stub : Holds m 0x120e0 stub_by_another_word
   pub there : HasWord m 0x12100 0x11088
 
--- A stub jumps by its symbol's own slot, even if no reference uses it. The slot has the symbol's value.
+-- A stub jumps by its symbol's own slot, even if no reference uses it. The slot has the symbol's value. The stub is not the function's
+-- address, because the layout has another one for it.
 pub record WrongStubsAreRefused : Type 0 where
   pub another : Refused JumpsByAnotherWord
   pub value : Refused (HasWrongNumber 0x120d8 8 0x11088)
+  pub address : (m : Memory) (item : Item) (r : InputRelocation) → r.symbol ≡ Some 4 → IsReferent shared_layout.machine SymbolAddress shared_layout shared_world m item r 0x120e0 → ⊥
 
 -- a word with an address: it moves with the base; for an interposable symbol it is another module's
 pub record WrongAddressesAreRefused : Type 0 where
