@@ -319,16 +319,18 @@ does_row laws l w m s i r row v h whole p asked = by (cases_Bool (is_call (instr
         let done : (read : Reader) → ((k : ℕ) → read (Number k) ≡ Some k) → effect_x86_64 read (place_at w s (template_start row r)) bytes ≡ Some no_effect = λ read numbers. effect_kept laws read numbers l w m s i r row v 0 (place_at w s (template_start row r)) h p (omega arith) (lands_start row.written read place v number) ∙ demanded_none row.made 0 (place_at w s (template_start row r)) (old_of s row r) f.0 in
         record {
           words = reads_only reads_numbers l w m s r (template_start row r) (instruction_of row) bytes no_effect (no_slots l w r.symbol) whole held (done reads_numbers (λ k. refl));
-          does = record { value = 0;
-          demands = subst (λ (x : Sort). Demands x l w m s r 0) (sym sort) refl;
-          code = record {
-            effect = no_effect;
-            demanded = subst (λ (x : Sort). IsDemanded x l s 0 (place_at w s (template_start row r)) (old_bytes s (template_start row r) (instruction_of row)) no_effect) (sym sort) (inl (mode (ap is_thread sort), refl));
-            bytes = bytes;
-            whole = whole;
-            held = held;
-            does = on_machine l.machine (reads_without_calls w m) (place_at w s (template_start row r)) bytes h.on ∙ done (reads_without_calls w m) (λ k. refl);
-          }; };
+          does = record {
+            value = 0;
+            demands = subst (λ (x : Sort). Demands x l w m s r 0) (sym sort) refl;
+            code = record {
+              effect = no_effect;
+              demanded = subst (λ (x : Sort). IsDemanded x l s 0 (place_at w s (template_start row r)) (old_bytes s (template_start row r) (instruction_of row)) no_effect) (sym sort) (inl (mode (ap is_thread sort), refl));
+              bytes = bytes;
+              whole = whole;
+              held = held;
+              does = on_machine l.machine (reads_without_calls w m) (place_at w s (template_start row r)) bytes h.on ∙ done (reads_without_calls w m) (λ k. refl);
+            };
+          };
         }
 
     by : (is_call (instruction_of row).sort ≡ true) ⊎ (is_call (instruction_of row).sort ≡ false) → DoesRow l w m s r row

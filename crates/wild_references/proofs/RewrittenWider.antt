@@ -198,18 +198,21 @@ does_wider laws l w m s i r v from h all t =
     let done : (read : Reader) → ((k : ℕ) → read (Number k) ≡ Some k) → effect_x86_64 read a (x ∷ template_of PLAIN_LEA v old) ≡ Some e.0 = λ read numbers. subst (λ (bs : List ℕ). effect_x86_64 read a bs ≡ Some e.0) written_bytes (keeps read numbers ∙ e.1) in
     let long_whole : length (x ∷ template_of PLAIN_LEA v old) ≡ size_of wide_load = (let z = whole_is l w m s i r PLAIN_LEA v h p in omega (arith, z)) in
     let held = held_more m a (place_at w s (template_start PLAIN_LEA r)) x (template_of PLAIN_LEA v old) next (prefix_stays laws l w m s i r v from h t) (h.item.rewritten i r PLAIN_LEA v p.has) in
-    record { words = reads_only reads_numbers l w m s r from wide_load (x ∷ template_of PLAIN_LEA v old) e.0 (no_slots l w r.symbol) long_whole held (done reads_numbers (λ k. refl)); does = record {
-      value = n;
-      demands = slot_address_of l w m r.symbol n far.is.target;
-      code = record {
-        effect = e.0;
-        demanded = demand_on l.machine n a (slice_range s.bytes from (from + 8)) h.on ∙ (ap (λ (bs : List ℕ). demand_x86_64 n a bs) bytes ∙ e.1);
-        bytes = x ∷ template_of PLAIN_LEA v old;
-        whole = long_whole;
-        held = held;
-        does = on_machine l.machine (reads_without_calls w m) a (x ∷ template_of PLAIN_LEA v old) h.on ∙ done (reads_without_calls w m) (λ k. refl);
+    record {
+      words = reads_only reads_numbers l w m s r from wide_load (x ∷ template_of PLAIN_LEA v old) e.0 (no_slots l w r.symbol) long_whole held (done reads_numbers (λ k. refl));
+      does = record {
+        value = n;
+        demands = slot_address_of l w m r.symbol n far.is.target;
+        code = record {
+          effect = e.0;
+          demanded = demand_on l.machine n a (slice_range s.bytes from (from + 8)) h.on ∙ (ap (λ (bs : List ℕ). demand_x86_64 n a bs) bytes ∙ e.1);
+          bytes = x ∷ template_of PLAIN_LEA v old;
+          whole = long_whole;
+          held = held;
+          does = on_machine l.machine (reads_without_calls w m) a (x ∷ template_of PLAIN_LEA v old) h.on ∙ done (reads_without_calls w m) (λ k. refl);
+        };
       };
-    } }
+    }
   where
     both_stand : (a b : Bool) → a ≡ true → b ≡ true → (a && b) ≡ true
     both_stand true b e f = f

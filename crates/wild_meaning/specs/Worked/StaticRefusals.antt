@@ -61,7 +61,7 @@ pub record WrongCodeIsRefused : Type 0 where
   pub load : Refuses static_pie static_pie_world (MemoryHas 0x41010 load_one_byte_off)
   pub sequence : Refuses static_pie static_pie_world (MemoryHas 0x41020 half_sequence)
   pub descriptor : Refuses static_pie static_pie_world (MemoryHas 0x41040 descriptor_load)
-  pub data : Refuses static_pie static_pie_world (MemoryHas 0x41040 load_of_data)
+  pub stored : Refuses static_pie static_pie_world (MemoryHas 0x41040 load_of_data)
 
 -- the same program with one input section, without data, in a section that has bytes in the file
 abbrev pub padded_section : Section

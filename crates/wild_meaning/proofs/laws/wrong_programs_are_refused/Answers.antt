@@ -8,7 +8,7 @@ use Rattle.wild_meaning.proofs.laws.wrong_programs_are_refused.Goals as goal
 pub returns : goal.returns
 returns c = record {
   words = wrong_data c.file_header_is_read.ensures;
-  code = record { branch = wrong_branch; load = wrong_load; sequence = wrong_sequence; descriptor = wrong_descriptor; data = wrong_data_load };
+  code = record { branch = wrong_branch; load = wrong_load; sequence = wrong_sequence; descriptor = wrong_descriptor; stored = wrong_data_load };
   blank = wrong_blank;
   linked = static_linked;
   padded = padded_linked;
