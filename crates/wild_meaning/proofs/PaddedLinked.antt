@@ -1,7 +1,7 @@
 -- The image of the worked program whose one input section has no data is linked in its world.
 use Rattle.std.proofs.Common.{◌≡◌, ℕ, ◌+◌, ◌<◌, true, false, List, [], ◌∷◌, refl, sym, ap, ◌∙◌, subst, arith}
 use Rattle.std.specs.Prelude.{Ok, Some, None, Contains, replicate}
-use Rattle.std.proofs.lemmas.List.Elements.{All-from_recursion, All-contains}
+use Rattle.std.proofs.lemmas.List.Elements.{All-from_recursion}
 use Rattle.std.proofs.lemmas.List.{get_or-replicate}
 use Rattle.wild_words.specs.Words.{word, number}
 use Rattle.wild_words.specs.Record.{spell}

@@ -195,7 +195,7 @@ stored_means : meaning_aarch64 0x11060 stored_thunk ≡ Some (record { deed = Ju
 unfolding word number read read_address read_access read_vector_access read_literal read_transfer read_condition
 stored_means = refl
 
-no_number : (record { deed = Jump; width = 64; operand = Word 0x11080 }) ≡ record { deed = Jump; width = 64; operand = Number 0x11200 } → ⊥
+no_number : ◌≡◌ {A = Action} (record { deed = Jump; width = 64; operand = Word 0x11080 }) (record { deed = Jump; width = 64; operand = Number 0x11200 }) → ⊥
 no_number e = (let both : Word 0x11080 ≡ Number 0x11200 = ap (λ (act : Action). act.operand) e in cc)
 
 wrong_stored : Refuses words_static words_world (HasBoth 0x11020 call_of_thunk 0x11060 stored_thunk)

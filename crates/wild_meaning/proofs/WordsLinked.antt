@@ -23,8 +23,7 @@ use Rattle.wild_aarch64.specs.Code.{read, read_address, read_access, read_vector
 use Rattle.wild_loader.specs.Memory.{byte_in, Holds}
 use Rattle.wild_types.specs.FileThunks.{thunk_size}
 use Rattle.wild_loader.specs.declared.instruction.Deed.TheVariants.{Call, Set, Load, Jump}
-use Rattle.wild_loader.specs.declared.instruction.Operand.TheVariants.{Number, Word}
-use Rattle.wild_loader.specs.declared.instruction.Action.{Action}
+use Rattle.wild_loader.specs.declared.instruction.Operand.TheVariants.{Number}
 use Rattle.wild_loader.specs.InstructionAArch64.{meaning_aarch64}
 use Rattle.wild_loader.specs.Effect.{step}
 use Rattle.wild_loader.specs.StepLawsAArch64.{jumps}
@@ -36,8 +35,8 @@ use Rattle.wild_meaning.specs.Denotes.{IsAddressStub}
 use Rattle.wild_meaning.specs.Formula.{IsReferent, IsSum, Gives}
 use Rattle.wild_meaning.specs.Slot.{IsSlot}
 use Rattle.wild_types.specs.Item.{Item, item_of, item_with}
-use Rattle.wild_meaning.specs.Item.{place_at, IsInput, IsKept, OfSection, OfFrames}
-use Rattle.wild_meaning.specs.Sequence.{Instruction, size_of, IsOwnByte, descriptor_call_words, address_pair_words}
+use Rattle.wild_meaning.specs.Item.{IsInput, IsKept, OfSection, OfFrames}
+use Rattle.wild_meaning.specs.Sequence.{Instruction, IsOwnByte, descriptor_call_words, address_pair_words}
 use Rattle.wild_meaning.specs.Template.{DoesDemanded, effect_of, demand_of, old_bytes, reads, reads_without_calls}
 use Rattle.wild_meaning.specs.WordsAArch64.{effect_with as asked_of}
 use Rattle.wild_meaning.specs.Field.{IsInputByte}

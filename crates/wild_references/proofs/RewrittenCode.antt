@@ -16,7 +16,7 @@ use Rattle.wild_aarch64.specs.declared.code.Code.{Code}
 use Rattle.wild_aarch64.specs.declared.code.Code.TheVariants.{Adrp, Add, Ldr, Blr}
 use Rattle.wild_aarch64.specs.Machine.{does, page, sum_64, run, meaning}
 use Rattle.wild_aarch64.specs.Effect as judged
-use Rattle.wild_aarch64.specs.Effect.{ReadsNumbers, shapes, words_of, effect_of_action, as_effect}
+use Rattle.wild_aarch64.specs.Effect.{shapes, words_of, effect_of_action, as_effect}
 use Rattle.wild_aarch64.specs.Row.{IsValueOf}
 use Rattle.wild_relax.specs.declared.pattern.Sequence.{Sequence}
 use Rattle.wild_relax.specs.declared.pattern.Sequence.TheVariants.{DescriptorCall, OffsetSlot, Address}

@@ -1,5 +1,5 @@
 -- Each row: the code that it writes does what the instruction demands.
-use Rattle.std.proofs.Common.{◌≡◌, ℕ, ◌+◌, ◌^◌, ◌<◌, ◌⊎◌, inl, inr, Bool, true, false, List, refl, sym, ap, ◌∙◌, arith, subst}
+use Rattle.std.proofs.Common.{◌≡◌, ℕ, ◌+◌, ◌^◌, ◌<◌, ◌⊎◌, inl, inr, Bool, true, false, List, refl, sym, ap, ◌∙◌, arith, subst, length}
 use Rattle.std.specs.Prelude.{pos, ◌==◌, ◌&&◌, ◌||◌, not, if◌then◌else◌, Some, slice_get}
 use Rattle.std.proofs.lemmas.Bool.{cases_Bool, and_parts, or_cases, eqb-true, not-true}
 use Rattle.wild_words.proofs.Basics.{or_other, implied, listed_passes}
@@ -32,13 +32,14 @@ use Rattle.wild_relax.specs.KeepX86_64.{distance, FieldIsRight, demanded}
 use Rattle.wild_layout.specs.Sites.{template_start}
 use Rattle.wild_loader.specs.declared.memory.Memory.{Memory}
 use Rattle.wild_loader.specs.declared.world.World.{World}
+use Rattle.wild_loader.specs.Memory.{Holds}
 use Rattle.wild_meaning.specs.World.{IsMovable}
 use Rattle.wild_meaning.specs.Value.{IsAbsolute}
 use Rattle.wild_types.specs.Item.{Item}
 use Rattle.wild_meaning.specs.Item.{place_at}
 use Rattle.wild_loader.specs.Instruction.{Effect, Reader, sum_64}
 use Rattle.wild_loader.specs.InstructionX86_64.{effect_x86_64, demand_x86_64}
-use Rattle.wild_meaning.specs.Sequence.{Sort, TargetInSlot, AddressInSlot, OffsetInSlot, SymbolPair, OwnPair, Described, DescribedCall}
+use Rattle.wild_meaning.specs.Sequence.{Instruction, size_of, Sort, TargetInSlot, AddressInSlot, OffsetInSlot, SymbolPair, OwnPair, Described, DescribedCall}
 use Rattle.wild_meaning.specs.Template.{reads_without_calls, demand_of, Demands, IsDemanded, no_effect, old_bytes}
 use Rattle.wild_loader.specs.declared.instruction.Operand.TheVariants.{Number, Word}
 use Rattle.wild_meaning.specs.WordsAArch64.{reads_numbers}
@@ -47,7 +48,7 @@ use Rattle.wild_layout.specs.Choice.{question_of}
 use Rattle.wild_relax.proofs.RoomLemmas.{applied}
 use Rattle.wild_relax.proofs.RowLemmas.{signed_32s, unsigned_32}
 use Rattle.wild_references.specs.Laws.{IsLoadedItem}
-use Rattle.wild_references.proofs.RewrittenReads.{IsDone, ReadsOnlySlots, reads_at, reads_there, no_slots, one_slot, reads_only}
+use Rattle.wild_references.proofs.RewrittenReads.{IsDone, ReadsOnlySlots, no_slots, reads_only}
 use Rattle.wild_meaning.proofs.SymbolLemmas.{target_of, slot_address_of}
 use Rattle.wild_references.proofs.RewrittenForms.{instruction_of}
 use Rattle.wild_references.proofs.RewrittenPairs.{paired}
@@ -203,6 +204,43 @@ on_where true must static h f e = refl
 on_where false true static h f e = (let t = f refl in cc)
 on_where false false static h f e = cc
 
+-- what is written has the demanded effect, for any reader of operands
+effect_as : LawsBelow → (l : Layout) (w : World) (m : Memory) (s : Item) (i : ℕ) (r : InputRelocation) (row : Row) (v n : ℕ) (e : Effect) → IsLoadedItem machine.X86_64 l w m s → IsPlacedRow l s i r row v → n < 2 ^ 64 → ((read : Reader) → FieldIsRight row.written read (place_at w s (template_start row r) + field_in row) n v)
+    → ((a : ℕ) (old : List ℕ) → demanded row.made n a old ≡ Some e) → (read : Reader) → ((k : ℕ) → read (Number k) ≡ Some k) → effect_x86_64 read (place_at w s (template_start row r)) (template_of row v (old_of s row r)) ≡ Some e
+effect_as laws l w m s i r row v n e h p small lands asks read numbers =
+    let a = place_at w s (template_start row r) in
+    effect_kept laws read numbers l w m s i r row v n a h p small (lands read) ∙ asks a (old_of s row r)
+
+chosen_first : (b x y : Bool) → b ≡ true → (if b then x else y) ≡ true → x ≡ true
+chosen_first true x y e h = h
+chosen_first false x y e h = cc
+
+-- what a call that is left out demands
+zero_is_demanded : (o : Sort) (l : Layout) (w : World) (m : Memory) (s : Item) (r : InputRelocation) → o ≡ DescribedCall → Demands o l w m s r 0
+zero_is_demanded o l w m s r e = subst (λ (x : Sort). Demands x l w m s r 0) (sym e) refl
+
+nothing_is_demanded : (o : Sort) (l : Layout) (s : Item) (a : ℕ) (old : List ℕ) → o ≡ DescribedCall → HasOffsetMode l s → IsDemanded o l s 0 a old no_effect
+nothing_is_demanded o l s a old e offsets = subst (λ (x : Sort). IsDemanded x l s 0 a old no_effect) (sym e) (inl (offsets, refl))
+
+-- code that has the same effect for every reader of operands does what is demanded, and reads no other word
+does_always : (l : Layout) (w : World) (m : Memory) (s : Item) (r : InputRelocation) (start : ℕ) (o : Instruction) (bytes : List ℕ) (n : ℕ) (e : Effect) (only : Reader) → ReadsOnlySlots l w r.symbol only → l.machine ≡ machine.X86_64 → length bytes ≡ size_of o → Holds m (place_at w s start) bytes
+    → ((read : Reader) → ((k : ℕ) → read (Number k) ≡ Some k) → effect_x86_64 read (place_at w s start) bytes ≡ Some e) → Demands o.sort l w m s r n → IsDemanded o.sort l s n (place_at w s start) (old_bytes s start o) e → IsDone machine.X86_64 l w m s r start o
+does_always l w m s r start o bytes n e only reads on whole held does demands demanded = record {
+  words = reads_only only l w m s r start o bytes e reads whole held (does only reads.numbers);
+  does = record {
+    value = n;
+    demands = demands;
+    code = record {
+      effect = e;
+      demanded = demanded;
+      bytes = bytes;
+      whole = whole;
+      held = held;
+      does = on_machine l.machine (reads_without_calls w m) (place_at w s start) bytes on ∙ does (reads_without_calls w m) (λ k. refl);
+    };
+  };
+}
+
 -- what the row writes goes by what is written, but a call that is left out
 abbrev pub IsWhole : Layout → Row → Type 0
 IsWhole l row = is_call (instruction_of row).sort ≡ false → KeepsAll l
@@ -278,8 +316,7 @@ does_row laws l w m s i r row v h whole p asked = by (cases_Bool (is_call (instr
         let f = and_parts (writes r_x86_64_gottpoff row) (counts_ends row) so in
         let x = lands_slot laws l w m s i r row v h all p (eqb-true (number_written row.written) r_x86_64_gottpoff f.0) (kept f.1) (ends f.1) in
         let number = eqb-true (number_written row.written) r_x86_64_gottpoff f.0 in
-        let at = sum_64 (place + 4) v in
-        finish o x.operand sort acts (demands x.operand x.is.offset) x.is.small (lands_slot_as row.written (reads_without_calls w m) place x.operand v number x.lands) (reads_at at x.operand) (one_slot l w r.symbol at x.operand x.slot) (lands_slot_as row.written (reads_at at x.operand) place x.operand v number (reads_there at x.operand)) (told x.operand)
+        finish o x.operand sort acts (demands x.operand x.is.offset) x.is.small (lands_slot_as row.written (reads_without_calls w m) place x.operand v number x.lands) x.only x.reads (lands_slot_as row.written x.only place x.operand v number x.lands_only) (told x.operand)
 
     act : KeepsAll l → (o : Sort) (t : ValueTest) → (instruction_of row).sort ≡ o → row.value ≡ t → is_nop row.made ≡ false → not (has_flag q.flags ifunc) ≡ true → (is_thread o ≡ true → is_executable l.kind ≡ true) → does_so o t row ≡ true → DoesRow l w m s r row
     act all AddressInSlot value.OwnSigned sort takes acts plain there so = (let f = and_parts (writes r_x86_64_32s row) (counts_none row) so in number all value.OwnSigned (is_in_32 Signed q.value) refl (inl (eqb-true (number_written row.written) r_x86_64_32s f.0)) takes sort acts plain f.1)
@@ -308,30 +345,22 @@ does_row laws l w m s i r row v h whole p asked = by (cases_Bool (is_call (instr
     call_sort DescribedCall e = refl
     call_sort other e = cc
 
+    left : is_call (instruction_of row).sort ≡ true → (is_nop row.made && writes r_x86_64_none row) ≡ true
+    left call = chosen_first (is_call (instruction_of row).sort) _ _ call well.1
+
+    leaves : is_call (instruction_of row).sort ≡ true → is_nop row.made ≡ true
+    leaves call = (and_parts (is_nop row.made) (writes r_x86_64_none row) (left call)).0
+
+    writes_none : is_call (instruction_of row).sort ≡ true → number_written row.written ≡ r_x86_64_none
+    writes_none call = eqb-true (number_written row.written) r_x86_64_none (and_parts (is_nop row.made) (writes r_x86_64_none row) (left call)).1
+
     left_out : is_call (instruction_of row).sort ≡ true → DoesRow l w m s r row
     left_out call =
-        let sort = call_sort (instruction_of row).sort call in
-        let f = and_parts (is_nop row.made) (writes r_x86_64_none row) (rw call at well.1) in
-        let number = eqb-true (number_written row.written) r_x86_64_none f.1 in
-        let bytes = template_of row v (old_of s row r) in
-        let whole = whole_is l w m s i r row v h p in
-        let held = h.item.rewritten i r row v p.has in
-        let done : (read : Reader) → ((k : ℕ) → read (Number k) ≡ Some k) → effect_x86_64 read (place_at w s (template_start row r)) bytes ≡ Some no_effect = λ read numbers. effect_kept laws read numbers l w m s i r row v 0 (place_at w s (template_start row r)) h p (omega arith) (lands_start row.written read place v number) ∙ demanded_none row.made 0 (place_at w s (template_start row r)) (old_of s row r) f.0 in
-        record {
-          words = reads_only reads_numbers l w m s r (template_start row r) (instruction_of row) bytes no_effect (no_slots l w r.symbol) whole held (done reads_numbers (λ k. refl));
-          does = record {
-            value = 0;
-            demands = subst (λ (x : Sort). Demands x l w m s r 0) (sym sort) refl;
-            code = record {
-              effect = no_effect;
-              demanded = subst (λ (x : Sort). IsDemanded x l s 0 (place_at w s (template_start row r)) (old_bytes s (template_start row r) (instruction_of row)) no_effect) (sym sort) (inl (mode (ap is_thread sort), refl));
-              bytes = bytes;
-              whole = whole;
-              held = held;
-              does = on_machine l.machine (reads_without_calls w m) (place_at w s (template_start row r)) bytes h.on ∙ done (reads_without_calls w m) (λ k. refl);
-            };
-          };
-        }
+        let start = template_start row r in
+        does_always l w m s r start (instruction_of row) (template_of row v (old_of s row r)) 0 no_effect reads_numbers (no_slots l w r.symbol) h.on (whole_is l w m s i r row v h p) (h.item.rewritten i r row v p.has)
+        (effect_as laws l w m s i r row v 0 no_effect h p (omega arith) (λ read. lands_start row.written read place v (writes_none call)) (λ a old. demanded_none row.made 0 a old (leaves call)))
+        (zero_is_demanded (instruction_of row).sort l w m s r (call_sort (instruction_of row).sort call))
+        (nothing_is_demanded (instruction_of row).sort l s (place_at w s start) (old_bytes s start (instruction_of row)) (call_sort (instruction_of row).sort call) (mode (ap is_thread (call_sort (instruction_of row).sort call))))
 
     by : (is_call (instruction_of row).sort ≡ true) ⊎ (is_call (instruction_of row).sort ≡ false) → DoesRow l w m s r row
     by (inl call) = left_out call

@@ -21,7 +21,7 @@ use Rattle.wild_layout.specs.Sites.{template_start}
 use Rattle.wild_loader.specs.declared.memory.Memory.{Memory}
 use Rattle.wild_loader.specs.declared.world.World.{World}
 use Rattle.wild_loader.specs.declared.instruction.Operand.TheVariants.{Word}
-use Rattle.wild_loader.specs.Instruction.{sum_64}
+use Rattle.wild_loader.specs.Instruction.{Reader, sum_64}
 use Rattle.wild_types.specs.Item.{Item}
 use Rattle.wild_meaning.specs.Item.{place_at}
 use Rattle.wild_meaning.specs.Section.{IsSet}
@@ -33,6 +33,7 @@ use Rattle.wild_meaning.specs.Template.{reads}
 use Rattle.wild_meaning.specs.Reference.{IsOffsetSlot}
 use Rattle.wild_meaning.proofs.WorldLemmas.{word_below}
 use Rattle.wild_references.specs.Laws.{IsLoadedItem}
+use Rattle.wild_references.proofs.RewrittenReads.{ReadsOnlySlots, reads_at, reads_there, one_slot}
 use Rattle.wild_references.proofs.RewrittenPlaces.{LawsBelow, IsPlacedRow, ended}
 use Rattle.wild_references.proofs.RewrittenTerms.{written_as, stands_below}
 use Rattle.wild_references.proofs.RewrittenValues.{gives_offset, gives_slot}
@@ -77,7 +78,9 @@ pub record LandsSlot (l : Layout) (w : World) (m : Memory) (s : Item) (r : Input
   pub operand : ℕ
   pub is : IsThreadOperand l w r.symbol operand
   pub lands : reads w m (Word (sum_64 (place_at w s (template_start row r) + field_in row + 4) v)) ≡ Some operand
-  pub slot : IsOffsetSlot l w r.symbol (sum_64 (place_at w s (template_start row r) + field_in row + 4) v)
+  pub only : Reader
+  pub reads : ReadsOnlySlots l w r.symbol only
+  pub lands_only : only (Word (sum_64 (place_at w s (template_start row r) + field_in row + 4) v)) ≡ Some operand
 
 -- a slot with an offset
 record HasSlot (l : Layout) (w : World) (m : Memory) (symbol : Option ℕ) (g : ℕ) : Type 0 where
@@ -103,7 +106,7 @@ lands_slot laws l w m s i r row v h all p number same ends =
     let c : cast_unsigned w64 ((rewrite_of row).addend r.addend) ≡ 2 ^ 64 - 4 = ap (λ (x : ℤ). cast_unsigned w64 x) same ∙ ended r.addend ends in
     let slot = slot_at l w m g.0 p.chosen.symbol r.symbol p.chosen.named g.1 in
     let at = slot_lands g.0 (cast_unsigned w64 ((rewrite_of row).addend r.addend)) (place_at w s (written_as row r).offset) (place_at w s (template_start row r) + field_in row) v (word_below m g.0 slot.offset slot.word) c g.2 below.start (omega (arith, place, high)) in
-    record { operand = slot.offset; is = offset_at l w p.chosen.symbol slot.offset r.symbol p.chosen.named slot.is; lands = subst (λ (a : ℕ). HasWord m a slot.offset) (sym at) slot.word; slot = subst (λ (a : ℕ). IsOffsetSlot l w r.symbol a) (sym at) slot.own }
+    record { operand = slot.offset; is = offset_at l w p.chosen.symbol slot.offset r.symbol p.chosen.named slot.is; lands = subst (λ (a : ℕ). HasWord m a slot.offset) (sym at) slot.word; only = reads_at g.0 slot.offset; reads = one_slot l w r.symbol g.0 slot.offset slot.own; lands_only = subst (λ (a : ℕ). reads_at g.0 slot.offset (Word a) ≡ Some slot.offset) (sym at) (reads_there g.0 slot.offset) }
 
 -- ---- descriptors, and the output's own data
 
