@@ -31,7 +31,9 @@ use Rattle.wild_loader.specs.declared.memory.Memory.{Memory}
 use Rattle.wild_loader.specs.declared.world.World.{World}
 use Rattle.wild_types.specs.Item.{Item}
 use Rattle.wild_meaning.specs.Item.{place_at}
-use Rattle.wild_meaning.specs.Formula.{page_of, IsReferent, IsPlaceRelative, HasOffsetMode, Gives, GivesLinked, TakesAddress, TakesOffset, TakesString}
+use Rattle.wild_reloc.specs.BarredTypes.{is_listed}
+use Rattle.wild_meaning.specs.ReferentAArch64.{branch_types}
+use Rattle.wild_meaning.specs.Formula.{page_of, IsTarget, IsReferentOnX86_64, IsReferent, IsPlaceRelative, HasOffsetMode, Gives, GivesLinked, TakesAddress, TakesOffset, TakesString}
 use Rattle.wild_meaning.specs.Slot.{IsSlot}
 use Rattle.wild_meaning.specs.Reference.{HasStubAddress}
 use Rattle.wild_references.specs.Terms.{IsPlaced, is_expressed, value_by_row, IsDirect, HasTerm, IsFollowed}
@@ -76,17 +78,27 @@ symbols_link = λ info e v. by_kind info e (symbol_kind info.kind e v)
 
 -- ---- L
 
+-- an expression that takes L: of a stub, or of the distance of a branch
+abbrev TakesL : Layout → InputRelocation → Value → Type 0
+TakesL l r v = ((v ≡ StubDistance) ⊎ ((v ≡ Distance) × (l.machine ≡ machine.AArch64) × (is_listed r.number branch_types ≡ true))) ⊎ ((v ≡ StubFromTable) × (l.machine ≡ machine.X86_64))
+
 -- L, as the writer has it, or the place itself
-stub_refers : StubLaws → (v : Value) (l : Layout) (w : World) (m : Memory) (s : Item) (r : InputRelocation) (info : RelocationKindInfo) (x : ℕ) → (h : HasTerm l w m s r info x) → (expression_of info.kind).term ≡ term.Stub → named r.symbol (λ i. treatments.Value h.row) ≡ treatments.Value h.row → ((v ≡ StubDistance) ⊎ (v ≡ Distance)) ⊎ (l.machine ≡ machine.X86_64) → (l.machine ≡ machine.AArch64 → is_place (subtrahend_of info.kind info.mask) ≡ true) → (TakesString v l r → ⊥) → IsReferent l.machine v l w m s r ((w.base + h.term) % 2 ^ 64)
+stub_refers : StubLaws → (v : Value) (l : Layout) (w : World) (m : Memory) (s : Item) (r : InputRelocation) (info : RelocationKindInfo) (x : ℕ) → (h : HasTerm l w m s r info x) → (expression_of info.kind).term ≡ term.Stub → named r.symbol (λ i. treatments.Value h.row) ≡ treatments.Value h.row → TakesL l r v → (l.machine ≡ machine.AArch64 → is_place (subtrahend_of info.kind info.mask) ≡ true) → (TakesString v l r → ⊥) → IsReferent l.machine v l w m s r ((w.base + h.term) % 2 ^ 64)
 stub_refers law v l w m s r info x h stub treated which place none = by_own (is_own_place l.machine l r info) refl h.given
   where
-    distance : l.machine ≡ machine.AArch64 → ((v ≡ StubDistance) ⊎ (v ≡ Distance)) ⊎ (l.machine ≡ machine.X86_64) → (v ≡ StubDistance) ⊎ (v ≡ Distance)
-    distance on (inl e) = e
-    distance on (inr x86) = (let e : machine.AArch64 ≡ machine.X86_64 = sym on ∙ x86 in cc)
+    distance : l.machine ≡ machine.AArch64 → TakesL l r v → (v ≡ StubDistance) ⊎ ((v ≡ Distance) × (is_listed r.number branch_types ≡ true))
+    distance on (inl (inl e)) = inl e
+    distance on (inl (inr d)) = inr (d.0, d.2)
+    distance on (inr t) = absurd (let e : machine.AArch64 ≡ machine.X86_64 = sym on ∙ t.1 in cc)
 
-    relative_by : (v ≡ StubDistance) ⊎ (v ≡ Distance) → IsPlaceRelative v
+    on_x86 : (a : ℕ) → IsTarget l w m r.symbol a → TakesL l r v → l.machine ≡ machine.X86_64 → IsReferentOnX86_64 v l w m r.symbol a
+    on_x86 a t (inl (inl e)) x = subst (λ (q : Value). IsReferentOnX86_64 q l w m r.symbol a) (sym e) t
+    on_x86 a t (inl (inr d)) x = absurd (let e : machine.AArch64 ≡ machine.X86_64 = sym d.1 ∙ x in cc)
+    on_x86 a t (inr d) x = subst (λ (q : Value). IsReferentOnX86_64 q l w m r.symbol a) (sym d.0) t
+
+    relative_by : (v ≡ StubDistance) ⊎ ((v ≡ Distance) × (is_listed r.number branch_types ≡ true)) → IsPlaceRelative v
     relative_by (inl e) = subst IsPlaceRelative (sym e) tt
-    relative_by (inr e) = subst IsPlaceRelative (sym e) tt
+    relative_by (inr e) = subst IsPlaceRelative (sym e.0) tt
 
     whole : is_own_place l.machine l r info ≡ false → KeepsAll l
     whole e = elim h.present [ inl all ↦ all | inr own ↦ (let both : true ≡ false = sym (subst (λ (t : Term). IsDirect l r info t) stub own) ∙ e in cc) ]
@@ -103,7 +115,7 @@ stub_refers law v l w m s r info x h stub treated which place none = by_own (is_
     by_own false e g =
         let i = symbol_named r.symbol (λ i. treatments.Value h.row) h.row treated in
         let given : stub_address l r.symbol ≡ Ok h.term = subst (λ (t : Term). term_by l r t ≡ Ok h.term) stub g in
-        referent v l w m s r ((w.base + h.term) % 2 ^ 64) none (goal_given law l w m r.symbol i.0 h.term h.placed (whole e) i.1 given)
+        referent v l w m s r ((w.base + h.term) % 2 ^ 64) none (on_x86 ((w.base + h.term) % 2 ^ 64) (goal_given law l w m r.symbol i.0 h.term h.placed (whole e) i.1 given) which) (λ none_named. absurd (let both : None ≡ Some i.0 = sym none_named ∙ i.1 in cc))
         (λ j n on. (
           λ own. present l j (subst (λ (o : Option ℕ). is_absent l o ≡ false) n (not_own l.machine l r info e on (ap is_symbol stub) (place on))) own.1,
           goal_stands law v l w m r j h.term h.placed (whole e) (distance on which) (subst (λ (o : Option ℕ). stub_address l o ≡ Ok h.term) n given),
@@ -121,8 +133,8 @@ record IsStubDistance (v : Value) (l : Layout) (w : World) (m : Memory) (s : Ite
   referent : IsReferent l.machine v l w m s r symbol
   value : x ≡ (symbol + more r + (2 ^ 64 - place_at w s r.offset)) % 2 ^ 64
 
-stub_distance_is : StubLaws → (v : Value) → (v ≡ StubDistance) ⊎ (v ≡ Distance) → (info : RelocationKindInfo) → info.kind ≡ kinds.PltRelative → (l : Layout) (w : World) (m : Memory) (s : Item) (r : InputRelocation) (x : ℕ) → HasTerm l w m s r info x → (TakesString v l r → ⊥) → IsStubDistance v l w m s r info x
-stub_distance_is law v which info kind l w m s r x h none =
+stub_distance_is : StubLaws → (v : Value) (info : RelocationKindInfo) → info.kind ≡ kinds.PltRelative → (l : Layout) (w : World) (m : Memory) (s : Item) (r : InputRelocation) (x : ℕ) → TakesL l r v → HasTerm l w m s r info x → (TakesString v l r → ⊥) → IsStubDistance v l w m s r info x
+stub_distance_is law v info kind l w m s r x which h none =
     let mask = no_mask l.machine term.Stub taken.Place info.mask (subst (λ (k : RelocationKind). is_expressed l.machine (expression_of k).term (expression_of k).taken info.mask ≡ true) kind h.expressed) refl in
     let less : subtrahend_of info.kind info.mask ≡ taken.Place = taken_is info kinds.PltRelative None kind mask in
     let treated = subst (λ (k : RelocationKind). kind_treatment l s.flags h.number r.symbol h.row k ≡ treatments.Value h.row) kind h.treated in
@@ -130,21 +142,21 @@ stub_distance_is law v which info kind l w m s r x h none =
     record {
       is = value_is info kinds.PltRelative None kind mask ∙ sized_is info.size StubDistance refl;
       symbol = (w.base + h.term) % 2 ^ 64;
-      referent = stub_refers law v l w m s r info x h (ap (λ (k : RelocationKind). (expression_of k).term) kind) treated (inl which) (λ on. ap is_place less) none;
+      referent = stub_refers law v l w m s r info x h (ap (λ (k : RelocationKind). (expression_of k).term) kind) treated which (λ on. ap is_place less) none;
       value = less_place l w m s r info x h value;
     }
 
 stub_distance : StubLaws → (info : RelocationKindInfo) → info.kind ≡ kinds.PltRelative → RowGives info
 stub_distance law info kind = λ l w m s r x h f.
-    let d = stub_distance_is law StubDistance (inl refl) info kind l w m s r x h (λ t. t.0) in
+    let d = stub_distance_is law StubDistance info kind l w m s r x (inl (inl refl)) h (λ t. t.0) in
     subst (λ (v : Value). Gives v l w m s r x) (sym d.is) (d.symbol, d.referent, d.value)
 
 flat : (x c q : ℕ) → (x + c + q) % 2 ^ 64 ≡ ((x + c) % 2 ^ 64 + q) % 2 ^ 64
 flat x c q = omega arith
 
 pub stubs_stand : StubLaws → StubsRepresentSymbols
-stubs_stand law info kind l w m s r x on none h =
-    let d = stub_distance_is law Distance (inr refl) info kind l w m s r x h (λ t. none t.1) in
+stubs_stand law info kind l w m s r x on branch none h =
+    let d = stub_distance_is law Distance info kind l w m s r x (inl (inr (refl, on, branch))) h (λ t. none t.1) in
     ((d.symbol + more r) % 2 ^ 64, record { symbol = d.symbol; denoted = d.referent; sum = refl }, d.value ∙ flat d.symbol (more r) (2 ^ 64 - place_at w s r.offset))
 
 stub_offset : StubLaws → (info : RelocationKindInfo) → info.kind ≡ kinds.PltRelGotBase → RowGives info
@@ -155,7 +167,7 @@ stub_offset law info kind = λ l w m s r x h f.
     let is : value_by_row info ≡ StubFromTable = value_is info kinds.PltRelGotBase None kind mask ∙ sized_is info.size StubFromTable refl in
     let less : subtrahend_of info.kind info.mask ≡ taken.Table = taken_is info kinds.PltRelGotBase None kind mask in
     let treated = subst (λ (k : RelocationKind). kind_treatment l s.flags h.number r.symbol h.row k ≡ treatments.Value h.row) kind h.treated in
-    let a = stub_refers law StubFromTable l w m s r info x h (ap (λ (k : RelocationKind). (expression_of k).term) kind) treated (inr x86) (λ on. (let e : machine.AArch64 ≡ machine.X86_64 = sym on ∙ x86 in cc)) (λ t. t.0) in
+    let a = stub_refers law StubFromTable l w m s r info x h (ap (λ (k : RelocationKind). (expression_of k).term) kind) treated (inr (refl, x86)) (λ on. (let e : machine.AArch64 ≡ machine.X86_64 = sym on ∙ x86 in cc)) (λ t. t.0) in
     let value = subst (λ (u : Subtrahend). value_less l u h.term r.addend (place_of s.address r) ≡ x) less h.value in
     subst (λ (v : Value). Gives v l w m s r x) (sym is) ((w.base + h.term) % 2 ^ 64, a, less_table l w m s r info x h value)
 
@@ -170,7 +182,7 @@ stubs_give law = λ info e v. by_kind law info (stub_kind info.kind e)
 
 -- the slots of each sort are the reader's, and stand in memory where all is written
 slots_agree : (sort : SlotSort) (l : Layout) (w : World) (m : Memory) → IsPlaced l w m → SlotsAgree sort l
-slots_agree sorts.Address l w m p = address_slots l p.symbols.own
+slots_agree sorts.Address l w m p = address_slots l p.symbols.own p.symbols.flags
 slots_agree sorts.Pair l w m p = pair_slots l p.symbols.own
 slots_agree sorts.OwnPair l w m p = own_pair_slot l
 slots_agree sorts.Offset l w m p = offset_slots l p.symbols.own
