@@ -58,7 +58,7 @@ use Rattle.wild_references.proofs.RewrittenInInput.{called}
 use Rattle.wild_references.proofs.RewrittenTerms.{info_is}
 use Rattle.wild_references.proofs.RewrittenValues.{known_still}
 use Rattle.wild_references.proofs.RewrittenOperands.{LandsFar, LandsItself, not_absolute, not_moved, lands_far, lands_itself}
-use Rattle.wild_references.proofs.RewrittenThreads.{LandsOffset, lands_offset, lands_slot, offset_mode, own_base}
+use Rattle.wild_references.proofs.RewrittenThreads.{LandsOffset, LandsSlot, lands_offset, lands_slot, offset_mode, own_base}
 use Rattle.wild_references.proofs.RewrittenEffects.{old_of, effect_kept, on_machine, whole_is, does_by}
 
 -- the row's code does what the instruction demands, and reads no word but the slot of the symbol's offset
@@ -216,11 +216,11 @@ chosen_first true x y e h = h
 chosen_first false x y e h = cc
 
 -- what a call that is left out demands
-zero_is_demanded : (o : Sort) (l : Layout) (w : World) (m : Memory) (s : Item) (r : InputRelocation) → o ≡ DescribedCall → Demands o l w m s r 0
-zero_is_demanded o l w m s r e = subst (λ (x : Sort). Demands x l w m s r 0) (sym e) refl
+zero_is_demanded : (o : Sort) (l : Layout) (w : World) (m : Memory) (s : Item) (r : InputRelocation) (n : ℕ) → o ≡ DescribedCall → n ≡ 0 → Demands o l w m s r n
+zero_is_demanded o l w m s r n e z = subst (λ (x : Sort). Demands x l w m s r n) (sym e) z
 
-nothing_is_demanded : (o : Sort) (l : Layout) (s : Item) (a : ℕ) (old : List ℕ) → o ≡ DescribedCall → HasOffsetMode l s → IsDemanded o l s 0 a old no_effect
-nothing_is_demanded o l s a old e offsets = subst (λ (x : Sort). IsDemanded x l s 0 a old no_effect) (sym e) (inl (offsets, refl))
+nothing_is_demanded : (o : Sort) (l : Layout) (s : Item) (n a : ℕ) (old : List ℕ) (e : Effect) → o ≡ DescribedCall → HasOffsetMode l s → e ≡ no_effect → IsDemanded o l s n a old e
+nothing_is_demanded o l s n a old e call offsets nothing = subst (λ (x : Sort). IsDemanded x l s n a old e) (sym call) (inl (offsets, nothing))
 
 -- code that has the same effect for every reader of operands does what is demanded, and reads no other word
 does_always : (l : Layout) (w : World) (m : Memory) (s : Item) (r : InputRelocation) (start : ℕ) (o : Instruction) (bytes : List ℕ) (n : ℕ) (e : Effect) (only : Reader) → ReadsOnlySlots l w r.symbol only → l.machine ≡ machine.X86_64 → length bytes ≡ size_of o → Holds m (place_at w s start) bytes
@@ -240,6 +240,35 @@ does_always l w m s r start o bytes n e only reads on whole held does demands de
     };
   };
 }
+
+-- where the row's field is in memory
+abbrev field_place : World → Item → InputRelocation → Row → ℕ
+field_place w s r row = place_at w s (template_start row r) + field_in row
+
+-- with an operand that is right for some reader of no other word, the row's code does what is demanded
+does_operand : LawsBelow → (l : Layout) (w : World) (m : Memory) (s : Item) (i : ℕ) (r : InputRelocation) (row : Row) (v n : ℕ) (o : Sort) → IsLoadedItem machine.X86_64 l w m s → IsPlacedRow l s i r row v → (instruction_of row).sort ≡ o → is_nop row.made ≡ false → Demands o l w m s r n → n < 2 ^ 64
+    → FieldIsRight row.written (reads_without_calls w m) (field_place w s r row) n v → (only : Reader) → ReadsOnlySlots l w r.symbol only → FieldIsRight row.written only (field_place w s r row) n v → ((a : ℕ) (old : List ℕ) (e : Effect) → demand_of l.machine n a old ≡ Some e → IsDemanded o l s n a old e) → DoesRow l w m s r row
+does_operand laws l w m s i r row v n o h p sort acts demands small lands only reads lands_only told =
+    does_by laws l w m s i r row v n h p (subst (λ (x : Sort). Demands x l w m s r n) (sym sort) demands) small lands only reads lands_only (λ a old. demanded_as row.made n a old acts)
+    (λ a old e k. subst (λ (x : Sort). IsDemanded x l s n a old e) (sym sort) (told a old e k))
+
+-- the same with an operand that is right for every reader, so in the code itself
+does_number : LawsBelow → (l : Layout) (w : World) (m : Memory) (s : Item) (i : ℕ) (r : InputRelocation) (row : Row) (v n : ℕ) (o : Sort) → IsLoadedItem machine.X86_64 l w m s → IsPlacedRow l s i r row v → (instruction_of row).sort ≡ o → is_nop row.made ≡ false → Demands o l w m s r n → n < 2 ^ 64
+    → ((read : Reader) → FieldIsRight row.written read (field_place w s r row) n v) → ((a : ℕ) (old : List ℕ) (e : Effect) → demand_of l.machine n a old ≡ Some e → IsDemanded o l s n a old e) → DoesRow l w m s r row
+does_number laws l w m s i r row v n o h p sort acts demands small lands told = does_operand laws l w m s i r row v n o h p sort acts demands small (lands (reads_without_calls w m)) reads_numbers (no_slots l w r.symbol) (lands reads_numbers) told
+
+-- a call that is left out
+does_nothing : LawsBelow → (l : Layout) (w : World) (m : Memory) (s : Item) (i : ℕ) (r : InputRelocation) (row : Row) (v n : ℕ) (e : Effect) → IsLoadedItem machine.X86_64 l w m s → IsPlacedRow l s i r row v → n < 2 ^ 64 → n ≡ 0 → e ≡ no_effect → (instruction_of row).sort ≡ DescribedCall → HasOffsetMode l s
+    → ((read : Reader) → FieldIsRight row.written read (field_place w s r row) n v) → ((a : ℕ) (old : List ℕ) → demanded row.made n a old ≡ Some e) → DoesRow l w m s r row
+does_nothing laws l w m s i r row v n e h p small zero nothing call offsets lands asks =
+    does_always l w m s r (template_start row r) (instruction_of row) (template_of row v (old_of s row r)) n e reads_numbers (no_slots l w r.symbol) h.on (whole_is l w m s i r row v h p) (h.item.rewritten i r row v p.has) (effect_as laws l w m s i r row v n e h p small lands asks)
+    (zero_is_demanded (instruction_of row).sort l w m s r n call zero) (nothing_is_demanded (instruction_of row).sort l s n (place_at w s (template_start row r)) (old_bytes s (template_start row r) (instruction_of row)) e call offsets nothing)
+
+-- an operand in the slot of the symbol's offset
+does_slot : LawsBelow → (l : Layout) (w : World) (m : Memory) (s : Item) (i : ℕ) (r : InputRelocation) (row : Row) (v : ℕ) (o : Sort) → IsLoadedItem machine.X86_64 l w m s → IsPlacedRow l s i r row v → (x : LandsSlot l w m s r row v) → number_written row.written ≡ r_x86_64_gottpoff → (instruction_of row).sort ≡ o → is_nop row.made ≡ false → Demands o l w m s r x.operand
+    → ((a : ℕ) (old : List ℕ) (e : Effect) → demand_of l.machine x.operand a old ≡ Some e → IsDemanded o l s x.operand a old e) → DoesRow l w m s r row
+does_slot laws l w m s i r row v o h p x written sort acts demands told =
+    does_operand laws l w m s i r row v x.operand o h p sort acts demands x.is.small (lands_slot_as row.written (reads_without_calls w m) (field_place w s r row) x.operand v written x.lands) x.only x.reads (lands_slot_as row.written x.only (field_place w s r row) x.operand v written x.lands_only) told
 
 -- what the row writes goes by what is written, but a call that is left out
 abbrev pub IsWhole : Layout → Row → Type 0
@@ -284,16 +313,9 @@ does_row laws l w m s i r row v h whole p asked = by (cases_Bool (is_call (instr
     taken : (t : ValueTest) → row.value ≡ t → takes_value t q ≡ true
     taken t e = subst (λ (x : ValueTest). takes_value x q ≡ true) e p.stands.taken.value
 
-    finish : (o : Sort) (n : ℕ) → (instruction_of row).sort ≡ o → is_nop row.made ≡ false → Demands o l w m s r n → n < 2 ^ 64 → FieldIsRight row.written (reads_without_calls w m) place n v → (only : Reader) → ReadsOnlySlots l w r.symbol only → FieldIsRight row.written only place n v
-        → ((a : ℕ) (old : List ℕ) (e : Effect) → demand_of l.machine n a old ≡ Some e → IsDemanded o l s n a old e) → DoesRow l w m s r row
-    finish o n sort acts demands small lands only reads lands_only told =
-        does_by laws l w m s i r row v n h p (subst (λ (x : Sort). Demands x l w m s r n) (sym sort) demands) small lands only reads lands_only (λ a old. demanded_as row.made n a old acts)
-        (λ a old e k. subst (λ (x : Sort). IsDemanded x l s n a old e) (sym sort) (told a old e k))
-
-    -- an operand that is in the code itself
     finish_number : (o : Sort) (n : ℕ) → (instruction_of row).sort ≡ o → is_nop row.made ≡ false → Demands o l w m s r n → n < 2 ^ 64 → ((read : Reader) → FieldIsRight row.written read place n v)
         → ((a : ℕ) (old : List ℕ) (e : Effect) → demand_of l.machine n a old ≡ Some e → IsDemanded o l s n a old e) → DoesRow l w m s r row
-    finish_number o n sort acts demands small lands told = finish o n sort acts demands small (lands (reads_without_calls w m)) reads_numbers (no_slots l w r.symbol) (lands reads_numbers) told
+    finish_number o n sort acts demands small lands told = does_number laws l w m s i r row v n o h p sort acts demands small lands told
 
     number : KeepsAll l → (t : ValueTest) (held : Bool) → takes_value t q ≡ (is_own q && (is_known q && held)) → ((rewrite_of row).number ≡ 11) ⊎ ((rewrite_of row).number ≡ 10) → row.value ≡ t → (instruction_of row).sort ≡ AddressInSlot → is_nop row.made ≡ false → not (has_flag q.flags ifunc) ≡ true → counts_none row ≡ true → DoesRow l w m s r row
     number all t held is written takes sort acts plain counts =
@@ -315,8 +337,7 @@ does_row laws l w m s i r row v h whole p asked = by (cases_Bool (is_call (instr
     slot all o sort acts so demands told =
         let f = and_parts (writes r_x86_64_gottpoff row) (counts_ends row) so in
         let x = lands_slot laws l w m s i r row v h all p (eqb-true (number_written row.written) r_x86_64_gottpoff f.0) (kept f.1) (ends f.1) in
-        let number = eqb-true (number_written row.written) r_x86_64_gottpoff f.0 in
-        finish o x.operand sort acts (demands x.operand x.is.offset) x.is.small (lands_slot_as row.written (reads_without_calls w m) place x.operand v number x.lands) x.only x.reads (lands_slot_as row.written x.only place x.operand v number x.lands_only) (told x.operand)
+        does_slot laws l w m s i r row v o h p x (eqb-true (number_written row.written) r_x86_64_gottpoff f.0) sort acts (demands x.operand x.is.offset) (told x.operand)
 
     act : KeepsAll l → (o : Sort) (t : ValueTest) → (instruction_of row).sort ≡ o → row.value ≡ t → is_nop row.made ≡ false → not (has_flag q.flags ifunc) ≡ true → (is_thread o ≡ true → is_executable l.kind ≡ true) → does_so o t row ≡ true → DoesRow l w m s r row
     act all AddressInSlot value.OwnSigned sort takes acts plain there so = (let f = and_parts (writes r_x86_64_32s row) (counts_none row) so in number all value.OwnSigned (is_in_32 Signed q.value) refl (inl (eqb-true (number_written row.written) r_x86_64_32s f.0)) takes sort acts plain f.1)
@@ -356,11 +377,8 @@ does_row laws l w m s i r row v h whole p asked = by (cases_Bool (is_call (instr
 
     left_out : is_call (instruction_of row).sort ≡ true → DoesRow l w m s r row
     left_out call =
-        let start = template_start row r in
-        does_always l w m s r start (instruction_of row) (template_of row v (old_of s row r)) 0 no_effect reads_numbers (no_slots l w r.symbol) h.on (whole_is l w m s i r row v h p) (h.item.rewritten i r row v p.has)
-        (effect_as laws l w m s i r row v 0 no_effect h p (omega arith) (λ read. lands_start row.written read place v (writes_none call)) (λ a old. demanded_none row.made 0 a old (leaves call)))
-        (zero_is_demanded (instruction_of row).sort l w m s r (call_sort (instruction_of row).sort call))
-        (nothing_is_demanded (instruction_of row).sort l s (place_at w s start) (old_bytes s start (instruction_of row)) (call_sort (instruction_of row).sort call) (mode (ap is_thread (call_sort (instruction_of row).sort call))))
+        let sort = call_sort (instruction_of row).sort call in
+        does_nothing laws l w m s i r row v 0 no_effect h p (omega arith) refl refl sort (mode (ap is_thread sort)) (λ read. lands_start row.written read place v (writes_none call)) (λ a old. demanded_none row.made 0 a old (leaves call))
 
     by : (is_call (instruction_of row).sort ≡ true) ⊎ (is_call (instruction_of row).sort ≡ false) → DoesRow l w m s r row
     by (inl call) = left_out call
