@@ -558,7 +558,7 @@ no_blank s h =
 
 file_bytes : All (HasLoadedBytes shared_memory shared_world.base shared_image) shared_layout.segments
 unfolding file_header_fields program_header_fields word
-file_bytes = All-from_recursion (HasLoadedBytes shared_memory shared_world.base shared_image) shared_layout.segments ((λ k. record { content = shared_front; stands = refl; size = refl; held = refl }), ((λ k. record { content = shared_back ++ replicate 56 0; stands = refl; size = refl; held = refl }), ((λ k. absurd (let no : 2 ≡ 1 = k in omega (arith, no))), tt)))
+file_bytes = All-from_recursion (HasLoadedBytes shared_memory shared_world.base shared_image) shared_layout.segments ((λ k. record { content = shared_front; stands = refl; size = refl; held = refl }), ((λ k. record { content = shared_back ++ replicate 32 0; stands = refl; size = refl; held = refl }), ((λ k. absurd (let no : 2 ≡ 1 = k in omega (arith, no))), tt)))
 
 -- ---- the whole
 
