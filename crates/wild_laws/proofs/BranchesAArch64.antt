@@ -35,6 +35,7 @@ use Rattle.wild_meaning.proofs.BitLemmas.{bit_code}
 use Rattle.wild_meaning.proofs.StringLemmas.{referent_by, branch_stands, goes_to_none}
 use Rattle.wild_meaning.proofs.InstructionsAArch64.{IsAlone, alone_template, alone_only}
 use Rattle.wild_laws.specs.FirstTypes.{IsBranchWord}
+use Rattle.wild_meaning.proofs.SymbolLemmas.{goes_within}
 use Rattle.wild_laws.specs.FirstPath.{BranchReaches, branch_size, IsBranchedTo}
 use Rattle.wild_laws.proofs.Readers.{does_so, once_more}
 
@@ -151,7 +152,7 @@ by_symbol l w m s r a (Some i) listed e (inr t) = inl (record {
   present = λ d. t.0 (tt, subst (λ (j : ℕ). IsUndefinedWeak l j) (one_symbol (sym d.named ∙ e)) d.absent);
   symbol = t.1.symbol;
   stands = subst (λ (p : Option ℕ). IsTarget l w m p t.1.symbol) (sym e) t.1.denoted;
-  comes = t.1.comes;
+  comes = goes_within l m _ _ t.1.comes;
 })
 
 branched_to : (l : Layout) (w : World) (m : Memory) (s : Item) (r : InputRelocation) (n opcode : ℕ) (deed : Deed) (a : ℕ) → IsBranch n opcode deed → l.machine ≡ machine.AArch64 → r.number ≡ n → IsBranchReferent l w m s r a → IsBranchedTo l.machine l w m s r a

@@ -1,5 +1,5 @@
 -- What a formula gives of an address or a distance, and what that is of a symbol that no resolver answers for.
-use Rattle.std.proofs.Common.{◌≡◌, ℕ, ◌+◌, ◌-◌, ◌%◌, ◌^◌, ◌⊎◌, inl, inr, Bool, false, refl, sym, ap, ◌∙◌, subst, arith}
+use Rattle.std.proofs.Common.{◌≡◌, ℕ, ◌+◌, ◌-◌, ◌%◌, ◌^◌, ◌⊎◌, inl, inr, Bool, false, true, refl, sym, ap, ◌∙◌, subst, arith}
 use Rattle.std.specs.Prelude.{Option, Some, None}
 use Rattle.wild_types.specs.declared.kind.Machine.{Machine}
 use Rattle.wild_types.specs.declared.kind.Machine.TheVariants as machine
@@ -11,14 +11,14 @@ use Rattle.wild_reloc.specs.Formula.{Value, SymbolAddress, Distance}
 use Rattle.wild_loader.specs.declared.memory.Memory.{Memory}
 use Rattle.wild_loader.specs.declared.world.World.{World}
 use Rattle.wild_meaning.specs.Value.{HasFlag, HasOwnValue, IsReplaceable, with_base}
-use Rattle.wild_meaning.specs.Denotes.{HasStub, Denotes}
+use Rattle.wild_meaning.specs.Denotes.{HasStub, IsAddressOf, Denotes}
 use Rattle.wild_types.specs.Item.{Item}
 use Rattle.wild_meaning.specs.Item.{place_at}
 use Rattle.wild_meaning.specs.ReferentAArch64.{IsUndefinedWeak, branch_types, own_place}
-use Rattle.wild_meaning.specs.Formula.{IsTarget, Gives, TakesAddress, IsReferent, IsReferentOnMachine, IsReferentOnAArch64}
+use Rattle.wild_meaning.proofs.SymbolLemmas.{address_on_x86_64}
+use Rattle.wild_meaning.specs.Formula.{IsSymbolAddress, IsTarget, Gives, TakesAddress, IsReferent, IsReferentOnMachine, IsReferentOnAArch64}
 use Rattle.wild_meaning.specs.Reference.{HoldsPlain}
-use Rattle.wild_meaning.proofs.SymbolLemmas.{target_reached}
-use Rattle.wild_laws.specs.FirstPath.{IsAddress, Demands, NamesAreAddresses, RepresentsSymbol, IsNamed, HasFormula}
+use Rattle.wild_laws.specs.FirstPath.{IsAddress, IsGoal, Demands, NamesAreAddresses, RepresentsSymbol, IsNamed, HasFormula}
 use Rattle.wild_laws.proofs.Symbols.{own_value, plain_value}
 
 -- ---- symbols
@@ -38,9 +38,18 @@ alone : (l : Layout) (w : World) (m : Memory) (i a : ℕ) → IsReplaceable l i 
 alone l w m i a own f none (inl h) = address l w i a f (own_value l w i a own h)
 alone l w m i a own f none (inr s) = absurd (none s.stub s.given)
 
+-- what represents a symbol leads to it
+reached : (l : Layout) (w : World) (m : Memory) (i a : ℕ) → Denotes l w m i a → IsGoal l w m (Some i) a
+reached l w m i a (inl h) = (a, h, inl refl)
+reached l w m i a (inr h) = (h.value, h.is, inr (h.value, h.code.jumps, inl refl))
+
+pub target_reached : (l : Layout) (w : World) (m : Memory) (symbol : Option ℕ) (a : ℕ) → IsTarget l w m symbol a → IsGoal l w m symbol a
+target_reached l w m None a h = h
+target_reached l w m (Some i) a h = reached l w m i a h
+
 pub names_addresses : NamesAreAddresses
 names_addresses = record {
-  stands = λ l w m i a h. target_reached l w m (Some i) a h;
+  stands = reached;
   alone = alone;
   goals = λ l w m i a own f h. (h.0, address l w i h.0 f (own_value l w i h.0 own h.1), h.2);
 }
@@ -60,23 +69,27 @@ one_symbol {i} {j} e = cc
 
 -- what is S by the judge's expression stands for the symbol
 address_stands : (l : Layout) (w : World) (m : Memory) (s : Item) (r : InputRelocation) (a : ℕ) (o : Option ℕ) → r.symbol ≡ o → IsReferentOnAArch64 SymbolAddress l w m s r o a → RepresentsSymbol machine.AArch64 SymbolAddress l w m s r a
-address_stands l w m s r a None e h = inr ((λ d. cc d.distance), subst (λ (p : Option ℕ). IsTarget l w m p a) (sym e) h)
+address_stands l w m s r a None e h = inr ((λ d. cc d.distance), subst (λ (p : Option ℕ). IsSymbolAddress l w m p a) (sym e) h)
 address_stands l w m s r a (Some i) e (inl t) = absurd t.0.0
-address_stands l w m s r a (Some i) e (inr t) = inr ((λ d. cc d.distance), subst (λ (p : Option ℕ). IsTarget l w m p a) (sym e) t.1)
+address_stands l w m s r a (Some i) e (inr t) = inr ((λ d. cc d.distance), subst (λ (p : Option ℕ). IsSymbolAddress l w m p a) (sym e) t.1)
 
 distance_stands : (l : Layout) (w : World) (m : Memory) (s : Item) (r : InputRelocation) (a : ℕ) (o : Option ℕ) → is_listed r.number branch_types ≡ false → r.symbol ≡ o → IsReferentOnAArch64 Distance l w m s r o a → RepresentsSymbol machine.AArch64 Distance l w m s r a
-distance_stands l w m s r a None none e h = inr ((λ d. (let both : Some d.symbol.symbol ≡ None = sym d.symbol.named ∙ e in cc)), subst (λ (p : Option ℕ). IsTarget l w m p a) (sym e) h)
+distance_stands l w m s r a None none e h = inr ((λ d. (let both : Some d.symbol.symbol ≡ None = sym d.symbol.named ∙ e in cc)), subst (λ (p : Option ℕ). IsSymbolAddress l w m p a) (sym e) h)
 distance_stands l w m s r a (Some i) none e (inl t) = inl (record { distance = refl; symbol = record { symbol = i; named = e; absent = t.0.1 } }, t.1 ∙ own_is w s r none)
-distance_stands l w m s r a (Some i) none e (inr t) = inr ((λ d. t.0 (tt, subst (λ (j : ℕ). IsUndefinedWeak l j) (one_symbol (sym d.symbol.named ∙ e)) d.symbol.absent)), subst (λ (p : Option ℕ). IsTarget l w m p a) (sym e) t.1)
+distance_stands l w m s r a (Some i) none e (inr t) = inr ((λ d. t.0 (tt, subst (λ (j : ℕ). IsUndefinedWeak l j) (one_symbol (sym d.symbol.named ∙ e)) d.symbol.absent)), subst (λ (p : Option ℕ). IsSymbolAddress l w m p a) (sym e) (no_branch t.1))
+  where
+    no_branch : IsAddressOf l w m i a ⊎ ((is_listed r.number branch_types ≡ true) × Denotes l w m i a) → IsAddressOf l w m i a
+    no_branch (inl h) = h
+    no_branch (inr h) = absurd (let both : true ≡ false = sym h.0 ∙ none in cc)
 
-stands_by : (k : Machine) (v : Value) (l : Layout) (w : World) (m : Memory) (s : Item) (r : InputRelocation) (a : ℕ) → IsKnown v → (k ≡ machine.AArch64 → is_listed r.number branch_types ≡ false) → IsReferentOnMachine k v l w m s r a → RepresentsSymbol k v l w m s r a
-stands_by machine.X86_64 v l w m s r a known none h = h
-stands_by machine.AArch64 v l w m s r a (inl e) none h = subst (λ (u : Value). IsReferentOnAArch64 u l w m s r r.symbol a → RepresentsSymbol machine.AArch64 u l w m s r a) (sym e) (λ t. address_stands l w m s r a r.symbol refl t) h
-stands_by machine.AArch64 v l w m s r a (inr e) none h = subst (λ (u : Value). IsReferentOnAArch64 u l w m s r r.symbol a → RepresentsSymbol machine.AArch64 u l w m s r a) (sym e) (λ t. distance_stands l w m s r a r.symbol (none refl) refl t) h
+stands_by : (k : Machine) (v : Value) (l : Layout) (w : World) (m : Memory) (s : Item) (r : InputRelocation) (a : ℕ) → IsKnown v → TakesAddress v → (k ≡ machine.AArch64 → is_listed r.number branch_types ≡ false) → IsReferentOnMachine k v l w m s r a → RepresentsSymbol k v l w m s r a
+stands_by machine.X86_64 v l w m s r a known takes none h = address_on_x86_64 v l w m r.symbol a takes h
+stands_by machine.AArch64 v l w m s r a (inl e) takes none h = subst (λ (u : Value). IsReferentOnAArch64 u l w m s r r.symbol a → RepresentsSymbol machine.AArch64 u l w m s r a) (sym e) (λ t. address_stands l w m s r a r.symbol refl t) h
+stands_by machine.AArch64 v l w m s r a (inr e) takes none h = subst (λ (u : Value). IsReferentOnAArch64 u l w m s r r.symbol a → RepresentsSymbol machine.AArch64 u l w m s r a) (sym e) (λ t. distance_stands l w m s r a r.symbol (none refl) refl t) h
 
 named_by : (v : Value) (l : Layout) (w : World) (m : Memory) (s : Item) (r : InputRelocation) (a : ℕ) → IsKnown v → TakesAddress v → (l.machine ≡ machine.AArch64 → is_listed r.number branch_types ≡ false) → IsReferent l.machine v l w m s r a → IsNamed v l w m s r a
 named_by v l w m s r a known takes none (inl t) = inl (t.0.1, t.1)
-named_by v l w m s r a known takes none (inr t) = inr ((λ n. t.0 (takes, n)), stands_by l.machine v l w m s r a known none t.1)
+named_by v l w m s r a known takes none (inr t) = inr ((λ n. t.0 (takes, n)), stands_by l.machine v l w m s r a known takes none t.1)
 
 -- ---- formulas
 

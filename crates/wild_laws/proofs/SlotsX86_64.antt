@@ -24,6 +24,7 @@ use Rattle.wild_meaning.specs.Reference.{ReferenceHolds}
 use Rattle.wild_meaning.proofs.BitLemmas.{bit_code}
 use Rattle.wild_laws.specs.FirstTypes.{slot_types, IsSlotBranch, IsThreadCall}
 use Rattle.wild_laws.specs.FirstPath.{SlotBranchReaches}
+use Rattle.wild_laws.proofs.FirstNames.{target_reached}
 use Rattle.wild_laws.proofs.SequencesX86_64.{is_thread, is_slot, through, IsThrough, is_through}
 use Rattle.wild_laws.proofs.CodeX86_64.{IsAlone, single_of, no_sequence}
 use Rattle.wild_laws.proofs.Readers.{does_so}
@@ -165,7 +166,7 @@ goes l w m s r k opcode deed does x branch d =
     let is = does a d.value (slice_range s.bytes k (k + 6)) (old_length l s r k opcode branch) (old_first l s r k opcode branch) (old_second l s r k opcode branch) in
     record {
       target = d.value;
-      comes = d.demands;
+      comes = target_reached l w m r.symbol d.value d.demands;
       bytes = d.code.bytes;
       six = d.code.whole;
       held = d.code.held;

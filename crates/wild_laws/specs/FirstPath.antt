@@ -3,13 +3,14 @@
 --   IsNamed ..             a is S in an address or a distance
 --   IsBranchedTo ..        a is S or L in a call or a jump
 --   BranchReaches ..       a direct call or jump goes to an address that represents its symbol
+--   IsGoal ..              execution that starts at an address reaches S
 --   SlotBranchReaches ..   one through a slot goes to an address that leads to its symbol
 --   HasFormula ..          the field in memory has the formula's value
 --   IsFollowed ..          a reference is checked in the world and for this image, and not only with the output's own symbol
 --   HoldsByForms ..        the judge's requirements for every type
 --   HoldsByFields ..       the requirements of fields, calls and jumps on an input section; other types by their forms
 --   NamesAreAddresses      the consequences for symbols that are not IFUNCs
-use Rattle.std.specs.Prelude.{◌≡◌, ℕ, ℤ, ◌+◌, ◌-◌, ◌%◌, ◌^◌, ◌<◌, false, List, length, Some, Contains, slice_index, ◌⊎◌}
+use Rattle.std.specs.Prelude.{◌≡◌, ℕ, ℤ, ◌+◌, ◌-◌, ◌%◌, ◌^◌, ◌<◌, false, List, length, Option, Some, None, Contains, slice_index, ◌⊎◌}
 use Rattle.std.specs.Int.{w64, cast_unsigned}
 use Rattle.wild_types.specs.declared.kind.Machine.{Machine}
 use Rattle.wild_types.specs.declared.kind.Machine.TheVariants as machine
@@ -22,12 +23,12 @@ use Rattle.wild_reloc.specs.Formula.{Value, SymbolAddress, Distance, Form, Formu
 use Rattle.wild_loader.specs.declared.world.World.{World}
 use Rattle.wild_loader.specs.declared.memory.Memory.{Memory}
 use Rattle.wild_loader.specs.Memory.{Holds, byte_in}
-use Rattle.wild_meaning.specs.Value.{IsSymbol, IsDefinedBy, HasRaw, HasFlag, IsReplaceable, with_base}
+use Rattle.wild_meaning.specs.Value.{IsSymbol, IsDefinedBy, HasRaw, HasFlag, HasValue, IsReplaceable, with_base}
 use Rattle.wild_loader.specs.Reach.{Reaches, ReachesWithin}
 use Rattle.wild_meaning.specs.Denotes.{HasStub, Denotes}
 use Rattle.wild_meaning.specs.ReferentAArch64.{IsUndefinedWeak}
 use Rattle.wild_meaning.specs.Field.{formula_of, form_width, InNoField}
-use Rattle.wild_meaning.specs.Formula.{IsTarget, IsGoal, Gives}
+use Rattle.wild_meaning.specs.Formula.{IsSymbolAddress, IsTarget, Gives}
 use Rattle.wild_loader.specs.declared.instruction.Deed.{Deed}
 use Rattle.wild_loader.specs.declared.instruction.Deed.TheVariants.{Call, Jump}
 use Rattle.wild_meaning.specs.Sequence.{Instruction}
@@ -52,10 +53,10 @@ pub record IsDistanceOfUndefinedWeak (v : Value) (l : Layout) (r : InputRelocati
   pub distance : v ≡ Distance
   pub symbol : NamesUndefinedWeak l r
 
--- a represents the symbol in an address or a distance
+-- a represents the symbol in an address or a distance: its value, or its stub if the output uses that as its address
 abbrev pub RepresentsSymbol : Machine → Value → Layout → World → Memory → Item → InputRelocation → ℕ → Type 0
-RepresentsSymbol machine.X86_64 v l w m s r a = IsTarget l w m r.symbol a
-RepresentsSymbol machine.AArch64 v l w m s r a = (IsDistanceOfUndefinedWeak v l r × (a ≡ address_at w s r.offset % 2 ^ 64)) ⊎ ((IsDistanceOfUndefinedWeak v l r → ⊥) × IsTarget l w m r.symbol a)
+RepresentsSymbol machine.X86_64 v l w m s r a = IsSymbolAddress l w m r.symbol a
+RepresentsSymbol machine.AArch64 v l w m s r a = (IsDistanceOfUndefinedWeak v l r × (a ≡ address_at w s r.offset % 2 ^ 64)) ⊎ ((IsDistanceOfUndefinedWeak v l r → ⊥) × IsSymbolAddress l w m r.symbol a)
 
 -- a is S there: it represents the symbol; for merged strings, a and A together make the address of a byte of a string
 abbrev pub IsNamed : Value → Layout → World → Memory → Item → InputRelocation → ℕ → Type 0
@@ -98,6 +99,11 @@ pub record BranchReaches (l : Layout) (w : World) (m : Memory) (s : Item) (r : I
   pub whole : length bytes ≡ branch_size l.machine
   pub held : Holds m (address_at w s k) bytes
   pub goes : effect_of l.machine (reads w m) (address_at w s k) bytes ≡ Some (record { deed = deed; width = 64; value = branch_target l.machine r target })
+
+-- execution that starts at a reaches S
+abbrev pub IsGoal : Layout → World → Memory → Option ℕ → ℕ → Type 0
+IsGoal l w m None a = a ≡ 0
+IsGoal l w m (Some i) a = (v : ℕ) × HasValue l w i v × Reaches m a v
 
 -- the six loaded bytes call, or jump to, an address that leads to the symbol
 pub record SlotBranchReaches (l : Layout) (w : World) (m : Memory) (s : Item) (r : InputRelocation) (k : ℕ) (deed : Deed) : Type 0 where

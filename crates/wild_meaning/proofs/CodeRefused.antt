@@ -3,9 +3,11 @@ use Rattle.std.proofs.Common.{◌≡◌, ℕ, ◌+◌, ◌-◌, ◌%◌, ◌^◌
 use Rattle.std.specs.Prelude.{Option, Some, slice_range, option_map}
 use Rattle.wild_words.specs.Words.{number}
 use Rattle.wild_records.specs.Abi.Relocation.{r_x86_64_plt32, r_x86_64_pc32, r_x86_64_rex_gotpcrelx, r_x86_64_gotpc32_tlsdesc}
-use Rattle.wild_reloc.specs.Formula.{formula, StubDistance, SlotDistance, AddressSlot, Descriptor, Plain, Signed}
+use Rattle.wild_reloc.specs.Formula.{Formula, formula, StubDistance, SlotDistance, AddressSlot, ThreadOffset, Descriptor, Plain, Signed}
 use Rattle.wild_reloc.specs.FormulaX86_64.{x86_64_formula}
 use Rattle.wild_types.specs.declared.kind.Machine.TheVariants as machine
+use Rattle.wild_types.specs.declared.symbol.Symbol.{Symbol}
+use Rattle.wild_types.specs.Flags.{has_flag}
 use Rattle.wild_loader.specs.declared.memory.Memory.{Memory}
 use Rattle.wild_loader.specs.Memory.{Holds}
 use Rattle.wild_loader.specs.declared.instruction.Operand.TheVariants.{Number, Word}
@@ -16,17 +18,20 @@ use Rattle.wild_loader.specs.InstructionX86_64.{meaning_x86_64, effect_x86_64}
 use Rattle.wild_loader.specs.CodeX86_64.{rex, with_slot, branch}
 use Rattle.wild_meaning.specs.Item.{IsKept, OfSection}
 use Rattle.wild_meaning.specs.Field.{InNoField}
+use Rattle.wild_meaning.specs.Formula.{Gives}
+use Rattle.wild_meaning.specs.Slot.{has_slot_of, HasSlotAddress, HasSlot}
+use Rattle.wild_meaning.specs.Reference.{IsOffsetSlot, ReadsOffsetSlots, ReferenceHolds}
 use Rattle.wild_meaning.specs.Sequence.{Instruction, Target, AddressInSlot, Described, size_of, of_field, instructions_of}
 use Rattle.wild_meaning.specs.Template.{IsDescribed, IsInstruction, IsTemplate, DoesDemanded}
 use Rattle.wild_meaning.specs.Worked.Builders.{Refuses}
-use Rattle.wild_meaning.specs.Worked.Static.{static_pie, static_pie_world, branch_code, branch_item, branch_reference, load_code, load_item, load_reference, described_code, described_item, described_reference}
-use Rattle.wild_meaning.specs.Worked.StaticRefusals.{MemoryHas, another_branch, load_one_byte_off, descriptor_load}
-use Rattle.wild_meaning.proofs.SymbolUnique.{denoted}
+use Rattle.wild_meaning.specs.Worked.Static.{static_pie, static_pie_world, branch_code, branch_item, branch_reference, load_code, load_item, load_reference, described_code, described_item, described_reference, thread_symbol}
+use Rattle.wild_meaning.specs.Worked.StaticRefusals.{MemoryHas, another_branch, load_one_byte_off, descriptor_load, load_of_data}
+use Rattle.wild_meaning.proofs.SymbolUnique.{denoted, told_is}
 use Rattle.wild_meaning.proofs.EffectLemmas.{meant}
 use Rattle.wild_meaning.proofs.AmongLemmas.{Among}
-use Rattle.wild_meaning.proofs.OneReference.{beside, effect_with, value_in, ReadsNumbers, IsNotDone, fills, same_bytes, single_refused, template_there}
+use Rattle.wild_meaning.proofs.OneReference.{beside, effect_with, value_in, ReadsNumbers, IsNotDone, fills, same_bytes, single_only, single_refused, template_there}
 use Rattle.wild_meaning.proofs.StaticRefused.{first_is, thread_is, thread_offset, holds_there, no_string}
-use Rattle.wild_meaning.proofs.SymbolLemmas.{referent_stands}
+use Rattle.wild_meaning.proofs.SymbolLemmas.{referent_stands, in_slot_denotes}
 use Rattle.wild_meaning.proofs.StringLemmas.{branch_stands}
 
 -- ---- formulas
@@ -134,7 +139,7 @@ load_refused read m numbers held d =
     let done : Some (effect_with (Set 0) 64 0x41201) ≡ Some h.effect = sym (load_done read numbers) ∙ subst (λ (bs : List ℕ). effect_x86_64 read 0x41010 bs ≡ Some h.effect) bytes h.does in
     let demanded : Some (effect_with (Set 0) 64 (h.value % 2 ^ 64)) ≡ Some h.effect = sym (load_demanded h.value) ∙ h.demanded in
     let same : 0x41201 ≡ h.value % 2 ^ 64 = value_in (Set 0) 64 0x41201 h.effect done ∙ sym (value_in (Set 0) 64 (h.value % 2 ^ 64) h.effect demanded) in
-    let goal : h.value ≡ 0x41200 = denoted static_pie static_pie_world m 0 0x1200 h.value first_is h.demands in
+    let goal : h.value ≡ 0x41200 = denoted static_pie static_pie_world m 0 0x1200 h.value first_is (in_slot_denotes static_pie static_pie_world m 0 h.value h.demands) in
     omega (arith, same, goal)
 
 -- another opcode does not stand there
@@ -216,3 +221,40 @@ pub wrong_descriptor : Refuses static_pie static_pie_world (MemoryHas 0x41040 de
 wrong_descriptor image h x =
     single_refused static_pie static_pie_world h.memory described_item described_reference described refl refl described_template (λ read numbers. no_described h.memory read numbers x)
     (holds_there h.memory described_item described_reference _ 2 0x3008 (h.kept described_item described_kept) (0, omega arith, refl) (omega arith) descriptor_formula refl thread_is)
+
+-- ---- a word of the program
+
+data_means : meaning_x86_64 0x41040 load_of_data ≡ Some (record { deed = Set 0; width = 64; operand = Word 0x41108 })
+unfolding meaning_x86_64 number
+data_means = refl
+
+-- no slot of the symbol's offset was decided
+no_offset_slot : (i p : ℕ) → i ≡ 2 → HasSlot ThreadOffset static_pie i p → ⊥
+unfolding has_flag
+no_offset_slot i p e h =
+    let there : HasSlotAddress ThreadOffset static_pie 2 p = subst (λ (k : ℕ). HasSlotAddress ThreadOffset static_pie k p) e h in
+    let same : there.symbol ≡ thread_symbol = told_is static_pie 2 there.definition there.symbol thread_symbol refl there.defined there.listed in
+    let both : true ≡ false = sym there.flagged ∙ ap (λ (s : Symbol). has_slot_of ThreadOffset s.flags) same in
+    cc
+
+-- so the code may read no word, nor does its field name a descriptor
+data_refused : (m : Memory) → Holds m 0x41040 load_of_data → ReferenceHolds static_pie static_pie_world m described_item described_reference → ⊥
+data_refused m held (inl h) = by h.formula h.known h.value h.gives
+  where
+    by : (f : Formula) → x86_64_formula r_x86_64_gotpc32_tlsdesc ≡ Some f → (x : ℕ) → Gives f.value static_pie static_pie_world m described_item described_reference x → ⊥
+    by f known x gives =
+        let both : Some f ≡ Some (formula (SlotDistance Descriptor) (Plain 32 Signed)) = sym known ∙ descriptor_formula in
+        let same : f ≡ formula (SlotDistance Descriptor) (Plain 32 Signed) = cc in
+        let given = subst (λ (k : Formula). Gives k.value static_pie static_pie_world m described_item described_reference x) same gives in
+        given.2 (tt, refl)
+data_refused m held (inr h) =
+    let own =
+    single_only (λ start o first. ReadsOffsetSlots machine.X86_64 static_pie static_pie_world m described_item first start o → IsOffsetSlot static_pie static_pie_world (Some 2) 0x41108) static_pie described_item described_reference h.start h.instruction h.first refl refl
+    ((λ start f s each. let at : start ≡ 0 = omega (arith, f) in subst (λ (k : ℕ). ReadsOffsetSlots machine.X86_64 static_pie static_pie_world m described_item described_reference k described) at each load_of_data (record { deed = Set 0; width = 64; operand = Word 0x41108 }) 0x41108 refl held data_means refl), tt)
+    h.template h.words in
+    let both : Some 2 ≡ Some own.index = own.named in
+    let same : own.index ≡ 2 = cc in
+    no_offset_slot own.index own.slot same own.given
+
+pub wrong_data_load : Refuses static_pie static_pie_world (MemoryHas 0x41040 load_of_data)
+wrong_data_load image h x = data_refused h.memory x (holds_there h.memory described_item described_reference _ 2 0x3008 (h.kept described_item described_kept) (0, omega arith, refl) (omega arith) descriptor_formula refl thread_is)

@@ -38,7 +38,7 @@ use Rattle.wild_meaning.specs.Worked.CopyImage.{copying_image, copying_rest, cop
 use Rattle.wild_meaning.specs.Worked.CopyRefusals.{CopyingImageIsLinked}
 use Rattle.wild_records.specs.ProgramHeader.{program_header_fields}
 use Rattle.wild_meaning.proofs.FileBytes.{HasLoadedBytes, file_byte_held}
-use Rattle.wild_meaning.proofs.SymbolUnique.{only, raw_of}
+use Rattle.wild_meaning.proofs.SymbolUnique.{only, raw_of, IsUnstubbed, no_stubs}
 use Rattle.wild_meaning.proofs.Read.{held_from}
 use Rattle.wild_meaning.proofs.Refused.{not_alone, no_template}
 use Rattle.wild_meaning.proofs.CopyLegal.{copied_own, has_copy, copy_is}
@@ -243,6 +243,7 @@ copying_linked = (
     machine = refl;
     kept = items_hold;
     zeros = zeros;
+    stubs = λ whole i p h. absurd (no_stubs copying_layout i p (All-from_recursion IsUnstubbed copying_layout.symbols (refl, (refl, tt))) h);
     copies = λ whole. copies;
     texts = no_texts copying_layout copying_world copying_memory refl refl;
     still = λ a b h free. file_byte_held copying_layout copying_memory copying_world.base a b copying_image file_bytes h;

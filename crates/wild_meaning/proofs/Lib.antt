@@ -14,6 +14,7 @@ mod Refused
 mod SlotPlaces
 mod SharedRefused
 mod SharedThreads
+mod SharedStubs
 mod ReplacedLemmas
 mod CopyLegal
 mod CopyRefused

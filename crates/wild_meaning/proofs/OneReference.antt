@@ -15,14 +15,17 @@ use Rattle.wild_loader.specs.declared.memory.Memory.{Memory}
 use Rattle.wild_loader.specs.declared.world.World.{World}
 use Rattle.wild_loader.specs.Memory.{Holds}
 use Rattle.wild_loader.proofs.HeldBytes.{held-first, held-rest}
-use Rattle.wild_loader.specs.declared.instruction.Operand.TheVariants.{Number}
+use Rattle.wild_loader.specs.declared.instruction.Action.{Action}
+use Rattle.wild_loader.specs.declared.instruction.Operand.TheVariants.{Number, Word}
 use Rattle.wild_loader.specs.declared.instruction.Deed.{Deed}
 use Rattle.wild_loader.specs.Instruction.{Reader, Effect, matches_cells}
 use Rattle.wild_types.specs.Item.{Item}
+use Rattle.wild_meaning.specs.Jump.{meaning_of}
+use Rattle.wild_meaning.specs.Item.{place_at}
 use Rattle.wild_meaning.specs.Field.{form_width, formula_of, InNoField}
 use Rattle.wild_meaning.specs.Sequence.{Instruction, Partner, size_of, instructions_of}
 use Rattle.wild_meaning.specs.Template.{IsInstruction, IsTemplate, reads, reads_without_calls, DoesDemanded}
-use Rattle.wild_meaning.specs.Reference.{ReferenceHolds}
+use Rattle.wild_meaning.specs.Reference.{ReadsOffsetSlots, ReferenceHolds}
 use Rattle.wild_meaning.proofs.AmongLemmas.{Among, pick}
 use Rattle.wild_meaning.proofs.PairLemmas.{as_pair}
 
@@ -70,6 +73,15 @@ same_bytes m a (x ∷ xs) (y ∷ ys) e h k =
     let tail : xs ≡ ys = same_bytes m (a + 1) xs ys (omega (arith, e)) (held-rest m a x xs h) (held-rest m a y ys k) in
     cc
 
+-- code whose operand is a number reads no word
+pub no_words : (k : Machine) (l : Layout) (w : World) (m : Memory) (item : Item) (first : InputRelocation) (start : ℕ) (o : Instruction) (bytes : List ℕ) (act : Action) (n : ℕ) → length bytes ≡ size_of o → Holds m (place_at w item start) bytes → meaning_of k (place_at w item start) bytes ≡ Some act → act.operand ≡ Number n → ReadsOffsetSlots k l w m item first start o
+no_words k l w m item first start o bytes act n long held means is = λ others other a whole there known word.
+    let same : others ≡ bytes = same_bytes m (place_at w item start) others bytes (whole ∙ sym long) there held in
+    let here : Some act ≡ Some other = sym means ∙ subst (λ (bs : List ℕ). meaning_of k (place_at w item start) bs ≡ Some other) same known in
+    let one : act ≡ other = cc in
+    let both : Number n ≡ Word a = sym is ∙ (ap (λ (x : Action). x.operand) one ∙ word) in
+    cc
+
 -- a reader that reads a number as itself
 abbrev pub ReadsNumbers : Reader → Type 0
 ReadsNumbers read = (n : ℕ) → read (Number n) ≡ Some n
@@ -94,11 +106,19 @@ not_next item r second i e h =
     let none_there : None ≡ Some second = sym none ∙ there in
     cc
 
-not_done : (read : Reader) (l : Layout) (w : World) (m : Memory) (item : Item) (r : InputRelocation) (start : ℕ) (o : Instruction) (first : InputRelocation) → l.machine ≡ machine.X86_64 → item.relocations ≡ r ∷ [] → Among (fills r.number) (IsNotDone read l w m item r) (instructions_of machine.X86_64) → IsTemplate l item r start o first → DoesDemanded read l w m item first start o → ⊥
-not_done read l w m item r start o first x one all (inl s) d =
+-- what an instruction has where it is in the item's bytes
+abbrev pub IsAt : (ℕ → Instruction → InputRelocation → Type 0) → Item → InputRelocation → Instruction → Type 0
+IsAt P item r o = (start : ℕ) → r.offset ≡ start + o.field → stands o.template.cells (slice_range item.bytes start (start + size_of o)) ≡ true → P start o r
+
+-- the one relocation of code is of an instruction that it fills
+pub single_only : (P : ℕ → Instruction → InputRelocation → Type 0) (l : Layout) (item : Item) (r : InputRelocation) (start : ℕ) (o : Instruction) (first : InputRelocation) → l.machine ≡ machine.X86_64 → item.relocations ≡ r ∷ [] → Among (fills r.number) (IsAt P item r) (instructions_of machine.X86_64) → IsTemplate l item r start o first → P start o first
+single_only P l item r start o first x one all (inl s) =
     let known : Contains (instructions_of machine.X86_64) o = subst (λ (k : Machine). Contains (instructions_of k) o) x s.0.stands.known in
-    pick (fills r.number) (IsNotDone read l w m item r) (instructions_of machine.X86_64) all o known (fills_is r.number o s.0.stands.number s.0.single) start s.0.stands.field s.0.stands.stands (subst (λ (f : InputRelocation). DoesDemanded read l w m item f start o) s.1 d)
-not_done read l w m item r start o first x one all (inr s) d = let t = (as_pair l item first s.rest start o x s.sequence).pair in absurd (not_next item r _ t.has.index one t.has.next)
+    subst (λ (f : InputRelocation). P start o f) (sym s.1) (pick (fills r.number) (IsAt P item r) (instructions_of machine.X86_64) all o known (fills_is r.number o s.0.stands.number s.0.single) start s.0.stands.field s.0.stands.stands)
+single_only P l item r start o first x one all (inr s) = (let t = (as_pair l item first s.rest start o x s.sequence).pair in absurd (not_next item r _ t.has.index one t.has.next))
+
+not_done : (read : Reader) (l : Layout) (w : World) (m : Memory) (item : Item) (r : InputRelocation) (start : ℕ) (o : Instruction) (first : InputRelocation) → l.machine ≡ machine.X86_64 → item.relocations ≡ r ∷ [] → Among (fills r.number) (IsNotDone read l w m item r) (instructions_of machine.X86_64) → IsTemplate l item r start o first → DoesDemanded read l w m item first start o → ⊥
+not_done read l w m item r start o first x one all t = single_only (λ from p f. DoesDemanded read l w m item f from p → ⊥) l item r start o first x one all t
 
 pub single_refused : (l : Layout) (w : World) (m : Memory) (item : Item) (r : InputRelocation) (o : Instruction) → l.machine ≡ machine.X86_64 → item.relocations ≡ r ∷ [] → IsTemplate l item r 0 o r → ((read : Reader) → ReadsNumbers read → Among (fills r.number) (IsNotDone read l w m item r) (instructions_of machine.X86_64)) → ReferenceHolds l w m item r → ⊥
 single_refused l w m item r o x one t all (inl h) = not_done (reads w m) l w m item r 0 o r x one (all (reads w m) (λ n. refl)) t (h.does 0 o r t)

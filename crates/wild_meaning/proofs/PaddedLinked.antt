@@ -1,7 +1,7 @@
 -- The image of the worked program whose one input section has no data is linked in its world.
 use Rattle.std.proofs.Common.{◌≡◌, ℕ, ◌+◌, ◌<◌, true, false, List, [], ◌∷◌, refl, sym, ap, ◌∙◌, subst, arith}
 use Rattle.std.specs.Prelude.{Ok, Some, None, Contains, replicate, All}
-use Rattle.std.proofs.lemmas.List.Elements.{All-from_recursion, All-contains}
+use Rattle.std.proofs.lemmas.List.Elements.{All-from_recursion}
 use Rattle.std.proofs.lemmas.List.{get_or-replicate}
 use Rattle.wild_words.specs.Words.{word, number}
 use Rattle.wild_words.specs.Record.{spell}
@@ -36,7 +36,7 @@ use Rattle.wild_meaning.specs.Worked.Static.{static_pie_world}
 use Rattle.wild_meaning.specs.Worked.StaticImage.{static_header, static_segment, padded_image, padded_rest, padded_memory}
 use Rattle.wild_meaning.specs.Worked.StaticRefusals.{padded_blank, padded_layout, PaddedImageIsLinked}
 use Rattle.wild_meaning.proofs.FileBytes.{HasLoadedBytes, file_byte_held}
-use Rattle.wild_meaning.proofs.SymbolUnique.{only}
+use Rattle.wild_meaning.proofs.SymbolUnique.{only, IsUnstubbed, no_stubs}
 use Rattle.wild_meaning.proofs.Read.{held_from}
 use Rattle.wild_meaning.proofs.PlacedLemmas.{frame_input}
 use Rattle.wild_meaning.proofs.TextLemmas.{no_texts}
@@ -138,6 +138,7 @@ padded_linked = (
     machine = refl;
     kept = no_item;
     zeros = λ s k h lt _ _. zeros s h k lt;
+    stubs = λ whole i p h. absurd (no_stubs padded_layout i p (All-from_recursion IsUnstubbed padded_layout.symbols (refl, (refl, (refl, (refl, tt))))) h);
     copies = λ whole i raw x h. absurd (no_library i h.copied);
     texts = no_texts padded_layout static_pie_world padded_memory refl refl;
     still = λ a b h free. file_byte_held padded_layout padded_memory static_pie_world.base a b padded_image file_bytes h;

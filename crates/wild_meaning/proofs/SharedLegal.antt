@@ -11,7 +11,7 @@ use Rattle.wild_loader.specs.declared.world.Answer.{Answer}
 use Rattle.wild_meaning.specs.Value.{IsReplaceable, HasAnswer}
 use Rattle.wild_meaning.specs.World.{HasResolver, IsAnswer, IsAnswered, IsKnownModule, IsCopied}
 use Rattle.wild_meaning.specs.Worked.Builders.{file_of, group_of}
-use Rattle.wild_meaning.specs.Worked.Shared.{shared_layout, shared_data, shared_code, shared_near, shared_world, answer_of_module, own_symbol, open_symbol, own_thread, other_thread}
+use Rattle.wild_meaning.specs.Worked.Shared.{shared_layout, shared_data, shared_code, shared_near, shared_world, answer_of_module, own_symbol, open_symbol, own_thread, other_thread, stubbed_function}
 use Rattle.wild_meaning.specs.Worked.SharedRefusals.{SharedWorldIsLegal}
 use Rattle.wild_meaning.proofs.SymbolUnique.{only, owner_of, no_answer}
 use Rattle.wild_meaning.proofs.Legal.{not_indirect, no_index, one_index}
@@ -32,10 +32,14 @@ plain_other : has_flag other_thread.flags ifunc ≡ false
 unfolding has_flag
 plain_other = refl
 
+plain_function : has_flag stubbed_function.flags ifunc ≡ false
+unfolding has_flag
+plain_function = refl
+
 resolvers : All (HasResolver shared_world) shared_layout.symbols
 resolvers = All-from_recursion (HasResolver shared_world) shared_layout.symbols (
   not_indirect shared_world own_symbol plain_own,
-  (not_indirect shared_world open_symbol plain_open, (not_indirect shared_world own_thread plain_thread, (not_indirect shared_world other_thread plain_other, tt))),
+  (not_indirect shared_world open_symbol plain_open, (not_indirect shared_world own_thread plain_thread, (not_indirect shared_world other_thread plain_other, (not_indirect shared_world stubbed_function plain_function, tt)))),
 )
 
 module_2 : IsKnownModule shared_world 2
@@ -64,7 +68,8 @@ none_own zero x own h = no_answer shared_layout shared_world 0 x own_symbol _ re
 none_own (suc zero) x own h = let both : true ≡ false = owner_of shared_layout 1 false open_symbol refl own in cc
 none_own (suc (suc zero)) x own h = no_answer shared_layout shared_world 2 x own_thread _ refl refl refl h
 none_own (suc (suc (suc zero))) x own h = let both : true ≡ false = owner_of shared_layout 3 false other_thread refl own in cc
-none_own (suc (suc (suc (suc i)))) x own h = let both : None ≡ Some own.defined.symbol = own.defined.listed in cc
+none_own (suc (suc (suc (suc zero)))) x own h = no_answer shared_layout shared_world 4 x stubbed_function _ refl refl refl h
+none_own (suc (suc (suc (suc (suc i))))) x own h = let both : None ≡ Some own.defined.symbol = own.defined.listed in cc
 
 pub shared_legal : SharedWorldIsLegal
 shared_legal = record {
@@ -77,7 +82,7 @@ shared_legal = record {
     owner = omega arith;
     known = module_2;
     each = All-from_recursion (IsAnswer shared_world) shared_world.symbols (an_answer 0 3 0 0 (omega arith) (omega arith) (omega arith) (omega arith) module_3, (an_answer 0x700010 3 0 24 (omega arith) (omega arith) (omega arith) (omega arith) module_3, (an_answer 0 4 0x20 8 (omega arith) (omega arith) (omega arith) (omega arith) module_4, tt)));
-    there = All-from_recursion (IsAnswered shared_world) shared_layout.symbols (no_index shared_world own_symbol refl, (one_index shared_world open_symbol 1 refl (omega arith), (no_index shared_world own_thread refl, (one_index shared_world other_thread 2 refl (omega arith), tt))));
+    there = All-from_recursion (IsAnswered shared_world) shared_layout.symbols (no_index shared_world own_symbol refl, (one_index shared_world open_symbol 1 refl (omega arith), (no_index shared_world own_thread refl, (one_index shared_world other_thread 2 refl (omega arith), (no_index shared_world stubbed_function refl, tt)))));
     own = λ i x own h. absurd (none_own i x own h);
     copies = λ i raw x h. absurd (no_library i h.copied);
     apart = λ i j c d raw other x y _ _ _ h _. absurd (no_library i h.copied);

@@ -1,6 +1,6 @@
 -- The image of the worked shared object is linked in its world.
-use Rattle.std.proofs.Common.{◌==◌, if◌then◌else◌, Bool, ◌≡◌, ℕ, zero, suc, ◌+◌, ◌-◌, ◌%◌, ◌^◌, ◌<◌, ◌≤◌, ◌⊎◌, inl, inr, true, false, List, [], ◌∷◌, length, refl, sym, ap, ◌∙◌, subst, arith, ◌++◌}
-use Rattle.std.specs.Prelude.{Option, Some, None, Contains, All, slice_index, replicate}
+use Rattle.std.proofs.Common.{◌==◌, ◌≡◌, ℕ, zero, suc, ◌+◌, ◌-◌, ◌%◌, ◌^◌, ◌<◌, ◌≤◌, ◌⊎◌, inl, inr, true, false, List, [], ◌∷◌, length, refl, sym, ap, ◌∙◌, subst, arith, ◌++◌}
+use Rattle.std.specs.Prelude.{Some, None, Contains, All, slice_index, replicate}
 use Rattle.std.proofs.lemmas.Bool.{eqb-false}
 use Rattle.std.proofs.lemmas.List.Elements.{All-from_recursion, All-contains}
 use lib.IntN.{pos}
@@ -26,32 +26,38 @@ use Rattle.wild_types.specs.Item.{Item}
 use Rattle.wild_loader.specs.declared.memory.Machine.TheVariants as processors
 use Rattle.wild_loader.specs.declared.world.Answer.{Answer}
 use Rattle.wild_loader.specs.declared.instruction.Deed.TheVariants.{Set}
-use Rattle.wild_loader.specs.Memory.{byte_in, bytes_in, Holds}
+use Rattle.wild_loader.specs.Memory.{byte_in, bytes_in, number_in, Holds}
+use Rattle.wild_loader.specs.Instruction.{signed_32, jump_through}
+use Rattle.wild_loader.specs.StepLawsX86_64.{stub_bytes}
+use Rattle.wild_loader.proofs.StepLemmas.{stub-held}
+use Rattle.wild_meaning.specs.Denotes.{HasStub, IsStub}
 use Rattle.wild_loader.specs.InstructionX86_64.{meaning_x86_64, effect_x86_64}
 use Rattle.wild_loader.specs.Tables.{first_dynamic}
 use Rattle.wild_meaning.specs.Value.{IsDefinedBy, IsSymbol, IsReplaceable, HasAnswer, HasOwnValue, HasValue}
 use Rattle.wild_meaning.specs.Thread.{HasThreadOffset}
-use Rattle.wild_meaning.specs.Slot.{HasSlotAddress, IsSlotOf}
-use Rattle.wild_meaning.specs.Item.{IsLoadedSlot, IsInput, IsReference, IsKept, OfSection, OfFrames, place_at, placed_item}
+use Rattle.wild_meaning.specs.Slot.{IsSlotOf}
+use Rattle.wild_meaning.specs.Item.{IsInput, IsReference, IsKept, OfSection, OfFrames, place_at, placed_item}
 use Rattle.wild_meaning.specs.Field.{FieldReads}
 use Rattle.wild_meaning.specs.Formula.{Gives}
 use Rattle.wild_meaning.specs.Template.{reads_without_calls}
-use Rattle.wild_meaning.specs.Reference.{UsesOwnDefinition, UsesOwnSymbolOnly, IsOutsideReferences, ReferenceHolds, LinkedHolds, ItemHolds}
+use Rattle.wild_types.specs.declared.kind.Machine.TheVariants as machine
+use Rattle.wild_loader.specs.declared.instruction.Operand.TheVariants.{Number}
+use Rattle.wild_meaning.specs.Reference.{UsesOwnDefinition, UsesOwnSymbolOnly, IsOutsideReferences, ReferenceHolds, LinkedHolds, ItemHolds, ReadsOffsetSlots}
 use Rattle.wild_meaning.specs.Segments.{headers_in, DescribeSegments}
 use Rattle.wild_meaning.specs.DynamicSection.{InformsLinker}
 use Rattle.wild_meaning.specs.LinkedImage.{IsSectionWithoutData, DescribesOutput}
 use Rattle.wild_meaning.specs.Worked.Builders.{reference, file_of, group_of, loaded_segment}
-use Rattle.wild_meaning.specs.Worked.Shared.{shared_layout, shared_world, shared_data, shared_item, shared_bytes, shared_code, code_item, shared_reference, shared_near, near_item, near_reference, answer_of_module, own_symbol, open_symbol, own_thread, other_thread}
+use Rattle.wild_meaning.specs.Worked.Shared.{shared_layout, shared_world, shared_data, shared_item, shared_bytes, shared_code, code_item, shared_reference, shared_near, near_item, near_reference, answer_of_module, own_symbol, open_symbol, own_thread, other_thread, stubbed_function}
 use Rattle.wild_meaning.specs.Worked.SharedImage.{shared_image, shared_rest, shared_memory, shared_header, shared_third, shared_front, shared_back}
 use Rattle.wild_meaning.specs.Worked.SharedRefusals.{own_offset, other_offset, ChangedTableIsRefused, SharedImageIsLinked}
 use Rattle.wild_records.specs.ProgramHeader.{program_header_fields}
 use Rattle.wild_meaning.specs.Unfilled.{IsUnfilled}
 use Rattle.wild_meaning.proofs.FileBytes.{HasLoadedBytes, file_byte_held}
-use Rattle.wild_meaning.proofs.SymbolUnique.{only, IsPlainOwn, IsAnsweredAs}
+use Rattle.wild_meaning.proofs.SymbolUnique.{only, IsPlainOwn, IsAnsweredAs, stub_of, stub_is}
 use Rattle.wild_meaning.proofs.Read.{held_from}
 use Rattle.wild_meaning.proofs.Refused.{not_alone, no_template}
 use Rattle.wild_meaning.proofs.EffectLemmas.{done}
-use Rattle.wild_meaning.proofs.OneReference.{effect_with}
+use Rattle.wild_meaning.proofs.OneReference.{effect_with, no_words}
 use Rattle.wild_meaning.proofs.PlacedLemmas.{frame_input}
 use Rattle.wild_meaning.proofs.SharedLegal.{no_library}
 use Rattle.wild_meaning.proofs.SharedRefused.{slot_formula, address_formula, pointer_formula, inner_formula, size_formula, pair_formula, own_pair_formula, thread_slot_formula, descriptor_formula, own_is, thread_is, open_is, other_is, no_code, no_string, no_address, left, distance_formula, no_near_code, near_uses}
@@ -128,25 +134,25 @@ own_slot_there : IsSlotOf AddressSlot shared_layout shared_world shared_memory 0
 unfolding has_flag
 own_slot_there = record {
   slot = 0x2000;
-  given = record { definition = 0; defined = defined 0 own_symbol refl refl; symbol = own_symbol; listed = refl; resolution = _; decided = refl; first = 0x2000; given = refl; place = refl };
+  given = record { definition = 0; defined = defined 0 own_symbol refl refl; symbol = own_symbol; listed = refl; flagged = refl; resolution = _; decided = refl; first = 0x2000; given = refl; place = refl };
   moves = refl;
-  holds = (0x11100, refl, inl own_value);
+  holds = (0x11100, refl, inl (inl own_value));
 }
 
 open_slot_there : IsSlotOf AddressSlot shared_layout shared_world shared_memory 1 0x12008
 unfolding has_flag
 open_slot_there = record {
   slot = 0x2008;
-  given = record { definition = 1; defined = defined 1 open_symbol refl refl; symbol = open_symbol; listed = refl; resolution = _; decided = refl; first = 0x2008; given = refl; place = refl };
+  given = record { definition = 1; defined = defined 1 open_symbol refl refl; symbol = open_symbol; listed = refl; flagged = refl; resolution = _; decided = refl; first = 0x2008; given = refl; place = refl };
   moves = refl;
-  holds = (0x700010, refl, inl open_value);
+  holds = (0x700010, refl, inl (inl open_value));
 }
 
 own_offset_slot : IsSlotOf ThreadOffset shared_layout shared_world shared_memory 2 0x12010
 unfolding has_flag
 own_offset_slot = record {
   slot = 0x2010;
-  given = record { definition = 2; defined = defined 2 own_thread refl refl; symbol = own_thread; listed = refl; resolution = _; decided = refl; first = 0x2010; given = refl; place = refl };
+  given = record { definition = 2; defined = defined 2 own_thread refl refl; symbol = own_thread; listed = refl; flagged = refl; resolution = _; decided = refl; first = 0x2010; given = refl; place = refl };
   moves = refl;
   holds = (own_offset, refl, thread_offset);
 }
@@ -155,7 +161,7 @@ own_pair_slot : IsSlotOf ModulePair shared_layout shared_world shared_memory 2 0
 unfolding has_flag
 own_pair_slot = record {
   slot = 0x2018;
-  given = record { definition = 2; defined = defined 2 own_thread refl refl; symbol = own_thread; listed = refl; resolution = _; decided = refl; first = 0x2010; given = refl; place = refl };
+  given = record { definition = 2; defined = defined 2 own_thread refl refl; symbol = own_thread; listed = refl; flagged = refl; resolution = _; decided = refl; first = 0x2010; given = refl; place = refl };
   moves = refl;
   holds = (own_offset, record { owner = 2; first = refl; offset = 8; second = refl; distance = 2 ^ 64 - 0x60; known = refl; sum = refl }, thread_offset);
 }
@@ -164,7 +170,7 @@ own_descriptor : IsSlotOf Descriptor shared_layout shared_world shared_memory 2 
 unfolding has_flag
 own_descriptor = record {
   slot = 0x2028;
-  given = record { definition = 2; defined = defined 2 own_thread refl refl; symbol = own_thread; listed = refl; resolution = _; decided = refl; first = 0x2010; given = refl; place = refl };
+  given = record { definition = 2; defined = defined 2 own_thread refl refl; symbol = own_thread; listed = refl; flagged = refl; resolution = _; decided = refl; first = 0x2010; given = refl; place = refl };
   moves = refl;
   holds = (own_offset, refl, thread_offset);
 }
@@ -173,7 +179,7 @@ other_offset_slot : IsSlotOf ThreadOffset shared_layout shared_world shared_memo
 unfolding has_flag
 other_offset_slot = record {
   slot = 0x2038;
-  given = record { definition = 3; defined = defined 3 other_thread refl refl; symbol = other_thread; listed = refl; resolution = _; decided = refl; first = 0x2038; given = refl; place = refl };
+  given = record { definition = 3; defined = defined 3 other_thread refl refl; symbol = other_thread; listed = refl; flagged = refl; resolution = _; decided = refl; first = 0x2038; given = refl; place = refl };
   moves = refl;
   holds = (other_offset, refl, other_thread_offset);
 }
@@ -182,7 +188,7 @@ other_pair_slot : IsSlotOf ModulePair shared_layout shared_world shared_memory 3
 unfolding has_flag
 other_pair_slot = record {
   slot = 0x2040;
-  given = record { definition = 3; defined = defined 3 other_thread refl refl; symbol = other_thread; listed = refl; resolution = _; decided = refl; first = 0x2038; given = refl; place = refl };
+  given = record { definition = 3; defined = defined 3 other_thread refl refl; symbol = other_thread; listed = refl; flagged = refl; resolution = _; decided = refl; first = 0x2038; given = refl; place = refl };
   moves = refl;
   holds = (other_offset, record { owner = 4; first = refl; offset = 0x20; second = refl; distance = 2 ^ 64 - 0x2000; known = refl; sum = refl }, other_thread_offset);
 }
@@ -416,13 +422,20 @@ described_done = refl
 described_held : Holds shared_memory 0x11080 (0x48 ∷ 0x8d ∷ 0x05 ∷ 0xa1 ∷ 0x0f ∷ 0 ∷ 0 ∷ [])
 described_held = held_from shared_memory 0x11080 (0x48 ∷ 0x8d ∷ 0x05 ∷ 0xa1 ∷ 0x0f ∷ 0 ∷ 0 ∷ []) refl
 
+described_means : meaning_x86_64 0x11080 (0x48 ∷ 0x8d ∷ 0x05 ∷ 0xa1 ∷ 0x0f ∷ 0 ∷ 0 ∷ []) ≡ Some (record { deed = Set 0; width = 64; operand = Number 0x12028 })
+unfolding meaning_x86_64 number
+described_means = refl
+
+described_words : ReadsOffsetSlots machine.X86_64 shared_layout shared_world shared_memory code_item shared_reference 0 described
+described_words = no_words machine.X86_64 shared_layout shared_world shared_memory code_item shared_reference 0 described (0x48 ∷ 0x8d ∷ 0x05 ∷ 0xa1 ∷ 0x0f ∷ 0 ∷ 0 ∷ []) _ 0x12028 refl described_held described_means refl
+
 described_holds : ReferenceHolds shared_layout shared_world shared_memory code_item shared_reference
 described_holds = inr (record {
   start = 0;
   instruction = described;
   first = shared_reference;
   template = described_template;
-  words = tt;
+  words = described_words;
   does = done (reads_without_calls shared_world shared_memory) shared_layout shared_world shared_memory code_item shared_reference 0 described (record {
     value = 0x12028;
     demands = inr ((λ h. absurd h.0), 0x12028, own_descriptor, refl);
@@ -545,7 +558,7 @@ no_blank s h =
 
 file_bytes : All (HasLoadedBytes shared_memory shared_world.base shared_image) shared_layout.segments
 unfolding file_header_fields program_header_fields word
-file_bytes = All-from_recursion (HasLoadedBytes shared_memory shared_world.base shared_image) shared_layout.segments ((λ k. record { content = shared_front; stands = refl; size = refl; held = refl }), ((λ k. record { content = shared_back ++ replicate 56 0; stands = refl; size = refl; held = refl }), ((λ k. absurd (let no : 2 ≡ 1 = k in omega (arith, no))), tt)))
+file_bytes = All-from_recursion (HasLoadedBytes shared_memory shared_world.base shared_image) shared_layout.segments ((λ k. record { content = shared_front; stands = refl; size = refl; held = refl }), ((λ k. record { content = shared_back ++ replicate 32 0; stands = refl; size = refl; held = refl }), ((λ k. absurd (let no : 2 ≡ 1 = k in omega (arith, no))), tt)))
 
 -- ---- the whole
 
@@ -582,6 +595,68 @@ shared_informs = record {
   };
 }
 
+-- ---- the stub
+
+function_value : HasValue shared_layout shared_world 4 0x11088
+unfolding has_flag
+function_value = inr (
+  record { definition = 4; defined = defined 4 stubbed_function refl refl; symbol = stubbed_function; listed = refl; told = refl },
+  record {
+    raw = 0x1088;
+    given = record { definition = 4; defined = defined 4 stubbed_function refl refl; given = inl (record { symbol = stubbed_function; listed = refl; resolution = _; decided = refl; value = refl }) };
+    indirect = false;
+    resolved = record { definition = 4; defined = defined 4 stubbed_function refl refl; symbol = stubbed_function; listed = refl; flagged = refl };
+    still = false;
+    absolute = record { definition = 4; defined = defined 4 stubbed_function refl refl; symbol = stubbed_function; listed = refl; flagged = refl };
+    is = refl;
+  },
+)
+
+abbrev stub_field : List ℕ
+stub_field = 0xed ∷ 0xff ∷ 0xff ∷ 0xff ∷ []
+
+stub_there : Holds shared_memory 0x120e0 (stub_bytes stub_field)
+stub_there = held_from shared_memory 0x120e0 (stub_bytes stub_field) refl
+
+function_word : number_in shared_memory 0x120d8 8 ≡ Some 0x11088
+unfolding number
+function_word = refl
+
+named_word : number_in shared_memory ((0x120e0 + 11 + signed_32 (number stub_field)) % 2 ^ 64) 8 ≡ Some 0x11088
+unfolding number
+named_word = refl
+
+stub_means : meaning_x86_64 0x120e0 (stub_bytes stub_field) ≡ Some (jump_through 0x120d8)
+unfolding meaning_x86_64 number
+stub_means = refl
+
+function_stub : IsStub shared_layout shared_world shared_memory 4 0x120e0
+function_stub = record {
+  stub = 0x20e0;
+  given = record { definition = 4; defined = defined 4 stubbed_function refl refl; symbol = stubbed_function; listed = refl; resolution = _; decided = refl; stub = refl };
+  moves = refl;
+  value = 0x11088;
+  is = function_value;
+  slot = 0x20d8;
+  first = refl;
+  word = function_word;
+  code = record {
+    bytes = stub_bytes stub_field;
+    whole = refl;
+    held = stub_there;
+    means = stub_means;
+    jumps = record { effect = _; known = stub-held shared_memory 0x120e0 0x11088 stub_field refl refl stub_there named_word; jump = refl };
+  };
+}
+
+stubs_jump : (i p : ℕ) → HasStub shared_layout i p → IsStub shared_layout shared_world shared_memory i ((0x10000 + p) % 2 ^ 64)
+stubs_jump zero p h = absurd (stub_of shared_layout 0 p own_symbol _ refl refl refl h)
+stubs_jump (suc zero) p h = absurd (stub_of shared_layout 1 p open_symbol _ refl refl refl h)
+stubs_jump (suc (suc zero)) p h = absurd (stub_of shared_layout 2 p own_thread _ refl refl refl h)
+stubs_jump (suc (suc (suc zero))) p h = absurd (stub_of shared_layout 3 p other_thread _ refl refl refl h)
+stubs_jump (suc (suc (suc (suc zero)))) p h = (let same : 0x20e0 ≡ p = stub_is shared_layout 4 p 0x20e0 stubbed_function _ refl refl refl h in subst (λ (q : ℕ). IsStub shared_layout shared_world shared_memory 4 ((0x10000 + q) % 2 ^ 64)) same function_stub)
+stubs_jump (suc (suc (suc (suc (suc i))))) p h = absurd (let both : None ≡ Some h.defined.symbol = h.defined.listed in cc)
+
 shared_described : DescribesOutput shared_layout shared_image
 shared_described = record {
   header = record {
@@ -612,6 +687,7 @@ shared_linked = (
     machine = refl;
     kept = items_hold;
     zeros = λ s k h _ _ _. absurd (no_blank s h);
+    stubs = λ whole. stubs_jump;
     copies = λ whole i raw x h. absurd (no_library i h.copied);
     texts = no_texts shared_layout shared_world shared_memory refl refl;
     still = λ a b h free. file_byte_held shared_layout shared_memory shared_world.base a b shared_image file_bytes h;

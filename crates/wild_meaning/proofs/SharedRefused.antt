@@ -5,7 +5,7 @@ use Rattle.std.proofs.lemmas.List.Elements.{All-from_recursion}
 use lib.IntN.{pos}
 use Rattle.wild_records.specs.Abi.Relocation.{r_x86_64_none, r_x86_64_64, r_x86_64_pc64, r_x86_64_gotpcrel64, r_x86_64_tpoff64, r_x86_64_dtpoff64, r_x86_64_size64, r_x86_64_tlsgd, r_x86_64_tlsld, r_x86_64_gottpoff, r_x86_64_gotpc32_tlsdesc}
 use Rattle.wild_records.specs.Abi.Section.{shf_execinstr}
-use Rattle.wild_reloc.specs.Formula.{Formula, formula, SlotDistance, AddressSlot, ThreadOffset, ModulePair, OwnModulePair, Descriptor, SymbolAddress, Distance, PointerOffset, ModuleOffset, Size, Full, Plain, Signed, Value}
+use Rattle.wild_reloc.specs.Formula.{Formula, formula, SlotDistance, AddressSlot, ThreadOffset, ModulePair, OwnModulePair, Descriptor, SymbolAddress, Distance, PointerOffset, ModuleOffset, Size, Full, Plain, Signed, Value, Slot}
 use Rattle.wild_reloc.specs.FormulaX86_64.{x86_64_formula}
 use Rattle.wild_types.specs.declared.kind.Machine.TheVariants as machine
 use Rattle.wild_types.specs.declared.input.InputRelocation.{InputRelocation}
@@ -19,18 +19,18 @@ use Rattle.wild_meaning.specs.Section.{IsSet}
 use Rattle.wild_meaning.specs.Item.{IsKept, OfSection}
 use Rattle.wild_meaning.specs.Field.{form_width, FieldReads, InNoField}
 use Rattle.wild_meaning.specs.Reference.{ItemHolds, IsOutsideReferences, UsesOwnDefinition, UsesOwnSymbolOnly, HoldsLinked, LinkedHolds}
-use Rattle.wild_meaning.specs.Slot.{IsSlot, offset_from_first}
+use Rattle.wild_meaning.specs.Slot.{IsSlot, offset_from_first, has_slot_of, HasSlotAddress}
 use Rattle.wild_meaning.specs.Worked.Builders.{reference}
 use Rattle.wild_meaning.specs.Worked.Shared.{shared_layout, shared_data, shared_item, shared_near, near_item, near_reference, shared_references, shared_world, answer_of_module, own_symbol, open_symbol, own_thread, other_thread}
-use Rattle.wild_meaning.specs.Worked.SharedRefusals.{NamesAnother, NamesElsewhere, WrongSlotsAreRefused, WrongAddressesAreRefused, WrongOffsetsAreRefused, WrongSizeIsRefused, WrongByteIsRefused, WrongOwnDistanceIsRefused, Refused, own_offset, other_offset}
+use Rattle.wild_meaning.specs.Worked.SharedRefusals.{NamesAnother, NamesElsewhere, WrongSlotsAreRefused, WrongAddressesAreRefused, WrongOffsetsAreRefused, WrongSizeIsRefused, WrongByteIsRefused, WrongOwnDistanceIsRefused, Refused, own_offset, other_offset, SlotsNeedTheirFlags}
 use Rattle.wild_meaning.specs.Worked.Refusals.{HasWrongNumber, NamesWrongWord}
-use Rattle.wild_meaning.proofs.SymbolUnique.{told_is, stub_of, own_value_of, IsPlainOwn, IsAnsweredAs, denoted, other_denoted, own_offset as own_offset_is, other_offset as other_offset_is, other_size, somewhere}
+use Rattle.wild_meaning.proofs.SymbolUnique.{told_is, stub_of, own_value_of, IsPlainOwn, IsAnsweredAs, denoted, other_denoted, own_offset as own_offset_is, other_offset as other_offset_is, other_size, somewhere, told}
 use Rattle.wild_meaning.proofs.Read.{full_of, signed_of, word_below, same_word}
 use Rattle.wild_meaning.proofs.SlotPlaces.{slot_holds}
 use Rattle.wild_meaning.proofs.Refused.{HasValueThere, value_there, no_template, not_excepted}
 use Rattle.wild_meaning.specs.Formula.{TakesString, GivesLinked}
 use Rattle.wild_meaning.proofs.StringLemmas.{nothing_named}
-use Rattle.wild_meaning.proofs.SymbolLemmas.{referent_stands}
+use Rattle.wild_meaning.proofs.SymbolLemmas.{referent_stands, in_slot_denotes}
 
 -- its data is kept
 pub kept : IsKept shared_layout shared_item
@@ -133,7 +133,7 @@ own_slot image h x =
     let slot = slot_holds AddressSlot shared_layout shared_world h.memory 0 v.gives.0 v.gives.1 in
     let below : v.gives.0 < 2 ^ 64 = word_below h.memory v.gives.0 slot.0 slot.1 in
     let at : v.gives.0 ≡ 0x12000 = omega (arith, is, below, v.gives.2) in
-    let address : slot.0 ≡ 0x11100 = denoted shared_layout shared_world h.memory 0 0x1100 slot.0 own_is slot.2 in
+    let address : slot.0 ≡ 0x11100 = denoted shared_layout shared_world h.memory 0 0x1100 slot.0 own_is (in_slot_denotes shared_layout shared_world h.memory 0 slot.0 slot.2) in
     x.wrong (sym (same_word h.memory v.gives.0 0x12000 slot.0 x.word at slot.1 x.there) ∙ address)
 
 other_slot : Refused (NamesWrongWord 0x11038 8 0xfd0 0x12008 0x700010)
@@ -144,7 +144,7 @@ other_slot image h x =
     let slot = slot_holds AddressSlot shared_layout shared_world h.memory 1 v.gives.0 v.gives.1 in
     let below : v.gives.0 < 2 ^ 64 = word_below h.memory v.gives.0 slot.0 slot.1 in
     let at : v.gives.0 ≡ 0x12008 = omega (arith, is, below, v.gives.2) in
-    let address : slot.0 ≡ 0x700010 = other_denoted shared_layout shared_world h.memory 1 slot.0 _ open_is slot.2 in
+    let address : slot.0 ≡ 0x700010 = other_denoted shared_layout shared_world h.memory 1 slot.0 _ open_is (in_slot_denotes shared_layout shared_world h.memory 1 slot.0 slot.2) in
     x.wrong (sym (same_word h.memory v.gives.0 0x12008 slot.0 x.word at slot.1 x.there) ∙ address)
 
 another_slot : Refused NamesAnother
@@ -155,7 +155,7 @@ another_slot image h x =
     let slot = slot_holds AddressSlot shared_layout shared_world h.memory 0 v.gives.0 v.gives.1 in
     let below : v.gives.0 < 2 ^ 64 = word_below h.memory v.gives.0 slot.0 slot.1 in
     let at : v.gives.0 ≡ 0x12008 = omega (arith, is, below, v.gives.2) in
-    let address : slot.0 ≡ 0x11100 = denoted shared_layout shared_world h.memory 0 0x1100 slot.0 own_is slot.2 in
+    let address : slot.0 ≡ 0x11100 = denoted shared_layout shared_world h.memory 0 0x1100 slot.0 own_is (in_slot_denotes shared_layout shared_world h.memory 0 slot.0 slot.2) in
     let word : slot.0 ≡ 0x700010 = same_word h.memory v.gives.0 0x12008 slot.0 0x700010 at slot.1 x.there in
     omega (arith, address, word)
 
@@ -180,6 +180,23 @@ elsewhere_slot image h x =
 
 pub wrong_slots : WrongSlotsAreRefused
 wrong_slots = record { own = own_slot; other = other_slot; another = another_slot; elsewhere = elsewhere_slot }
+
+-- ---- flags of slots
+
+flag_missing : (sort : Slot) (i p : ℕ) (t : Symbol) → told shared_layout i ≡ Some t → has_slot_of sort t.flags ≡ false → HasSlotAddress sort shared_layout i p → ⊥
+flag_missing sort i p t there none h =
+    let same : h.symbol ≡ t = told_is shared_layout i h.definition h.symbol t there h.defined h.listed in
+    let both : true ≡ false = sym h.flagged ∙ ap (λ (s : Symbol). has_slot_of sort s.flags) same ∙ none in
+    cc
+
+pub slots_need_flags : SlotsNeedTheirFlags
+unfolding has_flag
+slots_need_flags = record {
+  address = λ p h. flag_missing AddressSlot 2 p own_thread refl refl h;
+  offset = λ p h. flag_missing ThreadOffset 0 p own_symbol refl refl h;
+  pair = λ p h. flag_missing ModulePair 0 p own_symbol refl refl h;
+  descriptor = λ p h. flag_missing Descriptor 3 p other_thread refl refl h;
+}
 
 -- ---- addresses
 

@@ -29,7 +29,9 @@ use Rattle.wild_meaning.specs.Thread.{HasThreadOffset}
 use Rattle.wild_types.specs.Item.{Item, item_of, item_with}
 use Rattle.wild_meaning.specs.Item.{IsInput, IsKept, OfSection, OfFrames}
 use Rattle.wild_meaning.specs.Template.{DoesDemanded, reads_without_calls}
-use Rattle.wild_meaning.specs.Reference.{UsesOwnSymbolOnly, IsOutsideReferences, ReferenceHolds, ItemHolds}
+use Rattle.wild_types.specs.declared.kind.Machine.TheVariants as machine
+use Rattle.wild_loader.specs.declared.instruction.Operand.TheVariants.{Number}
+use Rattle.wild_meaning.specs.Reference.{ReadsOffsetSlots, UsesOwnSymbolOnly, IsOutsideReferences, ReferenceHolds, ItemHolds}
 use Rattle.wild_meaning.specs.Segments.{headers_in, DescribeSegments}
 use Rattle.wild_meaning.specs.LinkedImage.{IsSectionWithoutData, DescribesOutput}
 use Rattle.wild_meaning.specs.Worked.Builders.{reference, file_of, group_of}
@@ -38,11 +40,11 @@ use Rattle.wild_meaning.specs.Worked.StaticImage.{static_image, static_rest, sta
 use Rattle.wild_meaning.specs.Worked.StaticRefusals.{StaticImageIsLinked}
 use Rattle.wild_records.specs.ProgramHeader.{program_header_fields}
 use Rattle.wild_meaning.proofs.FileBytes.{HasLoadedBytes, file_byte_held}
-use Rattle.wild_meaning.proofs.SymbolUnique.{only, IsPlainOwn}
+use Rattle.wild_meaning.proofs.SymbolUnique.{only, IsPlainOwn, IsUnstubbed, no_stubs}
 use Rattle.wild_meaning.proofs.Read.{held_from}
 use Rattle.wild_meaning.proofs.Refused.{not_alone, no_template}
 use Rattle.wild_meaning.proofs.EffectLemmas.{done}
-use Rattle.wild_meaning.proofs.OneReference.{effect_with}
+use Rattle.wild_meaning.proofs.OneReference.{effect_with, no_words}
 use Rattle.wild_meaning.proofs.StaticLegal.{no_library}
 use Rattle.wild_meaning.proofs.StaticLoaded.{static_loaded, static_programs}
 use Rattle.wild_meaning.proofs.StaticRefused.{first_is, second_is, thread_is, address_formula, pointer_formula, no_code, no_string}
@@ -128,13 +130,20 @@ branch_done = refl
 branch_held : Holds static_memory 0x41000 (0xe8 ∷ 0xfb ∷ 0x01 ∷ 0 ∷ 0 ∷ [])
 branch_held = held_from static_memory 0x41000 (0xe8 ∷ 0xfb ∷ 0x01 ∷ 0 ∷ 0 ∷ []) refl
 
+branch_means : meaning_x86_64 0x41000 (0xe8 ∷ 0xfb ∷ 0x01 ∷ 0 ∷ 0 ∷ []) ≡ Some (record { deed = Call; width = 64; operand = Number (0x41200) })
+unfolding meaning_x86_64 number
+branch_means = refl
+
+branch_words : ReadsOffsetSlots machine.X86_64 static_pie static_pie_world static_memory branch_item branch_reference 0 call
+branch_words = no_words machine.X86_64 static_pie static_pie_world static_memory branch_item branch_reference 0 call (0xe8 ∷ 0xfb ∷ 0x01 ∷ 0 ∷ 0 ∷ []) _ (0x41200) refl branch_held branch_means refl
+
 branch_holds : ReferenceHolds static_pie static_pie_world static_memory branch_item branch_reference
 branch_holds = inr (record {
   start = 0;
   instruction = call;
   first = branch_reference;
   template = call_template;
-  words = tt;
+  words = branch_words;
   does = done (reads_without_calls static_pie_world static_memory) static_pie static_pie_world static_memory branch_item branch_reference 0 call (record {
     value = 0x41200;
     demands = record { goal = 0x41200; stands = inr ((λ g. no_string g.formula.value branch_reference g.takes), inr (no_string StubDistance branch_reference, inl first_value)); is = refl };
@@ -174,16 +183,23 @@ load_done = refl
 load_held : Holds static_memory 0x41010 (0x48 ∷ 0x8d ∷ 0x05 ∷ 0xe9 ∷ 0x01 ∷ 0 ∷ 0 ∷ [])
 load_held = held_from static_memory 0x41010 (0x48 ∷ 0x8d ∷ 0x05 ∷ 0xe9 ∷ 0x01 ∷ 0 ∷ 0 ∷ []) refl
 
+load_means : meaning_x86_64 0x41010 (0x48 ∷ 0x8d ∷ 0x05 ∷ 0xe9 ∷ 0x01 ∷ 0 ∷ 0 ∷ []) ≡ Some (record { deed = Set 0; width = 64; operand = Number (0x41200) })
+unfolding meaning_x86_64 number
+load_means = refl
+
+load_words : ReadsOffsetSlots machine.X86_64 static_pie static_pie_world static_memory load_item load_reference 0 load
+load_words = no_words machine.X86_64 static_pie static_pie_world static_memory load_item load_reference 0 load (0x48 ∷ 0x8d ∷ 0x05 ∷ 0xe9 ∷ 0x01 ∷ 0 ∷ 0 ∷ []) _ (0x41200) refl load_held load_means refl
+
 load_holds : ReferenceHolds static_pie static_pie_world static_memory load_item load_reference
 load_holds = inr (record {
   start = 0;
   instruction = load;
   first = load_reference;
   template = load_template;
-  words = tt;
+  words = load_words;
   does = done (reads_without_calls static_pie_world static_memory) static_pie static_pie_world static_memory load_item load_reference 0 load (record {
     value = 0x41200;
-    demands = inl first_value;
+    demands = inl (inl first_value);
     effect = effect_with (Set 0) 64 0x41200;
     demanded = load_demanded 0x41200;
     bytes = 0x48 ∷ 0x8d ∷ 0x05 ∷ 0xe9 ∷ 0x01 ∷ 0 ∷ 0 ∷ [];
@@ -222,13 +238,20 @@ described_done = refl
 described_held : Holds static_memory 0x41040 (0x48 ∷ 0xc7 ∷ 0xc0 ∷ 0xf8 ∷ 0xff ∷ 0xff ∷ 0xff ∷ [])
 described_held = held_from static_memory 0x41040 (0x48 ∷ 0xc7 ∷ 0xc0 ∷ 0xf8 ∷ 0xff ∷ 0xff ∷ 0xff ∷ []) refl
 
+described_means : meaning_x86_64 0x41040 (0x48 ∷ 0xc7 ∷ 0xc0 ∷ 0xf8 ∷ 0xff ∷ 0xff ∷ 0xff ∷ []) ≡ Some (record { deed = Set 0; width = 64; operand = Number (2 ^ 64 - 8) })
+unfolding meaning_x86_64 number
+described_means = refl
+
+described_words : ReadsOffsetSlots machine.X86_64 static_pie static_pie_world static_memory described_item described_reference 0 described
+described_words = no_words machine.X86_64 static_pie static_pie_world static_memory described_item described_reference 0 described (0x48 ∷ 0xc7 ∷ 0xc0 ∷ 0xf8 ∷ 0xff ∷ 0xff ∷ 0xff ∷ []) _ (2 ^ 64 - 8) refl described_held described_means refl
+
 described_holds : ReferenceHolds static_pie static_pie_world static_memory described_item described_reference
 described_holds = inr (record {
   start = 0;
   instruction = described;
   first = described_reference;
   template = described_template;
-  words = tt;
+  words = described_words;
   does = done (reads_without_calls static_pie_world static_memory) static_pie static_pie_world static_memory described_item described_reference 0 described (record {
     value = (2 ^ 64 - 8);
     demands = inl ((tt, refl), thread_offset);
@@ -286,11 +309,18 @@ general_does = done (reads_without_calls static_pie_world static_memory) static_
   does = general_done;
 })
 
+general_means : meaning_x86_64 0x41020 (0x64 ∷ 0x48 ∷ 0x8b ∷ 0x04 ∷ 0x25 ∷ 0 ∷ 0 ∷ 0 ∷ 0 ∷ 0x48 ∷ 0x8d ∷ 0x80 ∷ 0xf8 ∷ 0xff ∷ 0xff ∷ 0xff ∷ []) ≡ Some (record { deed = SetThreadAddress 0; width = 64; operand = Number (2 ^ 64 - 8) })
+unfolding meaning_x86_64 number
+general_means = refl
+
+general_words : ReadsOffsetSlots machine.X86_64 static_pie static_pie_world static_memory general_item pair_reference 0 general
+general_words = no_words machine.X86_64 static_pie static_pie_world static_memory general_item pair_reference 0 general (0x64 ∷ 0x48 ∷ 0x8b ∷ 0x04 ∷ 0x25 ∷ 0 ∷ 0 ∷ 0 ∷ 0 ∷ 0x48 ∷ 0x8d ∷ 0x80 ∷ 0xf8 ∷ 0xff ∷ 0xff ∷ 0xff ∷ []) _ (2 ^ 64 - 8) refl general_held general_means refl
+
 pair_holds : ReferenceHolds static_pie static_pie_world static_memory general_item pair_reference
-pair_holds = inr (record { start = 0; instruction = general; first = pair_reference; template = general_template; does = general_does; words = tt })
+pair_holds = inr (record { start = 0; instruction = general; first = pair_reference; template = general_template; does = general_does; words = general_words })
 
 getter_holds : ReferenceHolds static_pie static_pie_world static_memory general_item getter_reference
-getter_holds = inr (record { start = 0; instruction = general; first = pair_reference; template = getter_template; does = general_does; words = tt })
+getter_holds = inr (record { start = 0; instruction = general; first = pair_reference; template = getter_template; does = general_does; words = general_words })
 
 no_rest : (k : ℕ) → k < 16 → (k < 0) ⊎ (16 ≤ k) → ⊥
 no_rest k lt (inl h) = omega (arith, h)
@@ -444,6 +474,7 @@ static_linked = (
     machine = refl;
     kept = items_hold;
     zeros = λ s k h _ _ _. absurd (no_blank s h);
+    stubs = λ whole i p h. absurd (no_stubs static_pie i p (All-from_recursion IsUnstubbed static_pie.symbols (refl, (refl, (refl, (refl, tt))))) h);
     copies = λ whole i raw x h. absurd (no_library i h.copied);
     texts = no_texts static_pie static_pie_world static_memory refl refl;
     still = λ a b h free. file_byte_held static_pie static_memory static_pie_world.base a b static_image file_bytes h;

@@ -45,7 +45,7 @@ use Rattle.wild_meaning.specs.Worked.Strings.{string_section, string_symbol, str
 use Rattle.wild_meaning.specs.Worked.StringImage.{strings_image, strings_rest, strings_header, strings_segment}
 use Rattle.wild_meaning.specs.Worked.StringRefusals.{StringsWorldIsLegal, StringsImageIsLinked}
 use Rattle.wild_meaning.proofs.FileBytes.{HasLoadedBytes, file_byte_held}
-use Rattle.wild_meaning.proofs.SymbolUnique.{only}
+use Rattle.wild_meaning.proofs.SymbolUnique.{only, IsUnstubbed, no_stubs}
 use Rattle.wild_meaning.proofs.Legal.{not_indirect, no_index}
 use Rattle.wild_meaning.proofs.Read.{held_from}
 use Rattle.wild_meaning.proofs.Refused.{not_alone, no_template}
@@ -298,6 +298,7 @@ strings_linked = (
     machine = refl;
     kept = items_hold;
     zeros = λ s k h _ _ _. absurd (no_blank s h);
+    stubs = λ whole i p h. absurd (no_stubs strings_layout i p (All-from_recursion IsUnstubbed strings_layout.symbols (refl, (refl, tt))) h);
     copies = λ whole i raw x h. absurd (no_library i h.copied);
     texts = record { strings = λ g p c there room written. strings_held g p c there; interpreter = λ n p is there room written. path_there n p is there };
     still = λ a b h free. file_byte_held strings_layout strings_memory static_pie_world.base a b strings_image file_bytes h;

@@ -1,7 +1,7 @@
 -- The definition of a symbol, as the judge and as the writer find it.
 use Rattle.std.proofs.Common.{◌≡◌, ℕ, ◌⊎◌, inl, inr, refl, sym, ap, ◌∙◌, subst}
 use Rattle.std.specs.Prelude.{Option, Some, None, option_and_then, unwrap_or, slice_get}
-use Rattle.wild_reloc.specs.Formula.{Value}
+use Rattle.wild_reloc.specs.Formula.{Value, Distance, StubDistance, StubFromTable}
 use Rattle.wild_types.specs.declared.kind.Machine.{Machine}
 use Rattle.wild_types.specs.declared.kind.Machine.TheVariants as machine
 use Rattle.wild_types.specs.declared.input.InputRelocation.{InputRelocation}
@@ -10,9 +10,15 @@ use Rattle.wild_types.specs.declared.layout.Layout.{Layout}
 use Rattle.wild_types.specs.Lookups.{canonical}
 use Rattle.wild_loader.specs.declared.world.World.{World}
 use Rattle.wild_loader.specs.declared.memory.Memory.{Memory}
+use Rattle.wild_loader.specs.Reach.{ReachesWithin}
+use Rattle.wild_meaning.specs.Jump.{GoesTo}
 use Rattle.wild_meaning.specs.Value.{IsDefinedBy}
 use Rattle.wild_types.specs.Item.{Item}
-use Rattle.wild_meaning.specs.Formula.{IsTarget, IsOwnTarget, TakesString, IsReferent, IsOwnReferent, IsGoal}
+use Rattle.wild_meaning.specs.Denotes.{IsAddressOf, Denotes}
+use Rattle.wild_meaning.specs.ReferentAArch64.{IsOneAddress, RepresentsOnAArch64}
+use Rattle.wild_meaning.specs.Slot.{IsInAddressSlot}
+use Rattle.wild_meaning.specs.Template.{IsSlotAddress}
+use Rattle.wild_meaning.specs.Formula.{IsSymbolAddress, IsTarget, IsOwnTarget, TakesAddress, TakesString, IsReferentOnX86_64, IsReferent, IsOwnReferent}
 use Rattle.wild_meaning.proofs.StringLemmas.{referent_by}
 
 -- the symbol that defines another is the one that the layout looks up
@@ -42,19 +48,74 @@ own_definition l i s e = by_symbol (slice_get l.symbols i) refl
         let both : Some s ≡ None = sym e ∙ ap (λ (k : ℕ). slice_get l.symbols k) same ∙ there in
         cc
 
--- a target is a goal
-pub target_reached : (l : Layout) (w : World) (m : Memory) (symbol : Option ℕ) (a : ℕ) → IsTarget l w m symbol a → IsGoal l w m symbol a
-target_reached l w m None a h = h
-target_reached l w m (Some i) a (inl h) = (a, h, inl refl)
-target_reached l w m (Some i) a (inr h) = (h.value, h.is, h.reaches)
+-- a thunk is at most one jump
+pub goes_within : (l : Layout) (m : Memory) (a v : ℕ) → GoesTo l m a v → ReachesWithin 1 m a v
+goes_within l m a v (inl e) = inl e
+goes_within l m a v (inr h) = inr (v, h.jumps, refl)
+
+-- ---- S and L
+
+-- what is S is L
+pub address_denotes : (l : Layout) (w : World) (m : Memory) (i a : ℕ) → IsAddressOf l w m i a → Denotes l w m i a
+address_denotes l w m i a (inl h) = inl h
+address_denotes l w m i a (inr h) = inr h.3
+
+-- and so is what a slot for an address has
+pub in_slot_denotes : (l : Layout) (w : World) (m : Memory) (i a : ℕ) → IsInAddressSlot l w m i a → Denotes l w m i a
+in_slot_denotes l w m i a (inl h) = address_denotes l w m i a h
+in_slot_denotes l w m i a (inr h) = inr h.1
+
+-- the one address is S
+pub one_is_address : (l : Layout) (w : World) (m : Memory) (i a : ℕ) → IsOneAddress l w m i a → IsAddressOf l w m i a
+one_is_address l w m i a (inr h) = inl h.1
+one_is_address l w m i a (inl h) = by h.3
+  where
+    by : Denotes l w m i a → IsAddressOf l w m i a
+    by (inl v) = inl v
+    by (inr s) = inr (h.0, h.1, h.2, s)
+
+-- S in a distance on AArch64 is L
+pub distance_denotes : (l : Layout) (w : World) (m : Memory) (r : InputRelocation) (i a : ℕ) → RepresentsOnAArch64 Distance l w m r i a → Denotes l w m i a
+distance_denotes l w m r i a (inl h) = address_denotes l w m i a h
+distance_denotes l w m r i a (inr h) = h.1
+
+pub target_of : (l : Layout) (w : World) (m : Memory) (symbol : Option ℕ) (a : ℕ) → IsSymbolAddress l w m symbol a → IsTarget l w m symbol a
+target_of l w m None a h = h
+target_of l w m (Some i) a h = address_denotes l w m i a h
+
+pub slot_address_of : (l : Layout) (w : World) (m : Memory) (symbol : Option ℕ) (a : ℕ) → IsSymbolAddress l w m symbol a → IsSlotAddress l w m symbol a
+slot_address_of l w m None a h = h
+slot_address_of l w m (Some i) a h = inl h
+
+pub on_x86_64 : (v : Value) (l : Layout) (w : World) (m : Memory) (symbol : Option ℕ) (a : ℕ) → IsSymbolAddress l w m symbol a → IsReferentOnX86_64 v l w m symbol a
+on_x86_64 StubDistance l w m symbol a h = target_of l w m symbol a h
+on_x86_64 StubFromTable l w m symbol a h = target_of l w m symbol a h
+on_x86_64 other l w m symbol a h = h
+
+pub target_on_x86_64 : (v : Value) (l : Layout) (w : World) (m : Memory) (symbol : Option ℕ) (a : ℕ) → IsReferentOnX86_64 v l w m symbol a → IsTarget l w m symbol a
+target_on_x86_64 StubDistance l w m symbol a h = h
+target_on_x86_64 StubFromTable l w m symbol a h = h
+target_on_x86_64 other l w m symbol a h = target_of l w m symbol a h
+
+address_on_x86_64 : (v : Value) (l : Layout) (w : World) (m : Memory) (symbol : Option ℕ) (a : ℕ) → TakesAddress v → IsReferentOnX86_64 v l w m symbol a → IsSymbolAddress l w m symbol a
+address_on_x86_64 StubDistance l w m symbol a takes h = absurd takes
+address_on_x86_64 StubFromTable l w m symbol a takes h = absurd takes
+address_on_x86_64 other l w m symbol a takes h = h
 
 -- ---- S on x86-64, of a reference that takes no string
 
-pub referent_is : (v : Value) (l : Layout) (w : World) (m : Memory) (item : Item) (r : InputRelocation) (a : ℕ) → l.machine ≡ machine.X86_64 → (TakesString v l r → ⊥) → IsTarget l w m r.symbol a → IsReferent l.machine v l w m item r a
-referent_is v l w m item r a x none h = subst (λ (k : Machine). IsReferent k v l w m item r a) (sym x) (inr (none, h))
+pub referent_is : (v : Value) (l : Layout) (w : World) (m : Memory) (item : Item) (r : InputRelocation) (a : ℕ) → l.machine ≡ machine.X86_64 → (TakesString v l r → ⊥) → IsSymbolAddress l w m r.symbol a → IsReferent l.machine v l w m item r a
+referent_is v l w m item r a x none h = subst (λ (k : Machine). IsReferent k v l w m item r a) (sym x) (inr (none, on_x86_64 v l w m r.symbol a h))
+
+-- L may be any stub
+pub stub_referent_is : (l : Layout) (w : World) (m : Memory) (item : Item) (r : InputRelocation) (a : ℕ) → l.machine ≡ machine.X86_64 → IsTarget l w m r.symbol a → IsReferent l.machine StubDistance l w m item r a
+stub_referent_is l w m item r a x h = subst (λ (k : Machine). IsReferent k StubDistance l w m item r a) (sym x) (inr ((λ t. t.0), h))
 
 pub referent_stands : (v : Value) (l : Layout) (w : World) (m : Memory) (item : Item) (r : InputRelocation) (a : ℕ) → l.machine ≡ machine.X86_64 → (TakesString v l r → ⊥) → IsReferent l.machine v l w m item r a → IsTarget l w m r.symbol a
-referent_stands v l w m item r a x none h = referent_by machine.X86_64 v l w m item r a none (subst (λ (k : Machine). IsReferent k v l w m item r a) x h)
+referent_stands v l w m item r a x none h = target_on_x86_64 v l w m r.symbol a (referent_by machine.X86_64 v l w m item r a none (subst (λ (k : Machine). IsReferent k v l w m item r a) x h))
+
+pub referent_address : (v : Value) (l : Layout) (w : World) (m : Memory) (item : Item) (r : InputRelocation) (a : ℕ) → TakesAddress v → l.machine ≡ machine.X86_64 → (TakesString v l r → ⊥) → IsReferent l.machine v l w m item r a → IsSymbolAddress l w m r.symbol a
+referent_address v l w m item r a takes x none h = address_on_x86_64 v l w m r.symbol a takes (referent_by machine.X86_64 v l w m item r a none (subst (λ (k : Machine). IsReferent k v l w m item r a) x h))
 
 pub own_referent_is : (v : Value) (l : Layout) (w : World) (item : Item) (r : InputRelocation) (a : ℕ) → l.machine ≡ machine.X86_64 → IsOwnTarget l w r.symbol a → IsOwnReferent l.machine v l w item r a
 own_referent_is v l w item r a x h = subst (λ (k : Machine). IsOwnReferent k v l w item r a) (sym x) h

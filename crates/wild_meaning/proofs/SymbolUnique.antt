@@ -1,10 +1,12 @@
 -- What a layout tells of a symbol is one thing: by its definition, which is told.
 use Rattle.std.proofs.Common.{◌≡◌, ℕ, zero, suc, ◌+◌, ◌-◌, ◌%◌, ◌^◌, ◌<◌, ◌⊎◌, inl, inr, Bool, true, false, [], ◌∷◌, length, refl, sym, ap, ◌∙◌, subst, arith}
-use Rattle.std.specs.Prelude.{Option, Some, None, Ok, Contains, slice_get, slice_index_or, option_and_then, unwrap_or}
+use Rattle.std.specs.Prelude.{Option, Some, None, Ok, Contains, All, slice_get, slice_index_or, option_and_then, unwrap_or}
 use Rattle.wild_types.specs.declared.symbol.Resolution.{Resolution}
 use Rattle.wild_types.specs.declared.symbol.Symbol.{Symbol}
 use Rattle.wild_types.specs.declared.layout.Layout.{Layout}
 use Rattle.wild_types.specs.Flags.{has_flag, absolute, ifunc}
+use Rattle.wild_types.specs.SymbolSlots.{resolved_plt, plt_of}
+use Rattle.wild_words.proofs.ListLemmas.{holds_at}
 use Rattle.wild_loader.specs.declared.world.World.{World}
 use Rattle.wild_loader.specs.declared.world.Answer.{Answer}
 use Rattle.wild_loader.specs.declared.memory.Memory.{Memory}
@@ -92,6 +94,17 @@ no_answer l w i y t r e d n h =
     let numbers : None ≡ Some h.index = sym n ∙ number in
     cc
 
+-- no symbol has a stub
+abbrev pub IsUnstubbed : Symbol → Type 0
+IsUnstubbed s = plt_of s ≡ None
+
+pub no_stubs : (l : Layout) (i p : ℕ) → All IsUnstubbed l.symbols → HasStub l i p → ⊥
+no_stubs l i p all h =
+    let none : plt_of h.symbol ≡ None = holds_at IsUnstubbed l.symbols h.definition h.symbol h.listed all in
+    let there : plt_of h.symbol ≡ Some p = ap resolved_plt h.decided ∙ h.stub in
+    let both : None ≡ Some p = sym none ∙ there in
+    cc
+
 -- ---- values
 
 -- a symbol of the output's own, with these of its flags
@@ -127,6 +140,17 @@ stub_of l i p t r e d none h =
     let one : h.resolution ≡ r = cc in
     let number : r.plt_address ≡ Some p = subst (λ (x : Resolution). x.plt_address ≡ Some p) one h.stub in
     let numbers : None ≡ Some p = sym none ∙ number in
+    cc
+
+-- the stub is at the address that the resolution has
+pub stub_is : (l : Layout) (i p q : ℕ) (t : Symbol) (r : Resolution) → told l i ≡ Some t → t.resolution ≡ Some r → r.plt_address ≡ Some q → HasStub l i p → q ≡ p
+stub_is l i p q t r e d some h =
+    let same : h.symbol ≡ t = told_is l i h.definition h.symbol t e h.defined h.listed in
+    let decided : t.resolution ≡ Some h.resolution = subst (λ (s : Symbol). s.resolution ≡ Some h.resolution) same h.decided in
+    let both : Some h.resolution ≡ Some r = sym decided ∙ d in
+    let one : h.resolution ≡ r = cc in
+    let number : r.plt_address ≡ Some p = subst (λ (x : Resolution). x.plt_address ≡ Some p) one h.stub in
+    let numbers : Some q ≡ Some p = sym some ∙ number in
     cc
 
 pub own_value_of : (l : Layout) (w : World) (i raw a : ℕ) (t : Symbol) (r : Resolution) → told l i ≡ Some t → t.resolution ≡ Some r → r.raw_value ≡ raw → has_flag t.flags ifunc ≡ false → has_flag t.flags absolute ≡ false → HasOwnValue l w i a → a ≡ (w.base + raw) % 2 ^ 64

@@ -16,11 +16,13 @@ use Rattle.wild_loader.specs.declared.memory.Machine.TheVariants as processors
 use Rattle.wild_loader.specs.declared.memory.Memory.{Memory}
 use Rattle.wild_loader.specs.Memory.{Holds}
 use Rattle.wild_loader.specs.declared.instruction.Operand.TheVariants.{Number, Word}
-use Rattle.wild_loader.specs.declared.instruction.Deed.TheVariants.{Call, Set, Load}
+use Rattle.wild_loader.specs.declared.instruction.Deed.TheVariants.{Call, Jump, Set, Load}
 use Rattle.wild_loader.specs.Instruction.{Reader, with_value}
 use Rattle.wild_loader.specs.InstructionAArch64.{meaning_aarch64, effect_aarch64, demand_aarch64}
 use Rattle.wild_loader.specs.Effect.{step}
-use Rattle.wild_loader.specs.Reach.{ReachesWithin}
+use Rattle.wild_loader.specs.declared.instruction.Action.{Action}
+use Rattle.wild_meaning.specs.Jump.{GoesTo}
+use Rattle.wild_types.specs.FileThunks.{thunk_size}
 use Rattle.wild_loader.specs.StepLawsAArch64.{jumps}
 use Rattle.wild_loader.proofs.HeldBytes.{held-rest}
 use Rattle.wild_loader.proofs.StepLemmasAArch64.{thunks-read}
@@ -31,11 +33,11 @@ use Rattle.wild_meaning.specs.Formula.{IsReferent, IsReferentOnAArch64, Gives}
 use Rattle.wild_meaning.specs.Sequence.{Instruction, descriptor_call_words}
 use Rattle.wild_meaning.specs.WordsAArch64.{effect_with as asked_of}
 use Rattle.wild_meaning.specs.Template.{IsTemplate, IsFieldBits, bits_of, old_bytes, reads, reads_without_calls, DoesDemanded}
-use Rattle.wild_meaning.specs.Reference.{IsOwnSlot, ReadsOwnSlots, ReferenceHolds, ItemHolds}
+use Rattle.wild_meaning.specs.Reference.{IsOffsetSlot, ReadsOffsetSlots, ReferenceHolds, ItemHolds}
 use Rattle.wild_meaning.specs.Worked.Builders.{Refuses}
 use Rattle.wild_meaning.specs.Worked.AArch64.{words_static, words_world, near_function, local_data, slot_code, slot_item, slot_low_reference, call_code, call_item, call_reference, past_code, past_item, past_reference, descriptor_code, descriptor_item, descriptor_page, descriptor_load}
 use Rattle.wild_meaning.specs.Worked.StaticRefusals.{MemoryHas}
-use Rattle.wild_meaning.specs.Worked.ImageRefusalsAArch64.{HasBoth, slot_behind, call_of_thunk, far_thunk, next_call_of_thunk, right_thunk, half_call, low_half, load_of_word, WrongCodeOfWordsIsRefused}
+use Rattle.wild_meaning.specs.Worked.ImageRefusalsAArch64.{HasBoth, slot_behind, call_of_thunk, far_thunk, stored_thunk, next_call_of_thunk, right_thunk, half_call, low_half, load_of_word, WrongCodeOfWordsIsRefused}
 use Rattle.wild_meaning.proofs.SymbolUnique.{denoted, told_is, own_offset, somewhere, IsPlainOwn}
 use Rattle.wild_meaning.proofs.EffectLemmas.{meant}
 use Rattle.wild_meaning.proofs.OneReference.{effect_with, value_in, ReadsNumbers, same_bytes}
@@ -125,17 +127,25 @@ wrong_slot image h x =
 -- ---- branches by a thunk
 
 -- where a branch to the function goes that goes by a thunk
-goes_by : (m : Memory) (item : Item) (r : InputRelocation) (goal : ℕ) → r.symbol ≡ Some 0 → IsReferent words_static.machine StubDistance words_static words_world m item r goal → ReachesWithin 1 m ((goal + cast_unsigned w64 r.addend) % 2 ^ 64) ((0x11200 + cast_unsigned w64 r.addend) % 2 ^ 64)
+goes_by : (m : Memory) (item : Item) (r : InputRelocation) (goal : ℕ) → r.symbol ≡ Some 0 → IsReferent words_static.machine StubDistance words_static words_world m item r goal → GoesTo words_static m ((goal + cast_unsigned w64 r.addend) % 2 ^ 64) ((0x11200 + cast_unsigned w64 r.addend) % 2 ^ 64)
 goes_by m item r goal named h = by (subst (λ (o : Option ℕ). IsReferentOnAArch64 StubDistance words_static words_world m item r o goal) named (referent_by machine.AArch64 StubDistance words_static words_world m item r goal (no_string StubDistance r) h))
   where
-    by : IsReferentOnAArch64 StubDistance words_static words_world m item r (Some 0) goal → ReachesWithin 1 m ((goal + cast_unsigned w64 r.addend) % 2 ^ 64) ((0x11200 + cast_unsigned w64 r.addend) % 2 ^ 64)
+    by : IsReferentOnAArch64 StubDistance words_static words_world m item r (Some 0) goal → GoesTo words_static m ((goal + cast_unsigned w64 r.addend) % 2 ^ 64) ((0x11200 + cast_unsigned w64 r.addend) % 2 ^ 64)
     by (inl a) = absurd (not_absent a.0.1)
-    by (inr b) = subst (λ (s : ℕ). ReachesWithin 1 m ((goal + cast_unsigned w64 r.addend) % 2 ^ 64) ((s + cast_unsigned w64 r.addend) % 2 ^ 64)) (denoted words_static words_world m 0 0x11200 b.1.symbol function_is b.1.denoted) b.1.comes
+    by (inr b) = subst (λ (s : ℕ). GoesTo words_static m ((goal + cast_unsigned w64 r.addend) % 2 ^ 64) ((s + cast_unsigned w64 r.addend) % 2 ^ 64)) (denoted words_static words_world m 0 0x11200 b.1.symbol function_is b.1.denoted) b.1.comes
 
 -- code that is a jump does not come to another address
-no_way : (m : Memory) (a t v : ℕ) → step m a ≡ Some (jumps 12 t) → (a ≡ v → ⊥) → (t ≡ v → ⊥) → ReachesWithin 1 m a v → ⊥
+no_way : (m : Memory) (a t v : ℕ) → step m a ≡ Some (jumps 12 t) → (a ≡ v → ⊥) → (t ≡ v → ⊥) → GoesTo words_static m a v → ⊥
 no_way m a t v known here there (inl e) = here e
-no_way m a t v known here there (inr h) = there (sym (goes_there m a t h.0 known h.1) ∙ h.2)
+no_way m a t v known here there (inr h) = there (sym (goes_there m a t v known h.jumps))
+
+-- nor is code that reads its target in a word a thunk
+no_thunk : (m : Memory) (a v : ℕ) (bytes : List ℕ) (other : Action) → Holds m a bytes → length bytes ≡ thunk_size → meaning_aarch64 a bytes ≡ Some other → (a ≡ v → ⊥) → (other ≡ record { deed = Jump; width = 64; operand = Number v } → ⊥) → GoesTo words_static m a v → ⊥
+no_thunk m a v bytes other held long meant here there (inl e) = here e
+no_thunk m a v bytes other held long meant here there (inr h) =
+    let same : h.bytes ≡ bytes = same_bytes m a h.bytes bytes (h.whole ∙ sym long) h.held held in
+    let both : Some other ≡ Some (record { deed = Jump; width = 64; operand = Number v }) = sym meant ∙ (ap (λ (bs : List ℕ). meaning_aarch64 a bs) (sym same) ∙ h.means) in
+    there (let one : other ≡ record { deed = Jump; width = 64; operand = Number v } = cc in one)
 
 call_done : (read : Reader) → ReadsNumbers read → effect_aarch64 read 0x11020 call_of_thunk ≡ Some (effect_with Call 64 0x11060)
 unfolding word number read read_address read_access read_vector_access read_literal read_transfer read_condition
@@ -145,11 +155,11 @@ past_done : (read : Reader) → ReadsNumbers read → effect_aarch64 read 0x1102
 unfolding word number read read_address read_access read_vector_access read_literal read_transfer read_condition
 past_done reader h = ap (λ (o : Option ℕ). option_map (with_value (record { deed = Call; width = 64; operand = Number 0x11060 })) o) (h 0x11060)
 
--- a branch to the function that goes to the thunk, which goes to t
-thunk_refused : (m : Memory) (read : Reader) (item : Item) (r : InputRelocation) (a t : ℕ) (bytes : List ℕ) → length bytes ≡ 4 → r.symbol ≡ Some 0 → words_world.base + item.address + 0 ≡ a → Holds m a bytes → step m 0x11060 ≡ Some (jumps 12 t)
+-- a branch to the function that goes to a thunk, which does not lead there
+thunk_refused : (m : Memory) (read : Reader) (item : Item) (r : InputRelocation) (a : ℕ) (bytes : List ℕ) → length bytes ≡ 4 → r.symbol ≡ Some 0 → words_world.base + item.address + 0 ≡ a → Holds m a bytes
     → ((v : ℕ) → demand_aarch64 v (words_world.base + item.address + 0) (old_bytes item 0 call_word) ≡ Some (effect_with Call 64 (v % 2 ^ 64))) → effect_aarch64 read (words_world.base + item.address + 0) bytes ≡ Some (effect_with Call 64 0x11060)
-    → (0x11060 ≡ (0x11200 + cast_unsigned w64 r.addend) % 2 ^ 64 → ⊥) → (t ≡ (0x11200 + cast_unsigned w64 r.addend) % 2 ^ 64 → ⊥) → DoesDemanded read words_static words_world m item r 0 call_word → ⊥
-thunk_refused m read item r a t bytes long named at held goes asked done here there d =
+    → (GoesTo words_static m 0x11060 ((0x11200 + cast_unsigned w64 r.addend) % 2 ^ 64) → ⊥) → DoesDemanded read words_static words_world m item r 0 call_word → ⊥
+thunk_refused m read item r a bytes long named at held asked done nowhere d =
     let h = meant read words_static words_world m item r 0 call_word d in
     let same_code : h.bytes ≡ bytes = same_bytes m a h.bytes bytes (h.whole ∙ sym long) (subst (λ (p : ℕ). Holds m p h.bytes) at h.held) held in
     let does : Some (effect_with Call 64 0x11060) ≡ Some h.effect = sym done ∙ subst (λ (bs : List ℕ). effect_aarch64 read (words_world.base + item.address + 0) bs ≡ Some h.effect) same_code h.does in
@@ -158,7 +168,7 @@ thunk_refused m read item r a t bytes long named at held goes asked done here th
     let is = h.demands.is in
     let to : (h.demands.goal + cast_unsigned w64 r.addend) % 2 ^ 64 ≡ 0x11060 = omega (arith, same, is) in
     let way = goes_by m item r h.demands.goal named (branch_stands words_static words_world m item r h.demands.goal (λ g. no_string g.formula.value r g.takes) h.demands.stands) in
-    no_way m 0x11060 t ((0x11200 + cast_unsigned w64 r.addend) % 2 ^ 64) goes here there (subst (λ (n : ℕ). ReachesWithin 1 m n ((0x11200 + cast_unsigned w64 r.addend) % 2 ^ 64)) to way)
+    nowhere (subst (λ (n : ℕ). GoesTo words_static m n ((0x11200 + cast_unsigned w64 r.addend) % 2 ^ 64)) to way)
 
 far_goes : (m : Memory) → m.machine ≡ processors.AArch64 → Holds m 0x11060 far_thunk → step m 0x11060 ≡ Some (jumps 12 0x12200)
 unfolding word insert_bits
@@ -178,14 +188,28 @@ wrong_thunk : Refuses words_static words_world (HasBoth 0x11020 call_of_thunk 0x
 wrong_thunk image h x =
     refused h.memory call_item call_reference 0 call_word call_reference call_template
     (λ read numbers. alone_only (λ start o first. DoesDemanded read words_static words_world h.memory call_item first start o → ⊥) words_static call_item call_reference call_word refl call_alone
-    (thunk_refused h.memory read call_item call_reference 0x11020 0x12200 call_of_thunk refl refl refl x.one (far_goes h.memory h.machine x.other) call_demanded (call_done read numbers) (λ e. omega (arith, e)) (λ e. omega (arith, e))))
+    (thunk_refused h.memory read call_item call_reference 0x11020 call_of_thunk refl refl refl x.one call_demanded (call_done read numbers) (no_way h.memory 0x11060 0x12200 0x11200 (far_goes h.memory h.machine x.other) (λ e. omega (arith, e)) (λ e. omega (arith, e)))))
+    (holds_there h.memory call_item call_reference 0 0x11200 (h.kept call_item call_kept) (record { listed = (0, omega arith, refl); refers = λ e. omega arith }) refl function_is)
+
+stored_means : meaning_aarch64 0x11060 stored_thunk ≡ Some (record { deed = Jump; width = 64; operand = Word 0x11080 })
+unfolding word number read read_address read_access read_vector_access read_literal read_transfer read_condition
+stored_means = refl
+
+no_number : ◌≡◌ {A = Action} (record { deed = Jump; width = 64; operand = Word 0x11080 }) (record { deed = Jump; width = 64; operand = Number 0x11200 }) → ⊥
+no_number e = (let both : Word 0x11080 ≡ Number 0x11200 = ap (λ (act : Action). act.operand) e in cc)
+
+wrong_stored : Refuses words_static words_world (HasBoth 0x11020 call_of_thunk 0x11060 stored_thunk)
+wrong_stored image h x =
+    refused h.memory call_item call_reference 0 call_word call_reference call_template
+    (λ read numbers. alone_only (λ start o first. DoesDemanded read words_static words_world h.memory call_item first start o → ⊥) words_static call_item call_reference call_word refl call_alone
+    (thunk_refused h.memory read call_item call_reference 0x11020 call_of_thunk refl refl refl x.one call_demanded (call_done read numbers) (no_thunk h.memory 0x11060 0x11200 stored_thunk _ x.other refl stored_means (λ e. omega (arith, e)) no_number)))
     (holds_there h.memory call_item call_reference 0 0x11200 (h.kept call_item call_kept) (record { listed = (0, omega arith, refl); refers = λ e. omega arith }) refl function_is)
 
 wrong_addend : Refuses words_static words_world (HasBoth 0x11024 next_call_of_thunk 0x11060 right_thunk)
 wrong_addend image h x =
     refused h.memory past_item past_reference 0 call_word past_reference past_template
     (λ read numbers. alone_only (λ start o first. DoesDemanded read words_static words_world h.memory past_item first start o → ⊥) words_static past_item past_reference call_word refl call_alone
-    (thunk_refused h.memory read past_item past_reference 0x11024 0x11200 next_call_of_thunk refl refl refl x.one (right_goes h.memory h.machine x.other) past_demanded (past_done read numbers) (λ e. omega (arith, e)) (λ e. omega (arith, e))))
+    (thunk_refused h.memory read past_item past_reference 0x11024 next_call_of_thunk refl refl refl x.one past_demanded (past_done read numbers) (no_way h.memory 0x11060 0x11200 0x11204 (right_goes h.memory h.machine x.other) (λ e. omega (arith, e)) (λ e. omega (arith, e)))))
     (holds_there h.memory past_item past_reference 0 0x11200 (h.kept past_item past_kept) (record { listed = (0, omega arith, refl); refers = λ e. omega arith }) refl function_is)
 
 -- ---- a descriptor's call
@@ -271,13 +295,13 @@ word_refused m held (inl h) = by h.formula h.known h.value h.gives
         let given = subst (λ (k : Formula). Gives k.value words_static words_world m descriptor_item descriptor_load x) same gives in
         no_slot Descriptor given.1.0.slot given.1.0.given
 word_refused m held (inr h) =
-    let words = load_only (λ start o first. ReadsOwnSlots words_static.machine words_static words_world m descriptor_item first start o → IsOwnSlot words_static words_world (Some 1) 0x11080) (λ each. each load_of_word (record { deed = Set 0; width = 64; operand = Word 0x11080 }) 0x11080 refl held word_means refl) h.start h.instruction h.first h.template h.words in
+    let words = load_only (λ start o first. ReadsOffsetSlots words_static.machine words_static words_world m descriptor_item first start o → IsOffsetSlot words_static words_world (Some 1) 0x11080) (λ each. each load_of_word (record { deed = Set 0; width = 64; operand = Word 0x11080 }) 0x11080 refl held word_means refl) h.start h.instruction h.first h.template h.words in
     let both : Some 1 ≡ Some words.index = words.named in
     let same : words.index ≡ 1 = cc in
-    no_slot words.sort words.slot (subst (λ (i : ℕ). HasSlot words.sort words_static i words.slot) same words.given)
+    no_slot ThreadOffset words.slot (subst (λ (i : ℕ). HasSlot ThreadOffset words_static i words.slot) same words.given)
 
 wrong_word : Refuses words_static words_world (MemoryHas 0x11030 load_of_word)
 wrong_word image h x = word_refused h.memory x (holds_there h.memory descriptor_item descriptor_load 1 0x30008 (h.kept descriptor_item descriptor_kept) load_reference refl data_is)
 
 pub wrong_words_of_images : WrongCodeOfWordsIsRefused
-wrong_words_of_images = record { slot = wrong_slot; thunk = wrong_thunk; addend = wrong_addend; half = wrong_half; low = wrong_low; word = wrong_word }
+wrong_words_of_images = record { slot = wrong_slot; thunk = wrong_thunk; stored = wrong_stored; addend = wrong_addend; half = wrong_half; low = wrong_low; word = wrong_word }

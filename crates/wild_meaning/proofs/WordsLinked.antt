@@ -21,25 +21,26 @@ use Rattle.wild_types.specs.Flags.{has_flag}
 use Rattle.wild_aarch64.specs.Immediate.{insert_bits}
 use Rattle.wild_aarch64.specs.Code.{read, read_address, read_access, read_vector_access, read_literal, read_transfer, read_condition}
 use Rattle.wild_loader.specs.Memory.{byte_in, Holds}
-use Rattle.wild_loader.specs.declared.instruction.Deed.TheVariants.{Call, Set, Load}
-use Rattle.wild_loader.specs.declared.instruction.Operand.TheVariants.{Number, Word}
-use Rattle.wild_loader.specs.declared.instruction.Action.{Action}
+use Rattle.wild_types.specs.FileThunks.{thunk_size}
+use Rattle.wild_loader.specs.declared.instruction.Deed.TheVariants.{Call, Set, Load, Jump}
+use Rattle.wild_loader.specs.declared.instruction.Operand.TheVariants.{Number}
 use Rattle.wild_loader.specs.InstructionAArch64.{meaning_aarch64}
 use Rattle.wild_loader.specs.Effect.{step}
 use Rattle.wild_loader.specs.StepLawsAArch64.{jumps}
+use Rattle.wild_meaning.specs.Jump.{JumpsBy}
 use Rattle.wild_loader.proofs.StepLemmasAArch64.{thunks-read}
 use Rattle.wild_meaning.specs.Value.{IsDefinedBy, IsSymbol, IsReplaceable, HasValue}
 use Rattle.wild_meaning.specs.Thread.{HasThreadOffset}
-use Rattle.wild_meaning.specs.ReferentAArch64.{IsAddressStub}
+use Rattle.wild_meaning.specs.Denotes.{IsAddressStub}
 use Rattle.wild_meaning.specs.Formula.{IsReferent, IsSum, Gives}
 use Rattle.wild_meaning.specs.Slot.{IsSlot}
 use Rattle.wild_types.specs.Item.{Item, item_of, item_with}
-use Rattle.wild_meaning.specs.Item.{place_at, IsInput, IsKept, OfSection, OfFrames}
-use Rattle.wild_meaning.specs.Sequence.{Instruction, size_of, IsOwnByte, descriptor_call_words, address_pair_words}
+use Rattle.wild_meaning.specs.Item.{IsInput, IsKept, OfSection, OfFrames}
+use Rattle.wild_meaning.specs.Sequence.{Instruction, IsOwnByte, descriptor_call_words, address_pair_words}
 use Rattle.wild_meaning.specs.Template.{DoesDemanded, effect_of, demand_of, old_bytes, reads, reads_without_calls}
 use Rattle.wild_meaning.specs.WordsAArch64.{effect_with as asked_of}
 use Rattle.wild_meaning.specs.Field.{IsInputByte}
-use Rattle.wild_meaning.specs.Reference.{ReadsOwnSlots, UsesOwnSymbolOnly, IsOutsideReferences, ReferenceHolds, ItemHolds}
+use Rattle.wild_meaning.specs.Reference.{ReadsOffsetSlots, UsesOwnSymbolOnly, IsOutsideReferences, ReferenceHolds, ItemHolds}
 use Rattle.wild_meaning.specs.Segments.{headers_in, DescribeSegments}
 use Rattle.wild_meaning.specs.LinkedImage.{IsSectionWithoutData, DescribesOutput}
 use Rattle.wild_meaning.specs.Worked.Builders.{file_of, group_of}
@@ -48,10 +49,11 @@ use Rattle.wild_meaning.specs.Worked.AArch64Image.{words_image, words_rest, word
 use Rattle.wild_meaning.specs.Worked.ImageRefusalsAArch64.{WordsImageIsLinked}
 use Rattle.wild_records.specs.ProgramHeader.{program_header_fields}
 use Rattle.wild_meaning.proofs.FileBytes.{HasLoadedBytes, file_byte_held}
-use Rattle.wild_meaning.proofs.SymbolUnique.{only, owner_of, stub_of, IsPlainOwn}
+use Rattle.wild_meaning.proofs.SymbolUnique.{only, owner_of, stub_of, IsPlainOwn, IsUnstubbed, no_stubs}
 use Rattle.wild_meaning.proofs.Read.{held_from}
 use Rattle.wild_meaning.proofs.EffectLemmas.{done}
-use Rattle.wild_meaning.proofs.OneReference.{effect_with, same_bytes}
+use Rattle.wild_types.specs.declared.kind.Machine.TheVariants as machine
+use Rattle.wild_meaning.proofs.OneReference.{effect_with, no_words}
 use Rattle.wild_meaning.proofs.InstructionsAArch64.{alone_only}
 use Rattle.wild_meaning.proofs.WordsLegal.{no_library}
 use Rattle.wild_meaning.proofs.WordsLoaded.{words_loaded, words_programs}
@@ -116,16 +118,6 @@ all_hold item all others = record {
   others = others;
 }
 
--- code that sets a register to a number reads no word
-no_words : (item : Item) (first : InputRelocation) (start : ℕ) (o : Instruction) (bytes : List ℕ) (d n : ℕ) → length bytes ≡ size_of o → Holds words_memory (place_at words_world item start) bytes
-    → meaning_aarch64 (place_at words_world item start) bytes ≡ Some (record { deed = Set d; width = 64; operand = Number n }) → ReadsOwnSlots words_static.machine words_static words_world words_memory item first start o
-no_words item first start o bytes d n long held means = λ others act a whole there known word.
-    let same : others ≡ bytes = same_bytes words_memory (place_at words_world item start) others bytes (whole ∙ sym long) there held in
-    let here : Some (record { deed = Set d; width = 64; operand = Number n }) ≡ Some act = sym means ∙ subst (λ (bs : List ℕ). meaning_aarch64 (place_at words_world item start) bs ≡ Some act) same known in
-    let one : record { deed = Set d; width = 64; operand = Number n } ≡ act = cc in
-    let both : Number n ≡ Word a = ap (λ (x : Action). x.operand) one ∙ word in
-    cc
-
 -- ---- an address in two instructions
 
 function_sum : IsSum PageDistance words_static words_world words_memory address_item page_reference 0x11200
@@ -155,8 +147,8 @@ address_means : meaning_aarch64 0x11000 (0x1f ∷ 0x20 ∷ 0x03 ∷ 0xd5 ∷ 0xe
 unfolding word number read read_address read_access read_vector_access read_literal read_transfer read_condition
 address_means = refl
 
-address_words : ReadsOwnSlots words_static.machine words_static words_world words_memory address_item page_reference 0 address_pair_words
-address_words = no_words address_item page_reference 0 address_pair_words (0x1f ∷ 0x20 ∷ 0x03 ∷ 0xd5 ∷ 0xe0 ∷ 0x0f ∷ 0 ∷ 0x10 ∷ []) 0 0x11200 refl (held_from words_memory 0x11000 (0x1f ∷ 0x20 ∷ 0x03 ∷ 0xd5 ∷ 0xe0 ∷ 0x0f ∷ 0 ∷ 0x10 ∷ []) refl) address_means
+address_words : ReadsOffsetSlots words_static.machine words_static words_world words_memory address_item page_reference 0 address_pair_words
+address_words = no_words machine.AArch64 words_static words_world words_memory address_item page_reference 0 address_pair_words (0x1f ∷ 0x20 ∷ 0x03 ∷ 0xd5 ∷ 0xe0 ∷ 0x0f ∷ 0 ∷ 0x10 ∷ []) _ 0x11200 refl (held_from words_memory 0x11000 (0x1f ∷ 0x20 ∷ 0x03 ∷ 0xd5 ∷ 0xe0 ∷ 0x0f ∷ 0 ∷ 0x10 ∷ []) refl) address_means refl
 
 within : (n k : ℕ) → k < n → (k < 0) ⊎ (n ≤ k) → ⊥
 within n k lt (inl h) = omega (arith, h)
@@ -176,9 +168,9 @@ slot_there : IsSlot AddressSlot words_static words_world words_memory (Some 0) 0
 unfolding has_flag
 slot_there = record {
   slot = 0x11080;
-  given = record { definition = 0; defined = defined 0 near_function refl refl; symbol = near_function; listed = refl; resolution = _; decided = refl; first = 0x11080; given = refl; place = refl };
+  given = record { definition = 0; defined = defined 0 near_function refl refl; symbol = near_function; listed = refl; flagged = refl; resolution = _; decided = refl; first = 0x11080; given = refl; place = refl };
   moves = refl;
-  holds = (0x11200, refl, inl function_value);
+  holds = (0x11200, refl, inl (inl function_value));
 }
 
 slot_page_gives : Gives (SlotPageDistance AddressSlot) words_static words_world words_memory slot_item slot_page_reference 0
@@ -277,16 +269,26 @@ slot_item_holds = all_hold slot_item
 
 -- ---- a branch by a thunk, and one with an addend
 
+abbrev thunk_bytes : List ℕ
+thunk_bytes = 0x10 ∷ 0 ∷ 0 ∷ 0x90 ∷ 0x10 ∷ 0x02 ∷ 0x08 ∷ 0x91 ∷ 0 ∷ 0x02 ∷ 0x1f ∷ 0xd6 ∷ []
+
 thunk_held : Holds words_memory 0x11060 (flat_map (word 4) (0x90000010 ∷ 0x91080210 ∷ 0xd61f0200 ∷ []))
 unfolding word
-thunk_held = held_from words_memory 0x11060 (0x10 ∷ 0 ∷ 0 ∷ 0x90 ∷ 0x10 ∷ 0x02 ∷ 0x08 ∷ 0x91 ∷ 0 ∷ 0x02 ∷ 0x1f ∷ 0xd6 ∷ []) refl
+thunk_held = held_from words_memory 0x11060 thunk_bytes refl
 
 thunk_goes : step words_memory 0x11060 ≡ Some (jumps 12 0x11200)
 unfolding insert_bits
 thunk_goes = thunks-read words_memory 0 0x11060 0x11200 refl (record { above = omega arith; below = omega arith }) refl (omega arith) thunk_held
 
+thunk_means : meaning_aarch64 0x11060 thunk_bytes ≡ Some (record { deed = Jump; width = 64; operand = Number 0x11200 })
+unfolding word number read read_address read_access read_vector_access read_literal read_transfer read_condition
+thunk_means = refl
+
+thunk_jumps : JumpsBy words_static words_memory 0x11060 thunk_size (Number 0x11200) 0x11200
+thunk_jumps = record { bytes = thunk_bytes; whole = refl; held = held_from words_memory 0x11060 thunk_bytes refl; means = thunk_means; jumps = record { effect = jumps 12 0x11200; known = thunk_goes; jump = refl } }
+
 by_thunk : IsReferent words_static.machine StubDistance words_static words_world words_memory call_item call_reference 0x11060
-by_thunk = inr (no_string StubDistance call_reference, inr ((λ h. not_absent h.1), record { symbol = 0x11200; denoted = inl function_value; comes = inr (0x11200, record { effect = jumps 12 0x11200; known = thunk_goes; jump = refl }, refl) }))
+by_thunk = inr (no_string StubDistance call_reference, inr ((λ h. not_absent h.1), record { symbol = 0x11200; denoted = inl function_value; comes = inr thunk_jumps }))
 
 past_it : IsReferent words_static.machine StubDistance words_static words_world words_memory past_item past_reference 0x11200
 past_it = inr (no_string StubDistance past_reference, inr ((λ h. not_absent h.1), record { symbol = 0x11200; denoted = inl function_value; comes = inl refl }))
@@ -411,8 +413,8 @@ descriptor_means : meaning_aarch64 0x11030 rewritten_call ≡ Some (record { dee
 unfolding word number read read_address read_access read_vector_access read_literal read_transfer read_condition
 descriptor_means = refl
 
-descriptor_words : ReadsOwnSlots words_static.machine words_static words_world words_memory descriptor_item descriptor_page 0 descriptor_call_words
-descriptor_words = no_words descriptor_item descriptor_page 0 descriptor_call_words rewritten_call 0 0x18 refl (held_from words_memory 0x11030 rewritten_call refl) descriptor_means
+descriptor_words : ReadsOffsetSlots words_static.machine words_static words_world words_memory descriptor_item descriptor_page 0 descriptor_call_words
+descriptor_words = no_words machine.AArch64 words_static words_world words_memory descriptor_item descriptor_page 0 descriptor_call_words rewritten_call _ 0x18 refl (held_from words_memory 0x11030 rewritten_call refl) descriptor_means refl
 
 descriptor_holds : (r : InputRelocation) → Contains descriptor_item.relocations r → ReferenceHolds words_static words_world words_memory descriptor_item r
 descriptor_holds r c = inr (record { start = 0; instruction = descriptor_call_words; first = descriptor_page; template = descriptor_template r c; does = descriptor_does; words = descriptor_words })
@@ -612,6 +614,7 @@ words_linked = (
     machine = refl;
     kept = items_hold;
     zeros = λ s k h _ _ _. absurd (no_blank s h);
+    stubs = λ whole i p h. absurd (no_stubs words_static i p (All-from_recursion IsUnstubbed words_static.symbols (refl, (refl, tt))) h);
     copies = λ whole i raw x h. absurd (no_library i h.copied);
     texts = no_texts words_static words_world words_memory refl refl;
     still = λ a b h free. file_byte_held words_static words_memory words_world.base a b words_image file_bytes h;

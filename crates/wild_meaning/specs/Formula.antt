@@ -1,13 +1,11 @@
 -- The value of a relocation's formula for an item, in a world and a memory.
---   IsTarget l w m symbol a  a is the value of a reference's symbol, or its stub
---   IsReferent ..            a is S or L. On x86-64 it represents the symbol; for merged strings, a and A together make the
---                            string's address
+--   IsTarget l w m symbol a  a is L for a reference's symbol; IsSymbolAddress: a is S
+--   IsReferent ..            a is S or L, by the expression; for merged strings, a and A together make the string's address
 --   IsSum value l w m item r x   x is S + A
 --   table_at l w             GOT
 --   IsOffset l w symbol t    t is S's offset from the thread pointer
 --   IsExtent l w symbol z    z is Z, the symbol's size
 --   IsWhole l r n x          x is Z + A; for another module's symbol in a field of four bytes, x may be its low half
---   IsGoal l w m symbol a    execution that starts at a reaches S
 --   HasOffsetMode l item     a reference to a descriptor in the item holds the thread-pointer offset itself
 --   IsPlaceRelative value    the expression subtracts P, Page(P) or GOT from an address
 --   Gives value l w m item r x   x is the value of the expression
@@ -26,9 +24,8 @@ use Rattle.wild_types.specs.declared.layout.Layout.{Layout}
 use Rattle.wild_loader.specs.declared.memory.Memory.{Memory}
 use Rattle.wild_loader.specs.declared.world.World.{World}
 use Rattle.wild_meaning.specs.Section.{IsSet}
-use Rattle.wild_meaning.specs.Value.{IsReplaceable, HasValue, HasOwnValue, HasSize}
-use Rattle.wild_loader.specs.Reach.{Reaches}
-use Rattle.wild_meaning.specs.Denotes.{Denotes}
+use Rattle.wild_meaning.specs.Value.{IsReplaceable, HasOwnValue, HasSize}
+use Rattle.wild_meaning.specs.Denotes.{IsAddressOf, Denotes}
 use Rattle.wild_meaning.specs.ReferentAArch64.{IsUndefinedWeak, own_place, RepresentsOnAArch64}
 use Rattle.wild_meaning.specs.Thread.{HasThreadOffset, HasOwnOffset, IsOffsetBase}
 use Rattle.wild_meaning.specs.Slot.{IsSlot}
@@ -36,15 +33,15 @@ use Rattle.wild_meaning.specs.Strings.{NamesStrings, IsString}
 use Rattle.wild_types.specs.Item.{Item}
 use Rattle.wild_meaning.specs.Item.{place_at}
 
--- a is S: it represents the symbol, or is 0 if there is no symbol
+-- a is S for a reference's symbol, or 0 without one
+abbrev pub IsSymbolAddress : Layout → World → Memory → Option ℕ → ℕ → Type 0
+IsSymbolAddress l w m None a = a ≡ 0
+IsSymbolAddress l w m (Some i) a = IsAddressOf l w m i a
+
+-- a is L for a reference's symbol, or 0 without one
 abbrev pub IsTarget : Layout → World → Memory → Option ℕ → ℕ → Type 0
 IsTarget l w m None a = a ≡ 0
 IsTarget l w m (Some i) a = Denotes l w m i a
-
--- execution that starts at a reaches S
-abbrev pub IsGoal : Layout → World → Memory → Option ℕ → ℕ → Type 0
-IsGoal l w m None a = a ≡ 0
-IsGoal l w m (Some i) a = (v : ℕ) × HasValue l w i v × Reaches m a v
 
 -- The expression subtracts P, Page(P) or GOT from S or L, even if it has no value yet. GOT + A - P does not count, because both
 -- terms move with the base.
@@ -76,9 +73,15 @@ abbrev pub IsReferentOnAArch64 : Value → Layout → World → Memory → Item 
 IsReferentOnAArch64 value l w m item r None a = a ≡ 0
 IsReferentOnAArch64 value l w m item r (Some i) a = (UsesOwnPlace value l i × (a ≡ own_place w item r)) ⊎ ((UsesOwnPlace value l i → ⊥) × RepresentsOnAArch64 value l w m r i a)
 
+-- S or L on x86-64
+abbrev pub IsReferentOnX86_64 : Value → Layout → World → Memory → Option ℕ → ℕ → Type 0
+IsReferentOnX86_64 StubDistance l w m symbol a = IsTarget l w m symbol a
+IsReferentOnX86_64 StubFromTable l w m symbol a = IsTarget l w m symbol a
+IsReferentOnX86_64 other l w m symbol a = IsSymbolAddress l w m symbol a
+
 -- a represents the symbol; merged strings are treated separately
 abbrev pub IsReferentOnMachine : Machine → Value → Layout → World → Memory → Item → InputRelocation → ℕ → Type 0
-IsReferentOnMachine machine.X86_64 value l w m item r a = IsTarget l w m r.symbol a
+IsReferentOnMachine machine.X86_64 value l w m item r a = IsReferentOnX86_64 value l w m r.symbol a
 IsReferentOnMachine machine.AArch64 value l w m item r a = IsReferentOnAArch64 value l w m item r r.symbol a
 
 -- the expression contains S, and the symbol is that of a section of merged strings: S and A together determine the string

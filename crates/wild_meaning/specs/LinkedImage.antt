@@ -7,7 +7,7 @@
 --   DescribesOutput l image   the headers are right, and a dynamic linker has its information
 --   IsLinked l w image    in that world the loader accepts the image, and memory is as required
 --   IsSound l image       the image describes its output, and is linked in every legal world
-use Rattle.std.specs.Prelude.{◌≡◌, ℕ, ◌+◌, ◌<◌, ◌≤◌, ◌⊎◌, true, false, length, List, None, Some, Ok, Contains, slice_get}
+use Rattle.std.specs.Prelude.{◌≡◌, ℕ, ◌+◌, ◌%◌, ◌^◌, ◌<◌, ◌≤◌, ◌⊎◌, true, false, length, List, None, Some, Ok, Contains, slice_get}
 use Rattle.std.specs.List.{flat_map}
 use Rattle.wild_words.specs.Words.{HasBytesAt}
 use Rattle.wild_words.specs.Record.{spell}
@@ -38,6 +38,7 @@ use Rattle.wild_meaning.specs.Section.{IsSet, IsAllocatedPart, IsForDebuggers, I
 use Rattle.wild_meaning.specs.Segments.{headers_in, DescribeSegments, HasDynamicLinker}
 use Rattle.wild_meaning.specs.DynamicSection.{InformsLinker}
 use Rattle.wild_meaning.specs.Value.{IsDefinedBy, IsResolved, HasFlag}
+use Rattle.wild_meaning.specs.Denotes.{HasStub, IsStub}
 use Rattle.wild_types.specs.Item.{Item}
 use Rattle.wild_meaning.specs.Item.{IsInput, IsLoadedSlot, IsKept}
 use Rattle.wild_meaning.specs.Reference.{ItemHolds}
@@ -114,6 +115,7 @@ pub record DescribesOutput (l : Layout) (image : List ℕ) : Type 0 where
 
 -- The loader accepts the image for the layout's machine, and in memory:
 -- - each kept item holds;
+-- - each stub jumps by its symbol's first slot, whether or not a reference uses it;
 -- - copied symbols have their bytes;
 -- - merged strings and the interpreter's path are there;
 -- - bytes of the file are as in the file, outside kept sections, slots, frames and copies;
@@ -124,6 +126,7 @@ pub record IsLinked (l : Layout) (w : World) (image : List ℕ) : Type 0 where
   pub accepted : load w image ≡ Ok memory
   pub machine : memory.machine ≡ processor_of l.machine
   pub kept : (item : Item) → IsKept l item → ItemHolds l w memory item
+  pub stubs : (IsForDebuggers l → ⊥) → (i p : ℕ) → HasStub l i p → IsStub l w memory i ((w.base + p) % 2 ^ 64)
   pub zeros : (s : InputSection) (k : ℕ) → IsSectionWithoutData l s → k < s.size → IsPastFileBytes l (s.address + k) ⊎ HasFileBytes l s.part → IsNotCopied l w (s.address + k) → byte_in memory (w.base + s.address + k) ≡ Some 0
   pub copies : (IsForDebuggers l → ⊥) → (i raw : ℕ) (x : Answer) → HasCopy l w i raw x → Holds memory (w.base + raw) x.bytes
   pub texts : HoldsTexts l w memory

@@ -8,15 +8,15 @@ use Rattle.std.specs.Prelude.{◌≡◌, ℕ, ◌+◌, ◌%◌, ◌^◌, ◌⊎�
 use Rattle.std.specs.Int.{w64, cast_unsigned}
 use Rattle.wild_records.specs.Abi.Relocation.{r_aarch64_tstbr14, r_aarch64_condbr19, r_aarch64_jump26, r_aarch64_call26}
 use Rattle.wild_reloc.specs.BarredTypes.{is_listed}
-use Rattle.wild_reloc.specs.Formula.{Value, SymbolPart, PageDistance, StubDistance}
+use Rattle.wild_reloc.specs.Formula.{Value, SymbolPart, Distance, PageDistance, StubDistance}
 use Rattle.wild_types.specs.declared.input.InputRelocation.{InputRelocation}
 use Rattle.wild_types.specs.declared.layout.Layout.{Layout}
-use Rattle.wild_types.specs.Flags.{ifunc, absolute, undefined_weak, plt_stub}
+use Rattle.wild_types.specs.Flags.{undefined_weak, plt_stub}
 use Rattle.wild_loader.specs.declared.memory.Memory.{Memory}
 use Rattle.wild_loader.specs.declared.world.World.{World}
-use Rattle.wild_meaning.specs.Value.{HasRaw, HasFlag, HasValue}
-use Rattle.wild_loader.specs.Reach.{ReachesWithin}
-use Rattle.wild_meaning.specs.Denotes.{HasStub, Denotes}
+use Rattle.wild_meaning.specs.Value.{HasFlag, HasValue}
+use Rattle.wild_meaning.specs.Jump.{GoesTo}
+use Rattle.wild_meaning.specs.Denotes.{IsAddressStub, IsAddressOf, Denotes}
 use Rattle.wild_types.specs.Item.{Item}
 use Rattle.wild_meaning.specs.Item.{place_at}
 
@@ -37,28 +37,22 @@ own_place w item r = (place_at w item r.offset + (if is_listed r.number branch_t
 
 -- ---- other symbols
 
--- The output uses the stub at p as symbol i's address: the symbol is an IFUNC, or the layout places it at its stub; it moves with
--- the base (x86-64 psABI, "Function Addresses").
-pub record IsAddressStub (l : Layout) (i p : ℕ) : Type 0 where
-  pub stub : HasStub l i p
-  pub stands : HasFlag l i ifunc true ⊎ HasRaw l i p
-  pub moves : HasFlag l i absolute false
-
 -- a is the one address that represents symbol i: its stub in this case, otherwise its value
 abbrev pub IsOneAddress : Layout → World → Memory → ℕ → ℕ → Type 0
 IsOneAddress l w m i a = ((p : ℕ) × IsAddressStub l i p × (a ≡ (w.base + p) % 2 ^ 64) × Denotes l w m i a) ⊎ (((p : ℕ) → IsAddressStub l i p → ⊥) × HasValue l w i a)
 
--- a is L in a branch. Execution that starts at a + A reaches an address that represents the symbol, plus A; or a thunk that leads
--- there (aaelf64, "Call and Jump relocations").
+-- a is L in a branch: a + A is an address that represents the symbol, plus A, or a thunk that leads there (aaelf64, "Call and Jump
+-- relocations")
 pub record IsBranchedTo (l : Layout) (w : World) (m : Memory) (r : InputRelocation) (i a : ℕ) : Type 0 where
   pub symbol : ℕ
   pub denoted : Denotes l w m i symbol
-  pub comes : ReachesWithin 1 m ((a + cast_unsigned w64 r.addend) % 2 ^ 64) ((symbol + cast_unsigned w64 r.addend) % 2 ^ 64)
+  pub comes : GoesTo l m ((a + cast_unsigned w64 r.addend) % 2 ^ 64) ((symbol + cast_unsigned w64 r.addend) % 2 ^ 64)
 
--- On AArch64 several instructions each hold a part of one address, and a branch may go through a thunk (aaelf64, "Relocation
--- operations", "Call and Jump relocations").
+-- On AArch64 several instructions each hold a part of one address, a branch may go through a thunk, and a conditional one to a stub
+-- (aaelf64, "Relocation operations", "Call and Jump relocations").
 abbrev pub RepresentsOnAArch64 : Value → Layout → World → Memory → InputRelocation → ℕ → ℕ → Type 0
 RepresentsOnAArch64 SymbolPart l w m r i a = IsOneAddress l w m i a
 RepresentsOnAArch64 PageDistance l w m r i a = IsOneAddress l w m i a
 RepresentsOnAArch64 StubDistance l w m r i a = IsBranchedTo l w m r i a
-RepresentsOnAArch64 other l w m r i a = Denotes l w m i a
+RepresentsOnAArch64 Distance l w m r i a = IsAddressOf l w m i a ⊎ ((is_listed r.number branch_types ≡ true) × Denotes l w m i a)
+RepresentsOnAArch64 other l w m r i a = IsAddressOf l w m i a

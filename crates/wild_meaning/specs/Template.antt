@@ -32,11 +32,11 @@ use Rattle.wild_meaning.specs.Sequence.{Sort, Target, TargetInSlot, AddressInSlo
 use Rattle.wild_meaning.specs.Section.{IsSet}
 use Rattle.wild_meaning.specs.Partners.{HasPartners, AreMet}
 use Rattle.wild_meaning.specs.Thread.{IsOffsetBase}
-use Rattle.wild_meaning.specs.Slot.{IsSlot}
+use Rattle.wild_meaning.specs.Slot.{IsInAddressSlot, IsSlot}
 use Rattle.wild_types.specs.Item.{Item}
 use Rattle.wild_meaning.specs.Item.{place_at}
 use Rattle.wild_meaning.specs.Field.{formula_of, InNoField}
-use Rattle.wild_meaning.specs.Formula.{Gives, IsSum, IsTarget, IsReferent, IsOwnReferent, IsGoal, IsOffset, HasOffsetMode, TakesString}
+use Rattle.wild_meaning.specs.Formula.{Gives, IsSum, IsTarget, IsReferent, IsOwnReferent, IsOffset, HasOffsetMode, TakesString}
 use Rattle.wild_meaning.specs.Strings.{IsString}
 
 -- ---- in the input's bytes
@@ -176,15 +176,20 @@ pub record IsFieldBits (l : Layout) (w : World) (m : Memory) (item : Item) (r : 
   pub fits : CanHave formula.form value
   pub bits : v ≡ bits_of formula.form value
 
+-- a is the address in the slot of a reference's symbol, or 0 without one
+abbrev pub IsSlotAddress : Layout → World → Memory → Option ℕ → ℕ → Type 0
+IsSlotAddress l w m None a = a ≡ 0
+IsSlotAddress l w m (Some i) a = IsInAddressSlot l w m i a
+
 -- v is the value that an operand of that sort must have:
--- - for a branch its target; for an address in a slot one that represents S, or leads to it in a call;
+-- - for a branch its target; for a call through a slot S or its stub; for an address in a slot what that slot has;
 -- - a thread-pointer offset; the base of offsets in the output's own thread-local data;
 -- - the value of a reference to a descriptor;
 -- - S + A as one address, if several instructions each hold a part of it; or the bits of a field.
 abbrev pub Demands : Sort → Layout → World → Memory → Item → InputRelocation → ℕ → Type 0
 Demands Target l w m item r v = IsBranchTarget l w m item r v
-Demands TargetInSlot l w m item r v = IsGoal l w m r.symbol v
-Demands AddressInSlot l w m item r v = IsTarget l w m r.symbol v
+Demands TargetInSlot l w m item r v = IsTarget l w m r.symbol v
+Demands AddressInSlot l w m item r v = IsSlotAddress l w m r.symbol v
 Demands OffsetInSlot l w m item r v = IsOffset l w r.symbol v
 Demands SymbolPair l w m item r v = IsOffset l w r.symbol v
 Demands OwnPair l w m item r v = IsOffsetBase l.machine l.kind w v

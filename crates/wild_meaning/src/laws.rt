@@ -4,7 +4,7 @@ ghost use Rattle.wild_meaning.specs.Worked.ImageRefusalsAArch64.{WordsWorldIsLeg
 ghost use Rattle.wild_meaning.specs.Worked.RefusalsAArch64.{RightWordsDo, WrongWordsAreRefused, CutBitsAreRefused, SlotAddendsAreRefused, PairsAreExcepted, NegatedMovesAreUnknown, ShiftedAddsAreUnknown, ThunksAreJudged};
 ghost use Rattle.wild_meaning.specs.Worked.ReplaceableSymbols.{DynamicIsReplaceable, ExportedIsReplaceable, AnswersAreTaken};
 ghost use Rattle.wild_meaning.specs.Worked.SegmentRefusals.{WrongSegmentsAreRefused, OtherPlacesAreRefused, WrongSizesAreRefused, NoDynamicIsRefused, WrongEntriesAreRefused};
-ghost use Rattle.wild_meaning.specs.Worked.SharedRefusals.{SharedWorldIsLegal, WrongSlotsAreRefused, WrongAddressesAreRefused, WrongOffsetsAreRefused, WrongModulesAreRefused, WrongDescriptorsAreRefused, WrongSizeIsRefused, WrongByteIsRefused, WrongOwnDistanceIsRefused, ChangedTableIsRefused, WrongCodeOfLibraryIsRefused, SharedImageIsLinked};
+ghost use Rattle.wild_meaning.specs.Worked.SharedRefusals.{SharedWorldIsLegal, WrongSlotsAreRefused, WrongAddressesAreRefused, WrongOffsetsAreRefused, WrongModulesAreRefused, WrongDescriptorsAreRefused, WrongSizeIsRefused, WrongByteIsRefused, WrongOwnDistanceIsRefused, ChangedTableIsRefused, WrongCodeOfLibraryIsRefused, SharedImageIsLinked, SlotsNeedTheirFlags, WrongStubsAreRefused};
 ghost use Rattle.wild_meaning.specs.Worked.StringRefusals.{StringsWorldIsLegal, StringsAreJudged, ReversedWordsAreJudged, TextsAreJudged, StringsImageIsLinked};
 ghost use Rattle.wild_meaning.specs.Worked.StaticRefusals.{StaticPieWorldIsLegal, WrongDataAreRefused, WrongCodeIsRefused, WrongBlankIsRefused, StaticImageIsLinked, PaddedImageIsLinked};
 
@@ -27,14 +27,16 @@ pub fn symbols_are_replaced()
 {}
 
 /// No image of the worked shared object is linked in its world with one fault in memory:
-/// - a slot of an address or an offset, a word with an address, a thread-pointer offset;
+/// - a slot of an address or an offset, a stub, a word with an address, a thread-pointer offset;
 /// - the module of a pair, the offset of a descriptor, a size, a byte in no field;
 /// - a distance that only the library's own symbol can have;
 /// - a byte of the dynamic section that is not as in the file;
 /// - code that receives an offset where it requires a descriptor.
-/// One image is linked there.
+/// A symbol has no slot of a sort whose flag it lacks. One image is linked there.
 pub fn wrong_shared_objects_are_refused()
     ensures slots { WrongSlotsAreRefused }
+    ensures flags { SlotsNeedTheirFlags }
+    ensures stubs { WrongStubsAreRefused }
     ensures addresses { WrongAddressesAreRefused }
     ensures offsets { WrongOffsetsAreRefused }
     ensures modules { WrongModulesAreRefused }

@@ -1,5 +1,5 @@
 -- The slot of an address: the first one has the symbol's value, a second one its stub's address.
-use Rattle.std.proofs.Common.{◌≡◌, ℕ, ◌+◌, ◌%◌, ◌^◌, ◌<◌, inl, inr, Bool, true, false, List, [], ◌∷◌, ◌++◌, Option, Some, None, refl, sym, ◌∙◌, arith, subst}
+use Rattle.std.proofs.Common.{◌≡◌, ℕ, ◌+◌, ◌%◌, ◌^◌, ◌<◌, inl, inr, Bool, true, false, List, [], ◌∷◌, ◌++◌, Option, Some, None, refl, sym, ap, ◌∙◌, arith, subst}
 use Rattle.std.specs.Prelude.{◌||◌, if◌then◌else◌}
 use Rattle.wild_reloc.specs.declared.dynamic.DynamicRelocationKind.TheVariants.{GotEntry}
 use Rattle.wild_slot.specs.declared.slot.SlotItem.{SlotItem}
@@ -27,7 +27,10 @@ use Rattle.wild_references.proofs.FirstSlots.{HasFirst, first_held, named_held, 
 use Rattle.wild_references.proofs.SlotContents.{ItemsHold}
 use Rattle.wild_references.proofs.SlotTerms.{SlotStands, SlotsStand, by_slot}
 use Rattle.wild_references.proofs.SymbolStubs.{stub_from, stub_is}
-use Rattle.wild_references.proofs.Symbols.{IsResolvedBy}
+use Rattle.wild_references.proofs.Symbols.{IsResolvedBy, resolved_flag}
+use Rattle.wild_references.proofs.SlotFlags.{symbol_fits}
+use Rattle.wild_meaning.specs.Value.{HasFlag}
+use Rattle.wild_types.specs.declared.symbol.ValueFlags.{ValueFlags}
 use Rattle.wild_references.proofs.StubCode.{StubLaws}
 
 -- ---- the second slot
@@ -67,14 +70,16 @@ second_is w m place false stub x still low h = let z = still refl in omega (arit
 -- ---- the slot of an address
 
 first_stands : (l : Layout) (w : World) (m : Memory) (i at : ℕ) (rest : List SlotItem) → HasFirst l w m i at rest → SlotStands AddressSlot l w m i at
-first_stands l w m i at rest h = record { holds = (h.value, h.there, inl h.is); below = word_below m (w.base + at) h.value h.there }
+first_stands l w m i at rest h = record { holds = (h.value, h.there, inl (inl h.is)); below = word_below m (w.base + at) h.value h.there }
 
-second_stands : StubLaws → (l : Layout) (w : World) (m : Memory) (i at : ℕ) (r : Resolution) → IsPlaced l w m → KeepsAll l → IsResolvedBy l i r → HasSecond w m (is_position_independent l.kind) at r.plt_address → SlotStands AddressSlot l w m i at
-second_stands law l w m i at r p all d h =
+second_stands : StubLaws → (l : Layout) (w : World) (m : Memory) (i at : ℕ) (r : Resolution) → IsPlaced l w m → KeepsAll l → IsResolvedBy l i r → has_flag r.flags ifunc_got_for_address ≡ true → HasSecond w m (is_position_independent l.kind) at r.plt_address → SlotStands AddressSlot l w m i at
+second_stands law l w m i at r p all d asked h =
     let stub = stub_from law l w m i h.stub r p all d h.given in
+    let flags : r.flags ≡ d.symbol.flags = (symbol_fits l i d.symbol p.symbols d.listed).flags r d.decided in
+    let flagged = subst (λ (b : Bool). HasFlag l i ifunc_got_for_address b) (sym (ap (λ (f : ValueFlags). has_flag f ifunc_got_for_address) flags) ∙ asked) (resolved_flag l i ifunc_got_for_address r d) in
     let same = second_is w m (w.base + at) (is_position_independent l.kind) h.stub h.value p.still stub.below h.is in
     record {
-      holds = (h.value, h.there, inr (subst (λ (a : ℕ). IsStub l w m i a) (sym same) (stub_is l w m i h.stub stub)));
+      holds = (h.value, h.there, inr (flagged, subst (λ (a : ℕ). IsStub l w m i a) (sym same) (stub_is l w m i h.stub stub)));
       below = word_below m (w.base + at) h.value h.there;
     }
 
@@ -102,7 +107,7 @@ second_by : StubLaws → (l : Layout) (w : World) (m : Memory) (i at : ℕ) (r :
 second_by law l w m i at r p all d e h = by_flag (has_flag r.flags ifunc_got_for_address) refl e
   where
     by_flag : (b : Bool) → has_flag r.flags ifunc_got_for_address ≡ b → (b || has_flag r.flags canonical_plt_got_for_address) ≡ true → SlotStands AddressSlot l w m i at
-    by_flag true asked e = second_stands law l w m i at r p all d (second_asked l w m at r asked h)
+    by_flag true asked e = second_stands law l w m i at r p all d asked (second_asked l w m at r asked h)
     by_flag false plain e = canonical_stands l w m i at r p d plain e h
 
 behind_by : StubLaws → (l : Layout) (w : World) (m : Memory) (i at : ℕ) (r : Resolution) (b : Bool) → IsPlaced l w m → KeepsAll l → IsResolvedBy l i r → has_second_slot r.flags ≡ b → HasFirst l w m i at (items_behind l r) → SlotStands AddressSlot l w m i (after_word b at)

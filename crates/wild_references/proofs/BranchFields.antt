@@ -35,6 +35,9 @@ use Rattle.wild_reloc.specs.declared.info.PageMask.{PageMask}
 use Rattle.wild_reloc.specs.declared.info.RelocationKindInfo.{RelocationKindInfo}
 use Rattle.wild_reloc.specs.declared.info.RelocationSize.{RelocationSize}
 use Rattle.wild_relax.specs.RowSymbols.{takes_symbol, takes_value}
+use Rattle.wild_meaning.proofs.SymbolLemmas.{distance_denotes}
+use Rattle.wild_reloc.specs.BarredTypes.{is_listed}
+use Rattle.wild_meaning.specs.ReferentAArch64.{branch_types}
 use Rattle.wild_relax.specs.RewriteX86_64.{distance_type, or_nothing, type_row, info_by}
 use Rattle.wild_relax.specs.RowsAArch64.{rows_aarch64}
 use Rattle.wild_relax.specs.declared.row.Row.{Row}
@@ -216,7 +219,7 @@ branched l w m s r a on none h =
     by_symbol : (o : Option ℕ) → IsReferentOnAArch64 Distance l w m s r o a → IsReferentOnAArch64 StubDistance l w m s r o a
     by_symbol None t = t
     by_symbol (Some i) (inl own) = inl own
-    by_symbol (Some i) (inr there) = inr (there.0, record { symbol = a; denoted = there.1; comes = inl refl })
+    by_symbol (Some i) (inr there) = inr (there.0, record { symbol = a; denoted = distance_denotes l w m r i a there.1; comes = inl refl })
 
 goes_there : (l : Layout) (w : World) (m : Memory) (s : Item) (r : InputRelocation) (v : ℕ) → l.machine ≡ machine.AArch64 → (NamesStrings l r → ⊥) → Gives Distance l w m s r v → Gives StubDistance l w m s r v
 goes_there l w m s r v on none g =
@@ -234,6 +237,7 @@ pub record GoesWell (l : Layout) (s : Item) (r : InputRelocation) (d : Branch) (
   pub direct : goal ≡ goals.Symbol → has_flag (flags_at l symbol) ifunc ≡ false
   pub chosen : goal ≡ goals.Stub → goes_far d ≡ true → has_flag (flags_at l symbol) ifunc ≡ true
   pub weak : goes_far d ≡ false → IsWeakBranch l s r symbol
+  pub number : r.number ≡ distance_type d
   pub plain : names_merged l r.symbol ≡ false
 
 -- whichever module has the symbol
@@ -243,10 +247,16 @@ followed_goal l s r d goals.Stub g =
     subst (λ (q : Value). IsFollowed l r q) (sym (stub_value d)) follow
 followed_goal l s r d goals.Symbol g = subst (λ (q : Value). IsFollowed l r q) (sym (symbol_value d)) (g.own refl).1
 
+-- a branch whose distance is that of the symbol itself is one by its type
+near_listed : (d : Branch) → goes_far d ≡ false → is_listed (distance_type d) branch_types ≡ true
+near_listed distances.TstBr14 h = refl
+near_listed distances.CondBr19 h = refl
+near_listed other h = cc
+
 gives_goal : (l : Layout) (w : World) (m : Memory) (s : Item) (r : InputRelocation) (d : Branch) (goal : Goal) (v : ℕ) → KindLaws → GoesWell l s r d goal → HasTerm l w m s r (new_row d goal) v → Gives (expressed_of d) l w m s r v
 gives_goal l w m s r d goals.Stub v laws g there =
     elim (cases_Bool (goes_far d)) [
-      | inr near ↦ subst (λ (q : Value). Gives q l w m s r v) (sym (near_value d near)) (laws.stands (new_row d goals.Stub) refl l w m s r v g.on (names_none l r g.plain) there)
+      | inr near ↦ subst (λ (q : Value). Gives q l w m s r v) (sym (near_value d near)) (laws.stands (new_row d goals.Stub) refl l w m s r v g.on (ap (λ (n : ℕ). is_listed n branch_types) g.number ∙ near_listed d near) (names_none l r g.plain) there)
       | inl far ↦ subst (λ (q : Value). Gives q l w m s r v) (stub_value d ∙ sym (far_value d far)) (laws.stub (new_row d goals.Stub) refl refl l w m s r v there (followed_goal l s r d goals.Stub g))
     ]
 gives_goal l w m s r d goals.Symbol v laws g there =
@@ -567,7 +577,7 @@ branch_reads l w m s i r h present asked f = record {
     resolved to far = subst (λ (t : SymbolTest). takes_symbol t (question_around l s i r c.symbol) ≡ true) (resolved_row k.row d goal c.listed goes.written to far) takes.symbol
 
     well : GoesWell l s r d goal
-    well = record { on = c.machine; symbol = c.symbol; named = c.named; own = own; direct = direct; chosen = resolved; weak = weak; plain = c.plain }
+    well = record { on = c.machine; symbol = c.symbol; named = c.named; own = own; direct = direct; chosen = resolved; weak = weak; number = c.number ∙ goes.number; plain = c.plain }
 
     inside : r.offset + size_width old.size ≤ length s.bytes
     inside = field_within l w m s i r old.size h f.has.listed field

@@ -17,12 +17,16 @@ use Rattle.wild_slot.specs.Slots.{setting_of, named, general, plt, plain_item}
 use Rattle.wild_loader.specs.declared.memory.Memory.{Memory}
 use Rattle.wild_loader.specs.declared.world.World.{World}
 use Rattle.wild_meaning.specs.Slot.{HasWord}
-use Rattle.wild_references.specs.Stubs.{StubsJumpToSlots}
+use Rattle.wild_meaning.specs.Value.{IsDefinedBy}
+use Rattle.wild_meaning.proofs.SymbolLemmas.{canonical_is}
+use Rattle.wild_references.specs.Stubs.{StubsJumpToSlots, StubsAreOfSymbols}
+use Rattle.wild_references.proofs.Symbols.{IsResolvedBy}
+use Rattle.wild_references.proofs.WholeSections.{placed_output}
 use Rattle.wild_references.proofs.SlotContents.{ItemsHold}
-use Rattle.wild_references.proofs.SlotFlags.{slot_of_stub}
+use Rattle.wild_references.proofs.SlotFlags.{listed_at, slot_of_stub}
 use Rattle.wild_references.proofs.FirstSlots.{own_item, own_is, symbol_held, as_address, items_behind}
-use Rattle.wild_references.proofs.StubCode.{StubLaws, has_places, stub_goes}
-use Rattle.wild_references.proofs.SymbolStubs.{in_reach}
+use Rattle.wild_references.proofs.StubCode.{StubLaws, has_places, stub_code}
+use Rattle.wild_references.proofs.SymbolStubs.{in_reach, stub_from, stub_is}
 
 -- what memory has of slots that begin with a word
 record BeginsWithWord (w : World) (m : Memory) (at : ℕ) (rest : List SlotItem) : Type 0 where
@@ -66,5 +70,12 @@ each_stub law = λ l w m x machine own agrees slots i p s r listed decided stub.
       given = given;
       target = first.word;
       word = first.there;
-      jumps = stub_goes law l m w.base at p first.word (has_places l w i at s x listed slot.1) machine (in_reach l w m at p r given stub first.behind) (here.stub p has) first.there;
+      code = stub_code law l m w.base at p first.word (has_places l w i at s x listed slot.1) machine (in_reach l w m at p r given stub first.behind) (here.stub p has) first.there;
     }
+
+-- ---- each represents its symbol
+
+pub stubs_of_symbols : StubLaws → StubsAreOfSymbols
+stubs_of_symbols law = λ l w m all paged loads own numbers legal laid loaded slots i p h.
+    let d : IsResolvedBy l i h.resolution = record { symbol = h.symbol; listed = listed_at l i h.definition h.symbol h.defined h.listed; defined = subst (λ (c : ℕ). IsDefinedBy l i c) (sym (canonical_is l i h.definition h.defined)) h.defined; decided = h.decided } in
+    stub_is l w m i p (stub_from law l w m i p h.resolution (placed_output l w m paged loads own numbers legal laid loaded (λ keeps. slots)) all d h.stub)

@@ -60,7 +60,7 @@ use Rattle.wild_loader.specs.declared.kind.DynamicKind.TheVariants as works
 use Rattle.wild_loader.specs.declared.memory.Memory.{Memory}
 use Rattle.wild_loader.specs.declared.world.World.{World}
 use Rattle.wild_meaning.specs.Field.{formula_of}
-use Rattle.wild_meaning.specs.Formula.{IsTarget, IsSum, IsExtent, IsWhole, Gives}
+use Rattle.wild_meaning.specs.Formula.{IsSymbolAddress, IsSum, IsExtent, IsWhole, Gives}
 use Rattle.wild_types.specs.Item.{Item}
 use Rattle.wild_meaning.specs.Value.{HasRaw, HasOwnValue, HasFlag, HasAnswer, IsReplaceable, may_be_replaced, is_library}
 use Rattle.wild_references.specs.Terms.{IsPlaced}
@@ -176,7 +176,7 @@ symbolic_given l w m s r i number symbol addend z bs f p fits named none value f
     let c = symbol_change (processor_of l.machine) w number symbol addend reads.0 is low reads.1 in
     let x = (c.0.answer.address + addend) % 2 ^ 64 in
     let a = answered_value l w i c.0.answer p.legal.symbols (has_answer l w i symbol by.0 by.1 by.2 c.0) in
-    let target : IsTarget l w m r.symbol c.0.answer.address = subst (λ (o : Option ℕ). IsTarget l w m o c.0.answer.address) (sym named) (inl a) in
+    let target : IsSymbolAddress l w m r.symbol c.0.answer.address = subst (λ (o : Option ℕ). IsSymbolAddress l w m o c.0.answer.address) (sym named) (inl a) in
     let sum : x ≡ (c.0.answer.address + more r) % 2 ^ 64 = ap (λ (k : ℕ). (c.0.answer.address + k) % 2 ^ 64) (sym d.2) in
     sum_given l w m s r f bs x value full (record { symbol = c.0.answer.address; denoted = address_referent l w m s r c.0.answer.address none target; sum = sum }) (bytes_are bs reads.0 (changes.Word x) c.1 reads.2) (omega arith)
 
@@ -247,7 +247,7 @@ indirect_given l w m s r i number symbol addend z bs f p listed chosen named val
     let c = resolver_change (processor_of l.machine) w number symbol addend reads.0 is low reads.1 in
     let z = slice_get_inside l.symbols i listed in
     let a : HasOwnValue l w i c.0 = record { raw = addend; given = raw; indirect = true; resolved = chosen.chosen; still = has_flag (flags_at l i) absolute; absolute = flag_at l i absolute z.0 p.symbols.named z.1; is = c.1 } in
-    let target : IsTarget l w m r.symbol c.0 = subst (λ (o : Option ℕ). IsTarget l w m o c.0) (sym named) (inl (inr (chosen.own, a))) in
+    let target : IsSymbolAddress l w m r.symbol c.0 = subst (λ (o : Option ℕ). IsSymbolAddress l w m o c.0) (sym named) (inl (inr (chosen.own, a))) in
     let x = (c.0 + more r) % 2 ^ 64 in
     let bytes = bytes_are bs reads.0 (changes.Word c.0) c.2 reads.2 in
     record { value = x; gives = subst (λ (v : Value). Gives v l w m s r x) (sym value) (record { symbol = c.0; denoted = address_referent l w m s r c.0 (resolver_none l r i named chosen.chosen) target; sum = refl }); reads = subst (λ (k : Form). Reads k bs x) (sym full) (ap words.number bytes ∙ (number_of_word c.0 ∙ sum_none c.0 (more r) d.2)); keeps = λ old. subst (λ (k : Form). Keeps k old bs) (sym full) tt }

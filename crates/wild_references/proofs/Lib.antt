@@ -95,6 +95,7 @@ mod WordsAArch64
 mod RunWords
 mod SequencesAArch64
 mod OmittedSequences
+mod RewrittenReads
 mod RewrittenRuns
 mod RewrittenSequences
 mod RewrittenCode

@@ -31,9 +31,9 @@ use Rattle.wild_loader.specs.declared.memory.Memory.{Memory}
 use Rattle.wild_types.specs.Item.{Item}
 use Rattle.wild_meaning.specs.Item.{place_at}
 use Rattle.wild_meaning.specs.Value.{IsAbsolute, IsReplaceable, HasFlag, HasOwnValue, with_base}
-use Rattle.wild_meaning.specs.Denotes.{Denotes}
 use Rattle.wild_meaning.specs.ReferentAArch64.{IsUndefinedWeak, own_place, IsOneAddress, RepresentsOnAArch64}
-use Rattle.wild_meaning.specs.Formula.{IsTarget, IsPlaceRelative, UsesOwnPlace, IsReferentOnAArch64, IsReferent, IsOwnTarget, IsOwnReferentOnAArch64, IsOwnReferent, TakesAddress, TakesOffset, TakesString}
+use Rattle.wild_meaning.proofs.SymbolLemmas.{one_is_address, on_x86_64}
+use Rattle.wild_meaning.specs.Formula.{IsSymbolAddress, IsPlaceRelative, UsesOwnPlace, IsReferentOnX86_64, IsReferentOnAArch64, IsReferent, IsOwnTarget, IsOwnReferentOnAArch64, IsOwnReferent, TakesAddress, TakesOffset, TakesString}
 use Rattle.wild_meaning.specs.Reference.{HasStubAddress}
 use Rattle.wild_geometry.proofs.JudgedLemmas.{flag_is}
 use Rattle.wild_references.specs.Terms.{IsPlaced, page_mask, is_mask, is_table, is_expressed, value_by_row, IsDirect, HasTerm, IsFollowed}
@@ -140,16 +140,16 @@ pub own_referent : (v : Value) (l : Layout) (w : World) (m : Memory) (s : Item) 
 own_referent v l w m s r i on named takes =
     subst (λ (k : Machine). IsReferent k v l w m s r (own_place w s r)) (sym on) (inr ((λ t. absent_none l r i named takes.1 t.1), subst (λ (o : Option ℕ). IsReferentOnAArch64 v l w m s r o (own_place w s r)) (sym named) (inl (takes, refl))))
 
-pub referent : (v : Value) (l : Layout) (w : World) (m : Memory) (s : Item) (r : InputRelocation) (a : ℕ) → (TakesString v l r → ⊥) → IsTarget l w m r.symbol a → ((i : ℕ) → r.symbol ≡ Some i → l.machine ≡ machine.AArch64 → (UsesOwnPlace v l i → ⊥) × RepresentsOnAArch64 v l w m r i a) → IsReferent l.machine v l w m s r a
-referent v l w m s r a none target stands = by_machine l.machine refl
+pub referent : (v : Value) (l : Layout) (w : World) (m : Memory) (s : Item) (r : InputRelocation) (a : ℕ) → (TakesString v l r → ⊥) → (l.machine ≡ machine.X86_64 → IsReferentOnX86_64 v l w m r.symbol a) → (r.symbol ≡ None → a ≡ 0) → ((i : ℕ) → r.symbol ≡ Some i → l.machine ≡ machine.AArch64 → (UsesOwnPlace v l i → ⊥) × RepresentsOnAArch64 v l w m r i a) → IsReferent l.machine v l w m s r a
+referent v l w m s r a none target zero stands = by_machine l.machine refl
   where
-    by_symbol : (o : Option ℕ) → r.symbol ≡ o → l.machine ≡ machine.AArch64 → IsTarget l w m o a → IsReferentOnAArch64 v l w m s r o a
-    by_symbol None e on t = t
-    by_symbol (Some i) e on t = inr (stands i e on)
+    by_symbol : (o : Option ℕ) → r.symbol ≡ o → l.machine ≡ machine.AArch64 → IsReferentOnAArch64 v l w m s r o a
+    by_symbol None e on = zero e
+    by_symbol (Some i) e on = inr (stands i e on)
 
     by_machine : (k : Machine) → l.machine ≡ k → IsReferent k v l w m s r a
-    by_machine machine.X86_64 e = inr (none, target)
-    by_machine machine.AArch64 e = inr (none, by_symbol r.symbol refl e target)
+    by_machine machine.X86_64 e = inr (none, target e)
+    by_machine machine.AArch64 e = inr (none, by_symbol r.symbol refl e)
 
 -- the same with the output's own symbol
 pub own_place_referent : (v : Value) (l : Layout) (w : World) (s : Item) (r : InputRelocation) (i : ℕ) → l.machine ≡ machine.AArch64 → r.symbol ≡ Some i → UsesOwnPlace v l i → IsOwnReferent l.machine v l w s r (own_place w s r)
@@ -168,16 +168,12 @@ own_symbol_referent v l w s r i a named none value = by_machine l.machine refl
 
 -- ---- S
 
-denoted_one : (l : Layout) (w : World) (m : Memory) (i a : ℕ) → IsOneAddress l w m i a → Denotes l w m i a
-denoted_one l w m i a (inl h) = h.3
-denoted_one l w m i a (inr h) = inl h.1
-
 stands_as : (v : Value) (l : Layout) (w : World) (m : Memory) (r : InputRelocation) (i a : ℕ) → TakesAddress v → IsOneAddress l w m i a → RepresentsOnAArch64 v l w m r i a
-stands_as SymbolAddress l w m r i a takes h = denoted_one l w m i a h
+stands_as SymbolAddress l w m r i a takes h = one_is_address l w m i a h
 stands_as SymbolPart l w m r i a takes h = h
-stands_as Distance l w m r i a takes h = denoted_one l w m i a h
+stands_as Distance l w m r i a takes h = inl (one_is_address l w m i a h)
 stands_as PageDistance l w m r i a takes h = h
-stands_as FromTable l w m r i a takes h = denoted_one l w m i a h
+stands_as FromTable l w m r i a takes h = one_is_address l w m i a h
 stands_as other l w m r i a takes h = absurd takes
 
 -- what A is added to in memory, for the writer's term a: it moves with the base, or is an absolute symbol
@@ -273,10 +269,10 @@ refers law l w m s r info x h symbol takes f = by_own (weak_resolves_to_place l.
         let t = addressed law l w m r.symbol h.term h.placed stands (follows l r v takes f) given in
         let target = with_base t.still w.base h.term in
         let one : (i : ℕ) → r.symbol ≡ Some i → IsOneAddress l w m i target = λ i named.
-        one_addressed l w m i h.term t.still h.placed (follows l r v takes f i named) (subst (λ (o : Option ℕ). address_of l o ≡ Ok h.term) named given) (t.flag i named) (subst (λ (o : Option ℕ). IsTarget l w m o target) named t.denoted) in
+        one_addressed l w m i h.term t.still h.placed (follows l r v takes f i named) (subst (λ (o : Option ℕ). address_of l o ≡ Ok h.term) named given) (t.flag i named) (subst (λ (o : Option ℕ). IsSymbolAddress l w m o target) named t.denoted) in
         record {
           still = t.still;
-          referent = referent v l w m s r target (λ t. names_none l r none t.1) t.denoted (λ i named on. (no_own_place l w m s r info x i h symbol named e on, stands_as v l w m r i target takes (one i named)));
+          referent = referent v l w m s r target (λ t. names_none l r none t.1) (λ x. on_x86_64 v l w m r.symbol target t.denoted) (λ e. subst (λ (o : Option ℕ). IsSymbolAddress l w m o target) e t.denoted) (λ i named on. (no_own_place l w m s r info x i h symbol named e on, stands_as v l w m r i target takes (one i named)));
           flag = λ none i named. t.flag i named;
           absolute = t.absolute;
         }
@@ -330,8 +326,8 @@ own_refers l w m s r info x i h symbol named whose alone = by_own (weak_resolves
         }
 
 -- of an expression that is S + A itself no place is taken
-pub address_referent : (l : Layout) (w : World) (m : Memory) (s : Item) (r : InputRelocation) (a : ℕ) → (NamesStrings l r → ⊥) → IsTarget l w m r.symbol a → IsReferent l.machine SymbolAddress l w m s r a
-address_referent l w m s r a none t = referent SymbolAddress l w m s r a (λ u. none u.1) t (λ i named on. (λ own. own.0, subst (λ (o : Option ℕ). IsTarget l w m o a) named t))
+pub address_referent : (l : Layout) (w : World) (m : Memory) (s : Item) (r : InputRelocation) (a : ℕ) → (NamesStrings l r → ⊥) → IsSymbolAddress l w m r.symbol a → IsReferent l.machine SymbolAddress l w m s r a
+address_referent l w m s r a none t = referent SymbolAddress l w m s r a (λ u. none u.1) (λ x. t) (λ e. subst (λ (o : Option ℕ). IsSymbolAddress l w m o a) e t) (λ i named on. (λ own. own.0, subst (λ (o : Option ℕ). IsSymbolAddress l w m o a) named t))
 
 pub own_address_referent : (l : Layout) (w : World) (s : Item) (r : InputRelocation) (i a : ℕ) → r.symbol ≡ Some i → HasOwnValue l w i a → IsOwnReferent l.machine SymbolAddress l w s r a
 own_address_referent l w s r i a named value = own_symbol_referent SymbolAddress l w s r i a named (λ on own. own.0) value

@@ -16,7 +16,7 @@ use Rattle.wild_aarch64.specs.declared.code.Code.{Code}
 use Rattle.wild_aarch64.specs.declared.code.Code.TheVariants.{Adrp, Add, Ldr, Blr}
 use Rattle.wild_aarch64.specs.Machine.{does, page, sum_64, run, meaning}
 use Rattle.wild_aarch64.specs.Effect as judged
-use Rattle.wild_aarch64.specs.Effect.{ReadsNumbers, shapes, words_of, effect_of_action, as_effect}
+use Rattle.wild_aarch64.specs.Effect.{shapes, words_of, effect_of_action, as_effect}
 use Rattle.wild_aarch64.specs.Row.{IsValueOf}
 use Rattle.wild_relax.specs.declared.pattern.Sequence.{Sequence}
 use Rattle.wild_relax.specs.declared.pattern.Sequence.TheVariants.{DescriptorCall, OffsetSlot, Address}
@@ -40,8 +40,8 @@ use Rattle.wild_types.specs.Item.{Item}
 use Rattle.wild_meaning.specs.WordsAArch64.{reads_numbers}
 use Rattle.wild_meaning.specs.Item.{place_at}
 use Rattle.wild_meaning.specs.Sequence.{Instruction, size_of}
-use Rattle.wild_meaning.specs.Template.{reads_without_calls, DoesDemanded}
-use Rattle.wild_meaning.specs.Reference.{IsOwnSlot, ReadsOwnSlots}
+use Rattle.wild_meaning.specs.Reference.{IsOffsetSlot, ReadsOffsetSlots}
+use Rattle.wild_references.proofs.RewrittenReads.{reads_at}
 use Rattle.wild_references.proofs.Does.{read_all}
 use Rattle.wild_references.proofs.WordsAArch64.{fours, AreWordsThere, read_is, words_there}
 use Rattle.wild_references.proofs.RunsAArch64.{RunDoes, set_to, address_run, slot_run, call_run}
@@ -210,11 +210,6 @@ acts_so : (read : Reader) (act : Action) (e : Effect) (o : Option Action) → o 
 acts_so read act e o is h = subst (λ (x : Option Action). option_and_then (effect read) x ≡ Some e) is h
 
 -- where it does the same with a reader that reads one word alone, it reads no other
-abbrev pub reads_at : ℕ → ℕ → Reader
-reads_at g v (Number n) = Some n
-reads_at g v (Word a) = if a == g then Some v else None
-reads_at g v other = None
-
 word_of : (g v a : ℕ) (act : Action) (e : Effect) → act.operand ≡ Word a → effect (reads_at g v) act ≡ Some e → a ≡ g
 word_of g v a act e is h = by (a == g) refl (subst (λ (x : Operand). option_map (λ (n : ℕ). record { deed = act.deed; width = act.width; value = n % 2 ^ act.width }) (reads_at g v x) ≡ Some e) is h)
   where
@@ -229,20 +224,15 @@ no_word a act e is h = by (subst (λ (x : Operand). option_map (λ (n : ℕ). re
     by k = cc
 
 -- no slot is read
-pub no_slot : (l : Layout) (w : World) (m : Memory) (s : Item) (first : InputRelocation) (start : ℕ) (o : Instruction) (v : ℕ) (ws us : List ℕ) → size_of o ≡ fours (length us) → AreWordsThere m (place_at w s start) us → RunDoes reads_numbers (place_at w s start) v ws us → ReadsOwnSlots machine.AArch64 l w m s first start o
+pub no_slot : (l : Layout) (w : World) (m : Memory) (s : Item) (first : InputRelocation) (start : ℕ) (o : Instruction) (v : ℕ) (ws us : List ℕ) → size_of o ≡ fours (length us) → AreWordsThere m (place_at w s start) us → RunDoes reads_numbers (place_at w s start) v ws us → ReadsOffsetSlots machine.AArch64 l w m s first start o
 no_slot l w m s first start o v ws us size there does = λ bytes act a long held meant is.
     let same = bytes_are m us (place_at w s start) bytes there (long ∙ size) held in
     let here = subst (λ (xs : List ℕ). option_and_then action_of (meaning (place_at w s start) xs) ≡ Some act) same meant in
     absurd (no_word a act does.0 is (acts_so reads_numbers act does.0 _ here does.2))
 
 -- the slot of the symbol is
-pub one_slot_read : (l : Layout) (w : World) (m : Memory) (s : Item) (first : InputRelocation) (start : ℕ) (o : Instruction) (v g : ℕ) (ws us : List ℕ) → size_of o ≡ fours (length us) → AreWordsThere m (place_at w s start) us → RunDoes (reads_at g v) (place_at w s start) v ws us → IsOwnSlot l w first.symbol g → ReadsOwnSlots machine.AArch64 l w m s first start o
+pub one_slot_read : (l : Layout) (w : World) (m : Memory) (s : Item) (first : InputRelocation) (start : ℕ) (o : Instruction) (v g : ℕ) (ws us : List ℕ) → size_of o ≡ fours (length us) → AreWordsThere m (place_at w s start) us → RunDoes (reads_at g v) (place_at w s start) v ws us → IsOffsetSlot l w first.symbol g → ReadsOffsetSlots machine.AArch64 l w m s first start o
 one_slot_read l w m s first start o v g ws us size there does own = λ bytes act a long held meant is.
     let same = bytes_are m us (place_at w s start) bytes there (long ∙ size) held in
     let here = subst (λ (xs : List ℕ). option_and_then action_of (meaning (place_at w s start) xs) ≡ Some act) same meant in
-    subst (IsOwnSlot l w first.symbol) (sym (word_of g v a act does.0 is (acts_so (reads_at g v) act does.0 _ here does.2))) own
-
--- the code in place of a run does what that demands, and reads no word but a slot of the symbol
-pub record IsDone (l : Layout) (w : World) (m : Memory) (s : Item) (first : InputRelocation) (start : ℕ) (o : Instruction) : Type 0 where
-  pub does : DoesDemanded (reads_without_calls w m) l w m s first start o
-  pub words : ReadsOwnSlots machine.AArch64 l w m s first start o
+    subst (IsOffsetSlot l w first.symbol) (sym (word_of g v a act does.0 is (acts_so (reads_at g v) act does.0 _ here does.2))) own

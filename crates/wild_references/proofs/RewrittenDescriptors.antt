@@ -36,7 +36,8 @@ use Rattle.wild_loader.specs.declared.instruction.Operand.TheVariants.{Number}
 use Rattle.wild_references.specs.Laws.{IsLoadedItem, TermGives}
 use Rattle.wild_references.proofs.RunsAArch64.{RunDoes}
 use Rattle.wild_references.proofs.WordsAArch64.{IsWordThere, AreWordsThere, by_words}
-use Rattle.wild_references.proofs.RewrittenCode.{run_done, words_of-front, no_slot, IsDone}
+use Rattle.wild_references.proofs.RewrittenCode.{run_done, words_of-front, no_slot}
+use Rattle.wild_references.proofs.RewrittenReads.{IsDone}
 use Rattle.wild_references.proofs.RewrittenOffsets.{IsWrittenWord, WritesWord, IsOffsetRow, word_there, word_small, word_same, written_long, value_of_word, offset_of_word, one_value, within_32}
 
 pub first_word : WritesWord CALL_FIRST
@@ -102,7 +103,7 @@ four_words p q t u a b c e =
 pub call_to_offset : RowsOfAArch64Keep → TermGives term.PointerOffset → (l : Layout) (w : World) (m : Memory) (s : Item) (first : InputRelocation) (start k : ℕ) → IsLoadedItem machine.AArch64 l w m s → start + 16 ≤ length s.bytes → words_match DescriptorCall (words_at s.bytes start 4) ≡ true
     → first.symbol ≡ Some k → is_executable l.kind ≡ true → interposable (flags_at l k) ≡ false
     → IsWrittenPart l s first start CALL_FIRST → IsWrittenPart l s first (start + 4) CALL_SECOND → IsWrittenPart l s first (start + 4 + 4) CALL_THIRD → IsWrittenPart l s first (start + 4 + 4 + 4) CALL_FOURTH
-    → IsDone l w m s first start descriptor_call_words
+    → IsDone machine.AArch64 l w m s first start descriptor_call_words
 call_to_offset keeps law l w m s first start k g inside stands named program own p q t u =
     let in_p : start + 4 ≤ length s.bytes = omega (arith, inside) in
     let in_q : start + 4 + 4 ≤ length s.bytes = omega (arith, inside) in

@@ -1,5 +1,5 @@
 -- Each row: the code that it writes does what the instruction demands.
-use Rattle.std.proofs.Common.{◌≡◌, ℕ, ◌+◌, ◌^◌, ◌<◌, ◌⊎◌, inl, inr, Bool, true, false, List, refl, sym, ap, ◌∙◌, arith, subst}
+use Rattle.std.proofs.Common.{◌≡◌, ℕ, ◌+◌, ◌^◌, ◌<◌, ◌⊎◌, inl, inr, Bool, true, false, List, refl, sym, ap, ◌∙◌, arith, subst, length}
 use Rattle.std.specs.Prelude.{pos, ◌==◌, ◌&&◌, ◌||◌, not, if◌then◌else◌, Some, slice_get}
 use Rattle.std.proofs.lemmas.Bool.{cases_Bool, and_parts, or_cases, eqb-true, not-true}
 use Rattle.wild_words.proofs.Basics.{or_other, implied, listed_passes}
@@ -32,20 +32,24 @@ use Rattle.wild_relax.specs.KeepX86_64.{distance, FieldIsRight, demanded}
 use Rattle.wild_layout.specs.Sites.{template_start}
 use Rattle.wild_loader.specs.declared.memory.Memory.{Memory}
 use Rattle.wild_loader.specs.declared.world.World.{World}
+use Rattle.wild_loader.specs.Memory.{Holds}
 use Rattle.wild_meaning.specs.World.{IsMovable}
 use Rattle.wild_meaning.specs.Value.{IsAbsolute}
 use Rattle.wild_types.specs.Item.{Item}
 use Rattle.wild_meaning.specs.Item.{place_at}
 use Rattle.wild_loader.specs.Instruction.{Effect, Reader, sum_64}
-use Rattle.wild_loader.specs.InstructionX86_64.{demand_x86_64}
-use Rattle.wild_meaning.specs.Sequence.{Sort, TargetInSlot, AddressInSlot, OffsetInSlot, SymbolPair, OwnPair, Described, DescribedCall}
-use Rattle.wild_meaning.specs.Template.{reads_without_calls, demand_of, Demands, IsDemanded, no_effect, old_bytes, DoesDemanded}
-use Rattle.wild_loader.specs.declared.instruction.Operand.TheVariants.{Word}
+use Rattle.wild_loader.specs.InstructionX86_64.{effect_x86_64, demand_x86_64}
+use Rattle.wild_meaning.specs.Sequence.{Instruction, size_of, Sort, TargetInSlot, AddressInSlot, OffsetInSlot, SymbolPair, OwnPair, Described, DescribedCall}
+use Rattle.wild_meaning.specs.Template.{reads_without_calls, demand_of, Demands, IsDemanded, no_effect, old_bytes}
+use Rattle.wild_loader.specs.declared.instruction.Operand.TheVariants.{Number, Word}
+use Rattle.wild_meaning.specs.WordsAArch64.{reads_numbers}
 use Rattle.wild_meaning.specs.Formula.{IsOffset, HasOffsetMode}
 use Rattle.wild_layout.specs.Choice.{question_of}
 use Rattle.wild_relax.proofs.RoomLemmas.{applied}
 use Rattle.wild_relax.proofs.RowLemmas.{signed_32s, unsigned_32}
 use Rattle.wild_references.specs.Laws.{IsLoadedItem}
+use Rattle.wild_references.proofs.RewrittenReads.{IsDone, ReadsOnlySlots, no_slots, reads_only}
+use Rattle.wild_meaning.proofs.SymbolLemmas.{target_of, slot_address_of}
 use Rattle.wild_references.proofs.RewrittenForms.{instruction_of}
 use Rattle.wild_references.proofs.RewrittenPairs.{paired}
 use Rattle.wild_references.proofs.RewrittenPlaces.{LawsBelow, IsPlacedRow, is_code, mandatory_static}
@@ -54,12 +58,12 @@ use Rattle.wild_references.proofs.RewrittenInInput.{called}
 use Rattle.wild_references.proofs.RewrittenTerms.{info_is}
 use Rattle.wild_references.proofs.RewrittenValues.{known_still}
 use Rattle.wild_references.proofs.RewrittenOperands.{LandsFar, LandsItself, not_absolute, not_moved, lands_far, lands_itself}
-use Rattle.wild_references.proofs.RewrittenThreads.{LandsOffset, lands_offset, lands_slot, offset_mode, own_base}
+use Rattle.wild_references.proofs.RewrittenThreads.{LandsOffset, LandsSlot, lands_offset, lands_slot, offset_mode, own_base}
 use Rattle.wild_references.proofs.RewrittenEffects.{old_of, effect_kept, on_machine, whole_is, does_by}
 
--- the row's code does what the instruction demands
+-- the row's code does what the instruction demands, and reads no word but the slot of the symbol's offset
 abbrev pub DoesRow : Layout → World → Memory → Item → InputRelocation → Row → Type 0
-DoesRow l w m s r row = DoesDemanded (reads_without_calls w m) l w m s r (template_start row r) (instruction_of row)
+DoesRow l w m s r row = IsDone machine.X86_64 l w m s r (template_start row r) (instruction_of row)
 
 -- ---- addresses
 
@@ -200,6 +204,72 @@ on_where true must static h f e = refl
 on_where false true static h f e = (let t = f refl in cc)
 on_where false false static h f e = cc
 
+-- what is written has the demanded effect, for any reader of operands
+effect_as : LawsBelow → (l : Layout) (w : World) (m : Memory) (s : Item) (i : ℕ) (r : InputRelocation) (row : Row) (v n : ℕ) (e : Effect) → IsLoadedItem machine.X86_64 l w m s → IsPlacedRow l s i r row v → n < 2 ^ 64 → ((read : Reader) → FieldIsRight row.written read (place_at w s (template_start row r) + field_in row) n v)
+    → ((a : ℕ) (old : List ℕ) → demanded row.made n a old ≡ Some e) → (read : Reader) → ((k : ℕ) → read (Number k) ≡ Some k) → effect_x86_64 read (place_at w s (template_start row r)) (template_of row v (old_of s row r)) ≡ Some e
+effect_as laws l w m s i r row v n e h p small lands asks read numbers =
+    let a = place_at w s (template_start row r) in
+    effect_kept laws read numbers l w m s i r row v n a h p small (lands read) ∙ asks a (old_of s row r)
+
+chosen_first : (b x y : Bool) → b ≡ true → (if b then x else y) ≡ true → x ≡ true
+chosen_first true x y e h = h
+chosen_first false x y e h = cc
+
+-- what a call that is left out demands
+zero_is_demanded : (o : Sort) (l : Layout) (w : World) (m : Memory) (s : Item) (r : InputRelocation) (n : ℕ) → o ≡ DescribedCall → n ≡ 0 → Demands o l w m s r n
+zero_is_demanded o l w m s r n e z = subst (λ (x : Sort). Demands x l w m s r n) (sym e) z
+
+nothing_is_demanded : (o : Sort) (l : Layout) (s : Item) (n a : ℕ) (old : List ℕ) (e : Effect) → o ≡ DescribedCall → HasOffsetMode l s → e ≡ no_effect → IsDemanded o l s n a old e
+nothing_is_demanded o l s n a old e call offsets nothing = subst (λ (x : Sort). IsDemanded x l s n a old e) (sym call) (inl (offsets, nothing))
+
+-- code that has the same effect for every reader of operands does what is demanded, and reads no other word
+does_always : (l : Layout) (w : World) (m : Memory) (s : Item) (r : InputRelocation) (start : ℕ) (o : Instruction) (bytes : List ℕ) (n : ℕ) (e : Effect) (only : Reader) → ReadsOnlySlots l w r.symbol only → l.machine ≡ machine.X86_64 → length bytes ≡ size_of o → Holds m (place_at w s start) bytes
+    → ((read : Reader) → ((k : ℕ) → read (Number k) ≡ Some k) → effect_x86_64 read (place_at w s start) bytes ≡ Some e) → Demands o.sort l w m s r n → IsDemanded o.sort l s n (place_at w s start) (old_bytes s start o) e → IsDone machine.X86_64 l w m s r start o
+does_always l w m s r start o bytes n e only reads on whole held does demands demanded = record {
+  words = reads_only only l w m s r start o bytes e reads whole held (does only reads.numbers);
+  does = record {
+    value = n;
+    demands = demands;
+    code = record {
+      effect = e;
+      demanded = demanded;
+      bytes = bytes;
+      whole = whole;
+      held = held;
+      does = on_machine l.machine (reads_without_calls w m) (place_at w s start) bytes on ∙ does (reads_without_calls w m) (λ k. refl);
+    };
+  };
+}
+
+-- where the row's field is in memory
+abbrev field_place : World → Item → InputRelocation → Row → ℕ
+field_place w s r row = place_at w s (template_start row r) + field_in row
+
+-- with an operand that is right for some reader of no other word, the row's code does what is demanded
+does_operand : LawsBelow → (l : Layout) (w : World) (m : Memory) (s : Item) (i : ℕ) (r : InputRelocation) (row : Row) (v n : ℕ) (o : Sort) → IsLoadedItem machine.X86_64 l w m s → IsPlacedRow l s i r row v → (instruction_of row).sort ≡ o → is_nop row.made ≡ false → Demands o l w m s r n → n < 2 ^ 64
+    → FieldIsRight row.written (reads_without_calls w m) (field_place w s r row) n v → (only : Reader) → ReadsOnlySlots l w r.symbol only → FieldIsRight row.written only (field_place w s r row) n v → ((a : ℕ) (old : List ℕ) (e : Effect) → demand_of l.machine n a old ≡ Some e → IsDemanded o l s n a old e) → DoesRow l w m s r row
+does_operand laws l w m s i r row v n o h p sort acts demands small lands only reads lands_only told =
+    does_by laws l w m s i r row v n h p (subst (λ (x : Sort). Demands x l w m s r n) (sym sort) demands) small lands only reads lands_only (λ a old. demanded_as row.made n a old acts)
+    (λ a old e k. subst (λ (x : Sort). IsDemanded x l s n a old e) (sym sort) (told a old e k))
+
+-- the same with an operand that is right for every reader, so in the code itself
+does_number : LawsBelow → (l : Layout) (w : World) (m : Memory) (s : Item) (i : ℕ) (r : InputRelocation) (row : Row) (v n : ℕ) (o : Sort) → IsLoadedItem machine.X86_64 l w m s → IsPlacedRow l s i r row v → (instruction_of row).sort ≡ o → is_nop row.made ≡ false → Demands o l w m s r n → n < 2 ^ 64
+    → ((read : Reader) → FieldIsRight row.written read (field_place w s r row) n v) → ((a : ℕ) (old : List ℕ) (e : Effect) → demand_of l.machine n a old ≡ Some e → IsDemanded o l s n a old e) → DoesRow l w m s r row
+does_number laws l w m s i r row v n o h p sort acts demands small lands told = does_operand laws l w m s i r row v n o h p sort acts demands small (lands (reads_without_calls w m)) reads_numbers (no_slots l w r.symbol) (lands reads_numbers) told
+
+-- a call that is left out
+does_nothing : LawsBelow → (l : Layout) (w : World) (m : Memory) (s : Item) (i : ℕ) (r : InputRelocation) (row : Row) (v n : ℕ) (e : Effect) → IsLoadedItem machine.X86_64 l w m s → IsPlacedRow l s i r row v → n < 2 ^ 64 → n ≡ 0 → e ≡ no_effect → (instruction_of row).sort ≡ DescribedCall → HasOffsetMode l s
+    → ((read : Reader) → FieldIsRight row.written read (field_place w s r row) n v) → ((a : ℕ) (old : List ℕ) → demanded row.made n a old ≡ Some e) → DoesRow l w m s r row
+does_nothing laws l w m s i r row v n e h p small zero nothing call offsets lands asks =
+    does_always l w m s r (template_start row r) (instruction_of row) (template_of row v (old_of s row r)) n e reads_numbers (no_slots l w r.symbol) h.on (whole_is l w m s i r row v h p) (h.item.rewritten i r row v p.has) (effect_as laws l w m s i r row v n e h p small lands asks)
+    (zero_is_demanded (instruction_of row).sort l w m s r n call zero) (nothing_is_demanded (instruction_of row).sort l s n (place_at w s (template_start row r)) (old_bytes s (template_start row r) (instruction_of row)) e call offsets nothing)
+
+-- an operand in the slot of the symbol's offset
+does_slot : LawsBelow → (l : Layout) (w : World) (m : Memory) (s : Item) (i : ℕ) (r : InputRelocation) (row : Row) (v : ℕ) (o : Sort) → IsLoadedItem machine.X86_64 l w m s → IsPlacedRow l s i r row v → (x : LandsSlot l w m s r row v) → number_written row.written ≡ r_x86_64_gottpoff → (instruction_of row).sort ≡ o → is_nop row.made ≡ false → Demands o l w m s r x.operand
+    → ((a : ℕ) (old : List ℕ) (e : Effect) → demand_of l.machine x.operand a old ≡ Some e → IsDemanded o l s x.operand a old e) → DoesRow l w m s r row
+does_slot laws l w m s i r row v o h p x written sort acts demands told =
+    does_operand laws l w m s i r row v x.operand o h p sort acts demands x.is.small (lands_slot_as row.written (reads_without_calls w m) (field_place w s r row) x.operand v written x.lands) x.only x.reads (lands_slot_as row.written x.only (field_place w s r row) x.operand v written x.lands_only) told
+
 -- what the row writes goes by what is written, but a call that is left out
 abbrev pub IsWhole : Layout → Row → Type 0
 IsWhole l row = is_call (instruction_of row).sort ≡ false → KeepsAll l
@@ -237,39 +307,37 @@ does_row laws l w m s i r row v h whole p asked = by (cases_Bool (is_call (instr
     kept : counts_ends row ≡ true → (rewrite_of row).addend r.addend ≡ r.addend
     kept e = ap (λ (b : Bool). addend_by b r.addend) (and_parts (change_of row.made).keeps_addend ((row.ends || row.needs_end) || is_skip (rewrite_of row).next) e).0
 
-    itself : (n : ℕ) → counts_none row ≡ true → v ≡ n → FieldIsRight row.written (reads_without_calls w m) place n v
-    itself n e h = lands_as row.written (reads_without_calls w m) place n v (and_parts (not (change_of row.made).keeps_addend) (is_itself row.written) e).1 h
+    itself : (n : ℕ) → counts_none row ≡ true → v ≡ n → (read : Reader) → FieldIsRight row.written read place n v
+    itself n e h read = lands_as row.written read place n v (and_parts (not (change_of row.made).keeps_addend) (is_itself row.written) e).1 h
 
     taken : (t : ValueTest) → row.value ≡ t → takes_value t q ≡ true
     taken t e = subst (λ (x : ValueTest). takes_value x q ≡ true) e p.stands.taken.value
 
-    finish : (o : Sort) (n : ℕ) → (instruction_of row).sort ≡ o → is_nop row.made ≡ false → Demands o l w m s r n → n < 2 ^ 64 → FieldIsRight row.written (reads_without_calls w m) place n v
+    finish_number : (o : Sort) (n : ℕ) → (instruction_of row).sort ≡ o → is_nop row.made ≡ false → Demands o l w m s r n → n < 2 ^ 64 → ((read : Reader) → FieldIsRight row.written read place n v)
         → ((a : ℕ) (old : List ℕ) (e : Effect) → demand_of l.machine n a old ≡ Some e → IsDemanded o l s n a old e) → DoesRow l w m s r row
-    finish o n sort acts demands small lands told =
-        does_by laws l w m s i r row v n h p (subst (λ (x : Sort). Demands x l w m s r n) (sym sort) demands) small lands (λ a old. demanded_as row.made n a old acts)
-        (λ a old e k. subst (λ (x : Sort). IsDemanded x l s n a old e) (sym sort) (told a old e k))
+    finish_number o n sort acts demands small lands told = does_number laws l w m s i r row v n o h p sort acts demands small lands told
 
     number : KeepsAll l → (t : ValueTest) (held : Bool) → takes_value t q ≡ (is_own q && (is_known q && held)) → ((rewrite_of row).number ≡ 11) ⊎ ((rewrite_of row).number ≡ 10) → row.value ≡ t → (instruction_of row).sort ≡ AddressInSlot → is_nop row.made ≡ false → not (has_flag q.flags ifunc) ≡ true → counts_none row ≡ true → DoesRow l w m s r row
     number all t held is written takes sort acts plain counts =
         let x = number_itself laws l w m s i r row v held h all p written (none counts) plain (sym is ∙ taken t takes) in
-        finish AddressInSlot x.operand sort acts x.is.target x.is.small (itself x.operand counts x.lands) (λ a old e k. k)
+        finish_number AddressInSlot x.operand sort acts (slot_address_of l w m r.symbol x.operand x.is.target) x.is.small (itself x.operand counts x.lands) (λ a old e k. k)
 
     far : (o : Sort) (x : LandsFar l w m s r row v) → (rewrite_of row).number ≡ 2 → (instruction_of row).sort ≡ o → is_nop row.made ≡ false → Demands o l w m s r x.operand → ((a : ℕ) (old : List ℕ) (e : Effect) → demand_of l.machine x.operand a old ≡ Some e → IsDemanded o l s x.operand a old e) → DoesRow l w m s r row
-    far o x written sort acts demands told = finish o x.operand sort acts demands x.is.small (lands_far_as row.written (reads_without_calls w m) place x.operand v written x.lands) told
+    far o x written sort acts demands told = finish_number o x.operand sort acts demands x.is.small (λ read. lands_far_as row.written read place x.operand v written x.lands) told
 
     own : KeepsAll l → (o : Sort) → (instruction_of row).sort ≡ o → row.value ≡ value.Own → is_nop row.made ≡ false → is_executable l.kind ≡ true → (writes r_x86_64_tpoff32 row && counts_none row) ≡ true → ((n : ℕ) → IsOffset l w r.symbol n → Demands o l w m s r n)
         → ((n a : ℕ) (old : List ℕ) (e : Effect) → demand_of l.machine n a old ≡ Some e → IsDemanded o l s n a old e) → DoesRow l w m s r row
     own all o sort takes acts there so demands told =
         let f = and_parts (writes r_x86_64_tpoff32 row) (counts_none row) so in
         let x = own_offset laws l w m s i r row v h all p (eqb-true (number_written row.written) r_x86_64_tpoff32 f.0) (none f.1) there (taken value.Own takes) in
-        finish o x.operand sort acts (demands x.operand x.is.offset) x.is.small (itself x.operand f.1 x.lands) (told x.operand)
+        finish_number o x.operand sort acts (demands x.operand x.is.offset) x.is.small (itself x.operand f.1 x.lands) (told x.operand)
 
     slot : KeepsAll l → (o : Sort) → (instruction_of row).sort ≡ o → is_nop row.made ≡ false → (writes r_x86_64_gottpoff row && counts_ends row) ≡ true → ((n : ℕ) → IsOffset l w r.symbol n → Demands o l w m s r n)
         → ((n a : ℕ) (old : List ℕ) (e : Effect) → demand_of l.machine n a old ≡ Some e → IsDemanded o l s n a old e) → DoesRow l w m s r row
     slot all o sort acts so demands told =
         let f = and_parts (writes r_x86_64_gottpoff row) (counts_ends row) so in
         let x = lands_slot laws l w m s i r row v h all p (eqb-true (number_written row.written) r_x86_64_gottpoff f.0) (kept f.1) (ends f.1) in
-        finish o x.operand sort acts (demands x.operand x.is.offset) x.is.small (lands_slot_as row.written (reads_without_calls w m) place x.operand v (eqb-true (number_written row.written) r_x86_64_gottpoff f.0) x.lands) (told x.operand)
+        does_slot laws l w m s i r row v o h p x (eqb-true (number_written row.written) r_x86_64_gottpoff f.0) sort acts (demands x.operand x.is.offset) (told x.operand)
 
     act : KeepsAll l → (o : Sort) (t : ValueTest) → (instruction_of row).sort ≡ o → row.value ≡ t → is_nop row.made ≡ false → not (has_flag q.flags ifunc) ≡ true → (is_thread o ≡ true → is_executable l.kind ≡ true) → does_so o t row ≡ true → DoesRow l w m s r row
     act all AddressInSlot value.OwnSigned sort takes acts plain there so = (let f = and_parts (writes r_x86_64_32s row) (counts_none row) so in number all value.OwnSigned (is_in_32 Signed q.value) refl (inl (eqb-true (number_written row.written) r_x86_64_32s f.0)) takes sort acts plain f.1)
@@ -277,43 +345,40 @@ does_row laws l w m s i r row v h whole p asked = by (cases_Bool (is_call (instr
     act all AddressInSlot value.OwnMoving sort takes acts plain there so =
         let f = and_parts (writes r_x86_64_pc32 row) (counts_ends row) so in
         let x = lea_far laws l w m s i r row v h all p (eqb-true (number_written row.written) r_x86_64_pc32 f.0) (kept f.1) (ends f.1) plain (taken value.OwnMoving takes) in
-        far AddressInSlot x (eqb-true (number_written row.written) r_x86_64_pc32 f.0) sort acts x.is.target (λ a old e k. k)
+        far AddressInSlot x (eqb-true (number_written row.written) r_x86_64_pc32 f.0) sort acts (slot_address_of l w m r.symbol x.operand x.is.target) (λ a old e k. k)
     act all AddressInSlot value.OwnFixed sort takes acts plain there so =
         let f = and_parts (writes r_x86_64_pc32 row) (counts_ends row) so in
         let x = plain_far laws l w m s i r row v h all p (eqb-true (number_written row.written) r_x86_64_pc32 f.0) (kept f.1) (ends f.1) plain (taken value.OwnFixed takes) in
-        far AddressInSlot x (eqb-true (number_written row.written) r_x86_64_pc32 f.0) sort acts x.is.target (λ a old e k. k)
+        far AddressInSlot x (eqb-true (number_written row.written) r_x86_64_pc32 f.0) sort acts (slot_address_of l w m r.symbol x.operand x.is.target) (λ a old e k. k)
     act all TargetInSlot value.Own sort takes acts plain there so =
         let f = and_parts (writes r_x86_64_pc32 row) (counts_ends row) so in
         let x = lands_far laws l w m s i r row v h all p (eqb-true (number_written row.written) r_x86_64_pc32 f.0) (kept f.1) (ends f.1) (not-true (interposable q.flags) (taken value.Own takes)) (not-true (has_flag q.flags ifunc) plain) (λ movable abs. asked sort movable abs) in
-        far TargetInSlot x (eqb-true (number_written row.written) r_x86_64_pc32 f.0) sort acts x.is.goal (λ a old e k. k)
+        far TargetInSlot x (eqb-true (number_written row.written) r_x86_64_pc32 f.0) sort acts (target_of l w m r.symbol x.operand x.is.target) (λ a old e k. k)
     act all OffsetInSlot value.Own sort takes acts plain there so = own all OffsetInSlot sort takes acts (there refl) so (λ n k. k) (λ n a old e k. k)
     act all SymbolPair value.Own sort takes acts plain there so = own all SymbolPair sort takes acts (there refl) so (λ n k. k) (λ n a old e k. k)
     act all Described value.Own sort takes acts plain there so = own all Described sort takes acts (there refl) so (λ n k. inl (mode (ap is_thread sort), k)) (λ n a old e k. k)
     act all SymbolPair value.Interposable sort takes acts plain there so = slot all SymbolPair sort acts so (λ n k. k) (λ n a old e k. k)
     act all Described value.Interposable sort takes acts plain there so = slot all Described sort acts so (λ n k. inl (mode (ap is_thread sort), k)) (λ n a old e k. k)
-    act all OwnPair value.Any sort takes acts plain there so = finish OwnPair 0 sort acts (own_base l w h.on (there refl)) (omega arith) (lands_start row.written (reads_without_calls w m) place v (eqb-true (number_written row.written) r_x86_64_none so)) (λ a old e k. k)
+    act all OwnPair value.Any sort takes acts plain there so = finish_number OwnPair 0 sort acts (own_base l w h.on (there refl)) (omega arith) (λ read. lands_start row.written read place v (eqb-true (number_written row.written) r_x86_64_none so)) (λ a old e k. k)
     act all o t sort takes acts plain there so = cc
 
     call_sort : (o : Sort) → is_call o ≡ true → o ≡ DescribedCall
     call_sort DescribedCall e = refl
     call_sort other e = cc
 
+    left : is_call (instruction_of row).sort ≡ true → (is_nop row.made && writes r_x86_64_none row) ≡ true
+    left call = chosen_first (is_call (instruction_of row).sort) _ _ call well.1
+
+    leaves : is_call (instruction_of row).sort ≡ true → is_nop row.made ≡ true
+    leaves call = (and_parts (is_nop row.made) (writes r_x86_64_none row) (left call)).0
+
+    writes_none : is_call (instruction_of row).sort ≡ true → number_written row.written ≡ r_x86_64_none
+    writes_none call = eqb-true (number_written row.written) r_x86_64_none (and_parts (is_nop row.made) (writes r_x86_64_none row) (left call)).1
+
     left_out : is_call (instruction_of row).sort ≡ true → DoesRow l w m s r row
     left_out call =
         let sort = call_sort (instruction_of row).sort call in
-        let f = and_parts (is_nop row.made) (writes r_x86_64_none row) (rw call at well.1) in
-        record {
-          value = 0;
-          demands = subst (λ (x : Sort). Demands x l w m s r 0) (sym sort) refl;
-          code = record {
-            effect = no_effect;
-            demanded = subst (λ (x : Sort). IsDemanded x l s 0 (place_at w s (template_start row r)) (old_bytes s (template_start row r) (instruction_of row)) no_effect) (sym sort) (inl (mode (ap is_thread sort), refl));
-            bytes = template_of row v (old_of s row r);
-            whole = whole_is l w m s i r row v h p;
-            held = h.item.rewritten i r row v p.has;
-            does = on_machine l.machine (reads_without_calls w m) (place_at w s (template_start row r)) (template_of row v (old_of s row r)) h.on ∙ (effect_kept laws l w m s i r row v 0 (place_at w s (template_start row r)) h p (omega arith) (lands_start row.written (reads_without_calls w m) place v (eqb-true (number_written row.written) r_x86_64_none f.1)) ∙ demanded_none row.made 0 (place_at w s (template_start row r)) (old_of s row r) f.0);
-          };
-        }
+        does_nothing laws l w m s i r row v 0 no_effect h p (omega arith) refl refl sort (mode (ap is_thread sort)) (λ read. lands_start row.written read place v (writes_none call)) (λ a old. demanded_none row.made 0 a old (leaves call))
 
     by : (is_call (instruction_of row).sort ≡ true) ⊎ (is_call (instruction_of row).sort ≡ false) → DoesRow l w m s r row
     by (inl call) = left_out call

@@ -28,13 +28,13 @@ use Rattle.wild_layout.specs.Choice.{question_around}
 use Rattle.wild_loader.specs.declared.memory.Memory.{Memory}
 use Rattle.wild_loader.specs.declared.world.World.{World}
 use Rattle.wild_meaning.specs.Sequence.{by_word}
-use Rattle.wild_meaning.specs.Reference.{HoldsRewritten, ReadsOwnSlots}
+use Rattle.wild_meaning.specs.Reference.{HoldsRewritten, ReadsOffsetSlots}
 use Rattle.wild_meaning.proofs.PairLemmas.{only, only_one}
 use Rattle.wild_references.specs.Laws.{IsLoadedItem, TermGives}
 use Rattle.wild_references.proofs.SequencesAArch64.{has_three}
 use Rattle.wild_references.proofs.RewrittenRuns.{run_of, IsRewrittenWord, IsRunThere, near_symbol}
 use Rattle.wild_references.proofs.RewrittenSequences.{IsJudgedRun, of_run}
-use Rattle.wild_references.proofs.RewrittenCode.{IsDone}
+use Rattle.wild_references.proofs.RewrittenReads.{IsDone}
 use Rattle.wild_references.proofs.RewrittenOffsets.{IsWrittenWord, slot_rows, slot_pair_to_offset}
 use Rattle.wild_references.proofs.RewrittenNear.{address_rows, address_pair_to_near}
 use Rattle.wild_references.proofs.RewrittenDescriptors.{IsWrittenPart, call_rows as offset_call_rows, call_to_offset}
@@ -65,14 +65,14 @@ word_of_run l s i r row q t c o written k n p other here changes before number l
     record { value = w.0; chosen = chosen; written = w.1 }
 
 -- the instruction in whose place they are written
-held : (l : Layout) (w : World) (m : Memory) (s : Item) (r : InputRelocation) (q : Sequence) (start index : ℕ) → l.machine ≡ machine.AArch64 → (j : IsJudgedRun l s r q start index) → IsDone l w m s j.first start (run_of q) → HoldsRewritten l w m s r
+held : (l : Layout) (w : World) (m : Memory) (s : Item) (r : InputRelocation) (q : Sequence) (start index : ℕ) → l.machine ≡ machine.AArch64 → (j : IsJudgedRun l s r q start index) → IsDone machine.AArch64 l w m s j.first start (run_of q) → HoldsRewritten l w m s r
 held l w m s r q start index on j done = record {
   start = start;
   instruction = run_of q;
   first = j.first;
   template = inr (of_run l s r q start index j);
   does = done.does;
-  words = subst (λ (k : Machine). ReadsOwnSlots k l w m s j.first start (run_of q)) (sym on) done.words;
+  words = subst (λ (k : Machine). ReadsOffsetSlots k l w m s j.first start (run_of q)) (sym on) done.words;
 }
 
 -- ---- the slot of an offset

@@ -56,7 +56,8 @@ use Rattle.wild_references.proofs.RewrittenSymbols.{definition, own_one}
 use Rattle.wild_references.proofs.WholeSections.{placed}
 use Rattle.wild_references.proofs.RunsAArch64.{RunDoes}
 use Rattle.wild_references.proofs.WordsAArch64.{IsWordThere, AreWordsThere, by_words}
-use Rattle.wild_references.proofs.RewrittenCode.{run_done, words_of-front, no_slot, IsDone}
+use Rattle.wild_references.proofs.RewrittenCode.{run_done, words_of-front, no_slot}
+use Rattle.wild_references.proofs.RewrittenReads.{IsDone}
 use Rattle.wild_references.proofs.RewrittenOffsets.{IsWrittenWord, IsWrittenPair, WritesWord, word_there, word_small, word_same, written_long}
 use Rattle.wild_layout.specs.Merged.{names_merged, address_for}
 use Rattle.wild_layout.proofs.MergedLemmas.{address_plain}
@@ -145,7 +146,7 @@ sum_of l w m s first k v on named none there plain one small =
 -- ---- the pair
 
 pub address_pair_to_near : StubLaws → RowsOfAArch64Keep → (l : Layout) (w : World) (m : Memory) (s : Item) (first : InputRelocation) (start k : ℕ) → IsLoadedItem machine.AArch64 l w m s → Stands l k → start + 8 ≤ length s.bytes → words_match Address (words_at s.bytes start 2) ≡ true
-    → first.symbol ≡ Some k → interposable (flags_at l k) ≡ false → has_flag (flags_at l k) absolute ≡ false → has_flag (flags_at l k) undefined_weak ≡ false → IsWrittenPair l s first start ADDRESS_FIRST ADDRESS_SECOND → IsDone l w m s first start address_pair_words
+    → first.symbol ≡ Some k → interposable (flags_at l k) ≡ false → has_flag (flags_at l k) absolute ≡ false → has_flag (flags_at l k) undefined_weak ≡ false → IsWrittenPair l s first start ADDRESS_FIRST ADDRESS_SECOND → IsDone machine.AArch64 l w m s first start address_pair_words
 address_pair_to_near stubs keeps l w m s first start k g addressed_so inside stands named own moves weak t =
     let here : start + 4 ≤ length s.bytes = omega (arith, inside) in
     let behind : start + 4 + 4 ≤ length s.bytes = omega (arith, inside) in

@@ -69,7 +69,8 @@ use Rattle.wild_references.proofs.RewrittenTerms.{wide_type, wide}
 use Rattle.wild_references.proofs.WholeSections.{placed}
 use Rattle.wild_references.proofs.RunsAArch64.{RunDoes}
 use Rattle.wild_references.proofs.WordsAArch64.{IsWordThere, AreWordsThere, by_words}
-use Rattle.wild_references.proofs.RewrittenCode.{run_done, words_of-front, word_back, no_slot, IsDone}
+use Rattle.wild_references.proofs.RewrittenCode.{run_done, words_of-front, word_back, no_slot}
+use Rattle.wild_references.proofs.RewrittenReads.{IsDone}
 
 -- ---- a word
 
@@ -242,7 +243,7 @@ pub record IsWrittenPair (l : Layout) (s : Item) (first : InputRelocation) (star
   pub addend : first.addend ≡ second.addend
 
 pub slot_pair_to_offset : RowsOfAArch64Keep → TermGives term.PointerOffset → (l : Layout) (w : World) (m : Memory) (s : Item) (first : InputRelocation) (start k : ℕ) → IsLoadedItem machine.AArch64 l w m s → start + 8 ≤ length s.bytes → words_match OffsetSlot (words_at s.bytes start 2) ≡ true
-    → first.symbol ≡ Some k → is_executable l.kind ≡ true → interposable (flags_at l k) ≡ false → IsWrittenPair l s first start SLOT_FIRST SLOT_SECOND → IsDone l w m s first start offset_pair_words
+    → first.symbol ≡ Some k → is_executable l.kind ≡ true → interposable (flags_at l k) ≡ false → IsWrittenPair l s first start SLOT_FIRST SLOT_SECOND → IsDone machine.AArch64 l w m s first start offset_pair_words
 slot_pair_to_offset keeps law l w m s first start k g inside stands named program own t =
     let v = t.value in
     let here : start + 4 ≤ length s.bytes = omega (arith, inside) in

@@ -1,5 +1,5 @@
 -- What an instruction that is rewritten demands, and that the value in its field lands there: addresses.
-use Rattle.std.proofs.Common.{◌≡◌, ℕ, ◌+◌, ◌-◌, ◌%◌, ◌^◌, ◌<◌, ◌≤◌, inl, inr, Bool, true, false, refl, sym, ap, ◌∙◌, arith, subst}
+use Rattle.std.proofs.Common.{◌≡◌, ℕ, ◌+◌, ◌-◌, ◌%◌, ◌^◌, ◌<◌, ◌≤◌, Bool, true, false, ap, ◌∙◌, arith, subst}
 use Rattle.std.specs.Prelude.{ℤ, pos, ◌&&◌, ◌||◌, not, Option, Some}
 use Rattle.std.specs.Int.{w64, cast_unsigned}
 use Rattle.std.proofs.lemmas.Bool.{not-true}
@@ -28,11 +28,11 @@ use Rattle.wild_loader.specs.declared.memory.Memory.{Memory}
 use Rattle.wild_loader.specs.declared.world.World.{World}
 use Rattle.wild_meaning.specs.World.{IsMovable}
 use Rattle.wild_meaning.specs.Value.{IsAbsolute}
-use Rattle.wild_meaning.specs.Denotes.{Denotes}
+use Rattle.wild_meaning.specs.Denotes.{IsAddressOf}
 use Rattle.wild_types.specs.Item.{Item}
 use Rattle.wild_meaning.specs.Item.{place_at}
-use Rattle.wild_meaning.specs.Formula.{IsTarget, IsGoal}
-use Rattle.wild_meaning.proofs.SymbolLemmas.{referent_stands}
+use Rattle.wild_meaning.specs.Formula.{IsSymbolAddress}
+use Rattle.wild_meaning.proofs.SymbolLemmas.{referent_address, address_denotes}
 use Rattle.wild_geometry.proofs.JudgedLemmas.{flag_is}
 use Rattle.wild_references.specs.Laws.{IsLoadedItem}
 use Rattle.wild_references.proofs.WholeSections.{placed}
@@ -75,18 +75,13 @@ not_moved l k h m a = fixed_not l.kind (linked_by (has_flag (flags_at l k) absol
 
 -- what stands for the symbol, a number of the machine
 pub record IsOperand (l : Layout) (w : World) (m : Memory) (symbol : Option ℕ) (n : ℕ) : Type 0 where
-  pub target : IsTarget l w m symbol n
-  pub goal : IsGoal l w m symbol n
+  pub target : IsSymbolAddress l w m symbol n
   pub small : n < 2 ^ 64
 
-goal_is : (l : Layout) (w : World) (m : Memory) (k n : ℕ) → Denotes l w m k n → IsGoal l w m (Some k) n
-goal_is l w m k n (inl h) = (n, h, inl refl)
-goal_is l w m k n (inr h) = (h.value, h.is, h.reaches)
-
-operand_at : (l : Layout) (w : World) (m : Memory) (s : Item) (k n : ℕ) (symbol : Option ℕ) → IsLoadedItem machine.X86_64 l w m s → symbol ≡ Some k → has_flag (flags_at l k) ifunc ≡ false → IsTarget l w m symbol n → IsOperand l w m symbol n
+operand_at : (l : Layout) (w : World) (m : Memory) (s : Item) (k n : ℕ) (symbol : Option ℕ) → IsLoadedItem machine.X86_64 l w m s → symbol ≡ Some k → has_flag (flags_at l k) ifunc ≡ false → IsSymbolAddress l w m symbol n → IsOperand l w m symbol n
 operand_at l w m s k n symbol h e plain t =
-    let d : Denotes l w m k n = subst (λ (o : Option ℕ). IsTarget l w m o n) e t in
-    record { target = t; goal = subst (λ (o : Option ℕ). IsGoal l w m o n) (sym e) (goal_is l w m k n d); small = denoted_small l w m k n (placed machine.X86_64 l w m s h) plain d }
+    let d : IsAddressOf l w m k n = subst (λ (o : Option ℕ). IsSymbolAddress l w m o n) e t in
+    record { target = t; small = denoted_small l w m k n (placed machine.X86_64 l w m s h) plain (address_denotes l w m k n d) }
 
 -- the field has its distance
 pub record LandsFar (l : Layout) (w : World) (m : Memory) (s : Item) (r : InputRelocation) (row : Row) (v : ℕ) : Type 0 where
@@ -107,7 +102,7 @@ lands_far laws l w m s i r row v h all p number same ends own plain asked =
     let c : cast_unsigned w64 ((rewrite_of row).addend r.addend) ≡ 2 ^ 64 - 4 = ap (λ (x : ℤ). cast_unsigned w64 x) same ∙ ended r.addend ends in
     record {
       operand = g.1.symbol;
-      is = operand_at l w m s p.chosen.symbol g.1.symbol r.symbol h p.chosen.named plain (referent_stands Distance l w m s (written_as row r) g.1.symbol h.on (λ t. names_none l (written_as row r) p.chosen.plain t.1) g.1.denoted);
+      is = operand_at l w m s p.chosen.symbol g.1.symbol r.symbol h p.chosen.named plain (referent_address Distance l w m s (written_as row r) g.1.symbol tt h.on (λ t. names_none l (written_as row r) p.chosen.plain t.1) g.1.denoted);
       lands = distance_lands g.1.symbol g.0 (cast_unsigned w64 ((rewrite_of row).addend r.addend)) (place_at w s (written_as row r).offset) (place_at w s (template_start row r) + field_in row) v g.1.sum c g.2 below.start (omega (arith, place, high));
     }
 
@@ -120,7 +115,7 @@ pub record LandsItself (l : Layout) (w : World) (m : Memory) (r : InputRelocatio
 pub lands_itself : LawsBelow → (l : Layout) (w : World) (m : Memory) (s : Item) (i : ℕ) (r : InputRelocation) (row : Row) (v : ℕ) (sign : Sign) → IsLoadedItem machine.X86_64 l w m s → KeepsAll l → (p : IsPlacedRow l s i r row v) → p.made.written.info ≡ plain kinds.Absolute Four sign → (rewrite_of row).addend r.addend ≡ pos 0 → interposable (flags_at l p.chosen.symbol) ≡ false → has_flag (flags_at l p.chosen.symbol) ifunc ≡ false → moves l p.chosen.symbol ≡ false → LandsItself l w m r v
 lands_itself laws l w m s i r row v sign h all p info none own plain_one still =
     let g = gives_number laws l w m s i r row v sign h all p info own plain_one still in
-    let is = operand_at l w m s p.chosen.symbol g.symbol r.symbol h p.chosen.named plain_one (referent_stands SymbolAddress l w m s (written_as row r) g.symbol h.on (λ t. names_none l (written_as row r) p.chosen.plain t.1) g.denoted) in
+    let is = operand_at l w m s p.chosen.symbol g.symbol r.symbol h p.chosen.named plain_one (referent_address SymbolAddress l w m s (written_as row r) g.symbol tt h.on (λ t. names_none l (written_as row r) p.chosen.plain t.1) g.denoted) in
     let c : cast_unsigned w64 ((rewrite_of row).addend r.addend) ≡ 0 = ap (λ (x : ℤ). cast_unsigned w64 x) none in
     let e = g.sum in
     let low = is.small in

@@ -1,5 +1,5 @@
 -- The call through a descriptor, in whose place the slot of an offset is read: `nop; nop; adrp; ldr`.
-use Rattle.std.proofs.Common.{◌≡◌, ℕ, ℤ, ◌+◌, ◌-◌, ◌*◌, ◌/◌, ◌%◌, ◌^◌, ◌<◌, ◌≤◌, ◌⊎◌, inl, inr, Bool, true, false, List, [], ◌∷◌, ◌++◌, length, refl, sym, ap, ◌∙◌, subst, arith, eqb-true, eq-eqb}
+use Rattle.std.proofs.Common.{◌≡◌, ℕ, ℤ, ◌+◌, ◌-◌, ◌*◌, ◌/◌, ◌%◌, ◌^◌, ◌<◌, ◌≤◌, ◌⊎◌, inl, inr, Bool, true, false, List, [], ◌∷◌, ◌++◌, length, refl, sym, ap, ◌∙◌, subst, arith, eqb-true}
 use Rattle.std.specs.Prelude.{Option, Some, Ok, Result, ◌||◌, ◌==◌, if◌then◌else◌, slice_range, nat_lt, nat_le}
 use Rattle.std.specs.Int.{w64, cast_unsigned}
 use Rattle.std.proofs.lemmas.Bool.{and_parts, ltb-true, leb-true}
@@ -41,7 +41,7 @@ use Rattle.wild_meaning.specs.Formula.{IsOffset}
 use Rattle.wild_meaning.specs.Slot.{IsSlotOf}
 use Rattle.wild_meaning.specs.Sequence.{descriptor_call_words}
 use Rattle.wild_meaning.specs.Template.{reads_without_calls}
-use Rattle.wild_meaning.specs.Reference.{IsOwnSlot}
+use Rattle.wild_meaning.specs.Reference.{IsOffsetSlot}
 use Rattle.wild_references.specs.Laws.{IsLoadedItem}
 use Rattle.wild_references.proofs.KeptItems.{item_lies}
 use Rattle.wild_references.proofs.SlotTerms.{offset_slots, slot_given}
@@ -49,7 +49,8 @@ use Rattle.wild_references.proofs.ThreadPlaces.{offsets_stand}
 use Rattle.wild_references.proofs.WholeSections.{placed}
 use Rattle.wild_references.proofs.RunsAArch64.{RunDoes}
 use Rattle.wild_references.proofs.WordsAArch64.{IsWordThere, AreWordsThere, by_words}
-use Rattle.wild_references.proofs.RewrittenCode.{lower, run_done, reads_at, one_slot_read, IsDone}
+use Rattle.wild_references.proofs.RewrittenCode.{lower, run_done, one_slot_read}
+use Rattle.wild_references.proofs.RewrittenReads.{reads_at, reads_there, IsDone}
 use Rattle.wild_references.proofs.RewrittenOffsets.{IsWrittenWord, WritesWord, word_there, word_small, word_same, written_long}
 use Rattle.wild_references.proofs.RewrittenDescriptors.{IsWrittenPart, first_word, second_word, nop_first, nop_second, four_words}
 
@@ -134,14 +135,11 @@ distance_is term c address offset start v none at low e =
 same_low : (term c : ℕ) → c ≡ 0 → (term + c) % 2 ^ 64 ≡ term % 2 ^ 64
 same_low term c none = omega (arith, none)
 
-reads_there : (g v : ℕ) → reads_at g v (Word g) ≡ Some v
-reads_there g v = (let t : (g == g) ≡ true = eq-eqb g g refl in rw t refl)
-
 -- ---- the call
 
 pub call_to_slot : RowsOfAArch64Keep → (l : Layout) (w : World) (m : Memory) (s : Item) (first : InputRelocation) (start k : ℕ) → IsLoadedItem machine.AArch64 l w m s → KeepsAll l → start + 16 ≤ length s.bytes → words_match DescriptorCall (words_at s.bytes start 4) ≡ true → first.symbol ≡ Some k
     → IsWrittenPart l s first start CALL_FIRST → IsWrittenPart l s first (start + 4) CALL_SECOND → IsWrittenPart l s first (start + 4 + 4) CALL_THIRD_SLOT → IsWrittenPart l s first (start + 4 + 4 + 4) CALL_FOURTH_SLOT
-    → IsDone l w m s first start descriptor_call_words
+    → IsDone machine.AArch64 l w m s first start descriptor_call_words
 call_to_slot keeps l w m s first start k g all inside stands named p q t u =
     let in_p : start + 4 ≤ length s.bytes = omega (arith, inside) in
     let in_q : start + 4 + 4 ≤ length s.bytes = omega (arith, inside) in
@@ -203,7 +201,7 @@ call_to_slot keeps l w m s first start k g all inside stands named p q t u =
     (word_small w m l s start g in_p, (word_small w m l s (start + 4) g in_q, (word_small w m l s (start + 4 + 4) g in_t, (word_small w m l s (start + 4 + 4 + 4) g in_u, tt)))) stands (reads, near)))) in
     let there : AreWordsThere m (place_at w s start) us =
     (one, (subst (λ (n : ℕ). IsWordThere m n (number t1)) second two, (subst (λ (n : ℕ). IsWordThere m n (number t2)) third_place three, (subst (λ (n : ℕ). IsWordThere m n (number t3)) fourth_place four, tt)))) in
-    let own : IsOwnSlot l w first.symbol ((w.base + term) % 2 ^ 64) = record { index = k; named = named; sort = ThreadOffset; slot = slot.slot; given = slot.given; moves = slot.moves } in
+    let own : IsOffsetSlot l w first.symbol ((w.base + term) % 2 ^ 64) = record { index = k; named = named; slot = slot.slot; given = slot.given; moves = slot.moves } in
     record {
       does = record {
         value = v;

@@ -21,7 +21,7 @@ use Rattle.wild_layout.specs.Sites.{template_start}
 use Rattle.wild_loader.specs.declared.memory.Memory.{Memory}
 use Rattle.wild_loader.specs.declared.world.World.{World}
 use Rattle.wild_loader.specs.declared.instruction.Operand.TheVariants.{Word}
-use Rattle.wild_loader.specs.Instruction.{sum_64}
+use Rattle.wild_loader.specs.Instruction.{Reader, sum_64}
 use Rattle.wild_types.specs.Item.{Item}
 use Rattle.wild_meaning.specs.Item.{place_at}
 use Rattle.wild_meaning.specs.Section.{IsSet}
@@ -30,8 +30,10 @@ use Rattle.wild_meaning.specs.Thread.{HasOwnOffset, HasThreadOffset, IsOffsetBas
 use Rattle.wild_meaning.specs.Slot.{HasWord, IsSlot}
 use Rattle.wild_meaning.specs.Formula.{IsOffset, KnowsOffsets, HasOffsetMode}
 use Rattle.wild_meaning.specs.Template.{reads}
+use Rattle.wild_meaning.specs.Reference.{IsOffsetSlot}
 use Rattle.wild_meaning.proofs.WorldLemmas.{word_below}
 use Rattle.wild_references.specs.Laws.{IsLoadedItem}
+use Rattle.wild_references.proofs.RewrittenReads.{ReadsOnlySlots, reads_at, reads_there, one_slot}
 use Rattle.wild_references.proofs.RewrittenPlaces.{LawsBelow, IsPlacedRow, ended}
 use Rattle.wild_references.proofs.RewrittenTerms.{written_as, stands_below}
 use Rattle.wild_references.proofs.RewrittenValues.{gives_offset, gives_slot}
@@ -76,17 +78,21 @@ pub record LandsSlot (l : Layout) (w : World) (m : Memory) (s : Item) (r : Input
   pub operand : ℕ
   pub is : IsThreadOperand l w r.symbol operand
   pub lands : reads w m (Word (sum_64 (place_at w s (template_start row r) + field_in row + 4) v)) ≡ Some operand
+  pub only : Reader
+  pub reads : ReadsOnlySlots l w r.symbol only
+  pub lands_only : only (Word (sum_64 (place_at w s (template_start row r) + field_in row + 4) v)) ≡ Some operand
 
 -- a slot with an offset
 record HasSlot (l : Layout) (w : World) (m : Memory) (symbol : Option ℕ) (g : ℕ) : Type 0 where
   offset : ℕ
   word : HasWord m g offset
   is : IsOffset l w symbol offset
+  own : IsOffsetSlot l w symbol g
 
 slot_at : (l : Layout) (w : World) (m : Memory) (g k : ℕ) (symbol : Option ℕ) → symbol ≡ Some k → IsSlot ThreadOffset l w m symbol g → HasSlot l w m symbol g
 slot_at l w m g k symbol e h =
     let t = subst (λ (o : Option ℕ). IsSlot ThreadOffset l w m o g) e h in
-    record { offset = t.holds.0; word = t.holds.1; is = subst (λ (o : Option ℕ). IsOffset l w o t.holds.0) (sym e) t.holds.2 }
+    record { offset = t.holds.0; word = t.holds.1; is = subst (λ (o : Option ℕ). IsOffset l w o t.holds.0) (sym e) t.holds.2; own = record { index = k; named = e; slot = t.slot; given = t.given; moves = t.moves } }
 
 slot_lands : (g c place q v : ℕ) → g < 2 ^ 64 → c ≡ 2 ^ 64 - 4 → v ≡ (g + c + (2 ^ 64 - place)) % 2 ^ 64 → place ≡ q → place ≤ 2 ^ 64 → (q + 4 + v) % 2 ^ 64 ≡ g
 slot_lands g c place q v low a b e high = omega (arith, low, a, b, e, high)
@@ -100,7 +106,7 @@ lands_slot laws l w m s i r row v h all p number same ends =
     let c : cast_unsigned w64 ((rewrite_of row).addend r.addend) ≡ 2 ^ 64 - 4 = ap (λ (x : ℤ). cast_unsigned w64 x) same ∙ ended r.addend ends in
     let slot = slot_at l w m g.0 p.chosen.symbol r.symbol p.chosen.named g.1 in
     let at = slot_lands g.0 (cast_unsigned w64 ((rewrite_of row).addend r.addend)) (place_at w s (written_as row r).offset) (place_at w s (template_start row r) + field_in row) v (word_below m g.0 slot.offset slot.word) c g.2 below.start (omega (arith, place, high)) in
-    record { operand = slot.offset; is = offset_at l w p.chosen.symbol slot.offset r.symbol p.chosen.named slot.is; lands = subst (λ (a : ℕ). HasWord m a slot.offset) (sym at) slot.word }
+    record { operand = slot.offset; is = offset_at l w p.chosen.symbol slot.offset r.symbol p.chosen.named slot.is; lands = subst (λ (a : ℕ). HasWord m a slot.offset) (sym at) slot.word; only = reads_at g.0 slot.offset; reads = one_slot l w r.symbol g.0 slot.offset slot.own; lands_only = subst (λ (a : ℕ). reads_at g.0 slot.offset (Word a) ≡ Some slot.offset) (sym at) (reads_there g.0 slot.offset) }
 
 -- ---- descriptors, and the output's own data
 

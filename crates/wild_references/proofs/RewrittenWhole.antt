@@ -27,14 +27,15 @@ use Rattle.wild_loader.specs.declared.memory.Memory.{Memory}
 use Rattle.wild_loader.specs.declared.world.World.{World}
 use Rattle.wild_types.specs.Item.{Item}
 use Rattle.wild_meaning.specs.Sequence.{TargetInSlot, Instruction, size_of}
-use Rattle.wild_meaning.specs.Template.{IsSingle, IsTemplate, reads_without_calls, DoesDemanded}
+use Rattle.wild_meaning.specs.Template.{IsSingle, IsTemplate}
 use Rattle.wild_meaning.specs.Field.{formula_of}
-use Rattle.wild_meaning.specs.Reference.{CountsFromPlace, MustHold, HoldsWithSequence, HoldsRewritten, ReadsOwnSlots, IsSlotValue, HasSlotFormula, IsOmitted}
+use Rattle.wild_meaning.specs.Reference.{CountsFromPlace, MustHold, HoldsWithSequence, HoldsRewritten, ReadsOffsetSlots, IsSlotValue, HasSlotFormula, IsOmitted}
 use Rattle.wild_types.specs.declared.kind.Machine.{Machine}
 use Rattle.wild_types.specs.declared.kind.Machine.TheVariants as machine
 use Rattle.wild_references.specs.Laws.{IsLoadedItem}
 use Rattle.wild_references.specs.EffectLaws.{IsLocatedAt}
 use Rattle.wild_references.proofs.OmittedReferences.{keeps_all}
+use Rattle.wild_references.proofs.RewrittenReads.{IsDone}
 use Rattle.wild_references.proofs.RewrittenForms.{instruction_of}
 use Rattle.wild_references.proofs.RewrittenPlaces.{LawsBelow, IsPlacedRow, placed_row, size_is}
 use Rattle.wild_references.proofs.RewrittenInInput.{called}
@@ -54,7 +55,7 @@ record IsHeld (l : Layout) (w : World) (m : Memory) (s : Item) (r : InputRelocat
   template : IsTemplate l s r from instruction r
   before : from ≤ template_start row r
   behind : template_start row r + pattern_size row ≤ from + size_of instruction
-  does : IsWhole l row → (instruction.sort ≡ TargetInSlot → MustHold l w s r) → DoesDemanded (reads_without_calls w m) l w m s r from instruction
+  does : IsWhole l row → (instruction.sort ≡ TargetInSlot → MustHold l w s r) → IsDone machine.X86_64 l w m s r from instruction
 
 -- where code goes through a slot to an absolute symbol of an output that moves, the reference is asked at base 0 alone
 goes_with : (l : Layout) (w : World) (m : Memory) (s : Item) (i : ℕ) (r : InputRelocation) (row : Row) (v : ℕ) → (p : IsPlacedRow l s i r row v) → IsSingle l s r (template_start row r) (instruction_of row) → ((instruction_of row).sort ≡ TargetInSlot → MustHold l w s r) → GoesWithBase l w row p.chosen.symbol
@@ -171,16 +172,17 @@ names_slot l r row x86 listed changes number other =
     by_formula None known h = cc
     by_formula (Some f) known h = record { formula = f; known = known; slot = slot_value f.value h }
 
--- which words code reads is not asked on x86-64
-words_free : (l : Layout) (w : World) (m : Memory) (s : Item) (first : InputRelocation) (start : ℕ) (o : Instruction) → l.machine ≡ machine.X86_64 → ReadsOwnSlots l.machine l w m s first start o
-words_free l w m s first start o x = subst (λ (k : Machine). ReadsOwnSlots k l w m s first start o) (sym x) tt
+-- which words code reads, on the machine of the output
+words_on : (l : Layout) (w : World) (m : Memory) (s : Item) (first : InputRelocation) (start : ℕ) (o : Instruction) → l.machine ≡ machine.X86_64 → ReadsOffsetSlots machine.X86_64 l w m s first start o → ReadsOffsetSlots l.machine l w m s first start o
+words_on l w m s first start o x h = subst (λ (k : Machine). ReadsOffsetSlots k l w m s first start o) (sym x) h
 
 pub instruction_holds : LawsBelow → (l : Layout) (w : World) (m : Memory) (s : Item) → IsLoadedItem machine.X86_64 l w m s → (i : ℕ) (r : InputRelocation) (row : Row) (v : ℕ) → HasDecision l s i r (Rewritten row v) → (IsOmitted l s r → ⊥) → MustHold l w s r → HoldsRewritten l w m s r
 instruction_holds laws l w m s h i r row v has present asked =
     let p = placed_row laws l s i r row v h.on has in
     let t = row_held laws l w m s i r row v h p in
     let whole : IsWhole l row = λ other. keeps_all l (λ bare. present (bare, inr (inl (inl (names_slot l r row h.on p.changing.listed p.changing.changes p.chosen.number other))))) in
-    record { start = t.from; instruction = t.instruction; first = r; template = t.template; does = t.does whole (λ sort. asked); words = words_free l w m s r t.from t.instruction h.on }
+    let done = t.does whole (λ sort. asked) in
+    record { start = t.from; instruction = t.instruction; first = r; template = t.template; does = done.does; words = words_on l w m s r t.from t.instruction h.on done.words }
 
 -- ---- the calls of sequences
 
@@ -222,6 +224,7 @@ partner_holds laws l w m s h i r has present =
         slot = names_slot l t.first t.row h.on p.changing.listed p.changing.changes p.chosen.number other;
       }))),
     )) in
+    let done = does_row laws l w m s b.0 t.first t.row t.value h whole p (λ sort. absurd (sequence_sort t.row p.changing t.skips sort)) in
     record {
       start = template_start t.row t.first;
       instruction = instruction_of t.row;
@@ -229,6 +232,6 @@ partner_holds laws l w m s h i r has present =
       rest = r ∷ [];
       one = (0, omega arith, refl);
       sequence = sequence;
-      does = does_row laws l w m s b.0 t.first t.row t.value h whole p (λ sort. absurd (sequence_sort t.row p.changing t.skips sort));
-      words = words_free l w m s t.first (template_start t.row t.first) (instruction_of t.row) h.on;
+      does = done.does;
+      words = words_on l w m s t.first (template_start t.row t.first) (instruction_of t.row) h.on done.words;
     }

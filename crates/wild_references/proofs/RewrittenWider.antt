@@ -36,11 +36,16 @@ use Rattle.wild_meaning.specs.Field.{formula_of, form_width, IsInputByte}
 use Rattle.wild_loader.specs.Instruction as judge
 use Rattle.wild_loader.specs.declared.instruction.Cell.TheVariants as judge-cells
 use Rattle.wild_loader.specs.InstructionX86_64.{effect_x86_64, demand_x86_64}
-use Rattle.wild_meaning.specs.Sequence.{Instruction, instructions_of}
-use Rattle.wild_meaning.specs.Template.{reads_without_calls, DoesDemanded}
+use Rattle.wild_meaning.specs.Sequence.{Instruction, size_of, instructions_of}
+use Rattle.wild_loader.specs.Instruction.{Reader}
+use Rattle.wild_loader.specs.declared.instruction.Operand.TheVariants.{Number}
+use Rattle.wild_meaning.specs.WordsAArch64.{reads_numbers}
+use Rattle.wild_meaning.specs.Template.{reads_without_calls}
 use Rattle.wild_references.specs.Laws.{IsLoadedItem}
 use Rattle.wild_references.proofs.Clash.{is_free, are_calls, pair_ok, row_ok, each_row_ok, IsUncovered, apart_templates}
 use Rattle.wild_references.proofs.KeptBytes.{OutOfWindows, input_byte, Window, window, free_not}
+use Rattle.wild_meaning.proofs.SymbolLemmas.{slot_address_of}
+use Rattle.wild_references.proofs.RewrittenReads.{IsDone, no_slots, reads_only}
 use Rattle.wild_references.proofs.RewrittenPlaces.{LawsBelow}
 use Rattle.wild_references.proofs.RewrittenTerms.{info_is}
 use Rattle.wild_references.proofs.RewrittenEffects.{has_effect, template_linked, value_small, old_of, on_machine, demand_on, whole_is}
@@ -168,7 +173,7 @@ held_more : (m : Memory) (a b x : ℕ) (bs : List ℕ) → b ≡ a + 1 → byte_
 held_more m a b x bs e first rest zero lt = (let z : a ≡ a + 0 = omega arith in subst (λ (n : ℕ). byte_in m n ≡ Some x) z first)
 held_more m a b x bs e first rest (suc k) lt = (let z : b + k ≡ a + suc k = omega (arith, e) in subst (λ (n : ℕ). byte_in m n ≡ Some (slice_index bs k)) z (rest k (omega (arith, lt))))
 
-pub does_wider : LawsBelow → (l : Layout) (w : World) (m : Memory) (s : Item) (i : ℕ) (r : InputRelocation) (v from : ℕ) → IsLoadedItem machine.X86_64 l w m s → KeepsAll l → IsWider l s i r v from → DoesDemanded (reads_without_calls w m) l w m s r from wide_load
+pub does_wider : LawsBelow → (l : Layout) (w : World) (m : Memory) (s : Item) (i : ℕ) (r : InputRelocation) (v from : ℕ) → IsLoadedItem machine.X86_64 l w m s → KeepsAll l → IsWider l s i r v from → IsDone machine.X86_64 l w m s r from wide_load
 does_wider laws l w m s i r v from h all t =
     let p = t.plain.row in
     let x = slice_index s.bytes from in
@@ -188,19 +193,24 @@ does_wider laws l w m s i r v from h all t =
     let whole : IsWhole (pattern_cells (pattern_of LEA_2)) (x ∷ old) = record { long = long; same = both_stand (x == 0xd5) _ t.prefix p.whole.same } in
     let place_is : place_at w s (template_start PLAIN_LEA r) + 3 ≡ a + 4 = omega (arith, next) in
     let lands : v ≡ distance n (a + 4) = subst (λ (y : ℕ). v ≡ distance n y) place_is far.lands in
-    let keeps = laws.keeps LEA_2 info (reads_without_calls w m) a n v (x ∷ old) (record { listed = long_there; changes = refl }) whole (record { row_of = sym known; allowed = p.made.written.allowed; small = value_small l s i r PLAIN_LEA v p; operand = far.is.small; numbers = λ k. refl; lands = lands }) in
+    let keeps : (read : Reader) → ((k : ℕ) → read (Number k) ≡ Some k) → effect_x86_64 read a (linked_pattern LEA_2 info v (x ∷ old)) ≡ demand_x86_64 n a (x ∷ old) = λ read numbers. laws.keeps LEA_2 info read a n v (x ∷ old) (record { listed = long_there; changes = refl }) whole (record { row_of = sym known; allowed = p.made.written.allowed; small = value_small l s i r PLAIN_LEA v p; operand = far.is.small; numbers = numbers; lands = lands }) in
     let written_bytes : linked_pattern LEA_2 info v (x ∷ old) ≡ x ∷ template_of PLAIN_LEA v old = linked_more info v x old ∙ ap (λ (bs : List ℕ). x ∷ bs) (sym (template_linked PLAIN_LEA info v old known)) in
-    let done : effect_x86_64 (reads_without_calls w m) a (x ∷ template_of PLAIN_LEA v old) ≡ Some e.0 = subst (λ (bs : List ℕ). effect_x86_64 (reads_without_calls w m) a bs ≡ Some e.0) written_bytes (keeps ∙ e.1) in
+    let done : (read : Reader) → ((k : ℕ) → read (Number k) ≡ Some k) → effect_x86_64 read a (x ∷ template_of PLAIN_LEA v old) ≡ Some e.0 = λ read numbers. subst (λ (bs : List ℕ). effect_x86_64 read a bs ≡ Some e.0) written_bytes (keeps read numbers ∙ e.1) in
+    let long_whole : length (x ∷ template_of PLAIN_LEA v old) ≡ size_of wide_load = (let z = whole_is l w m s i r PLAIN_LEA v h p in omega (arith, z)) in
+    let held = held_more m a (place_at w s (template_start PLAIN_LEA r)) x (template_of PLAIN_LEA v old) next (prefix_stays laws l w m s i r v from h t) (h.item.rewritten i r PLAIN_LEA v p.has) in
     record {
-      value = n;
-      demands = far.is.target;
-      code = record {
-        effect = e.0;
-        demanded = demand_on l.machine n a (slice_range s.bytes from (from + 8)) h.on ∙ (ap (λ (bs : List ℕ). demand_x86_64 n a bs) bytes ∙ e.1);
-        bytes = x ∷ template_of PLAIN_LEA v old;
-        whole = (let z = whole_is l w m s i r PLAIN_LEA v h p in omega (arith, z));
-        held = held_more m a (place_at w s (template_start PLAIN_LEA r)) x (template_of PLAIN_LEA v old) next (prefix_stays laws l w m s i r v from h t) (h.item.rewritten i r PLAIN_LEA v p.has);
-        does = on_machine l.machine (reads_without_calls w m) a (x ∷ template_of PLAIN_LEA v old) h.on ∙ done;
+      words = reads_only reads_numbers l w m s r from wide_load (x ∷ template_of PLAIN_LEA v old) e.0 (no_slots l w r.symbol) long_whole held (done reads_numbers (λ k. refl));
+      does = record {
+        value = n;
+        demands = slot_address_of l w m r.symbol n far.is.target;
+        code = record {
+          effect = e.0;
+          demanded = demand_on l.machine n a (slice_range s.bytes from (from + 8)) h.on ∙ (ap (λ (bs : List ℕ). demand_x86_64 n a bs) bytes ∙ e.1);
+          bytes = x ∷ template_of PLAIN_LEA v old;
+          whole = long_whole;
+          held = held;
+          does = on_machine l.machine (reads_without_calls w m) a (x ∷ template_of PLAIN_LEA v old) h.on ∙ done (reads_without_calls w m) (λ k. refl);
+        };
       };
     }
   where

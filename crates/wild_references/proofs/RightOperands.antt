@@ -22,9 +22,9 @@ use Rattle.wild_types.specs.Item.{Item}
 use Rattle.wild_meaning.specs.Item.{place_at}
 use Rattle.wild_meaning.specs.Field.{form_width, formula_of}
 use Rattle.wild_meaning.specs.Slot.{IsPair, IsSlot}
-use Rattle.wild_meaning.specs.Formula.{Gives, IsTarget, IsGoal, IsOffset, HasOffsetMode, IsReferent, TakesString}
-use Rattle.wild_meaning.specs.Template.{HasOriginAddend, field_origin, or_none, sum_of, reads, pair_in, effect_of, demand_of, Demands, IsDemanded, old_bytes, DoesDemanded, IsBranchReferent}
-use Rattle.wild_meaning.proofs.SymbolLemmas.{target_reached, referent_is, referent_stands}
+use Rattle.wild_meaning.specs.Formula.{Gives, IsTarget, IsOffset, HasOffsetMode, IsReferent, TakesString}
+use Rattle.wild_meaning.specs.Template.{HasOriginAddend, field_origin, or_none, sum_of, reads, pair_in, effect_of, demand_of, Demands, IsDemanded, old_bytes, DoesDemanded, IsBranchReferent, IsSlotAddress}
+use Rattle.wild_meaning.proofs.SymbolLemmas.{stub_referent_is, referent_stands, in_slot_denotes}
 use Rattle.wild_meaning.proofs.PairLemmas.{counts_four}
 use Rattle.wild_references.proofs.Fills.{instructions_do}
 use Rattle.wild_references.proofs.Does.{IsThere, IsDisplaced, FormulaIs, WidthIs, displaced, operand_by, named_by, told_of, formula_is, displaced_by, named_is, field_place, new_bytes, is_filled, all_there, read_holds, length_read, to_slot, to_target, distance_sum}
@@ -101,7 +101,7 @@ by_distance : (l : Layout) (w : World) (m : Memory) (item : Item) (r : InputRelo
 by_distance l w m item r a f x86 known is (inl s) = inl (record { formula = f; known = known; takes = subst (λ (v : Value). TakesString v l r) (sym is) s.0 }, s.1)
 by_distance l w m item r a f x86 known is (inr plain) =
     branch_referent l w m item r a (goes_to_none l r f known (λ t. plain.0 (subst (λ (v : Value). TakesString v l r) is t)))
-    (referent_is StubDistance l w m item r a x86 (λ t. t.0) (referent_stands Distance l w m item r a x86 plain.0 (inr plain)))
+    (stub_referent_is l w m item r a x86 (referent_stands Distance l w m item r a x86 plain.0 (inr plain)))
 
 -- L goes to no string
 by_stub : (l : Layout) (w : World) (m : Memory) (item : Item) (r : InputRelocation) (a : ℕ) (f : Formula) → formula_of l.machine r.number ≡ Some f → f.value ≡ StubDistance → IsReferent l.machine StubDistance l w m item r a → IsBranchReferent l w m item r a
@@ -135,7 +135,7 @@ right_by TargetInSlot l w m item r start o e h f width counts = by r.symbol refl
         let small = number_below m gives.0 7 slot.holds.0 slot.holds.1 in
         record {
           value = slot.holds.0;
-          demands = subst (λ (x : Option ℕ). IsGoal l w m x slot.holds.0) (sym n) (target_reached l w m (Some i) slot.holds.0 slot.holds.2);
+          demands = subst (λ (x : Option ℕ). IsTarget l w m x slot.holds.0) (sym n) (in_slot_denotes l w m i slot.holds.0 slot.holds.2);
           reads = reads_by w m _ _ _ (slot_named TargetInSlot l w m item r start o (SlotDistance AddressSlot) gives.0 e h width f counts small gives.2) slot.holds.1;
           call = λ no. cc;
         })
@@ -149,7 +149,7 @@ right_by AddressInSlot l w m item r start o e h f width counts = by r.symbol ref
         let small = number_below m gives.0 7 slot.holds.0 slot.holds.1 in
         record {
           value = slot.holds.0;
-          demands = subst (λ (x : Option ℕ). IsTarget l w m x slot.holds.0) (sym n) slot.holds.2;
+          demands = subst (λ (x : Option ℕ). IsSlotAddress l w m x slot.holds.0) (sym n) slot.holds.2;
           reads = reads_by w m _ _ _ (slot_named AddressInSlot l w m item r start o (SlotDistance AddressSlot) gives.0 e h width f counts small gives.2) slot.holds.1;
           call = λ no. cc;
         })

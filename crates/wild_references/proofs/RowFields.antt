@@ -42,7 +42,7 @@ use Rattle.wild_loader.specs.declared.memory.Memory.{Memory}
 use Rattle.wild_loader.specs.declared.world.World.{World}
 use Rattle.wild_loader.specs.Memory.{Holds}
 use Rattle.wild_meaning.specs.Field.{formula_of, form_width}
-use Rattle.wild_meaning.specs.Formula.{IsTarget, Gives, IsPlaceRelative, TakesAddress, TakesOffset, table_at, IsReferent}
+use Rattle.wild_meaning.specs.Formula.{IsSymbolAddress, Gives, IsPlaceRelative, TakesAddress, TakesOffset, table_at, IsReferent}
 use Rattle.wild_meaning.proofs.SymbolLemmas.{referent_is}
 use Rattle.wild_types.specs.Item.{Item}
 use Rattle.wild_meaning.specs.Item.{place_at}
@@ -74,7 +74,7 @@ right l w m s r f i a h asked known relative named t =
 
 -- the symbol itself is what L is
 goal_is : (v : Value) (l : Layout) (w : World) (m : Memory) (s : Item) (r : InputRelocation) (i a : ℕ) → l.machine ≡ machine.X86_64 → r.symbol ≡ Some i → (TakesAddress v → ⊥) → (t : IsOwnValue l w i a) → IsReferent l.machine v l w m s r (with_base t.still w.base a)
-goal_is v l w m s r i a x named none t = referent_is v l w m s r (with_base t.still w.base a) x (λ u. none u.0) (subst (λ (o : Option ℕ). IsTarget l w m o (with_base t.still w.base a)) (sym named) (inl t.value))
+goal_is v l w m s r i a x named none t = referent_is v l w m s r (with_base t.still w.base a) x (λ u. none u.0) (subst (λ (o : Option ℕ). IsSymbolAddress l w m o (with_base t.still w.base a)) (sym named) (inl t.value))
 
 flat : (x c q : ℕ) → ((x + c) % 2 ^ 64 + q) % 2 ^ 64 ≡ (x + c + q) % 2 ^ 64
 flat x c q = omega arith

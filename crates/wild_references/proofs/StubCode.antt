@@ -1,12 +1,14 @@
 -- A stub in memory: its bytes jump to the word of its slot.
 use Rattle.std.proofs.Common.{◌≡◌, ℕ, ◌+◌, ◌-◌, ◌/◌, ◌%◌, ◌^◌, ◌<◌, ◌≤◌, inl, inr, Bool, true, false, List, [], ◌∷◌, ◌++◌, Option, Some, refl, sym, ap, ◌∙◌, arith, subst}
-use Rattle.std.specs.Prelude.{⊤, ◌&&◌, nat_le, nat_lt, slice_get}
+use Rattle.std.specs.Prelude.{⊤, ◌&&◌, nat_le, nat_lt, option_and_then, slice_get}
 use Rattle.std.proofs.lemmas.Bool.{cases_Bool, and_parts, eqb-true, ltb-true, leb-true}
 use Rattle.wild_words.proofs.ListLemmas.{holds_at}
 use Rattle.wild_words.specs.Words.{word, place}
 use Rattle.wild_reloc.specs.Range.{of_bits, contains}
 use Rattle.wild_reloc.specs.declared.range.Sign.TheVariants.{Signed}
 use Rattle.wild_reloc.specs.declared.instruction.AArch64Instruction.TheVariants.{Adr, Imm12}
+use Rattle.wild_relax.specs.Laws.{StubsJump}
+use Rattle.wild_relax.specs.LawsAArch64.{StubsOfAArch64Jump}
 use Rattle.wild_relax.proofs.FieldsAArch64Lemmas.{fields_agree}
 use Rattle.wild_aarch64.specs.Machine.{page}
 use Rattle.wild_aarch64.specs.Stub as reader
@@ -22,7 +24,12 @@ use Rattle.wild_loader.specs.StepLawsAArch64 as code
 use Rattle.wild_loader.specs.declared.world.World.{World}
 use Rattle.wild_loader.proofs.MappedSegments.{byte_below}
 use Rattle.wild_meaning.specs.Slot.{HasWord}
+use Rattle.wild_loader.specs.declared.instruction.Operand.TheVariants.{Word}
+use Rattle.wild_loader.specs.Instruction.{jump_through}
+use Rattle.wild_loader.specs.InstructionAArch64.{action_of}
 use Rattle.wild_loader.specs.Reach.{JumpsTo}
+use Rattle.wild_meaning.specs.Jump.{meaning_of, JumpsBy}
+use Rattle.wild_meaning.specs.Denotes.{stub_size}
 use Rattle.wild_meaning.proofs.WorldLemmas.{word_below}
 use Rattle.wild_types.specs.declared.kind.Machine.{Machine}
 use Rattle.wild_types.specs.declared.kind.Machine.TheVariants as machine
@@ -40,6 +47,8 @@ pub record StubLaws : Type 0 where
   pub value : StubsOfValuesAreRead
   pub plain : code.StubsAreRead
   pub marked : code.MarkedStubsAreRead
+  pub meant : StubsJump
+  pub words : StubsOfAArch64Jump
 
 -- ---- the displacement
 
@@ -129,10 +138,32 @@ has_places l w i slot s h listed got = by_machine l.machine h
     by_machine machine.X86_64 h = tt
     by_machine machine.AArch64 h = (h.pages, even (holds_at (λ (x : Symbol). slot_is_even x ≡ true) l.symbols i s listed h.even))
 
-pub stub_goes : StubLaws → (l : Layout) (m : Memory) (base slot stub x : ℕ) → HasPlaces l.machine base slot → m.machine ≡ processor_of l.machine → (stub_in l slot stub).reaches ≡ true → Holds m (base + stub) (stub_in l slot stub).bytes → HasWord m (base + slot) x → JumpsTo m (base + stub) x
+stub_goes : StubLaws → (l : Layout) (m : Memory) (base slot stub x : ℕ) → HasPlaces l.machine base slot → m.machine ≡ processor_of l.machine → (stub_in l slot stub).reaches ≡ true → Holds m (base + stub) (stub_in l slot stub).bytes → HasWord m (base + slot) x → JumpsTo m (base + stub) x
 stub_goes laws l m base slot stub x places loaded reaches held there = by_machine l.machine places loaded reaches held
   where
     by_machine : (k : Machine) → HasPlaces k base slot → m.machine ≡ processor_of k → (stub_of k l.options.bti slot stub).reaches ≡ true → Holds m (base + stub) (stub_of k l.options.bti slot stub).bytes → JumpsTo m (base + stub) x
     by_machine machine.X86_64 places loaded reaches held = stub_jumps laws.value m base slot stub x loaded reaches held there
     by_machine machine.AArch64 places loaded reaches held =
         words_jump laws m base slot stub x l.options.bti loaded places.1 (record { pages = places.0; code = stub_ends machine.AArch64 l.options.bti m base slot stub held; top = word_below m (base + slot) x there }) reaches held there
+
+-- what its bytes mean
+stub_means : StubLaws → (k : Machine) (bti : Bool) (m : Memory) (base slot stub x : ℕ) → HasPlaces k base slot → (stub_of k bti slot stub).reaches ≡ true → Holds m (base + stub) (stub_of k bti slot stub).bytes → HasWord m (base + slot) x → meaning_of k (base + stub) (stub_of k bti slot stub).bytes ≡ Some (jump_through ((base + slot) % 2 ^ 64))
+stub_means laws machine.X86_64 bti m base slot stub x places reaches held there =
+    let top = word_below m (base + slot) x there in
+    let ends = stub_ends machine.X86_64 bti m base slot stub held in
+    laws.meant base slot stub (omega (arith, top)) (omega (arith, ends)) reaches
+stub_means laws machine.AArch64 bti m base slot stub x places reaches held there =
+    let top = word_below m (base + slot) x there in
+    let same : base + slot ≡ (base + slot) % 2 ^ 64 = omega (arith, top) in
+    let meant = laws.words base slot stub bti reaches places.1 (record { pages = places.0; code = stub_ends machine.AArch64 bti m base slot stub held; top = top }) in
+    ap (λ o. option_and_then action_of o) meant ∙ ap (λ (a : ℕ). Some (jump_through a)) same
+
+-- the stub is code that jumps by the slot
+pub stub_code : StubLaws → (l : Layout) (m : Memory) (base slot stub x : ℕ) → HasPlaces l.machine base slot → m.machine ≡ processor_of l.machine → (stub_in l slot stub).reaches ≡ true → Holds m (base + stub) (stub_in l slot stub).bytes → HasWord m (base + slot) x → JumpsBy l m (base + stub) stub_size (Word ((base + slot) % 2 ^ 64)) x
+stub_code laws l m base slot stub x places loaded reaches held there = record {
+  bytes = (stub_in l slot stub).bytes;
+  whole = length-stub_of l.machine l.options.bti slot stub;
+  held = held;
+  means = stub_means laws l.machine l.options.bti m base slot stub x places reaches held there;
+  jumps = stub_goes laws l m base slot stub x places loaded reaches held there;
+}

@@ -18,15 +18,18 @@ use Rattle.wild_loader.specs.declared.world.World.{World}
 use Rattle.wild_reloc.specs.Formula.{Value, StubDistance, Distance}
 use Rattle.wild_types.specs.declared.input.InputRelocation.{InputRelocation}
 use Rattle.wild_meaning.specs.Formula.{IsTarget}
-use Rattle.wild_meaning.specs.ReferentAArch64.{RepresentsOnAArch64}
+use Rattle.wild_reloc.specs.BarredTypes.{is_listed}
+use Rattle.wild_meaning.specs.ReferentAArch64.{branch_types, RepresentsOnAArch64}
 use Rattle.wild_meaning.specs.Value.{HasValue}
-use Rattle.wild_loader.specs.Reach.{JumpsTo, Reaches}
-use Rattle.wild_meaning.specs.Denotes.{Denotes, HasStub, IsStub}
+use Rattle.wild_loader.specs.declared.instruction.Operand.TheVariants.{Word}
+use Rattle.wild_meaning.specs.Slot.{HasWord}
+use Rattle.wild_meaning.specs.Jump.{JumpsBy}
+use Rattle.wild_meaning.specs.Denotes.{stub_size, Denotes, HasStub, IsStub}
 use Rattle.wild_references.specs.Terms.{IsPlaced}
 use Rattle.wild_references.proofs.FirstSlots.{first_held, items_behind}
 use Rattle.wild_references.proofs.SlotContents.{ItemsHold}
 use Rattle.wild_references.proofs.SlotFlags.{symbol_fits, slot_of_stub}
-use Rattle.wild_references.proofs.StubCode.{StubLaws, has_places, stub_goes, stub_below}
+use Rattle.wild_references.proofs.StubCode.{StubLaws, has_places, stub_code, stub_below}
 use Rattle.wild_references.proofs.Symbols.{IsResolvedBy, resolved}
 use Rattle.wild_references.proofs.WrittenFields.{given_some}
 
@@ -36,7 +39,10 @@ pub record StubStands (l : Layout) (w : World) (m : Memory) (i stub : ℕ) : Typ
   pub below : w.base + stub < 2 ^ 64
   pub value : ℕ
   pub is : HasValue l w i value
-  pub jumps : JumpsTo m (w.base + stub) value
+  pub slot : ℕ
+  pub first : given.resolution.got_address ≡ Some slot
+  pub word : HasWord m (w.base + slot) value
+  pub code : JumpsBy l m (w.base + stub) stub_size (Word ((w.base + slot) % 2 ^ 64)) value
 
 -- ---- it is in reach of its slot
 
@@ -91,25 +97,24 @@ stub_from law l w m i stub r p all d f =
       below = stub_below l m w.base at stub held;
       value = first.value;
       is = first.is;
-      jumps = stub_goes law l m w.base at stub first.value (has_places l w (canonical l i) at s p.paged d.listed slot.1) p.loaded (in_reach l w m at stub r e f first.behind) held first.there;
+      slot = at;
+      first = e;
+      word = first.there;
+      code = stub_code law l m w.base at stub first.value (has_places l w (canonical l i) at s p.paged d.listed slot.1) p.loaded (in_reach l w m at stub r e f first.behind) held first.there;
     }
 
 -- and memory has it
 pub stub_stands : StubLaws → (l : Layout) (w : World) (m : Memory) (i stub : ℕ) → IsPlaced l w m → KeepsAll l → stub_of l i ≡ Some stub → StubStands l w m i stub
 stub_stands law l w m i stub p all h = let r = resolved_stub l i stub h in stub_from law l w m i stub r.0 p all r.1 r.2
 
--- ---- it reaches the value
+-- ---- it represents the symbol
 
 stub_fits : (l : Layout) (w : World) (m : Memory) (i stub : ℕ) → StubStands l w m i stub → (w.base + stub) % 2 ^ 64 ≡ w.base + stub
 stub_fits l w m i stub h = let low = h.below in omega (arith, low)
 
--- code that goes to the stub comes to the symbol's value
-pub stub_reaches : (l : Layout) (w : World) (m : Memory) (i stub : ℕ) → (h : StubStands l w m i stub) → Reaches m ((w.base + stub) % 2 ^ 64) h.value
-stub_reaches l w m i stub h = subst (λ (a : ℕ). Reaches m a h.value) (sym (stub_fits l w m i stub h)) (inr (h.value, h.jumps, inl refl))
-
 -- so it stands for the symbol
 pub stub_is : (l : Layout) (w : World) (m : Memory) (i stub : ℕ) → StubStands l w m i stub → IsStub l w m i ((w.base + stub) % 2 ^ 64)
-stub_is l w m i stub h = record { stub = stub; given = h.given; moves = refl; value = h.value; is = h.is; reaches = stub_reaches l w m i stub h }
+stub_is l w m i stub h = record { stub = stub; given = h.given; moves = refl; value = h.value; is = h.is; slot = h.slot; first = h.first; word = h.word; code = subst (λ (a : ℕ). JumpsBy l m a stub_size (Word ((w.base + h.slot) % 2 ^ 64)) h.value) (sym (stub_fits l w m i stub h)) h.code }
 
 -- the writer's L is the reader's
 pub goal_given : StubLaws → (l : Layout) (w : World) (m : Memory) (symbol : Option ℕ) (i term : ℕ) → IsPlaced l w m → KeepsAll l → symbol ≡ Some i → stub_address l symbol ≡ Ok term → IsTarget l w m symbol ((w.base + term) % 2 ^ 64)
@@ -118,12 +123,12 @@ goal_given law l w m symbol i term p all named given =
     let goal : Denotes l w m i ((w.base + term) % 2 ^ 64) = inr (stub_is l w m i term (stub_stands law l w m i term p all (given_some missing.Stub i (stub_of l i) term here))) in
     subst (λ (o : Option ℕ). IsTarget l w m o ((w.base + term) % 2 ^ 64)) (sym named) goal
 
--- and it is L to an AArch64 reader: a branch with the addend is at what stands for the symbol and that; and S in a distance
-pub goal_stands : StubLaws → (v : Value) (l : Layout) (w : World) (m : Memory) (r : InputRelocation) (i term : ℕ) → IsPlaced l w m → KeepsAll l → (v ≡ StubDistance) ⊎ (v ≡ Distance) → stub_address l (Some i) ≡ Ok term → RepresentsOnAArch64 v l w m r i ((w.base + term) % 2 ^ 64)
+-- and it is L to an AArch64 reader: a branch with the addend is at what stands for the symbol and that; and S in a branch's distance
+pub goal_stands : StubLaws → (v : Value) (l : Layout) (w : World) (m : Memory) (r : InputRelocation) (i term : ℕ) → IsPlaced l w m → KeepsAll l → (v ≡ StubDistance) ⊎ ((v ≡ Distance) × (is_listed r.number branch_types ≡ true)) → stub_address l (Some i) ≡ Ok term → RepresentsOnAArch64 v l w m r i ((w.base + term) % 2 ^ 64)
 goal_stands law v l w m r i term p all which given =
     let there : Denotes l w m i ((w.base + term) % 2 ^ 64) = inr (stub_is l w m i term (stub_stands law l w m i term p all (given_some missing.Stub i (stub_of l i) term given))) in
     let P : Value → Type 0 = λ q. RepresentsOnAArch64 q l w m r i ((w.base + term) % 2 ^ 64) in
     elim which [
       | inl e ↦ subst P (sym e) (record { symbol = (w.base + term) % 2 ^ 64; denoted = there; comes = inl refl })
-      | inr e ↦ subst P (sym e) there
+      | inr e ↦ subst P (sym e.0) (inr (e.1, there))
     ]

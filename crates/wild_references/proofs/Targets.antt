@@ -12,10 +12,11 @@ use Rattle.wild_layout.specs.SymbolValues.{raw_address}
 use Rattle.wild_layout.specs.SlotValues.{symbol_is_ifunc, address_of, stub_of}
 use Rattle.wild_loader.specs.declared.memory.Memory.{Memory}
 use Rattle.wild_loader.specs.declared.world.World.{World}
-use Rattle.wild_meaning.specs.Formula.{IsTarget}
+use Rattle.wild_meaning.specs.Formula.{IsSymbolAddress}
+use Rattle.wild_meaning.proofs.SymbolLemmas.{address_denotes}
 use Rattle.wild_meaning.specs.Reference.{HasStubAddress}
 use Rattle.wild_meaning.specs.Value.{HasRaw, HasFlag, HasOwnValue, HasValue, IsAbsolute, IsReplaceable, with_base}
-use Rattle.wild_meaning.specs.Denotes.{Denotes, HasStub}
+use Rattle.wild_meaning.specs.Denotes.{HasStub, IsAddressStub, IsAddressOf}
 use Rattle.wild_meaning.specs.ReferentAArch64.{IsOneAddress}
 use Rattle.wild_geometry.proofs.JudgedLemmas.{flag_is}
 use Rattle.wild_references.specs.Terms.{IsPlaced}
@@ -30,7 +31,7 @@ use Rattle.wild_references.proofs.StubCode.{StubLaws}
 -- an address in the world: the layout's own, or that moved with the base
 pub record IsAddressed (l : Layout) (w : World) (m : Memory) (symbol : Option ℕ) (a : ℕ) : Type 0 where
   pub still : Bool
-  pub denoted : IsTarget l w m symbol (with_base still w.base a)
+  pub denoted : IsSymbolAddress l w m symbol (with_base still w.base a)
   pub flag : (i : ℕ) → symbol ≡ Some i → has_flag (flags_at l i) absolute ≡ still
   pub absolute : (i : ℕ) → symbol ≡ Some i → still ≡ true → IsAbsolute l i
 
@@ -81,11 +82,15 @@ own_addressed l w m i a own t = record {
   absolute = λ j e still. (let same : i ≡ j = cc in subst (λ (k : ℕ). IsAbsolute l k) same (t.absolute still));
 }
 
+-- the output uses it as the symbol's address
+address_stub : (l : Layout) (i a : ℕ) → stub_of l i ≡ Some a → HasStubAddress l i → IsAddressStub l i a
+address_stub l i a h st = subst (λ (p : ℕ). IsAddressStub l i p) (sym (one_stub l i a h st)) (record { stub = st.there; stands = st.stands; moves = st.moves })
+
 -- the stub's, which moves with the base
-stub_moves : StubLaws → (l : Layout) (w : World) (m : Memory) (i a : ℕ) → IsPlaced l w m → KeepsAll l → has_flag (flags_at l i) absolute ≡ false → stub_of l i ≡ Some a → IsAddressed l w m (Some i) a
-stub_moves law l w m i a p all moves h = record {
+stub_moves : StubLaws → (l : Layout) (w : World) (m : Memory) (i a : ℕ) → IsPlaced l w m → KeepsAll l → has_flag (flags_at l i) absolute ≡ false → stub_of l i ≡ Some a → HasStubAddress l i → IsAddressed l w m (Some i) a
+stub_moves law l w m i a p all moves h st = record {
   still = false;
-  denoted = inr (stub_is l w m i a (stub_stands law l w m i a p all h));
+  denoted = inr (a, address_stub l i a h st, refl, stub_is l w m i a (stub_stands law l w m i a p all h));
   flag = λ j e. (let same : i ≡ j = cc in subst (λ (k : ℕ). has_flag (flags_at l k) absolute ≡ false) same moves);
   absolute = λ j e t. cc;
 }
@@ -132,7 +137,7 @@ followed_by law l w m i a p stands f h =
     ]
   where
     by_stub : Stands l i → has_flag (flags_at l i) absolute ≡ false → stub_of l i ≡ Some a → HasStubAddress l i → IsAddressed l w m (Some i) a
-    by_stub (inl all) moves there st = stub_moves law l w m i a p all moves there
+    by_stub (inl all) moves there st = stub_moves law l w m i a p all moves there st
     by_stub (inr none) moves there st = absurd (none st)
 
     plain : symbol_is_ifunc l i ≡ false → Follows l i → raw_address l (Some i) ≡ Ok a → IsAddressed l w m (Some i) a
@@ -140,7 +145,7 @@ followed_by law l w m i a p stands f h =
     plain n (inr st) h = by_stub stands (flag_is l i absolute false st.moves) (stubbed_address l i a n h st) st
 
 -- it is the one address that stands for the symbol
-pub one_addressed : (l : Layout) (w : World) (m : Memory) (i a : ℕ) (still : Bool) → IsPlaced l w m → Follows l i → address_of l (Some i) ≡ Ok a → has_flag (flags_at l i) absolute ≡ still → Denotes l w m i (with_base still w.base a) → IsOneAddress l w m i (with_base still w.base a)
+pub one_addressed : (l : Layout) (w : World) (m : Memory) (i a : ℕ) (still : Bool) → IsPlaced l w m → Follows l i → address_of l (Some i) ≡ Ok a → has_flag (flags_at l i) absolute ≡ still → IsAddressOf l w m i (with_base still w.base a) → IsOneAddress l w m i (with_base still w.base a)
 one_addressed l w m i a still p f h flag denoted = by_stub (stubbed_or_not l i)
   where
     given : HasStubAddress l i → stub_of l i ≡ Some a
@@ -166,7 +171,7 @@ one_addressed l w m i a still p f h flag denoted = by_stub (stubbed_or_not l i)
         let same = one_stub l i a (given st) st in
         let moves : still ≡ false = sym flag ∙ flag_is l i absolute false st.moves in
         let at : with_base still w.base a ≡ (w.base + a) % 2 ^ 64 = ap (λ (b : Bool). with_base b w.base a) moves in
-        inl (st.stub, record { stub = st.there; stands = st.stands; moves = st.moves }, at ∙ ap (λ (n : ℕ). (w.base + n) % 2 ^ 64) same, denoted)
+        inl (st.stub, record { stub = st.there; stands = st.stands; moves = st.moves }, at ∙ ap (λ (n : ℕ). (w.base + n) % 2 ^ 64) same, address_denotes l w m i (with_base still w.base a) denoted)
     by_stub (inr none) = inr (λ q s. none (record { stub = q; there = s.stub; stands = s.stands; moves = s.moves }), value none f)
 
 pub addressed : StubLaws → (l : Layout) (w : World) (m : Memory) (symbol : Option ℕ) (a : ℕ) → IsPlaced l w m → ((i : ℕ) → symbol ≡ Some i → Stands l i) → ((i : ℕ) → symbol ≡ Some i → Follows l i) → address_of l symbol ≡ Ok a → IsAddressed l w m symbol a

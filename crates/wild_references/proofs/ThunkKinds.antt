@@ -32,7 +32,9 @@ use Rattle.wild_layout.proofs.ThunkFieldLemmas.{thunk_found}
 use Rattle.wild_layout.specs.Values.{term_of, subtract, is_undefined_weak_without_stub, adds_symbol, subtracts_place, weak_resolves_to_place, undefined_weak_target, term_by}
 use Rattle.wild_loader.specs.declared.memory.Memory.{Memory}
 use Rattle.wild_loader.specs.declared.world.World.{World}
-use Rattle.wild_loader.specs.Reach.{ReachesWithin, JumpsTo}
+use Rattle.wild_types.specs.FileThunks.{thunk_size}
+use Rattle.wild_loader.specs.declared.instruction.Operand.TheVariants.{Number}
+use Rattle.wild_meaning.specs.Jump.{JumpsBy, GoesTo}
 use Rattle.wild_meaning.specs.Formula.{IsReferent, IsReferentOnAArch64, Gives, IsPlaceRelative, TakesAddress}
 use Rattle.wild_meaning.specs.Value.{IsAbsolute}
 use Rattle.wild_references.specs.Terms.{value_by_row, HasTerm, IsFollowed}
@@ -180,12 +182,12 @@ landed b c s none e = omega (arith, none, e)
 distance_moved : (base a p c : ℕ) → c ≡ 0 → base + p ≤ 2 ^ 64 → (a + (2 ^ 64 - p)) % 2 ^ 64 ≡ (base + a + c + (2 ^ 64 - (base + p))) % 2 ^ 64
 distance_moved base a p c none ends = omega (arith, none, ends)
 
-comes : (l : Layout) (w : World) (m : Memory) (r : InputRelocation) (t : Thunk) (symbol : ℕ) → (g : JumpsToTarget l w m t) → cast_unsigned w64 r.addend ≡ 0 → (w.base + g.target) % 2 ^ 64 ≡ symbol % 2 ^ 64 → ReachesWithin 1 m ((w.base + t.address + cast_unsigned w64 r.addend) % 2 ^ 64) ((symbol + cast_unsigned w64 r.addend) % 2 ^ 64)
+comes : (l : Layout) (w : World) (m : Memory) (r : InputRelocation) (t : Thunk) (symbol : ℕ) → (g : JumpsToTarget l w m t) → cast_unsigned w64 r.addend ≡ 0 → (w.base + g.target) % 2 ^ 64 ≡ symbol % 2 ^ 64 → GoesTo l m ((w.base + t.address + cast_unsigned w64 r.addend) % 2 ^ 64) ((symbol + cast_unsigned w64 r.addend) % 2 ^ 64)
 comes l w m r t symbol g none at =
     let ends = g.ends in
     let low : w.base + t.address < 2 ^ 64 = omega (arith, ends) in
     let b = (w.base + g.target) % 2 ^ 64 in
-    inr (b, subst (λ (a : ℕ). JumpsTo m a b) (added_none (w.base + t.address) (cast_unsigned w64 r.addend) none low) g.jumps, landed b (cast_unsigned w64 r.addend) symbol none at)
+    inr (subst (λ (v : ℕ). JumpsBy l m ((w.base + t.address + cast_unsigned w64 r.addend) % 2 ^ 64) thunk_size (Number v) v) (landed b (cast_unsigned w64 r.addend) symbol none at) (subst (λ (a : ℕ). JumpsBy l m a thunk_size (Number b) b) (added_none (w.base + t.address) (cast_unsigned w64 r.addend) none low) g.code))
 
 referent_by : (l : Layout) (w : World) (m : Memory) (s : Item) (r : InputRelocation) (i : ℕ) (t : Thunk) → l.machine ≡ machine.AArch64 → r.symbol ≡ Some i → cast_unsigned w64 r.addend ≡ 0 → (g : JumpsToTarget l w m t) → IsThere l w m i g.target → IsReferent l.machine StubDistance l w m s r (w.base + t.address)
 referent_by l w m s r i t on named none g h =

@@ -17,6 +17,7 @@ use Rattle.wild_loader.specs.declared.memory.Memory.{Memory}
 use Rattle.wild_loader.specs.declared.world.World.{World}
 use Rattle.wild_meaning.specs.Denotes.{Denotes, IsStub}
 use Rattle.wild_meaning.specs.Value.{IsAbsolute, with_base}
+use Rattle.wild_meaning.proofs.SymbolLemmas.{address_denotes}
 use Rattle.wild_references.specs.Terms.{IsPlaced}
 use Rattle.wild_references.proofs.StubCode.{StubLaws}
 use Rattle.wild_references.proofs.SymbolStubs.{stub_stands, stub_is}
@@ -112,7 +113,7 @@ symbol_targeted law l w m i a target t p all of known f given still = by_stub (s
     by_stub None none =
         let same = plain_target l i a target t p.symbols.final of known none (plain none (symbol_is_ifunc l i) refl) in
         let rests : (w.base ≡ 0) ⊎ (here.still ≡ false) = resting here.still refl in
-        record { symbol = with_base here.still w.base a; denoted = here.denoted; at = ap (λ (n : ℕ). (w.base + n) % 2 ^ 64) (sym same) ∙ moves_so here.still w.base a rests }
+        record { symbol = with_base here.still w.base a; denoted = address_denotes l w m i (with_base here.still w.base a) here.denoted; at = ap (λ (n : ℕ). (w.base + n) % 2 ^ 64) (sym same) ∙ moves_so here.still w.base a rests }
       where
         resting : (b : Bool) → here.still ≡ b → (w.base ≡ 0) ⊎ (here.still ≡ false)
         resting true e = inl (still (here.absolute i refl e))

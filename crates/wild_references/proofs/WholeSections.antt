@@ -1,5 +1,5 @@
 -- The fields of a kept item that memory has as it was decided hold.
-use Rattle.std.proofs.Common.{sym, subst}
+use Rattle.std.proofs.Common.{◌≡◌, sym, subst}
 use Rattle.wild_types.specs.declared.kind.Machine.{Machine}
 use Rattle.wild_types.specs.Item.{Item}
 use Rattle.wild_types.specs.declared.layout.Layout.{Layout}
@@ -8,6 +8,10 @@ use Rattle.wild_layout.specs.Numbers.{NumbersFit}
 use Rattle.wild_layout.specs.Geometry.{IsLaidOut}
 use Rattle.wild_loader.specs.declared.memory.Memory.{Memory}
 use Rattle.wild_loader.specs.declared.world.World.{World}
+use Rattle.wild_types.specs.HeaderOnly.{KeepsAll}
+use Rattle.wild_geometry.specs.Slots.{HasSlots}
+use Rattle.wild_meaning.specs.World.{IsLoadable, IsLegal}
+use Rattle.wild_meaning.specs.LinkedImage.{processor_of}
 use Rattle.wild_meaning.proofs.OutputLemmas.{still_fixed, moving_movable}
 use Rattle.wild_references.proofs.KeptItems.{item_lies, addends_fit}
 use Rattle.wild_references.specs.Terms.{SymbolsFit, MovesByPages, IsPlaced}
@@ -21,20 +25,23 @@ use Rattle.wild_references.proofs.References.{field_holds, field_links}
 symbols_fit : (l : Layout) → HaveTheirFlags l → NumbersFit l → IsLaidOut l → SymbolsFit l
 symbols_fit l own numbers laid = record { named = laid.definitions; final = laid.final; own = own; flags = laid.slot_flags; dynsyms = laid.dynsyms; numbers = numbers.symbols }
 
-pub placed : (k : Machine) (l : Layout) (w : World) (m : Memory) (s : Item) → IsLoadedItem k l w m s → IsPlaced l w m
-placed k l w m s h = record {
-  paged = subst (λ (j : Machine). MovesByPages j l w) (sym h.on) h.paged;
-  loadable = h.loadable;
-  still = λ e. h.legal.fixed (still_fixed l.kind h.loadable e);
+pub placed_output : (l : Layout) (w : World) (m : Memory) → MovesByPages l.machine l w → IsLoadable l.kind → HaveTheirFlags l → NumbersFit l → IsLegal l w → IsLaidOut l → m.machine ≡ processor_of l.machine → (KeepsAll l → HasSlots l w m) → IsPlaced l w m
+placed_output l w m paged loadable own numbers legal laid loaded slots = record {
+  paged = paged;
+  loadable = loadable;
+  still = λ e. legal.fixed (still_fixed l.kind loadable e);
   movable = moving_movable l.kind;
-  legal = h.legal;
-  got = h.numbers.got;
-  tls_start = h.numbers.tls.start;
-  tls_end = h.numbers.tls.end;
-  symbols = symbols_fit l h.flags h.numbers h.laid;
-  loaded = h.loaded;
-  slots = h.slots;
+  legal = legal;
+  got = numbers.got;
+  tls_start = numbers.tls.start;
+  tls_end = numbers.tls.end;
+  symbols = symbols_fit l own numbers laid;
+  loaded = loaded;
+  slots = slots;
 }
+
+pub placed : (k : Machine) (l : Layout) (w : World) (m : Memory) (s : Item) → IsLoadedItem k l w m s → IsPlaced l w m
+placed k l w m s h = placed_output l w m (subst (λ (j : Machine). MovesByPages j l w) (sym h.on) h.paged) h.loadable h.flags h.numbers h.legal h.laid h.loaded h.slots
 
 -- ---- a kept item
 

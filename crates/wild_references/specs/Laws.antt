@@ -47,6 +47,8 @@ use Rattle.wild_records.specs.Abi.Relocation.{r_x86_64_none}
 use Rattle.wild_types.specs.Item.{Item}
 use Rattle.wild_meaning.specs.Item.{IsKept}
 use Rattle.wild_meaning.specs.Field.{formula_of, FieldReads}
+use Rattle.wild_reloc.specs.BarredTypes.{is_listed}
+use Rattle.wild_meaning.specs.ReferentAArch64.{branch_types}
 use Rattle.wild_meaning.specs.Formula.{IsSum, HasOffsetMode, Gives, IsOwnSum, GivesLinked, TakesAddress, TakesOffset}
 use Rattle.wild_meaning.specs.Reference.{MustHold, HasStubAddress, UsesOwnSymbolOnly, IsOmitted}
 use Rattle.wild_references.specs.Terms.{IsPlaced, MovesByPages, value_by_row, HasTerm, IsFollowed}
@@ -70,10 +72,10 @@ TermGives t = (info : RelocationKindInfo) → (expression_of info.kind).term ≡
 abbrev pub TermGivesLinked : Term → Type 0
 TermGivesLinked t = (info : RelocationKindInfo) → (expression_of info.kind).term ≡ t → writes (expression_of info.kind).class ≡ true → RowGivesLinked info
 
--- On AArch64 the distance to a stub that a row writes is the distance of the symbol that the stub represents, if the symbol is
--- not that of merged strings.
+-- On AArch64 the distance to a stub that a row of a branch writes is the distance of the symbol that the stub represents, if the
+-- symbol is not that of merged strings.
 abbrev pub StubsRepresentSymbols : Type 0
-StubsRepresentSymbols = (info : RelocationKindInfo) → info.kind ≡ kinds.PltRelative → (l : Layout) (w : World) (m : Memory) (s : Item) (r : InputRelocation) (x : ℕ) → l.machine ≡ machine.AArch64 → (NamesStrings l r → ⊥) → HasTerm l w m s r info x → Gives Distance l w m s r x
+StubsRepresentSymbols = (info : RelocationKindInfo) → info.kind ≡ kinds.PltRelative → (l : Layout) (w : World) (m : Memory) (s : Item) (r : InputRelocation) (x : ℕ) → l.machine ≡ machine.AArch64 → is_listed r.number branch_types ≡ true → (NamesStrings l r → ⊥) → HasTerm l w m s r info x → Gives Distance l w m s r x
 
 -- For slots, whichever module defines the symbol. For a descriptor, unless references in that code hold offsets ("ELF Handling
 -- For Thread-Local Storage", "Linker Relaxations").

@@ -25,18 +25,19 @@ use Rattle.wild_layout.specs.Geometry.{IsLaidOut}
 use Rattle.wild_geometry.specs.Thunks.{HasThunks}
 use Rattle.wild_loader.specs.declared.memory.Memory.{Memory}
 use Rattle.wild_loader.specs.declared.world.World.{World}
-use Rattle.wild_loader.specs.Reach.{JumpsTo}
+use Rattle.wild_loader.specs.declared.instruction.Operand.TheVariants.{Number}
+use Rattle.wild_meaning.specs.Jump.{JumpsBy}
 use Rattle.wild_meaning.specs.LinkedImage.{processor_of}
 use Rattle.wild_meaning.specs.Formula.{Gives}
 use Rattle.wild_references.specs.Terms.{MovesByPages, value_by_row, HasTerm, IsFollowed}
 use Rattle.wild_layout.specs.Merged.{names_merged}
 
--- the thunk has a target, and the code at its loaded address, which does not wrap, jumps directly to the base plus the target
+-- the thunk has a target, and the code at its loaded address, which does not wrap, jumps to the base plus the target, a number
 pub record JumpsToTarget (l : Layout) (w : World) (m : Memory) (t : Thunk) : Type 0 where
   pub target : ℕ
   pub known : thunk_target l t ≡ Ok target
   pub ends : w.base + t.address + thunk_size ≤ 2 ^ 64
-  pub jumps : JumpsTo m (w.base + t.address) ((w.base + target) % 2 ^ 64)
+  pub code : JumpsBy l m (w.base + t.address) thunk_size (Number ((w.base + target) % 2 ^ 64)) ((w.base + target) % 2 ^ 64)
 
 -- each thunk of the layout
 abbrev pub EachThunkJumps : Layout → World → Memory → Type 0

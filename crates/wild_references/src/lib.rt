@@ -3,7 +3,7 @@
 
 ghost use Rattle.wild_reloc.specs.declared.expression.Term.TheVariants as term;
 ghost use Rattle.wild_references.specs.Laws.{AddressesGive, AddressesGiveLinked, EntriesGive, ItemFieldsHold, ItemsHaveBytes, OutputsMoveByPages, PartsGive, PartsGiveLinked, SlotsGive, StubsRepresentSymbols, TermGives, TermGivesLinked, ThreadPlacesAreKnown};
-ghost use Rattle.wild_references.specs.Stubs.{StubsJumpToSlots};
+ghost use Rattle.wild_references.specs.Stubs.{StubsJumpToSlots, StubsAreOfSymbols};
 ghost use Rattle.wild_references.specs.Thunks.{ThunksGive, ThunksJumpToTargets};
 ghost use Rattle.wild_references.specs.FilledX86_64.{FilledInstructionsDo};
 ghost use Rattle.wild_references.specs.EffectLaws.{InstructionsAreKept, ItemsHold, KeptInstructionsDo, OthersAreKept, PartnersHold, RewrittenAreFollowed, RewrittenHold, RewrittenAreInstructions, SequencesAreKept, WindowsHaveNoOtherField};
@@ -11,8 +11,8 @@ ghost use Rattle.wild_references.specs.EffectLaws.{InstructionsAreKept, ItemsHol
 use wild_geometry::machines_have_their_facts;
 use wild_loader::{stubs_are_read, stubs_of_words_are_read};
 use wild_relax::{
-    aarch64_rewrites_keep_the_effect, aarch64_rows_apply_together, rewrites_keep_the_effect,
-    rewrites_stay_in_their_patterns,
+    aarch64_code_reaches, aarch64_rewrites_keep_the_effect, aarch64_rows_apply_together,
+    rewrites_keep_the_effect, rewrites_stay_in_their_patterns, stubs_jump_to_their_slots,
 };
 use wild_reloc::widths_of_fields;
 
@@ -21,6 +21,8 @@ pub fn symbols_are_given()
     ensures gives { TermGives term.Symbol }
     ensures linked { TermGivesLinked term.Symbol }
 {
+    stubs_jump_to_their_slots();
+    aarch64_code_reaches();
     stubs_are_read();
     stubs_of_words_are_read();
 }
@@ -30,6 +32,8 @@ pub fn stubs_are_given()
     ensures gives { TermGives term.Stub }
     ensures stand { StubsRepresentSymbols }
 {
+    stubs_jump_to_their_slots();
+    aarch64_code_reaches();
     stubs_are_read();
     stubs_of_words_are_read();
 }
@@ -38,6 +42,8 @@ pub fn stubs_are_given()
 pub fn slots_are_given()
     ensures { SlotsGive }
 {
+    stubs_jump_to_their_slots();
+    aarch64_code_reaches();
     stubs_are_read();
     stubs_of_words_are_read();
 }
@@ -46,6 +52,8 @@ pub fn slots_are_given()
 pub fn thunks_are_given()
     ensures { ThunksGive }
 {
+    stubs_jump_to_their_slots();
+    aarch64_code_reaches();
     stubs_are_read();
     stubs_of_words_are_read();
 }
@@ -65,6 +73,8 @@ pub fn parts_are_given()
     ensures gives { PartsGive }
     ensures linked { PartsGiveLinked }
 {
+    stubs_jump_to_their_slots();
+    aarch64_code_reaches();
     stubs_are_read();
     stubs_of_words_are_read();
 }
@@ -86,6 +96,8 @@ pub fn addresses_are_given()
     ensures gives { AddressesGive }
     ensures linked { AddressesGiveLinked }
 {
+    stubs_jump_to_their_slots();
+    aarch64_code_reaches();
     stubs_are_read();
     stubs_of_words_are_read();
 }
@@ -102,10 +114,13 @@ pub fn thread_places_are_known()
     ensures { ThreadPlacesAreKnown }
 {}
 
-/// Each stub in memory, used or not, jumps to the address in its symbol's first slot.
+/// Each stub in memory, used or not, jumps to the address in its symbol's first slot. In a legal world this is the symbol's value.
 pub fn stubs_jump_to_slots()
-    ensures { StubsJumpToSlots }
+    ensures jump { StubsJumpToSlots }
+    ensures symbols { StubsAreOfSymbols }
 {
+    stubs_jump_to_their_slots();
+    aarch64_code_reaches();
     stubs_are_read();
     stubs_of_words_are_read();
 }
@@ -114,6 +129,7 @@ pub fn stubs_jump_to_slots()
 pub fn thunks_jump_to_targets()
     ensures { ThunksJumpToTargets }
 {
+    aarch64_code_reaches();
     stubs_of_words_are_read();
 }
 
@@ -168,6 +184,8 @@ pub fn rewritten_instructions_hold()
     slots_are_given();
     aarch64_rows_apply_together();
     aarch64_rewrites_keep_the_effect();
+    stubs_jump_to_their_slots();
+    aarch64_code_reaches();
     stubs_are_read();
     stubs_of_words_are_read();
 }

@@ -20,7 +20,8 @@ use Rattle.wild_meaning.specs.Value.{IsDefinedBy, IsResolved, HasRaw, HasFlag, I
 use Rattle.wild_loader.specs.Reach.{Reaches}
 use Rattle.wild_meaning.specs.Denotes.{HasStub, Denotes}
 use Rattle.wild_meaning.specs.Slot.{IsSlot}
-use Rattle.wild_meaning.specs.Formula.{IsGoal, IsWhole}
+use Rattle.wild_meaning.specs.Formula.{IsWhole}
+use Rattle.wild_laws.specs.FirstPath.{IsGoal}
 
 -- For the output's own symbols that are not IFUNCs: the address of one that is not absolute moves with the base, an absolute
 -- value does not. Without a stub no other address represents the symbol, and execution that reaches the symbol reaches that

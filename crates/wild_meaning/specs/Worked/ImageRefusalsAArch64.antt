@@ -26,6 +26,10 @@ call_of_thunk = 0x10 ∷ 0 ∷ 0 ∷ 0x94 ∷ []
 abbrev pub far_thunk : List ℕ
 far_thunk = 0x10 ∷ 0 ∷ 0 ∷ 0xb0 ∷ 0x10 ∷ 0x02 ∷ 0x08 ∷ 0x91 ∷ 0 ∷ 0x02 ∷ 0x1f ∷ 0xd6 ∷ []
 
+-- code in the thunk's place that jumps to the address in the function's slot: `adrp x16; ldr x17, [x16]; br x17`
+abbrev pub stored_thunk : List ℕ
+stored_thunk = 0x10 ∷ 0 ∷ 0 ∷ 0x90 ∷ 0x11 ∷ 0x42 ∷ 0x40 ∷ 0xf9 ∷ 0x20 ∷ 0x02 ∷ 0x1f ∷ 0xd6 ∷ []
+
 -- `bl` to the thunk from the next word, and the thunk, which jumps to the function itself
 abbrev pub next_call_of_thunk : List ℕ
 next_call_of_thunk = 0x0f ∷ 0 ∷ 0 ∷ 0x94 ∷ []
@@ -52,7 +56,7 @@ pub record HasBoth (a : ℕ) (bs : List ℕ) (b : ℕ) (cs : List ℕ) (m : Memo
 
 -- Refused are:
 -- - a load from another slot than the symbol's;
--- - a thunk one page off;
+-- - a thunk one page off, and one that reads its target in a word;
 -- - a branch with an addend through a thunk, which does not add it;
 -- - a descriptor call that is rewritten by half;
 -- - one with the low half of the offset where `movz` has the high one;
@@ -60,6 +64,7 @@ pub record HasBoth (a : ℕ) (bs : List ℕ) (b : ℕ) (cs : List ℕ) (m : Memo
 pub record WrongCodeOfWordsIsRefused : Type 0 where
   pub slot : Refuses words_static words_world (MemoryHas 0x11010 slot_behind)
   pub thunk : Refuses words_static words_world (HasBoth 0x11020 call_of_thunk 0x11060 far_thunk)
+  pub stored : Refuses words_static words_world (HasBoth 0x11020 call_of_thunk 0x11060 stored_thunk)
   pub addend : Refuses words_static words_world (HasBoth 0x11024 next_call_of_thunk 0x11060 right_thunk)
   pub half : Refuses words_static words_world (MemoryHas 0x11030 half_call)
   pub low : Refuses words_static words_world (MemoryHas 0x11030 low_half)

@@ -1,5 +1,5 @@
--- A worked shared object with an own symbol, an interposable one, own thread-local data and those of another module, and a slot
--- of each sort. In its world other modules have definitions of the interposable symbols.
+-- A worked shared object with an own symbol, an interposable one, own thread-local data and those of another module, a function with
+-- a stub, and a slot of each sort. In its world other modules have definitions of the interposable symbols.
 --   shared_data, shared_item   its data, and their required content
 --   shared_code, code_item     its code
 --   shared_near, near_item     its data with a distance that only its own symbol can have
@@ -35,6 +35,10 @@ own_thread = resolved_symbol 0x388 0x3008 8 None (Some 0x2010) None
 -- thread-local data of another module, with an offset and a pair (DYNAMIC, GOT_TLS_OFFSET, GOT_TLS_MODULE)
 abbrev pub other_thread : Symbol
 other_thread = resolved_symbol 0x182 0 8 (Some 2) (Some 0x2038) None
+
+-- a function with a slot and a stub (NON_INTERPOSABLE, GOT, PLT)
+abbrev pub stubbed_function : Symbol
+stubbed_function = resolved_symbol 0x68 0x1088 1 None (Some 0x20d8) (Some 0x20e0)
 
 -- a reference of each sort, in data
 abbrev pub shared_references : List InputRelocation
@@ -89,8 +93,8 @@ shared_near = input 0x1060 2 (0 ∷ 0 ∷ 0 ∷ 0 ∷ 0 ∷ 0 ∷ 0 ∷ 0 ∷ []
 abbrev pub near_item : Item
 near_item = item_with 0 shared_near
 
--- the layout: data and code from 0x1000 on, slots from 0x2000 to 0x2060, then the dynamic section with 6 entries, then other
--- words; thread-local data from 0x3000 to 0x3010
+-- the layout: data and code from 0x1000 on, slots from 0x2000 to 0x2060, then the dynamic section with 6 entries, the function's slot at
+-- 0x20d8 and its stub at 0x20e0, then other words; thread-local data from 0x3000 to 0x3010
 abbrev pub shared_layout : Layout
 shared_layout = record empty_layout {
   kind = output.SharedObject;
@@ -99,7 +103,7 @@ shared_layout = record empty_layout {
   tls = record { start = 0x3000; end = 0x3010; align = 8 };
   got_base = 0x2000;
   tlsld = Some 0x2050;
-  symbols = own_symbol ∷ open_symbol ∷ own_thread ∷ other_thread ∷ [];
+  symbols = own_symbol ∷ open_symbol ∷ own_thread ∷ other_thread ∷ stubbed_function ∷ [];
   groups = one_file (shared_data ∷ shared_code ∷ shared_near ∷ []);
 }
 

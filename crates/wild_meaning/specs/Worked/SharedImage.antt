@@ -41,7 +41,8 @@ shared_front =
     ∷ []
 
 -- The slots, with their words as loaded, except for the descriptor. DT_RELA (7), DT_RELASZ (8), DT_RELAENT (9), DT_FLAGS (30) with
--- DF_BIND_NOW (8), DT_FLAGS_1 (0x6ffffffb) with DF_1_NOW (1), and DT_NULL. The entry for the descriptor (R_X86_64_TLSDESC is 36).
+-- DF_BIND_NOW (8), DT_FLAGS_1 (0x6ffffffb) with DF_1_NOW (1), and DT_NULL. The entry for the descriptor (R_X86_64_TLSDESC is 36). The
+-- function's slot and its stub.
 abbrev pub shared_back : List ℕ
 shared_back =
     0 ∷ 0x11 ∷ 1 ∷ 0 ∷ 0 ∷ 0 ∷ 0 ∷ 0 ∷ 0x10 ∷ 0 ∷ 0x70 ∷ 0 ∷ 0 ∷ 0 ∷ 0 ∷ 0
@@ -57,14 +58,15 @@ shared_back =
     ∷ 0xfb ∷ 0xff ∷ 0xff ∷ 0x6f ∷ 0 ∷ 0 ∷ 0 ∷ 0 ∷ 1 ∷ 0 ∷ 0 ∷ 0 ∷ 0 ∷ 0 ∷ 0 ∷ 0
     ∷ 0 ∷ 0 ∷ 0 ∷ 0 ∷ 0 ∷ 0 ∷ 0 ∷ 0 ∷ 0 ∷ 0 ∷ 0 ∷ 0 ∷ 0 ∷ 0 ∷ 0 ∷ 0
     ∷ 0x28 ∷ 0x20 ∷ 0 ∷ 0 ∷ 0 ∷ 0 ∷ 0 ∷ 0 ∷ 0x24 ∷ 0 ∷ 0 ∷ 0 ∷ 0 ∷ 0 ∷ 0 ∷ 0
-    ∷ 8 ∷ 0 ∷ 0 ∷ 0 ∷ 0 ∷ 0 ∷ 0 ∷ 0
+    ∷ 8 ∷ 0 ∷ 0 ∷ 0 ∷ 0 ∷ 0 ∷ 0 ∷ 0 ∷ 0x88 ∷ 0x10 ∷ 1 ∷ 0 ∷ 0 ∷ 0 ∷ 0 ∷ 0
+    ∷ 0xf3 ∷ 0x0f ∷ 0x1e ∷ 0xfa ∷ 0xf2 ∷ 0xff ∷ 0x25 ∷ 0xed ∷ 0xff ∷ 0xff ∷ 0xff ∷ 0x0f ∷ 0x1f ∷ 0x44 ∷ 0 ∷ 0
     ∷ []
 
 -- the bytes after the file header: the program headers, and the two segments
 abbrev pub shared_rest : List ℕ
 shared_rest =
     spell (program_header_fields shared_first)
-    ++ (spell (program_header_fields shared_second) ++ (spell (program_header_fields shared_third) ++ (replicate 3864 0 ++ (shared_front ++ (replicate 3952 0 ++ (shared_back ++ replicate 56 0))))))
+    ++ (spell (program_header_fields shared_second) ++ (spell (program_header_fields shared_third) ++ (replicate 3864 0 ++ (shared_front ++ (replicate 3952 0 ++ (shared_back ++ replicate 32 0))))))
 
 abbrev pub shared_image : List ℕ
 shared_image = spell (file_header_fields shared_header) ++ shared_rest
@@ -73,6 +75,6 @@ shared_image = spell (file_header_fields shared_header) ++ shared_rest
 abbrev pub shared_memory : Memory
 shared_memory = record {
   machine = processors.X86_64;
-  runs = record { start = 0x11000; bytes = shared_front } ∷ record { start = 0x12000; bytes = shared_back ++ replicate 56 0 } ∷ [];
+  runs = record { start = 0x11000; bytes = shared_front } ∷ record { start = 0x12000; bytes = shared_back ++ replicate 32 0 } ∷ [];
   descriptors = (0x12028, 2 ^ 64 - 0x58) ∷ [];
 }

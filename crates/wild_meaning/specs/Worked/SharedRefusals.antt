@@ -1,14 +1,20 @@
 -- Images of the worked shared object that are refused in its world.
 --   SharedWorldIsLegal    the world is legal
 --   WrongSlotsAreRefused  a slot of an address or an offset that holds another word
+--   SlotsNeedTheirFlags   a slot of a sort whose flag the symbol lacks
+--   WrongStubsAreRefused  a stub that jumps by another word, or to another address
 --   ..                    each other law names one kind of wrong memory
 --   SharedImageIsLinked   an image is linked there
 use Rattle.std.specs.Prelude.{◌≡◌, ℕ, ◌-◌, ◌^◌, List, [], ◌∷◌, Some}
+use Rattle.wild_types.specs.declared.input.InputRelocation.{InputRelocation}
+use Rattle.wild_types.specs.Item.{Item}
+use Rattle.wild_meaning.specs.Formula.{IsReferent}
+use Rattle.wild_reloc.specs.Formula.{SymbolAddress, AddressSlot, ModulePair, ThreadOffset, Descriptor}
 use Rattle.wild_words.specs.Words.{HasBytesAt}
 use Rattle.wild_loader.specs.declared.memory.Memory.{Memory}
 use Rattle.wild_loader.specs.Memory.{byte_in, number_in, Holds}
 use Rattle.wild_meaning.specs.World.{IsLegal}
-use Rattle.wild_meaning.specs.Slot.{HasWord}
+use Rattle.wild_meaning.specs.Slot.{HasWord, HasSlot}
 use Rattle.wild_meaning.specs.LinkedImage.{IsLinked}
 use Rattle.wild_meaning.specs.Worked.Builders.{IsRightImage, Refuses}
 use Rattle.wild_meaning.specs.Worked.Shared.{shared_layout, shared_world}
@@ -47,6 +53,29 @@ pub record WrongSlotsAreRefused : Type 0 where
   pub other : Refused (NamesWrongWord 0x11038 8 0xfd0 0x12008 0x700010)
   pub another : Refused NamesAnother
   pub elsewhere : Refused NamesElsewhere
+
+-- A symbol has no slot of a sort whose flag it lacks: the symbol with a slot for its address has none for an offset or a pair, the
+-- thread-local data have none for an address, and those of another module no descriptor.
+pub record SlotsNeedTheirFlags : Type 0 where
+  pub address : (p : ℕ) → HasSlot AddressSlot shared_layout 2 p → ⊥
+  pub offset : (p : ℕ) → HasSlot ThreadOffset shared_layout 0 p → ⊥
+  pub pair : (p : ℕ) → HasSlot ModulePair shared_layout 0 p → ⊥
+  pub descriptor : (p : ℕ) → HasSlot Descriptor shared_layout 3 p → ⊥
+
+-- a stub of the function that jumps to the address in another word, which has the same content
+abbrev pub stub_by_another_word : List ℕ
+stub_by_another_word = 0xf3 ∷ 0x0f ∷ 0x1e ∷ 0xfa ∷ 0xf2 ∷ 0xff ∷ 0x25 ∷ 0x15 ∷ 0 ∷ 0 ∷ 0 ∷ 0x0f ∷ 0x1f ∷ 0x44 ∷ 0 ∷ 0 ∷ []
+
+pub record JumpsByAnotherWord (m : Memory) : Type 0 where
+  pub stub : Holds m 0x120e0 stub_by_another_word
+  pub there : HasWord m 0x12100 0x11088
+
+-- A stub jumps by its symbol's own slot, even if no reference uses it. The slot has the symbol's value. The stub is not the function's
+-- address, because the layout has another one for it.
+pub record WrongStubsAreRefused : Type 0 where
+  pub another : Refused JumpsByAnotherWord
+  pub value : Refused (HasWrongNumber 0x120d8 8 0x11088)
+  pub address : (m : Memory) (item : Item) (r : InputRelocation) → r.symbol ≡ Some 4 → IsReferent shared_layout.machine SymbolAddress shared_layout shared_world m item r 0x120e0 → ⊥
 
 -- a word with an address: it moves with the base; for an interposable symbol it is another module's
 pub record WrongAddressesAreRefused : Type 0 where

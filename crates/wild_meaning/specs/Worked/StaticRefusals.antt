@@ -49,13 +49,19 @@ half_sequence = 0x48 ∷ 0xc7 ∷ 0xc0 ∷ 0xf8 ∷ 0xff ∷ 0xff ∷ 0xff ∷ 0
 abbrev pub descriptor_load : List ℕ
 descriptor_load = 0x48 ∷ 0x8d ∷ 0x05 ∷ 0xd1 ∷ 0x0f ∷ 0 ∷ 0 ∷ []
 
+-- `mov rax, [rip + data]` of a word that has the offset, but is no slot of the symbol
+abbrev pub load_of_data : List ℕ
+load_of_data = 0x48 ∷ 0x8b ∷ 0x05 ∷ 0xc1 ∷ 0 ∷ 0 ∷ 0 ∷ []
+
 -- Refused are a branch to another symbol; a load rewritten to one byte past the symbol; a sequence whose first instruction is
--- rewritten but whose call remains; and a descriptor's address where its offset is required.
+-- rewritten but whose call remains; a descriptor's address where its offset is required; and a load of the offset from a word of the
+-- program.
 pub record WrongCodeIsRefused : Type 0 where
   pub branch : Refuses static_pie static_pie_world (MemoryHas 0x41000 another_branch)
   pub load : Refuses static_pie static_pie_world (MemoryHas 0x41010 load_one_byte_off)
   pub sequence : Refuses static_pie static_pie_world (MemoryHas 0x41020 half_sequence)
   pub descriptor : Refuses static_pie static_pie_world (MemoryHas 0x41040 descriptor_load)
+  pub stored : Refuses static_pie static_pie_world (MemoryHas 0x41040 load_of_data)
 
 -- the same program with one input section, without data, in a section that has bytes in the file
 abbrev pub padded_section : Section

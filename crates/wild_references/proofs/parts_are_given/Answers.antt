@@ -2,7 +2,7 @@ use Rattle.wild_references.proofs.TermKinds.{parts_give, parts_link}
 use Rattle.wild_references.proofs.parts_are_given.Goals as goal
 
 pub returns-clause-gives : goal.returns-clause-gives
-returns-clause-gives c = parts_give (record { value = c.stubs_are_read.ensures.value; plain = c.stubs_of_words_are_read.ensures.plain; marked = c.stubs_of_words_are_read.ensures.marked })
+returns-clause-gives c = parts_give (record { value = c.stubs_are_read.ensures.value; plain = c.stubs_of_words_are_read.ensures.plain; marked = c.stubs_of_words_are_read.ensures.marked; meant = c.stubs_jump_to_their_slots.ensures; words = c.aarch64_code_reaches.ensures.stubs })
 
 pub returns-clause-linked : goal.returns-clause-linked
 returns-clause-linked c = parts_link

@@ -27,7 +27,7 @@ words c = record {
   alone = calls_alone c.aarch64_rows_apply_together.ensures.together c.windows_have_no_other_field.ensures;
   together = c.aarch64_rows_apply_together.ensures.together;
   keeps = c.aarch64_rewrites_keep_the_effect.ensures;
-  stubs = record { value = c.stubs_are_read.ensures.value; plain = c.stubs_of_words_are_read.ensures.plain; marked = c.stubs_of_words_are_read.ensures.marked };
+  stubs = record { value = c.stubs_are_read.ensures.value; plain = c.stubs_of_words_are_read.ensures.plain; marked = c.stubs_of_words_are_read.ensures.marked; meant = c.stubs_jump_to_their_slots.ensures; words = c.aarch64_code_reaches.ensures.stubs };
   pointer = c.offsets_from_the_thread_pointer_are_given.ensures.gives;
 }
 
