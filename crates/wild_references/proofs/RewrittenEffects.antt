@@ -21,7 +21,7 @@ use Rattle.wild_types.specs.Item.{Item}
 use Rattle.wild_meaning.specs.Item.{place_at}
 use Rattle.wild_loader.specs.declared.instruction.Action.{Action}
 use Rattle.wild_loader.specs.declared.instruction.Operand.TheVariants.{Number}
-use Rattle.wild_loader.specs.Instruction.{Template, Effect, stands, template_fills, first_meaning, with_value, Reader}
+use Rattle.wild_loader.specs.Instruction.{Template, Effect, matches_cells, template_fills, first_meaning, with_value, Reader}
 use Rattle.wild_loader.specs.ThreadCodeX86_64.{nop_byte}
 use Rattle.wild_loader.specs.InstructionX86_64.{templates_x86_64, meaning_x86_64, effect_x86_64, demand_x86_64}
 use Rattle.wild_meaning.specs.Sequence.{size_of}
@@ -41,7 +41,7 @@ drop_whole [] (suc n) h = absurd (omega (arith, h))
 drop_whole (b ∷ bs) zero h = absurd (omega (arith, h))
 drop_whole (b ∷ bs) (suc n) h = drop_whole bs n (omega (arith, h))
 
-fills_whole : (nop : List ℕ) (t : Template) (bs : List ℕ) → length bs ≡ length t.cells → stands t.cells bs ≡ true → template_fills nop t bs ≡ true
+fills_whole : (nop : List ℕ) (t : Template) (bs : List ℕ) → length bs ≡ length t.cells → matches_cells t.cells bs ≡ true → template_fills nop t bs ≡ true
 fills_whole nop t bs long same =
     let room : nat_le (length t.cells) (length bs) ≡ true = le-leb (length t.cells) (length bs) (omega (arith, long)) in
     rw (room, same, drop_whole bs (length t.cells) long) refl
@@ -55,7 +55,7 @@ means nop (x ∷ xs) t (suc k) a bs lt e h = by_first (template_fills nop x bs) 
     by_first true rest = (x.action a bs, refl)
     by_first false rest = rest
 
-pub has_effect : (v a k : ℕ) (t : Template) (bs : List ℕ) → k < length templates_x86_64 → get_or templates_x86_64 k t ≡ t → length bs ≡ length t.cells → stands t.cells bs ≡ true → (e : Effect) × (demand_x86_64 v a bs ≡ Some e)
+pub has_effect : (v a k : ℕ) (t : Template) (bs : List ℕ) → k < length templates_x86_64 → get_or templates_x86_64 k t ≡ t → length bs ≡ length t.cells → matches_cells t.cells bs ≡ true → (e : Effect) × (demand_x86_64 v a bs ≡ Some e)
 unfolding meaning_x86_64
 has_effect v a k t bs lt is long same =
     let act = means (nop_byte ∷ []) templates_x86_64 t k a bs lt is (fills_whole (nop_byte ∷ []) t bs long same) in
@@ -102,7 +102,7 @@ does_by laws l w m s i r row v n h p demands small lands only reads lands_only s
     let old = old_is l s i r row v p in
     let size = size_is l s i r row v p in
     let long : length (old_of s row r) ≡ length (instruction_of row).template.cells = p.whole.long ∙ sym size in
-    let stands_here = subst (λ (bs : List ℕ). stands (instruction_of row).template.cells bs ≡ true) old (cells_stand l s i r row v p) in
+    let stands_here = subst (λ (bs : List ℕ). matches_cells (instruction_of row).template.cells bs ≡ true) old (cells_stand l s i r row v p) in
     let t = p.fits.template in
     let e = has_effect n a t.0 (instruction_of row).template (old_of s row r) t.1 t.2 long stands_here in
     let asked : demand_of l.machine n a (old_bytes s (template_start row r) (instruction_of row)) ≡ Some e.0 = demand_on l.machine n a _ h.on ∙ (ap (λ (bs : List ℕ). demand_x86_64 n a bs) old ∙ e.1) in

@@ -17,7 +17,7 @@ use Rattle.wild_reloc.specs.Formula.{Slot, AddressSlot, ModulePair, ThreadOffset
 use Rattle.wild_reloc.specs.Expression.{slot_sort}
 use Rattle.wild_reloc.specs.declared.expression.SlotSort.{SlotSort}
 use Rattle.wild_reloc.specs.declared.expression.SlotSort.TheVariants as sorts
-use Rattle.wild_layout.specs.SlotValues.{resolution_of, has_second_slot, after_word, after_pair, slot_among, slot_decided, slot_address, slot_of}
+use Rattle.wild_layout.specs.SlotValues.{resolution_of, has_second_slot, after_word, after_pair, slot_from_first, slot_in_resolution, slot_address, slot_of}
 use Rattle.wild_words.proofs.ListLemmas.{holds_at}
 use Rattle.wild_loader.specs.declared.memory.Memory.{Memory}
 use Rattle.wild_loader.specs.declared.world.World.{World}
@@ -28,14 +28,14 @@ use Rattle.wild_references.proofs.WrittenFields.{given_some}
 -- ---- what the writer knows
 
 -- where the writer takes a slot that stands behind a symbol's first
-pub by_slot : (sort : SlotSort) (l : Layout) (i slot : ℕ) (P : ℕ → Type 0) → slot_decided sort (resolution_of l i) ≡ Some slot → ((r : Resolution) (at : ℕ) → IsResolvedBy l i r → r.got_address ≡ Some at → slot_among sort r.flags at ≡ Some slot → P slot) → P slot
+pub by_slot : (sort : SlotSort) (l : Layout) (i slot : ℕ) (P : ℕ → Type 0) → slot_in_resolution sort (resolution_of l i) ≡ Some slot → ((r : Resolution) (at : ℕ) → IsResolvedBy l i r → r.got_address ≡ Some at → slot_from_first sort r.flags at ≡ Some slot → P slot) → P slot
 by_slot sort l i slot P h by = by_resolution (resolution_of l i) refl h
   where
-    by_place : (r : Resolution) (o : Option ℕ) → resolution_of l i ≡ Some r → r.got_address ≡ o → option_and_then (slot_among sort r.flags) o ≡ Some slot → P slot
+    by_place : (r : Resolution) (o : Option ℕ) → resolution_of l i ≡ Some r → r.got_address ≡ o → option_and_then (slot_from_first sort r.flags) o ≡ Some slot → P slot
     by_place r None e f h = cc
     by_place r (Some at) e f h = by r at (resolved l i r e) f h
 
-    by_resolution : (o : Option Resolution) → resolution_of l i ≡ o → slot_decided sort o ≡ Some slot → P slot
+    by_resolution : (o : Option Resolution) → resolution_of l i ≡ o → slot_in_resolution sort o ≡ Some slot → P slot
     by_resolution None e h = cc
     by_resolution (Some r) e h = by_place r r.got_address e refl h
 
@@ -101,8 +101,8 @@ address_slots l own agrees = λ i slot h. by_slot sorts.Address l i slot (λ (n 
         let is : after_word (has_second_slot r.flags) at ≡ slot = cc in
         subst (λ (n : ℕ). IsSameSlot AddressSlot l i n) is (record { slot = at + offset_from_first AddressSlot r.flags; given = decided_slot AddressSlot l i at r own d e (address_asked l i at r own agrees d e f); same = λ base. word_same (has_second_slot r.flags) base at })
 
-pub offset_slots : (l : Layout) → HaveTheirFlags l → SlotsAgree sorts.Offset l
-offset_slots l own = λ i slot h. by_slot sorts.Offset l i slot (λ (n : ℕ). IsSameSlot ThreadOffset l i n) h (λ r at d e among. by_flag i slot r at d e (has_flag r.flags got_tls_offset) refl among)
+pub offset_slots : (l : Layout) → HaveTheirFlags l → SlotsAgree sorts.TpOff l
+offset_slots l own = λ i slot h. by_slot sorts.TpOff l i slot (λ (n : ℕ). IsSameSlot ThreadOffset l i n) h (λ r at d e among. by_flag i slot r at d e (has_flag r.flags got_tls_offset) refl among)
   where
     by_flag : (i slot : ℕ) (r : Resolution) (at : ℕ) → IsResolvedBy l i r → r.got_address ≡ Some at → (b : Bool) → has_flag r.flags got_tls_offset ≡ b → (if b then Some at else None) ≡ Some slot → IsSameSlot ThreadOffset l i slot
     by_flag i slot r at d e true f h =
@@ -110,8 +110,8 @@ offset_slots l own = λ i slot h. by_slot sorts.Offset l i slot (λ (n : ℕ). I
         subst (λ (n : ℕ). IsSameSlot ThreadOffset l i n) is (record { slot = at + offset_from_first ThreadOffset r.flags; given = decided_slot ThreadOffset l i at r own d e f; same = λ base. word_same false base at })
     by_flag i slot r at d e false f h = cc
 
-pub pair_slots : (l : Layout) → HaveTheirFlags l → SlotsAgree sorts.Pair l
-pair_slots l own = λ i slot h. by_slot sorts.Pair l i slot (λ (n : ℕ). IsSameSlot ModulePair l i n) h (λ r at d e among. by_flag i slot r at d e (has_flag r.flags got_tls_module) refl among)
+pub pair_slots : (l : Layout) → HaveTheirFlags l → SlotsAgree sorts.TlsGd l
+pair_slots l own = λ i slot h. by_slot sorts.TlsGd l i slot (λ (n : ℕ). IsSameSlot ModulePair l i n) h (λ r at d e among. by_flag i slot r at d e (has_flag r.flags got_tls_module) refl among)
   where
     by_flag : (i slot : ℕ) (r : Resolution) (at : ℕ) → IsResolvedBy l i r → r.got_address ≡ Some at → (b : Bool) → has_flag r.flags got_tls_module ≡ b → (if b then Some (after_word (has_flag r.flags got_tls_offset) at) else None) ≡ Some slot → IsSameSlot ModulePair l i slot
     by_flag i slot r at d e true f h =
@@ -119,8 +119,8 @@ pair_slots l own = λ i slot h. by_slot sorts.Pair l i slot (λ (n : ℕ). IsSam
         subst (λ (n : ℕ). IsSameSlot ModulePair l i n) is (record { slot = at + offset_from_first ModulePair r.flags; given = decided_slot ModulePair l i at r own d e f; same = λ base. word_same (has_flag r.flags got_tls_offset) base at })
     by_flag i slot r at d e false f h = cc
 
-pub descriptor_slots : (l : Layout) → HaveTheirFlags l → SlotsAgree sorts.Descriptor l
-descriptor_slots l own = λ i slot h. by_slot sorts.Descriptor l i slot (λ (n : ℕ). IsSameSlot Descriptor l i n) h (λ r at d e among. by_flag i slot r at d e (has_flag r.flags got_tls_descriptor) refl among)
+pub descriptor_slots : (l : Layout) → HaveTheirFlags l → SlotsAgree sorts.TlsDesc l
+descriptor_slots l own = λ i slot h. by_slot sorts.TlsDesc l i slot (λ (n : ℕ). IsSameSlot Descriptor l i n) h (λ r at d e among. by_flag i slot r at d e (has_flag r.flags got_tls_descriptor) refl among)
   where
     by_flag : (i slot : ℕ) (r : Resolution) (at : ℕ) → IsResolvedBy l i r → r.got_address ≡ Some at → (b : Bool) → has_flag r.flags got_tls_descriptor ≡ b → (if b then Some (after_pair (has_flag r.flags got_tls_module) (after_word (has_flag r.flags got_tls_offset) at)) else None) ≡ Some slot → IsSameSlot Descriptor l i slot
     by_flag i slot r at d e true f h =
@@ -131,7 +131,7 @@ descriptor_slots l own = λ i slot h. by_slot sorts.Descriptor l i slot (λ (n :
     by_flag i slot r at d e false f h = cc
 
 -- the pair of the output's own module is no symbol's
-pub own_pair_slot : (l : Layout) → SlotsAgree sorts.OwnPair l
+pub own_pair_slot : (l : Layout) → SlotsAgree sorts.TlsLd l
 own_pair_slot l = λ i at h. record { slot = at; given = h; same = λ base. refl }
 
 -- ---- memory

@@ -17,7 +17,7 @@ use Rattle.wild_reloc.specs.declared.expression.Class.TheVariants as class
 use Rattle.wild_reloc.specs.declared.expression.SlotSort.{SlotSort}
 use Rattle.wild_reloc.specs.declared.expression.SlotSort.TheVariants as sorts
 use Rattle.wild_reloc.specs.declared.expression.Subtrahend.{Subtrahend}
-use Rattle.wild_reloc.specs.declared.expression.Subtrahend.TheVariants as taken
+use Rattle.wild_reloc.specs.declared.expression.Subtrahend.TheVariants as subtrahend
 use Rattle.wild_reloc.specs.declared.expression.Term.{Term}
 use Rattle.wild_reloc.specs.declared.expression.Term.TheVariants as term
 use Rattle.wild_reloc.specs.declared.info.PageMask.{PageMask}
@@ -26,7 +26,7 @@ use Rattle.wild_reloc.specs.declared.info.RelocationKind.{RelocationKind}
 use Rattle.wild_reloc.specs.declared.info.RelocationKind.TheVariants as kinds
 use Rattle.wild_reloc.specs.declared.info.RelocationKindInfo.{RelocationKindInfo}
 use Rattle.wild_layout.specs.SlotValues.{stub_address}
-use Rattle.wild_layout.specs.Values.{term_value, value_less, is_absent, is_place, is_symbol, is_own_place, undefined_weak_target, term_by}
+use Rattle.wild_layout.specs.Values.{term_value, subtract, is_undefined_weak_without_stub, subtracts_place, adds_symbol, weak_resolves_to_place, undefined_weak_target, term_by}
 use Rattle.wild_loader.specs.declared.memory.Memory.{Memory}
 use Rattle.wild_loader.specs.declared.world.World.{World}
 use Rattle.wild_types.specs.Item.{Item}
@@ -83,8 +83,8 @@ abbrev TakesL : Layout → InputRelocation → Value → Type 0
 TakesL l r v = ((v ≡ StubDistance) ⊎ ((v ≡ Distance) × (l.machine ≡ machine.AArch64) × (is_listed r.number branch_types ≡ true))) ⊎ ((v ≡ StubFromTable) × (l.machine ≡ machine.X86_64))
 
 -- L, as the writer has it, or the place itself
-stub_refers : StubLaws → (v : Value) (l : Layout) (w : World) (m : Memory) (s : Item) (r : InputRelocation) (info : RelocationKindInfo) (x : ℕ) → (h : HasTerm l w m s r info x) → (expression_of info.kind).term ≡ term.Stub → named r.symbol (λ i. treatments.Value h.row) ≡ treatments.Value h.row → TakesL l r v → (l.machine ≡ machine.AArch64 → is_place (subtrahend_of info.kind info.mask) ≡ true) → (TakesString v l r → ⊥) → IsReferent l.machine v l w m s r ((w.base + h.term) % 2 ^ 64)
-stub_refers law v l w m s r info x h stub treated which place none = by_own (is_own_place l.machine l r info) refl h.given
+stub_refers : StubLaws → (v : Value) (l : Layout) (w : World) (m : Memory) (s : Item) (r : InputRelocation) (info : RelocationKindInfo) (x : ℕ) → (h : HasTerm l w m s r info x) → (expression_of info.kind).term ≡ term.Stub → named r.symbol (λ i. treatments.Value h.row) ≡ treatments.Value h.row → TakesL l r v → (l.machine ≡ machine.AArch64 → subtracts_place (subtrahend_of info.kind info.mask) ≡ true) → (TakesString v l r → ⊥) → IsReferent l.machine v l w m s r ((w.base + h.term) % 2 ^ 64)
+stub_refers law v l w m s r info x h stub treated which place none = by_own (weak_resolves_to_place l.machine l r info) refl h.given
   where
     distance : l.machine ≡ machine.AArch64 → TakesL l r v → (v ≡ StubDistance) ⊎ ((v ≡ Distance) × (is_listed r.number branch_types ≡ true))
     distance on (inl (inl e)) = inl e
@@ -100,10 +100,10 @@ stub_refers law v l w m s r info x h stub treated which place none = by_own (is_
     relative_by (inl e) = subst IsPlaceRelative (sym e) tt
     relative_by (inr e) = subst IsPlaceRelative (sym e.0) tt
 
-    whole : is_own_place l.machine l r info ≡ false → KeepsAll l
+    whole : weak_resolves_to_place l.machine l r info ≡ false → KeepsAll l
     whole e = elim h.present [ inl all ↦ all | inr own ↦ (let both : true ≡ false = sym (subst (λ (t : Term). IsDirect l r info t) stub own) ∙ e in cc) ]
 
-    by_own : (b : Bool) → is_own_place l.machine l r info ≡ b → (if b then Ok (undefined_weak_target r.number (place_of s.address r)) else term_by l r (expression_of info.kind).term) ≡ Ok h.term → IsReferent l.machine v l w m s r ((w.base + h.term) % 2 ^ 64)
+    by_own : (b : Bool) → weak_resolves_to_place l.machine l r info ≡ b → (if b then Ok (undefined_weak_target r.number (place_of s.address r)) else term_by l r (expression_of info.kind).term) ≡ Ok h.term → IsReferent l.machine v l w m s r ((w.base + h.term) % 2 ^ 64)
     by_own true e g =
         let o = own_parts l.machine l r info e in
         let n = named_absent l r.symbol o.absent in
@@ -117,7 +117,7 @@ stub_refers law v l w m s r info x h stub treated which place none = by_own (is_
         let given : stub_address l r.symbol ≡ Ok h.term = subst (λ (t : Term). term_by l r t ≡ Ok h.term) stub g in
         referent v l w m s r ((w.base + h.term) % 2 ^ 64) none (on_x86 ((w.base + h.term) % 2 ^ 64) (goal_given law l w m r.symbol i.0 h.term h.placed (whole e) i.1 given) which) (λ none_named. absurd (let both : None ≡ Some i.0 = sym none_named ∙ i.1 in cc))
         (λ j n on. (
-          λ own. present l j (subst (λ (o : Option ℕ). is_absent l o ≡ false) n (not_own l.machine l r info e on (ap is_symbol stub) (place on))) own.1,
+          λ own. present l j (subst (λ (o : Option ℕ). is_undefined_weak_without_stub l o ≡ false) n (not_own l.machine l r info e on (ap adds_symbol stub) (place on))) own.1,
           goal_stands law v l w m r j h.term h.placed (whole e) (distance on which) (subst (λ (o : Option ℕ). stub_address l o ≡ Ok h.term) n given),
         ))
 
@@ -135,14 +135,14 @@ record IsStubDistance (v : Value) (l : Layout) (w : World) (m : Memory) (s : Ite
 
 stub_distance_is : StubLaws → (v : Value) (info : RelocationKindInfo) → info.kind ≡ kinds.PltRelative → (l : Layout) (w : World) (m : Memory) (s : Item) (r : InputRelocation) (x : ℕ) → TakesL l r v → HasTerm l w m s r info x → (TakesString v l r → ⊥) → IsStubDistance v l w m s r info x
 stub_distance_is law v info kind l w m s r x which h none =
-    let mask = no_mask l.machine term.Stub taken.Place info.mask (subst (λ (k : RelocationKind). is_expressed l.machine (expression_of k).term (expression_of k).taken info.mask ≡ true) kind h.expressed) refl in
-    let less : subtrahend_of info.kind info.mask ≡ taken.Place = taken_is info kinds.PltRelative None kind mask in
+    let mask = no_mask l.machine term.Stub subtrahend.Place info.mask (subst (λ (k : RelocationKind). is_expressed l.machine (expression_of k).term (expression_of k).subtrahend info.mask ≡ true) kind h.expressed) refl in
+    let less : subtrahend_of info.kind info.mask ≡ subtrahend.Place = taken_is info kinds.PltRelative None kind mask in
     let treated = subst (λ (k : RelocationKind). kind_treatment l s.flags h.number r.symbol h.row k ≡ treatments.Value h.row) kind h.treated in
-    let value = subst (λ (u : Subtrahend). value_less l u h.term r.addend (place_of s.address r) ≡ x) less h.value in
+    let value = subst (λ (u : Subtrahend). subtract l u h.term r.addend (place_of s.address r) ≡ x) less h.value in
     record {
       is = value_is info kinds.PltRelative None kind mask ∙ sized_is info.size StubDistance refl;
       symbol = (w.base + h.term) % 2 ^ 64;
-      referent = stub_refers law v l w m s r info x h (ap (λ (k : RelocationKind). (expression_of k).term) kind) treated which (λ on. ap is_place less) none;
+      referent = stub_refers law v l w m s r info x h (ap (λ (k : RelocationKind). (expression_of k).term) kind) treated which (λ on. ap subtracts_place less) none;
       value = less_place l w m s r info x h value;
     }
 
@@ -161,14 +161,14 @@ stubs_stand law info kind l w m s r x on branch none h =
 
 stub_offset : StubLaws → (info : RelocationKindInfo) → info.kind ≡ kinds.PltRelGotBase → RowGives info
 stub_offset law info kind = λ l w m s r x h f.
-    let expressed = subst (λ (k : RelocationKind). is_expressed l.machine (expression_of k).term (expression_of k).taken info.mask ≡ true) kind h.expressed in
-    let mask = no_mask l.machine term.Stub taken.Table info.mask expressed refl in
-    let x86 = of_table l.machine term.Stub (subst (λ (o : Option PageMask). is_expressed l.machine term.Stub taken.Table o ≡ true) mask expressed) in
+    let expressed = subst (λ (k : RelocationKind). is_expressed l.machine (expression_of k).term (expression_of k).subtrahend info.mask ≡ true) kind h.expressed in
+    let mask = no_mask l.machine term.Stub subtrahend.GotBase info.mask expressed refl in
+    let x86 = of_table l.machine term.Stub (subst (λ (o : Option PageMask). is_expressed l.machine term.Stub subtrahend.GotBase o ≡ true) mask expressed) in
     let is : value_by_row info ≡ StubFromTable = value_is info kinds.PltRelGotBase None kind mask ∙ sized_is info.size StubFromTable refl in
-    let less : subtrahend_of info.kind info.mask ≡ taken.Table = taken_is info kinds.PltRelGotBase None kind mask in
+    let less : subtrahend_of info.kind info.mask ≡ subtrahend.GotBase = taken_is info kinds.PltRelGotBase None kind mask in
     let treated = subst (λ (k : RelocationKind). kind_treatment l s.flags h.number r.symbol h.row k ≡ treatments.Value h.row) kind h.treated in
     let a = stub_refers law StubFromTable l w m s r info x h (ap (λ (k : RelocationKind). (expression_of k).term) kind) treated (inr (refl, x86)) (λ on. (let e : machine.AArch64 ≡ machine.X86_64 = sym on ∙ x86 in cc)) (λ t. t.0) in
-    let value = subst (λ (u : Subtrahend). value_less l u h.term r.addend (place_of s.address r) ≡ x) less h.value in
+    let value = subst (λ (u : Subtrahend). subtract l u h.term r.addend (place_of s.address r) ≡ x) less h.value in
     subst (λ (v : Value). Gives v l w m s r x) (sym is) ((w.base + h.term) % 2 ^ 64, a, less_table l w m s r info x h value)
 
 pub stubs_give : StubLaws → TermGives term.Stub
@@ -183,17 +183,17 @@ stubs_give law = λ info e v. by_kind law info (stub_kind info.kind e)
 -- the slots of each sort are the reader's, and stand in memory where all is written
 slots_agree : (sort : SlotSort) (l : Layout) (w : World) (m : Memory) → IsPlaced l w m → SlotsAgree sort l
 slots_agree sorts.Address l w m p = address_slots l p.symbols.own p.symbols.flags
-slots_agree sorts.Pair l w m p = pair_slots l p.symbols.own
-slots_agree sorts.OwnPair l w m p = own_pair_slot l
-slots_agree sorts.Offset l w m p = offset_slots l p.symbols.own
-slots_agree sorts.Descriptor l w m p = descriptor_slots l p.symbols.own
+slots_agree sorts.TlsGd l w m p = pair_slots l p.symbols.own
+slots_agree sorts.TlsLd l w m p = own_pair_slot l
+slots_agree sorts.TpOff l w m p = offset_slots l p.symbols.own
+slots_agree sorts.TlsDesc l w m p = descriptor_slots l p.symbols.own
 
 all_stand : StubLaws → (sort : SlotSort) (l : Layout) (w : World) (m : Memory) → IsPlaced l w m → KeepsAll l → SlotsStand sort l w m
 all_stand law sorts.Address l w m p all = slots_are_placed law l w m p all
-all_stand law sorts.Pair l w m p all = pairs_stand l w m p all
-all_stand law sorts.OwnPair l w m p all = own_pair_stands l w m p all
-all_stand law sorts.Offset l w m p all = offsets_stand l w m p all
-all_stand law sorts.Descriptor l w m p all = descriptors_stand l w m p all
+all_stand law sorts.TlsGd l w m p all = pairs_stand l w m p all
+all_stand law sorts.TlsLd l w m p all = own_pair_stands l w m p all
+all_stand law sorts.TpOff l w m p all = offsets_stand l w m p all
+all_stand law sorts.TlsDesc l w m p all = descriptors_stand l w m p all
 
 -- a kind of a slot needs a symbol
 slot_named : (sort : SlotSort) (k : RelocationKind) (l : Layout) (s : Item) (r : InputRelocation) (number : ℕ) (row : RelocationKindInfo) → (expression_of k).term ≡ term.Slot sort → kind_treatment l s.flags number r.symbol row k ≡ treatments.Value row → (i : ℕ) × (r.symbol ≡ Some i)
@@ -219,7 +219,7 @@ slot_named sort k l s r number row e treated = by_symbol r.symbol refl treated
 slot_here : StubLaws → (sort : SlotSort) (l : Layout) (w : World) (m : Memory) (s : Item) (r : InputRelocation) (info : RelocationKindInfo) (x : ℕ) → (h : HasTerm l w m s r info x) → (expression_of info.kind).term ≡ term.Slot sort → IsSlot (slot_sort sort) l w m r.symbol ((w.base + h.term) % 2 ^ 64)
 slot_here law sort l w m s r info x h e =
     let i = slot_named sort info.kind l s r h.number h.row e h.treated in
-    let plain = plain_term l w m s r info x h (ap is_symbol e) in
+    let plain = plain_term l w m s r info x h (ap adds_symbol e) in
     let all : KeepsAll l = elim h.present [ inl all ↦ all | inr none ↦ absurd (subst (λ (t : Term). IsDirect l r info t) e none) ] in
     slot_given sort l w m r.symbol i.0 h.term (slots_agree sort l w m h.placed) (all_stand law sort l w m h.placed all) i.1 (subst (λ (t : Term). term_value l r.symbol t ≡ Ok h.term) e plain)
 
@@ -238,7 +238,7 @@ adds_nothing machine.AArch64 r info sort on h e =
 -- ---- what is taken
 
 -- the kind with the slot of a sort, by what is taken
-slot_taken : (sort : SlotSort) (k : RelocationKind) → (expression_of k).term ≡ term.Slot sort → writes (expression_of k).class ≡ true → ((expression_of k).taken ≡ taken.Place) ⊎ ((sort ≡ sorts.Address) × ((expression_of k).taken ≡ taken.Table))
+slot_taken : (sort : SlotSort) (k : RelocationKind) → (expression_of k).term ≡ term.Slot sort → writes (expression_of k).class ≡ true → ((expression_of k).subtrahend ≡ subtrahend.Place) ⊎ ((sort ≡ sorts.Address) × ((expression_of k).subtrahend ≡ subtrahend.GotBase))
 slot_taken sort kinds.GotRelative e v = inl refl
 slot_taken sorts.Address kinds.GotRelGotBase e v = inr (refl, refl)
 slot_taken sort kinds.TlsGd e v = inl refl
@@ -248,12 +248,12 @@ slot_taken sort kinds.TlsDesc e v = inl refl
 slot_taken sort other e v = cc
 
 -- the distance of a slot that is not taken by its page, where a descriptor's reference is no offset
-gives_slot_distance : (sort : SlotSort) (l : Layout) (w : World) (m : Memory) (s : Item) (r : InputRelocation) (x g : ℕ) → IsSlot (slot_sort sort) l w m r.symbol g → (sort ≡ sorts.Descriptor → HasOffsetMode l s → ⊥) → x ≡ (g + more r + (2 ^ 64 - place_at w s r.offset)) % 2 ^ 64 → Gives (SlotDistance (slot_sort sort)) l w m s r x
+gives_slot_distance : (sort : SlotSort) (l : Layout) (w : World) (m : Memory) (s : Item) (r : InputRelocation) (x g : ℕ) → IsSlot (slot_sort sort) l w m r.symbol g → (sort ≡ sorts.TlsDesc → HasOffsetMode l s → ⊥) → x ≡ (g + more r + (2 ^ 64 - place_at w s r.offset)) % 2 ^ 64 → Gives (SlotDistance (slot_sort sort)) l w m s r x
 gives_slot_distance sorts.Address l w m s r x g slot none e = (g, slot, e)
-gives_slot_distance sorts.Pair l w m s r x g slot none e = (g, slot, e)
-gives_slot_distance sorts.OwnPair l w m s r x g slot none e = (g, slot, e)
-gives_slot_distance sorts.Offset l w m s r x g slot none e = (g, slot, e)
-gives_slot_distance sorts.Descriptor l w m s r x g slot none e = (g, slot, none refl, e)
+gives_slot_distance sorts.TlsGd l w m s r x g slot none e = (g, slot, e)
+gives_slot_distance sorts.TlsLd l w m s r x g slot none e = (g, slot, e)
+gives_slot_distance sorts.TpOff l w m s r x g slot none e = (g, slot, e)
+gives_slot_distance sorts.TlsDesc l w m s r x g slot none e = (g, slot, none refl, e)
 
 -- pages move with the base
 slot_pages : (base a c p : ℕ) → base % 4096 ≡ 0 → c ≡ 0 → base + p ≤ 2 ^ 64 → ((a + c) % 2 ^ 64 / 4096 * 4096 + (2 ^ 64 - p / 4096 * 4096)) % 2 ^ 64 ≡ (page_of ((base + a) % 2 ^ 64) + (2 ^ 64 - page_of (base + p))) % 2 ^ 64
@@ -263,85 +263,85 @@ table_pages : (base a c g : ℕ) → base % 4096 ≡ 0 → c ≡ 0 → g < 2 ^ 6
 table_pages base a c g pages none low = omega (arith, pages, none, low)
 
 -- what is taken, and the value of a slot's row
-slot_less : (info : RelocationKindInfo) (u : Subtrahend) (mask : Option PageMask) → (expression_of info.kind).taken ≡ u → info.mask ≡ mask → subtrahend_of info.kind info.mask ≡ paged mask u
+slot_less : (info : RelocationKindInfo) (u : Subtrahend) (mask : Option PageMask) → (expression_of info.kind).subtrahend ≡ u → info.mask ≡ mask → subtrahend_of info.kind info.mask ≡ paged mask u
 slot_less info u mask f g = ap (λ (y : Subtrahend). paged info.mask y) f ∙ ap (λ (o : Option PageMask). paged o u) g
 
-slot_value : (sort : SlotSort) (info : RelocationKindInfo) (u : Subtrahend) (mask : Option PageMask) → (expression_of info.kind).term ≡ term.Slot sort → (expression_of info.kind).taken ≡ u → info.mask ≡ mask → value_by_row info ≡ shape.sized info.size (expressed (term.Slot sort) (paged mask u))
+slot_value : (sort : SlotSort) (info : RelocationKindInfo) (u : Subtrahend) (mask : Option PageMask) → (expression_of info.kind).term ≡ term.Slot sort → (expression_of info.kind).subtrahend ≡ u → info.mask ≡ mask → value_by_row info ≡ shape.sized info.size (expressed (term.Slot sort) (paged mask u))
 slot_value sort info u mask e f g = ap (λ (t : Term). shape.sized info.size (expressed t (subtrahend_of info.kind info.mask))) e ∙ ap (λ (y : Subtrahend). shape.sized info.size (expressed (term.Slot sort) y)) (slot_less info u mask f g)
 
 -- what is said of it
 abbrev SlotGives : SlotSort → RelocationKindInfo → Type 0
-SlotGives sort info = (l : Layout) (w : World) (m : Memory) (s : Item) (r : InputRelocation) (x : ℕ) → HasTerm l w m s r info x → (sort ≡ sorts.Descriptor → HasOffsetMode l s → ⊥) → Gives (value_by_row info) l w m s r x
+SlotGives sort info = (l : Layout) (w : World) (m : Memory) (s : Item) (r : InputRelocation) (x : ℕ) → HasTerm l w m s r info x → (sort ≡ sorts.TlsDesc → HasOffsetMode l s → ⊥) → Gives (value_by_row info) l w m s r x
 
-place_given : StubLaws → (sort : SlotSort) (info : RelocationKindInfo) → (expression_of info.kind).term ≡ term.Slot sort → (expression_of info.kind).taken ≡ taken.Place → SlotGives sort info
+place_given : StubLaws → (sort : SlotSort) (info : RelocationKindInfo) → (expression_of info.kind).term ≡ term.Slot sort → (expression_of info.kind).subtrahend ≡ subtrahend.Place → SlotGives sort info
 place_given law sort info e f = λ l w m s r x h none. by_mask law sort info e f l w m s r x h none info.mask refl (here sort info e f l.machine h.expressed)
   where
-    here : (sort : SlotSort) (info : RelocationKindInfo) → (expression_of info.kind).term ≡ term.Slot sort → (expression_of info.kind).taken ≡ taken.Place → (k : Machine) → is_expressed k (expression_of info.kind).term (expression_of info.kind).taken info.mask ≡ true → is_expressed k (term.Slot sort) taken.Place info.mask ≡ true
-    here sort info e f k h = subst (λ (t : Term). is_expressed k t taken.Place info.mask ≡ true) e (subst (λ (u : Subtrahend). is_expressed k (expression_of info.kind).term u info.mask ≡ true) f h)
+    here : (sort : SlotSort) (info : RelocationKindInfo) → (expression_of info.kind).term ≡ term.Slot sort → (expression_of info.kind).subtrahend ≡ subtrahend.Place → (k : Machine) → is_expressed k (expression_of info.kind).term (expression_of info.kind).subtrahend info.mask ≡ true → is_expressed k (term.Slot sort) subtrahend.Place info.mask ≡ true
+    here sort info e f k h = subst (λ (t : Term). is_expressed k t subtrahend.Place info.mask ≡ true) e (subst (λ (u : Subtrahend). is_expressed k (expression_of info.kind).term u info.mask ≡ true) f h)
 
-    by_mask : StubLaws → (sort : SlotSort) (info : RelocationKindInfo) → (expression_of info.kind).term ≡ term.Slot sort → (expression_of info.kind).taken ≡ taken.Place → (l : Layout) (w : World) (m : Memory) (s : Item) (r : InputRelocation) (x : ℕ) → (h : HasTerm l w m s r info x) → (sort ≡ sorts.Descriptor → HasOffsetMode l s → ⊥) → (o : Option PageMask) → info.mask ≡ o → is_expressed l.machine (term.Slot sort) taken.Place o ≡ true → Gives (value_by_row info) l w m s r x
+    by_mask : StubLaws → (sort : SlotSort) (info : RelocationKindInfo) → (expression_of info.kind).term ≡ term.Slot sort → (expression_of info.kind).subtrahend ≡ subtrahend.Place → (l : Layout) (w : World) (m : Memory) (s : Item) (r : InputRelocation) (x : ℕ) → (h : HasTerm l w m s r info x) → (sort ≡ sorts.TlsDesc → HasOffsetMode l s → ⊥) → (o : Option PageMask) → info.mask ≡ o → is_expressed l.machine (term.Slot sort) subtrahend.Place o ≡ true → Gives (value_by_row info) l w m s r x
     by_mask law sort info e f l w m s r x h none None mask fit =
-        let is = slot_value sort info taken.Place None e f mask ∙ sized_is info.size (SlotDistance (slot_sort sort)) refl in
-        let value = subst (λ (u : Subtrahend). value_less l u h.term r.addend (place_of s.address r) ≡ x) (slot_less info taken.Place None f mask) h.value in
+        let is = slot_value sort info subtrahend.Place None e f mask ∙ sized_is info.size (SlotDistance (slot_sort sort)) refl in
+        let value = subst (λ (u : Subtrahend). subtract l u h.term r.addend (place_of s.address r) ≡ x) (slot_less info subtrahend.Place None f mask) h.value in
         subst (λ (v : Value). Gives v l w m s r x) (sym is) (gives_slot_distance sort l w m s r x ((w.base + h.term) % 2 ^ 64) (slot_here law sort l w m s r info x h e) none (less_place l w m s r info x h value))
     by_mask law sort info e f l w m s r x h none (Some masks.GotEntryAndPosition) mask fit =
-        let on = (with_mask l.machine (term.Slot sort) taken.Place masks.GotEntryAndPosition fit).0 in
-        let is = slot_value sort info taken.Place (Some masks.GotEntryAndPosition) e f mask ∙ sized_is info.size (SlotPageDistance (slot_sort sort)) refl in
-        let value = subst (λ (u : Subtrahend). value_less l u h.term r.addend (place_of s.address r) ≡ x) (slot_less info taken.Place (Some masks.GotEntryAndPosition) f mask) h.value in
+        let on = (with_mask l.machine (term.Slot sort) subtrahend.Place masks.GotEntryAndPosition fit).0 in
+        let is = slot_value sort info subtrahend.Place (Some masks.GotEntryAndPosition) e f mask ∙ sized_is info.size (SlotPageDistance (slot_sort sort)) refl in
+        let value = subst (λ (u : Subtrahend). subtract l u h.term r.addend (place_of s.address r) ≡ x) (slot_less info subtrahend.Place (Some masks.GotEntryAndPosition) f mask) h.value in
         let g = (w.base + h.term) % 2 ^ 64 in
         let pages = slot_pages w.base h.term (more r) (place_of s.address r) (paged_on l w h.placed.paged on).pages (adds_nothing l.machine r info sort on h.row_that_accepts e) h.ends in
         let at = ap (λ (p : ℕ). (page_of g + (2 ^ 64 - page_of p)) % 2 ^ 64) (sym h.place) in
         subst (λ (v : Value). Gives v l w m s r x) (sym is) (g, (slot_here law sort l w m s r info x h e, adds_nothing l.machine r info sort on h.row_that_accepts e), sym value ∙ pages ∙ at)
-    by_mask law sort info e f l w m s r x h none (Some masks.SymbolPlusAddendAndPosition) mask fit = (let no = (with_mask l.machine (term.Slot sort) taken.Place masks.SymbolPlusAddendAndPosition fit).1 in cc)
-    by_mask law sort info e f l w m s r x h none (Some masks.GotBase) mask fit = (let no = (with_mask l.machine (term.Slot sort) taken.Place masks.GotBase fit).1 in cc)
+    by_mask law sort info e f l w m s r x h none (Some masks.SymbolPlusAddendAndPosition) mask fit = (let no = (with_mask l.machine (term.Slot sort) subtrahend.Place masks.SymbolPlusAddendAndPosition fit).1 in cc)
+    by_mask law sort info e f l w m s r x h none (Some masks.GotBase) mask fit = (let no = (with_mask l.machine (term.Slot sort) subtrahend.Place masks.GotBase fit).1 in cc)
 
-table_given : StubLaws → (info : RelocationKindInfo) → (expression_of info.kind).term ≡ term.Slot sorts.Address → (expression_of info.kind).taken ≡ taken.Table → SlotGives sorts.Address info
+table_given : StubLaws → (info : RelocationKindInfo) → (expression_of info.kind).term ≡ term.Slot sorts.Address → (expression_of info.kind).subtrahend ≡ subtrahend.GotBase → SlotGives sorts.Address info
 table_given law info e f = λ l w m s r x h none. by_mask law info e f l w m s r x h info.mask refl (here info e f l.machine h.expressed)
   where
-    here : (info : RelocationKindInfo) → (expression_of info.kind).term ≡ term.Slot sorts.Address → (expression_of info.kind).taken ≡ taken.Table → (k : Machine) → is_expressed k (expression_of info.kind).term (expression_of info.kind).taken info.mask ≡ true → is_expressed k (term.Slot sorts.Address) taken.Table info.mask ≡ true
-    here info e f k h = subst (λ (t : Term). is_expressed k t taken.Table info.mask ≡ true) e (subst (λ (u : Subtrahend). is_expressed k (expression_of info.kind).term u info.mask ≡ true) f h)
+    here : (info : RelocationKindInfo) → (expression_of info.kind).term ≡ term.Slot sorts.Address → (expression_of info.kind).subtrahend ≡ subtrahend.GotBase → (k : Machine) → is_expressed k (expression_of info.kind).term (expression_of info.kind).subtrahend info.mask ≡ true → is_expressed k (term.Slot sorts.Address) subtrahend.GotBase info.mask ≡ true
+    here info e f k h = subst (λ (t : Term). is_expressed k t subtrahend.GotBase info.mask ≡ true) e (subst (λ (u : Subtrahend). is_expressed k (expression_of info.kind).term u info.mask ≡ true) f h)
 
-    by_mask : StubLaws → (info : RelocationKindInfo) → (expression_of info.kind).term ≡ term.Slot sorts.Address → (expression_of info.kind).taken ≡ taken.Table → (l : Layout) (w : World) (m : Memory) (s : Item) (r : InputRelocation) (x : ℕ) → (h : HasTerm l w m s r info x) → (o : Option PageMask) → info.mask ≡ o → is_expressed l.machine (term.Slot sorts.Address) taken.Table o ≡ true → Gives (value_by_row info) l w m s r x
+    by_mask : StubLaws → (info : RelocationKindInfo) → (expression_of info.kind).term ≡ term.Slot sorts.Address → (expression_of info.kind).subtrahend ≡ subtrahend.GotBase → (l : Layout) (w : World) (m : Memory) (s : Item) (r : InputRelocation) (x : ℕ) → (h : HasTerm l w m s r info x) → (o : Option PageMask) → info.mask ≡ o → is_expressed l.machine (term.Slot sorts.Address) subtrahend.GotBase o ≡ true → Gives (value_by_row info) l w m s r x
     by_mask law info e f l w m s r x h None mask fit =
-        let is = slot_value sorts.Address info taken.Table None e f mask ∙ sized_is info.size SlotFromTable refl in
-        let value = subst (λ (u : Subtrahend). value_less l u h.term r.addend (place_of s.address r) ≡ x) (slot_less info taken.Table None f mask) h.value in
+        let is = slot_value sorts.Address info subtrahend.GotBase None e f mask ∙ sized_is info.size SlotFromTable refl in
+        let value = subst (λ (u : Subtrahend). subtract l u h.term r.addend (place_of s.address r) ≡ x) (slot_less info subtrahend.GotBase None f mask) h.value in
         subst (λ (v : Value). Gives v l w m s r x) (sym is) ((w.base + h.term) % 2 ^ 64, slot_here law sorts.Address l w m s r info x h e, less_table l w m s r info x h value)
     by_mask law info e f l w m s r x h (Some masks.GotBase) mask fit =
-        let on = (with_mask l.machine (term.Slot sorts.Address) taken.Table masks.GotBase fit).0 in
-        let is = slot_value sorts.Address info taken.Table (Some masks.GotBase) e f mask ∙ sized_is info.size SlotFromTablePage refl in
-        let value = subst (λ (u : Subtrahend). value_less l u h.term r.addend (place_of s.address r) ≡ x) (slot_less info taken.Table (Some masks.GotBase) f mask) h.value in
+        let on = (with_mask l.machine (term.Slot sorts.Address) subtrahend.GotBase masks.GotBase fit).0 in
+        let is = slot_value sorts.Address info subtrahend.GotBase (Some masks.GotBase) e f mask ∙ sized_is info.size SlotFromTablePage refl in
+        let value = subst (λ (u : Subtrahend). subtract l u h.term r.addend (place_of s.address r) ≡ x) (slot_less info subtrahend.GotBase (Some masks.GotBase) f mask) h.value in
         let pages = table_pages w.base h.term (more r) l.got_base (paged_on l w h.placed.paged on).pages (adds_nothing l.machine r info sorts.Address on h.row_that_accepts e) h.placed.got in
         subst (λ (v : Value). Gives v l w m s r x) (sym is) ((w.base + h.term) % 2 ^ 64, (slot_here law sorts.Address l w m s r info x h e, adds_nothing l.machine r info sorts.Address on h.row_that_accepts e), sym value ∙ pages)
-    by_mask law info e f l w m s r x h (Some masks.SymbolPlusAddendAndPosition) mask fit = (let no = (with_mask l.machine (term.Slot sorts.Address) taken.Table masks.SymbolPlusAddendAndPosition fit).1 in cc)
-    by_mask law info e f l w m s r x h (Some masks.GotEntryAndPosition) mask fit = (let no = (with_mask l.machine (term.Slot sorts.Address) taken.Table masks.GotEntryAndPosition fit).1 in cc)
+    by_mask law info e f l w m s r x h (Some masks.SymbolPlusAddendAndPosition) mask fit = (let no = (with_mask l.machine (term.Slot sorts.Address) subtrahend.GotBase masks.SymbolPlusAddendAndPosition fit).1 in cc)
+    by_mask law info e f l w m s r x h (Some masks.GotEntryAndPosition) mask fit = (let no = (with_mask l.machine (term.Slot sorts.Address) subtrahend.GotBase masks.GotEntryAndPosition fit).1 in cc)
 
 pub slots_give : StubLaws → SlotsGive
 slots_give law = λ sort info e v. by_taken law sort info e (slot_taken sort info.kind e v)
   where
-    by_taken : StubLaws → (sort : SlotSort) (info : RelocationKindInfo) → (expression_of info.kind).term ≡ term.Slot sort → ((expression_of info.kind).taken ≡ taken.Place) ⊎ ((sort ≡ sorts.Address) × ((expression_of info.kind).taken ≡ taken.Table)) → SlotGives sort info
+    by_taken : StubLaws → (sort : SlotSort) (info : RelocationKindInfo) → (expression_of info.kind).term ≡ term.Slot sort → ((expression_of info.kind).subtrahend ≡ subtrahend.Place) ⊎ ((sort ≡ sorts.Address) × ((expression_of info.kind).subtrahend ≡ subtrahend.GotBase)) → SlotGives sort info
     by_taken law sort info e (inl f) = place_given law sort info e f
     by_taken law sort info e (inr t) = subst (λ (y : SlotSort). SlotGives y info) (sym t.0) (table_given law info (subst (λ (y : SlotSort). (expression_of info.kind).term ≡ term.Slot y) t.0 e) t.1)
 
 -- ---- the bits below a page
 
 -- of a symbol's address, or of a slot's
-part_kind : (k : RelocationKind) → (expression_of k).class ≡ class.Part → ((expression_of k).taken ≡ taken.Nothing) × (((expression_of k).term ≡ term.Symbol) ⊎ ((sort : SlotSort) × ((expression_of k).term ≡ term.Slot sort)))
+part_kind : (k : RelocationKind) → (expression_of k).class ≡ class.Part → ((expression_of k).subtrahend ≡ subtrahend.Nothing) × (((expression_of k).term ≡ term.Symbol) ⊎ ((sort : SlotSort) × ((expression_of k).term ≡ term.Slot sort)))
 part_kind kinds.AbsoluteLowPart e = (refl, inl refl)
 part_kind kinds.Got e = (refl, inr (sorts.Address, refl))
-part_kind kinds.TlsGdGot e = (refl, inr (sorts.Pair, refl))
-part_kind kinds.GotTpOffGot e = (refl, inr (sorts.Offset, refl))
-part_kind kinds.TlsDescGot e = (refl, inr (sorts.Descriptor, refl))
+part_kind kinds.TlsGdGot e = (refl, inr (sorts.TlsGd, refl))
+part_kind kinds.GotTpOffGot e = (refl, inr (sorts.TpOff, refl))
+part_kind kinds.TlsDescGot e = (refl, inr (sorts.TlsDesc, refl))
 part_kind other e = cc
 
 slot_part_same : (base a c x : ℕ) → base % 4096 ≡ 0 → c ≡ 0 → (a + c) % 2 ^ 64 ≡ x → (base + a) % 2 ^ 64 % 2 ^ 64 % 4096 ≡ x % 4096
 slot_part_same base a c x pages none e = omega (arith, pages, none, e)
 
-slot_part : StubLaws → (sort : SlotSort) (info : RelocationKindInfo) → (expression_of info.kind).term ≡ term.Slot sort → (expression_of info.kind).taken ≡ taken.Nothing → (l : Layout) (w : World) (m : Memory) (s : Item) (r : InputRelocation) (x : ℕ) → l.machine ≡ machine.AArch64 → HasTerm l w m s r info x → GivesPart (value_by_row info) l w m s r x
+slot_part : StubLaws → (sort : SlotSort) (info : RelocationKindInfo) → (expression_of info.kind).term ≡ term.Slot sort → (expression_of info.kind).subtrahend ≡ subtrahend.Nothing → (l : Layout) (w : World) (m : Memory) (s : Item) (r : InputRelocation) (x : ℕ) → l.machine ≡ machine.AArch64 → HasTerm l w m s r info x → GivesPart (value_by_row info) l w m s r x
 slot_part law sort info e f l w m s r x on h =
-    let fit = subst (λ (t : Term). is_expressed l.machine t taken.Nothing info.mask ≡ true) e (subst (λ (u : Subtrahend). is_expressed l.machine (expression_of info.kind).term u info.mask ≡ true) f h.expressed) in
-    let mask = no_mask l.machine (term.Slot sort) taken.Nothing info.mask fit refl in
-    let is = slot_value sort info taken.Nothing None e f mask ∙ sized_is info.size (SlotAddress (slot_sort sort)) refl in
-    let value : (h.term + more r) % 2 ^ 64 ≡ x = subst (λ (u : Subtrahend). value_less l u h.term r.addend (place_of s.address r) ≡ x) (slot_less info taken.Nothing None f mask) h.value in
+    let fit = subst (λ (t : Term). is_expressed l.machine t subtrahend.Nothing info.mask ≡ true) e (subst (λ (u : Subtrahend). is_expressed l.machine (expression_of info.kind).term u info.mask ≡ true) f h.expressed) in
+    let mask = no_mask l.machine (term.Slot sort) subtrahend.Nothing info.mask fit refl in
+    let is = slot_value sort info subtrahend.Nothing None e f mask ∙ sized_is info.size (SlotAddress (slot_sort sort)) refl in
+    let value : (h.term + more r) % 2 ^ 64 ≡ x = subst (λ (u : Subtrahend). subtract l u h.term r.addend (place_of s.address r) ≡ x) (slot_less info subtrahend.Nothing None f mask) h.value in
     let g = (w.base + h.term) % 2 ^ 64 in
     let gives : Gives (SlotAddress (slot_sort sort)) l w m s r (g % 2 ^ 64) = (g, (slot_here law sort l w m s r info x h e, adds_nothing l.machine r info sort on h.row_that_accepts e), refl) in
     (g % 2 ^ 64, subst (λ (v : Value). Gives v l w m s r (g % 2 ^ 64)) (sym is) gives, slot_part_same w.base h.term (more r) x (paged_on l w h.placed.paged on).pages (adds_nothing l.machine r info sort on h.row_that_accepts e) value)
@@ -349,13 +349,13 @@ slot_part law sort info e f l w m s r x on h =
 pub parts_give : StubLaws → PartsGive
 parts_give law = λ info c l w m s r x on h f. by_term law info (part_kind info.kind c).0 (part_kind info.kind c).1 l w m s r x on h f
   where
-    by_term : StubLaws → (info : RelocationKindInfo) → (expression_of info.kind).taken ≡ taken.Nothing → ((expression_of info.kind).term ≡ term.Symbol) ⊎ ((sort : SlotSort) × ((expression_of info.kind).term ≡ term.Slot sort)) → (l : Layout) (w : World) (m : Memory) (s : Item) (r : InputRelocation) (x : ℕ) → l.machine ≡ machine.AArch64 → HasTerm l w m s r info x → IsFollowed l r (value_by_row info) → GivesPart (value_by_row info) l w m s r x
+    by_term : StubLaws → (info : RelocationKindInfo) → (expression_of info.kind).subtrahend ≡ subtrahend.Nothing → ((expression_of info.kind).term ≡ term.Symbol) ⊎ ((sort : SlotSort) × ((expression_of info.kind).term ≡ term.Slot sort)) → (l : Layout) (w : World) (m : Memory) (s : Item) (r : InputRelocation) (x : ℕ) → l.machine ≡ machine.AArch64 → HasTerm l w m s r info x → IsFollowed l r (value_by_row info) → GivesPart (value_by_row info) l w m s r x
     by_term law info nothing (inl symbol) l w m s r x on h f = gives_part law info symbol nothing l w m s r x (paged_on l w h.placed.paged on).pages h f
     by_term law info nothing (inr slot) l w m s r x on h f = slot_part law slot.0 info slot.1 nothing l w m s r x on h
 
 -- with the output's own symbol it is its address; a slot takes none
-no_slot : (sort : SlotSort) (info : RelocationKindInfo) → (expression_of info.kind).term ≡ term.Slot sort → (expression_of info.kind).taken ≡ taken.Nothing → info.mask ≡ None → TakesOffset (value_by_row info) ⊎ TakesAddress (value_by_row info) → ⊥
-no_slot sort info e f mask takes = neither (subst (λ (v : Value). TakesOffset v ⊎ TakesAddress v) (slot_value sort info taken.Nothing None e f mask ∙ sized_is info.size (SlotAddress (slot_sort sort)) refl) takes)
+no_slot : (sort : SlotSort) (info : RelocationKindInfo) → (expression_of info.kind).term ≡ term.Slot sort → (expression_of info.kind).subtrahend ≡ subtrahend.Nothing → info.mask ≡ None → TakesOffset (value_by_row info) ⊎ TakesAddress (value_by_row info) → ⊥
+no_slot sort info e f mask takes = neither (subst (λ (v : Value). TakesOffset v ⊎ TakesAddress v) (slot_value sort info subtrahend.Nothing None e f mask ∙ sized_is info.size (SlotAddress (slot_sort sort)) refl) takes)
   where
     neither : TakesOffset (SlotAddress (slot_sort sort)) ⊎ TakesAddress (SlotAddress (slot_sort sort)) → ⊥
     neither (inl o) = o
@@ -364,15 +364,15 @@ no_slot sort info e f mask takes = neither (subst (λ (v : Value). TakesOffset v
 pub parts_link : PartsGiveLinked
 parts_link = λ info c l w m s r x i on h named whose alone takes. by_term info (part_kind info.kind c).0 (part_kind info.kind c).1 l w m s r x i on h named whose alone takes
   where
-    by_term : (info : RelocationKindInfo) → (expression_of info.kind).taken ≡ taken.Nothing → ((expression_of info.kind).term ≡ term.Symbol) ⊎ ((sort : SlotSort) × ((expression_of info.kind).term ≡ term.Slot sort)) → (l : Layout) (w : World) (m : Memory) (s : Item) (r : InputRelocation) (x i : ℕ) → l.machine ≡ machine.AArch64 → HasTerm l w m s r info x → r.symbol ≡ Some i → IsReplaceable l i true → (HasStubAddress l i → ⊥) ⊎ TakesOffset (value_by_row info) → TakesOffset (value_by_row info) ⊎ TakesAddress (value_by_row info) → GivesLinkedPart (value_by_row info) l w s r x
+    by_term : (info : RelocationKindInfo) → (expression_of info.kind).subtrahend ≡ subtrahend.Nothing → ((expression_of info.kind).term ≡ term.Symbol) ⊎ ((sort : SlotSort) × ((expression_of info.kind).term ≡ term.Slot sort)) → (l : Layout) (w : World) (m : Memory) (s : Item) (r : InputRelocation) (x i : ℕ) → l.machine ≡ machine.AArch64 → HasTerm l w m s r info x → r.symbol ≡ Some i → IsReplaceable l i true → (HasStubAddress l i → ⊥) ⊎ TakesOffset (value_by_row info) → TakesOffset (value_by_row info) ⊎ TakesAddress (value_by_row info) → GivesLinkedPart (value_by_row info) l w s r x
     by_term info nothing (inl symbol) l w m s r x i on h named whose alone takes = links_part info symbol nothing l w m s r x i (paged_on l w h.placed.paged on).pages h named whose alone
     by_term info nothing (inr slot) l w m s r x i on h named whose alone takes =
-        let fit = subst (λ (t : Term). is_expressed l.machine t taken.Nothing info.mask ≡ true) slot.1 (subst (λ (u : Subtrahend). is_expressed l.machine (expression_of info.kind).term u info.mask ≡ true) nothing h.expressed) in
-        absurd (no_slot slot.0 info slot.1 nothing (no_mask l.machine (term.Slot slot.0) taken.Nothing info.mask fit refl) takes)
+        let fit = subst (λ (t : Term). is_expressed l.machine t subtrahend.Nothing info.mask ≡ true) slot.1 (subst (λ (u : Subtrahend). is_expressed l.machine (expression_of info.kind).term u info.mask ≡ true) nothing h.expressed) in
+        absurd (no_slot slot.0 info slot.1 nothing (no_mask l.machine (term.Slot slot.0) subtrahend.Nothing info.mask fit refl) takes)
 
 -- ---- the other terms
 
-table_kind : (k : RelocationKind) → (expression_of k).term ≡ term.Table → k ≡ kinds.GotBaseRelative
+table_kind : (k : RelocationKind) → (expression_of k).term ≡ term.GotBase → k ≡ kinds.GotBaseRelative
 table_kind kinds.GotBaseRelative e = refl
 table_kind other e = cc
 
@@ -388,7 +388,7 @@ module_kind : (k : RelocationKind) → (expression_of k).term ≡ term.ModuleOff
 module_kind kinds.DtpOff e = refl
 module_kind other e = cc
 
-pub table_gives : TermGives term.Table
+pub table_gives : TermGives term.GotBase
 table_gives = λ info e v. gives_table info (table_kind info.kind e)
 
 pub sizes_give : TermGives term.Size
