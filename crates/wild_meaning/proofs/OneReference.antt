@@ -108,7 +108,7 @@ not_next item r second i e h =
 
 -- what an instruction has where it is in the item's bytes
 abbrev pub IsAt : (ℕ → Instruction → InputRelocation → Type 0) → Item → InputRelocation → Instruction → Type 0
-IsAt P item r o = (start : ℕ) → r.offset ≡ start + o.field → stands o.template.cells (slice_range item.bytes start (start + size_of o)) ≡ true → P start o r
+IsAt P item r o = (start : ℕ) → r.offset ≡ start + o.field → matches_cells o.template.cells (slice_range item.bytes start (start + size_of o)) ≡ true → P start o r
 
 -- the one relocation of code is of an instruction that it fills
 pub single_only : (P : ℕ → Instruction → InputRelocation → Type 0) (l : Layout) (item : Item) (r : InputRelocation) (start : ℕ) (o : Instruction) (first : InputRelocation) → l.machine ≡ machine.X86_64 → item.relocations ≡ r ∷ [] → Among (fills r.number) (IsAt P item r) (instructions_of machine.X86_64) → IsTemplate l item r start o first → P start o first
