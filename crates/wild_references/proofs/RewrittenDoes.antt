@@ -189,10 +189,17 @@ is_thread AddressInSlot = false
 is_thread TargetInSlot = false
 is_thread other = true
 
--- a call through a descriptor is left out; any other instruction is of a symbol that no resolver answers for
+-- a call that is left out
+abbrev left_well : Row → Bool
+left_well row = is_nop row.made && writes r_x86_64_none row
+
+-- any other instruction is of a symbol that no resolver answers for
+abbrev acts_well : Row → Bool
+acts_well row = not (is_nop row.made) && (is_plain row.symbol && does_so (instruction_of row).sort row.value row)
+
+-- a call through a descriptor is left out
 abbrev does_well : Row → Bool
-does_well row = keeps_bytes row || ((not (is_thread (instruction_of row).sort) || row.thread_local)
-    && (if is_call (instruction_of row).sort then is_nop row.made && writes r_x86_64_none row else not (is_nop row.made) && (is_plain row.symbol && does_so (instruction_of row).sort row.value row)))
+does_well row = keeps_bytes row || ((not (is_thread (instruction_of row).sort) || row.thread_local) && (if is_call (instruction_of row).sort then left_well row else acts_well row))
 
 each_does_well : list_all does_well rows_x86_64 ≡ true
 unfolding rows_x86_64
@@ -214,6 +221,54 @@ effect_as laws l w m s i r row v n e h p small lands asks read numbers =
 chosen_first : (b x y : Bool) → b ≡ true → (if b then x else y) ≡ true → x ≡ true
 chosen_first true x y e h = h
 chosen_first false x y e h = cc
+
+chosen_second : (b x y : Bool) → b ≡ false → (if b then x else y) ≡ true → y ≡ true
+chosen_second true x y e h = cc
+chosen_second false x y e h = h
+
+-- ---- what is known of the row that was chosen
+
+record IsWell (row : Row) : Type 0 where
+  thread : (not (is_thread (instruction_of row).sort) || row.thread_local) ≡ true
+  does : (if is_call (instruction_of row).sort then left_well row else acts_well row) ≡ true
+
+well_chosen : (l : Layout) (s : Item) (i : ℕ) (r : InputRelocation) (row : Row) (v : ℕ) → IsPlacedRow l s i r row v → IsWell row
+well_chosen l s i r row v p =
+    let does = if is_call (instruction_of row).sort then left_well row else acts_well row in
+    let thread = not (is_thread (instruction_of row).sort) || row.thread_local in
+    let both = and_parts thread does (or_other (keeps_bytes row) (thread && does) (listed_passes does_well rows_x86_64 row each_does_well p.changing.listed) p.made.changes) in
+    record { thread = both.0; does = both.1 }
+
+left_code : (row : Row) → IsWell row → is_call (instruction_of row).sort ≡ true → left_well row ≡ true
+left_code row h call = chosen_first (is_call (instruction_of row).sort) (left_well row) (acts_well row) call h.does
+
+acting_code : (row : Row) → IsWell row → is_call (instruction_of row).sort ≡ false → acts_well row ≡ true
+acting_code row h other = chosen_second (is_call (instruction_of row).sort) (left_well row) (acts_well row) other h.does
+
+-- thread-local code is rewritten in programs only, where references to descriptors are offsets
+thread_program : (l : Layout) (s : Item) (i : ℕ) (r : InputRelocation) (row : Row) (v : ℕ) → IsPlacedRow l s i r row v → is_thread (instruction_of row).sort ≡ true → is_executable l.kind ≡ true
+thread_program l s i r row v p t = implied row.thread_local (is_executable l.kind) p.stands.taken.thread (implied (is_thread (instruction_of row).sort) row.thread_local (well_chosen l s i r row v p).thread t)
+
+thread_mode : (l : Layout) (w : World) (m : Memory) (s : Item) (i : ℕ) (r : InputRelocation) (row : Row) (v : ℕ) → IsLoadedItem machine.X86_64 l w m s → IsPlacedRow l s i r row v → is_thread (instruction_of row).sort ≡ true → HasOffsetMode l s
+thread_mode l w m s i r row v h p t =
+    let q = question_of l s r p.chosen.symbol (slice_get s.relocations (i + 1)) in
+    offset_mode l s h.on (thread_program l s i r row v p t) (on_where l.options.relax (is_mandatory row.duty q) (is_static_executable l.kind) (applied q row p.stands.here).on (mandatory_static row q p.changing)) (is_code l s i r row v p)
+
+-- where an addend counts from the end, and where it is none
+ends_there : (l : Layout) (s : Item) (i : ℕ) (r : InputRelocation) (row : Row) (v : ℕ) → IsPlacedRow l s i r row v → counts_ends row ≡ true → minus_four r.addend ≡ true
+ends_there l s i r row v p e = elim (or_cases (row.ends || row.needs_end) (is_skip (rewrite_of row).next) (and_parts (change_of row.made).keeps_addend ((row.ends || row.needs_end) || is_skip (rewrite_of row).next) e).1) [
+  | inl t ↦ implied (row.ends || row.needs_end) (minus_four r.addend) p.stands.taken.addend t
+  | inr skips ↦ sequence_ends l s i r row v p skips
+]
+
+addend_none : (r : InputRelocation) (row : Row) → counts_none row ≡ true → (rewrite_of row).addend r.addend ≡ pos 0
+addend_none r row e = ap (λ (b : Bool). addend_by b r.addend) (not-true (change_of row.made).keeps_addend (and_parts (not (change_of row.made).keeps_addend) (is_itself row.written) e).0)
+
+addend_kept : (r : InputRelocation) (row : Row) → counts_ends row ≡ true → (rewrite_of row).addend r.addend ≡ r.addend
+addend_kept r row e = ap (λ (b : Bool). addend_by b r.addend) (and_parts (change_of row.made).keeps_addend ((row.ends || row.needs_end) || is_skip (rewrite_of row).next) e).0
+
+itself_there : (row : Row) → counts_none row ≡ true → is_itself row.written ≡ true
+itself_there row e = (and_parts (not (change_of row.made).keeps_addend) (is_itself row.written) e).1
 
 -- what a call that is left out demands
 zero_is_demanded : (o : Sort) (l : Layout) (w : World) (m : Memory) (s : Item) (r : InputRelocation) (n : ℕ) → o ≡ DescribedCall → n ≡ 0 → Demands o l w m s r n
@@ -264,126 +319,110 @@ does_nothing laws l w m s i r row v n e h p small zero nothing call offsets land
     does_always l w m s r (template_start row r) (instruction_of row) (template_of row v (old_of s row r)) n e reads_numbers (no_slots l w r.symbol) h.on (whole_is l w m s i r row v h p) (h.item.rewritten i r row v p.has) (effect_as laws l w m s i r row v n e h p small lands asks)
     (zero_is_demanded (instruction_of row).sort l w m s r n call zero) (nothing_is_demanded (instruction_of row).sort l s n (place_at w s (template_start row r)) (old_bytes s (template_start row r) (instruction_of row)) e call offsets nothing)
 
+-- what an offset of the symbol demands
+abbrev OffsetDemands : Sort → Layout → World → Memory → Item → InputRelocation → Type 0
+OffsetDemands o l w m s r = (n : ℕ) → IsOffset l w r.symbol n → Demands o l w m s r n
+
+-- the demanded effect is that of the input's code with the operand
+abbrev DemandsOperand : Sort → Layout → Item → Type 0
+DemandsOperand o l s = (n a : ℕ) (old : List ℕ) (e : Effect) → demand_of l.machine n a old ≡ Some e → IsDemanded o l s n a old e
+
 -- an operand in the slot of the symbol's offset
-does_slot : LawsBelow → (l : Layout) (w : World) (m : Memory) (s : Item) (i : ℕ) (r : InputRelocation) (row : Row) (v : ℕ) (o : Sort) → IsLoadedItem machine.X86_64 l w m s → IsPlacedRow l s i r row v → (x : LandsSlot l w m s r row v) → number_written row.written ≡ r_x86_64_gottpoff → (instruction_of row).sort ≡ o → is_nop row.made ≡ false → Demands o l w m s r x.operand
-    → ((a : ℕ) (old : List ℕ) (e : Effect) → demand_of l.machine x.operand a old ≡ Some e → IsDemanded o l s x.operand a old e) → DoesRow l w m s r row
+does_slot : LawsBelow → (l : Layout) (w : World) (m : Memory) (s : Item) (i : ℕ) (r : InputRelocation) (row : Row) (v : ℕ) (o : Sort) → IsLoadedItem machine.X86_64 l w m s → IsPlacedRow l s i r row v → LandsSlot l w m s r row v → number_written row.written ≡ r_x86_64_gottpoff → (instruction_of row).sort ≡ o → is_nop row.made ≡ false → OffsetDemands o l w m s r
+    → DemandsOperand o l s → DoesRow l w m s r row
 does_slot laws l w m s i r row v o h p x written sort acts demands told =
-    does_operand laws l w m s i r row v x.operand o h p sort acts demands x.is.small (lands_slot_as row.written (reads_without_calls w m) (field_place w s r row) x.operand v written x.lands) x.only x.reads (lands_slot_as row.written x.only (field_place w s r row) x.operand v written x.lands_only) told
+    does_operand laws l w m s i r row v x.operand o h p sort acts (demands x.operand x.is.offset) x.is.small (lands_slot_as row.written (reads_without_calls w m) (field_place w s r row) x.operand v written x.lands) x.only x.reads (lands_slot_as row.written x.only (field_place w s r row) x.operand v written x.lands_only) (told x.operand)
+
+-- the offset itself
+does_offset : LawsBelow → (l : Layout) (w : World) (m : Memory) (s : Item) (i : ℕ) (r : InputRelocation) (row : Row) (v : ℕ) (o : Sort) → IsLoadedItem machine.X86_64 l w m s → IsPlacedRow l s i r row v → LandsOffset l w r v → is_itself row.written ≡ true → (instruction_of row).sort ≡ o → is_nop row.made ≡ false → OffsetDemands o l w m s r → DemandsOperand o l s
+    → DoesRow l w m s r row
+does_offset laws l w m s i r row v o h p x itself sort acts demands told =
+    does_number laws l w m s i r row v x.operand o h p sort acts (demands x.operand x.is.offset) x.is.small (λ read. lands_as row.written read (field_place w s r row) x.operand v itself x.lands) (told x.operand)
+
+-- the symbol's address itself
+does_itself : LawsBelow → (l : Layout) (w : World) (m : Memory) (s : Item) (i : ℕ) (r : InputRelocation) (row : Row) (v : ℕ) → IsLoadedItem machine.X86_64 l w m s → IsPlacedRow l s i r row v → LandsItself l w m r v → is_itself row.written ≡ true → (instruction_of row).sort ≡ AddressInSlot → is_nop row.made ≡ false → DoesRow l w m s r row
+does_itself laws l w m s i r row v h p x itself sort acts =
+    does_number laws l w m s i r row v x.operand AddressInSlot h p sort acts (slot_address_of l w m r.symbol x.operand x.is.target) x.is.small (λ read. lands_as row.written read (field_place w s r row) x.operand v itself x.lands) (λ a old e k. k)
+
+-- the distance to it, in code that loads or computes the address
+does_far : LawsBelow → (l : Layout) (w : World) (m : Memory) (s : Item) (i : ℕ) (r : InputRelocation) (row : Row) (v : ℕ) → IsLoadedItem machine.X86_64 l w m s → IsPlacedRow l s i r row v → LandsFar l w m s r row v → number_written row.written ≡ r_x86_64_pc32 → (instruction_of row).sort ≡ AddressInSlot → is_nop row.made ≡ false → DoesRow l w m s r row
+does_far laws l w m s i r row v h p x written sort acts =
+    does_number laws l w m s i r row v x.operand AddressInSlot h p sort acts (slot_address_of l w m r.symbol x.operand x.is.target) x.is.small (λ read. lands_far_as row.written read (field_place w s r row) x.operand v written x.lands) (λ a old e k. k)
+
+-- and in a branch
+does_branch : LawsBelow → (l : Layout) (w : World) (m : Memory) (s : Item) (i : ℕ) (r : InputRelocation) (row : Row) (v : ℕ) → IsLoadedItem machine.X86_64 l w m s → IsPlacedRow l s i r row v → LandsFar l w m s r row v → number_written row.written ≡ r_x86_64_pc32 → (instruction_of row).sort ≡ TargetInSlot → is_nop row.made ≡ false → DoesRow l w m s r row
+does_branch laws l w m s i r row v h p x written sort acts =
+    does_number laws l w m s i r row v x.operand TargetInSlot h p sort acts (target_of l w m r.symbol x.operand x.is.target) x.is.small (λ read. lands_far_as row.written read (field_place w s r row) x.operand v written x.lands) (λ a old e k. k)
 
 -- what the row writes goes by what is written, but a call that is left out
 abbrev pub IsWhole : Layout → Row → Type 0
 IsWhole l row = is_call (instruction_of row).sort ≡ false → KeepsAll l
 
-pub does_row : LawsBelow → (l : Layout) (w : World) (m : Memory) (s : Item) (i : ℕ) (r : InputRelocation) (row : Row) (v : ℕ) → IsLoadedItem machine.X86_64 l w m s → IsWhole l row → (p : IsPlacedRow l s i r row v) → GoesWithBase l w row p.chosen.symbol → DoesRow l w m s r row
-does_row laws l w m s i r row v h whole p asked = by (cases_Bool (is_call (instruction_of row).sort))
-  where
-    place : ℕ
-    place = place_at w s (template_start row r) + field_in row
+-- the call that is left out does nothing
+call_sort : (o : Sort) → is_call o ≡ true → o ≡ DescribedCall
+call_sort DescribedCall e = refl
+call_sort other e = cc
 
+does_left_out : LawsBelow → (l : Layout) (w : World) (m : Memory) (s : Item) (i : ℕ) (r : InputRelocation) (row : Row) (v : ℕ) → IsLoadedItem machine.X86_64 l w m s → IsPlacedRow l s i r row v → is_call (instruction_of row).sort ≡ true → DoesRow l w m s r row
+does_left_out laws l w m s i r row v h p call =
+    let sort = call_sort (instruction_of row).sort call in
+    let f = and_parts (is_nop row.made) (writes r_x86_64_none row) (left_code row (well_chosen l s i r row v p) call) in
+    let nothing = eqb-true (number_written row.written) r_x86_64_none f.1 in
+    does_nothing laws l w m s i r row v 0 no_effect h p (omega arith) refl refl sort (thread_mode l w m s i r row v h p (ap is_thread sort)) (λ read. lands_start row.written read (field_place w s r row) v nothing) (λ a old. demanded_none row.made 0 a old f.0)
+
+-- any other instruction
+does_acting : LawsBelow → (l : Layout) (w : World) (m : Memory) (s : Item) (i : ℕ) (r : InputRelocation) (row : Row) (v : ℕ) → IsLoadedItem machine.X86_64 l w m s → KeepsAll l → (p : IsPlacedRow l s i r row v) → GoesWithBase l w row p.chosen.symbol → is_call (instruction_of row).sort ≡ false → DoesRow l w m s r row
+does_acting laws l w m s i r row v h keeps p asked other =
+    let f = and_parts (not (is_nop row.made)) (is_plain row.symbol && does_so (instruction_of row).sort row.value row) (acting_code row (well_chosen l s i r row v p) other) in
+    let g = and_parts (is_plain row.symbol) (does_so (instruction_of row).sort row.value row) f.1 in
+    let plain : not (has_flag q.flags ifunc) ≡ true = (let e = plain_taken row.symbol q g.0 p.stands.taken.symbol in rw e refl) in
+    act keeps (instruction_of row).sort row.value refl refl (not-true (is_nop row.made) f.0) plain (thread_program l s i r row v p) g.1
+  where
     q : Question
     q = question_of l s r p.chosen.symbol (slice_get s.relocations (i + 1))
-
-    told : Bool
-    told = if is_call (instruction_of row).sort then is_nop row.made && writes r_x86_64_none row else not (is_nop row.made) && (is_plain row.symbol && does_so (instruction_of row).sort row.value row)
-
-    well : ((not (is_thread (instruction_of row).sort) || row.thread_local) ≡ true) × (told ≡ true)
-    well = and_parts (not (is_thread (instruction_of row).sort) || row.thread_local) told (or_other (keeps_bytes row) ((not (is_thread (instruction_of row).sort) || row.thread_local) && told) (listed_passes does_well rows_x86_64 row each_does_well p.changing.listed) p.made.changes)
-
-    program : is_thread (instruction_of row).sort ≡ true → is_executable l.kind ≡ true
-    program t = implied row.thread_local (is_executable l.kind) p.stands.taken.thread (implied (is_thread (instruction_of row).sort) row.thread_local well.0 t)
-
-    mode : is_thread (instruction_of row).sort ≡ true → HasOffsetMode l s
-    mode t = offset_mode l s h.on (program t) (on_where l.options.relax (is_mandatory row.duty q) (is_static_executable l.kind) (applied q row p.stands.here).on (mandatory_static row q p.changing)) (is_code l s i r row v p)
-
-    ends : counts_ends row ≡ true → minus_four r.addend ≡ true
-    ends e = elim (or_cases (row.ends || row.needs_end) (is_skip (rewrite_of row).next) (and_parts (change_of row.made).keeps_addend ((row.ends || row.needs_end) || is_skip (rewrite_of row).next) e).1) [
-      | inl t ↦ implied (row.ends || row.needs_end) (minus_four r.addend) p.stands.taken.addend t
-      | inr skips ↦ sequence_ends l s i r row v p skips
-    ]
-
-    none : counts_none row ≡ true → (rewrite_of row).addend r.addend ≡ pos 0
-    none e = ap (λ (b : Bool). addend_by b r.addend) (not-true (change_of row.made).keeps_addend (and_parts (not (change_of row.made).keeps_addend) (is_itself row.written) e).0)
-
-    kept : counts_ends row ≡ true → (rewrite_of row).addend r.addend ≡ r.addend
-    kept e = ap (λ (b : Bool). addend_by b r.addend) (and_parts (change_of row.made).keeps_addend ((row.ends || row.needs_end) || is_skip (rewrite_of row).next) e).0
-
-    itself : (n : ℕ) → counts_none row ≡ true → v ≡ n → (read : Reader) → FieldIsRight row.written read place n v
-    itself n e h read = lands_as row.written read place n v (and_parts (not (change_of row.made).keeps_addend) (is_itself row.written) e).1 h
 
     taken : (t : ValueTest) → row.value ≡ t → takes_value t q ≡ true
     taken t e = subst (λ (x : ValueTest). takes_value x q ≡ true) e p.stands.taken.value
 
-    finish_number : (o : Sort) (n : ℕ) → (instruction_of row).sort ≡ o → is_nop row.made ≡ false → Demands o l w m s r n → n < 2 ^ 64 → ((read : Reader) → FieldIsRight row.written read place n v)
-        → ((a : ℕ) (old : List ℕ) (e : Effect) → demand_of l.machine n a old ≡ Some e → IsDemanded o l s n a old e) → DoesRow l w m s r row
-    finish_number o n sort acts demands small lands told = does_number laws l w m s i r row v n o h p sort acts demands small lands told
-
     number : KeepsAll l → (t : ValueTest) (held : Bool) → takes_value t q ≡ (is_own q && (is_known q && held)) → ((rewrite_of row).number ≡ 11) ⊎ ((rewrite_of row).number ≡ 10) → row.value ≡ t → (instruction_of row).sort ≡ AddressInSlot → is_nop row.made ≡ false → not (has_flag q.flags ifunc) ≡ true → counts_none row ≡ true → DoesRow l w m s r row
-    number all t held is written takes sort acts plain counts =
-        let x = number_itself laws l w m s i r row v held h all p written (none counts) plain (sym is ∙ taken t takes) in
-        finish_number AddressInSlot x.operand sort acts (slot_address_of l w m r.symbol x.operand x.is.target) x.is.small (itself x.operand counts x.lands) (λ a old e k. k)
+    number all t held is written takes sort acts plain counts = does_itself laws l w m s i r row v h p (number_itself laws l w m s i r row v held h all p written (addend_none r row counts) plain (sym is ∙ taken t takes)) (itself_there row counts) sort acts
 
-    far : (o : Sort) (x : LandsFar l w m s r row v) → (rewrite_of row).number ≡ 2 → (instruction_of row).sort ≡ o → is_nop row.made ≡ false → Demands o l w m s r x.operand → ((a : ℕ) (old : List ℕ) (e : Effect) → demand_of l.machine x.operand a old ≡ Some e → IsDemanded o l s x.operand a old e) → DoesRow l w m s r row
-    far o x written sort acts demands told = finish_number o x.operand sort acts demands x.is.small (λ read. lands_far_as row.written read place x.operand v written x.lands) told
-
-    own : KeepsAll l → (o : Sort) → (instruction_of row).sort ≡ o → row.value ≡ value.Own → is_nop row.made ≡ false → is_executable l.kind ≡ true → (writes r_x86_64_tpoff32 row && counts_none row) ≡ true → ((n : ℕ) → IsOffset l w r.symbol n → Demands o l w m s r n)
-        → ((n a : ℕ) (old : List ℕ) (e : Effect) → demand_of l.machine n a old ≡ Some e → IsDemanded o l s n a old e) → DoesRow l w m s r row
+    own : KeepsAll l → (o : Sort) → (instruction_of row).sort ≡ o → row.value ≡ value.Own → is_nop row.made ≡ false → is_executable l.kind ≡ true → (writes r_x86_64_tpoff32 row && counts_none row) ≡ true → OffsetDemands o l w m s r → DemandsOperand o l s → DoesRow l w m s r row
     own all o sort takes acts there so demands told =
         let f = and_parts (writes r_x86_64_tpoff32 row) (counts_none row) so in
-        let x = own_offset laws l w m s i r row v h all p (eqb-true (number_written row.written) r_x86_64_tpoff32 f.0) (none f.1) there (taken value.Own takes) in
-        finish_number o x.operand sort acts (demands x.operand x.is.offset) x.is.small (itself x.operand f.1 x.lands) (told x.operand)
+        does_offset laws l w m s i r row v o h p (own_offset laws l w m s i r row v h all p (eqb-true (number_written row.written) r_x86_64_tpoff32 f.0) (addend_none r row f.1) there (taken value.Own takes)) (itself_there row f.1) sort acts demands told
 
-    slot : KeepsAll l → (o : Sort) → (instruction_of row).sort ≡ o → is_nop row.made ≡ false → (writes r_x86_64_gottpoff row && counts_ends row) ≡ true → ((n : ℕ) → IsOffset l w r.symbol n → Demands o l w m s r n)
-        → ((n a : ℕ) (old : List ℕ) (e : Effect) → demand_of l.machine n a old ≡ Some e → IsDemanded o l s n a old e) → DoesRow l w m s r row
+    slot : KeepsAll l → (o : Sort) → (instruction_of row).sort ≡ o → is_nop row.made ≡ false → (writes r_x86_64_gottpoff row && counts_ends row) ≡ true → OffsetDemands o l w m s r → DemandsOperand o l s → DoesRow l w m s r row
     slot all o sort acts so demands told =
         let f = and_parts (writes r_x86_64_gottpoff row) (counts_ends row) so in
-        let x = lands_slot laws l w m s i r row v h all p (eqb-true (number_written row.written) r_x86_64_gottpoff f.0) (kept f.1) (ends f.1) in
-        does_slot laws l w m s i r row v o h p x (eqb-true (number_written row.written) r_x86_64_gottpoff f.0) sort acts (demands x.operand x.is.offset) (told x.operand)
+        let written = eqb-true (number_written row.written) r_x86_64_gottpoff f.0 in
+        does_slot laws l w m s i r row v o h p (lands_slot laws l w m s i r row v h all p written (addend_kept r row f.1) (ends_there l s i r row v p f.1)) written sort acts demands told
 
     act : KeepsAll l → (o : Sort) (t : ValueTest) → (instruction_of row).sort ≡ o → row.value ≡ t → is_nop row.made ≡ false → not (has_flag q.flags ifunc) ≡ true → (is_thread o ≡ true → is_executable l.kind ≡ true) → does_so o t row ≡ true → DoesRow l w m s r row
     act all AddressInSlot value.OwnSigned sort takes acts plain there so = (let f = and_parts (writes r_x86_64_32s row) (counts_none row) so in number all value.OwnSigned (is_in_32 Signed q.value) refl (inl (eqb-true (number_written row.written) r_x86_64_32s f.0)) takes sort acts plain f.1)
     act all AddressInSlot value.OwnUnsigned sort takes acts plain there so = (let f = and_parts (writes r_x86_64_32 row) (counts_none row) so in number all value.OwnUnsigned (is_in_32 Unsigned q.value) refl (inr (eqb-true (number_written row.written) r_x86_64_32 f.0)) takes sort acts plain f.1)
     act all AddressInSlot value.OwnMoving sort takes acts plain there so =
         let f = and_parts (writes r_x86_64_pc32 row) (counts_ends row) so in
-        let x = lea_far laws l w m s i r row v h all p (eqb-true (number_written row.written) r_x86_64_pc32 f.0) (kept f.1) (ends f.1) plain (taken value.OwnMoving takes) in
-        far AddressInSlot x (eqb-true (number_written row.written) r_x86_64_pc32 f.0) sort acts (slot_address_of l w m r.symbol x.operand x.is.target) (λ a old e k. k)
+        let written = eqb-true (number_written row.written) r_x86_64_pc32 f.0 in
+        does_far laws l w m s i r row v h p (lea_far laws l w m s i r row v h all p written (addend_kept r row f.1) (ends_there l s i r row v p f.1) plain (taken value.OwnMoving takes)) written sort acts
     act all AddressInSlot value.OwnFixed sort takes acts plain there so =
         let f = and_parts (writes r_x86_64_pc32 row) (counts_ends row) so in
-        let x = plain_far laws l w m s i r row v h all p (eqb-true (number_written row.written) r_x86_64_pc32 f.0) (kept f.1) (ends f.1) plain (taken value.OwnFixed takes) in
-        far AddressInSlot x (eqb-true (number_written row.written) r_x86_64_pc32 f.0) sort acts (slot_address_of l w m r.symbol x.operand x.is.target) (λ a old e k. k)
+        let written = eqb-true (number_written row.written) r_x86_64_pc32 f.0 in
+        does_far laws l w m s i r row v h p (plain_far laws l w m s i r row v h all p written (addend_kept r row f.1) (ends_there l s i r row v p f.1) plain (taken value.OwnFixed takes)) written sort acts
     act all TargetInSlot value.Own sort takes acts plain there so =
         let f = and_parts (writes r_x86_64_pc32 row) (counts_ends row) so in
-        let x = lands_far laws l w m s i r row v h all p (eqb-true (number_written row.written) r_x86_64_pc32 f.0) (kept f.1) (ends f.1) (not-true (interposable q.flags) (taken value.Own takes)) (not-true (has_flag q.flags ifunc) plain) (λ movable abs. asked sort movable abs) in
-        far TargetInSlot x (eqb-true (number_written row.written) r_x86_64_pc32 f.0) sort acts (target_of l w m r.symbol x.operand x.is.target) (λ a old e k. k)
+        let written = eqb-true (number_written row.written) r_x86_64_pc32 f.0 in
+        does_branch laws l w m s i r row v h p (lands_far laws l w m s i r row v h all p written (addend_kept r row f.1) (ends_there l s i r row v p f.1) (not-true (interposable q.flags) (taken value.Own takes)) (not-true (has_flag q.flags ifunc) plain) (λ movable abs. asked sort movable abs)) written sort acts
     act all OffsetInSlot value.Own sort takes acts plain there so = own all OffsetInSlot sort takes acts (there refl) so (λ n k. k) (λ n a old e k. k)
     act all SymbolPair value.Own sort takes acts plain there so = own all SymbolPair sort takes acts (there refl) so (λ n k. k) (λ n a old e k. k)
-    act all Described value.Own sort takes acts plain there so = own all Described sort takes acts (there refl) so (λ n k. inl (mode (ap is_thread sort), k)) (λ n a old e k. k)
+    act all Described value.Own sort takes acts plain there so = own all Described sort takes acts (there refl) so (λ n k. inl (thread_mode l w m s i r row v h p (ap is_thread sort), k)) (λ n a old e k. k)
     act all SymbolPair value.Interposable sort takes acts plain there so = slot all SymbolPair sort acts so (λ n k. k) (λ n a old e k. k)
-    act all Described value.Interposable sort takes acts plain there so = slot all Described sort acts so (λ n k. inl (mode (ap is_thread sort), k)) (λ n a old e k. k)
-    act all OwnPair value.Any sort takes acts plain there so = finish_number OwnPair 0 sort acts (own_base l w h.on (there refl)) (omega arith) (λ read. lands_start row.written read place v (eqb-true (number_written row.written) r_x86_64_none so)) (λ a old e k. k)
-    act all o t sort takes acts plain there so = cc
+    act all Described value.Interposable sort takes acts plain there so = slot all Described sort acts so (λ n k. inl (thread_mode l w m s i r row v h p (ap is_thread sort), k)) (λ n a old e k. k)
+    act all OwnPair value.Any sort takes acts plain there so = does_number laws l w m s i r row v 0 OwnPair h p sort acts (own_base l w h.on (there refl)) (omega arith) (λ read. lands_start row.written read (field_place w s r row) v (eqb-true (number_written row.written) r_x86_64_none so)) (λ a old e k. k)
+    act all o t sort takes acts plain there so = absurd (let no : false ≡ true = so in cc)
 
-    call_sort : (o : Sort) → is_call o ≡ true → o ≡ DescribedCall
-    call_sort DescribedCall e = refl
-    call_sort other e = cc
-
-    left : is_call (instruction_of row).sort ≡ true → (is_nop row.made && writes r_x86_64_none row) ≡ true
-    left call = chosen_first (is_call (instruction_of row).sort) _ _ call well.1
-
-    leaves : is_call (instruction_of row).sort ≡ true → is_nop row.made ≡ true
-    leaves call = (and_parts (is_nop row.made) (writes r_x86_64_none row) (left call)).0
-
-    writes_none : is_call (instruction_of row).sort ≡ true → number_written row.written ≡ r_x86_64_none
-    writes_none call = eqb-true (number_written row.written) r_x86_64_none (and_parts (is_nop row.made) (writes r_x86_64_none row) (left call)).1
-
-    left_out : is_call (instruction_of row).sort ≡ true → DoesRow l w m s r row
-    left_out call =
-        let sort = call_sort (instruction_of row).sort call in
-        does_nothing laws l w m s i r row v 0 no_effect h p (omega arith) refl refl sort (mode (ap is_thread sort)) (λ read. lands_start row.written read place v (writes_none call)) (λ a old. demanded_none row.made 0 a old (leaves call))
-
-    by : (is_call (instruction_of row).sort ≡ true) ⊎ (is_call (instruction_of row).sort ≡ false) → DoesRow l w m s r row
-    by (inl call) = left_out call
-    by (inr other) =
-        let f = and_parts (not (is_nop row.made)) (is_plain row.symbol && does_so (instruction_of row).sort row.value row) (rw other at well.1) in
-        let g = and_parts (is_plain row.symbol) (does_so (instruction_of row).sort row.value row) f.1 in
-        let plain : not (has_flag q.flags ifunc) ≡ true = (let e = plain_taken row.symbol q g.0 p.stands.taken.symbol in rw e refl) in
-        act (whole other) (instruction_of row).sort row.value refl refl (not-true (is_nop row.made) f.0) plain program g.1
+pub does_row : LawsBelow → (l : Layout) (w : World) (m : Memory) (s : Item) (i : ℕ) (r : InputRelocation) (row : Row) (v : ℕ) → IsLoadedItem machine.X86_64 l w m s → IsWhole l row → (p : IsPlacedRow l s i r row v) → GoesWithBase l w row p.chosen.symbol → DoesRow l w m s r row
+does_row laws l w m s i r row v h whole p asked = elim (cases_Bool (is_call (instruction_of row).sort)) [
+  | inl call ↦ does_left_out laws l w m s i r row v h p call
+  | inr other ↦ does_acting laws l w m s i r row v h (whole other) p asked other
+]
