@@ -7,7 +7,7 @@ use Rattle.wild_types.specs.declared.input.InputRelocation.{InputRelocation}
 use Rattle.wild_types.specs.declared.layout.Layout.{Layout}
 use Rattle.wild_types.specs.Flags.{ifunc}
 use Rattle.wild_reloc.specs.BarredTypes.{is_listed}
-use Rattle.wild_reloc.specs.Formula.{Value, SymbolAddress, Distance}
+use Rattle.wild_reloc.specs.Formula.{Value, SymbolAddress, Distance, StubDistance, StubFromTable}
 use Rattle.wild_loader.specs.declared.memory.Memory.{Memory}
 use Rattle.wild_loader.specs.declared.world.World.{World}
 use Rattle.wild_meaning.specs.Value.{HasFlag, HasOwnValue, IsReplaceable, with_base}
@@ -15,8 +15,7 @@ use Rattle.wild_meaning.specs.Denotes.{HasStub, IsAddressOf, Denotes}
 use Rattle.wild_types.specs.Item.{Item}
 use Rattle.wild_meaning.specs.Item.{place_at}
 use Rattle.wild_meaning.specs.ReferentAArch64.{IsUndefinedWeak, branch_types, own_place}
-use Rattle.wild_meaning.proofs.SymbolLemmas.{address_on_x86_64}
-use Rattle.wild_meaning.specs.Formula.{IsSymbolAddress, IsTarget, Gives, TakesAddress, IsReferent, IsReferentOnMachine, IsReferentOnAArch64}
+use Rattle.wild_meaning.specs.Formula.{IsSymbolAddress, IsTarget, Gives, TakesAddress, IsReferent, IsReferentOnMachine, IsReferentOnX86_64, IsReferentOnAArch64}
 use Rattle.wild_meaning.specs.Reference.{HoldsPlain}
 use Rattle.wild_laws.specs.FirstPath.{IsAddress, IsGoal, Demands, NamesAreAddresses, RepresentsSymbol, IsNamed, HasFormula}
 use Rattle.wild_laws.proofs.Symbols.{own_value, plain_value}
@@ -82,8 +81,14 @@ distance_stands l w m s r a (Some i) none e (inr t) = inr ((λ d. t.0 (tt, subst
     no_branch (inl h) = h
     no_branch (inr h) = absurd (let both : true ≡ false = sym h.0 ∙ none in cc)
 
+-- on x86-64 an expression that takes the address takes S
+takes_address : (v : Value) (l : Layout) (w : World) (m : Memory) (symbol : Option ℕ) (a : ℕ) → TakesAddress v → IsReferentOnX86_64 v l w m symbol a → IsSymbolAddress l w m symbol a
+takes_address StubDistance l w m symbol a takes h = absurd takes
+takes_address StubFromTable l w m symbol a takes h = absurd takes
+takes_address other l w m symbol a takes h = h
+
 stands_by : (k : Machine) (v : Value) (l : Layout) (w : World) (m : Memory) (s : Item) (r : InputRelocation) (a : ℕ) → IsKnown v → TakesAddress v → (k ≡ machine.AArch64 → is_listed r.number branch_types ≡ false) → IsReferentOnMachine k v l w m s r a → RepresentsSymbol k v l w m s r a
-stands_by machine.X86_64 v l w m s r a known takes none h = address_on_x86_64 v l w m r.symbol a takes h
+stands_by machine.X86_64 v l w m s r a known takes none h = takes_address v l w m r.symbol a takes h
 stands_by machine.AArch64 v l w m s r a (inl e) takes none h = subst (λ (u : Value). IsReferentOnAArch64 u l w m s r r.symbol a → RepresentsSymbol machine.AArch64 u l w m s r a) (sym e) (λ t. address_stands l w m s r a r.symbol refl t) h
 stands_by machine.AArch64 v l w m s r a (inr e) takes none h = subst (λ (u : Value). IsReferentOnAArch64 u l w m s r r.symbol a → RepresentsSymbol machine.AArch64 u l w m s r a) (sym e) (λ t. distance_stands l w m s r a r.symbol (none refl) refl t) h
 
