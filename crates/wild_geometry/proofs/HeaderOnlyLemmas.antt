@@ -11,13 +11,13 @@ use Rattle.wild_types.specs.declared.part.Role.TheVariants as role
 use Rattle.wild_types.specs.declared.section.Section.{Section}
 use Rattle.wild_types.specs.declared.layout.Layout.{Layout}
 use Rattle.wild_types.specs.Kinds.{is_partial_link}
-use Rattle.wild_types.specs.Lookups.{allocated, flags_of, kind_of, kind_at, section_of_part, is_allocated_section, has_data, header_only, is_header_only_at, is_header_only_part}
+use Rattle.wild_types.specs.Lookups.{allocated, flags_of, kind_of, kind_at, section_of_part, is_allocated_section, has_data, is_header_only, header_only, is_header_only_at, is_header_only_part}
 use Rattle.wild_types.specs.HeaderOnly.{is_header_only_role, KeepsAll}
 use Rattle.wild_types.specs.Parts.{role_place, has_role, part_with, is_loaded_role}
 use Rattle.wild_types.proofs.PartLemmas.{not_raw}
 use Rattle.wild_plan_rules.specs.Fronts.{dynamic_is_dropped}
 use Rattle.wild_plan_rules.specs.Places.{is_in_loaded_section}
-use Rattle.wild_meaning.specs.Section.{IsHeaderOnly}
+use Rattle.wild_meaning.specs.Section.{IsHeaderOnlySection, IsHeaderOnly}
 use Rattle.wild_meaning.proofs.BitLemmas.{alloc_bit, bit_alloc}
 use Rattle.wild_geometry.proofs.PlacedSectionLemmas.{Laid}
 use Rattle.wild_geometry.proofs.ShareLemmas.{alone}
@@ -36,6 +36,19 @@ first_not false b h e = refl
 
 -- ---- what the writer tests is what the judge says
 
+pub IsHeaderOnlySection-from_test : (l : Layout) (s : Section) → is_header_only l s ≡ true → IsHeaderOnlySection l s
+IsHeaderOnlySection-from_test l s t =
+    let a = and_parts l.options.only_keep_debug (allocated s.flags && not (s.kind == sht_note)) t in
+    let b = and_parts (allocated s.flags) (not (s.kind == sht_note)) a.1 in
+    record { bare = a.0; room = bit_alloc s.flags b.0; other = eqb-false _ _ (not-true _ b.1) }
+
+pub test_from_IsHeaderOnlySection : (l : Layout) (s : Section) → IsHeaderOnlySection l s → is_header_only l s ≡ true
+test_from_IsHeaderOnlySection l s h =
+    let flags = alloc_bit s.flags h.room in
+    let other = ne_eqb s.kind sht_note h.other in
+    let bare = h.bare in
+    rw (bare, flags, other) refl
+
 IsHeaderOnly-from_test : (l : Layout) (p : Part) → is_header_only_at l p.section ≡ true → IsHeaderOnly l p
 IsHeaderOnly-from_test l p h =
     let both = and_parts (not (p.section == 0)) (header_only l (slice_get l.sections p.section)) h in
@@ -43,17 +56,11 @@ IsHeaderOnly-from_test l p h =
   where
     by : (p.section ≡ 0 → ⊥) → (o : Option Section) → slice_get l.sections p.section ≡ o → header_only l o ≡ true → IsHeaderOnly l p
     by later None is t = cc
-    by later (Some s) is t =
-        let a = and_parts l.options.only_keep_debug (allocated s.flags && not (s.kind == sht_note)) t in
-        let b = and_parts (allocated s.flags) (not (s.kind == sht_note)) a.1 in
-        record { bare = a.0; named = later; section = s; found = is; room = bit_alloc s.flags b.0; other = eqb-false _ _ (not-true _ b.1) }
+    by later (Some s) is t = record { named = later; section = s; found = is; only = IsHeaderOnlySection-from_test l s t }
 
 pub test_from_IsHollow : (l : Layout) (p : Part) → IsHeaderOnly l p → is_header_only_at l p.section ≡ true
 test_from_IsHollow l p h =
-    let flags = alloc_bit h.section.flags h.room in
-    let other = ne_eqb h.section.kind sht_note h.other in
-    let bare = h.bare in
-    let here : header_only l (Some h.section) ≡ true = rw (bare, flags, other) refl in
+    let here : header_only l (Some h.section) ≡ true = test_from_IsHeaderOnlySection l h.section h.only in
     and_from (not (p.section == 0)) (header_only l (slice_get l.sections p.section)) (not_from_false _ (ne_eqb p.section 0 h.named)) (subst (λ (o : Option Section). header_only l o ≡ true) (sym h.found) here)
 
 -- of a part that is not hollow, what stands in it is written

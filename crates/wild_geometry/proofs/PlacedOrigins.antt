@@ -160,7 +160,7 @@ kept_origin l t keeps kind k reads plain room =
         loaded = o.loaded;
         room = bit_alloc o.section.flags (subst (λ (n : ℕ). allocated n ≡ true) (ap (λ (x : InputSection). x.flags) o.is ∙ same.flags) room);
         has_data = sym (ap (λ (x : InputSection). x.nobits) o.is ∙ same.nobits) ∙ not-true t.nobits parts.1;
-        written = λ p at h. absurd (let both : true ≡ false = sym h.bare ∙ keeps in cc);
+        written = λ p at h. absurd (let both : true ≡ false = sym h.only.bare ∙ keeps in cc);
       };
       address = sym (ap (λ (x : InputSection). x.address) o.is ∙ same.address);
       size = sym (ap (λ (x : InputSection). x.size) o.is ∙ same.size);

@@ -1,13 +1,14 @@
 -- The dynamic section tells a dynamic linker what it is to do.
 use Rattle.wild_placement.specs.PlacedSections.{placed_files}
-use Rattle.std.proofs.Common.{◌≡◌, ◌≢◌, ℕ, zero, suc, ◌+◌, ◌-◌, ◌*◌, ◌/◌, ◌<◌, ◌≤◌, inl, inr, Bool, true, false, not, ◌&&◌, List, [], ◌∷◌, ◌++◌, length, replicate, refl, sym, ap, ◌∙◌, arith, subst}
+use Rattle.std.proofs.Common.{◌≡◌, ◌≢◌, ℕ, zero, suc, ◌+◌, ◌-◌, ◌*◌, ◌/◌, ◌%◌, ◌<◌, ◌≤◌, inl, inr, Bool, true, false, not, ◌&&◌, List, [], ◌∷◌, ◌++◌, length, replicate, refl, sym, ap, ◌∙◌, arith, subst}
 use Rattle.std.specs.Prelude.{Option, Some, None, Ok, All, bit_or, option_map, if◌then◌else◌, ◌==◌, slice_get}
 use Rattle.std.specs.List.{flat_map}
 use Rattle.std.specs.Int.{bit_at}
+use Rattle.std.proofs.lemmas.Bool.{ne_eqb}
 use Rattle.std.proofs.lemmas.Nat.Bits.{bit_at-lt, bit_at_or}
 use Rattle.wild_words.proofs.Basics.{slice_get_inside, length-flat_map_each}
 use Rattle.wild_words.proofs.ListLemmas.{All-flat_map, holds_at}
-use Rattle.wild_records.specs.Abi.Dynamic.{dt_pltrel, dt_jmprel, dt_symtab, dt_rela, dt_relaent, dt_syment, dt_flags, dt_relr, dt_relrent, dt_relacount, dt_flags_1, df_bind_now, df_1_now, df_static_tls, df_textrel, df_origin, df_1_pie, df_1_origin, df_1_nodelete, df_1_interpose}
+use Rattle.wild_records.specs.Abi.Dynamic.{dt_pltrel, dt_jmprel, dt_pltrelsz, dt_hash, dt_gnu_hash, dt_strtab, dt_symtab, dt_rela, dt_relasz, dt_relaent, dt_syment, dt_flags, dt_relr, dt_relrsz, dt_relrent, dt_relacount, dt_flags_1, dt_versym, dt_verdef, dt_verneed, df_bind_now, df_1_now, df_static_tls, df_textrel, df_origin, df_1_pie, df_1_origin, df_1_nodelete, df_1_interpose}
 use Rattle.wild_records.specs.Dynamic.{dynamic_entry_size, DynamicEntryIsRead}
 use Rattle.wild_records.specs.Relocations.{rela_size, relr_size, RelaIsRead, RelrIsRead}
 use Rattle.wild_records.specs.SymtabEntry.{symtab_entry_size}
@@ -15,6 +16,7 @@ use Rattle.wild_records.specs.declared.dynamic.DynamicEntry.{DynamicEntry}
 use Rattle.wild_records.specs.declared.program_header.ProgramHeader.{ProgramHeader}
 use Rattle.wild_records.specs.declared.relocations.Rela.{Rela}
 use Rattle.wild_types.specs.declared.part.Part.{Part}
+use Rattle.wild_types.specs.declared.part.Role.{Role}
 use Rattle.wild_types.specs.declared.part.Role.TheVariants as role
 use Rattle.wild_types.specs.declared.file.File.{File}
 use Rattle.wild_types.specs.declared.file.Group.{Group}
@@ -25,7 +27,7 @@ use Rattle.wild_types.specs.Parts.{part_with}
 use Rattle.wild_needs.specs.declared.dynamic.DynamicTag.{DynamicTag}
 use Rattle.wild_needs.specs.declared.dynamic.DynamicTag.TheVariants as tags
 use Rattle.wild_needs.specs.Dynamic.{dynamic_number, dynamic_entry, dynamic_flags, dynamic_flags_1, dynamic_count, flag}
-use Rattle.wild_needs.specs.DynamicPlaces.{part_address, if_present, filled_part, unless_empty, first_entries, relative_count}
+use Rattle.wild_needs.specs.DynamicPlaces.{section_named, part_address, part_size, if_present, filled_part, unless_empty, first_entries, relative_count}
 use Rattle.wild_layout.specs.Image.{bytes}
 use Rattle.wild_layout.specs.Numbers.{NumbersFit}
 use Rattle.wild_layout.specs.Geometry.{IsLaidOut}
@@ -33,10 +35,10 @@ use Rattle.wild_layout.specs.TablePlaces.{table_bytes, all_needed}
 use Rattle.wild_loader.specs.declared.kind.DynamicKind.TheVariants as kinds
 use Rattle.wild_loader.specs.declared.tables.Tables.{Tables}
 use Rattle.wild_loader.specs.Changes.{kind_of}
-use Rattle.wild_loader.specs.Laws.{entries_before_null}
-use Rattle.wild_loader.specs.SegmentLaws.{rela_bytes, AreLoadable}
+use Rattle.wild_loader.specs.Laws.{IsTableOf, entries_before_null}
+use Rattle.wild_loader.specs.SegmentLaws.{rela_bytes, word_bytes, AreLoadable}
 use Rattle.wild_loader.specs.Tables.{first_dynamic as found_dynamic, value_of_tag, section_of, named_tables}
-use Rattle.wild_loader.proofs.RecordLists.{length-rela}
+use Rattle.wild_loader.proofs.RecordLists.{length-rela, length-word_bytes}
 use Rattle.wild_loader.proofs.TableLemmas.{section-found, named-found}
 use Rattle.wild_table_formats.specs.DynamicSection.{null_entry, dynamic_records, NeededAreOfLibraries, EntriesAreFound}
 use Rattle.wild_reloc.specs.declared.dynamic.DynamicRelocationKind.TheVariants.{Relative}
@@ -44,13 +46,14 @@ use Rattle.wild_geometry.proofs.MachineLemmas.{facts_of}
 use Rattle.wild_meaning.specs.Section.{IsSet}
 use Rattle.wild_meaning.specs.Segments.{headers_in}
 use Rattle.wild_meaning.specs.LinkedImage.{processor_of}
-use Rattle.wild_meaning.specs.DynamicSection.{IsFlagged, HasCompanionTag, IsRelativeAt, AreRelativeFirst, InformsLinker}
+use Rattle.wild_meaning.specs.DynamicSection.{IsFlagged, HasCompanionTag, IsRelativeAt, AreRelativeFirst, HasWholeSize, LeadsToPart, LeadsToTables, LeadsToFunctions, InformsLinker}
 use Rattle.wild_loaded.specs.WholeSlots.{HasWholeSlots}
 use Rattle.wild_loaded.specs.Laws.{HasEntries, DynamicSectionsAreThere, TablesAreFound}
 use Rattle.wild_loaded.specs.Tables.{relative_entries, tables_of, HasTablesIn}
 use Rattle.wild_loaded.specs.Memory.{headers_of}
 use Rattle.wild_loaded.proofs.TableBytes.{all_relatives, all_generals, relatives_are}
 use Rattle.wild_loaded.proofs.TablesFit.{of_file}
+use Rattle.wild_loaded.proofs.OneValues.{fewer, one_value_each}
 
 -- what the crates below owe, and this one
 pub record LawsBelow : Type 0 where
@@ -163,27 +166,125 @@ count_told : (l : Layout) (room n : ℕ) → LawsBelow → needs_dynamic l.kind 
 unfolding dynamic_number dynamic_entry
 count_told l room n laws needs laid h = all_told l n (part_with role.RelaDynRelative l.parts) laid refl (sym (of_tag l room tags.RelaCount laws needs (λ e. cc)) ∙ h)
 
+-- ---- sizes
+
+-- the entries that have the tables
+same_entries : (l : Layout) → LawsBelow → (e : HasEntries l) (t : HasTablesIn l) → entries_before_null t.entries ≡ found l e.room
+same_entries l laws e t =
+    let hs = headers_of l in
+    let first : Some t.dynamic.segment ≡ Some e.dynamic.segment = sym t.dynamic.first ∙ e.dynamic.first in
+    let segment : t.dynamic.segment ≡ e.dynamic.segment = cc in
+    let both : Ok (entries_before_null t.entries) ≡ Ok (found l e.room) = sym (section-found laws.dynamic (bytes l) hs t.entries t.dynamic) ∙ ap (λ (h : ProgramHeader). section_of (bytes l) h) segment ∙ section-found laws.dynamic (bytes l) hs (all_needed l ++ dynamic_records l e.room) e.dynamic in
+    cc
+
+-- a table that consists of k entries of n bytes has a size that n divides
+entries_whole : (image : List ℕ) (hs : List ProgramHeader) (a b : Option ℕ) (bs : List ℕ) (k n : ℕ) → IsTableOf image hs a b bs → length bs ≡ rela_size * k → b ≡ Some n → n % rela_size ≡ 0
+entries_whole image hs (Some a) (Some m) bs k n h long e = (let size = h.0 in let same : m ≡ n = cc in omega (arith, size, long, same))
+entries_whole image hs (Some a) None bs k n h long e = absurd h
+entries_whole image hs None (Some m) bs k n h long e = absurd h
+entries_whole image hs None None bs k n h long e = cc
+
+words_whole : (image : List ℕ) (hs : List ProgramHeader) (a b : Option ℕ) (bs : List ℕ) (k n : ℕ) → IsTableOf image hs a b bs → length bs ≡ relr_size * k → b ≡ Some n → n % relr_size ≡ 0
+words_whole image hs (Some a) (Some m) bs k n h long e = (let size = h.0 in let same : m ≡ n = cc in omega (arith, size, long, same))
+words_whole image hs (Some a) None bs k n h long e = absurd h
+words_whole image hs None (Some m) bs k n h long e = absurd h
+words_whole image hs None None bs k n h long e = cc
+
+record HasWholeTables (ds : List DynamicEntry) : Type 0 where
+  entries : HasWholeSize ds dt_relasz rela_size
+  stubs : HasWholeSize ds dt_pltrelsz rela_size
+  words : HasWholeSize ds dt_relrsz relr_size
+
+whole_tables : (l : Layout) → LawsBelow → (e : HasEntries l) → HasTablesIn l → HasWholeTables (found l e.room)
+whole_tables l laws e t =
+    let hs = headers_of l in
+    subst HasWholeTables (same_entries l laws e t) (record {
+      entries = λ n h. entries_whole (bytes l) hs _ _ (flat_map rela_bytes (tables_of l).entries) (length (tables_of l).entries) n t.tables.entries (length-flat_map_each rela_bytes rela_size length-rela (tables_of l).entries) h;
+      stubs = λ n h. entries_whole (bytes l) hs _ _ (flat_map rela_bytes (tables_of l).jumps) (length (tables_of l).jumps) n t.tables.jumps (length-flat_map_each rela_bytes rela_size length-rela (tables_of l).jumps) h;
+      words = λ n h. words_whole (bytes l) hs _ _ (flat_map word_bytes (tables_of l).words) (length (tables_of l).words) n t.tables.words (length-flat_map_each word_bytes relr_size length-word_bytes (tables_of l).words) h;
+    })
+
+-- ---- tables and functions
+
+led_to : (l : Layout) (ds : List DynamicEntry) (tag : ℕ) (r : Role) → value_of_tag tag ds ≡ part_address (part_with r l.parts) → LeadsToPart l ds tag r
+led_to l ds tag r e = record {
+  there = λ p h some. e ∙ ap part_address h;
+  only = λ a h. of (part_with r l.parts) a refl (sym e ∙ h);
+}
+  where
+    of : (o : Option Part) (a : ℕ) → part_with r l.parts ≡ o → part_address o ≡ Some a → (p : Part) × ((part_with r l.parts ≡ Some p) × (p.address ≡ a))
+    of None a is h = absurd (let both : None ≡ Some a = h in cc)
+    of (Some p) a is h = (p, (is, (let both : Some p.address ≡ Some a = h in cc)))
+
+-- the same of a part that is named only if it has bytes
+led_if_filled : (l : Layout) (ds : List DynamicEntry) (tag : ℕ) (r : Role) → value_of_tag tag ds ≡ part_address (filled_part l r) → LeadsToPart l ds tag r
+led_if_filled l ds tag r e = record {
+  there = λ p h some. e ∙ filled p h some;
+  only = λ a h. of (part_with r l.parts) a refl (sym e ∙ h);
+}
+  where
+    filled : (p : Part) → part_with r l.parts ≡ Some p → 1 ≤ p.size → part_address (filled_part l r) ≡ Some p.address
+    filled p h some = (let f : (p.size == 0) ≡ false = ne_eqb p.size 0 (λ z. omega (arith, some, z)) in rw (h, f) refl)
+
+    by_size : (p : Part) (b : Bool) (a : ℕ) → part_address (if b then None else Some p) ≡ Some a → p.address ≡ a
+    by_size p true a h = absurd (let both : None ≡ Some a = h in cc)
+    by_size p false a h = (let both : Some p.address ≡ Some a = h in cc)
+
+    of : (o : Option Part) (a : ℕ) → part_with r l.parts ≡ o → part_address (unless_empty o) ≡ Some a → (p : Part) × ((part_with r l.parts ≡ Some p) × (p.address ≡ a))
+    of None a is h = absurd (let both : None ≡ Some a = h in cc)
+    of (Some p) a is h = (p, (is, by_size p (p.size == 0) a h))
+
+tables_led : (l : Layout) (room : ℕ) → LawsBelow → needs_dynamic l.kind ≡ true → LeadsToTables l (found l room)
+unfolding dynamic_number dynamic_entry
+tables_led l room laws needs = record {
+  strings = led_to l (found l room) dt_strtab role.Dynstr (of_tag l room tags.StringTable laws needs (λ e. cc));
+  string_size = λ p h some. of_tag l room tags.StringSize laws needs (λ e. cc) ∙ ap part_size h;
+  symbols = led_to l (found l room) dt_symtab role.Dynsym (of_tag l room tags.SymbolTable laws needs (λ e. cc));
+  hash = led_if_filled l (found l room) dt_hash role.SysvHash (of_tag l room tags.SysvHash laws needs (λ e. cc));
+  gnu_hash = led_if_filled l (found l room) dt_gnu_hash role.GnuHash (of_tag l room tags.GnuHash laws needs (λ e. cc));
+  versions = led_to l (found l room) dt_versym role.GnuVersion (of_tag l room tags.SymbolVersions laws needs (λ e. cc));
+  definitions = led_to l (found l room) dt_verdef role.GnuVersionD (of_tag l room tags.VersionDefinitions laws needs (λ e. cc));
+  needs = led_to l (found l room) dt_verneed role.GnuVersionR (of_tag l room tags.VersionNeeds laws needs (λ e. cc));
+  stubs = led_if_filled l (found l room) dt_jmprel role.RelaPlt (of_tag l room tags.JmpRel laws needs (λ e. cc));
+  words = led_to l (found l room) dt_relr role.RelrDyn (of_tag l room tags.Relr laws needs (λ e. cc));
+}
+
+functions_led : (l : Layout) (room : ℕ) → LawsBelow → needs_dynamic l.kind ≡ true → LeadsToFunctions l (found l room)
+unfolding dynamic_number dynamic_entry section_named
+functions_led l room laws needs = record {
+  init = of_tag l room tags.Init laws needs (λ e. cc);
+  fini = of_tag l room tags.Fini laws needs (λ e. cc);
+  preinit_array = of_tag l room tags.PreinitArray laws needs (λ e. cc);
+  preinit_size = of_tag l room tags.PreinitArraySize laws needs (λ e. cc);
+  init_array = of_tag l room tags.InitArray laws needs (λ e. cc);
+  init_size = of_tag l room tags.InitArraySize laws needs (λ e. cc);
+  fini_array = of_tag l room tags.FiniArray laws needs (λ e. cc);
+  fini_size = of_tag l room tags.FiniArraySize laws needs (λ e. cc);
+}
+
 -- ---- the whole
 
 -- the tables that a loader finds by these entries
 tables_named : (l : Layout) (base : ℕ) → LawsBelow → NumbersFit l → AreLoadable base (bytes l) (headers_of l) → (e : HasEntries l) → HasTablesIn l → named_tables (bytes l) (headers_of l) (found l e.room) ≡ Ok (tables_of l)
 tables_named l base laws numbers loadable e t =
     let hs = headers_of l in
-    let first : Some t.dynamic.segment ≡ Some e.dynamic.segment = sym t.dynamic.first ∙ e.dynamic.first in
-    let segment : t.dynamic.segment ≡ e.dynamic.segment = cc in
-    let both : Ok (entries_before_null t.entries) ≡ Ok (found l e.room) = sym (section-found laws.dynamic (bytes l) hs t.entries t.dynamic) ∙ ap (λ (h : ProgramHeader). section_of (bytes l) h) segment ∙ section-found laws.dynamic (bytes l) hs (all_needed l ++ dynamic_records l e.room) e.dynamic in
-    let same : entries_before_null t.entries ≡ found l e.room = cc in
+    let same = same_entries l laws e t in
     subst (λ (ds : List DynamicEntry). named_tables (bytes l) hs ds ≡ Ok (tables_of l)) same (named-found laws.relas laws.words base (bytes l) hs t.entries (tables_of l) loadable t.tables)
 
-pub linker_told : (l : Layout) (base : ℕ) → LawsBelow → KeepsAll l → needs_dynamic l.kind ≡ true → NumbersFit l → IsLaidOut l → HasWholeSlots l → AreLoadable base (bytes l) (headers_of l) → headers_in (bytes l) ≡ headers_of l → InformsLinker (processor_of l.machine) (bytes l)
+pub linker_told : (l : Layout) (base : ℕ) → LawsBelow → KeepsAll l → needs_dynamic l.kind ≡ true → NumbersFit l → IsLaidOut l → HasWholeSlots l → AreLoadable base (bytes l) (headers_of l) → headers_in (bytes l) ≡ headers_of l → InformsLinker l (processor_of l.machine) (bytes l)
 linker_told l base laws keeps needs numbers laid slots loadable same =
     let e = laws.stand l keeps needs numbers laid in
-    let tables = tables_named l base laws numbers loadable e (laws.tables l keeps needs numbers laid slots) in
+    let there = laws.tables l keeps needs numbers laid slots in
+    let tables = tables_named l base laws numbers loadable e there in
+    let sizes = whole_tables l laws e there in
+    let count = e.dynamic.count in
+    let short = fewer l (all_needed l) (replicate (e.room / dynamic_entry_size - dynamic_count l) null_entry) needs in
     record {
       segment = e.dynamic.segment;
       first = ap found_dynamic same ∙ e.dynamic.first;
       entries = found l e.room;
       read = section-found laws.dynamic (bytes l) (headers_of l) (all_needed l ++ dynamic_records l e.room) e.dynamic;
+      ended = omega (arith, count, short);
       told = record {
         now = now_told l e.room laws needs;
         now_1 = now_1_told l e.room laws needs;
@@ -196,5 +297,11 @@ linker_told l base laws keeps needs numbers laid slots loadable same =
             let both : Ok (tables_of l) ≡ Ok t = sym tables ∙ sym (ap (λ (hs : List ProgramHeader). named_tables (bytes l) hs (found l e.room)) same) ∙ named in
             let is : tables_of l ≡ t = cc in
             subst (λ (u : Tables). AreRelativeFirst (processor_of l.machine) n u.entries) is (λ k lt. relative_at l k numbers (omega (arith, lt, count))));
+        whole = sizes.entries;
+        stubs_whole = sizes.stubs;
+        words_whole = sizes.words;
+        one = one_value_each l (all_needed l) (e.room / dynamic_entry_size - dynamic_count l) needs (laws.needed.names l l.groups) (λ tag some. of_tag l e.room tag laws needs some);
+        tables = tables_led l e.room laws needs;
+        functions = functions_led l e.room laws needs;
       };
     }

@@ -4,8 +4,9 @@ use Rattle.std.specs.Prelude.{All, Option, Some, None, unwrap_or, option_map, sl
 use Rattle.std.proofs.lemmas.Bool.{cases_Bool, eqb-true, eqb-false, ne_eqb}
 use Rattle.std.proofs.lemmas.List.Elements.{All-head, All-tail}
 use Rattle.wild_records.specs.Abi.Segment.{pt_load, pt_gnu_stack, pf_x}
-use Rattle.wild_records.specs.FileHeader.{FileHeaderIsRead, file_header_at}
+use Rattle.wild_records.specs.FileHeader.{FileHeaderIsRead, file_header_at, file_header_size}
 use Rattle.wild_records.specs.ProgramHeader.{ProgramHeaderIsRead, program_header_size}
+use Rattle.wild_records.specs.SectionHeader.{SectionHeaderIsRead}
 use Rattle.wild_records.specs.declared.program_header.ProgramHeader.{ProgramHeader}
 use Rattle.wild_types.specs.declared.section.Segment.{Segment}
 use Rattle.wild_types.specs.declared.symbol.Resolution.{Resolution}
@@ -25,7 +26,7 @@ use Rattle.wild_layout.specs.Loadable.{IsPaged}
 use Rattle.wild_loader.specs.SegmentLaws.{HasHeaders}
 use Rattle.wild_loader.proofs.RecordLists.{programs-read}
 use Rattle.wild_meaning.specs.Segments.{headers_in, DescribesSegment, DescribeSegments}
-use Rattle.wild_meaning.specs.LinkedImage.{HasStandardSizes, HasResolvedAddress}
+use Rattle.wild_meaning.specs.LinkedImage.{HasStandardFields, HasResolvedAddress}
 use Rattle.wild_meaning.specs.World.{IsLoadable}
 use Rattle.wild_meaning.proofs.SymbolLemmas.{canonical_is}
 use Rattle.wild_meaning.proofs.OutputLemmas.{not_partial}
@@ -33,6 +34,7 @@ use Rattle.wild_loaded.specs.Laws.{HeadersDescribeOutput}
 use Rattle.wild_loaded.specs.Memory.{headers_of}
 use Rattle.wild_loaded.proofs.FileType.{kind_fits, movable_type}
 use Rattle.wild_loaded.proofs.Loads.{has_headers}
+use Rattle.wild_loaded.proofs.DescribedSections.{sections_described}
 
 entry_is : (l : Layout) → (file_header l).entry ≡ entry_address l
 unfolding file_header
@@ -118,14 +120,14 @@ headers_read file program l headers =
     let count = headers.program_count in
     rw (is, count) (programs-read program (bytes l) (headers_of l) e.program_offset headers.programs_fit headers.programs)
 
-sizes_told : (l : Layout) → IsLoadable l.kind → HasStandardSizes (file_header l)
+fields_told : (l : Layout) → IsLoadable l.kind → HasStandardFields (file_header l)
 unfolding file_header
-sizes_told l k = record { ident_version = refl; version = refl; header = refl; program = ap (λ (b : Bool). if b then 0 else program_header_size) (not_partial l.kind k); section = refl; flags = refl }
+fields_told l k = record { ident_version = refl; os_abi = refl; abi_version = refl; programs = ap (λ (b : Bool). if b then 0 else file_header_size) (not_partial l.kind k); version = refl; header = refl; program = ap (λ (b : Bool). if b then 0 else program_header_size) (not_partial l.kind k); section = refl; flags = refl }
 
 -- ---- the whole
 
-pub header_told : FileHeaderIsRead → ProgramHeaderIsRead → HeadersDescribeOutput
-header_told file program = λ l k numbers laid.
+pub header_told : FileHeaderIsRead → ProgramHeaderIsRead → SectionHeaderIsRead → HeadersDescribeOutput
+header_told file program section = λ l k numbers laid.
     let headers = has_headers l k numbers laid in
     record {
       header = file_header l;
@@ -136,6 +138,7 @@ header_told file program = λ l k numbers laid.
       address = λ a e. entry_is l ∙ entry_by_case l (Some (entry.Address a)) k e;
       symbol = λ i a e d. entry_is l ∙ symbol_entry l i a k e d;
       none = λ e. entry_is l ∙ entry_by_case l None k e;
-      sizes = sizes_told l k;
+      fields = fields_told l k;
       segments = subst (λ (hs : List ProgramHeader). DescribeSegments l l.segments hs) (sym (headers_read file program l headers)) (each_told l l.segments (laid.loadable (not_partial l.kind k)).pages);
+      sections = sections_described section l k numbers laid;
     }

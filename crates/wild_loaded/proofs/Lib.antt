@@ -22,7 +22,9 @@ pub mod TableBytes
 pub mod DynamicSections
 pub mod SectionTable
 pub mod StaticTables
+mod DescribedSections
 pub mod FileHeader
+mod OneValues
 pub mod DynamicInformation
 pub mod PairLemmas
 pub mod Permuted

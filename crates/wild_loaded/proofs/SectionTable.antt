@@ -43,12 +43,12 @@ use Rattle.wild_loaded.proofs.TableBytes.{stands_joined}
 -- ---- headers
 
 -- the header is that of the section with its number
-record IsHeaderOf (l : Layout) (ss : List Section) (k : ℕ) (h : SectionHeader) : Type 0 where
-  section : Section
-  listed : slice_get ss k ≡ Some section
-  info : ℕ
-  name : ℕ
-  is : h ≡ section_header l info name section
+pub record IsHeaderOf (l : Layout) (ss : List Section) (k : ℕ) (h : SectionHeader) : Type 0 where
+  pub section : Section
+  pub listed : slice_get ss k ≡ Some section
+  pub info : ℕ
+  pub name : ℕ
+  pub is : h ≡ section_header l info name section
 
 header_of : (l : Layout) (i name : ℕ) (ss : List Section) (k : ℕ) (h : SectionHeader) → slice_get (headers_from l (computed_infos l) i name ss) k ≡ Some h → IsHeaderOf l ss k h
 header_of l i name [] k h there = cc
@@ -70,7 +70,7 @@ all_but_first l (s ∷ ss) (suc k) h there has =
     (omega arith, record { section = r.section; listed = r.listed; info = r.info; name = r.name; is = r.is })
 
 -- so is each header behind that of section 0
-header_behind : (l : Layout) (ss : List Section) (k : ℕ) (h : SectionHeader) → 1 ≤ k → slice_get (section_headers_of l ss) k ≡ Some h → IsHeaderOf l ss k h
+pub header_behind : (l : Layout) (ss : List Section) (k : ℕ) (h : SectionHeader) → 1 ≤ k → slice_get (section_headers_of l ss) k ≡ Some h → IsHeaderOf l ss k h
 header_behind l [] k h some there = cc
 header_behind l (s ∷ ss) zero h some there = absurd (omega arith)
 header_behind l (s ∷ ss) (suc k) h some there =

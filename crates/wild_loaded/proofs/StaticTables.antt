@@ -110,7 +110,7 @@ long l (s ∷ ss) h =
     record { some = omega (arith, a, b); first = null_byte l rest }
 
 -- two pieces at one offset are one
-table_offset : (l : Layout) → IsLaidOut l → 0 < offset_of_role role.SectionHeaders l.parts
+pub table_offset : (l : Layout) → IsLaidOut l → 0 < offset_of_role role.SectionHeaders l.parts
 table_offset l laid =
     elim (cases_lt 0 (offset_of_role role.SectionHeaders l.parts)) [
       | inl lt ↦ lt
@@ -148,7 +148,7 @@ table_offset l laid =
         whole (record { at = 0; bytes = file_header_bytes l }) (record { at = offset_of_role role.SectionHeaders l.parts; bytes = section_header_bytes l }) front.0 back.0 (pieces l) laid.owners.apart front.1 back.1 front.2 back.2 refl first (omega (arith, m)) headers.some
         (λ e. (let bytes_are = ap (λ (p : Piece). slice_index p.bytes 0) e in let both : 0x7f ≡ 0 = sym (front_byte l) ∙ bytes_are ∙ headers.first in cc))
 
-header_offset : (l : Layout) → (file_header l).section_offset ≡ offset_of_role role.SectionHeaders l.parts
+pub header_offset : (l : Layout) → (file_header l).section_offset ≡ offset_of_role role.SectionHeaders l.parts
 unfolding file_header
 header_offset l = refl
 

@@ -144,7 +144,7 @@ DynamicSectionsAreThere = (l : Layout) → KeepsAll l → needs_dynamic l.kind �
 
 -- its entries have the information that a dynamic linker needs
 abbrev pub DynamicSectionsInformLinker : Type 0
-DynamicSectionsInformLinker = (l : Layout) → KeepsAll l → IsLoadable l.kind → needs_dynamic l.kind ≡ true → NumbersFit l → IsLaidOut l → HasWholeSlots l → InformsLinker (processor_of l.machine) (bytes l)
+DynamicSectionsInformLinker = (l : Layout) → KeepsAll l → IsLoadable l.kind → needs_dynamic l.kind ≡ true → NumbersFit l → IsLaidOut l → HasWholeSlots l → InformsLinker l (processor_of l.machine) (bytes l)
 
 -- the image of an output that needs a dynamic section has one, and through it a loader finds the tables that the groups write
 abbrev pub TablesAreFound : Type 0

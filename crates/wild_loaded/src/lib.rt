@@ -12,6 +12,7 @@ use wild_loader::{
 };
 use wild_records::{
     dynamic_entry_is_read, file_header_is_read, program_header_is_read, rela_is_read, relr_is_read,
+    section_header_is_read,
 };
 use wild_relr::{relr_slot_is_a_run, words_fit};
 use wild_slots::{
@@ -26,13 +27,14 @@ pub fn owners_are_known()
 {}
 
 /// A reader finds each header at its offset in the file header, and a loader accepts them. They have the output's type and entry,
-/// and describe the layout's segments.
+/// and describe the layout's segments and sections.
 pub fn headers_are_present()
     ensures stand { HeadersAreThere }
     ensures tell { HeadersDescribeOutput }
 {
     file_header_is_read();
     program_header_is_read();
+    section_header_is_read();
 }
 
 /// In a legal world the segments can be loaded.

@@ -50,7 +50,7 @@ abbrev pub call : Instruction
 call = of_field (branch (0xe8 ∷ []) Number Call) 1 Target (r_x86_64_pc32 ∷ r_x86_64_plt32 ∷ [])
 
 branch_kept : IsKept static_pie branch_item
-branch_kept = OfSection branch_code (record { input = record { group = _; grouped = (0, omega arith, refl); file = _; filed = (0, omega arith, refl); listed = (0, omega arith, refl) }; loaded = tt; room = refl; has_data = refl; written = λ p at h. (let off : false ≡ true = h.bare in cc) }) refl
+branch_kept = OfSection branch_code (record { input = record { group = _; grouped = (0, omega arith, refl); file = _; filed = (0, omega arith, refl); listed = (0, omega arith, refl) }; loaded = tt; room = refl; has_data = refl; written = λ p at h. (let off : false ≡ true = h.only.bare in cc) }) refl
 
 call_stands : IsInstruction static_pie branch_item branch_reference 0 call
 call_stands = record {
@@ -106,7 +106,7 @@ abbrev pub load : Instruction
 load = of_slot 0x8b Set
 
 load_kept : IsKept static_pie load_item
-load_kept = OfSection load_code (record { input = record { group = _; grouped = (0, omega arith, refl); file = _; filed = (0, omega arith, refl); listed = (1, omega arith, refl) }; loaded = tt; room = refl; has_data = refl; written = λ p at h. (let off : false ≡ true = h.bare in cc) }) refl
+load_kept = OfSection load_code (record { input = record { group = _; grouped = (0, omega arith, refl); file = _; filed = (0, omega arith, refl); listed = (1, omega arith, refl) }; loaded = tt; room = refl; has_data = refl; written = λ p at h. (let off : false ≡ true = h.only.bare in cc) }) refl
 
 load_stands : IsInstruction static_pie load_item load_reference 0 load
 load_stands = record {
@@ -173,7 +173,7 @@ abbrev pub described : Instruction
 described = of_field (with_slot 0x8d Number Set rex) 3 Described (r_x86_64_gotpc32_tlsdesc ∷ [])
 
 described_kept : IsKept static_pie described_item
-described_kept = OfSection described_code (record { input = record { group = _; grouped = (0, omega arith, refl); file = _; filed = (0, omega arith, refl); listed = (3, omega arith, refl) }; loaded = tt; room = refl; has_data = refl; written = λ p at h. (let off : false ≡ true = h.bare in cc) }) refl
+described_kept = OfSection described_code (record { input = record { group = _; grouped = (0, omega arith, refl); file = _; filed = (0, omega arith, refl); listed = (3, omega arith, refl) }; loaded = tt; room = refl; has_data = refl; written = λ p at h. (let off : false ≡ true = h.only.bare in cc) }) refl
 
 described_stands : IsInstruction static_pie described_item described_reference 0 described
 described_stands = record {

@@ -37,6 +37,10 @@ use Rattle.wild_meaning.specs.Worked.Copy.{copying_layout, copying_data, copying
 use Rattle.wild_meaning.specs.Worked.CopyImage.{copying_image, copying_rest, copying_memory, copying_header, copying_third, copying_words, copying_tables}
 use Rattle.wild_meaning.specs.Worked.CopyRefusals.{CopyingImageIsLinked}
 use Rattle.wild_records.specs.ProgramHeader.{program_header_fields}
+use Rattle.wild_meaning.proofs.SectionHeaderLemmas.{no_sections}
+use Rattle.wild_records.specs.Abi.Dynamic.{dt_pltrelsz, dt_relrsz}
+use Rattle.wild_records.specs.Relocations.{rela_size, relr_size}
+use Rattle.wild_meaning.proofs.DynamicLemmas.{whole_size, no_size, one_value_each, no_tables, no_functions}
 use Rattle.wild_meaning.proofs.FileBytes.{HasLoadedBytes, file_byte_held}
 use Rattle.wild_meaning.proofs.SymbolUnique.{only, raw_of, IsUnstubbed, no_stubs}
 use Rattle.wild_meaning.proofs.Read.{held_from}
@@ -189,12 +193,13 @@ copying_segments = subst (λ (hs : List ProgramHeader). DescribeSegments copying
 )
 
 -- what the dynamic section tells: no entry is said to be relative
-copying_told : InformsLinker processors.X86_64 copying_image
+copying_told : InformsLinker copying_layout processors.X86_64 copying_image
 copying_told = record {
   segment = copying_third;
   first = ap first_dynamic copying_programs ∙ copying_dynamic;
   entries = copying_entries;
   read = copying_read;
+  ended = omega arith;
   told = record {
     now = record { value = 8; there = copying_tags.flags; set = refl };
     now_1 = record { value = 1; there = copying_tags.flags_1; set = refl };
@@ -203,6 +208,12 @@ copying_told = record {
     word_size = λ a h. (let both : None ≡ Some a = sym copying_tags.no_words ∙ h in cc);
     symbol_size = λ a h. (let both : None ≡ Some a = sym copying_tags.no_symbols ∙ h in cc);
     relative = λ n t h _. (let both : None ≡ Some n = sym copying_tags.no_count ∙ h in cc);
+    whole = whole_size 0x1008;
+    stubs_whole = no_size copying_entries dt_pltrelsz rela_size copying_tags.no_stub_size;
+    words_whole = no_size copying_entries dt_relrsz relr_size copying_tags.no_word_size;
+    one = one_value_each 0x1008;
+    tables = no_tables copying_layout 0x1008 refl;
+    functions = no_functions copying_layout 0x1008 refl;
   };
 }
 
@@ -228,8 +239,9 @@ copying_described = record {
     address = λ a e. absurd (let one : Some (entry.Symbol 1) ≡ Some (entry.Address a) = e in cc);
     symbol = begins;
     none = λ e. absurd (let one : Some (entry.Symbol 1) ≡ None = e in cc);
-    sizes = record { ident_version = refl; version = refl; header = refl; program = refl; section = refl; flags = refl };
+    fields = record { ident_version = refl; os_abi = refl; abi_version = refl; programs = refl; version = refl; header = refl; program = refl; section = refl; flags = refl };
     segments = copying_segments;
+    sections = no_sections copying_layout copying_image copying_header refl refl;
   };
   dynamic = λ whole d. copying_told;
 }

@@ -39,7 +39,7 @@ blank_is = record {
   input = record { group = _; grouped = (0, omega arith, refl); file = _; filed = (0, omega arith, refl); listed = (1, omega arith, refl) };
   loaded = tt;
   room = refl;
-  shared = λ e. omega arith;
+  template = λ e. absurd (omega arith);
   blank = refl;
 }
 
@@ -64,7 +64,7 @@ unfolding x86_64_formula
 address_formula = refl
 
 kept : IsKept copying_layout copying_item
-kept = OfSection copying_data (record { input = record { group = _; grouped = (0, omega arith, refl); file = _; filed = (0, omega arith, refl); listed = (0, omega arith, refl) }; loaded = tt; room = refl; has_data = refl; written = λ p at h. (let off : false ≡ true = h.bare in cc) }) refl
+kept = OfSection copying_data (record { input = record { group = _; grouped = (0, omega arith, refl); file = _; filed = (0, omega arith, refl); listed = (0, omega arith, refl) }; loaded = tt; room = refl; has_data = refl; written = λ p at h. (let off : false ≡ true = h.only.bare in cc) }) refl
 
 -- the program has no merged strings
 pub no_string : (v : Value) (r : InputRelocation) → TakesString v copying_layout r → ⊥

@@ -10,6 +10,8 @@ mod TextLemmas
 mod SharedLegal
 mod Read
 mod FileBytes
+mod SectionHeaderLemmas
+mod DynamicLemmas
 mod Refused
 mod SlotPlaces
 mod SharedRefused
@@ -37,6 +39,7 @@ mod StringsLinked
 mod CopyLoaded
 mod CopyLinked
 mod SegmentsRefused
+mod TermsRefused
 mod WordsRefused
 pub mod InstructionsAArch64
 mod WordsLegal

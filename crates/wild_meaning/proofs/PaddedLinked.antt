@@ -1,7 +1,7 @@
 -- The image of the worked program whose one input section has no data is linked in its world.
 use Rattle.std.proofs.Common.{◌≡◌, ℕ, ◌+◌, ◌<◌, true, false, List, [], ◌∷◌, refl, sym, ap, ◌∙◌, subst, arith}
 use Rattle.std.specs.Prelude.{Ok, Some, None, Contains, replicate, All}
-use Rattle.std.proofs.lemmas.List.Elements.{All-from_recursion}
+use Rattle.std.proofs.lemmas.List.Elements.{All-from_recursion, All-contains}
 use Rattle.std.proofs.lemmas.List.{get_or-replicate}
 use Rattle.wild_words.specs.Words.{word, number}
 use Rattle.wild_words.specs.Record.{spell}
@@ -9,6 +9,7 @@ use Rattle.wild_words.specs.Extents.{least_extent}
 use Rattle.wild_words.proofs.RecordLemmas.{HasBytesAt-left}
 use Rattle.wild_records.specs.Abi.Segment.{pt_gnu_stack}
 use Rattle.wild_records.specs.FileHeader.{file_header_fields, file_header_at}
+use Rattle.wild_records.specs.SectionHeader.{section_header_fields, section_header_at}
 use Rattle.wild_records.specs.ProgramHeader.{program_header_fields, program_header_at}
 use Rattle.wild_records.specs.declared.program_header.ProgramHeader.{ProgramHeader}
 use Rattle.wild_types.specs.declared.file.FileRole.TheVariants as file_role
@@ -19,7 +20,7 @@ use Rattle.wild_types.specs.declared.input.Slot.TheVariants as slot
 use Rattle.wild_types.specs.declared.layout.Entry.TheVariants as entry
 use Rattle.wild_types.specs.Item.{Item}
 use Rattle.wild_loader.specs.Memory.{byte_in, Holds}
-use Rattle.wild_loader.specs.Headers.{header, program_headers, sections}
+use Rattle.wild_loader.specs.Headers.{header, program_headers, section_headers, sections}
 use Rattle.wild_loader.specs.Segments.{load_segment, load_segments, segments}
 use Rattle.wild_loader.specs.Tables.{first_dynamic, section_entries, section_tables, tables}
 use Rattle.wild_loader.specs.Places.{places_from}
@@ -30,11 +31,14 @@ use Rattle.wild_meaning.specs.World.{IsCopied}
 use Rattle.wild_meaning.specs.Item.{IsInput, IsKept, OfSection, OfFrames}
 use Rattle.wild_meaning.specs.Reference.{ItemHolds}
 use Rattle.wild_meaning.specs.Segments.{headers_in, DescribeSegments}
+use Rattle.wild_meaning.specs.SectionHeaders.{DescribesSections}
 use Rattle.wild_meaning.specs.LinkedImage.{IsSectionWithoutData, DescribesOutput}
 use Rattle.wild_meaning.specs.Worked.Builders.{file_of, group_of}
 use Rattle.wild_meaning.specs.Worked.Static.{static_pie_world}
-use Rattle.wild_meaning.specs.Worked.StaticImage.{static_header, static_segment, padded_image, padded_rest, padded_memory}
-use Rattle.wild_meaning.specs.Worked.StaticRefusals.{padded_blank, padded_layout, PaddedImageIsLinked}
+use Rattle.wild_meaning.specs.Worked.StaticImage.{padded_header, padded_section_header, static_segment, padded_image, padded_rest, padded_memory}
+use Rattle.wild_meaning.specs.Worked.StaticRefusals.{padded_section, padded_blank, padded_thread, padded_layout, PaddedImageIsLinked}
+use Rattle.wild_meaning.proofs.SectionHeaderLemmas.{one_section}
+use Rattle.wild_meaning.proofs.DynamicLemmas.{no_dynamic_section}
 use Rattle.wild_meaning.proofs.FileBytes.{HasLoadedBytes, file_byte_held}
 use Rattle.wild_meaning.proofs.SymbolUnique.{only, IsUnstubbed, no_stubs}
 use Rattle.wild_meaning.proofs.Read.{held_from}
@@ -42,7 +46,7 @@ use Rattle.wild_meaning.proofs.PlacedLemmas.{frame_input}
 use Rattle.wild_meaning.proofs.TextLemmas.{no_texts}
 
 padded_loaded : load static_pie_world padded_image ≡ Ok padded_memory
-unfolding load image_at image_with header program_headers segments load_segment load_segments tables first_dynamic section_tables sections section_entries relocate add_all apart notes overlay_runs places_from least_extent file_header_at file_header_fields program_header_at program_header_fields number word
+unfolding load image_at image_with header program_headers segments load_segment load_segments tables first_dynamic section_tables sections section_headers section_header_at section_header_fields section_entries relocate add_all apart notes overlay_runs places_from least_extent file_header_at file_header_fields program_header_at program_header_fields number word
 padded_loaded = refl
 
 padded_programs : headers_in padded_image ≡ static_segment ∷ []
@@ -51,25 +55,33 @@ padded_programs = refl
 
 -- ---- its one section
 
+abbrev inputs : List InputSection
+inputs = padded_blank ∷ padded_thread ∷ []
+
 abbrev padded_file : File
-padded_file = file_of file_role.Object (padded_blank ∷ []) []
+padded_file = file_of file_role.Object inputs []
 
 file_is : (f : File) (g : Group) → Contains padded_layout.groups g → Contains g.files f → padded_file ≡ f
 file_is f g grouped filed =
     let group = only (group_of (padded_file ∷ [])) g grouped in
     only padded_file f (subst (λ (h : Group). Contains h.files f) (sym group) filed)
 
-blank_is : (s : InputSection) → IsInput padded_layout s → padded_blank ≡ s
-blank_is s h = only padded_blank s (subst (λ (f : File). Contains f.sections s) (sym (file_is h.file h.group h.grouped h.filed)) h.listed)
+listed_in : (s : InputSection) → IsInput padded_layout s → Contains inputs s
+listed_in s h = subst (λ (f : File). Contains f.sections s) (sym (file_is h.file h.group h.grouped h.filed)) h.listed
+
+-- both are loaded, without data
+abbrev IsBlank : InputSection → Type 0
+IsBlank s = (s.nobits ≡ true) × (s.slot ≡ slot.Loaded)
+
+blank_is : (s : InputSection) → IsInput padded_layout s → IsBlank s
+blank_is s h = All-contains IsBlank inputs s (All-from_recursion IsBlank inputs ((refl, refl), ((refl, refl), tt))) (listed_in s h)
 
 no_item : (item : Item) → IsKept padded_layout item → ItemHolds padded_layout static_pie_world padded_memory item
 no_item item (OfSection s kept is) =
-    let same = blank_is s kept.input in
-    let both : true ≡ false = ap (λ (t : InputSection). t.nobits) same ∙ kept.has_data in
+    let both : true ≡ false = sym (blank_is s kept.input).0 ∙ kept.has_data in
     absurd (cc)
 no_item item (OfFrames s kept is) =
-    let same = blank_is s (frame_input padded_layout s kept) in
-    let both : slot.Loaded ≡ slot.Frame = ap (λ (t : InputSection). t.slot) same ∙ kept.frame in
+    let both : slot.Loaded ≡ slot.Frame = sym (blank_is s (frame_input padded_layout s kept)).1 ∙ kept.frame in
     absurd (cc)
 
 no_library : (i : ℕ) → IsCopied padded_layout i → ⊥
@@ -80,24 +92,25 @@ no_library i h =
 all_zero : Holds padded_memory 0x41000 (replicate 272 0)
 all_zero = held_from padded_memory 0x41000 (replicate 272 0) refl
 
-zero_at : (k : ℕ) → k < 16 → byte_in padded_memory (0x41100 + k) ≡ Some 0
-zero_at k lt =
-    let at : 0x41000 + (256 + k) ≡ 0x41100 + k = omega arith in
-    subst (λ (a : ℕ). byte_in padded_memory a ≡ Some 0) at (all_zero (256 + k) (omega (arith, lt)) ∙ ap Some (get_or-replicate 272 (256 + k) 0 0 (omega (arith, lt))))
+zero_at : (k : ℕ) → k < 272 → byte_in padded_memory (0x41000 + k) ≡ Some 0
+zero_at k lt = all_zero k lt ∙ ap Some (get_or-replicate 272 k 0 0 lt)
 
 abbrev IsZero : InputSection → Type 0
 IsZero s = (k : ℕ) → k < s.size → byte_in padded_memory (static_pie_world.base + s.address + k) ≡ Some 0
 
 section_zero : IsZero padded_blank
-section_zero = zero_at
+section_zero = λ k lt. (let at : 0x41000 + (256 + k) ≡ 0x41100 + k = omega arith in subst (λ (a : ℕ). byte_in padded_memory a ≡ Some 0) at (zero_at (256 + k) (omega (arith, lt))))
+
+thread_zero : IsZero padded_thread
+thread_zero = λ k lt. (let at : 0x41000 + (240 + k) ≡ 0x410f0 + k = omega arith in subst (λ (a : ℕ). byte_in padded_memory a ≡ Some 0) at (zero_at (240 + k) (omega (arith, lt))))
 
 zeros : (s : InputSection) → IsSectionWithoutData padded_layout s → IsZero s
-zeros s h = subst IsZero (blank_is s h.input) section_zero
+zeros s h = All-contains IsZero inputs s (All-from_recursion IsZero inputs (section_zero, (thread_zero, tt))) (listed_in s h.input)
 
 -- ---- bytes of the file
 
 file_bytes : All (HasLoadedBytes padded_memory static_pie_world.base padded_image) padded_layout.segments
-unfolding file_header_fields program_header_fields word
+unfolding file_header_fields program_header_fields section_header_fields word
 file_bytes = All-from_recursion (HasLoadedBytes padded_memory static_pie_world.base padded_image) padded_layout.segments ((λ k. record { content = replicate 272 0; stands = refl; size = refl; held = refl }), tt)
 
 -- ---- the whole
@@ -108,25 +121,34 @@ padded_segments = subst (λ (hs : List ProgramHeader). DescribeSegments padded_l
   tt,
 )
 
+padded_read : sections padded_image padded_header ≡ Ok (padded_section_header ∷ padded_section_header ∷ [])
+unfolding sections section_headers section_header_at section_header_fields file_header_fields program_header_fields number word
+padded_read = refl
+
+padded_sections : DescribesSections padded_layout padded_image padded_header
+padded_sections = one_section padded_layout padded_image padded_header padded_section padded_section padded_section_header padded_section_header refl padded_read
+    (record { kind = λ o. refl; bare = λ o. absurd (let both : false ≡ true = o.bare in cc); address = refl; offset = refl; size = refl; memory = refl })
+
 padded_described : DescribesOutput padded_layout padded_image
 padded_described = record {
   header = record {
-    header = static_header;
+    header = padded_header;
     fits = record {
       front = record { magic = omega arith; class = omega arith; encoding = omega arith; ident_version = omega arith; os_abi = omega arith; abi_version = omega arith; file_type = omega arith };
       middle = record { machine = omega arith; version = omega arith; entry = omega arith; program_offset = omega arith; section_offset = omega arith; flags = omega arith; header_size = omega arith };
       back = record { program_entry_size = omega arith; program_count = omega arith; section_entry_size = omega arith; section_count = omega arith; name_table = omega arith };
     };
-    stands = HasBytesAt-left (spell (file_header_fields static_header)) padded_rest;
+    stands = HasBytesAt-left (spell (file_header_fields padded_header)) padded_rest;
     fixed = λ f. absurd f;
     movable = λ _. refl;
     address = λ a e. (let one : Some (entry.Address 0x1000) ≡ Some (entry.Address a) = e in let same : 0x1000 ≡ a = cc in same);
     symbol = λ i a e _. absurd (let one : Some (entry.Address 0x1000) ≡ Some (entry.Symbol i) = e in cc);
     none = λ e. absurd (let one : Some (entry.Address 0x1000) ≡ None = e in cc);
-    sizes = record { ident_version = refl; version = refl; header = refl; program = refl; section = refl; flags = refl };
+    fields = record { ident_version = refl; os_abi = refl; abi_version = refl; programs = refl; version = refl; header = refl; program = refl; section = refl; flags = refl };
     segments = padded_segments;
+    sections = padded_sections;
   };
-  dynamic = λ whole d. absurd d;
+  dynamic = λ whole d. absurd (no_dynamic_section padded_layout _ (λ linker. linker) refl refl d);
 }
 
 pub padded_linked : PaddedImageIsLinked

@@ -56,7 +56,7 @@ pub record HasValueThere (l : Layout) (w : World) (m : Memory) (item : Item) (r 
 pub plain_there : (l : Layout) (w : World) (m : Memory) (item : Item) (r : InputRelocation) (f : Formula) → formula_of l.machine r.number ≡ Some f → HoldsPlain l w m item r → HasValueThere l w m item r f
 plain_there l w m item r f known h = let both : Some h.formula ≡ Some f = sym h.known ∙ known in let same : h.formula ≡ f = cc in subst (λ (g : Formula). HasValueThere l w m item r g) same (record { value = h.value; gives = h.gives; field = h.field })
 
-data_there : (l : Layout) (w : World) (m : Memory) (item : Item) (r : InputRelocation) (f : Formula) → (IsSet item.flags shf_execinstr → ⊥) → formula_of l.machine r.number ≡ Some f → ReferenceHolds l w m item r → HasValueThere l w m item r f
+pub data_there : (l : Layout) (w : World) (m : Memory) (item : Item) (r : InputRelocation) (f : Formula) → (IsSet item.flags shf_execinstr → ⊥) → formula_of l.machine r.number ≡ Some f → ReferenceHolds l w m item r → HasValueThere l w m item r f
 data_there l w m item r f plain known (inl h) = plain_there l w m item r f known h
 data_there l w m item r f plain known (inr h) = absurd (no_template l item r h.start h.instruction h.first plain h.template)
 

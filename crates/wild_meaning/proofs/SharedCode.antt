@@ -31,7 +31,7 @@ abbrev pub described : Instruction
 described = of_field (with_slot 0x8d Number Set rex) 3 Described (r_x86_64_gotpc32_tlsdesc ∷ [])
 
 code_kept : IsKept shared_layout code_item
-code_kept = OfSection shared_code (record { input = record { group = _; grouped = (0, omega arith, refl); file = _; filed = (0, omega arith, refl); listed = (1, omega arith, refl) }; loaded = tt; room = refl; has_data = refl; written = λ p at h. (let off : false ≡ true = h.bare in cc) }) refl
+code_kept = OfSection shared_code (record { input = record { group = _; grouped = (0, omega arith, refl); file = _; filed = (0, omega arith, refl); listed = (1, omega arith, refl) }; loaded = tt; room = refl; has_data = refl; written = λ p at h. (let off : false ≡ true = h.only.bare in cc) }) refl
 
 described_stands : IsInstruction shared_layout code_item shared_reference 0 described
 described_stands = record {

@@ -52,6 +52,10 @@ use Rattle.wild_meaning.specs.Worked.SharedImage.{shared_image, shared_rest, sha
 use Rattle.wild_meaning.specs.Worked.SharedRefusals.{own_offset, other_offset, ChangedTableIsRefused, SharedImageIsLinked}
 use Rattle.wild_records.specs.ProgramHeader.{program_header_fields}
 use Rattle.wild_meaning.specs.Unfilled.{IsUnfilled}
+use Rattle.wild_meaning.proofs.SectionHeaderLemmas.{no_sections}
+use Rattle.wild_records.specs.Abi.Dynamic.{dt_pltrelsz, dt_relrsz}
+use Rattle.wild_records.specs.Relocations.{rela_size, relr_size}
+use Rattle.wild_meaning.proofs.DynamicLemmas.{whole_size, no_size, one_value_each, no_tables, no_functions}
 use Rattle.wild_meaning.proofs.FileBytes.{HasLoadedBytes, file_byte_held}
 use Rattle.wild_meaning.proofs.SymbolUnique.{only, IsPlainOwn, IsAnsweredAs, stub_of, stub_is}
 use Rattle.wild_meaning.proofs.Read.{held_from}
@@ -578,12 +582,13 @@ shared_segments = subst (λ (hs : List ProgramHeader). DescribeSegments shared_l
 )
 
 -- the information of the dynamic section: no entry is said to be relative
-shared_informs : InformsLinker processors.X86_64 shared_image
+shared_informs : InformsLinker shared_layout processors.X86_64 shared_image
 shared_informs = record {
   segment = shared_third;
   first = ap first_dynamic shared_programs ∙ shared_dynamic;
   entries = shared_entries;
   read = shared_read;
+  ended = omega arith;
   told = record {
     now = record { value = 8; there = shared_tags.flags; set = refl };
     now_1 = record { value = 1; there = shared_tags.flags_1; set = refl };
@@ -592,6 +597,12 @@ shared_informs = record {
     word_size = λ a h. (let both : None ≡ Some a = sym shared_tags.no_words ∙ h in cc);
     symbol_size = λ a h. (let both : None ≡ Some a = sym shared_tags.no_symbols ∙ h in cc);
     relative = λ n t h _. (let both : None ≡ Some n = sym shared_tags.no_count ∙ h in cc);
+    whole = whole_size 0x20c0;
+    stubs_whole = no_size shared_entries dt_pltrelsz rela_size shared_tags.no_stub_size;
+    words_whole = no_size shared_entries dt_relrsz relr_size shared_tags.no_word_size;
+    one = one_value_each 0x20c0;
+    tables = no_tables shared_layout 0x20c0 refl;
+    functions = no_functions shared_layout 0x20c0 refl;
   };
 }
 
@@ -672,8 +683,9 @@ shared_described = record {
     address = λ a e. absurd (let one : None ≡ Some (entry.Address a) = e in cc);
     symbol = λ i a e _. absurd (let one : None ≡ Some (entry.Symbol i) = e in cc);
     none = λ e. refl;
-    sizes = record { ident_version = refl; version = refl; header = refl; program = refl; section = refl; flags = refl };
+    fields = record { ident_version = refl; os_abi = refl; abi_version = refl; programs = refl; version = refl; header = refl; program = refl; section = refl; flags = refl };
     segments = shared_segments;
+    sections = no_sections shared_layout shared_image shared_header refl refl;
   };
   dynamic = λ whole d. shared_informs;
 }

@@ -3,7 +3,7 @@ use Rattle.std.proofs.Common.{◌≡◌, [], ◌∷◌, refl}
 use Rattle.std.specs.Prelude.{List, Ok, Some, None}
 use Rattle.wild_words.specs.Words.{word, number}
 use Rattle.wild_words.specs.Extents.{least_extent}
-use Rattle.wild_records.specs.Abi.Dynamic.{dt_jmprel, dt_symtab, dt_relaent, dt_flags, dt_relr, dt_relacount, dt_flags_1}
+use Rattle.wild_records.specs.Abi.Dynamic.{dt_jmprel, dt_symtab, dt_relaent, dt_flags, dt_relr, dt_relrsz, dt_pltrelsz, dt_relacount, dt_flags_1}
 use Rattle.wild_records.specs.FileHeader.{file_header_fields, file_header_at}
 use Rattle.wild_records.specs.ProgramHeader.{program_header_fields, program_header_at}
 use Rattle.wild_records.specs.Dynamic.{dynamic_entry_at}
@@ -20,6 +20,7 @@ use Rattle.wild_loader.specs.Load.{load, image_at, image_with}
 use Rattle.wild_meaning.specs.Segments.{headers_in}
 use Rattle.wild_meaning.specs.Worked.Shared.{shared_world}
 use Rattle.wild_meaning.specs.Worked.SharedImage.{shared_image, shared_first, shared_second, shared_third, shared_memory}
+use Rattle.wild_meaning.proofs.DynamicLemmas.{one_entry}
 
 pub shared_loaded : load shared_world shared_image ≡ Ok shared_memory
 unfolding load image_at image_with header program_headers segments load_segment load_segments tables first_dynamic dynamic_entries value_of_tag span_at table_of named_tables dynamic_tables relas_at words_at relocate add_all apart notes overlay_runs put_byte put_bytes read_bytes rela_patch change_of patch_at places_from least_extent file_header_at file_header_fields program_header_at program_header_fields dynamic_entry_at rela_at kind_of number word
@@ -36,9 +37,7 @@ shared_dynamic = refl
 
 -- the entries of its dynamic section
 abbrev pub shared_entries : List DynamicEntry
-shared_entries =
-    record { tag = 7; value = 0x20c0 } ∷ record { tag = 8; value = 24 } ∷ record { tag = 9; value = 24 } ∷ record { tag = 30; value = 8 }
-    ∷ record { tag = 0x6ffffffb; value = 1 } ∷ []
+shared_entries = one_entry 0x20c0
 
 pub shared_read : section_of shared_image shared_third ≡ Ok shared_entries
 unfolding dynamic_entries dynamic_entry_at file_header_fields program_header_fields number word
@@ -53,7 +52,9 @@ pub record SharedTags : Type 0 where
   pub no_words : value_of_tag dt_relr shared_entries ≡ None
   pub no_symbols : value_of_tag dt_symtab shared_entries ≡ None
   pub no_count : value_of_tag dt_relacount shared_entries ≡ None
+  pub no_stub_size : value_of_tag dt_pltrelsz shared_entries ≡ None
+  pub no_word_size : value_of_tag dt_relrsz shared_entries ≡ None
 
 pub shared_tags : SharedTags
 unfolding value_of_tag
-shared_tags = record { flags = refl; flags_1 = refl; entry_size = refl; no_stubs = refl; no_words = refl; no_symbols = refl; no_count = refl }
+shared_tags = record { flags = refl; flags_1 = refl; entry_size = refl; no_stubs = refl; no_words = refl; no_symbols = refl; no_count = refl; no_stub_size = refl; no_word_size = refl }

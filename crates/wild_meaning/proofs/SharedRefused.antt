@@ -34,7 +34,7 @@ use Rattle.wild_meaning.proofs.SymbolLemmas.{referent_stands, in_slot_denotes}
 
 -- its data is kept
 pub kept : IsKept shared_layout shared_item
-kept = OfSection shared_data (record { input = record { group = _; grouped = (0, omega arith, refl); file = _; filed = (0, omega arith, refl); listed = (0, omega arith, refl) }; loaded = tt; room = refl; has_data = refl; written = λ p at h. (let off : false ≡ true = h.bare in cc) }) refl
+kept = OfSection shared_data (record { input = record { group = _; grouped = (0, omega arith, refl); file = _; filed = (0, omega arith, refl); listed = (0, omega arith, refl) }; loaded = tt; room = refl; has_data = refl; written = λ p at h. (let off : false ≡ true = h.only.bare in cc) }) refl
 
 -- ---- formulas
 
@@ -297,7 +297,7 @@ pub no_near_code : IsSet 2 shf_execinstr → ⊥
 no_near_code e = omega arith
 
 pub near_kept : IsKept shared_layout near_item
-near_kept = OfSection shared_near (record { input = record { group = _; grouped = (0, omega arith, refl); file = _; filed = (0, omega arith, refl); listed = (2, omega arith, refl) }; loaded = tt; room = refl; has_data = refl; written = λ p at h. (let off : false ≡ true = h.bare in cc) }) refl
+near_kept = OfSection shared_near (record { input = record { group = _; grouped = (0, omega arith, refl); file = _; filed = (0, omega arith, refl); listed = (2, omega arith, refl) }; loaded = tt; room = refl; has_data = refl; written = λ p at h. (let off : false ≡ true = h.only.bare in cc) }) refl
 
 -- the reference is one to the output's own symbol
 pub near_uses : UsesOwnSymbolOnly shared_layout near_item near_reference

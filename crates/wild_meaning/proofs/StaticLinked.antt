@@ -39,6 +39,8 @@ use Rattle.wild_meaning.specs.Worked.Static.{static_pie, static_pie_world, branc
 use Rattle.wild_meaning.specs.Worked.StaticImage.{static_image, static_rest, static_memory, static_header, static_content}
 use Rattle.wild_meaning.specs.Worked.StaticRefusals.{StaticImageIsLinked}
 use Rattle.wild_records.specs.ProgramHeader.{program_header_fields}
+use Rattle.wild_meaning.proofs.SectionHeaderLemmas.{no_sections}
+use Rattle.wild_meaning.proofs.DynamicLemmas.{no_dynamic_section}
 use Rattle.wild_meaning.proofs.FileBytes.{HasLoadedBytes, file_byte_held}
 use Rattle.wild_meaning.proofs.SymbolUnique.{only, IsPlainOwn, IsUnstubbed, no_stubs}
 use Rattle.wild_meaning.proofs.Read.{held_from}
@@ -49,7 +51,7 @@ use Rattle.wild_meaning.proofs.StaticLegal.{no_library}
 use Rattle.wild_meaning.proofs.StaticLoaded.{static_loaded, static_programs}
 use Rattle.wild_meaning.proofs.StaticRefused.{first_is, second_is, thread_is, address_formula, pointer_formula, no_code, no_string}
 use Rattle.wild_meaning.proofs.CodeRefused.{plt_formula, load_formula, descriptor_formula, call, call_template, call_demanded, load, load_template, load_demanded, described, described_template, described_demanded}
-use Rattle.wild_meaning.proofs.SequenceRefused.{pair_formula, general, general_template, getter_template}
+use Rattle.wild_meaning.proofs.SequenceRefused.{pair_formula, general, general_demanded, general_template, getter_template}
 use Rattle.wild_meaning.proofs.PlacedLemmas.{stood_plain, frame_input}
 use Rattle.wild_meaning.proofs.TextLemmas.{no_texts}
 use Rattle.wild_types.specs.declared.input.Slot.TheVariants as slot
@@ -286,10 +288,6 @@ described_item_holds = all_hold described_item (All-from_recursion (Both describ
 
 -- ---- a sequence
 
-general_demanded : (v : ℕ) → effect_x86_64 (as_value v) 0x41020 general_item.bytes ≡ Some (effect_with (SetThreadAddress 0) 64 (v % 2 ^ 64))
-unfolding meaning_x86_64
-general_demanded v = refl
-
 general_done : effect_x86_64 (reads_without_calls static_pie_world static_memory) 0x41020 (0x64 ∷ 0x48 ∷ 0x8b ∷ 0x04 ∷ 0x25 ∷ 0 ∷ 0 ∷ 0 ∷ 0 ∷ 0x48 ∷ 0x8d ∷ 0x80 ∷ 0xf8 ∷ 0xff ∷ 0xff ∷ 0xff ∷ []) ≡ Some (effect_with (SetThreadAddress 0) 64 (2 ^ 64 - 8))
 unfolding meaning_x86_64 number
 general_done = refl
@@ -459,10 +457,11 @@ static_described = record {
     address = λ a e. (let one : Some (entry.Address 0x1000) ≡ Some (entry.Address a) = e in let same : 0x1000 ≡ a = cc in same);
     symbol = λ i a e _. absurd (let one : Some (entry.Address 0x1000) ≡ Some (entry.Symbol i) = e in cc);
     none = λ e. absurd (let one : Some (entry.Address 0x1000) ≡ None = e in cc);
-    sizes = record { ident_version = refl; version = refl; header = refl; program = refl; section = refl; flags = refl };
+    fields = record { ident_version = refl; os_abi = refl; abi_version = refl; programs = refl; version = refl; header = refl; program = refl; section = refl; flags = refl };
     segments = static_segments;
+    sections = no_sections static_pie static_image static_header refl refl;
   };
-  dynamic = λ whole d. absurd d;
+  dynamic = λ whole d. absurd (no_dynamic_section static_pie _ (λ linker. linker) refl refl d);
 }
 
 pub static_linked : StaticImageIsLinked

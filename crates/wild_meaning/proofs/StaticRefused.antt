@@ -22,8 +22,8 @@ use Rattle.wild_meaning.specs.Reference.{ItemHolds, ReferenceHolds}
 use Rattle.wild_meaning.specs.LinkedImage.{IsSectionWithoutData}
 use Rattle.wild_meaning.specs.Worked.Builders.{Refuses, reference, file_of, group_of}
 use Rattle.wild_meaning.specs.Worked.Static.{static_pie, static_pie_world, static_data, static_item, first_function, second_function, thread_symbol}
-use Rattle.wild_meaning.specs.Worked.Refusals.{HasWrongNumber}
-use Rattle.wild_meaning.specs.Worked.StaticRefusals.{padded_layout, padded_section, padded_blank, WrongDataAreRefused, WrongBlankIsRefused}
+use Rattle.wild_meaning.specs.Worked.Refusals.{HasWrongNumber, HasWrongByte}
+use Rattle.wild_meaning.specs.Worked.StaticRefusals.{padded_layout, padded_section, padded_blank, padded_thread, WrongDataAreRefused, WrongBlankIsRefused}
 use Rattle.wild_meaning.specs.Thread.{HasThreadOffset}
 use Rattle.wild_meaning.proofs.SymbolUnique.{only, IsPlainOwn, denoted, own_offset, somewhere}
 use Rattle.wild_meaning.proofs.Read.{full_of}
@@ -51,7 +51,7 @@ pub thread_offset : (t : ℕ) → HasThreadOffset static_pie static_pie_world 2 
 thread_offset t h = own_offset static_pie static_pie_world 2 0x3008 (2 ^ 64 - 16) t thread_is (omega arith) (somewhere static_pie 2 0 thread_symbol refl refl) refl h
 
 kept : IsKept static_pie static_item
-kept = OfSection static_data (record { input = record { group = _; grouped = (0, omega arith, refl); file = _; filed = (0, omega arith, refl); listed = (4, omega arith, refl) }; loaded = tt; room = refl; has_data = refl; written = λ p at h. (let off : false ≡ true = h.bare in cc) }) refl
+kept = OfSection static_data (record { input = record { group = _; grouped = (0, omega arith, refl); file = _; filed = (0, omega arith, refl); listed = (4, omega arith, refl) }; loaded = tt; room = refl; has_data = refl; written = λ p at h. (let off : false ≡ true = h.only.bare in cc) }) refl
 
 -- ---- formulas
 
@@ -112,7 +112,7 @@ padded_is = record {
   input = record { group = _; grouped = (0, omega arith, refl); file = _; filed = (0, omega arith, refl); listed = (0, omega arith, refl) };
   loaded = tt;
   room = refl;
-  shared = λ e. omega arith;
+  template = λ e. absurd (omega arith);
   blank = refl;
 }
 
@@ -124,19 +124,34 @@ padded_filled = record {
   section = padded_section;
   found = refl;
   filled = λ e. (let no : 1 ≡ 8 = e in omega (arith, no));
-  written = λ h. (let off : false ≡ true = h.bare in cc);
+  written = λ h. (let off : false ≡ true = h.only.bare in cc);
+}
+
+template_is : IsSectionWithoutData padded_layout padded_thread
+template_is = record {
+  input = record { group = _; grouped = (0, omega arith, refl); file = _; filed = (0, omega arith, refl); listed = (1, omega arith, refl) };
+  loaded = tt;
+  room = refl;
+  template = λ e. padded_filled;
+  blank = refl;
 }
 
 nothing_copied : (i : ℕ) → IsCopied padded_layout i → ⊥
 nothing_copied i h =
-    let group = only (group_of (file_of file_role.Object (padded_blank ∷ []) [] ∷ [])) h.group h.grouped in
-    let file = only (file_of file_role.Object (padded_blank ∷ []) []) h.file (rw (← group) at h.filed) in
+    let group = only (group_of (file_of file_role.Object (padded_blank ∷ padded_thread ∷ []) [] ∷ [])) h.group h.grouped in
+    let file = only (file_of file_role.Object (padded_blank ∷ padded_thread ∷ []) []) h.file (rw (← group) at h.filed) in
     let role : file_role.Object ≡ file_role.Dynamic = ap (λ (f : File). f.role) file ∙ h.library in
     cc
 
-pub wrong_blank : WrongBlankIsRefused
-wrong_blank image h x =
-    let there : byte_in h.memory 0x41104 ≡ Some 0 = h.zeros padded_blank 4 padded_is (omega arith) (inr padded_filled) (λ i raw y c. absurd (nothing_copied i c.copied)) in
+-- a byte that reads 0 is no other
+no_other_byte : (m : Memory) (a : ℕ) → byte_in m a ≡ Some 0 → HasWrongByte a 0 m → ⊥
+no_other_byte m a there x =
     let both : Some x.byte ≡ Some 0 = sym x.there ∙ there in
     let same : x.byte ≡ 0 = cc in
     x.wrong same
+
+pub wrong_blank : WrongBlankIsRefused
+wrong_blank = record {
+  plain = λ image h x. no_other_byte h.memory 0x41104 (h.zeros padded_blank 4 padded_is (omega arith) (inr padded_filled) (λ i raw y c. absurd (nothing_copied i c.copied))) x;
+  template = λ image h x. no_other_byte h.memory 0x410f4 (h.zeros padded_thread 4 template_is (omega arith) (inr padded_filled) (λ i raw y c. absurd (nothing_copied i c.copied))) x;
+}

@@ -8,6 +8,7 @@ use Rattle.wild_words.specs.Extents.{least_extent}
 use Rattle.wild_words.proofs.RecordLemmas.{HasBytesAt-left}
 use Rattle.wild_records.specs.Abi.Segment.{pt_load, pt_gnu_stack}
 use Rattle.wild_records.specs.FileHeader.{file_header_fields, file_header_at}
+use Rattle.wild_records.specs.SectionHeader.{section_header_fields, section_header_at}
 use Rattle.wild_records.specs.ProgramHeader.{program_header_fields, program_header_at}
 use Rattle.wild_records.specs.declared.program_header.ProgramHeader.{ProgramHeader}
 use Rattle.wild_reloc.specs.Formula.{formula, SymbolAddress, Full}
@@ -26,7 +27,7 @@ use Rattle.wild_types.specs.Flags.{has_flag, ifunc}
 use Rattle.wild_types.specs.Item.{Item}
 use Rattle.wild_loader.specs.declared.world.Answer.{Answer}
 use Rattle.wild_loader.specs.Memory.{byte_in, Holds}
-use Rattle.wild_loader.specs.Headers.{header, program_headers, sections}
+use Rattle.wild_loader.specs.Headers.{header, program_headers, section_headers, sections}
 use Rattle.wild_loader.specs.Segments.{load_segment, load_segments, segments}
 use Rattle.wild_loader.specs.Tables.{first_dynamic, section_entries, section_tables, tables}
 use Rattle.wild_loader.specs.Places.{places_from}
@@ -38,12 +39,15 @@ use Rattle.wild_meaning.specs.World.{HasResolver, IsAnswer, IsAnswered, IsKnownM
 use Rattle.wild_meaning.specs.Item.{IsLoadedSlot, IsInput, IsKept, OfSection, OfFrames, placed_item}
 use Rattle.wild_meaning.specs.Reference.{UsesOwnSymbolOnly, IsOutsideReferences, ReferenceHolds, ItemHolds}
 use Rattle.wild_meaning.specs.Segments.{headers_in, DescribeSegments}
+use Rattle.wild_meaning.specs.SectionHeaders.{DescribesSections}
 use Rattle.wild_meaning.specs.LinkedImage.{IsSectionWithoutData, string_bytes, DescribesOutput}
 use Rattle.wild_meaning.specs.Worked.Builders.{group_of}
 use Rattle.wild_meaning.specs.Worked.Static.{static_pie_world, second_function}
-use Rattle.wild_meaning.specs.Worked.Strings.{string_section, string_symbol, string_reference, pointer_data, reversed_data, strings_file, strings_layout, pointer_item, reversed_item, strings_memory, part_at, merged_texts, path_text, strings_content}
-use Rattle.wild_meaning.specs.Worked.StringImage.{strings_image, strings_rest, strings_header, strings_segment}
+use Rattle.wild_meaning.specs.Worked.Strings.{null_section, allocated_section, string_section, string_symbol, string_reference, pointer_data, reversed_data, strings_file, strings_layout, pointer_item, reversed_item, strings_memory, part_at, merged_texts, path_text, strings_content}
+use Rattle.wild_meaning.specs.Worked.StringImage.{strings_image, strings_rest, strings_header, strings_segment, strings_null, strings_section}
 use Rattle.wild_meaning.specs.Worked.StringRefusals.{StringsWorldIsLegal, StringsImageIsLinked}
+use Rattle.wild_meaning.proofs.SectionHeaderLemmas.{one_section}
+use Rattle.wild_meaning.proofs.DynamicLemmas.{no_dynamic_section}
 use Rattle.wild_meaning.proofs.FileBytes.{HasLoadedBytes, file_byte_held}
 use Rattle.wild_meaning.proofs.SymbolUnique.{only, IsUnstubbed, no_stubs}
 use Rattle.wild_meaning.proofs.Legal.{not_indirect, no_index}
@@ -56,7 +60,7 @@ use Rattle.wild_meaning.proofs.StringsRefused.{strings_judged, moved_reference, 
 -- ---- what a loader makes of it
 
 strings_loaded : load static_pie_world strings_image ≡ Ok strings_memory
-unfolding load image_at image_with header program_headers segments load_segment load_segments tables first_dynamic section_tables sections section_entries relocate add_all apart notes overlay_runs places_from least_extent file_header_at file_header_fields program_header_at program_header_fields number word
+unfolding load image_at image_with header program_headers segments load_segment load_segments tables first_dynamic section_tables sections section_headers section_header_at section_header_fields section_entries relocate add_all apart notes overlay_runs places_from least_extent file_header_at file_header_fields program_header_at program_header_fields number word
 strings_loaded = refl
 
 strings_programs : headers_in strings_image ≡ strings_segment ∷ []
@@ -257,7 +261,7 @@ strings_legal = record {
 -- ---- bytes of the file
 
 file_bytes : All (HasLoadedBytes strings_memory static_pie_world.base strings_image) strings_layout.segments
-unfolding file_header_fields program_header_fields word
+unfolding file_header_fields program_header_fields section_header_fields word
 file_bytes = All-from_recursion (HasLoadedBytes strings_memory static_pie_world.base strings_image) strings_layout.segments ((λ k. record { content = strings_content; stands = refl; size = refl; held = refl }), tt)
 
 -- ---- the whole
@@ -267,6 +271,14 @@ strings_segments = subst (λ (hs : List ProgramHeader). DescribeSegments strings
   record { kind = refl; flags = λ k. refl; stack = λ k. absurd (let no : 1 ≡ pt_gnu_stack = k in omega (arith, no)); offset = refl; address = refl; physical = refl; file_size = refl; mem_size = refl; align = λ k. absurd (k refl); pages = λ k. refl; congruent = λ k. refl },
   tt,
 )
+
+strings_read : sections strings_image strings_header ≡ Ok (strings_null ∷ strings_section ∷ [])
+unfolding sections section_headers section_header_at section_header_fields file_header_fields program_header_fields number word
+strings_read = refl
+
+strings_sections : DescribesSections strings_layout strings_image strings_header
+strings_sections = one_section strings_layout strings_image strings_header null_section allocated_section strings_null strings_section refl strings_read
+    (record { kind = λ o. refl; bare = λ o. absurd (let both : false ≡ true = o.bare in cc); address = refl; offset = refl; size = refl; memory = refl })
 
 strings_described : DescribesOutput strings_layout strings_image
 strings_described = record {
@@ -283,10 +295,11 @@ strings_described = record {
     address = λ a e. absurd (let one : None ≡ Some (entry.Address a) = e in cc);
     symbol = λ i a e _. absurd (let one : None ≡ Some (entry.Symbol i) = e in cc);
     none = λ e. refl;
-    sizes = record { ident_version = refl; version = refl; header = refl; program = refl; section = refl; flags = refl };
+    fields = record { ident_version = refl; os_abi = refl; abi_version = refl; programs = refl; version = refl; header = refl; program = refl; section = refl; flags = refl };
     segments = strings_segments;
+    sections = strings_sections;
   };
-  dynamic = λ whole d. absurd d;
+  dynamic = λ whole d. absurd (no_dynamic_section strings_layout _ (λ linker. linker) refl refl d);
 }
 
 pub strings_linked : StringsImageIsLinked

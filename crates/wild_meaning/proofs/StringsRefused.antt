@@ -107,7 +107,7 @@ string_there a h =
 -- ---- the reference
 
 pointer_kept : IsKept strings_layout pointer_item
-pointer_kept = OfSection pointer_data (record { input = record { group = _; grouped = (0, omega arith, refl); file = strings_file; filed = (0, omega arith, refl); listed = (0, omega arith, refl) }; loaded = tt; room = refl; has_data = refl; written = λ p at h. (let off : false ≡ true = h.bare in cc) }) refl
+pointer_kept = OfSection pointer_data (record { input = record { group = _; grouped = (0, omega arith, refl); file = strings_file; filed = (0, omega arith, refl); listed = (0, omega arith, refl) }; loaded = tt; room = refl; has_data = refl; written = λ p at h. (let off : false ≡ true = h.only.bare in cc) }) refl
 
 wrong_string : Refuses strings_layout static_pie_world (HasWrongNumber 0x41100 8 0x41122)
 unfolding has_flag
@@ -158,7 +158,7 @@ strings_judged = record { found = string_found; wrong = wrong_string }
 -- ---- reversed words
 
 turned_kept : IsKept strings_layout reversed_item
-turned_kept = OfSection reversed_data (record { input = record { group = _; grouped = (0, omega arith, refl); file = strings_file; filed = (0, omega arith, refl); listed = (1, omega arith, refl) }; loaded = tt; room = refl; has_data = refl; written = λ p at h. (let off : false ≡ true = h.bare in cc) }) refl
+turned_kept = OfSection reversed_data (record { input = record { group = _; grouped = (0, omega arith, refl); file = strings_file; filed = (0, omega arith, refl); listed = (1, omega arith, refl) }; loaded = tt; room = refl; has_data = refl; written = λ p at h. (let off : false ≡ true = h.only.bare in cc) }) refl
 
 -- where the word with the address went
 abbrev pub moved_reference : InputRelocation
@@ -215,14 +215,14 @@ path_room = record { part = path_part; listed = refl; named = λ e. (let no : 1 
 
 wrong_text : Refuses strings_layout static_pie_world (HasWrongByte 0x41125 0x6e)
 wrong_text image h x =
-    let there : byte_in h.memory 0x41125 ≡ Some 0x6e = h.texts.strings merged_texts texts_part (0, omega arith, refl) refl texts_room (λ o. (let off : false ≡ true = o.bare in cc)) 5 (omega arith) in
+    let there : byte_in h.memory 0x41125 ≡ Some 0x6e = h.texts.strings merged_texts texts_part (0, omega arith, refl) refl texts_room (λ o. (let off : false ≡ true = o.only.bare in cc)) 5 (omega arith) in
     let both : Some x.byte ≡ Some 0x6e = sym x.there ∙ there in
     let same : x.byte ≡ 0x6e = cc in
     x.wrong same
 
 wrong_path : Refuses strings_layout static_pie_world (HasWrongByte 0x4112a 0x6c)
 wrong_path image h x =
-    let there : byte_in h.memory 0x4112a ≡ Some 0x6c = h.texts.interpreter 2 path_part refl refl path_room (λ o. (let off : false ≡ true = o.bare in cc)) 1 (omega arith) in
+    let there : byte_in h.memory 0x4112a ≡ Some 0x6c = h.texts.interpreter 2 path_part refl refl path_room (λ o. (let off : false ≡ true = o.only.bare in cc)) 1 (omega arith) in
     let both : Some x.byte ≡ Some 0x6c = sym x.there ∙ there in
     let same : x.byte ≡ 0x6c = cc in
     x.wrong same

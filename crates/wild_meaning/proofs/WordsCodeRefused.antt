@@ -3,7 +3,7 @@ use Rattle.std.proofs.Common.{◌≡◌, ℕ, ◌+◌, ◌%◌, ◌/◌, ◌^◌
 use Rattle.std.specs.Prelude.{◌-◌, Option, Some, None, option_map}
 use Rattle.std.specs.Int.{w64, cast_unsigned}
 use Rattle.wild_words.specs.Words.{word, number}
-use Rattle.wild_reloc.specs.Formula.{Slot, Formula, formula, SlotAddress, AddressSlot, ModulePair, OwnModulePair, ThreadOffset, Descriptor, StubDistance, Imm12Field, NoCheck, Bits}
+use Rattle.wild_reloc.specs.Formula.{Slot, Formula, formula, SlotAddress, AddressSlot, ModulePair, OwnModulePair, ThreadOffset, Descriptor, StubDistance, PageDistance, Imm12Field, NoCheck, Bits}
 use Rattle.wild_records.specs.Abi.Relocation.{r_aarch64_ld64_got_lo12_nc, r_aarch64_tlsdesc_ld64_lo12}
 use Rattle.wild_reloc.specs.FormulaAArch64.{aarch64_formula}
 use Rattle.wild_types.specs.declared.symbol.Resolution.{Resolution}
@@ -30,21 +30,21 @@ use Rattle.wild_types.specs.Item.{Item}
 use Rattle.wild_meaning.specs.Item.{IsReference, IsKept, OfSection}
 use Rattle.wild_meaning.specs.Slot.{offset_from_first, HasSlotAddress, HasSlot, IsSlot}
 use Rattle.wild_meaning.specs.Formula.{IsReferent, IsReferentOnAArch64, Gives}
-use Rattle.wild_meaning.specs.Sequence.{Instruction, descriptor_call_words}
+use Rattle.wild_meaning.specs.Sequence.{Instruction, descriptor_call_words, address_pair_words}
 use Rattle.wild_meaning.specs.WordsAArch64.{effect_with as asked_of}
 use Rattle.wild_meaning.specs.Template.{IsTemplate, IsFieldBits, bits_of, old_bytes, reads, reads_without_calls, DoesDemanded}
 use Rattle.wild_meaning.specs.Reference.{IsOffsetSlot, ReadsOffsetSlots, ReferenceHolds, ItemHolds}
 use Rattle.wild_meaning.specs.Worked.Builders.{Refuses}
-use Rattle.wild_meaning.specs.Worked.AArch64.{words_static, words_world, near_function, local_data, slot_code, slot_item, slot_low_reference, call_code, call_item, call_reference, past_code, past_item, past_reference, descriptor_code, descriptor_item, descriptor_page, descriptor_load}
+use Rattle.wild_meaning.specs.Worked.AArch64.{words_static, words_world, near_function, local_data, slot_code, slot_item, slot_low_reference, call_code, call_item, call_reference, past_code, past_item, past_reference, descriptor_code, descriptor_item, descriptor_page, descriptor_load, kept_code, kept_item, page_reference, low_reference}
 use Rattle.wild_meaning.specs.Worked.StaticRefusals.{MemoryHas}
-use Rattle.wild_meaning.specs.Worked.ImageRefusalsAArch64.{HasBoth, slot_behind, call_of_thunk, far_thunk, stored_thunk, next_call_of_thunk, right_thunk, half_call, low_half, load_of_word, WrongCodeOfWordsIsRefused}
-use Rattle.wild_meaning.proofs.SymbolUnique.{denoted, told_is, own_offset, somewhere, IsPlainOwn}
+use Rattle.wild_meaning.specs.Worked.ImageRefusalsAArch64.{HasBoth, slot_behind, call_of_thunk, far_thunk, stored_thunk, next_call_of_thunk, right_thunk, half_call, low_half, load_of_word, address_past, WrongCodeOfWordsIsRefused}
+use Rattle.wild_meaning.proofs.SymbolUnique.{denoted, value_of, told_is, own_offset, somewhere, IsPlainOwn}
 use Rattle.wild_meaning.proofs.EffectLemmas.{meant}
 use Rattle.wild_meaning.proofs.OneReference.{effect_with, value_in, ReadsNumbers, same_bytes}
 use Rattle.wild_meaning.proofs.InstructionsAArch64.{alone_only}
 use Rattle.wild_meaning.proofs.WordsLinked.{own_alone, slot_low_asked, call_demanded, past_demanded}
 use Rattle.wild_meaning.proofs.WordsRefused.{goes_there}
-use Rattle.wild_meaning.proofs.WordsTemplates.{function_is, data_is, no_string, not_absent, slot_low_formula, slot_low_word, call_word, slot_low_alone, call_alone, slot_low_template, call_template, past_template, descriptor_load_formula, descriptor_template, load_only}
+use Rattle.wild_meaning.proofs.WordsTemplates.{function_is, data_is, no_string, not_absent, slot_low_formula, slot_low_word, call_word, slot_low_alone, call_alone, slot_low_template, call_template, past_template, descriptor_load_formula, descriptor_template, load_only, kept_low_template, kept_low_only}
 use Rattle.wild_meaning.proofs.StringLemmas.{referent_by, branch_stands}
 use Rattle.wild_types.specs.declared.kind.Machine.TheVariants as machine
 
@@ -63,7 +63,7 @@ refused m item r start o first t none (inr h) = none (reads_without_calls words_
 -- ---- a load from another slot
 
 slot_kept : IsKept words_static slot_item
-slot_kept = OfSection slot_code (record { input = record { group = _; grouped = (0, omega arith, refl); file = _; filed = (0, omega arith, refl); listed = (1, omega arith, refl) }; loaded = tt; room = refl; has_data = refl; written = λ p at h. (let off : false ≡ true = h.bare in cc) }) refl
+slot_kept = OfSection slot_code (record { input = record { group = _; grouped = (0, omega arith, refl); file = _; filed = (0, omega arith, refl); listed = (1, omega arith, refl) }; loaded = tt; room = refl; has_data = refl; written = λ p at h. (let off : false ≡ true = h.only.bare in cc) }) refl
 
 -- the slot is the symbol's
 slot_place : (s : Symbol) (d : Resolution) (slot first : ℕ) → s ≡ near_function → s.resolution ≡ Some d → d.got_address ≡ Some first → slot ≡ first + offset_from_first AddressSlot s.flags → slot ≡ 0x11080
@@ -179,10 +179,10 @@ unfolding word insert_bits
 right_goes m x held = thunks-read m 0 0x11060 0x11200 x (record { above = omega arith; below = omega arith }) refl (omega arith) held
 
 call_kept : IsKept words_static call_item
-call_kept = OfSection call_code (record { input = record { group = _; grouped = (0, omega arith, refl); file = _; filed = (0, omega arith, refl); listed = (2, omega arith, refl) }; loaded = tt; room = refl; has_data = refl; written = λ p at h. (let off : false ≡ true = h.bare in cc) }) refl
+call_kept = OfSection call_code (record { input = record { group = _; grouped = (0, omega arith, refl); file = _; filed = (0, omega arith, refl); listed = (2, omega arith, refl) }; loaded = tt; room = refl; has_data = refl; written = λ p at h. (let off : false ≡ true = h.only.bare in cc) }) refl
 
 past_kept : IsKept words_static past_item
-past_kept = OfSection past_code (record { input = record { group = _; grouped = (0, omega arith, refl); file = _; filed = (0, omega arith, refl); listed = (3, omega arith, refl) }; loaded = tt; room = refl; has_data = refl; written = λ p at h. (let off : false ≡ true = h.bare in cc) }) refl
+past_kept = OfSection past_code (record { input = record { group = _; grouped = (0, omega arith, refl); file = _; filed = (0, omega arith, refl); listed = (3, omega arith, refl) }; loaded = tt; room = refl; has_data = refl; written = λ p at h. (let off : false ≡ true = h.only.bare in cc) }) refl
 
 wrong_thunk : Refuses words_static words_world (HasBoth 0x11020 call_of_thunk 0x11060 far_thunk)
 wrong_thunk image h x =
@@ -215,7 +215,7 @@ wrong_addend image h x =
 -- ---- a descriptor's call
 
 descriptor_kept : IsKept words_static descriptor_item
-descriptor_kept = OfSection descriptor_code (record { input = record { group = _; grouped = (0, omega arith, refl); file = _; filed = (0, omega arith, refl); listed = (4, omega arith, refl) }; loaded = tt; room = refl; has_data = refl; written = λ p at h. (let off : false ≡ true = h.bare in cc) }) refl
+descriptor_kept = OfSection descriptor_code (record { input = record { group = _; grouped = (0, omega arith, refl); file = _; filed = (0, omega arith, refl); listed = (4, omega arith, refl) }; loaded = tt; room = refl; has_data = refl; written = λ p at h. (let off : false ≡ true = h.only.bare in cc) }) refl
 
 descriptor_asked : (v : ℕ) → demand_aarch64 v 0x11030 (old_bytes descriptor_item 0 descriptor_call_words) ≡ Some (effect_with (Set 0) 64 (v % 2 ^ 64))
 unfolding word number read read_address read_access read_vector_access read_literal read_transfer read_condition
@@ -303,5 +303,43 @@ word_refused m held (inr h) =
 wrong_word : Refuses words_static words_world (MemoryHas 0x11030 load_of_word)
 wrong_word image h x = word_refused h.memory x (holds_there h.memory descriptor_item descriptor_load 1 0x30008 (h.kept descriptor_item descriptor_kept) load_reference refl data_is)
 
+-- ---- an address in two instructions
+
+kept : IsKept words_static kept_item
+kept = OfSection kept_code (record { input = record { group = _; grouped = (0, omega arith, refl); file = _; filed = (0, omega arith, refl); listed = (5, omega arith, refl) }; loaded = tt; room = refl; has_data = refl; written = λ p at h. (let off : false ≡ true = h.only.bare in cc) }) refl
+
+-- S is the function's address
+function_at : (m : Memory) (a : ℕ) → IsReferent words_static.machine PageDistance words_static words_world m kept_item page_reference a → a ≡ 0x11200
+function_at m a h = by (referent_by machine.AArch64 PageDistance words_static words_world m kept_item page_reference a (no_string PageDistance page_reference) h)
+  where
+    by : IsReferentOnAArch64 PageDistance words_static words_world m kept_item page_reference (Some 0) a → a ≡ 0x11200
+    by (inl x) = absurd (not_absent x.0.1)
+    by (inr (_, inl stub)) = denoted words_static words_world m 0 0x11200 a function_is stub.3
+    by (inr (_, inr value)) = value_of words_static words_world 0 0x11200 a function_is value.1
+
+address_asked : (v : ℕ) → demand_aarch64 v 0x11040 (old_bytes kept_item 0 address_pair_words) ≡ Some (effect_with (Set 0) 64 (v % 2 ^ 64))
+unfolding word number read read_address read_access read_vector_access read_literal read_transfer read_condition
+address_asked v = refl
+
+address_done : (read : Reader) → ReadsNumbers read → effect_aarch64 read 0x11040 address_past ≡ Some (effect_with (Set 0) 64 0x11204)
+unfolding word number read read_address read_access read_vector_access read_literal read_transfer read_condition
+address_done reader h = ap (λ (o : Option ℕ). option_map (with_value (record { deed = Set 0; width = 64; operand = Number 0x11204 })) o) (h 0x11204)
+
+address_does_not : (m : Memory) (read : Reader) → ReadsNumbers read → Holds m 0x11040 address_past → DoesDemanded read words_static words_world m kept_item page_reference 0 address_pair_words → ⊥
+address_does_not m read numbers held d =
+    let h = meant read words_static words_world m kept_item page_reference 0 address_pair_words d in
+    let bytes : h.bytes ≡ address_past = same_bytes m 0x11040 h.bytes address_past h.whole h.held held in
+    let done : Some (effect_with (Set 0) 64 0x11204) ≡ Some h.effect = sym (address_done read numbers) ∙ subst (λ (bs : List ℕ). effect_aarch64 read 0x11040 bs ≡ Some h.effect) bytes h.does in
+    let asked : Some (effect_with (Set 0) 64 (h.value % 2 ^ 64)) ≡ Some h.effect = sym (address_asked h.value) ∙ h.demanded in
+    let same : 0x11204 ≡ h.value % 2 ^ 64 = value_in (Set 0) 64 0x11204 h.effect done ∙ sym (value_in (Set 0) 64 (h.value % 2 ^ 64) h.effect asked) in
+    let value : h.value ≡ 0x11200 = h.demands.sum ∙ ap (λ (n : ℕ). (n + 0) % 2 ^ 64) (function_at m h.demands.symbol h.demands.denoted) in
+    omega (arith, same, value)
+
+wrong_address : Refuses words_static words_world (MemoryHas 0x11040 address_past)
+wrong_address image h x =
+    refused h.memory kept_item low_reference 0 address_pair_words page_reference kept_low_template
+    (λ read numbers. kept_low_only (λ start o first. DoesDemanded read words_static words_world h.memory kept_item first start o → ⊥) (address_does_not h.memory read numbers x))
+    (holds_there h.memory kept_item low_reference 0 0x11200 (h.kept kept_item kept) (record { listed = (1, omega arith, refl); refers = λ e. omega arith }) refl function_is)
+
 pub wrong_words_of_images : WrongCodeOfWordsIsRefused
-wrong_words_of_images = record { slot = wrong_slot; thunk = wrong_thunk; stored = wrong_stored; addend = wrong_addend; half = wrong_half; low = wrong_low; word = wrong_word }
+wrong_words_of_images = record { slot = wrong_slot; thunk = wrong_thunk; stored = wrong_stored; addend = wrong_addend; half = wrong_half; low = wrong_low; word = wrong_word; address = wrong_address }

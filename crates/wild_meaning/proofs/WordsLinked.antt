@@ -48,6 +48,8 @@ use Rattle.wild_meaning.specs.Worked.AArch64.{words_static, words_world, near_fu
 use Rattle.wild_meaning.specs.Worked.AArch64Image.{words_image, words_rest, words_memory, words_header, words_content}
 use Rattle.wild_meaning.specs.Worked.ImageRefusalsAArch64.{WordsImageIsLinked}
 use Rattle.wild_records.specs.ProgramHeader.{program_header_fields}
+use Rattle.wild_meaning.proofs.SectionHeaderLemmas.{no_sections}
+use Rattle.wild_meaning.proofs.DynamicLemmas.{no_dynamic_section}
 use Rattle.wild_meaning.proofs.FileBytes.{HasLoadedBytes, file_byte_held}
 use Rattle.wild_meaning.proofs.SymbolUnique.{only, owner_of, stub_of, IsPlainOwn, IsUnstubbed, no_stubs}
 use Rattle.wild_meaning.proofs.Read.{held_from}
@@ -599,10 +601,11 @@ words_described = record {
     address = λ a e. (let one : Some (entry.Address 0x11000) ≡ Some (entry.Address a) = e in let same : 0x11000 ≡ a = cc in same);
     symbol = λ i a e _. absurd (let one : Some (entry.Address 0x11000) ≡ Some (entry.Symbol i) = e in cc);
     none = λ e. absurd (let one : Some (entry.Address 0x11000) ≡ None = e in cc);
-    sizes = record { ident_version = refl; version = refl; header = refl; program = refl; section = refl; flags = refl };
+    fields = record { ident_version = refl; os_abi = refl; abi_version = refl; programs = refl; version = refl; header = refl; program = refl; section = refl; flags = refl };
     segments = words_segments;
+    sections = no_sections words_static words_image words_header refl refl;
   };
-  dynamic = λ whole d. absurd d;
+  dynamic = λ whole d. absurd (no_dynamic_section words_static _ (λ linker. linker) refl refl d);
 }
 
 pub words_linked : WordsImageIsLinked

@@ -186,6 +186,9 @@ kept_sequence = record {
 pub kept_template : IsTemplate words_static kept_item page_reference 0 address_pair_words page_reference
 kept_template = inr (record { rest = low_reference ∷ []; sequence = kept_sequence; one = (0, omega arith, refl) })
 
+pub kept_low_template : IsTemplate words_static kept_item low_reference 0 address_pair_words page_reference
+kept_low_template = inr (record { rest = low_reference ∷ []; sequence = kept_sequence; one = (1, omega arith, refl) })
+
 kept_first : (first : InputRelocation) (i : ℕ) → slice_get kept_item.relocations i ≡ Some first → first.number ≡ r_aarch64_adr_prel_pg_hi21 → first ≡ page_reference
 kept_first first zero a n = let one : Some page_reference ≡ Some first = a in cc
 kept_first first (suc zero) a n = absurd (let one : Some low_reference ≡ Some first = a in let same : low_reference ≡ first = cc in let other : r_aarch64_add_abs_lo12_nc ≡ r_aarch64_adr_prel_pg_hi21 = ap (λ (q : InputRelocation). q.number) same ∙ n in omega (arith, other))

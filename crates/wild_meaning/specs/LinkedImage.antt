@@ -1,6 +1,6 @@
 -- The requirements of a layout on its image.
---   HasStandardSizes e          the file header has the standard version, and the right sizes of headers
---   HasHeader l image     the file header has the output's type and entry; the segments are the layout's
+--   HasStandardFields e         the file header has the standard version and ABI, and the right sizes and place of headers
+--   HasHeader l image     the file header has the output's type and entry; segments and sections are the layout's
 --   IsSectionWithoutData l s           the input section is loaded, allocated and has no data
 --   IsNotCopied l w a     the address is in no copied symbol
 --   HoldsTexts l w m      memory has the merged strings, and the path of the interpreter
@@ -11,7 +11,7 @@ use Rattle.std.specs.Prelude.{◌≡◌, ℕ, ◌+◌, ◌%◌, ◌^◌, ◌<◌
 use Rattle.std.specs.List.{flat_map}
 use Rattle.wild_words.specs.Words.{HasBytesAt}
 use Rattle.wild_words.specs.Record.{spell}
-use Rattle.wild_records.specs.Abi.Header.{ev_current, et_exec, et_dyn}
+use Rattle.wild_records.specs.Abi.Header.{elfosabi_none, ev_current, et_exec, et_dyn}
 use Rattle.wild_records.specs.Abi.Section.{shf_alloc, shf_tls}
 use Rattle.wild_records.specs.FileHeader.{file_header_size, FileHeaderFits, file_header_fields}
 use Rattle.wild_records.specs.ProgramHeader.{program_header_size}
@@ -35,7 +35,8 @@ use Rattle.wild_loader.specs.Load.{load}
 use Rattle.wild_loader.specs.Memory.{byte_in, Holds}
 use Rattle.wild_meaning.specs.World.{IsFixed, IsMovable, IsLoadable, IsLegal, IsPastFileBytes, HasCopy}
 use Rattle.wild_meaning.specs.Section.{IsSet, IsAllocatedPart, IsForDebuggers, IsHeaderOnly, HasFileBytes}
-use Rattle.wild_meaning.specs.Segments.{headers_in, DescribeSegments, HasDynamicLinker}
+use Rattle.wild_meaning.specs.Segments.{headers_in, DescribeSegments, HasDynamicSection}
+use Rattle.wild_meaning.specs.SectionHeaders.{DescribesSections}
 use Rattle.wild_meaning.specs.DynamicSection.{InformsLinker}
 use Rattle.wild_meaning.specs.Value.{IsDefinedBy, IsResolved, HasFlag}
 use Rattle.wild_meaning.specs.Denotes.{HasStub, IsStub}
@@ -51,10 +52,14 @@ pub record HasResolvedAddress (l : Layout) (i a : ℕ) : Type 0 where
   pub given : IsResolved l definition a
   pub plain : HasFlag l i ifunc false
 
--- The version and the sizes of headers are those of the standard, and e_flags is 0 (gABI, "ELF Header": EI_VERSION, e_version,
--- e_ehsize, e_phentsize, e_shentsize; x86-64 psABI and aaelf64, "ELF Header": e_flags).
-pub record HasStandardSizes (e : FileHeader) : Type 0 where
+-- The version and the sizes of headers are those of the standard, no system's extensions are used, and e_flags is 0 (gABI,
+-- "ELF Header": EI_VERSION, EI_OSABI, EI_ABIVERSION, e_version, e_ehsize, e_phentsize, e_shentsize; x86-64 psABI and aaelf64,
+-- "ELF Header": e_flags). The program headers directly follow the file header (e_phoff).
+pub record HasStandardFields (e : FileHeader) : Type 0 where
   pub ident_version : e.ident_version ≡ ev_current
+  pub os_abi : e.os_abi ≡ elfosabi_none
+  pub abi_version : e.abi_version ≡ 0
+  pub programs : e.program_offset ≡ file_header_size
   pub version : e.version ≡ ev_current
   pub header : e.header_size ≡ file_header_size
   pub program : e.program_entry_size ≡ program_header_size
@@ -62,7 +67,8 @@ pub record HasStandardSizes (e : FileHeader) : Type 0 where
   pub flags : e.flags ≡ 0
 
 -- The file header says whether the output may be loaded at any base, and has its entry: an address, that of a symbol, or 0 if the
--- layout gives none (gABI, "ELF Header", e_type and e_entry). The program headers are those of the layout's segments.
+-- layout gives none (gABI, "ELF Header", e_type and e_entry). The program headers are those of the layout's segments, the section
+-- headers those of its sections.
 pub record HasHeader (l : Layout) (image : List ℕ) : Type 0 where
   pub header : FileHeader
   pub fits : FileHeaderFits header
@@ -72,16 +78,17 @@ pub record HasHeader (l : Layout) (image : List ℕ) : Type 0 where
   pub address : (a : ℕ) → l.entry ≡ Some (entry.Address a) → header.entry ≡ a
   pub symbol : (i a : ℕ) → l.entry ≡ Some (entry.Symbol i) → HasResolvedAddress l i a → header.entry ≡ a
   pub none : l.entry ≡ None → header.entry ≡ 0
-  pub sizes : HasStandardSizes header
+  pub fields : HasStandardFields header
   pub segments : DescribeSegments l l.segments (headers_in image)
+  pub sections : DescribesSections l image header
 
--- A loaded, allocated input section without data. Thread-local ones do not count, because they have no memory in the image itself
--- (gABI, SHF_TLS).
+-- A loaded, allocated input section without data. Thread-local ones have no memory in the image itself unless their section has
+-- bytes in the file: then they are in the data that each thread gets a copy of (gABI, SHF_TLS).
 pub record IsSectionWithoutData (l : Layout) (s : InputSection) : Type 0 where
   pub input : IsInput l s
   pub loaded : IsLoadedSlot s.slot
   pub room : IsSet s.flags shf_alloc
-  pub shared : IsSet s.flags shf_tls → ⊥
+  pub template : IsSet s.flags shf_tls → HasFileBytes l s.part
   pub blank : s.nobits ≡ true
 
 -- the address is in no copied symbol
@@ -107,11 +114,11 @@ abbrev pub processor_of : Machine → Processor
 processor_of machine.X86_64 = processors.X86_64
 processor_of machine.AArch64 = processors.AArch64
 
--- The headers describe the layout's output, and a dynamic section has the information that its linker needs. An image only for
--- debuggers has no such section.
+-- The headers describe the layout's output, and a dynamic section has the information that its linker, or its own first code, needs.
+-- An image only for debuggers has no such section.
 pub record DescribesOutput (l : Layout) (image : List ℕ) : Type 0 where
   pub header : HasHeader l image
-  pub dynamic : (IsForDebuggers l → ⊥) → HasDynamicLinker l.kind → InformsLinker (processor_of l.machine) image
+  pub dynamic : (IsForDebuggers l → ⊥) → HasDynamicSection l → InformsLinker l (processor_of l.machine) image
 
 -- The loader accepts the image for the layout's machine, and in memory:
 -- - each kept item holds;

@@ -1,7 +1,8 @@
 -- Whether a section has memory, and whether an input section has an address.
 --   IsSet flags flag       the flag is set
 --   IsAllocatedPart l n    part n is in a section that has memory
---   IsHeaderOnly l p           only the header is written of the section that contains part p
+--   IsHeaderOnlySection l s    only the header is written of the section
+--   IsHeaderOnly l p           part p is in such a section
 --   HasFileBytes l n       part n is in a section with bytes in the file
 --   IsPlaced l s           the input section has an address
 use Rattle.std.specs.Prelude.{◌≡◌, ◌≢◌, ℕ, ◌/◌, ◌%◌, ◌⊎◌, true, Some, slice_get}
@@ -29,15 +30,19 @@ pub record IsAllocatedPart (l : Layout) (n : ℕ) : Type 0 where
 abbrev pub IsForDebuggers : Layout → Type 0
 IsForDebuggers l = l.options.only_keep_debug ≡ true
 
--- Only the header is written of the section that contains the part. The image is only for debuggers; the section has memory and
--- is not a note, by which debuggers find the image (gABI, "Sections": SHT_NOTE).
-pub record IsHeaderOnly (l : Layout) (p : Part) : Type 0 where
+-- Only the header is written of the section. The image is only for debuggers; the section has memory and is not a note, by which
+-- debuggers find the image (gABI, "Sections": SHT_NOTE).
+pub record IsHeaderOnlySection (l : Layout) (s : Section) : Type 0 where
   pub bare : IsForDebuggers l
+  pub room : IsSet s.flags shf_alloc
+  pub other : s.kind ≢ sht_note
+
+-- the part is in such a section, other than section 0
+pub record IsHeaderOnly (l : Layout) (p : Part) : Type 0 where
   pub named : p.section ≢ shn_undef
   pub section : Section
   pub found : slice_get l.sections p.section ≡ Some section
-  pub room : IsSet section.flags shf_alloc
-  pub other : section.kind ≢ sht_note
+  pub only : IsHeaderOnlySection l section
 
 -- the part is in a section other than section 0 with bytes in the file (gABI, "Section Header", sh_type: SHT_NOBITS)
 pub record HasFileBytes (l : Layout) (n : ℕ) : Type 0 where

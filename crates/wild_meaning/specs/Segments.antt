@@ -3,12 +3,14 @@
 --   DescribesSegment l g h      a program header describes a segment of the layout
 --   DescribeSegments l gs hs         one header for each segment, in order
 --   HasDynamicLinker kind   a dynamic linker loads the output
-use Rattle.std.specs.Prelude.{◌≡◌, ◌≢◌, ℕ, ◌%◌, ⊤, true, false, max, List, [], ◌∷◌}
-use Rattle.wild_records.specs.Abi.Segment.{pt_load, pt_gnu_stack, pf_x}
+--   HasDynamicSection l     a dynamic linker, or the output's own first code, reads its dynamic section
+use Rattle.std.specs.Prelude.{◌≡◌, ◌≢◌, ℕ, ◌%◌, ◌⊎◌, ⊤, true, false, max, List, [], ◌∷◌, Contains}
+use Rattle.wild_records.specs.Abi.Segment.{pt_load, pt_dynamic, pt_gnu_stack, pf_x}
 use Rattle.wild_records.specs.FileHeader.{file_header_at}
 use Rattle.wild_records.specs.declared.program_header.ProgramHeader.{ProgramHeader}
 use Rattle.wild_types.specs.declared.kind.OutputKind.{OutputKind}
 use Rattle.wild_types.specs.declared.kind.OutputKind.TheVariants as output
+use Rattle.wild_types.specs.declared.kind.RelocationModel.TheVariants as model
 use Rattle.wild_types.specs.declared.section.Segment.{Segment}
 use Rattle.wild_types.specs.declared.layout.Layout.{Layout}
 use Rattle.wild_loader.specs.Headers.{program_headers}
@@ -47,3 +49,15 @@ abbrev pub HasDynamicLinker : OutputKind → Type 0
 HasDynamicLinker (output.DynamicExecutable any) = ⊤
 HasDynamicLinker output.SharedObject = ⊤
 HasDynamicLinker other = ⊥
+
+-- no dynamic linker loads the output, but it may be loaded at any base and has a segment for a dynamic section, which its own first
+-- code reads
+pub record ReadsOwnDynamicSection (l : Layout) : Type 0 where
+  pub kind : l.kind ≡ output.StaticExecutable model.Relocatable
+  pub segment : Segment
+  pub listed : Contains l.segments segment
+  pub dynamic : segment.kind ≡ pt_dynamic
+
+-- somebody reads the output's dynamic section
+abbrev pub HasDynamicSection : Layout → Type 0
+HasDynamicSection l = HasDynamicLinker l.kind ⊎ ReadsOwnDynamicSection l

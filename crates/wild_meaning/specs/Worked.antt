@@ -19,3 +19,4 @@ pub mod AArch64
 pub mod AArch64Image
 pub mod ImageRefusalsAArch64
 pub mod ReplaceableSymbols
+pub mod TermRefusals

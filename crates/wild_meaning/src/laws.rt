@@ -3,9 +3,10 @@ ghost use Rattle.wild_meaning.specs.Worked.CopyRefusals.{CopyingWorldIsLegal, Ro
 ghost use Rattle.wild_meaning.specs.Worked.ImageRefusalsAArch64.{WordsWorldIsLegal, WrongCodeOfWordsIsRefused, WordsImageIsLinked};
 ghost use Rattle.wild_meaning.specs.Worked.RefusalsAArch64.{RightWordsDo, WrongWordsAreRefused, CutBitsAreRefused, SlotAddendsAreRefused, PairsAreExcepted, NegatedMovesAreUnknown, ShiftedAddsAreUnknown, ThunksAreJudged};
 ghost use Rattle.wild_meaning.specs.Worked.ReplaceableSymbols.{DynamicIsReplaceable, ExportedIsReplaceable, AnswersAreTaken};
-ghost use Rattle.wild_meaning.specs.Worked.SegmentRefusals.{WrongSegmentsAreRefused, OtherPlacesAreRefused, WrongSizesAreRefused, NoDynamicIsRefused, WrongEntriesAreRefused};
+ghost use Rattle.wild_meaning.specs.Worked.SegmentRefusals.{WrongSegmentsAreRefused, WrongStacksAreRefused, OtherPlacesAreRefused, WrongFieldsAreRefused, WrongSectionsAreRefused, NoDynamicIsRefused, WrongEntriesAreRefused, OwnSectionsAreJudged};
 ghost use Rattle.wild_meaning.specs.Worked.SharedRefusals.{SharedWorldIsLegal, WrongSlotsAreRefused, WrongAddressesAreRefused, WrongOffsetsAreRefused, WrongModulesAreRefused, WrongDescriptorsAreRefused, WrongSizeIsRefused, WrongByteIsRefused, WrongOwnDistanceIsRefused, ChangedTableIsRefused, WrongCodeOfLibraryIsRefused, SharedImageIsLinked, SlotsNeedTheirFlags, WrongStubsAreRefused};
 ghost use Rattle.wild_meaning.specs.Worked.StringRefusals.{StringsWorldIsLegal, StringsAreJudged, ReversedWordsAreJudged, TextsAreJudged, StringsImageIsLinked};
+ghost use Rattle.wild_meaning.specs.Worked.TermRefusals.{WrongTermsAreRefused, CutNumbersAreRefused, OtherBitsAreRefused};
 ghost use Rattle.wild_meaning.specs.Worked.StaticRefusals.{StaticPieWorldIsLegal, WrongDataAreRefused, WrongCodeIsRefused, WrongBlankIsRefused, StaticImageIsLinked, PaddedImageIsLinked};
 
 use wild_records::file_header_is_read;
@@ -68,7 +69,7 @@ pub fn wrong_copies_are_refused()
 /// No image of the worked program without a dynamic linker is linked in its world with one fault:
 /// - an address that does not move, or an offset or entry that does;
 /// - a branch to another symbol, or a load of the byte past its symbol;
-/// - a half rewritten sequence, or code that receives a descriptor where it requires an offset;
+/// - a half rewritten sequence, or one with another symbol's offset, or code that receives a descriptor where it requires an offset;
 /// - a byte other than 0 in a section without data, among others that have some.
 /// One image is linked there, and one of the program with such a section.
 pub fn wrong_programs_are_refused()
@@ -95,15 +96,19 @@ pub fn strings_and_reversed_words_are_judged()
 
 /// No image describes its layout's output, in whatever world, if:
 /// - its segments are not the layout's, or cannot be mapped page by page;
-/// - its file header has another version or other sizes of headers;
+/// - its file header has another version or ABI, or other sizes or another place of headers;
+/// - its section headers are not those of the layout's sections;
 /// - a dynamic linker loads it and it has no dynamic section, or one that allows late binding or has a wrong type, size or number
-/// of entries.
+/// of entries, leads to other tables or functions than the layout's, or does not end.
 pub fn wrong_segments_are_refused()
     ensures segments { WrongSegmentsAreRefused }
+    ensures stacks { WrongStacksAreRefused }
     ensures places { OtherPlacesAreRefused }
-    ensures sizes { WrongSizesAreRefused }
+    ensures fields { WrongFieldsAreRefused }
+    ensures sections { WrongSectionsAreRefused }
     ensures dynamic { NoDynamicIsRefused }
     ensures entries { WrongEntriesAreRefused }
+    ensures own { OwnSectionsAreJudged }
 {
     file_header_is_read();
 }
@@ -130,10 +135,21 @@ pub fn wrong_words_are_refused()
 /// No image of the worked AArch64 program is linked in its world with one fault:
 /// - a load from another slot than the symbol's, or a thunk to the next page;
 /// - a branch with an addend through a thunk, which adds nothing;
-/// - a descriptor call that is rewritten by half, or with the low half of the offset in the high one's place.
+/// - a descriptor call that is rewritten by half, or with the low half of the offset in the high one's place;
+/// - an address in two instructions that is not the symbol's.
 /// The world is legal, and one image is linked there.
 pub fn wrong_programs_of_words_are_refused()
     ensures legal { WordsWorldIsLegal }
     ensures code { WrongCodeOfWordsIsRefused }
     ensures linked { WordsImageIsLinked }
+{}
+
+/// In no layout does a reference in data hold if its field has:
+/// - another number than the distance of the global offset table, or, without a symbol, than the distance from it;
+/// - the low 32 bits of a longer number;
+/// - in an AArch64 instruction, another bit outside the field.
+pub fn wrong_numbers_are_refused()
+    ensures terms { WrongTermsAreRefused }
+    ensures cut { CutNumbersAreRefused }
+    ensures others { OtherBitsAreRefused }
 {}

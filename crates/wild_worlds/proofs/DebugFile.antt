@@ -251,7 +251,7 @@ not_hollow p at h =
     let one : note_part ≡ p = some_is _ p at in
     let found : slice_get debug_sections note_part.section ≡ Some h.section = subst (λ (q : Part). slice_get debug_sections q.section ≡ Some h.section) (sym one) h.found in
     let same : note_section ≡ h.section = some_is _ h.section found in
-    h.other (ap (λ (s : Section). s.kind) (sym same))
+    h.only.other (ap (λ (s : Section). s.kind) (sym same))
 
 note_kept : IsKeptSection debug_file note
 unfolding debug_file
@@ -399,7 +399,7 @@ reads w m at h =
 
 code_hollow : IsHeaderOnly debug_file code_part
 unfolding debug_file
-code_hollow = record { bare = refl; named = λ e. (let no : 5 ≡ 0 = e in omega (arith, no)); section = code_section; found = refl; room = refl; other = λ e. (let no : 1 ≡ 7 = e in omega (arith, no)) }
+code_hollow = record { named = λ e. (let no : 5 ≡ 0 = e in omega (arith, no)); section = code_section; found = refl; only = record { bare = refl; room = refl; other = λ e. (let no : 1 ≡ 7 = e in omega (arith, no)) } }
 
 -- there are two input sections
 abbrev IsOne : InputSection → Type 0

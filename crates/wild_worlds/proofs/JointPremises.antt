@@ -58,7 +58,7 @@ whole : (c : Code) (k : OutputKind) (e : Role) (n m : ℕ) (f : Symbol) → IsFo
 whole c k e n m f bare = cc
 
 kept : (c : Code) (k : OutputKind) (e : Role) (n m : ℕ) (f : Symbol) → IsKept (calling_layout c k e n m f) (item_with 0 (calling_code c))
-kept c k e n m f = OfSection (calling_code c) (record { input = record { group = _; grouped = (0, omega arith, refl); file = _; filed = (1, omega arith, refl); listed = (0, omega arith, refl) }; loaded = tt; room = refl; has_data = refl; written = λ p there h. whole c k e n m f h.bare }) refl
+kept c k e n m f = OfSection (calling_code c) (record { input = record { group = _; grouped = (0, omega arith, refl); file = _; filed = (1, omega arith, refl); listed = (0, omega arith, refl) }; loaded = tt; room = refl; has_data = refl; written = λ p there h. whole c k e n m f h.only.bare }) refl
 
 moving : (c : Code) (k : OutputKind) (e : Role) (n m : ℕ) (f : Symbol) → f.definition ≡ None → has_flag f.flags absolute ≡ false → HasFlag (calling_layout c k e n m f) 0 absolute false
 moving c k e n m f own plain = record { definition = 0; defined = record { symbol = f; listed = refl; defined = inr (own, refl) }; symbol = f; listed = refl; flagged = plain }

@@ -10,4 +10,4 @@ returns-clause-stand c = record {
 }
 
 pub returns-clause-tell : goal.returns-clause-tell
-returns-clause-tell c = header_told c.file_header_is_read.ensures c.program_header_is_read.ensures
+returns-clause-tell c = header_told c.file_header_is_read.ensures c.program_header_is_read.ensures c.section_header_is_read.ensures

@@ -49,6 +49,10 @@ low_half = 0x1f ∷ 0x20 ∷ 0x03 ∷ 0xd5 ∷ 0x1f ∷ 0x20 ∷ 0x03 ∷ 0xd5 �
 abbrev pub load_of_word : List ℕ
 load_of_word = 0x1f ∷ 0x20 ∷ 0x03 ∷ 0xd5 ∷ 0x1f ∷ 0x20 ∷ 0x03 ∷ 0xd5 ∷ 0 ∷ 0 ∷ 0 ∷ 0x90 ∷ 0 ∷ 0x40 ∷ 0x40 ∷ 0xf9 ∷ []
 
+-- `nop; adr x0` of the instruction after the function's first one
+abbrev pub address_past : List ℕ
+address_past = 0x1f ∷ 0x20 ∷ 0x03 ∷ 0xd5 ∷ 0 ∷ 0x0e ∷ 0 ∷ 0x10 ∷ []
+
 -- bytes at one address, and others at another one
 pub record HasBoth (a : ℕ) (bs : List ℕ) (b : ℕ) (cs : List ℕ) (m : Memory) : Type 0 where
   pub one : Holds m a bs
@@ -60,7 +64,8 @@ pub record HasBoth (a : ℕ) (bs : List ℕ) (b : ℕ) (cs : List ℕ) (m : Memo
 -- - a branch with an addend through a thunk, which does not add it;
 -- - a descriptor call that is rewritten by half;
 -- - one with the low half of the offset where `movz` has the high one;
--- - one that loads the offset from a word which is no slot of the symbol.
+-- - one that loads the offset from a word which is no slot of the symbol;
+-- - an address in two instructions that is another than the symbol's.
 pub record WrongCodeOfWordsIsRefused : Type 0 where
   pub slot : Refuses words_static words_world (MemoryHas 0x11010 slot_behind)
   pub thunk : Refuses words_static words_world (HasBoth 0x11020 call_of_thunk 0x11060 far_thunk)
@@ -69,6 +74,7 @@ pub record WrongCodeOfWordsIsRefused : Type 0 where
   pub half : Refuses words_static words_world (MemoryHas 0x11030 half_call)
   pub low : Refuses words_static words_world (MemoryHas 0x11030 low_half)
   pub word : Refuses words_static words_world (MemoryHas 0x11030 load_of_word)
+  pub address : Refuses words_static words_world (MemoryHas 0x11040 address_past)
 
 -- an image is linked in the world, so the refusals are not vacuous
 abbrev pub WordsImageIsLinked : Type 0

@@ -6,11 +6,14 @@
 use Rattle.std.specs.Prelude.{ℕ, List, [], ◌∷◌, ◌++◌, replicate}
 use Rattle.wild_words.specs.Record.{spell}
 use Rattle.wild_records.specs.Abi.Header.{elfmag, elfclass64, elfdata2lsb, et_dyn, em_x86_64}
+use Rattle.wild_records.specs.Abi.Section.{sht_progbits}
 use Rattle.wild_records.specs.Abi.Segment.{pt_load}
 use Rattle.wild_records.specs.FileHeader.{file_header_fields}
 use Rattle.wild_records.specs.ProgramHeader.{program_header_fields}
+use Rattle.wild_records.specs.SectionHeader.{section_header_fields}
 use Rattle.wild_records.specs.declared.file_header.FileHeader.{FileHeader}
 use Rattle.wild_records.specs.declared.program_header.ProgramHeader.{ProgramHeader}
+use Rattle.wild_records.specs.declared.section_header.SectionHeader.{SectionHeader}
 use Rattle.wild_loader.specs.declared.memory.Machine.TheVariants as processors
 use Rattle.wild_loader.specs.declared.memory.Memory.{Memory}
 
@@ -75,12 +78,18 @@ static_image = spell (file_header_fields static_header) ++ static_rest
 abbrev pub static_memory : Memory
 static_memory = record { machine = processors.X86_64; runs = record { start = 0x41000; bytes = static_content } ∷ []; descriptors = [] }
 
--- with zeros in place of code and data
+-- with zeros in place of code and data, followed by two section headers
+abbrev pub padded_header : FileHeader
+padded_header = record static_header { section_offset = 0x1110; section_count = 2 }
+
+abbrev pub padded_section_header : SectionHeader
+padded_section_header = record { name = 0; kind = sht_progbits; flags = 3; address = 0x1000; offset = 0x1000; size = 0x110; link = 0; info = 0; align = 16; entry_size = 0 }
+
 abbrev pub padded_rest : List ℕ
-padded_rest = spell (program_header_fields static_segment) ++ replicate 4248 0
+padded_rest = spell (program_header_fields static_segment) ++ (replicate 4248 0 ++ (spell (section_header_fields padded_section_header) ++ spell (section_header_fields padded_section_header)))
 
 abbrev pub padded_image : List ℕ
-padded_image = spell (file_header_fields static_header) ++ padded_rest
+padded_image = spell (file_header_fields padded_header) ++ padded_rest
 
 abbrev pub padded_memory : Memory
 padded_memory = record { machine = processors.X86_64; runs = record { start = 0x41000; bytes = replicate 272 0 } ∷ []; descriptors = [] }
