@@ -1,6 +1,6 @@
 -- The premises of the headline are met: kinds, kept items, references and symbols.
 use Rattle.std.proofs.Common.{◌≡◌, ℕ, ◌+◌, ◌%◌, ◌^◌, ◌⊎◌, inl, inr, Bool, true, false, List, [], ◌∷◌, refl, sym, ap, ◌∙◌, arith, subst}
-use Rattle.std.specs.Prelude.{Some, None, Contains, ◌≢◌, not, ◌&&◌, ◌||◌, ◌==◌}
+use Rattle.std.specs.Prelude.{Option, Some, None, Contains, ◌≢◌, not, ◌&&◌, ◌||◌, ◌==◌}
 use Rattle.std.specs.List.{list_all}
 use Rattle.std.proofs.lemmas.Bool.{cases_Bool, and_parts, eqb-true}
 use Rattle.wild_words.proofs.Basics.{implied, or_other, listed_passes}
@@ -21,8 +21,11 @@ use Rattle.wild_meaning.specs.World.{IsFixed, IsMovable, IsLoadable}
 use Rattle.wild_meaning.specs.Value.{HasRaw, HasFlag, HasOwnValue, IsReplaceable, IsAbsolute}
 use Rattle.wild_loader.specs.Reach.{Reaches}
 use Rattle.wild_meaning.specs.Denotes.{HasStub, Denotes}
+use Rattle.wild_types.specs.declared.part.Part.{Part}
+use Rattle.wild_types.specs.Lists.{total}
 use Rattle.wild_types.specs.Item.{Item}
-use Rattle.wild_meaning.specs.Item.{IsLoadedSlot}
+use Rattle.wild_meaning.specs.Item.{IsLoadedSlot, OfSection, OfFrames}
+use Rattle.wild_meaning.specs.Frames.{IsFrameInput, frames_item, address_of_part, kept_of_file, kept_bytes}
 use Rattle.wild_meaning.specs.Field.{formula_of}
 use Rattle.wild_meaning.specs.Formula.{IsPlaceRelative, TakesAddress, TakesOffset}
 use Rattle.wild_meaning.specs.Section.{IsSet}
@@ -34,7 +37,7 @@ use Rattle.wild_meaning.proofs.PairLemmas.{are_several, as_double, counts_by_slo
 use Rattle.wild_meaning.proofs.OneReference.{has}
 use Rattle.wild_meaning.proofs.InstructionsAArch64.{numbers_in, numbered}
 use Rattle.wild_worlds.specs.Worlds.{KindsAreLoaded}
-use Rattle.wild_worlds.specs.References.{SectionsAreKept, RelocationsRefer, ReferencesAreChecked, SlotsAreChecked, FewUseOwnSymbolOnly, ZerosAreChecked, ResolversAreNotAbsolute}
+use Rattle.wild_worlds.specs.References.{SectionsAreKept, SortedAreKept, FramesAreKept, RelocationsRefer, ReferencesAreChecked, SlotsAreChecked, FewUseOwnSymbolOnly, ZerosAreChecked, ResolversAreNotAbsolute}
 use Rattle.wild_worlds.specs.Symbols.{AddressesMove}
 use Rattle.wild_laws.proofs.FirstPath.{kept}
 use Rattle.wild_laws.proofs.Symbols.{not_both, not_replaceable, own_value, moved_value}
@@ -62,6 +65,29 @@ kinds_loaded = record { static = tt; dynamic = tt; static_elsewhere = tt; dynami
 
 pub sections_kept : SectionsAreKept
 sections_kept = λ l s h. kept l s h
+
+pub sorted_kept : SortedAreKept
+sorted_kept = λ l s input sorted room has_data whole. OfSection s (record { input = input; loaded = subst IsLoadedSlot (sym sorted) tt; room = bit_alloc s.flags room; has_data = has_data; written = λ p there h. whole h.only.bare }) refl
+
+pub frames_kept : FramesAreKept
+frames_kept = λ l g f s before after front back p grouped filed listed frame room has_data whole there.
+    (let k : IsFrameInput l s = record {
+      frame = frame;
+      room = bit_alloc s.flags room;
+      has_data = has_data;
+      written = λ q e h. whole h.only.bare;
+      group = g;
+      grouped = grouped;
+      files = before;
+      file = f;
+      files_behind = after;
+      filed = filed;
+      sections = front;
+      sections_behind = back;
+      listed = listed;
+    } in
+    let at = ap (λ (o : Option Part). frames_item l f s (address_of_part o + g.eh_frame_start + total (kept_of_file l) before + total (kept_bytes l) front)) there in
+    OfFrames s k (sym at))
 
 pub relocations_refer : RelocationsRefer
 relocations_refer = λ item r c n. record { listed = c; refers = n }
@@ -248,7 +274,7 @@ few_alone = record {
 
 pub blanks_asked : ZerosAreChecked
 blanks_asked = record {
-  sections = λ l s input loaded room own blank. record { input = input; loaded = subst IsLoadedSlot (sym loaded) tt; room = bit_alloc s.flags room; shared = λ t. (let both : true ≡ false = sym (thread_local_bit s.flags t) ∙ own in cc); blank = blank };
+  sections = λ l s input loaded room own blank. record { input = input; loaded = subst IsLoadedSlot (sym loaded) tt; room = bit_alloc s.flags room; template = λ t. absurd (let both : true ≡ false = sym (thread_local_bit s.flags t) ∙ own in cc); blank = blank };
   behind = λ l g a c k from to. record { segment = g; listed = c; loads = k; from = from; to = to };
 }
 

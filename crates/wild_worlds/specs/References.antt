@@ -1,10 +1,11 @@
 -- The premises of the headline can be met: items are kept, and their references are checked.
 --   SectionsAreKept        loaded, allocated input sections with data are kept
+--   SortedAreKept, FramesAreKept   so are those in a given order, and the kept entries of frames
 --   RelocationsRefer       each of their relocations but NONE is a reference
 --   ReferencesAreChecked, SlotsAreChecked   which references of an image are checked
 --   FewUseOwnSymbolOnly      few of them refer only to the output's own symbol
 --   ZerosAreChecked         sections without data are checked for zeros
-use Rattle.std.specs.Prelude.{◌≡◌, ◌≢◌, ℕ, ◌+◌, ◌<◌, ◌≤◌, true, false, [], ◌∷◌, Some, None, Contains}
+use Rattle.std.specs.Prelude.{◌≡◌, ◌≢◌, ℕ, ◌+◌, ◌<◌, ◌≤◌, true, false, List, [], ◌∷◌, ◌++◌, Some, None, Contains}
 use Rattle.wild_records.specs.Abi.Relocation.{r_x86_64_none, r_x86_64_gotpcrel, r_x86_64_gotpcrelx, r_aarch64_adr_prel_pg_hi21, r_aarch64_add_abs_lo12_nc}
 use Rattle.wild_records.specs.Abi.Section.{shf_execinstr}
 use Rattle.wild_records.specs.Abi.Segment.{pt_load}
@@ -13,12 +14,19 @@ use Rattle.wild_types.specs.declared.section.Segment.{Segment}
 use Rattle.wild_types.specs.declared.input.Slot.TheVariants as slot
 use Rattle.wild_types.specs.declared.input.InputRelocation.{InputRelocation}
 use Rattle.wild_types.specs.declared.input.InputSection.{InputSection}
+use Rattle.wild_types.specs.declared.part.Part.{Part}
+use Rattle.wild_types.specs.declared.part.Role.TheVariants as role
+use Rattle.wild_types.specs.declared.file.File.{File}
+use Rattle.wild_types.specs.declared.file.Group.{Group}
 use Rattle.wild_types.specs.declared.layout.Layout.{Layout}
 use Rattle.wild_types.specs.Flags.{absolute, ifunc}
 use Rattle.wild_types.specs.Lookups.{allocated, thread_local}
+use Rattle.wild_types.specs.Lists.{total}
+use Rattle.wild_types.specs.Parts.{part_with}
 use Rattle.wild_layout.specs.Faults.{errors}
 use Rattle.wild_loader.specs.declared.world.World.{World}
-use Rattle.wild_meaning.specs.Section.{IsSet}
+use Rattle.wild_meaning.specs.Section.{IsSet, IsForDebuggers}
+use Rattle.wild_meaning.specs.Frames.{frames_item, kept_of_file, kept_bytes}
 use Rattle.wild_meaning.specs.World.{IsFixed, IsPastFileBytes}
 use Rattle.wild_meaning.specs.Value.{HasFlag, IsAbsolute, IsReplaceable}
 use Rattle.wild_meaning.specs.Field.{formula_of}
@@ -33,6 +41,17 @@ use Rattle.wild_laws.specs.FirstTypes.{IsLoadedSection}
 -- each loaded, allocated input section with data is kept, as its item
 abbrev pub SectionsAreKept : Type 0
 SectionsAreKept = (l : Layout) (s : InputSection) (k : IsLoadedSection l s) → IsKept l (placed_item l k.file s)
+
+-- so is one that is placed in a given order, in an image that is not only for debuggers
+abbrev pub SortedAreKept : Type 0
+SortedAreKept = (l : Layout) (s : InputSection) (input : IsInput l s) → s.slot ≡ slot.Sorted → allocated s.flags ≡ true → s.nobits ≡ false → (IsForDebuggers l → ⊥) → IsKept l (placed_item l input.file s)
+
+-- and the kept entries of each section of frames are an item, which is after those of earlier files of the group and of earlier
+-- sections of the file
+abbrev pub FramesAreKept : Type 0
+FramesAreKept =
+    (l : Layout) (g : Group) (f : File) (s : InputSection) (before after : List File) (front back : List InputSection) (p : Part) → Contains l.groups g → g.files ≡ before ++ (f ∷ after) → f.sections ≡ front ++ (s ∷ back) → s.slot ≡ slot.Frame → allocated s.flags ≡ true → s.nobits ≡ false → (IsForDebuggers l → ⊥)
+    → part_with role.EhFrame l.parts ≡ Some p → IsKept l (frames_item l f s (p.address + g.eh_frame_start + total (kept_of_file l) before + total (kept_bytes l) front))
 
 -- each of an item's relocations but NONE is a reference
 abbrev pub RelocationsRefer : Type 0

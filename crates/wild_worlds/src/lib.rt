@@ -2,7 +2,7 @@
 #![tactic(auto)]
 
 ghost use Rattle.wild_worlds.specs.Worlds.{ZeroIsLegal, MovedIsLegal, NoResolversNeeded, WorldsAreThere, KindsAreLoaded};
-ghost use Rattle.wild_worlds.specs.References.{SectionsAreKept, RelocationsRefer, ReferencesAreChecked, SlotsAreChecked, FewUseOwnSymbolOnly, ZerosAreChecked};
+ghost use Rattle.wild_worlds.specs.References.{SectionsAreKept, SortedAreKept, FramesAreKept, RelocationsRefer, ReferencesAreChecked, SlotsAreChecked, FewUseOwnSymbolOnly, ZerosAreChecked};
 ghost use Rattle.wild_worlds.specs.Joined.{PremisesAreJoined};
 ghost use Rattle.wild_worlds.specs.Symbols.{AddressesMove, ResolversAnswer, WorldsAnswer, OffsetsCount, SlotsAreOne, SizesAreWhole};
 ghost use Rattle.wild_worlds.specs.Worked.{WorkedAddressesAreChecked, WorkedBranchesAreChecked};
@@ -17,8 +17,8 @@ use wild_sample_layouts::laws_of_calling_plans;
 /// - A layout without faults has legal worlds, with the distance of its own thread-local data, whatever its resolvers answer and
 /// another module defines. They are at base 0 and, if the output is movable, at every page-aligned base at which no segment
 /// wraps.
-/// - Each loaded, allocated input section with data is kept, and each of its relocations but NONE is a reference. It is checked
-/// unless its symbol is absolute and its value or instruction is relative to its place. Few refer only to the output's own
+/// - Each loaded, allocated input section with data is kept, also in a given order, and so are the kept entries of frames. Each
+/// of their relocations but NONE is a reference. It is checked unless its symbol is absolute and its value or instruction is relative to its place. Few refer only to the output's own
 /// symbol.
 /// - The address of an own symbol that is not absolute moves with the base. An IFUNC's value is its resolver's answer, a
 /// replaceable symbol's value the world's answer. A thread-pointer offset is an address minus the thread pointer.
@@ -32,6 +32,8 @@ pub fn premises_are_met()
     ensures worlds { WorldsAreThere }
     ensures kinds { KindsAreLoaded }
     ensures kept { SectionsAreKept }
+    ensures sorted { SortedAreKept }
+    ensures frames { FramesAreKept }
     ensures references { RelocationsRefer }
     ensures asked { ReferencesAreChecked }
     ensures slots { SlotsAreChecked }
