@@ -53,6 +53,21 @@ int main(void) {
     return one();
 }
 """,
+    # a library calls its own function, which a resolver chooses and a program may replace
+    "picked.c": """static int three(void) { return 3; }
+static int (*pick(void))(void) { return three; }
+int picked(void) __attribute__((ifunc("pick"))); int (*pointer)(void) = picked;
+int inside(void) { return picked() + pointer(); }
+""",
+    "picks.c": """#include <stdio.h>
+int inside(void);
+#ifdef OWN
+int picked(void) { return 4; }
+#else
+int picked(void);
+#endif
+int main(void) { printf("%d %d\\n", picked(), inside()); return 0; }
+""",
     "thrown.cpp": """#include <iostream>
 #include <stdexcept>
 #include <string>
@@ -68,12 +83,14 @@ int main() { try { return deep(1); } catch (const std::exception &e) { std::cout
 HELLO, SHARED = (3, "hello 1\n"), (1, "main\n6 22\n21 1 1 0\n")
 CHOSEN, THROWN = (1, "2 2 234 2 30 1\n"), (7, "left\nleft\nbottom thread\n")
 KINDS = {"PIE": [], "fixed": ["-no-pie", "-fno-pic"], "static": ["-static"], "static PIE": ["-static-pie"]}
+PICKED = [("and used", [], "NONE", "3 6\n"), ("and replaced", [], "OWN", "4 8\n"), ("its own always", ["-Wl,-Bsymbolic"], "OWN", "4 6\n"), ("without stubs", ["-fno-plt", "-O1"], "OWN", "4 8\n")]
 # compilers, words of each, what it ends with and prints
 PROGRAMS = (
     [(f"hello, {kind}", "gcc", [[*words, "hello.c", "-o", "out"]], HELLO) for kind, words in KINDS.items()]
     + [(f"program, {kind}", "gcc", [[*words, "-g", "program.c", "library.c", "-o", "out"]], SHARED) for kind, words in KINDS.items()]
     + [(f"with a library, {kind}", "gcc", [["-shared", "-fPIC", "library.c", "-o", "liblibrary.so"], [*words, "program.c", "-o", "out", "-L.", "-llibrary", "-Wl,-rpath,."]], SHARED) for kind, words in list(KINDS.items())[:2]]
     + [(f"chosen, {kind}", "gcc", [[*words, "-O1", "chosen.c", "-o", "out"]], CHOSEN) for kind, words in KINDS.items()]
+    + [(f"chosen in a library, {kind}", "gcc", [["-shared", "-fPIC", *words, "picked.c", "-o", "libpicked.so"], ["picks.c", f"-D{own}", "-o", "out", "-L.", "-lpicked", "-Wl,-rpath,."]], (0, said)) for kind, words, own, said in PICKED]
     + [(f"thrown, {kind}", "g++", [[*words, "thrown.cpp", "-o", "out"]], THROWN) for kind, words in KINDS.items()]
     + [
         ("packed addresses", "gcc", [["-O1", "program.c", "library.c", "-o", "out", "-Wl,-z,pack-relative-relocs"]], SHARED),

@@ -41,6 +41,10 @@ class Scan:
     def is_interposable(self, target):
         return self.options.shared and target.exported and target.other & 3 == 0 and target.kind in ("defined", "common") and not self.options.symbolic
 
+    def is_chosen_here(self, target):
+        """Whether the output's own resolver says where the symbol is. One that a loader looks up is as any function: the loader runs the resolver."""
+        return target.is_ifunc() and not self.is_lookup(target)
+
     def is_left(self, target):
         """Whether a name that nothing defines is left to the loader. In a program it is 0, as with `-z nodynamic-undefined-weak` of GNU ld."""
         return self.options.shared and target.kind == "undefined" and target.other & 3 == 0
@@ -142,7 +146,7 @@ class Scan:
                 self.need(target, GOT_OFFSET)
             return
         self.need(target, 0)
-        if target.is_ifunc():
+        if self.is_chosen_here(target):
             if sort in (SLOT, RELAXED):
                 self.need(target, GOT | STUB | ADDRESS)
             elif sort == WHOLE and self.options.moves and writable:
@@ -219,7 +223,7 @@ class Scan:
 
     def has_second(self, target):
         """A second slot for the address, beside that which the stub jumps by."""
-        return bool(target.needs & ADDRESS and target.needs & GOT and (target.canonical or target.is_ifunc() and target.needs & STUB))
+        return bool(target.needs & ADDRESS and target.needs & GOT and (target.canonical or self.is_chosen_here(target) and target.needs & STUB))
 
     def is_in_block(self, target):
         """Whether the slot is one of those whose addresses are packed together."""
@@ -241,7 +245,7 @@ class Scan:
             if needs & GOT_DESCRIPTOR:
                 self.general += 1
             if needs & GOT:
-                if target.canonical or target.is_ifunc():
+                if target.canonical or self.is_chosen_here(target):
                     self.plt_entries += 1
                 elif lookup or target.copy:
                     self.general += 1

@@ -17,10 +17,13 @@
 - `link -o` writes the image that the program prints. Plans whose sizes, offsets and addresses were left out and filled in by `needs --fill` have an image,
   and their programs do the same.
 - Files and functions that a page names are there.
+- docs/API.md has a line for each public function, method and type of the crates that it names, and for nothing else.
 - Each library on a line of crates.txt is named by a file of its crate, and each crate is in docs/ARCHITECTURE.md; `--changes` checks these too.
 """
+import collections
 import contextlib
 import copy
+import functools
 import glob
 import itertools
 import json
@@ -665,6 +668,50 @@ def is_there(crate, item):
     return any(re.search(rf"\b(fn|struct|enum|mod|trait) {item}\b", read(file)) for file in files)
 
 
+def exported(crate):
+    """The items that a crate exports, each with the crate that defines it."""
+    library, items = read(f"crates/{crate}/src/lib.rt"), {}
+    for home, names in re.findall(r"^pub use (\w+)[\w:]*?::(\{[^}]*\}|\w+);", library, re.M):
+        items.update(dict.fromkeys(re.findall(r"\w+", names), home if os.path.isdir(f"{TOP}/crates/{home}") else crate))
+    for module in re.findall(r"^pub mod (\w+);", library, re.M):
+        items.update((f"{module}::{item}", crate) for _, item in re.findall(PUBLIC, read(f"crates/{crate}/src/{module}.rt"), re.M))
+    return items
+
+
+PUBLIC = r"^pub (?:const )?(fn|struct|enum|trait) (\w+)"
+
+
+@functools.cache
+def public(crate):
+    """By name, the public functions and types of a crate, each with its public methods. A trait's methods are public as it is."""
+    found = {}
+    for path in glob.glob(f"{TOP}/crates/{crate}/src/**/*.rt", recursive=True):
+        text = read(path)
+        found.update((name, found.get(name, set())) for _, name in re.findall(PUBLIC, text, re.M))
+        for head, body in re.findall(r"^((?:pub trait|impl)\b[^{]*)\{\n(.*?)^\}", text, re.M | re.S):
+            head = re.sub(r"<[^<>]*>", "", re.sub(r"<[^<>]*>", "", head))
+            if " for " not in head:
+                methods = re.findall(r"^    pub (?:const )?fn (\w+)" if head.startswith("impl") else r"^    fn (\w+)", body, re.M)
+                found.setdefault(re.findall(r"\w+", head.split(":")[0].split(" where ")[0])[-1], set()).update(methods)
+    return found
+
+
+def calls():
+    """docs/API.md has a line for each public function, method and type of the crates that it names, and for nothing else."""
+    lines, expected = collections.Counter(), set()
+    for where, _, _, heads, cells in rows("docs/API.md"):
+        if crate := re.match(r"(?:Call|Law) of `(\w+)`", heads[0]):
+            name, items = cells[0].strip("`"), exported(crate[1])
+            item, method = (name, "") if name in items else name.rpartition("::")[::2]
+            lines[items.get(item, crate[1]), item.split("::")[-1], method] += 1
+            for item, home in items.items():
+                item = item.split("::")[-1]
+                if item in public(home):
+                    expected.update((home, item, method) for method in {"", *public(home)[item]})
+    for key in sorted(expected | set(lines)):
+        same(f"docs/API.md: {'::'.join(filter(None, key))}", f"{int(key in expected)} lines", f"{lines[key]} lines")
+
+
 ONLY_CHANGES = "--changes" in sys.argv
 SCHEMA = json.loads(read("docs/plan.schema.json"))
 PATHS = [word for word in sys.argv[1:] if word != "--changes"]
@@ -678,7 +725,7 @@ if __name__ == "__main__":
         changes()
         crates()
         sys.exit(differences != 0)
-    for check in (answers, statuses, changes, programs, commands, explanations, scripts, fillings, spelled, pieces, known, members, schema, defaults, names, crates, makers):
+    for check in (answers, statuses, changes, programs, commands, explanations, scripts, fillings, spelled, pieces, known, members, schema, defaults, names, crates, calls, makers):
         before = differences
         check()
         print(f"{check.__doc__.splitlines()[0]} {differences - before} differ")
