@@ -1,4 +1,5 @@
-//! Tests of the low crates: records, relocations, the loader's model, rewrites, hash tables, images bound to each other, frames, workers, shards and I/O.
+//! Tests of the low crates: records, relocations, the loader's model, rewrites, hash tables, images bound to each other, frames,
+//! workers, shards and I/O.
 #![tactic(auto)]
 
 #[cfg(test)]

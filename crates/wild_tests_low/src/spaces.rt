@@ -32,8 +32,9 @@
 //! t:      .quad 0x66
 //! ```
 //!
-//! The program needs b and a. The section headers of a are kept. The binds are those that ld.so 2.36 prints with `LD_DEBUG=bindings`; it prints none
-//! for `w`, nor for symbols without a relocation.
+//! Each is linked with `-z noseparate-code -z norelro --build-id=none -s`. The program needs b and a. Only a has its section
+//! headers. The binds are those that ld.so of glibc 2.36 prints with `LD_DEBUG=bindings`. It prints none for `w`, nor for
+//! symbols without a relocation.
 
 use std::alloc::Global;
 use std::test::Fail;
