@@ -1,4 +1,5 @@
-//! Tests of the low crates: records, relocations, the loader's model, rewrites, hash tables, frames, workers, shards and I/O.
+//! Tests of the low crates: records, relocations, the loader's model, rewrites, hash tables, images bound to each other, frames,
+//! workers, shards and I/O.
 #![tactic(auto)]
 
 #[cfg(test)]
@@ -27,6 +28,8 @@ mod rewrites;
 mod sequences;
 #[cfg(test)]
 mod shards;
+#[cfg(test)]
+mod spaces;
 #[cfg(test)]
 mod stubs;
 #[cfg(test)]
