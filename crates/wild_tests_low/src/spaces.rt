@@ -46,8 +46,8 @@ use wild_words::Bytes;
 
 /// The program.
 #[rattlefmt::skip]
-const MAIN: [u8; 1320] =
-    *b"\x7fELF\x02\x01\x01\0\0\0\0\0\0\0\0\0\x02\0>\0\x01\0\0\00\x03@\0\0\0\0\0@\0\0\0\0\0\0\0\0\0\0\0\0\0\0\0\0\0\0\
+const MAIN: &[u8] =
+    b"\x7fELF\x02\x01\x01\0\0\0\0\0\0\0\0\0\x02\0>\0\x01\0\0\00\x03@\0\0\0\0\0@\0\0\0\0\0\0\0\0\0\0\0\0\0\0\0\0\0\0\
     \0@\08\0\x05\0@\0\0\0\0\0\x06\0\0\0\x04\0\0\0@\0\0\0\0\0\0\0@\0@\0\0\0\0\0@\0@\0\0\0\0\0\x18\x01\0\0\0\0\0\0\
     \x18\x01\0\0\0\0\0\0\x08\0\0\0\0\0\0\0\x03\0\0\0\x04\0\0\0X\x01\0\0\0\0\0\0X\x01@\0\0\0\0\0X\x01@\0\0\0\0\0\
     \x1c\0\0\0\0\0\0\0\x1c\0\0\0\0\0\0\0\x01\0\0\0\0\0\0\0\x01\0\0\0\x05\0\0\0\0\0\0\0\0\0\0\0\0\0@\0\0\0\0\0\0\0@\
@@ -77,8 +77,8 @@ const MAIN: [u8; 1320] =
 
 /// The library `a`.
 #[rattlefmt::skip]
-const A: [u8; 1568] =
-    *b"\x7fELF\x02\x01\x01\0\0\0\0\0\0\0\0\0\x03\0>\0\x01\0\0\0\0\0\0\0\0\0\0\0@\0\0\0\0\0\0\0\xa0\x03\0\0\0\0\0\0\0\
+const A: &[u8] =
+    b"\x7fELF\x02\x01\x01\0\0\0\0\0\0\0\0\0\x03\0>\0\x01\0\0\0\0\0\0\0\0\0\0\0@\0\0\0\0\0\0\0\xa0\x03\0\0\0\0\0\0\0\
     \0\0\0@\08\0\x04\0@\0\x0a\0\x09\0\x01\0\0\0\x05\0\0\0\0\0\0\0\0\0\0\0\0\0\0\0\0\0\0\0\0\0\0\0\0\0\0\0\x1a\x02\
     \0\0\0\0\0\0\x1a\x02\0\0\0\0\0\0\0\x10\0\0\0\0\0\0\x01\0\0\0\x06\0\0\0\x1a\x02\0\0\0\0\0\0\x1a\x12\0\0\0\0\0\0\
     \x1a\x12\0\0\0\0\0\06\x01\0\0\0\0\0\06\x01\0\0\0\0\0\0\0\x10\0\0\0\0\0\0\x02\0\0\0\x06\0\0\00\x02\0\0\0\0\0\00\
@@ -113,8 +113,8 @@ const A: [u8; 1568] =
 
 /// The library `b`.
 #[rattlefmt::skip]
-const B: [u8; 1136] =
-    *b"\x7fELF\x02\x01\x01\0\0\0\0\0\0\0\0\0\x03\0>\0\x01\0\0\0\0\0\0\0\0\0\0\0@\0\0\0\0\0\0\0\0\0\0\0\0\0\0\0\0\0\0\
+const B: &[u8] =
+    b"\x7fELF\x02\x01\x01\0\0\0\0\0\0\0\0\0\x03\0>\0\x01\0\0\0\0\0\0\0\0\0\0\0@\0\0\0\0\0\0\0\0\0\0\0\0\0\0\0\0\0\0\
     \0@\08\0\x03\0@\0\0\0\0\0\x01\0\0\0\x05\0\0\0\0\0\0\0\0\0\0\0\0\0\0\0\0\0\0\0\0\0\0\0\0\0\0\0\xc1\x02\0\0\0\0\
     \0\0\xc1\x02\0\0\0\0\0\0\0\x10\0\0\0\0\0\0\x01\0\0\0\x06\0\0\0\xc8\x02\0\0\0\0\0\0\xc8\x12\0\0\0\0\0\0\xc8\x12\
     \0\0\0\0\0\0\xa8\x01\0\0\0\0\0\0\xa8\x01\0\0\0\0\0\0\0\x10\0\0\0\0\0\0\x02\0\0\0\x06\0\0\0\xc8\x02\0\0\0\0\0\0\
@@ -169,9 +169,9 @@ const B_BASE: u64 = 0x10_0000;
 fn images(alloc: Global, edits: &[Edit], b_base: u64) -> Result<Vec<NamedImage>, Fail> {
     let mut images = Vec::new(alloc);
     let rows: [(&[u8], &[u8], u64, i64); 3] = [
-        (b"m", &MAIN, 0, 0),
-        (b"a", &A, A_BASE, -16),
-        (b"b", &B, b_base, 0),
+        (b"m", MAIN, 0, 0),
+        (b"a", A, A_BASE, -16),
+        (b"b", B, b_base, 0),
     ];
     for (name, image, base, distance) in rows {
         let place = images.len();
@@ -521,14 +521,14 @@ fn has_imports(alloc: Global, image: &[u8], wanted: &Imports) -> Result<bool, Fa
 
 #[test]
 fn imports(rt: HostRuntime) -> Result<(), Fail> {
-    assert!(rt; has_imports(rt.alloc(), &MAIN, &(&[0xb, 0xd], 7, 0, None))?);
-    assert!(rt; has_imports(rt.alloc(), &B, &(&[0xd], 7, 0, None))?);
-    assert!(rt; has_imports(rt.alloc(), &A, &(&[], 6, 0x121a, Some(1)))?);
+    assert!(rt; has_imports(rt.alloc(), MAIN, &(&[0xb, 0xd], 7, 0, None))?);
+    assert!(rt; has_imports(rt.alloc(), B, &(&[0xd], 7, 0, None))?);
+    assert!(rt; has_imports(rt.alloc(), A, &(&[], 6, 0x121a, Some(1)))?);
     // Without its hash table a defines no name for others, and the section headers have the size of its symbol table.
-    let mut image = A;
-    image[0x240] = 0xf6;
-    assert!(rt; has_imports(rt.alloc(), &image, &(&[], 6, 0x121a, None))?);
-    image[0x3c] = 0;
-    assert!(rt; has_imports(rt.alloc(), &image, &(&[], 0, 0x121a, None))?);
+    let image = changed(rt.alloc(), A, A_PLACE, &[(A_PLACE, 0x240, 0xf6)])?;
+    assert!(rt; has_imports(rt.alloc(), image.as_slice(), &(&[], 6, 0x121a, None))?);
+    let edits = [(A_PLACE, 0x240, 0xf6), (A_PLACE, 0x3c, 0)];
+    let image = changed(rt.alloc(), A, A_PLACE, &edits)?;
+    assert!(rt; has_imports(rt.alloc(), image.as_slice(), &(&[], 0, 0x121a, None))?);
     Ok(())
 }
