@@ -1,6 +1,6 @@
 -- The number of symbols that a hash table tells.
-use Rattle.std.proofs.Common.{◌≡◌, ℕ, zero, suc, ◌+◌, ◌-◌, ◌*◌, ◌/◌, ◌%◌, ◌^◌, ◌<◌, ◌≤◌, ◌⊎◌, inl, inr, Bool, true, false, if◌then◌else◌, List, [], ◌∷◌, ◌++◌, length, map, get_or, All, AllPairs, refl, sym, ap, ◌∙◌, arith, subst, lit<}
-use Rattle.std.specs.Prelude.{Result, Ok, ◌==◌, not, nat_lt, nat_le, max, fold}
+use Rattle.std.proofs.Common.{◌≡◌, ℕ, zero, suc, ◌+◌, ◌-◌, ◌*◌, ◌/◌, ◌%◌, ◌^◌, ◌<◌, ◌≤◌, ◌⊎◌, inl, inr, true, false, if◌then◌else◌, List, [], ◌∷◌, ◌++◌, length, map, get_or, All, AllPairs, refl, sym, ap, ◌∙◌, arith, subst}
+use Rattle.std.specs.Prelude.{Ok, ◌==◌, not, nat_lt, nat_le, max}
 use Rattle.std.proofs.lemmas.Bool.{cases_Bool, eq-eqb, ne_eqb, eqb-true, lt-ltb, le-ltb, le-leb}
 use Rattle.std.proofs.lemmas.List.{length-append}
 use Rattle.std.proofs.lemmas.List.Elements.{All-nil, All-cons, All-head, All-tail, All-append}
@@ -13,10 +13,9 @@ use Rattle.wild_words.proofs.RecordLemmas.{length-spell}
 use Rattle.wild_records.specs.HashTables.{gnu_hash_header_size, gnu_hash_header_fields, gnu_hash_header_at, GnuHashHeaderIsRead}
 use Rattle.wild_records.specs.declared.hash_tables.GnuHashHeader.{GnuHashHeader}
 use Rattle.wild_types.specs.declared.layout.DynamicSymbol.{DynamicSymbol}
-use Rattle.wild_hashes.specs.declared.fault.LookupFault.{LookupFault}
 use Rattle.wild_hashes.specs.Laws.{IsValidGnuTable, ReadsWords}
 use Rattle.wild_hashes.specs.Reading.{read}
-use Rattle.wild_hashes.specs.Tables.{gnu_hash_of, first_in, buckets, gnu_chains, is_last, words, gnu_table, sysv_table}
+use Rattle.wild_hashes.specs.Tables.{gnu_hash_of, first_in, buckets, gnu_chains, words, gnu_table, sysv_table}
 use Rattle.wild_hashes.proofs.BucketLemmas.{length-buckets, bucket_is, bucket_small}
 use Rattle.wild_hashes.proofs.ChainLemmas.{Ascends}
 use Rattle.wild_hashes.proofs.FoundLemmas.{chains_small, hash_small}

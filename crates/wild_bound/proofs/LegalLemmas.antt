@@ -1,6 +1,6 @@
 -- The worlds of images that are bound to each other are legal.
-use Rattle.std.proofs.Common.{◌≡◌, ℕ, ℤ, zero, suc, ◌+◌, ◌-◌, ◌%◌, ◌^◌, ◌<◌, ◌≤◌, inl, inr, Bool, true, false, List, [], ◌∷◌, length, get_or, All, refl, sym, ap, ◌∙◌, arith, subst}
-use Rattle.std.specs.Prelude.{Option, Some, None, Result, Ok, ◌==◌, pos, slice_get}
+use Rattle.std.proofs.Common.{◌≡◌, ℕ, ℤ, zero, suc, ◌+◌, ◌-◌, ◌%◌, ◌^◌, ◌<◌, ◌≤◌, inl, true, false, List, [], ◌∷◌, length, get_or, All, refl, sym, ap, ◌∙◌, arith, subst}
+use Rattle.std.specs.Prelude.{Option, Some, None, Ok, ◌==◌, pos, slice_get}
 use Rattle.std.specs.Int.{w64}
 use Rattle.std.specs.Int.RustNames.{FitsSigned}
 use Rattle.std.specs.List.{filter}
@@ -24,13 +24,12 @@ use Rattle.wild_layout.specs.Image.{bytes}
 use Rattle.wild_loaded.proofs.CopiedSymbols.{raw_is}
 use Rattle.wild_layout.specs.Numbers.{SymbolNumbers as ResolutionsFit}
 use Rattle.wild_names.specs.LookUpLaws.{IsWritten}
-use Rattle.wild_names.specs.ReadLaws.{AreReadBack, DynamicSymbolsAreRead}
+use Rattle.wild_names.specs.ReadLaws.{DynamicSymbolsAreRead}
 use Rattle.wild_names.proofs.ShapeLemmas.{well_formed}
 use Rattle.wild_laws.specs.Laws.{ImagesAreSound}
 use Rattle.wild_laws.proofs.Symbols.{one_symbol}
-use Rattle.wild_meaning.specs.LinkedImage.{IsLinked}
 use Rattle.wild_meaning.specs.Value.{IsReplaceable, HasAnswer, may_be_replaced}
-use Rattle.wild_meaning.specs.World.{IsFirstModule, IsExecutable, HasResolver, IsKnownModule, IsAnswer, IsAnswered, IsOwnAnswer, AnswersSymbols, IsLegal, first_module}
+use Rattle.wild_meaning.specs.World.{IsFirstModule, HasResolver, IsKnownModule, IsAnswer, IsAnswered, IsOwnAnswer, first_module}
 use Rattle.wild_meaning.specs.Thread.{IsOwnDistance}
 use Rattle.wild_space.specs.declared.binds.Definition.{Definition}
 use Rattle.wild_space.specs.declared.image.NamedImage.{NamedImage}
@@ -41,12 +40,12 @@ use Rattle.wild_imports.specs.Imports.{thread_address}
 use Rattle.wild_space.specs.Bound.{bound}
 use Rattle.wild_space.specs.BoundLaws.{IsSameAnswer, IsMadeSymbol, IsMade, SpacesAreMade}
 use Rattle.wild_space.specs.Order.{bytes_at}
-use Rattle.wild_bound.specs.Legal.{BoundWorldsAreLegal, IsLinkedAt, BoundImagesAreLinked}
+use Rattle.wild_bound.specs.Legal.{BoundWorldsAreLegal, BoundImagesAreLinked}
 use Rattle.wild_bound.specs.Premises.{HasOwnSymbol, HasPair, AreIndexesInRange, SymbolNumbers, AnswerNumbers, WorldNumbers, HasLayout}
 use Rattle.wild_bound.proofs.AnswerLemmas.{IsAnswerFor, answered, bound_inside}
 use Rattle.wild_bound.proofs.EntryLemmas.{table_entry}
 use Rattle.wild_bound.proofs.ModuleLemmas.{pair_of, pair_none, kept_pair}
-use Rattle.wild_bound.proofs.OwnLemmas.{HasBytes, bytes_are, symbol_is, start_is, itself_defined, IsOwnEntry, own_entry, address_is, offset_is, types_differ}
+use Rattle.wild_bound.proofs.OwnLemmas.{bytes_are, symbol_is, start_is, itself_defined, IsOwnEntry, own_entry, address_is, offset_is, types_differ}
 
 -- the laws on which the proof depends
 pub record Laws : Type 0 where

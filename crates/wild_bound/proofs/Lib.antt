@@ -7,3 +7,7 @@ pub mod SelfBindingLemmas
 pub mod HashTableCounts
 pub mod SymbolCounts
 pub mod ValueLemmas
+pub mod OnImages
+pub mod WorkedBytes
+pub mod WorkedLayouts
+pub mod WorkedSpace

@@ -1,9 +1,8 @@
 -- Symbols that are bound to themselves, and the number of dynamic symbols.
-use Rattle.std.proofs.Common.{◌≡◌, ◌≢◌, ℕ, zero, suc, ◌+◌, ◌*◌, ◌%◌, ◌^◌, ◌<◌, ◌≤◌, ◌⊎◌, inl, inr, Bool, true, false, if◌then◌else◌, List, [], ◌∷◌, ◌++◌, length, map, get_or, All, refl, sym, ap, ◌∙◌, arith, subst}
-use Rattle.std.specs.Prelude.{Option, Some, None, Result, Ok, ◌==◌, ◌&&◌, not, slice_get, option_map}
+use Rattle.std.proofs.Common.{◌≡◌, ℕ, ◌+◌, ◌%◌, inl, inr, true, false, List, [], ◌∷◌, length, map, refl, sym, ap, ◌∙◌, arith, subst}
+use Rattle.std.specs.Prelude.{Option, Some, None, Ok, ◌==◌, slice_get, option_map}
 use Rattle.std.proofs.lemmas.Bool.{cases_Bool, ne_eqb}
-use Rattle.std.proofs.lemmas.Option.{slice_get-map, slice_get_within}
-use Rattle.std.proofs.lemmas.List.{length-append, length-map}
+use Rattle.std.proofs.lemmas.Option.{slice_get-map}
 use Rattle.wild_words.proofs.ListLemmas.{holds_at}
 use Rattle.wild_records.specs.Abi.Section.{shn_undef}
 use Rattle.wild_records.specs.Abi.Symbol.{stv_default}
@@ -19,26 +18,23 @@ use Rattle.wild_needs.specs.DynamicSymbols.{first_listed}
 use Rattle.wild_table_formats.specs.DynamicEntries.{listed}
 use Rattle.wild_layout.specs.Geometry.{IsLaidOut, LayoutsAreLaidOut}
 use Rattle.wild_layout.specs.Image.{bytes}
-use Rattle.wild_hashes.specs.declared.fault.ImageFault.{ImageFault}
 use Rattle.wild_hashes.specs.declared.image.Part.{Part}
-use Rattle.wild_hashes.specs.declared.image.Parts.{Parts}
 use Rattle.wild_hashes.specs.declared.tables.ImageTables.{ImageTables}
-use Rattle.wild_hashes.specs.Image.{bytes_of, bytes_or_none, gnu_by, sysv_by}
-use Rattle.wild_hashes.specs.ImageTables.{symbol_at, text_at, parts_with, find_sysv, find_gnu, find_name}
+use Rattle.wild_hashes.specs.Image.{bytes_of, bytes_or_none}
+use Rattle.wild_hashes.specs.ImageTables.{symbol_at, text_at, find_name}
 use Rattle.wild_hashes.specs.Laws.{AreNumbered, first_named, names_of, GnuLookUpFindsTheFirst, SysvLookUpFindsTheFirst, NeighboursAscend}
 use Rattle.wild_hashes.specs.LookUp.{gnu_lookup, sysv_lookup}
 use Rattle.wild_hashes.specs.Reading.{HasNoZero}
-use Rattle.wild_hashes.specs.Tables.{gnu_header, gnu_hash_of}
-use Rattle.wild_imports.specs.Imports.{find_definition, name_of}
+use Rattle.wild_hashes.specs.Tables.{gnu_header}
+use Rattle.wild_imports.specs.Imports.{find_definition}
 use Rattle.wild_names.specs.Laws.{table_symbols}
 use Rattle.wild_names.specs.LookUpLaws.{IsWritten, first_with_name}
 use Rattle.wild_names.specs.ReadLaws.{IsReadBack, AreReadBack, DynamicSymbolsAreRead}
 use Rattle.wild_names.proofs.NumberedLemmas.{defined_elsewhere, length-elsewhere, behind}
 use Rattle.wild_names.proofs.ShapeLemmas.{well_formed, gnu_laid_out}
-use Rattle.wild_space.specs.declared.binds.Definition.{Definition}
 use Rattle.wild_space.specs.declared.image.NamedImage.{NamedImage}
-use Rattle.wild_space.specs.Binds.{place_of, symbol_of, name_in, find_in, is_own, first_definition, definition_or, definition_of_name, demanded, bind, bind_entry}
-use Rattle.wild_bound.specs.SelfBinding.{HasImage, HasGnuTable, HasSysvTable, HasLookUpTable, IsDefined, VisibleSymbolsAreBound, FirstSymbolsAreBound}
+use Rattle.wild_space.specs.Binds.{place_of, symbol_of, name_in, find_in, is_own, first_definition, definition_of_name, bind}
+use Rattle.wild_bound.specs.SelfBinding.{HasGnuTable, HasSysvTable, HasLookUpTable, IsDefined, VisibleSymbolsAreBound, FirstSymbolsAreBound}
 use Rattle.wild_bound.specs.Premises.{IsBoundToItself}
 use Rattle.wild_bound.proofs.OwnLemmas.{HasBytes, bytes_are, tables_are, symbol_is}
 

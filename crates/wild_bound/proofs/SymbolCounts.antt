@@ -1,6 +1,6 @@
 -- The number of dynamic symbols that is read of an image.
-use Rattle.std.proofs.Common.{◌≡◌, ℕ, zero, suc, ◌+◌, ◌^◌, ◌<◌, ◌≤◌, inl, inr, List, length, map, get_or, refl, sym, ap, ◌∙◌, arith, subst}
-use Rattle.std.specs.Prelude.{None, Some, Result, Ok}
+use Rattle.std.proofs.Common.{◌≡◌, ℕ, ◌+◌, inl, inr, List, length, map, refl, sym, ap, ◌∙◌, arith}
+use Rattle.std.specs.Prelude.{None, Some, Ok}
 use Rattle.std.proofs.lemmas.List.{length-append, length-map}
 use Rattle.std.proofs.lemmas.Option.{slice_get_within}
 use Rattle.wild_records.specs.HashTables.{GnuHashHeaderFits, GnuHashHeaderIsRead}
@@ -10,7 +10,7 @@ use Rattle.wild_types.specs.declared.part.Role.TheVariants as role
 use Rattle.wild_types.specs.Lookups.{files_of}
 use Rattle.wild_needs.specs.DynamicPlaces.{filled_part}
 use Rattle.wild_needs.specs.DynamicSymbols.{first_listed, undefined_entries, dynamic_symbols, listed as indexes_of}
-use Rattle.wild_layout.specs.Geometry.{IsLaidOut, LayoutsAreLaidOut}
+use Rattle.wild_layout.specs.Geometry.{LayoutsAreLaidOut}
 use Rattle.wild_layout.specs.Image.{bytes}
 use Rattle.wild_hashes.specs.declared.image.Part.{Part}
 use Rattle.wild_hashes.specs.declared.tables.ImageTables.{ImageTables}

@@ -1,6 +1,6 @@
 -- The value of a symbol that another module may define is that of its definition.
-use Rattle.std.proofs.Common.{◌≡◌, ℕ, zero, suc, ◌+◌, ◌-◌, ◌<◌, ◌≤◌, inl, inr, true, false, List, [], length, sym, ap, ◌∙◌, arith, subst}
-use Rattle.std.specs.Prelude.{Option, Some, None, Ok, slice_get}
+use Rattle.std.proofs.Common.{◌≡◌, ℕ, ◌≤◌, inl, inr, true, false, List, [], sym, ap, ◌∙◌, arith, subst}
+use Rattle.std.specs.Prelude.{Option, Some, None, Ok}
 use Rattle.std.proofs.lemmas.Option.{slice_get_within}
 use Rattle.wild_types.specs.declared.layout.Layout.{Layout}
 use Rattle.wild_types.specs.declared.symbol.Resolution.{Resolution}
@@ -18,7 +18,6 @@ use Rattle.wild_space.specs.BindLaws.{BindsAreFirst}
 use Rattle.wild_space.specs.BoundLaws.{SpacesAreMade}
 use Rattle.wild_space.specs.Binds.{bind, answer_for, no_answer}
 use Rattle.wild_bound.specs.Values.{HasBoundValue, HasLinkedValue, BoundValuesAreDefinitions}
-use Rattle.wild_bound.specs.Premises.{HasLayout}
 use Rattle.wild_bound.proofs.AnswerLemmas.{answered}
 use Rattle.wild_bound.proofs.LegalLemmas.{IsMadeWorld, made_world}
 

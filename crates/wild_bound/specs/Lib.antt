@@ -2,3 +2,4 @@ pub mod Premises
 pub mod Legal
 pub mod SelfBinding
 pub mod Values
+pub mod Worked

@@ -4,6 +4,7 @@
 ghost use Rattle.wild_bound.specs.Legal.{BoundImagesAreLinked, BoundWorldsAreLegal};
 ghost use Rattle.wild_bound.specs.SelfBinding.{FirstSymbolsAreBound, IndexesAreInRange, VisibleSymbolsAreBound};
 ghost use Rattle.wild_bound.specs.Values.{BoundValuesAreDefinitions};
+ghost use Rattle.wild_bound.specs.Worked.{ConditionsAreMet};
 
 use wild_geometry::layouts_are_laid_out;
 use wild_hashes::{gnu_look_up_finds_the_first, neighbours_ascend, sysv_look_up_finds_the_first};
@@ -68,3 +69,9 @@ pub fn bound_values_are_definitions()
     spaces_are_made();
     layouts_are_laid_out();
 }
+
+/// The conditions can be met: a program and a library are bound to each other, and each is the image of a layout for which they hold.
+/// The function that the program calls is the library's.
+pub fn conditions_are_met()
+    ensures { ConditionsAreMet }
+{}
