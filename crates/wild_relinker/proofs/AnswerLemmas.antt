@@ -1,0 +1,67 @@
+-- The answer to a change.
+use Rattle.std.proofs.Common.{◌≡◌, ℕ, ◌==◌, ◌⊎◌, Bool, true, false, inl, inr, List, [], ◌∷◌, length, refl, sym, ap, ◌∙◌, arith}
+use Rattle.std.specs.Prelude.{Option, Some, None, Result, Ok, Err}
+use Rattle.wild_types.specs.declared.fault.Error.{Error}
+use Rattle.wild_types.specs.declared.fault.Fault.{Fault}
+use Rattle.wild_types.specs.declared.fault.Fault.TheVariants as faults
+use Rattle.wild_types.specs.declared.input.InputSection.{InputSection}
+use Rattle.wild_types.specs.declared.layout.Layout.{Layout}
+use Rattle.wild_types.specs.Faults.{Refuses, RefusesWith, IsFirst}
+use Rattle.wild_change.specs.declared.change.Change.{Change}
+use Rattle.wild_change.specs.Change.{found_section, changed_layout}
+use Rattle.wild_layout.specs.Faults.{errors}
+use Rattle.wild_relinker.specs.Answer.{unless_errors, answer, answer_for}
+use Rattle.wild_relinker.specs.declared.fault.RelinkFault.{RelinkFault}
+use Rattle.wild_relinker.specs.declared.fault.RelinkFault.TheVariants as refusal
+
+-- an error that refuses is out of memory, or the first fault
+first_or_memory : (f : Fault) (e : Error) (es : List Error) → RefusesWith f e es → (f ≡ faults.OutOfMemory) ⊎ IsFirst e es
+first_or_memory faults.OutOfMemory e es h = inl refl
+first_or_memory (faults.MalformedLayout c i) e es h = inr h
+first_or_memory (faults.InsufficientAllocation p g a n) e es h = inr h
+first_or_memory (faults.ExcessiveAllocation p g a n) e es h = inr h
+first_or_memory (faults.UnsupportedRelocation n) e es h = inr h
+first_or_memory (faults.MissingResolution w s) e es h = inr h
+first_or_memory (faults.RecompileWithPic n) e es h = inr h
+first_or_memory (faults.UnknownSequence n) e es h = inr h
+first_or_memory (faults.IfuncAddend a) e es h = inr h
+first_or_memory (faults.NoThunk d) e es h = inr h
+first_or_memory (faults.ThunkOutOfRange d) e es h = inr h
+first_or_memory (faults.ThunkAddend a) e es h = inr h
+first_or_memory (faults.PltTooFar d) e es h = inr h
+first_or_memory (faults.TlsOutOfSegment v) e es h = inr h
+first_or_memory (faults.StaticTlsDesc s) e es h = inr h
+first_or_memory (faults.OutOfRange v) e es h = inr h
+first_or_memory (faults.BadFrameData w) e es h = inr h
+first_or_memory (faults.FrameOffsetOverflow v) e es h = inr h
+first_or_memory (faults.OverlappingSites b) e es h = inr h
+
+first_answer : (e : Error) (es : List Error) → IsFirst e es → Err (refusal.Write e) ≡ unless_errors es
+first_answer e [] h = absurd h
+first_answer e (f ∷ fs) h = ap (λ (x : Error). Err (refusal.Write x)) h
+
+-- an error that is not out of memory is the answer
+pub write_answer : (e : Error) (es : List Error) → Refuses e es → (e.fault ≡ faults.OutOfMemory → ⊥) → Err (refusal.Write e) ≡ unless_errors es
+write_answer e es h known = by (first_or_memory e.fault e es h)
+  where
+    by : (e.fault ≡ faults.OutOfMemory) ⊎ IsFirst e es → Err (refusal.Write e) ≡ unless_errors es
+    by (inl m) = absurd (known m)
+    by (inr first) = first_answer e es first
+
+-- the answer, if the section is there and keeps its length
+same_length : (n m : ℕ) → n ≡ m → (n == m) ≡ true
+same_length n m e = grind (arith, e)
+
+pub answer-kept : (l : Layout) (c : Change) (s : InputSection) → found_section l c ≡ Some s → length c.bytes ≡ length s.bytes → answer l c ≡ unless_errors (errors (changed_layout l c))
+answer-kept l c s found n = ap (answer_for l c) found ∙ (rw (same_length _ _ n) refl)
+
+-- if the section is not there
+pub answer-none : (l : Layout) (c : Change) → found_section l c ≡ None → answer l c ≡ Err refusal.NoSection
+answer-none l c found = ap (answer_for l c) found
+
+-- if it does not keep its length
+other_length : (n m : ℕ) → (n ≡ m → ⊥) → (n == m) ≡ false
+other_length n m e = grind (arith, e)
+
+pub answer-length : (l : Layout) (c : Change) (s : InputSection) → found_section l c ≡ Some s → (length c.bytes ≡ length s.bytes → ⊥) → answer l c ≡ Err (refusal.Length (length c.bytes) (length s.bytes))
+answer-length l c s found n = ap (answer_for l c) found ∙ (rw (other_length _ _ n) refl)

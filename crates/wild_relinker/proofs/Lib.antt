@@ -1,0 +1,7 @@
+pub mod SwapLemmas
+pub mod FindLemmas
+pub mod RoleLemmas
+pub mod AnswerLemmas
+pub mod ChangedFaultLemmas
+pub mod PreparedLemmas
+pub mod ImageLemmas

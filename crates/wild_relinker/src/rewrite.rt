@@ -1,0 +1,103 @@
+//! Replaces an input section of a linked layout.
+ghost use Rattle.std.specs.Prelude.{◌≡◌, ◌≤◌, ◌+◌, OnOk, OnErr};
+ghost use Rattle.wild_types.specs.Faults.{Answers};
+ghost use Rattle.wild_layout.specs.Faults.{errors};
+ghost use Rattle.wild_change.specs.Change.{changed_layout};
+ghost use Rattle.wild_relinker.specs.Answer.{Relinks};
+ghost use Rattle.wild_relinker.specs.Changed.{KeepsLength};
+ghost use Rattle.wild_relinker.specs.Linked.{IsImage};
+
+use crate::changed_image::write_changed;
+use crate::fault::RelinkFault;
+use crate::find::{found_section, named_section};
+use crate::linked::{Image, Linked};
+use crate::swap::swap_contents;
+use std::alloc::Global;
+use std::sync::ledger::Ledger;
+use std::thread::Threads;
+use wild_change::Change;
+use wild_image::{ShardedArch, Steps, Workers};
+use wild_types::{Error, Fault};
+
+/// Replaces a section that may be changed by one with as many bytes, and exchanges its contents with those of the change. Refused with the
+/// first fault of the changed layout; then the image is as before.
+fn change_section<A: ShardedArch, R: Threads + Sync, L: Ledger>(
+    by: &Workers<R>,
+    image: &mut Image,
+    change: &mut Change,
+    steps: &mut Steps<L>,
+) -> Result<(), Error>
+    requires machine { image.old.layout.machine ≡ A.machine }
+    requires image { IsImage image.old }
+    requires found { KeepsLength image.old.layout change.old }
+    ensures faults { Answers result (errors (changed_layout image.old.layout change.old)) }
+    ensures layout { OnOk result (image.new.layout ≡ changed_layout image.old.layout change.old) }
+    ensures image { OnOk result (IsImage image.new) }
+    ensures kept { OnErr result (image.new ≡ image.old) }
+    ensures counted { OnOk result (steps.new ≡ steps.old + 1) }
+    ensures most { steps.new ≤ steps.old + 1 }
+{
+    let before = named_section(&image.layout, change)
+        .section
+        .relocations
+        .len() as u64;
+    swap_contents(by.alloc, &mut image.layout, change);
+    let found = named_section(&image.layout, change);
+    let result = write_changed::<A, R, L>(
+        by,
+        &image.layout,
+        &image.prepared,
+        change.group,
+        found,
+        before,
+        &mut image.written,
+        steps,
+    );
+    if result.is_err() {
+        swap_contents(by.alloc, &mut image.layout, change);
+    }
+    result
+}
+
+/// Why a change is refused whose layout has that fault.
+fn refusal(error: Error) -> RelinkFault {
+    match error.fault {
+        Fault::OutOfMemory => RelinkFault::OutOfMemory,
+        _ => RelinkFault::Write(error),
+    }
+}
+
+/// Replaces the bytes and the relocations of an input section, and writes its group again. If the change is refused, nothing changes.
+pub fn relink<A: ShardedArch, R: Threads + Sync, L: Ledger>(
+    rt: &R,
+    alloc: Global,
+    linked: &mut Linked,
+    change: Change,
+    steps: &mut Steps<L>,
+) -> Result<(), RelinkFault>
+    requires machine { linked.old.layout.machine ≡ A.machine }
+    ensures answered { Relinks result linked.old.layout change }
+    ensures changed { OnOk result (linked.new.layout ≡ changed_layout linked.old.layout change) }
+    ensures kept { OnErr result (linked.new ≡ linked.old) }
+    ensures counted { OnOk result (steps.new ≡ steps.old + 1) }
+    ensures most { steps.new ≤ steps.old + 1 }
+{
+    let needed = match found_section(&linked.image.layout, &change) {
+        Some(section) => section.bytes.len(),
+        None => return Err(RelinkFault::NoSection),
+    };
+    let given = change.bytes.len();
+    if given != needed {
+        return Err(RelinkFault::Length { given, needed });
+    }
+    let mut change = change;
+    let by = Workers {
+        rt,
+        alloc,
+        count: 1,
+    };
+    match change_section::<A, R, L>(&by, &mut linked.image, &mut change, steps) {
+        Ok(()) => Ok(()),
+        Err(error) => Err(refusal(error)),
+    }
+}
