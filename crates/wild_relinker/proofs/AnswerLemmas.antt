@@ -1,5 +1,5 @@
 -- The answer to a change.
-use Rattle.std.proofs.Common.{◌≡◌, ℕ, ◌==◌, ◌⊎◌, Bool, true, false, inl, inr, List, [], ◌∷◌, length, refl, sym, ap, ◌∙◌, arith}
+use Rattle.std.proofs.Common.{◌≡◌, ℕ, ◌==◌, eq-eqb, ne_eqb, ◌⊎◌, Bool, true, false, inl, inr, List, [], ◌∷◌, length, refl, sym, ap, ◌∙◌, arith}
 use Rattle.std.specs.Prelude.{Option, Some, None, Result, Ok, Err}
 use Rattle.wild_types.specs.declared.fault.Error.{Error}
 use Rattle.wild_types.specs.declared.fault.Fault.{Fault}
@@ -49,19 +49,13 @@ write_answer e es h known = by (first_or_memory e.fault e es h)
     by (inr first) = first_answer e es first
 
 -- the answer, if the section is there and keeps its length
-same_length : (n m : ℕ) → n ≡ m → (n == m) ≡ true
-same_length n m e = grind (arith, e)
-
 pub answer-kept : (l : Layout) (c : Change) (s : InputSection) → found_section l c ≡ Some s → length c.bytes ≡ length s.bytes → answer l c ≡ unless_errors (errors (changed_layout l c))
-answer-kept l c s found n = ap (answer_for l c) found ∙ (rw (same_length _ _ n) refl)
+answer-kept l c s found n = ap (answer_for l c) found ∙ rw (eq-eqb (length c.bytes) (length s.bytes) n) refl
 
 -- if the section is not there
 pub answer-none : (l : Layout) (c : Change) → found_section l c ≡ None → answer l c ≡ Err refusal.NoSection
 answer-none l c found = ap (answer_for l c) found
 
 -- if it does not keep its length
-other_length : (n m : ℕ) → (n ≡ m → ⊥) → (n == m) ≡ false
-other_length n m e = grind (arith, e)
-
 pub answer-length : (l : Layout) (c : Change) (s : InputSection) → found_section l c ≡ Some s → (length c.bytes ≡ length s.bytes → ⊥) → answer l c ≡ Err (refusal.Length (length c.bytes) (length s.bytes))
-answer-length l c s found n = ap (answer_for l c) found ∙ (rw (other_length _ _ n) refl)
+answer-length l c s found n = ap (answer_for l c) found ∙ rw (ne_eqb (length c.bytes) (length s.bytes) n) refl

@@ -1,5 +1,5 @@
 -- The image of a changed layout, by that of the layout before the change.
-use Rattle.std.proofs.Common.{◌≡◌, ℕ, zero, suc, ◌+◌, ◌-◌, ◌^◌, ◌<◌, ◌≤◌, not, ◌&&◌, Bool, true, false, List, [], ◌∷◌, map, length, All, Ok, if◌then◌else◌, refl, sym, ap, ◌∙◌, arith, subst}
+use Rattle.std.proofs.Common.{◌≡◌, ℕ, zero, suc, min, ◌+◌, ◌-◌, ◌^◌, ◌<◌, ◌≤◌, not, ◌&&◌, Bool, true, false, List, [], ◌∷◌, map, length, All, Ok, if◌then◌else◌, refl, sym, ap, ◌∙◌, arith, subst}
 use Rattle.std.specs.Prelude.{Option, Some, None, slice_get}
 use Rattle.wild_words.specs.Overlay.{AreDisjoint, overlay}
 use Rattle.wild_words.proofs.OverlayLemmas.{length-overlay}
@@ -32,8 +32,11 @@ use Rattle.wild_outlines.proofs.ClausesTests.{image_size-outline}
 use Rattle.wild_image.proofs.CountLemmas.{counted-le, total_le}
 use Rattle.wild_image.proofs.OutputLemmas.{few_lists}
 use Rattle.wild_relinker.specs.Changed.{HasFaultsOf, corrected_counts, AwaitsGroup}
+use Rattle.wild_relinker.specs.Find.{with_contents_of, IsNamed}
 use Rattle.wild_relinker.specs.Linked.{IsWritten}
+use Rattle.wild_relinker.specs.declared.find.NamedSection.{NamedSection}
 use Rattle.wild_relinker.specs.declared.linked.WrittenImage.{WrittenImage}
+use Rattle.wild_relinker.proofs.FindLemmas.{CanChange, changed_parts}
 
 -- ---- numbers of relocations
 
@@ -123,3 +126,35 @@ AwaitsGroup-from_change laid refusals image number sum l c s p w found n none h 
       enough = omega (arith, within, all);
       relocations = omega (arith, more, all);
     }
+
+-- the same for the section that was found after the change
+pub AwaitsGroup-found : LayoutsAreLaidOut → RefusalsByGroup → ChangedBytes → ChangedCounts → ChangedTotal
+    → (l : Layout) (c : Change) (s : InputSection) (m : Layout) (d : Change) (x : NamedSection) (w : WrittenImage) → CanChange l c s → m ≡ changed_layout l c → d ≡ with_contents_of s c → IsNamed m d x → errors l ≡ [] → IsWritten l w
+    → AwaitsGroup m d.group x.group.now x.file.now x.section.now (length s.relocations) w
+AwaitsGroup-found laid refusals image number sum l c s m d x w h e u named none written =
+    let q = changed_parts l c s m d x h e u named in
+    rw (q.group, q.file, q.section, e, u) (AwaitsGroup-from_change laid refusals image number sum l c s h.place w h.found h.same_length none written)
+
+-- ---- after the group is written
+
+-- the number of relocations is exact
+pub relocations_are : (l : Layout) (i : ℕ) (g : Group) (f : File) (s : InputSection) (n : ℕ) (w : WrittenImage) → AwaitsGroup l i g f s n w → errors l ≡ [] → min (2 ^ 64 - 1) (w.relocations - n + length s.relocations) ≡ relocation_count l
+relocations_are l i g f s n w h none =
+    let few = few_relocations l none in
+    let enough = h.enough in
+    let all = h.relocations in
+    omega (arith, few, enough, all)
+
+pub few_of_section : (l : Layout) (i : ℕ) (g : Group) (f : File) (s : InputSection) (n : ℕ) (w : WrittenImage) → AwaitsGroup l i g f s n w → errors l ≡ [] → length s.relocations < 2 ^ 32
+few_of_section l i g f s n w h none =
+    let few = few_relocations l none in
+    let enough = h.enough in
+    let all = h.relocations in
+    omega (arith, few, enough, all)
+
+-- the number that is checked, whether the layout has faults or not
+pub relocations_checked : (l : Layout) (i : ℕ) (g : Group) (f : File) (s : InputSection) (n : ℕ) (w : WrittenImage) → AwaitsGroup l i g f s n w → w.relocations - n + length s.relocations ≡ relocation_count l
+relocations_checked l i g f s n w h =
+    let enough = h.enough in
+    let all = h.relocations in
+    omega (arith, enough, all)

@@ -15,6 +15,11 @@ with_item_set f [] i d low = absurd (omega (arith, low))
 with_item_set f (x ∷ xs) zero d low = refl
 with_item_set {X} f (x ∷ xs) (suc i) d low = ap (λ (ys : List X). x ∷ ys) (with_item_set f xs i d (omega (arith, low)))
 
+-- the same for an item that was read and written
+pub written_item : {X : Type 0} (f : X → X) (xs : List X) (i : ℕ) (old new : X) → i < length xs → old ≡ get_or xs i old → new ≡ f old → set xs i new ≡ with_item f i xs
+written_item {X} f xs i old new low read write =
+    ap (set xs i) (write ∙ ap f read) ∙ with_item_set f xs i old low
+
 -- an item that is there has a place in the list
 pub is_within : {X : Type 0} (xs : List X) (i : ℕ) → is_some (slice_get xs i) ≡ true → i < length xs
 is_within [] i h = cc
@@ -57,3 +62,6 @@ group_back c g s found = ap (λ (fs : List File). record g { files = fs }) (with
 -- exchanged twice, the layout is as before
 pub changed_back : (l : Layout) (c : Change) (s : InputSection) → section_at l c ≡ Some s → changed_layout (changed_layout l c) (with_contents_of s c) ≡ l
 changed_back l c s found = ap (λ (gs : List Group). record l { groups = gs }) (with_item_twice (changed_group c) (changed_group (with_contents_of s c)) c.group l.groups (λ g at. group_back c g s (sym (ap (option_and_then (section_in_group c)) at) ∙ found)))
+
+pub swapped_back : (l : Layout) (c : Change) (s : InputSection) (m : Layout) (d : Change) → section_at l c ≡ Some s → m ≡ changed_layout l c → d ≡ with_contents_of s c → changed_layout m d ≡ l
+swapped_back l c s m d found e u = rw (e, u) (changed_back l c s found)

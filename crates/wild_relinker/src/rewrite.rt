@@ -1,9 +1,11 @@
 //! Replaces an input section of a linked layout.
-ghost use Rattle.std.specs.Prelude.{◌≡◌, ◌≤◌, ◌+◌, OnOk, OnErr};
-ghost use Rattle.wild_types.specs.Faults.{Answers};
+ghost use Rattle.std.specs.Prelude.{◌≡◌, ◌≤◌, ◌+◌, ◌⊎◌, List, Err, OnOk, OnErr};
+ghost use Rattle.wild_types.specs.declared.fault.Error.{Error};
+ghost use Rattle.wild_types.specs.Faults.{Refuses, Answers};
 ghost use Rattle.wild_layout.specs.Faults.{errors};
 ghost use Rattle.wild_change.specs.Change.{changed_layout};
-ghost use Rattle.wild_relinker.specs.Answer.{Relinks};
+ghost use Rattle.wild_relinker.specs.Answer.{unless_errors, Relinks};
+ghost use Rattle.wild_relinker.specs.declared.fault.RelinkFault.TheVariants.{OutOfMemory};
 ghost use Rattle.wild_relinker.specs.Changed.{KeepsLength};
 ghost use Rattle.wild_relinker.specs.Linked.{IsImage};
 
@@ -43,7 +45,7 @@ fn change_section<A: ShardedArch, R: Threads + Sync, L: Ledger>(
         .len() as u64;
     swap_contents(by.alloc, &mut image.layout, change);
     let found = named_section(&image.layout, change);
-    let result = write_changed::<A, R, L>(
+    match write_changed::<A, R, L>(
         by,
         &image.layout,
         &image.prepared,
@@ -52,15 +54,19 @@ fn change_section<A: ShardedArch, R: Threads + Sync, L: Ledger>(
         before,
         &mut image.written,
         steps,
-    );
-    if result.is_err() {
-        swap_contents(by.alloc, &mut image.layout, change);
+    ) {
+        Ok(()) => Ok(()),
+        Err(error) => {
+            swap_contents(by.alloc, &mut image.layout, change);
+            Err(error)
+        }
     }
-    result
 }
 
 /// Why a change is refused whose layout has that fault.
-fn refusal(error: Error) -> RelinkFault {
+fn refusal(error: Error) -> RelinkFault
+    ensures { (es : List Error) → Refuses error es → (Err result ≡ unless_errors es) ⊎ (result ≡ OutOfMemory) }
+{
     match error.fault {
         Fault::OutOfMemory => RelinkFault::OutOfMemory,
         _ => RelinkFault::Write(error),

@@ -20,7 +20,6 @@ fn swap_section(section: &mut InputSection, change: &mut Change)
 }
 
 /// The same for the section of a file that the change names.
-#[tactic(auto, using(crate::proofs::SwapLemmas::with_item_set))]
 fn swap_in_file(alloc: Global, file: &mut File, change: &mut Change)
     requires { is_some (section_in_file change.old file.old) ≡ true }
     ensures file { file.new ≡ changed_file change.old file.old }
@@ -33,7 +32,6 @@ fn swap_in_file(alloc: Global, file: &mut File, change: &mut Change)
 }
 
 /// The same for the section of a group that the change names.
-#[tactic(auto, using(crate::proofs::SwapLemmas::with_item_set))]
 fn swap_in_group(alloc: Global, group: &mut Group, change: &mut Change)
     requires { is_some (section_in_group change.old group.old) ≡ true }
     ensures group { group.new ≡ changed_group change.old group.old }
@@ -46,7 +44,6 @@ fn swap_in_group(alloc: Global, group: &mut Group, change: &mut Change)
 }
 
 /// Exchanges the contents of the section that a change names with those of the change. It takes no memory.
-#[tactic(auto, using(crate::proofs::SwapLemmas::with_item_set))]
 pub(crate) fn swap_contents(alloc: Global, layout: &mut Layout, change: &mut Change)
     requires { is_some (section_at layout.old change.old) ≡ true }
     ensures layout { layout.new ≡ changed_layout layout.old change.old }
