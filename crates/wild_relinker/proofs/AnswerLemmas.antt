@@ -10,7 +10,7 @@ use Rattle.wild_types.specs.Faults.{Refuses, RefusesWith, IsFirst}
 use Rattle.wild_change.specs.declared.change.Change.{Change}
 use Rattle.wild_change.specs.Change.{found_section, changed_layout}
 use Rattle.wild_layout.specs.Faults.{errors}
-use Rattle.wild_relinker.specs.Answer.{unless_errors, answer, answer_for}
+use Rattle.wild_relinker.specs.Answer.{unless_errors, answer, answer_for, Relinks}
 use Rattle.wild_relinker.specs.declared.fault.RelinkFault.{RelinkFault}
 use Rattle.wild_relinker.specs.declared.fault.RelinkFault.TheVariants as refusal
 
@@ -59,3 +59,18 @@ answer-none l c found = ap (answer_for l c) found
 -- if it does not keep its length
 pub answer-length : (l : Layout) (c : Change) (s : InputSection) → found_section l c ≡ Some s → (length c.bytes ≡ length s.bytes → ⊥) → answer l c ≡ Err (refusal.Length (length c.bytes) (length s.bytes))
 answer-length l c s found n = ap (answer_for l c) found ∙ rw (ne_eqb (length c.bytes) (length s.bytes) n) refl
+
+-- ---- what a change answers
+
+pub relinks_none : (l : Layout) (c : Change) → None ≡ found_section l c → Relinks (Err refusal.NoSection) l c
+relinks_none l c found = inl (sym (answer-none l c (sym found)))
+
+pub relinks_length : (l : Layout) (c : Change) (s : InputSection) → Some s ≡ found_section l c → (length c.bytes ≡ length s.bytes → ⊥) → Relinks (Err (refusal.Length (length c.bytes) (length s.bytes))) l c
+relinks_length l c s found other = inl (sym (answer-length l c s (sym found) other))
+
+pub relinks_ok : (l : Layout) (c : Change) (s : InputSection) → Some s ≡ found_section l c → length c.bytes ≡ length s.bytes → errors (changed_layout l c) ≡ [] → Relinks (Ok tt) l c
+relinks_ok l c s found n none = inl (sym (answer-kept l c s (sym found) n ∙ ap unless_errors none))
+
+pub relinks_refused : (l : Layout) (c : Change) (s : InputSection) (f : RelinkFault) → Some s ≡ found_section l c → length c.bytes ≡ length s.bytes → (Err f ≡ unless_errors (errors (changed_layout l c))) ⊎ (f ≡ refusal.OutOfMemory) → Relinks (Err f) l c
+relinks_refused l c s f found n (inl h) = inl (h ∙ sym (answer-kept l c s (sym found) n))
+relinks_refused l c s f found n (inr h) = inr (ap (λ (x : RelinkFault). Err x) h)

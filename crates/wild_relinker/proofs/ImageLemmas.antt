@@ -1,6 +1,7 @@
 -- The image of a changed layout, by that of the layout before the change.
-use Rattle.std.proofs.Common.{◌≡◌, ℕ, zero, suc, min, ◌+◌, ◌-◌, ◌^◌, ◌<◌, ◌≤◌, not, ◌&&◌, Bool, true, false, List, [], ◌∷◌, map, length, All, Ok, if◌then◌else◌, refl, sym, ap, ◌∙◌, arith, subst}
+use Rattle.std.proofs.Common.{◌≡◌, ℕ, zero, suc, min, nat_lt, inl, inr, ◌+◌, ◌-◌, ◌^◌, ◌<◌, ◌≤◌, not, ◌&&◌, Bool, true, false, List, [], ◌∷◌, map, length, All, Ok, if◌then◌else◌, refl, sym, ap, ◌∙◌, arith, subst}
 use Rattle.std.specs.Prelude.{Option, Some, None, slice_get}
+use Rattle.std.proofs.lemmas.Bool.{cases_Bool, ltb-true, ltb-false, lt-ltb, le-ltb}
 use Rattle.wild_words.specs.Overlay.{AreDisjoint, overlay}
 use Rattle.wild_words.proofs.OverlayLemmas.{length-overlay}
 use Rattle.wild_types.specs.declared.input.InputSection.{InputSection}
@@ -31,9 +32,11 @@ use Rattle.wild_outlines.proofs.ChangedLemmas.{none_before}
 use Rattle.wild_outlines.proofs.ClausesTests.{image_size-outline}
 use Rattle.wild_image.proofs.CountLemmas.{counted-le, total_le}
 use Rattle.wild_image.proofs.OutputLemmas.{few_lists}
-use Rattle.wild_relinker.specs.Changed.{HasFaultsOf, corrected_counts, AwaitsGroup}
+use Rattle.wild_image.specs.Prepared.{IsPrepared}
+use Rattle.wild_relinker.specs.Changed.{HasFaultsOf, corrected_counts, AwaitsGroup, IsSameImage}
 use Rattle.wild_relinker.specs.Find.{with_contents_of, IsNamed}
-use Rattle.wild_relinker.specs.Linked.{IsWritten}
+use Rattle.wild_relinker.specs.Linked.{IsWritten, IsImage}
+use Rattle.wild_relinker.specs.declared.linked.Image.{Image}
 use Rattle.wild_relinker.specs.declared.find.NamedSection.{NamedSection}
 use Rattle.wild_relinker.specs.declared.linked.WrittenImage.{WrittenImage}
 use Rattle.wild_relinker.proofs.FindLemmas.{CanChange, changed_parts}
@@ -86,7 +89,7 @@ is_omitted-changed l c s =
     rw (header_only-changed l c (slice_get l.sections (section_of_part (part_with role.EhFrame l.parts))), header_only-changed l c (slice_get l.sections (section_of l s.part))) refl
 
 -- the counts with those of the changed section, if its relocations are counted
-counts_if : Layout → Change → InputSection → List ℕ → Bool → List ℕ
+abbrev counts_if : Layout → Change → InputSection → List ℕ → Bool → List ℕ
 counts_if l c s ks omitted =
     if not (is_partial_link l.kind) && (is_counted s && not omitted)
     then with_item (λ n. n + length c.relocations - length s.relocations) (section_of l s.part) ks
@@ -152,9 +155,26 @@ few_of_section l i g f s n w h none =
     let all = h.relocations in
     omega (arith, few, enough, all)
 
--- the number that is checked, whether the layout has faults or not
-pub relocations_checked : (l : Layout) (i : ℕ) (g : Group) (f : File) (s : InputSection) (n : ℕ) (w : WrittenImage) → AwaitsGroup l i g f s n w → w.relocations - n + length s.relocations ≡ relocation_count l
-relocations_checked l i g f s n w h =
+-- whether these are few, by the number that is kept below 2^64
+pub few_by_number : (l : Layout) (i : ℕ) (g : Group) (f : File) (s : InputSection) (n : ℕ) (w : WrittenImage) (r : ℕ) → AwaitsGroup l i g f s n w → r ≡ min (2 ^ 64 - 1) (w.relocations - n + length s.relocations) → nat_lt r (2 ^ 32 - 1) ≡ nat_lt (relocation_count l) (2 ^ 32 - 1)
+few_by_number l i g f s n w r h e =
     let enough = h.enough in
     let all = h.relocations in
-    omega (arith, enough, all)
+    elim (cases_Bool (nat_lt (relocation_count l) (2 ^ 32 - 1))) [
+      | inl t ↦ let low = ltb-true _ _ t in lt-ltb r (2 ^ 32 - 1) (omega (arith, e, enough, all, low)) ∙ sym t
+      | inr t ↦ let high = ltb-false _ _ t in le-ltb r (2 ^ 32 - 1) (omega (arith, e, enough, all, high)) ∙ sym t
+    ]
+
+-- ---- after a refusal
+
+-- the layout as before, and the same bytes and counts, are an image as before
+pub IsImage-restored : (k : Image) (m : Layout) (w : WrittenImage) → IsImage k → m ≡ k.layout → IsSameImage w k.written → IsImage (record { layout = m; prepared = k.prepared; written = w })
+IsImage-restored k m w h back same = record {
+  faultless = subst (λ (l : Layout). errors l ≡ []) (sym back) h.faultless;
+  written = subst (λ (l : Layout). IsWritten l w) (sym back) (record {
+    bytes = same.bytes ∙ h.written.bytes;
+    counts = same.counts ∙ h.written.counts;
+    relocations = same.relocations ∙ h.written.relocations;
+  });
+  prepared = subst (λ (l : Layout). IsPrepared l k.prepared) (sym back) h.prepared;
+}

@@ -5,3 +5,4 @@ pub mod AnswerLemmas
 pub mod ChangedFaultLemmas
 pub mod PreparedLemmas
 pub mod ImageLemmas
+pub mod LinkedLemmas

@@ -1,5 +1,6 @@
 -- The roles that need a part for dynamic relocations.
-use Rattle.std.proofs.Common.{eq-eqb, ne_eqb, sym, ap, ◌∙◌, ◌≡◌, ◌≢◌, ◌≤◌, ◌-◌, ◌^◌, ℕ, zero, suc, min, ◌*◌, ◌==◌, ◌||◌, not, Bool, true, false, List, length, Option, Some, None, if◌then◌else◌, refl, arith}
+use Rattle.std.proofs.Common.{◌≡◌, ◌-◌, ◌^◌, ◌*◌, ℕ, min, ◌==◌, ◌||◌, not, Bool, true, false, true≢false, List, length, Option, Some, None, if◌then◌else◌, inl, inr, refl, sym, ap, ◌∙◌, arith}
+use Rattle.std.proofs.lemmas.Bool.{cases_Bool, eq-eqb, ne_eqb, eqb-true}
 use Rattle.std.specs.List.{list_any}
 use Rattle.wild_types.specs.declared.input.InputSection.{InputSection}
 use Rattle.wild_types.specs.declared.layout.Layout.{Layout}
@@ -7,38 +8,55 @@ use Rattle.wild_types.specs.declared.part.Role.TheVariants as role
 use Rattle.wild_types.specs.Lists.{first_failing}
 use Rattle.wild_types.specs.Parts.{has_role}
 use Rattle.wild_plan_rules.specs.Places.{roles}
+use Rattle.wild_needs.specs.Entries.{rela_places, words_of, dynamic_relocations}
 use Rattle.wild_outlines.specs.RefusalLaws.{needs_no_part}
 
 or_true : (b : Bool) → (b || true) ≡ true
 or_true true = refl
 or_true false = refl
 
--- the first of the three roles that has no part, although one is needed
-pub first_without_part : Bool → Bool → Bool → Option ℕ
+-- the first of the three roles that has no part, although one is needed; other roles need none
+abbrev first_without_part : Bool → Bool → Bool → Option ℕ
 first_without_part relative general relr = if not relative then Some 9 else (if not general then Some 10 else (if not relr then Some 11 else None))
 
--- other roles need none
-pub roles_without_part : (l : Layout) (s : InputSection)
+roles_without_part : (l : Layout) (s : InputSection)
     → first_failing (needs_no_part l s) 0 roles ≡ first_without_part (needs_no_part l s role.RelaDynRelative) (needs_no_part l s role.RelaDynGeneral) (needs_no_part l s role.RelrDyn)
-roles_without_part l s = simp (or_true)
+roles_without_part l s = simp (or_true) refl
+
+pub without_relative : (l : Layout) (s : InputSection) → not (needs_no_part l s role.RelaDynRelative) ≡ true → first_failing (needs_no_part l s) 0 roles ≡ Some 9
+without_relative l s a = roles_without_part l s ∙ rw a refl
+
+pub without_general : (l : Layout) (s : InputSection) → not (needs_no_part l s role.RelaDynRelative) ≡ false → not (needs_no_part l s role.RelaDynGeneral) ≡ true → first_failing (needs_no_part l s) 0 roles ≡ Some 10
+without_general l s a b = roles_without_part l s ∙ rw (a, b) refl
+
+pub without_relr : (l : Layout) (s : InputSection) → not (needs_no_part l s role.RelaDynRelative) ≡ false → not (needs_no_part l s role.RelaDynGeneral) ≡ false → not (needs_no_part l s role.RelrDyn) ≡ true → first_failing (needs_no_part l s) 0 roles ≡ Some 11
+without_relr l s a b d = roles_without_part l s ∙ rw (a, b, d) refl
+
+pub without_none : (l : Layout) (s : InputSection) → not (needs_no_part l s role.RelaDynRelative) ≡ false → not (needs_no_part l s role.RelaDynGeneral) ≡ false → not (needs_no_part l s role.RelrDyn) ≡ false → first_failing (needs_no_part l s) 0 roles ≡ None
+without_none l s a b d = roles_without_part l s ∙ rw (a, b, d) refl
 
 -- ---- the number of entries that need a part
 
--- a number of items is 0 if their size is, also if the number is cut at its type's end
-pub none_needed : (count size n : ℕ) → 1 ≤ size → count ≡ min (2 ^ 64 - 1) n → (count == 0) ≡ (size * n == 0)
-none_needed count size zero h e =
-    let c : count ≡ 0 = omega (arith, e) in
-    let p : size * 0 ≡ 0 = omega arith in
-    eq-eqb count 0 c ∙ sym (eq-eqb (size * 0) 0 p)
-none_needed count (suc size) (suc n) h e =
-    let c : count ≢ 0 = omega (arith, e) in
-    let p : suc size * suc n ≢ 0 = λ z. not_zero size n z in
-    ne_eqb count 0 c ∙ sym (ne_eqb (suc size * suc n) 0 p)
-  where
-    not_zero : (a b : ℕ) → suc a * suc b ≡ 0 → ⊥
-    not_zero a b z = cc
-none_needed count zero (suc n) h e = absurd (omega (arith, h))
+-- no bytes are needed exactly if the number of items is 0, also if the number is cut at its type's end
+none_needed : (count bytes n : ℕ) → count ≡ min (2 ^ 64 - 1) n → (n ≡ 0 → bytes ≡ 0) → (bytes ≡ 0 → n ≡ 0) → (count == 0) ≡ (bytes == 0)
+none_needed count bytes n e up down =
+    elim (cases_Bool (count == 0)) [
+      | inl t ↦ let c = eqb-true count 0 t in let z : n ≡ 0 = omega (arith, e, c) in t ∙ sym (eq-eqb bytes 0 (up z))
+      | inr t ↦ t ∙ sym (ne_eqb bytes 0 (λ b. let z = down b in let c : count ≡ 0 = omega (arith, e, z) in true≢false (sym (eq-eqb count 0 c) ∙ t)))
+    ]
 
--- so a role needs no part in the same cases
-pub needs_none : (b : Bool) (count size n : ℕ) → 1 ≤ size → count ≡ min (2 ^ 64 - 1) n → not (b || count == 0) ≡ not (b || size * n == 0)
-needs_none b count size n h e = ap (λ (z : Bool). not (b || z)) (none_needed count size n h e)
+-- a role lacks a part for these entries or words
+pub lacks_relative : (l : Layout) (s : InputSection) (count : ℕ) → count ≡ min (2 ^ 64 - 1) (length (rela_places l s)) → not (list_any (has_role role.RelaDynRelative) l.parts || count == 0) ≡ not (needs_no_part l s role.RelaDynRelative)
+lacks_relative l s count e =
+    let n = length (rela_places l s) in
+    ap (λ (z : Bool). not (list_any (has_role role.RelaDynRelative) l.parts || z)) (none_needed count (24 * n) n e (λ z. omega (arith, z)) (λ z. omega (arith, z)))
+
+pub lacks_general : (l : Layout) (s : InputSection) (count : ℕ) → count ≡ min (2 ^ 64 - 1) (length (dynamic_relocations l s)) → not (list_any (has_role role.RelaDynGeneral) l.parts || count == 0) ≡ not (needs_no_part l s role.RelaDynGeneral)
+lacks_general l s count e =
+    let n = length (dynamic_relocations l s) in
+    ap (λ (z : Bool). not (list_any (has_role role.RelaDynGeneral) l.parts || z)) (none_needed count (24 * n) n e (λ z. omega (arith, z)) (λ z. omega (arith, z)))
+
+pub lacks_relr : (l : Layout) (s : InputSection) (count : ℕ) → count ≡ min (2 ^ 64 - 1) (length (words_of l s)) → not (list_any (has_role role.RelrDyn) l.parts || count == 0) ≡ not (needs_no_part l s role.RelrDyn)
+lacks_relr l s count e =
+    let n = length (words_of l s) in
+    ap (λ (z : Bool). not (list_any (has_role role.RelrDyn) l.parts || z)) (none_needed count (8 * n) n e (λ z. omega (arith, z)) (λ z. omega (arith, z)))

@@ -1,5 +1,5 @@
 -- Laws of an exchange of contents.
-use Rattle.std.proofs.Common.{◌≡◌, ℕ, zero, suc, List, [], ◌∷◌, length, set, get_or, ◌<◌, refl, ap, sym, ◌∙◌, arith}
+use Rattle.std.proofs.Common.{◌≡◌, ℕ, zero, suc, List, [], ◌∷◌, length, set, get_or, ◌<◌, ◌≤◌, refl, ap, sym, ◌∙◌, arith}
 use Rattle.std.specs.Prelude.{Option, Some, None, slice_get, option_and_then, is_some, true}
 use Rattle.wild_types.specs.declared.input.InputSection.{InputSection}
 use Rattle.wild_types.specs.declared.file.File.{File}
@@ -19,6 +19,12 @@ with_item_set {X} f (x ∷ xs) (suc i) d low = ap (λ (ys : List X). x ∷ ys) (
 pub written_item : {X : Type 0} (f : X → X) (xs : List X) (i : ℕ) (old new : X) → i < length xs → old ≡ get_or xs i old → new ≡ f old → set xs i new ≡ with_item f i xs
 written_item {X} f xs i old new low read write =
     ap (set xs i) (write ∙ ap f read) ∙ with_item_set f xs i old low
+
+-- a list without item i
+pub with_item-past : {X : Type 0} (f : X → X) (xs : List X) (i : ℕ) → length xs ≤ i → with_item f i xs ≡ xs
+with_item-past f [] i past = refl
+with_item-past f (x ∷ xs) zero past = absurd (omega (arith, past))
+with_item-past {X} f (x ∷ xs) (suc i) past = ap (λ (ys : List X). x ∷ ys) (with_item-past f xs i (omega (arith, past)))
 
 -- an item that is there has a place in the list
 pub is_within : {X : Type 0} (xs : List X) (i : ℕ) → is_some (slice_get xs i) ≡ true → i < length xs

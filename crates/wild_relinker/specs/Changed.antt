@@ -3,6 +3,7 @@
 --   HasFaultsOf l i g f s         the faults of the layout are those that a change of section s of file f of group i can cause
 --   corrected_counts l s n ks     the counts ks, where section s had n relocations, with those that it has
 --   AwaitsGroup l i g f s n w     w was written before that change, when the section had n relocations
+--   IsSameImage w v               w and v are the same bytes and counts
 use Rattle.std.specs.Prelude.{◌≡◌, ◌≤◌, ◌<◌, ℕ, ◌+◌, ◌-◌, ◌^◌, ◌&&◌, not, if◌then◌else◌, List, [], ◌++◌, length, Some, All}
 use Rattle.wild_words.specs.Overlay.{overlay}
 use Rattle.wild_types.specs.declared.input.InputSection.{InputSection}
@@ -50,3 +51,9 @@ pub record AwaitsGroup (l : Layout) (i : ℕ) (g : Group) (f : File) (s : InputS
   pub few : All (λ k. k < 2 ^ 32) w.counts.items
   pub enough : n ≤ w.relocations
   pub relocations : relocation_count l + n ≡ w.relocations + length s.relocations
+
+-- the same bytes and counts, and the same number of relocations
+pub record IsSameImage (w v : WrittenImage) : Type 0 where
+  pub bytes : w.out.items ≡ v.out.items
+  pub counts : w.counts.items ≡ v.counts.items
+  pub relocations : w.relocations ≡ v.relocations

@@ -1,6 +1,6 @@
 //! The faults of clauses and shares that a changed layout has, if it had none before the change. They depend on the changed section, its
 //! file and its group only.
-ghost use Rattle.std.specs.Prelude.{◌≡◌, ◌-◌, ◌^◌, ◌==◌, ◌||◌, not, ◌++◌, min};
+ghost use Rattle.std.specs.Prelude.{◌≡◌, ◌-◌, ◌^◌, ◌==◌, ◌||◌, not, ◌++◌, nat_lt};
 ghost use Rattle.std.specs.List.{list_any};
 ghost use Rattle.wild_types.specs.Faults.{Answers};
 ghost use Rattle.wild_types.specs.Lists.{first_failing};
@@ -20,9 +20,6 @@ use wild_types::{
     At, Clause, Error, Fault, File, Group, InputSection, Layout, Part, Role, excessive,
     insufficient, is_there, place_of,
 };
-
-/// A layout has fewer relocations than this.
-const RELOCATION_LIMIT: u64 = (1 << 32) - 1;
 
 /// Clause `clause` fails at place `index`, unless its test passes.
 fn fails_unless(clause: u32, index: usize, passes: bool) -> Result<(), Clause>
@@ -69,20 +66,20 @@ fn check_roles(layout: &Layout, file: &File, section: &InputSection) -> Result<(
     }
 }
 
-/// The first clause that a change of a section of group `index` breaks. All sections together have `relocations` relocations.
+/// The first clause that a change of a section of group `index` breaks. `few`: the layout has fewer than 2^32 - 1 relocations.
 #[tactic(auto, unfolding(wild_outlines::specs::RefusalLaws::changed_clause))]
 fn check_clauses(
     layout: &Layout,
     index: usize,
     found: NamedSection<'_>,
-    relocations: u64,
+    few: bool,
 ) -> Result<(), Clause>
-    requires { relocations ≡ min (2 ^ 64 - 1) (relocation_count layout.now) }
-    ensures { result ≡ changed_clause layout.now index found.file.now found.section.now }
+    requires { few ≡ nat_lt (relocation_count layout.now) (2 ^ 32 - 1) }
+    ensures { result ≡ changed_clause layout.now index found.entry.file.now found.entry.section.now }
 {
     let NamedSection { file, section, .. } = found;
     let machine = layout.machine;
-    fails_unless(2, 0, relocations < RELOCATION_LIMIT)?;
+    fails_unless(2, 0, few)?;
     check_roles(layout, file, section)?;
     fails_unless(9, index, section_indexes_fit(layout, section))?;
     fails_unless(10, index, fields_lie(machine, section))?;
@@ -136,18 +133,18 @@ fn check_shares(layout: &Layout, index: usize, group: &Group) -> Result<(), Erro
     Ok(())
 }
 
-/// Refuses a layout with the first fault of clauses and shares that a change of a section of group `index` causes. All sections together
-/// have `relocations` relocations.
+/// Refuses a layout with the first fault of clauses and shares that a change of a section of group `index` causes. `few`: the layout has
+/// fewer than 2^32 - 1 relocations.
 pub(crate) fn check_changed(
     layout: &Layout,
     index: usize,
     found: NamedSection<'_>,
-    relocations: u64,
+    few: bool,
 ) -> Result<(), Error>
-    requires { relocations ≡ min (2 ^ 64 - 1) (relocation_count layout.now) }
-    ensures { Answers result (clause_errors (changed_clause layout.now index found.file.now found.section.now) ++ changed_shares layout.now index found.group.now) }
+    requires { few ≡ nat_lt (relocation_count layout.now) (2 ^ 32 - 1) }
+    ensures { Answers result (clause_errors (changed_clause layout.now index found.entry.file.now found.entry.section.now) ++ changed_shares layout.now index found.entry.group.now) }
 {
-    match check_clauses(layout, index, found, relocations) {
+    match check_clauses(layout, index, found, few) {
         Ok(()) => check_shares(layout, index, found.group),
         Err(clause) => Err(Error {
             fault: Fault::MalformedLayout {

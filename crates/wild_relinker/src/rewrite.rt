@@ -3,6 +3,7 @@ ghost use Rattle.std.specs.Prelude.{◌≡◌, ◌≤◌, ◌+◌, ◌⊎◌, Li
 ghost use Rattle.wild_types.specs.declared.fault.Error.{Error};
 ghost use Rattle.wild_types.specs.Faults.{Refuses, Answers};
 ghost use Rattle.wild_layout.specs.Faults.{errors};
+ghost use Rattle.wild_layout.specs.Warnings.{warnings};
 ghost use Rattle.wild_change.specs.Change.{changed_layout};
 ghost use Rattle.wild_relinker.specs.Answer.{unless_errors, Relinks};
 ghost use Rattle.wild_relinker.specs.declared.fault.RelinkFault.TheVariants.{OutOfMemory};
@@ -18,11 +19,16 @@ use std::alloc::Global;
 use std::sync::ledger::Ledger;
 use std::thread::Threads;
 use wild_change::Change;
+use wild_geometry::layouts_are_laid_out;
 use wild_image::{ShardedArch, Steps, Workers};
+use wild_outlines::{
+    changed_bytes, changed_counts, changed_total, refusals_by_group, values_by_outline,
+};
 use wild_types::{Error, Fault};
 
 /// Replaces a section that may be changed by one with as many bytes, and exchanges its contents with those of the change. Refused with the
-/// first fault of the changed layout; then the image is as before.
+/// first fault of the changed layout; then the layout is as before. The image is that of the layout in any case,
+/// and the warnings stay.
 fn change_section<A: ShardedArch, R: Threads + Sync, L: Ledger>(
     by: &Workers<R>,
     image: &mut Image,
@@ -34,11 +40,18 @@ fn change_section<A: ShardedArch, R: Threads + Sync, L: Ledger>(
     requires found { KeepsLength image.old.layout change.old }
     ensures faults { Answers result (errors (changed_layout image.old.layout change.old)) }
     ensures layout { OnOk result (image.new.layout ≡ changed_layout image.old.layout change.old) }
-    ensures image { OnOk result (IsImage image.new) }
-    ensures kept { OnErr result (image.new ≡ image.old) }
+    ensures image { IsImage image.new }
+    ensures warnings { warnings image.new.layout ≡ warnings image.old.layout }
+    ensures kept { OnErr result (image.new.layout ≡ image.old.layout) }
     ensures counted { OnOk result (steps.new ≡ steps.old + 1) }
     ensures most { steps.new ≤ steps.old + 1 }
 {
+    layouts_are_laid_out();
+    refusals_by_group();
+    changed_bytes();
+    changed_counts();
+    changed_total();
+    values_by_outline();
     let before = named_section(&image.layout, change)
         .section
         .relocations
@@ -73,6 +86,39 @@ fn refusal(error: Error) -> RelinkFault
     }
 }
 
+/// Replaces the bytes and the relocations of an input section, and writes its group again. If the change is refused, the layout is as
+/// before. The image is that of the layout in any case, and the warnings stay.
+fn relink_image<A: ShardedArch, R: Threads + Sync, L: Ledger>(
+    by: &Workers<R>,
+    image: &mut Image,
+    change: Change,
+    steps: &mut Steps<L>,
+) -> Result<(), RelinkFault>
+    requires machine { image.old.layout.machine ≡ A.machine }
+    requires image { IsImage image.old }
+    ensures answered { Relinks result image.old.layout change }
+    ensures changed { OnOk result (image.new.layout ≡ changed_layout image.old.layout change) }
+    ensures image { IsImage image.new }
+    ensures warnings { warnings image.new.layout ≡ warnings image.old.layout }
+    ensures kept { OnErr result (image.new.layout ≡ image.old.layout) }
+    ensures counted { OnOk result (steps.new ≡ steps.old + 1) }
+    ensures most { steps.new ≤ steps.old + 1 }
+{
+    let Some(section) = found_section(&image.layout, &change) else {
+        return Err(RelinkFault::NoSection);
+    };
+    let needed = section.bytes.len();
+    let given = change.bytes.len();
+    if given != needed {
+        return Err(RelinkFault::Length { given, needed });
+    }
+    let mut change = change;
+    match change_section::<A, R, L>(by, image, &mut change, steps) {
+        Ok(()) => Ok(()),
+        Err(error) => Err(refusal(error)),
+    }
+}
+
 /// Replaces the bytes and the relocations of an input section, and writes its group again. If the change is refused, nothing changes.
 pub fn relink<A: ShardedArch, R: Threads + Sync, L: Ledger>(
     rt: &R,
@@ -88,22 +134,10 @@ pub fn relink<A: ShardedArch, R: Threads + Sync, L: Ledger>(
     ensures counted { OnOk result (steps.new ≡ steps.old + 1) }
     ensures most { steps.new ≤ steps.old + 1 }
 {
-    let needed = match found_section(&linked.image.layout, &change) {
-        Some(section) => section.bytes.len(),
-        None => return Err(RelinkFault::NoSection),
-    };
-    let given = change.bytes.len();
-    if given != needed {
-        return Err(RelinkFault::Length { given, needed });
-    }
-    let mut change = change;
     let by = Workers {
         rt,
         alloc,
         count: 1,
     };
-    match change_section::<A, R, L>(&by, &mut linked.image, &mut change, steps) {
-        Ok(()) => Ok(()),
-        Err(error) => Err(refusal(error)),
-    }
+    relink_image::<A, R, L>(&by, &mut linked.image, change, steps)
 }
