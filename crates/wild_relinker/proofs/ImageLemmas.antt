@@ -1,5 +1,5 @@
 -- The image of a changed layout, by that of the layout before the change.
-use Rattle.std.proofs.Common.{◌≡◌, ℕ, zero, suc, min, nat_lt, inl, inr, ◌+◌, ◌-◌, ◌^◌, ◌<◌, ◌≤◌, not, ◌&&◌, Bool, true, false, List, [], ◌∷◌, map, length, All, Ok, if◌then◌else◌, refl, sym, ap, ◌∙◌, arith, subst}
+use Rattle.std.proofs.Common.{◌≡◌, ℕ, zero, suc, min, nat_lt, inl, inr, ◌+◌, ◌-◌, ◌^◌, ◌<◌, ◌≤◌, not, ◌&&◌, Bool, true, false, List, [], ◌∷◌, map, length, All, if◌then◌else◌, refl, sym, ap, ◌∙◌, arith, subst}
 use Rattle.std.specs.Prelude.{Option, Some, None, slice_get}
 use Rattle.std.proofs.lemmas.Bool.{cases_Bool, ltb-true, ltb-false, lt-ltb, le-ltb}
 use Rattle.wild_words.specs.Overlay.{AreDisjoint, overlay}
@@ -16,6 +16,7 @@ use Rattle.wild_types.specs.Lists.{total}
 use Rattle.wild_types.specs.Lookups.{header_only, image_size, is_counted, section_of, section_of_part}
 use Rattle.wild_types.specs.Parts.{part_with}
 use Rattle.wild_change.specs.declared.change.Change.{Change}
+use Rattle.wild_change.specs.Outline.{outline}
 use Rattle.wild_change.specs.Change.{found_section, with_item, changed_section, changed_file, changed_group, changed_layout}
 use Rattle.wild_plan_rules.specs.ClauseTests.{check_sizes, check_counts}
 use Rattle.wild_plan_rules.specs.Places.{relocations_in, relocations_of, relocation_count}
@@ -24,16 +25,18 @@ use Rattle.wild_plan_rules.proofs.ClauseLemmas.{first_holds, rest_holds}
 use Rattle.wild_layout.specs.Faults.{errors}
 use Rattle.wild_layout.specs.Geometry.{IsLaidOut, LayoutsAreLaidOut}
 use Rattle.wild_layout.specs.Image.{group_pieces, pieces, padding, bytes, counted, count_of, counts}
+use Rattle.wild_layout.specs.Warnings.{warnings}
 use Rattle.wild_layout.proofs.LayoutLemmas.{length-padding}
 use Rattle.wild_outlines.specs.ChangedLaws.{ChangedBytes, ChangedCounts, ChangedTotal}
 use Rattle.wild_outlines.specs.RefusalLaws.{RefusalsByGroup}
+use Rattle.wild_outlines.specs.ValueLaws.{WarningsByOutline}
 use Rattle.wild_outlines.proofs.ChangedItems.{FoundSection, total-at, outline-changed, same_by_outline}
 use Rattle.wild_outlines.proofs.ChangedLemmas.{none_before}
 use Rattle.wild_outlines.proofs.ClausesTests.{image_size-outline}
 use Rattle.wild_image.proofs.CountLemmas.{counted-le, total_le}
 use Rattle.wild_image.proofs.OutputLemmas.{few_lists}
 use Rattle.wild_image.specs.Prepared.{IsPrepared}
-use Rattle.wild_relinker.specs.Changed.{HasFaultsOf, corrected_counts, AwaitsGroup, IsSameImage}
+use Rattle.wild_relinker.specs.Changed.{corrected_counts, AwaitsGroup, IsSameImage}
 use Rattle.wild_relinker.specs.Find.{with_contents_of, IsNamed}
 use Rattle.wild_relinker.specs.Linked.{IsWritten, IsImage}
 use Rattle.wild_relinker.specs.declared.linked.Image.{Image}
@@ -178,3 +181,9 @@ IsImage-restored k m w h back same = record {
   });
   prepared = subst (λ (l : Layout). IsPrepared l k.prepared) (sym back) h.prepared;
 }
+
+-- ---- warnings
+
+-- they depend on the outline only
+pub warnings_stay : WarningsByOutline → (l m : Layout) → outline m ≡ outline l → warnings m ≡ warnings l
+warnings_stay law l m same = law m ∙ (ap warnings same ∙ sym (law l))

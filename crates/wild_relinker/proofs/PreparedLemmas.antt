@@ -1,29 +1,27 @@
 -- What was prepared for a layout is prepared for each layout with the same outline.
-use Rattle.std.proofs.Common.{◌≡◌, ℕ, ◌+◌, ◌-◌, List, [], ◌∷◌, length, take, drop, not, ◌&&◌, ◌||◌, if◌then◌else◌, ◌==◌, Bool, true, false, refl, sym, ap, ◌∙◌, subst}
-use Rattle.std.specs.Prelude.{Option, Some, None, slice_get, option_map, option_or, map, option_and_then}
+use Rattle.std.proofs.Common.{◌≡◌, ◌≤◌, ℕ, ◌+◌, ◌-◌, List, [], ◌∷◌, length, take, drop, not, ◌&&◌, ◌||◌, if◌then◌else◌, Bool, false, refl, sym, ap, ◌∙◌, subst}
+use Rattle.std.specs.Prelude.{Option, Some, None, slice_get, option_map, map}
 use Rattle.std.specs.List.{list_all, range_with_len}
+use Rattle.std.specs.Option.{option_or}
 use Rattle.std.proofs.lemmas.List.{length-map, take-map, drop-map}
 use Rattle.std.proofs.lemmas.Option.{slice_get-map}
 use Rattle.wild_types.specs.declared.file.File.{File}
 use Rattle.wild_types.specs.declared.file.Group.{Group}
 use Rattle.wild_types.specs.declared.part.Part.{Part}
 use Rattle.wild_types.specs.declared.part.Role.TheVariants as role
-use Rattle.wild_types.specs.declared.symbol.Place.{Place}
 use Rattle.wild_types.specs.declared.layout.Layout.{Layout}
 use Rattle.wild_types.specs.declared.input.InputSection.{InputSection}
 use Rattle.wild_types.specs.Addresses.{raw_value}
 use Rattle.wild_types.specs.FilePlaces.{given}
 use Rattle.wild_types.specs.HeaderOnly.{is_header_only_role}
 use Rattle.wild_types.specs.Kinds.{is_partial_link, needs_dynsym}
-use Rattle.wild_types.specs.Lists.{total}
-use Rattle.wild_types.specs.Lookups.{files_of, file_of, section_of_part, is_header_only_at}
+use Rattle.wild_types.specs.Lookups.{files_of, file_of, section_of_part}
 use Rattle.wild_types.specs.Parts.{part_with, has_role}
 use Rattle.wild_change.specs.Outline.{outline_section, outline_file, outline_group, outline}
 use Rattle.wild_placement.specs.PlacedSections.{part_address}
-use Rattle.wild_needs.specs.DynamicSymbols.{output_section}
 use Rattle.wild_needs.specs.Needs.{has_no_dynamic_tables, is_read_only_input, file_needs_no_tables, group_needs_no_tables, inner_groups, inner_groups_need_no_tables}
 use Rattle.wild_plan_rules.specs.MergedSections.{is_unmerged, are_unmerged}
-use Rattle.wild_table_formats.specs.DynamicFields.{named_sections, role_of}
+use Rattle.wild_table_formats.specs.DynamicFields.{named_sections}
 use Rattle.wild_table_formats.specs.SectionSymbols.{symbol_index}
 use Rattle.wild_symbols.specs.SymbolNumbers.{found}
 use Rattle.wild_layout.specs.Image.{shares_before}
@@ -32,8 +30,7 @@ use Rattle.wild_layout.specs.SlotValues.{symbol_is_ifunc}
 use Rattle.wild_sections.specs.DefiningFiles.{HasDefiningFiles, defining_file_if, defining_file_in, defining_file_among, layout_needs_owner_files}
 use Rattle.wild_sections.specs.Indexes.{HasIndexes}
 use Rattle.wild_sections.specs.Strings.{section_ascends, all_ascend}
-use Rattle.wild_sections.specs.SymbolFiles.{HasSymbolFiles, symbol_file_in, symbol_file_of, place_or}
-use Rattle.wild_sections.specs.SymbolTables.{HasSymbolTables}
+use Rattle.wild_sections.specs.SymbolFiles.{HasSymbolFiles, symbol_file_in, place_or}
 use Rattle.wild_sections.specs.Targets.{HasTargets, has_targets, may_be_merged, target_of}
 use Rattle.wild_sections.specs.Values.{HasValues}
 use Rattle.wild_sections.specs.declared.defining_file.DefiningFile.{DefiningFile}
@@ -42,7 +39,6 @@ use Rattle.wild_contents.specs.SearchTable.{FaultIsFirst, IsSearchTable}
 use Rattle.wild_contents.specs.declared.search_table.SearchTable.{SearchTable}
 use Rattle.wild_image.specs.Append.{HasStarts, start_of}
 use Rattle.wild_image.specs.Pieces.{written}
-use Rattle.wild_image.specs.LayoutFacts.{AreFactsOf}
 use Rattle.wild_image.specs.Prepared.{HasGroupStarts, IsPrepared}
 use Rattle.wild_image.specs.Steps.{OthersHaveNone}
 use Rattle.wild_image.specs.declared.prepared.Prepared.{Prepared}
@@ -59,7 +55,7 @@ use Rattle.wild_outlines.proofs.ValuesFiles.{raw_value-outline}
 
 inner_groups-outline : (gs : List Group) → inner_groups (map outline_group gs) ≡ map outline_group (inner_groups gs)
 inner_groups-outline gs =
-    ap (λ (n : ℕ). take (n - 1 - 1) (drop 1 (map outline_group gs))) (length-map outline_group gs)
+    ap (λ (n : ℕ). take (n - 1 - 1) (drop 1 (map outline_group gs))) (length-map gs outline_group)
     ∙ (ap (take (length gs - 1 - 1)) (drop-map outline_group 1 gs)
     ∙ take-map outline_group (length gs - 1 - 1) (drop 1 gs))
 
@@ -75,7 +71,7 @@ inner_needs-outline l =
     (ap (list_all group_needs_no_tables) (inner_groups-outline l.groups) ∙ list_all-mapped group_needs_no_tables group_needs_no_tables outline_group group_needs-outline (inner_groups l.groups))
 
 -- the share that group j has of part i, if there is such a group
-given_at : ℕ → ℕ → Layout → Option ℕ
+abbrev given_at : ℕ → ℕ → Layout → Option ℕ
 given_at i j l = option_map (given i) (slice_get l.groups j)
 
 given_at-outline : (i j : ℕ) (l : Layout) → given_at i j (outline l) ≡ given_at i j l
@@ -96,7 +92,7 @@ others_have_none l m same h = λ i j p g part group late table.
 -- ---- properties of symbols
 
 -- each input section of the layout passes the test
-each_passes : (InputSection → Bool) → Layout → Bool
+abbrev each_passes : (InputSection → Bool) → Layout → Bool
 each_passes t l = list_all (λ (g : Group). list_all (λ (f : File). list_all t f.sections) g.files) l.groups
 
 each_passes-outline : (t : InputSection → Bool) → ((s : InputSection) → t (outline_section s) ≡ t s) → (l : Layout) → each_passes t (outline l) ≡ each_passes t l
@@ -123,7 +119,7 @@ symbol_file_in-outline : (l : Layout) (i : ℕ) (o : Option File) → option_map
 symbol_file_in-outline l i None = refl
 symbol_file_in-outline l i (Some f) =
     let place = place_or (slice_get l.symbols i) in
-    let made : Option ℕ → Option SymbolFile = λ k. Some (record { role = f.role; section = k }) in
+    let made : ℕ → Option SymbolFile = λ k. Some (record { role = f.role; section = k }) in
     ap made (output_section-outline l (Some f) place)
 
 file_in-outline : (i : ℕ) (l : Layout) → found (symbol_file_in (outline l)) (files_of (outline l).groups) i ≡ found (symbol_file_in l) (files_of l.groups) i
@@ -189,7 +185,7 @@ starts_stay l m j starts same h = record {
 
 group_starts_stay : (l m : Layout) (starts : List (List ℕ)) → outline m ≡ outline l → HasGroupStarts l starts → HasGroupStarts m starts
 group_starts_stay l m starts same h = record {
-  count = h.count ∙ sym (length-map outline_group l.groups) ∙ sym (ap (λ (n : Layout). length n.groups) same) ∙ length-map outline_group m.groups;
+  count = h.count ∙ sym (length-map l.groups outline_group) ∙ sym (ap (λ (n : Layout). length n.groups) same) ∙ length-map m.groups outline_group;
   each = λ j low. starts_stay l m j _ same (h.each j low);
 }
 

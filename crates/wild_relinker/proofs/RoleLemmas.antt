@@ -1,5 +1,5 @@
 -- The roles that need a part for dynamic relocations.
-use Rattle.std.proofs.Common.{◌≡◌, ◌-◌, ◌^◌, ◌*◌, ℕ, min, ◌==◌, ◌||◌, not, Bool, true, false, true≢false, List, length, Option, Some, None, if◌then◌else◌, inl, inr, refl, sym, ap, ◌∙◌, arith}
+use Rattle.std.proofs.Common.{◌≡◌, ◌-◌, ◌^◌, ◌*◌, ℕ, min, ◌==◌, ◌||◌, not, Bool, true, false, true≢false, length, Option, Some, None, if◌then◌else◌, inl, inr, refl, sym, ap, ◌∙◌, arith}
 use Rattle.std.proofs.lemmas.Bool.{cases_Bool, eq-eqb, ne_eqb, eqb-true}
 use Rattle.std.specs.List.{list_any}
 use Rattle.wild_types.specs.declared.input.InputSection.{InputSection}

@@ -1,6 +1,6 @@
 -- Laws of an exchange of contents.
 use Rattle.std.proofs.Common.{◌≡◌, ℕ, zero, suc, List, [], ◌∷◌, length, set, get_or, ◌<◌, ◌≤◌, refl, ap, sym, ◌∙◌, arith}
-use Rattle.std.specs.Prelude.{Option, Some, None, slice_get, option_and_then, is_some, true}
+use Rattle.std.specs.Prelude.{Option, Some, slice_get, option_and_then, is_some, true}
 use Rattle.wild_types.specs.declared.input.InputSection.{InputSection}
 use Rattle.wild_types.specs.declared.file.File.{File}
 use Rattle.wild_types.specs.declared.file.Group.{Group}
@@ -37,11 +37,6 @@ pub found_within : {X Y : Type 0} (f : X → Option Y) (xs : List X) (i : ℕ) �
 found_within f [] i h = cc
 found_within f (x ∷ xs) zero h = omega arith
 found_within f (x ∷ xs) (suc i) h = let r = found_within f xs i h in omega (arith, r)
-
-pub found_inside : {X Y : Type 0} (f : X → Option Y) (xs : List X) (i : ℕ) (d : X) → is_some (option_and_then f (slice_get xs i)) ≡ true → is_some (f (get_or xs i d)) ≡ true
-found_inside f [] i d h = cc
-found_inside f (x ∷ xs) zero d h = h
-found_inside f (x ∷ xs) (suc i) d h = found_inside f xs i d h
 
 pub read_inside : {X Y : Type 0} (f : X → Option Y) (xs : List X) (i : ℕ) (d : X) (y : Y) → option_and_then f (slice_get xs i) ≡ Some y → f (get_or xs i d) ≡ Some y
 read_inside f [] i d y h = cc

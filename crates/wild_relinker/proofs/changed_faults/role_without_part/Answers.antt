@@ -1,4 +1,4 @@
-use Rattle.std.proofs.Common.{◌≡◌, ℕ, not, true, false, Option, Some, sym, ap, ◌∙◌}
+use Rattle.std.proofs.Common.{◌≡◌, ℕ, not, true, false, Some, sym, ap, ◌∙◌}
 use Rattle.wild_types.specs.declared.part.Role.TheVariants as role
 use Rattle.wild_placement.specs.PlacedSections.{placed_section}
 use Rattle.wild_outlines.specs.RefusalLaws.{needs_no_part}

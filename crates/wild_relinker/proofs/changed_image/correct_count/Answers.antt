@@ -1,5 +1,4 @@
-use Rattle.std.proofs.Common.{◌≡◌, ℕ, ◌+◌, ◌-◌, length, set, get_or, ap, sym, ◌∙◌, rules, arith}
-use Rattle.wild_change.specs.Change.{with_item}
+use Rattle.std.proofs.Common.{ℕ, ◌+◌, ◌-◌, set, ap, sym, ◌∙◌}
 use Rattle.wild_relinker.proofs.SwapLemmas.{with_item_set, with_item-past}
 use Rattle.wild_relinker.proofs.changed_image.correct_count.Goals as goal
 

@@ -1,4 +1,4 @@
-use Rattle.std.proofs.Common.{◌≡◌, ℕ, List, sym, subst}
+use Rattle.std.proofs.Common.{ℕ, List, sym, subst}
 use Rattle.wild_types.specs.ResolvedFlags.{HaveTheirFlags}
 use Rattle.wild_meaning.specs.LinkedImage.{IsSound}
 use Rattle.wild_relinker.specs.Linked.{LinkedImage}

@@ -1,17 +1,14 @@
 use Rattle.std.proofs.Common.{◌≡◌, ℕ, [], length, sym, ap, ◌∙◌, subst, rules}
 use Rattle.wild_types.specs.declared.layout.Layout.{Layout}
-use Rattle.wild_types.specs.declared.kind.Machine.{Machine}
-use Rattle.wild_types.specs.Faults.{Answers, Refuses}
+use Rattle.wild_types.specs.Faults.{Refuses}
 use Rattle.wild_change.specs.Change.{changed_layout}
 use Rattle.wild_layout.specs.Faults.{errors}
 use Rattle.wild_layout.specs.Warnings.{warnings}
 use Rattle.wild_outlines.proofs.ChangedItems.{outline-changed}
 use Rattle.wild_image.specs.Prepared.{IsPrepared}
 use Rattle.wild_relinker.specs.Changed.{AwaitsGroup}
-use Rattle.wild_relinker.specs.Linked.{IsWritten}
 use Rattle.wild_relinker.proofs.FindLemmas.{CanChange-named, section_at-found, is_there_kept, is_there_again}
-use Rattle.wild_relinker.proofs.ImageLemmas.{AwaitsGroup-found, IsImage-restored}
-use Rattle.wild_relinker.proofs.LinkedLemmas.{warnings_stay}
+use Rattle.wild_relinker.proofs.ImageLemmas.{AwaitsGroup-found, IsImage-restored, warnings_stay}
 use Rattle.wild_relinker.proofs.PreparedLemmas.{prepared_stays}
 use Rattle.wild_relinker.proofs.SwapLemmas.{swapped_back}
 use Rattle.wild_relinker.proofs.rewrite.change_section.Goals as goal

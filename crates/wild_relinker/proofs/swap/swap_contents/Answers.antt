@@ -1,8 +1,7 @@
-use Rattle.std.proofs.Common.{◌≡◌, ◌<◌, List, length, set, get_or, ap, sym, ◌∙◌, subst, rules}
+use Rattle.std.proofs.Common.{◌≡◌, List, set, get_or, ap, sym, ◌∙◌, subst, rules}
 use Rattle.std.specs.Prelude.{Some}
 use Rattle.wild_types.specs.declared.file.Group.{Group}
 use Rattle.wild_change.specs.Change.{changed_group, section_in_group}
-use Rattle.wild_relinker.specs.Find.{with_contents_of}
 use Rattle.wild_relinker.proofs.SwapLemmas.{written_item, found_within, read_inside}
 use Rattle.wild_relinker.proofs.swap.swap_contents.Goals as goal
 

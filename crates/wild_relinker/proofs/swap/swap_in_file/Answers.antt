@@ -1,5 +1,4 @@
-use Rattle.std.proofs.Common.{◌≡◌, ◌<◌, List, length, set, get_or, ap, sym, ◌∙◌, subst, rules}
-use Rattle.std.specs.Prelude.{Some}
+use Rattle.std.proofs.Common.{◌≡◌, List, set, get_or, ap, ◌∙◌, rules}
 use Rattle.wild_types.specs.declared.input.InputSection.{InputSection}
 use Rattle.wild_change.specs.Change.{changed_section}
 use Rattle.wild_relinker.specs.Find.{with_contents_of}

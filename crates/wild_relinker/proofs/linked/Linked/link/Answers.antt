@@ -1,4 +1,4 @@
-use Rattle.std.proofs.Common.{◌≡◌, ◌<◌, ◌∙◌, arith}
+use Rattle.std.proofs.Common.{◌∙◌, arith}
 use Rattle.wild_outlines.proofs.ChangedLemmas.{none_before}
 use Rattle.wild_relinker.proofs.ImageLemmas.{few_relocations}
 use Rattle.wild_relinker.proofs.linked.Linked.link.Goals as goal
