@@ -1,7 +1,9 @@
 //! A layout without faults, with its image.
-ghost use Rattle.std.specs.Prelude.{◌≡◌, ◌≤◌, IfOk};
+ghost use Rattle.std.specs.Prelude.{◌≡◌, ◌≤◌, [], IfOk};
 ghost use Rattle.wild_types.specs.Faults.{Answers};
 ghost use Rattle.wild_layout.specs.Faults.{errors};
+ghost use Rattle.wild_layout.specs.Image.{bytes, counts};
+ghost use Rattle.wild_layout.specs.Warnings.{warnings};
 
 use std::alloc::Global;
 use std::marker::Model;
@@ -77,30 +79,34 @@ impl Linked {
         })
     }
 
-    /// The layout.
+    /// The layout. It has no faults.
     pub fn layout(&self) -> &Layout
-        ensures { result.now ≡ self.now.layout }
+        ensures value { result.now ≡ self.now.layout }
+        ensures faultless { errors result.now ≡ [] }
     {
         &self.image.layout
     }
 
     /// The bytes of its image.
     pub fn out(&self) -> &[u8]
-        ensures { result.now ≡ self.now.out }
+        ensures value { result.now ≡ self.now.out }
+        ensures image { result.now ≡ bytes self.now.layout }
     {
         &self.image.written.out
     }
 
     /// Its warnings.
     pub fn warnings(&self) -> &[EntryWarning]
-        ensures { result.now ≡ self.now.warnings }
+        ensures value { result.now ≡ self.now.warnings }
+        ensures image { result.now ≡ warnings self.now.layout }
     {
         self.warnings.as_slice()
     }
 
     /// The number of relocations read for each section.
     pub fn counts(&self) -> &[u64]
-        ensures { result.now ≡ self.now.counts }
+        ensures value { result.now ≡ self.now.counts }
+        ensures image { result.now ≡ counts self.now.layout }
     {
         &self.image.written.counts
     }
