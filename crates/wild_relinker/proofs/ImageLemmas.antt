@@ -128,8 +128,8 @@ AwaitsGroup-from_change laid refusals image number sum l c s p w found n none h 
       size = ap length h.bytes ∙ (length-bytes l (laid_out laid l none) ∙ sym (same_by_outline image_size image_size-outline l m (outline-changed l c s found n)));
       bytes = λ after. image l c s p.group found n p.in_layout (laid_out laid l none) (laid_out laid m after) ∙ ap (overlay (group_pieces m c.group (changed_group c p.group))) (sym h.bytes);
       counts = number l c s found ∙ (sym (corrected-changed l c s (counts l)) ∙ ap (corrected_counts m (changed_section c s) (length s.relocations)) (sym h.counts));
-      few = subst (λ (ks : List ℕ). All (λ k. k < 2 ^ 32) ks) (sym h.counts) (counts_below l none);
-      enough = omega (arith, within, all);
+      small_counts = subst (λ (ks : List ℕ). All (λ k. k < 2 ^ 32) ks) (sym h.counts) (counts_below l none);
+      old_count = omega (arith, within, all);
       relocations = omega (arith, more, all);
     }
 
@@ -147,25 +147,25 @@ AwaitsGroup-found laid refusals image number sum l c s m d x w h e u named none 
 pub relocations_are : (l : Layout) (i : ℕ) (g : Group) (f : File) (s : InputSection) (n : ℕ) (w : WrittenImage) → AwaitsGroup l i g f s n w → errors l ≡ [] → min (2 ^ 64 - 1) (w.relocations - n + length s.relocations) ≡ relocation_count l
 relocations_are l i g f s n w h none =
     let few = few_relocations l none in
-    let enough = h.enough in
+    let old = h.old_count in
     let all = h.relocations in
-    omega (arith, few, enough, all)
+    omega (arith, few, old, all)
 
 pub few_of_section : (l : Layout) (i : ℕ) (g : Group) (f : File) (s : InputSection) (n : ℕ) (w : WrittenImage) → AwaitsGroup l i g f s n w → errors l ≡ [] → length s.relocations < 2 ^ 32
 few_of_section l i g f s n w h none =
     let few = few_relocations l none in
-    let enough = h.enough in
+    let old = h.old_count in
     let all = h.relocations in
-    omega (arith, few, enough, all)
+    omega (arith, few, old, all)
 
 -- whether these are few, by the number that is kept below 2^64
 pub few_by_number : (l : Layout) (i : ℕ) (g : Group) (f : File) (s : InputSection) (n : ℕ) (w : WrittenImage) (r : ℕ) → AwaitsGroup l i g f s n w → r ≡ min (2 ^ 64 - 1) (w.relocations - n + length s.relocations) → nat_lt r (2 ^ 32 - 1) ≡ nat_lt (relocation_count l) (2 ^ 32 - 1)
 few_by_number l i g f s n w r h e =
-    let enough = h.enough in
+    let old = h.old_count in
     let all = h.relocations in
     elim (cases_Bool (nat_lt (relocation_count l) (2 ^ 32 - 1))) [
-      | inl t ↦ let low = ltb-true _ _ t in lt-ltb r (2 ^ 32 - 1) (omega (arith, e, enough, all, low)) ∙ sym t
-      | inr t ↦ let high = ltb-false _ _ t in le-ltb r (2 ^ 32 - 1) (omega (arith, e, enough, all, high)) ∙ sym t
+      | inl t ↦ let low = ltb-true _ _ t in lt-ltb r (2 ^ 32 - 1) (omega (arith, e, old, all, low)) ∙ sym t
+      | inr t ↦ let high = ltb-false _ _ t in le-ltb r (2 ^ 32 - 1) (omega (arith, e, old, all, high)) ∙ sym t
     ]
 
 -- ---- after a refusal

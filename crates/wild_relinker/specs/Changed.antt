@@ -48,8 +48,8 @@ pub record AwaitsGroup (l : Layout) (i : ℕ) (g : Group) (f : File) (s : InputS
   pub size : length w.out.items ≡ image_size l
   pub bytes : errors l ≡ [] → bytes l ≡ overlay (group_pieces l i g) w.out.items
   pub counts : counts l ≡ corrected_counts l s n w.counts.items
-  pub few : All (λ k. k < 2 ^ 32) w.counts.items
-  pub enough : n ≤ w.relocations
+  pub small_counts : All (λ k. k < 2 ^ 32) w.counts.items
+  pub old_count : n ≤ w.relocations
   pub relocations : relocation_count l + n ≡ w.relocations + length s.relocations
 
 -- the same bytes and counts, and the same number of relocations

@@ -66,20 +66,20 @@ fn check_roles(layout: &Layout, file: &File, section: &InputSection) -> Result<(
     }
 }
 
-/// The first clause that a change of a section of group `index` breaks. `few`: the layout has fewer than 2^32 - 1 relocations.
+/// The first clause that a change of a section of group `index` breaks. `count_fits`: the layout has fewer than 2^32 - 1 relocations.
 #[tactic(auto, unfolding(wild_outlines::specs::RefusalLaws::changed_clause))]
 fn check_clauses(
     layout: &Layout,
     index: usize,
     found: NamedSection<'_>,
-    few: bool,
+    count_fits: bool,
 ) -> Result<(), Clause>
-    requires { few ≡ nat_lt (relocation_count layout.now) (2 ^ 32 - 1) }
+    requires { count_fits ≡ nat_lt (relocation_count layout.now) (2 ^ 32 - 1) }
     ensures { result ≡ changed_clause layout.now index found.entry.file.now found.entry.section.now }
 {
     let NamedSection { file, section, .. } = found;
     let machine = layout.machine;
-    fails_unless(2, 0, few)?;
+    fails_unless(2, 0, count_fits)?;
     check_roles(layout, file, section)?;
     fails_unless(9, index, section_indexes_fit(layout, section))?;
     fails_unless(10, index, fields_lie(machine, section))?;
@@ -133,18 +133,18 @@ fn check_shares(layout: &Layout, index: usize, group: &Group) -> Result<(), Erro
     Ok(())
 }
 
-/// Refuses a layout with the first fault of clauses and shares that a change of a section of group `index` causes. `few`: the layout has
+/// Refuses a layout with the first fault of clauses and shares that a change of a section of group `index` causes. `count_fits`: the layout has
 /// fewer than 2^32 - 1 relocations.
 pub(crate) fn check_changed(
     layout: &Layout,
     index: usize,
     found: NamedSection<'_>,
-    few: bool,
+    count_fits: bool,
 ) -> Result<(), Error>
-    requires { few ≡ nat_lt (relocation_count layout.now) (2 ^ 32 - 1) }
+    requires { count_fits ≡ nat_lt (relocation_count layout.now) (2 ^ 32 - 1) }
     ensures { Answers result (clause_errors (changed_clause layout.now index found.entry.file.now found.entry.section.now) ++ changed_shares layout.now index found.entry.group.now) }
 {
-    match check_clauses(layout, index, found, few) {
+    match check_clauses(layout, index, found, count_fits) {
         Ok(()) => check_shares(layout, index, found.group),
         Err(clause) => Err(Error {
             fault: Fault::MalformedLayout {

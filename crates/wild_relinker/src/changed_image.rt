@@ -43,7 +43,7 @@ fn corrected_count(count: u64, before: u64, after: u64) -> u64
 /// Corrects one of the counts in this way, if there is one with that index.
 fn correct_count(counts: &mut [u64], index: usize, before: u64, after: u64)
     requires counts { All (λ n. n < 2 ^ 32) counts.old }
-    requires few { after < 2 ^ 32 }
+    requires after { after < 2 ^ 32 }
     ensures { counts.new ≡ with_item (λ n. n + after - before) index counts.old }
 {
     if counts.len() <= index {
@@ -55,7 +55,7 @@ fn correct_count(counts: &mut [u64], index: usize, before: u64, after: u64)
 /// Corrects the count of the output section of a section that had `before` relocations, if its relocations are counted.
 fn correct_counts(layout: &Layout, section: &InputSection, before: u64, counts: &mut [u64])
     requires counts { All (λ n. n < 2 ^ 32) counts.old }
-    requires few { length section.now.relocations < 2 ^ 32 }
+    requires after { length section.now.relocations < 2 ^ 32 }
     ensures { counts.new ≡ corrected_counts layout.now section.now before counts.old }
 {
     if is_counted(layout, section) {
@@ -65,14 +65,14 @@ fn correct_counts(layout: &Layout, section: &InputSection, before: u64, counts: 
 }
 
 /// Checks the clauses and the shares that the change of a section of group `index` can break, and writes the group over the image. Refused
-/// with the layout's first fault; then the image is unchanged. `few`: the layout has fewer than 2^32 - 1 relocations.
+/// with the layout's first fault; then the image is unchanged. `count_fits`: the layout has fewer than 2^32 - 1 relocations.
 fn write_checked<A: ShardedArch, R: Threads + Sync, L: Ledger>(
     by: &Workers<R>,
     layout: &Layout,
     prepared: &Prepared,
     index: usize,
     found: NamedSection<'_>,
-    few: bool,
+    count_fits: bool,
     out: &mut [u8],
     steps: &mut Steps<L>,
 ) -> Result<(), Error>
@@ -80,7 +80,7 @@ fn write_checked<A: ShardedArch, R: Threads + Sync, L: Ledger>(
     requires prepared { IsPrepared layout.now prepared.now }
     requires group { slice_get layout.now.groups index ≡ Some found.group.now }
     requires faults { HasFaultsOf layout.now index found.group.now found.file.now found.section.now }
-    requires few { few ≡ nat_lt (relocation_count layout.now) (2 ^ 32 - 1) }
+    requires count { count_fits ≡ nat_lt (relocation_count layout.now) (2 ^ 32 - 1) }
     requires room { length out.old ≡ image_size layout.now }
     ensures faults { Answers result (errors layout.now) }
     ensures image { OnOk result (out.new ≡ overlay (group_pieces layout.now index found.entry.group.now) out.old) }
@@ -88,7 +88,7 @@ fn write_checked<A: ShardedArch, R: Threads + Sync, L: Ledger>(
     ensures counted { OnOk result (steps.new ≡ steps.old + 1) }
     ensures most { steps.new ≤ steps.old + 1 }
 {
-    check_changed(layout, index, found, few)?;
+    check_changed(layout, index, found, count_fits)?;
     write_group_over::<A, R, L>(by, layout, prepared, index, out, steps)
 }
 
@@ -116,9 +116,9 @@ pub(crate) fn write_changed<A: ShardedArch, R: Threads + Sync, L: Ledger>(
 {
     let after = found.section.relocations.len() as u64;
     let relocations = (written.relocations - before).saturating_add(after);
-    let few = relocations < RELOCATION_LIMIT;
+    let count_fits = relocations < RELOCATION_LIMIT;
     let out = &mut written.out;
-    write_checked::<A, R, L>(by, layout, prepared, index, found, few, out, steps)?;
+    write_checked::<A, R, L>(by, layout, prepared, index, found, count_fits, out, steps)?;
     written.relocations = relocations;
     correct_counts(layout, found.section, before, &mut written.counts);
     Ok(())

@@ -6,7 +6,7 @@ pub returns-then-counts-index : goal.returns-then-counts-index
 returns-then-counts-index c = sym (with_item-past (λ (n : ℕ). n + c.args.after - c.args.before) c.args.counts.now c.args.index c.if-counts-index.true)
 
 pub corrected_count-requires : goal.corrected_count-requires
-corrected_count-requires c = (c.requires.counts c.args.index 0 c.if-counts-index.false, c.requires.few)
+corrected_count-requires c = (c.requires.counts c.args.index 0 c.if-counts-index.false, c.requires.after)
 
 pub returns : goal.returns
 returns c = ap (set c.args.counts.now c.args.index) c.corrected_count.ensures ∙ with_item_set (λ (n : ℕ). n + c.args.after - c.args.before) c.args.counts.now c.args.index 0 c.if-counts-index.false
