@@ -85,7 +85,7 @@ number_of_section-outline l i s = simp (symbol_section-outline l i, section_numb
 number_of_section-each : (l : Layout) (i : ℕ) → number_of_section (outline l) i ≡ number_of_section l i
 number_of_section-each l i = fun_ext (number_of_section-outline l i)
 
-symbol_index-outline : (l : Layout) (i : ℕ) → symbol_index (outline l) i ≡ symbol_index l i
+pub symbol_index-outline : (l : Layout) (i : ℕ) → symbol_index (outline l) i ≡ symbol_index l i
 symbol_index-outline l i = simp (entry_index-outline l i, number_of_section-each l i)
 
 pub named_index-outline : (l : Layout) (o : Option ℕ) → named_index (outline l) o ≡ named_index l o

@@ -48,7 +48,7 @@ file_pieces-outline l f =
 owned_pieces-outline : (l : Layout) (g : Group) → owned_pieces (outline l) g ≡ owned_pieces l g
 owned_pieces-outline l g = ap (flat_map (file_pieces (outline l))) (placed_files-outline l g) ∙ flat_map-same (file_pieces (outline l)) (file_pieces l) (placed_files l g) (file_pieces-outline l)
 
-shares_before-outline : (l : Layout) (part group : ℕ) → shares_before (outline l) part group ≡ shares_before l part group
+pub shares_before-outline : (l : Layout) (part group : ℕ) → shares_before (outline l) part group ≡ shares_before l part group
 shares_before-outline l part group = ap (total (given part)) (take-map outline_group group l.groups) ∙ total-mapped (given part) (given part) outline_group (λ g. refl) (take group l.groups)
 
 table_piece-outline : (l : Layout) (group : ℕ) (g : Group) (i : ℕ) (p : Part) → table_piece (outline l) group g i p ≡ table_piece l group g i p

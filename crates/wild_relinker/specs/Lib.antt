@@ -1,0 +1,4 @@
+pub mod Answer
+pub mod Changed
+pub mod Find
+pub mod Linked

@@ -1,0 +1,5 @@
+//! Tests of linked layouts that are changed.
+#![tactic(auto)]
+
+#[cfg(test)]
+mod changes;
