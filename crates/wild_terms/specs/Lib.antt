@@ -1,0 +1,5 @@
+pub mod Terms
+pub mod Outline
+pub mod Symbolic
+pub mod Values
+pub mod Laws
