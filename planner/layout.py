@@ -13,6 +13,7 @@ FAMILIES = [
     b".text", b".rodata", b".data.rel.ro", b".data", b".bss", b".tdata", b".tbss", b".init_array", b".fini_array", b".preinit_array", b".gcc_except_table",
     b".ldata", b".lrodata", b".lbss", b".ctors", b".dtors",
 ]
+ARRAYS = {b".init_array": INIT_ARRAY, b".fini_array": FINI_ARRAY, b".preinit_array": PREINIT_ARRAY}
 FINAL = {b".ctors": b".init_array", b".dtors": b".fini_array"}
 LINKONCE = {b"t": b".text", b"r": b".rodata", b"d": b".data", b"b": b".bss", b"wi": b".debug_info", b"td": b".tdata", b"tb": b".tbss"}
 READ, RUN, ONCE, DATA, OUTSIDE = range(5)
@@ -145,7 +146,6 @@ class Layout:
 
     def place_inputs(self, objects):
         """Says of each input section what becomes of it, and to which part it belongs."""
-        arrays = set()
         for file in objects:
             for section in file.sections:
                 if self.is_left_out(section):
@@ -156,14 +156,10 @@ class Layout:
                     section.slot = "frame"
                     continue
                 name = family(section.name)
-                if name in (b".init_array", b".fini_array", b".preinit_array"):
-                    section.reversed = section.name[1:2] in (b"c", b"d")
-                    arrays.add(name)
+                section.reversed = name in ARRAYS and section.name[1:2] in (b"c", b"d")
                 section.slot = "loaded" if section.flags & ALLOC else "debug"
                 self.place(section, name)
-        for name in arrays:
-            output = self.named(name)
-            part = output.parts[0]
+        for part in (self.by_key[name].parts[0] for name in ARRAYS if name in self.by_key):
             if any(priority(section) < 65536 for section in part.inputs):
                 inputs, part.inputs, part.size = sorted(part.inputs, key=priority), [], 0
                 for section in inputs:
@@ -173,13 +169,12 @@ class Layout:
         self.drop_empty()
 
     def place(self, section, name):
-        kinds = {b".init_array": INIT_ARRAY, b".fini_array": FINI_ARRAY, b".preinit_array": PREINIT_ARRAY}
         flags = section.flags & (WRITE | ALLOC | CODE | TLS)
         nobits = section.kind == NOBITS
         key = name, flags, nobits and bool(flags & TLS or name == b".bss"), section.kind == NOTE
-        if name in kinds:
+        if name in ARRAYS:
             key, flags = name, WRITE | ALLOC
-        output = self.shared(key, name, kinds.get(name) or (NOTE if section.kind == NOTE else NOBITS if nobits else PROGBITS), flags)
+        output = self.shared(key, name, ARRAYS.get(name) or (NOTE if section.kind == NOTE else NOBITS if nobits else PROGBITS), flags)
         if output.kind == NOBITS and not nobits:
             output.kind = PROGBITS
         if section.flags & MERGE and section.flags & STRINGS and section.entry == 1 and section.align == 1 and section.relocations is None and section.bytes()[-1:] == b"\0":

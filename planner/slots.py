@@ -229,12 +229,11 @@ class Scan:
         for target in self.targets.values():
             needs, lookup = target.needs, self.is_lookup(target) and not target.copy
             got += self.words(target) * (not self.is_in_block(target))
-            if needs & GOT_OFFSET and (lookup or shared):
-                self.general += 1
+            if needs & GOT_OFFSET:
+                self.general += lookup or shared
             if needs & GOT_PAIR:
-                self.general += bool(shared or target.kind == "shared") + bool(lookup)
-            if needs & GOT_DESCRIPTOR:
-                self.general += 1
+                self.general += (shared or target.kind == "shared") + lookup
+            self.general += bool(needs & GOT_DESCRIPTOR)
             if needs & GOT:
                 if target.canonical or self.is_chosen_here(target):
                     self.plt_entries += 1
