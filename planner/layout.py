@@ -118,19 +118,19 @@ class Layout:
         self.outputs.append(made)
         return made
 
-    def shared(self, key, *made):
+    def output_of(self, key, *made):
         """The output section of all inputs that have one key."""
         if key not in self.by_key:
             self.by_key[key] = self.output(*made)
             self.by_key[key].part("raw")
         return self.by_key[key]
 
-    def named(self, name):
+    def output_named(self, name):
         return next((output for output in self.outputs if output.name == name), None)
 
     def edge(self, name, is_end):
         """Where a section begins or ends; 0 where it is not there."""
-        output = self.named(name)
+        output = self.output_named(name)
         return output.address + (output.size if is_end else 0) if output else 0
 
     # ---- input sections
@@ -174,7 +174,7 @@ class Layout:
         key = name, flags, nobits and bool(flags & TLS or name == b".bss"), section.kind == NOTE
         if name in ARRAYS:
             key, flags = name, WRITE | ALLOC
-        output = self.shared(key, name, ARRAYS.get(name) or (NOTE if section.kind == NOTE else NOBITS if nobits else PROGBITS), flags)
+        output = self.output_of(key, name, ARRAYS.get(name) or (NOTE if section.kind == NOTE else NOBITS if nobits else PROGBITS), flags)
         if output.kind == NOBITS and not nobits:
             output.kind = PROGBITS
         if section.flags & MERGE and section.flags & STRINGS and section.entry == 1 and section.align == 1 and section.relocations is None and section.bytes()[-1:] == b"\0":
@@ -274,13 +274,13 @@ class Layout:
         def over(kind, flags, output, align):
             return kind, flags, output.offset, output.address, output.size, output.size, align
 
-        def where_there(kind, flags, name, align):
-            output = self.named(name)
+        def over_named(kind, flags, name, align):
+            output = self.output_named(name)
             return [over(kind, flags, output, align)] if output else []
 
-        made = [over(PHDR, 4, headers, 8)] * bool(self.named(b".interp")) + where_there(INTERP, 4, b".interp", 1)
+        made = [over(PHDR, 4, headers, 8)] * bool(self.output_named(b".interp")) + over_named(INTERP, 4, b".interp", 1)
         made += [(LOAD, {READ: 4, RUN: 5}.get(run, 6), *place, page) for run, *place in self.runs]
-        made += where_there(DYNAMIC, 6, b".dynamic", 8)
+        made += over_named(DYNAMIC, 6, b".dynamic", 8)
         for output in self.outputs:
             if output.kind == NOTE and output.flags & ALLOC:
                 made += [over(kind, 4, output, output.align()) for kind in [NOTES] + [PROPERTY] * (output.name == b".note.gnu.property")]
@@ -288,7 +288,7 @@ class Layout:
             start, end, align = self.thread
             first = next(output for output in self.outputs if output.flags & TLS)
             made.append((THREAD, 4, first.offset, start, 0 if first.kind == NOBITS else first.size, end - start, align))
-        made += where_there(UNWIND, 4, b".eh_frame_hdr", 4) + [(STACK, 6 | stack, 0, 0, 0, 0, 16)]
+        made += over_named(UNWIND, 4, b".eh_frame_hdr", 4) + [(STACK, 6 | stack, 0, 0, 0, 0, 16)]
         for run, offset, address, size, memory in self.runs:
             if run == ONCE and self.options.relro:
                 made.append((RELRO, 4, offset, address, size, up(address + memory, page) - address, 1))

@@ -6,7 +6,7 @@ from elf import Refused
 from machines import MACHINES
 
 
-def spelled(*rows):
+def by_spelling(*rows):
     """By each spelling of an option, the attribute that it sets, and to what."""
     return {spelling: row[:-1] for row in rows for spelling in row[-1].split()}
 
@@ -16,22 +16,22 @@ WITHOUT_EFFECT = set("""
     --gc-sections --no-gc-sections -O1 -O2 -O0 -EL -X --discard-locals --fatal-warnings --no-fatal-warnings --no-copy-dt-needed-entries --enable-new-dtags --no-undefined-version --no-add-needed
     --fix-cortex-a53-843419 --fix-cortex-a53-835769 --sort-common --warn-common --no-warn-mismatch -nostdlib --no-ld-generated-unwind-info --allow-shlib-undefined --no-allow-shlib-undefined --sysroot=/
 """.split())
-KEYWORDS = spelled(
+KEYWORDS = by_spelling(
     ("relro", True, "relro"), ("relro", False, "norelro"), ("execstack", True, "execstack"), ("execstack", False, "noexecstack"), ("no_undefined", True, "defs"),
     ("relr", True, "pack-relative-relocs"), ("relr", False, "nopack-relative-relocs"), ("ignored", True, "now text separate-code noseparate-code nocopyreloc combreloc nodynamic-undefined-weak"),
 )
-SWITCHES = spelled(
+SWITCHES = by_spelling(
     ("shared", True, "-shared --shared -Bshareable"), ("pie", True, "-pie --pie"), ("pie", False, "-no-pie --no-pie"), ("partial", True, "-r --relocatable"), ("symbolic", True, "-Bsymbolic"),
     ("export_dynamic", True, "-E --export-dynamic -export-dynamic"), ("eh_frame_hdr", True, "--eh-frame-hdr"), ("no_undefined", True, "--no-undefined"), ("no_loader", True, "--no-dynamic-linker"),
     ("allow_multiple", True, "--allow-multiple-definition"), ("strip", "all", "-s --strip-all"),
 )
 # options that hold for the inputs after them
-STATES = spelled(
+STATES = by_spelling(
     ("static", True, "-static -Bstatic -dn -non_shared"), ("static", False, "-Bdynamic -dy -call_shared"), ("as_needed", True, "--as-needed"), ("as_needed", False, "--no-as-needed"),
     ("whole", True, "--whole-archive"), ("whole", False, "--no-whole-archive"),
 )
 # options with a word, in the next argument or after `=`; some of one letter have it right after the letter
-WORDS = spelled(
+WORDS = by_spelling(
     ("output", "-o --output"), ("plan_file", "--plan"), ("times", "--times"), ("soname", "-soname --soname -h"), ("rpath", "-rpath --rpath"), ("interpreter", "-dynamic-linker --dynamic-linker -I"),
     ("entry", "-e --entry"), ("folder", "-L --library-path"), ("library", "-l --library"), ("undefined", "-u --undefined"), ("emulation", "-m"), ("keyword", "-z"), ("hash_style", "--hash-style"),
     ("ignored", "-plugin -rpath-link --rpath-link"),

@@ -16,7 +16,7 @@ class PartialPlan(Plan):
         self.number_outputs()
         return self.text()
 
-    def kept(self):
+    def kept_sections(self):
         for file in self.objects:
             for section in file.sections:
                 if section.group is not False:
@@ -24,31 +24,31 @@ class PartialPlan(Plan):
 
     def place_sections(self):
         """Groups first: the header of one stands in front of its members' (gABI, "Section Groups")."""
-        for section in self.kept():
+        for section in self.kept_sections():
             if section.kind == GROUP:
                 output = self.layout.output(b".group", GROUP, 0, 4, b".symtab")
                 section.slot = "group"
                 self.group_outputs[section] = output
                 output.part("raw").add(section)
-        for section in self.kept():
+        for section in self.kept_sections():
             if section.kind in (0, GROUP, RELA, SYMTAB, STRTAB, SYMTAB_SHNDX):
                 continue
             if section.flags & LINK_ORDER:
                 raise Refused(f"{section.file.name}: section {section.name.decode()} is ordered as another one (SHF_LINK_ORDER)")
             section.slot = "loaded"
             key = (section.name, section.flags, True, False) if section.kind == NOBITS else (section.name, section.kind, section.flags, section.entry)
-            output = self.layout.shared(section if section.flags & IN_GROUP else key, section.name, section.kind, section.flags, section.entry)
+            output = self.layout.output_of(section if section.flags & IN_GROUP else key, section.name, section.kind, section.flags, section.entry)
             output.parts[0].is_kept = section.name == b".note.GNU-stack"
             output.parts[0].add(section)
 
     def place_tables(self):
         """The relocations of each section, in a table for each output section."""
-        for section in self.kept():
+        for section in self.kept_sections():
             table = section.relocations
             if section.slot != "loaded" or table is None:
                 continue
             owner = section.part.output
-            output = self.tables[owner] = self.layout.shared((owner, RELA), b".rela" + section.name, RELA, INFO_LINK | section.flags & IN_GROUP, 24, b".symtab")
+            output = self.tables[owner] = self.layout.output_of((owner, RELA), b".rela" + section.name, RELA, INFO_LINK | section.flags & IN_GROUP, 24, b".symtab")
             table.slot = "rela"
             output.parts[0].add(table)
         for section, output in self.group_outputs.items():

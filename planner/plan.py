@@ -13,7 +13,7 @@ BRANCHES_REACH = 100 << 20
 DYNAMIC, HASH, GNU_HASH, VERSYM, VERNEED, RELR = 6, 5, 0x6FFFFFF6, 0x6FFFFFFF, 0x6FFFFFFE, 19
 EDGES = re.compile(rb"__(start|stop)_([A-Za-z_]\w*)")
 ARRAYS = {b"__%s_%s" % (name, edge): (b"." + name, edge == b"end") for name in (b"preinit_array", b"init_array", b"fini_array") for edge in (b"start", b"end")}
-spelled = json.JSONEncoder(separators=(",", ":")).encode
+json_text = json.JSONEncoder(separators=(",", ":"), check_circular=False).encode
 PLACES = {ABSOLUTE: "absolute", COMMON: "common"}
 SLOT_FLAGS = [(GOT, "GOT"), (STUB, "PLT"), (GOT_OFFSET, "GOT_TLS_OFFSET"), (GOT_PAIR, "GOT_TLS_MODULE"), (GOT_DESCRIPTOR, "GOT_TLS_DESCRIPTOR")]
 
@@ -26,12 +26,12 @@ def gnu_hash(name):
     return h
 
 
-def joined(lists):
+def list_text(lists):
     """The text of lists that are one list of a plan, without its brackets."""
     separator = ""
     for each in lists:
         if each:
-            yield separator + spelled(each)[1:-1]
+            yield separator + json_text(each)[1:-1]
             separator = ","
 
 
@@ -51,7 +51,7 @@ OWN = {
 }
 
 
-def provided(options, objects):
+def provided_names(options, objects):
     """Says of a name whether the linker defines it."""
     sections = {section.name for file in objects for section in file.sections if section.flags & ALLOC}
     absent = {b"__rela_iplt_start", b"__rela_iplt_end"} if options.kind != "static" else {b"_DYNAMIC"}
@@ -112,7 +112,7 @@ class Plan:
             target.align = target.file.alignment(target.value, target.section)
         for target in [target for target in self.resolver.table.values() if target.kind == "common"] + self.scan.copies:
             name, flags = (b".tbss", ALLOC | WRITE | TLS) if target.type() == TLS_TYPE else (b".bss", ALLOC | WRITE)
-            part = self.layout.shared((name, flags, True, False), name, NOBITS, flags).parts[0]
+            part = self.layout.output_of((name, flags, True, False), name, NOBITS, flags).parts[0]
             part.align = max(part.align, target.align)
             target.alias = up(part.size, target.align), part
             part.size = target.alias[0] + target.size
@@ -155,7 +155,7 @@ class Plan:
         code = [output for output in self.layout.outputs if output.flags & CODE]
         if not self.machine.branches or sum(part.size for output in code for part in output.parts) < BRANCHES_REACH:
             return
-        part = self.layout.named(b".text").parts[0]
+        part = self.layout.output_named(b".text").parts[0]
         files, size = {}, BRANCHES_REACH
         for section in part.inputs:
             files.setdefault(section.file, []).append(section)
@@ -190,7 +190,7 @@ class Plan:
 
     def choose_dynamic_symbols(self):
         table = self.resolver.table.values()
-        self.undefined = sorted((target for target in table if target.kind == "undefined" and self.scan.is_left(target) and target.needs), key=lambda target: target.plan)
+        self.undefined = sorted((target for target in table if target.kind == "undefined" and self.scan.is_left_to_loader(target) and target.needs), key=lambda target: target.plan)
         for library in self.libraries:
             self.undefined += [target for target in library.used if not target.copy and not target.canonical]
         listed = [target for target in table if target.exported and target.kind in ("defined", "common")] + [target for target in self.own if target.exported]
@@ -286,7 +286,7 @@ class Plan:
         """The entries of the dynamic section (docs/LINKERS.md, "The entries of `dynamic`")."""
         options, count = self.options, 7
         for name, entries in (b".init", 1), (b".fini", 1), (b".init_array", 2), (b".fini_array", 2), (b".preinit_array", 2):
-            output = self.layout.named(name)
+            output = self.layout.output_named(name)
             count += entries * bool(output and output.kind != NOBITS and any(part.size for part in output.parts))
         count += 4 * bool(sizes["rela_plt"]) + 3 * bool(sizes["rela_dyn_relative"] or sizes["rela_dyn_general"]) + bool(sizes["rela_dyn_relative"]) + 3 * bool(sizes["relr_dyn"])
         count += len(self.libraries) + (options.rpath is not None) + (options.soname is not None) + (not options.shared)
@@ -354,13 +354,13 @@ class Plan:
     def flags(self, target):
         scan, needs = self.scan, target.needs
         flags = [name for bit, name in SLOT_FLAGS if needs & bit]
-        if target.kind == "shared" or target.kind == "undefined" and scan.is_left(target):
+        if target.kind == "shared" or target.kind == "undefined" and scan.is_left_to_loader(target):
             flags.append("DYNAMIC")
         elif not scan.is_interposable(target):
             flags.append("NON_INTERPOSABLE")
         if target.exported:
             flags.append("EXPORT_DYNAMIC")
-        if target.kind == "undefined" and not scan.is_left(target):
+        if target.kind == "undefined" and not scan.is_left_to_loader(target):
             flags += ["UNDEFINED_WEAK", "ABSOLUTE"]
         if target.absolute:
             flags.append("ABSOLUTE")
@@ -374,7 +374,7 @@ class Plan:
             flags.append("DOWNGRADE_TO_LOCAL")
         return flags
 
-    def described(self, target, place, emit):
+    def full_symbol(self, target, place, emit):
         """A symbol that has more than its place."""
         symbol = {"name": target.name.hex(), "info": target.info, "other": target.other, "size": target.size, "place": place, "flags": self.flags(target), "emit": bool(emit)}
         if isinstance(place, dict) and "section" in place or target.absolute:
@@ -396,7 +396,7 @@ class Plan:
             symbol = {"name": target.name.hex(), "info": info, "place": place if where else "undefined"}
             return {**symbol, "flags": ["NON_INTERPOSABLE"]} if target.plan is None else {**symbol, "definition": target.plan}
         if target is not None and (target.needs or target.dynsym is not None or target.kind != "defined"):
-            return self.described(target, place, emit)
+            return self.full_symbol(target, place, emit)
         flags = ["NON_INTERPOSABLE"] + ["ABSOLUTE"] * (section == ABSOLUTE) + ["DOWNGRADE_TO_LOCAL"] * (target is not None and target.is_hidden())
         symbol = {"name": "" if is_local and not emit else file.symbol_name(i).hex(), "info": info, "place": place, "flags": flags, "value": value, "size": size, "other": target.other if target else other, "emit": bool(emit)}
         # a reference of another file needs the address, and one into merged strings that of the string
@@ -508,17 +508,17 @@ class Plan:
         """All symbols, in a list for each file."""
         for file in self.objects:
             yield [self.symbol(file, i) for i in range(len(file.symbols))]
-        yield [self.described(target, "absolute", False) for library in self.libraries for target in library.used]
+        yield [self.full_symbol(target, "absolute", False) for library in self.libraries for target in library.used]
         outputs = [output for output in self.layout.outputs if output.flags & ALLOC and not output.flags & TLS]
         for target in self.own:
             # in the section that has its address, or begins before it
             place = max((output for output in outputs if output.address <= self.value_of(target)), key=lambda output: output.index, default=outputs[0])
-            yield [self.described(target, {"output": place.index}, self.has_symtab)]
+            yield [self.full_symbol(target, {"output": place.index}, self.has_symtab)]
 
     def text(self):
         """The plan, in pieces. A file's symbols and sections are made when their piece is: all at once would not fit the memory."""
-        yield spelled(self.head())[:-1] + ',"symbols":['
-        yield from joined(self.symbols())
-        yield '],"groups":[{"part_sizes":' + spelled([part.size for part in self.layout.parts]) + ',"files":['
-        yield from joined([file] for file in self.files())
+        yield json_text(self.head())[:-1] + ',"symbols":['
+        yield from list_text(self.symbols())
+        yield '],"groups":[{"part_sizes":' + json_text([part.size for part in self.layout.parts]) + ',"files":['
+        yield from list_text([file] for file in self.files())
         yield "]}]"

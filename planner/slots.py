@@ -36,7 +36,7 @@ class Scan:
 
     def is_lookup(self, target):
         """Whether a loader looks the symbol up: another module's definition may count."""
-        return target.kind == "shared" or target.kind == "undefined" and self.is_left(target) or self.is_interposable(target)
+        return target.kind == "shared" or target.kind == "undefined" and self.is_left_to_loader(target) or self.is_interposable(target)
 
     def is_interposable(self, target):
         return self.options.shared and target.exported and target.other & 3 == 0 and target.kind in ("defined", "common") and not self.options.symbolic
@@ -45,7 +45,7 @@ class Scan:
         """Whether the output's own resolver says where the symbol is. One that a loader looks up is as any function: the loader runs the resolver."""
         return target.is_ifunc() and not self.is_lookup(target)
 
-    def is_left(self, target):
+    def is_left_to_loader(self, target):
         """Whether a name that nothing defines is left to the loader. In a program it is 0, as with `-z nodynamic-undefined-weak` of GNU ld."""
         return self.options.shared and target.kind == "undefined" and target.other & 3 == 0
 
