@@ -3,6 +3,8 @@
 Only ELF of 64 bits with the lowest byte first is read (gABI, "Object Files"). What is not understood is refused by its name.
 """
 import bisect
+import os
+import re
 import struct
 import zlib
 
@@ -10,11 +12,11 @@ PROGBITS, SYMTAB, STRTAB, RELA, NOTE, NOBITS, DYNSYM, GROUP = 1, 2, 3, 4, 7, 8, 
 INIT_ARRAY, FINI_ARRAY, PREINIT_ARRAY, SYMTAB_SHNDX = 14, 15, 16, 18
 VERDEF, VERSYM = 0x6FFFFFFD, 0x6FFFFFFF
 WRITE, ALLOC, CODE, MERGE, STRINGS, INFO_LINK, LINK_ORDER, IN_GROUP, TLS = 1, 2, 4, 16, 32, 64, 128, 512, 1024
-COMPRESSED, RETAIN, EXCLUDE = 2048, 0x200000, 0x80000000
+COMPRESSED, EXCLUDE = 2048, 0x80000000
 UNDEFINED, ABSOLUTE, COMMON, LONG_INDEX = 0, 0xFFF1, 0xFFF2, 0xFFFF
 LOCAL, GLOBAL, WEAK, UNIQUE = 0, 1, 2, 10
 NOTYPE, OBJECT, FUNCTION, SECTION, FILE, COMMON_TYPE, TLS_TYPE, IFUNC = 0, 1, 2, 3, 4, 5, 6, 10
-DEFAULT, INTERNAL, HIDDEN, PROTECTED = 0, 1, 2, 3
+DEFAULT, INTERNAL, HIDDEN = 0, 1, 2
 MACHINES = {62: "x86_64", 183: "aarch64"}
 
 
@@ -136,8 +138,8 @@ class Archive:
     """An archive, whose index says which member defines a symbol."""
 
     def __init__(self, name, data):
-        self.name, self.data, self.taken = name, data, {}
-        at, names, self.index, self.members = 8, b"", {}, []
+        self.name, self.taken = name, set()
+        at, names, self.index, self.members = 8, b"", {}, {}
         while at + 60 <= len(data):
             label, size = data[at : at + 16].rstrip(), int(data[at + 48 : at + 58])
             body = data[at + 60 : at + 60 + size]
@@ -152,21 +154,20 @@ class Archive:
                 raise Refused(f"{name}: its index has numbers of 64 bits")
             else:
                 title = names[int(label[1:]) :].split(b"\n")[0] if label[:1] == b"/" else label
-                self.members.append((at, title.rstrip(b"/").decode(), body))
+                self.members[at] = title.rstrip(b"/").decode(), body
             at = up(at + 60 + size, 2)
-        self.by_place = {place: (title, body) for place, title, body in self.members}
 
     def member(self, place):
         """The object at a place of the index, once; None where it was taken before."""
         if place in self.taken:
             return None
-        title, body = self.by_place[place]
-        self.taken[place] = True
+        title, body = self.members[place]
+        self.taken.add(place)
         return Object(f"{self.name}({title})", body)
 
     def all(self):
         """Members that are objects; others (as the `lib.rmeta` of Rust) are passed over."""
-        return [member for member in (self.member(place) for place, _, body in self.members if body[:4] == b"\x7fELF") if member]
+        return [self.member(place) for place, (_, body) in self.members.items() if body[:4] == b"\x7fELF" and place not in self.taken]
 
 
 class Library(Elf):
@@ -174,17 +175,12 @@ class Library(Elf):
 
     def __init__(self, name, data, as_needed):
         super().__init__(name, data)
-        self.as_needed, self.needed, self.soname, self.used = as_needed, not as_needed, None, []
-        self.first_symbol = 0
+        self.needed, self.used, self.first_symbol = not as_needed, [], 0
         table = self.first(DYNSYM)
         strings = self.content(self.headers[table[6]])
         records = list(struct.iter_unpack("<IBBHQQ", self.content(table)))
-        dynamic = self.first(6)
-        for tag, value in struct.iter_unpack("<QQ", self.content(dynamic)):
-            if tag == 14:
-                self.soname = text(strings, value)
-            elif tag == 0:
-                break
+        dynamic = dict(struct.iter_unpack("<QQ", self.content(self.first(6))))
+        self.soname = text(strings, dynamic[14]) if 14 in dynamic else os.path.basename(name).encode()
         versions = self.first(VERSYM)
         versions = [i for i, in struct.iter_unpack("<H", self.content(versions))] if versions else [1] * len(records)
         self.version_names, header = {}, self.first(VERDEF)
@@ -219,8 +215,6 @@ class Library(Elf):
 
 def script_words(data):
     """The files that a script names in GROUP and INPUT, each with whether it stands in AS_NEEDED, or None where it has other commands."""
-    import re
-
     words = re.findall(r"[(),]|[^\s(),]+", re.sub(r"/\*.*?\*/", "", data.decode("latin1"), flags=re.S))
     files, stack = [], []
     for i, word in enumerate(words):

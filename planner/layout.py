@@ -13,6 +13,7 @@ FAMILIES = [
     b".text", b".rodata", b".data.rel.ro", b".data", b".bss", b".tdata", b".tbss", b".init_array", b".fini_array", b".preinit_array", b".gcc_except_table",
     b".ldata", b".lrodata", b".lbss", b".ctors", b".dtors",
 ]
+ARRAYS = {b".init_array": INIT_ARRAY, b".fini_array": FINI_ARRAY, b".preinit_array": PREINIT_ARRAY}
 FINAL = {b".ctors": b".init_array", b".dtors": b".fini_array"}
 LINKONCE = {b"t": b".text", b"r": b".rodata", b"d": b".data", b"b": b".bss", b"wi": b".debug_info", b"td": b".tdata", b"tb": b".tbss"}
 READ, RUN, ONCE, DATA, OUTSIDE = range(5)
@@ -31,7 +32,7 @@ class Part:
 
     def __init__(self, role, size=0, align=1):
         self.role, self.size, self.align = role, size, align
-        self.inputs, self.index, self.address, self.offset, self.strings, self.is_kept = [], 0, 0, 0, None, False
+        self.inputs, self.index, self.address, self.offset, self.strings, self.is_kept, self.output = [], 0, 0, 0, None, False, None
 
     def add(self, section):
         self.align = max(self.align, section.align)
@@ -50,8 +51,19 @@ class Output:
 
     def part(self, role, size=0, align=1):
         part = Part(role, size, align)
+        part.output = self
         self.parts.append(part)
         return part
+
+    def place(self, offset, address):
+        """Places its parts from an offset and an address on; where it ends in memory."""
+        self.offset, self.address, end = offset, address, address
+        for part in self.parts:
+            part.address = end = up(end, part.align)
+            part.offset = offset + end - address
+            end += part.size
+        self.size = end - address
+        return end
 
     def align(self):
         return max([part.align for part in self.parts], default=1)
@@ -106,12 +118,19 @@ class Layout:
         self.outputs.append(made)
         return made
 
-    def named(self, name):
+    def output_of(self, key, *made):
+        """The output section of all inputs that have one key."""
+        if key not in self.by_key:
+            self.by_key[key] = self.output(*made)
+            self.by_key[key].part("raw")
+        return self.by_key[key]
+
+    def output_named(self, name):
         return next((output for output in self.outputs if output.name == name), None)
 
     def edge(self, name, is_end):
         """Where a section begins or ends; 0 where it is not there."""
-        output = self.named(name)
+        output = self.output_named(name)
         return output.address + (output.size if is_end else 0) if output else 0
 
     # ---- input sections
@@ -127,7 +146,6 @@ class Layout:
 
     def place_inputs(self, objects):
         """Says of each input section what becomes of it, and to which part it belongs."""
-        arrays = set()
         for file in objects:
             for section in file.sections:
                 if self.is_left_out(section):
@@ -138,14 +156,10 @@ class Layout:
                     section.slot = "frame"
                     continue
                 name = family(section.name)
-                if name in (b".init_array", b".fini_array", b".preinit_array"):
-                    section.reversed = section.name[1:2] in (b"c", b"d")
-                    arrays.add(name)
+                section.reversed = name in ARRAYS and section.name[1:2] in (b"c", b"d")
                 section.slot = "loaded" if section.flags & ALLOC else "debug"
                 self.place(section, name)
-        for name in arrays:
-            output = self.named(name)
-            part = output.parts[0]
+        for part in (self.by_key[name].parts[0] for name in ARRAYS if name in self.by_key):
             if any(priority(section) < 65536 for section in part.inputs):
                 inputs, part.inputs, part.size = sorted(part.inputs, key=priority), [], 0
                 for section in inputs:
@@ -155,18 +169,12 @@ class Layout:
         self.drop_empty()
 
     def place(self, section, name):
-        kinds = {b".init_array": INIT_ARRAY, b".fini_array": FINI_ARRAY, b".preinit_array": PREINIT_ARRAY}
         flags = section.flags & (WRITE | ALLOC | CODE | TLS)
         nobits = section.kind == NOBITS
         key = name, flags, nobits and bool(flags & TLS or name == b".bss"), section.kind == NOTE
-        if name in kinds:
-            key = name
-            flags = WRITE | ALLOC
-        output = self.by_key.get(key)
-        if output is None:
-            kind = kinds.get(name) or (NOTE if section.kind == NOTE else NOBITS if nobits else PROGBITS)
-            output = self.by_key[key] = self.output(name, kind, flags)
-            output.part("raw")
+        if name in ARRAYS:
+            key, flags = name, WRITE | ALLOC
+        output = self.output_of(key, name, ARRAYS.get(name) or (NOTE if section.kind == NOTE else NOBITS if nobits else PROGBITS), flags)
         if output.kind == NOBITS and not nobits:
             output.kind = PROGBITS
         if section.flags & MERGE and section.flags & STRINGS and section.entry == 1 and section.align == 1 and section.relocations is None and section.bytes()[-1:] == b"\0":
@@ -207,13 +215,16 @@ class Layout:
             if not section.part.is_kept:
                 section.slot = "discard"
 
+    def drop_empty_outputs(self):
+        for output in self.outputs:
+            output.parts = [part for part in output.parts if part.size or part.is_kept or part.role == "symtab_global"]
+        self.outputs = [output for output in self.outputs if output.parts]
+
     # ---- addresses
 
     def arrange(self):
         """The order of the sections, without those that are empty, and their numbers."""
-        for output in self.outputs:
-            output.parts = [part for part in output.parts if part.size or part.is_kept or part.role == "symtab_global"]
-        self.outputs = [output for output in self.outputs if output.parts]
+        self.drop_empty_outputs()
         self.outputs.sort(key=rank)
         for index, output in enumerate(self.outputs, 1):
             output.index = index
@@ -224,97 +235,61 @@ class Layout:
             part.index = index
 
     def give_addresses(self, base):
-        """Offsets and addresses of all parts, and the runs: (flags, is once, offset, address, bytes in the file, bytes in memory)."""
-        page, at = self.machine.page, 64
-        self.runs, self.thread_end, memory = [], 0, base + 64
-        self.file_header.address = base
-        self.program_headers.offset, self.program_headers.address = 64, base + 64
-        at += self.program_headers.size
-        memory += self.program_headers.size
-        run, begin = READ, (0, base)
-        file_end, memory_end = at, memory
-        thread = [output for output in self.outputs if output.flags & TLS]
+        """Offsets and addresses of all parts, and the runs: (run, offset, address, bytes in the file, bytes in memory)."""
+        page, headers = self.machine.page, self.program_headers
+        loaded = [output for output in self.outputs if output.flags & ALLOC]
+        thread = [output for output in loaded if output.flags & TLS]
         thread_align = max([output.align() for output in thread], default=1)
-        for output in self.outputs:
-            if output.run() == OUTSIDE:
-                break
-            align = thread_align if thread and output is thread[0] else output.align()
+        self.file_header.address, headers.offset, headers.address = base, 64, base + 64
+        self.runs, run, begin = [], READ, (0, base)
+        at, memory = 64 + headers.size, base + 64 + headers.size
+        for output in loaded:
+            align = thread_align if output in thread[:1] else output.align()
             if output.run() != run:
-                self.runs.append((run, *begin, file_end - begin[0], memory_end - begin[1]))
-                at = up(file_end, min(align, page))
-                memory = up(memory_end, page) + at % page
+                self.runs.append((run, *begin, at - begin[0], memory - begin[1]))
+                run, at = output.run(), up(at, min(align, page))
+                memory = up(memory, page) + at % page
                 memory += -memory % align if align > page else 0
-                run, begin = output.run(), (at, memory)
-                file_end, memory_end = at, memory
+                begin = at, memory
             start = up(memory, align)
-            if output.kind == NOBITS:
-                output.offset, output.address, memory_now = file_end, start, start
-            else:
-                at = file_end + start - memory_end
-                output.offset, output.address, memory_now = at, start, start
-            for part in output.parts:
-                memory_now = up(memory_now, part.align)
-                part.address, part.offset = memory_now, output.offset + memory_now - start
-                memory_now += part.size
-            output.size = memory_now - start
-            if output.kind == NOBITS:
-                if output.flags & TLS:
-                    self.thread_end = memory_now
-                    continue
-                memory = memory_end = memory_now
-                continue
-            memory = memory_end = memory_now
-            at = file_end = output.offset + output.size
-            if output.flags & TLS:
-                self.thread_end = memory_now
-        self.runs.append((run, *begin, file_end - begin[0], memory_end - begin[1]))
-        self.image_end = memory_end
-        self.thread = (thread[0].address, self.thread_end, thread_align) if thread else None
-        at = file_end
-        for output in self.outputs:
-            if output.run() == OUTSIDE:
-                at = up(at, output.align())
-                output.offset = at
-                for part in output.parts:
-                    part.offset = at = up(at, part.align)
-                    part.address = part.offset - output.offset
-                    at += part.size
-                output.size = at - output.offset
-        self.section_headers.offset = up(at, 8)
-        self.section_headers.size = 64 * (1 + len(self.outputs))
+            offset = at if output.kind == NOBITS else at + start - memory
+            end = output.place(offset, start)
+            if output.kind != NOBITS:
+                at = offset + output.size
+            # zeroed thread-local data have no bytes of their own in memory
+            if output.kind != NOBITS or not output.flags & TLS:
+                memory = end
+        self.runs.append((run, *begin, at - begin[0], memory - begin[1]))
+        self.image_end = memory
+        self.thread = (thread[0].address, thread[-1].address + thread[-1].size, thread_align) if thread else None
+        for output in self.outputs[len(loaded) :]:
+            output.place(up(at, output.align()), 0)
+            at = output.offset + output.size
+        self.section_headers.offset, self.section_headers.size = up(at, 8), 64 * (1 + len(self.outputs))
 
     def segments(self, stack):
-        """The program headers. Their number does not depend on addresses."""
-        made = []
+        """The program headers: kind, flags, offset, address, bytes in the file and in memory, alignment. Their number does not depend on addresses."""
+        headers, page = self.program_headers, self.machine.page
 
         def over(kind, flags, output, align):
-            made.append((kind, flags, output.offset, output.address, output.size, output.size, align))
+            return kind, flags, output.offset, output.address, output.size, output.size, align
 
-        headers = self.program_headers
-        interp, dynamic = self.named(b".interp"), self.named(b".dynamic")
-        if interp:
-            made.append((PHDR, 4, headers.offset, headers.address, headers.size, headers.size, 8))
-            over(INTERP, 4, interp, 1)
-        flags = {READ: 4, RUN: 5, ONCE: 6, DATA: 6}
-        for run, offset, address, size, memory in self.runs:
-            made.append((LOAD, flags[run], offset, address, size, memory, self.machine.page))
-        if dynamic:
-            over(DYNAMIC, 6, dynamic, 8)
+        def over_named(kind, flags, name, align):
+            output = self.output_named(name)
+            return [over(kind, flags, output, align)] if output else []
+
+        made = [over(PHDR, 4, headers, 8)] * bool(self.output_named(b".interp")) + over_named(INTERP, 4, b".interp", 1)
+        made += [(LOAD, {READ: 4, RUN: 5}.get(run, 6), *place, page) for run, *place in self.runs]
+        made += over_named(DYNAMIC, 6, b".dynamic", 8)
         for output in self.outputs:
             if output.kind == NOTE and output.flags & ALLOC:
-                over(NOTES, 4, output, output.align())
-                if output.name == b".note.gnu.property":
-                    over(PROPERTY, 4, output, output.align())
+                made += [over(kind, 4, output, output.align()) for kind in [NOTES] + [PROPERTY] * (output.name == b".note.gnu.property")]
         if self.thread:
             start, end, align = self.thread
             first = next(output for output in self.outputs if output.flags & TLS)
-            size = first.size if first.kind != NOBITS else 0
-            made.append((THREAD, 4, first.offset, start, size, end - start, align))
-        table = self.named(b".eh_frame_hdr")
-        if table:
-            over(UNWIND, 4, table, 4)
-        made.append((STACK, 6 | stack, 0, 0, 0, 0, 16))
+            made.append((THREAD, 4, first.offset, start, 0 if first.kind == NOBITS else first.size, end - start, align))
+        made += over_named(UNWIND, 4, b".eh_frame_hdr", 4) + [(STACK, 6 | stack, 0, 0, 0, 0, 16)]
         for run, offset, address, size, memory in self.runs:
             if run == ONCE and self.options.relro:
-                made.append((RELRO, 4, offset, address, size, up(address + memory, self.machine.page) - address, 1))
+                made.append((RELRO, 4, offset, address, size, up(address + memory, page) - address, 1))
         return made

@@ -1,23 +1,22 @@
 """Makes the plan of a relocatable object (docs/PARTIAL.md): sections of one name behind each other, members of groups each for itself, with tables of relocations."""
 from elf import GROUP, IN_GROUP, INFO_LINK, LINK_ORDER, NOBITS, RELA, SECTION, STRTAB, SYMTAB, SYMTAB_SHNDX, UNDEFINED, Refused, up
-from plan import Plan, spelled
+from plan import PLACES, Plan
 
 
 class PartialPlan(Plan):
     def make(self):
         self.layout.outputs = []
-        self.alone, self.tables, self.group_outputs = {}, {}, {}
+        self.tables, self.group_outputs = {}, {}
         self.place_sections()
         self.layout.drop_empty()
         self.place_tables()
-        self.commons = [target for target in self.resolver.table.values() if target.kind == "common"]
         self.place_commons_and_copies()
         self.number_symbols()
         self.choose_emitted()
         self.number_outputs()
         return self.text()
 
-    def kept(self):
+    def kept_sections(self):
         for file in self.objects:
             for section in file.sections:
                 if section.group is not False:
@@ -25,50 +24,39 @@ class PartialPlan(Plan):
 
     def place_sections(self):
         """Groups first: the header of one stands in front of its members' (gABI, "Section Groups")."""
-        for section in self.kept():
+        for section in self.kept_sections():
             if section.kind == GROUP:
                 output = self.layout.output(b".group", GROUP, 0, 4, b".symtab")
                 section.slot = "group"
                 self.group_outputs[section] = output
                 output.part("raw").add(section)
-        for section in self.kept():
+        for section in self.kept_sections():
             if section.kind in (0, GROUP, RELA, SYMTAB, STRTAB, SYMTAB_SHNDX):
                 continue
             if section.flags & LINK_ORDER:
                 raise Refused(f"{section.file.name}: section {section.name.decode()} is ordered as another one (SHF_LINK_ORDER)")
             section.slot = "loaded"
-            flags = section.flags & ~IN_GROUP
-            key = (section.name, section.kind, flags, section.entry) if not section.flags & IN_GROUP else section
-            output = self.alone.get(key)
-            if output is None:
-                output = self.alone[key] = self.layout.output(section.name, section.kind, section.flags, section.entry)
-                output.part("raw").is_kept = section.name == b".note.GNU-stack"
-            self.layout.by_key.setdefault((section.name, section.flags, True, False) if section.kind == NOBITS else key, output)
+            key = (section.name, section.flags, True, False) if section.kind == NOBITS else (section.name, section.kind, section.flags, section.entry)
+            output = self.layout.output_of(section if section.flags & IN_GROUP else key, section.name, section.kind, section.flags, section.entry)
+            output.parts[0].is_kept = section.name == b".note.GNU-stack"
             output.parts[0].add(section)
 
     def place_tables(self):
         """The relocations of each section, in a table for each output section."""
-        outputs = {id(part): output for output in self.layout.outputs for part in output.parts}
-        for section in list(self.kept()):
+        for section in self.kept_sections():
             table = section.relocations
             if section.slot != "loaded" or table is None:
                 continue
-            owner = outputs[id(section.part)]
-            output = self.tables.get(owner)
-            if output is None:
-                output = self.tables[owner] = self.layout.output(b".rela" + section.name, RELA, INFO_LINK | section.flags & IN_GROUP, 24, b".symtab")
-                output.part("raw", 0, 8)
+            owner = section.part.output
+            output = self.tables[owner] = self.layout.output_of((owner, RELA), b".rela" + section.name, RELA, INFO_LINK | section.flags & IN_GROUP, 24, b".symtab")
             table.slot = "rela"
             output.parts[0].add(table)
         for section, output in self.group_outputs.items():
             # a group has its members that are there, and their tables
-            section.strings = [outputs[id(member.part)] for member in section.file.sections if member.group is section and member.slot == "loaded"]
+            section.strings = [member.part.output for member in section.file.sections if member.group is section and member.slot == "loaded"]
             section.strings += [self.tables[member] for member in section.strings if member in self.tables]
             section.size = output.parts[0].size = 4 + 4 * len(section.strings)
-        for output in list(self.layout.outputs):
-            output.parts = [part for part in output.parts if part.size or part.is_kept]
-            if not output.parts:
-                self.layout.outputs.remove(output)
+        self.layout.drop_empty_outputs()
 
     def choose_emitted(self):
         """Which symbols `.symtab` has: those of each file that it defines, then those that nothing defines."""
@@ -84,7 +72,7 @@ class PartialPlan(Plan):
                 if i < file.locals:
                     if (section == UNDEFINED or place is not None and place.slot == "discard") and (file, i) not in signatures:
                         continue
-                elif file.globals[i - file.locals].file is not file or file.globals[i - file.locals].index != i:
+                elif not file.globals[i - file.locals].is_at(file, i):
                     continue
                 order.append((place is None and section == UNDEFINED, i))
                 file.emitted[i] = 1
@@ -126,52 +114,39 @@ class PartialPlan(Plan):
 
     # ---- the text
 
-    def symbol_text(self, file, i):
-        at, info, other, section, value, size = file.symbols[i]
-        target = file.globals[i - file.locals] if i >= file.locals else None
-        symbol = {"name": file.symbol_name(i).hex(), "info": info, "other": target.other if target else other, "size": size, "value": value, "place": "undefined"}
-        place = file.section_of(i)
-        if place is not None:
-            symbol["place"] = {"section": place.index}
-        elif section:
-            symbol["place"] = "absolute" if section == 0xFFF1 else "common"
-        if target is not None and not (target.file is file and target.index == i):
+    def symbol(self, file, i):
+        _, info, other, section, value, size = file.symbols[i]
+        target, where = file.globals[i - file.locals] if i >= file.locals else None, file.section_of(i)
+        symbol = {"name": file.symbol_name(i).hex(), "info": info, "other": target.other if target else other, "size": size, "value": value, "emit": bool(file.emitted[i])}
+        symbol["place"] = {"section": where.index} if where else PLACES.get(section, "undefined")
+        if target and not target.is_at(file, i):
             symbol["definition"] = target.plan
-        elif target is not None and target.kind == "common":
-            symbol["size"], symbol["value"], symbol["resolution"] = target.size, 0, {"raw_value": target.alias[0]}
-        if file.emitted[i]:
-            symbol["emit"] = True
-        return spelled(symbol)
+        elif target and target.kind == "common":
+            symbol.update(size=target.size, value=0, resolution={"raw_value": target.alias[0]})
+        return symbol
 
-    def section_text(self, file, section):
+    def section(self, file, section):
         if section.slot == "rela":
-            return '{"slot":"rela","part":%d,"address":%d,"size":%d,"target":%d}' % (section.part.index, section.position, section.size, section.info)
+            return {"slot": "rela", "part": section.part.index, "address": section.position, "size": section.size, "target": section.info}
         if section.slot == "group":
-            return spelled({"slot": "group", "part": section.part.index, "size": section.size, "bytes": (section.bytes()[:4] + bytes(section.size - 4)).hex(), "members": [output.index for output in section.strings]})
-        text = super().section_text(file, section)
-        output = self.alone.get(section) if section.flags & IN_GROUP and section.slot == "loaded" else None
-        return text[:-1] + ',"singleton":%d}' % output.index if output else text
+            members = [output.index for output in section.strings]
+            return {"slot": "group", "part": section.part.index, "size": section.size, "bytes": (section.bytes()[:4] + bytes(section.size - 4)).hex(), "members": members}
+        made = super().section(file, section)
+        if section.flags & IN_GROUP and section.slot == "loaded":
+            made["singleton"] = section.part.output.index
+        return made
 
-    def text(self):
-        layout = self.layout
-        numbers = {output.name: output.index for output in layout.outputs}
-        sections = [{}]
-        for output in layout.outputs:
-            section = {"name": output.name.hex(), "kind": output.kind, "flags": output.flags, "offset": output.offset, "size": output.size, "align": output.align(), "entsize": output.entry, "link": numbers.get(output.link, 0)}
-            if output.kind == GROUP:
-                group = output.parts[0].inputs[0]
-                is_local = group.info < group.file.locals
-                section["info"] = self.first_local + self.numbers[group.file, group.info] if is_local else self.local_count + self.numbers[group.group]
-            elif output.kind == RELA:
-                section["info"] = next(owner for owner, table in self.tables.items() if table is output).index
-            elif self.has_symbol(output):
-                section["section_symbol"] = True
-            sections.append(section)
-        yield spelled({
-            "machine": self.resolver.machine, "kind": "partial", "page_size": self.machine.page, "sections": sections,
-            "parts": [{"role": part.role, "section": output.index if output else 0, "offset": part.offset, "size": part.size, "align": part.align} for part, output in self.parts_with_outputs()],
-        })[:-1] + ',"symbols":['
-        yield ",".join([self.symbol_text(file, i) for file in self.objects for i in range(len(file.symbols))])
-        yield '],'
-        yield from self.object_texts()
-        yield ',{"role":"epilogue"}]}]'
+    def output_section(self, output):
+        section = super().output_section(output)
+        if output.kind == GROUP:
+            group = output.parts[0].inputs[0]
+            is_local = group.info < group.file.locals
+            section["info"] = self.first_local + self.numbers[group.file, group.info] if is_local else self.local_count + self.numbers[group.group]
+        elif output.kind == RELA:
+            section["info"] = next(owner for owner, table in self.tables.items() if table is output).index
+        elif self.has_symbol(output):
+            section["section_symbol"] = True
+        return section
+
+    def head(self):
+        return self.shape()

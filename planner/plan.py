@@ -1,10 +1,9 @@
 """Makes the plan of an executable or a shared object (docs/PLAN.md), in the order of docs/LINKERS.md, "What to decide, in which order"."""
-import bisect
 import json
 import re
 import struct
 
-from elf import ABSOLUTE, ALLOC, CODE, COMMON, DYNSYM, NOBITS, NOTE, PROGBITS, RELA, SECTION, STRTAB, SYMTAB, TLS, TLS_TYPE, WRITE, Refused, up
+from elf import ABSOLUTE, ALLOC, CODE, COMMON, DYNSYM, INFO_LINK, NOBITS, NOTE, PROGBITS, RELA, SECTION, STRTAB, SYMTAB, TLS, TLS_TYPE, WRITE, Refused, up
 from layout import Layout
 from machines import MACHINES
 from slots import GOT, GOT_DESCRIPTOR, GOT_OFFSET, GOT_PAIR, STUB, Scan, keep_frames
@@ -14,6 +13,8 @@ BRANCHES_REACH = 100 << 20
 DYNAMIC, HASH, GNU_HASH, VERSYM, VERNEED, RELR = 6, 5, 0x6FFFFFF6, 0x6FFFFFFF, 0x6FFFFFFE, 19
 EDGES = re.compile(rb"__(start|stop)_([A-Za-z_]\w*)")
 ARRAYS = {b"__%s_%s" % (name, edge): (b"." + name, edge == b"end") for name in (b"preinit_array", b"init_array", b"fini_array") for edge in (b"start", b"end")}
+json_text = json.JSONEncoder(separators=(",", ":"), check_circular=False).encode
+PLACES = {ABSOLUTE: "absolute", COMMON: "common"}
 SLOT_FLAGS = [(GOT, "GOT"), (STUB, "PLT"), (GOT_OFFSET, "GOT_TLS_OFFSET"), (GOT_PAIR, "GOT_TLS_MODULE"), (GOT_DESCRIPTOR, "GOT_TLS_DESCRIPTOR")]
 
 
@@ -25,8 +26,13 @@ def gnu_hash(name):
     return h
 
 
-def spelled(value):
-    return json.dumps(value, separators=(",", ":"))
+def list_text(lists):
+    """The text of lists that are one list of a plan, without its brackets."""
+    separator = ""
+    for each in lists:
+        if each:
+            yield separator + json_text(each)[1:-1]
+            separator = ","
 
 
 # the names that the linker defines where an object refers to them, and their values
@@ -45,7 +51,7 @@ OWN = {
 }
 
 
-def provided(options, objects):
+def provided_names(options, objects):
     """Says of a name whether the linker defines it."""
     sections = {section.name for file in objects for section in file.sections if section.flags & ALLOC}
     absent = {b"__rela_iplt_start", b"__rela_iplt_end"} if options.kind != "static" else {b"_DYNAMIC"}
@@ -88,40 +94,25 @@ class Plan:
         layout.program_headers.size = 56 * len(layout.segments(self.execstack))
         layout.give_addresses(base)
         self.give_slots()
-        self.give_values()
         return self.text()
 
     # ---- what is kept
 
     def keep_frames(self):
-        self.frame_sections, size = [], 0
-        for file in self.objects:
-            for section in file.sections:
-                if section.slot == "frame":
-                    size += keep_frames(section, self.scan)
-                    self.frame_sections.append(section)
-        fdes = sum(section.fdes for section in self.frame_sections)
+        sections = [section for file in self.objects for section in file.sections if section.slot == "frame"]
+        size = sum(keep_frames(section) for section in sections)
         if size:
-            layout = self.layout
-            frames = layout.output(b".eh_frame", PROGBITS, ALLOC)
-            layout.frames = frames.part("eh_frame", size + 4, 8)
+            self.layout.frames = self.layout.output(b".eh_frame", PROGBITS, ALLOC).part("eh_frame", size + 4, 8)
             if self.options.eh_frame_hdr:
-                layout.output(b".eh_frame_hdr", PROGBITS, ALLOC).part("eh_frame_hdr", 12 + 8 * fdes, 4)
-
-    def zeros(self, name, flags):
-        output = self.layout.by_key.get((name, flags, True, False))
-        if output is None:
-            output = self.layout.by_key[name, flags, True, False] = self.layout.output(name, NOBITS, flags)
-            output.part("raw")
-        return output.parts[0]
+                self.layout.output(b".eh_frame_hdr", PROGBITS, ALLOC).part("eh_frame_hdr", 12 + 8 * sum(section.fdes for section in sections), 4)
 
     def place_commons_and_copies(self):
         """Room in zeroed data for what no section has: common symbols, and copies of libraries' data."""
-        self.commons = [target for target in self.resolver.table.values() if target.kind == "common"]
         for target in self.scan.copies:
             target.align = target.file.alignment(target.value, target.section)
-        for target in self.commons + self.scan.copies:
-            part = self.zeros(b".tbss", ALLOC | WRITE | TLS) if target.type() == TLS_TYPE else self.zeros(b".bss", ALLOC | WRITE)
+        for target in [target for target in self.resolver.table.values() if target.kind == "common"] + self.scan.copies:
+            name, flags = (b".tbss", ALLOC | WRITE | TLS) if target.type() == TLS_TYPE else (b".bss", ALLOC | WRITE)
+            part = self.layout.output_of((name, flags, True, False), name, NOBITS, flags).parts[0]
             part.align = max(part.align, target.align)
             target.alias = up(part.size, target.align), part
             part.size = target.alias[0] + target.size
@@ -132,16 +123,12 @@ class Plan:
         """One list of symbols: those of the objects as they are, those of each library that are used, and the linker's own."""
         at = 0
         for file in self.objects:
-            file.first_symbol = at
-            at += len(file.symbols)
-        for target in self.resolver.table.values():
+            file.first_symbol, at = at, at + len(file.symbols)
+        for target in {**dict.fromkeys(self.resolver.table.values()), **dict.fromkeys(self.scan.targets.values())}:
             if target.kind in ("defined", "common", "undefined") and target.file:
                 target.plan = target.file.first_symbol + target.index
             elif target.kind == "shared" and target.needs:
                 target.file.used.append(target)
-        for target in self.scan.targets.values():
-            if target.plan is None and target.kind == "defined":
-                target.plan = target.file.first_symbol + target.index
         for library in self.libraries:
             library.first_symbol = at
             for target in library.used:
@@ -168,7 +155,7 @@ class Plan:
         code = [output for output in self.layout.outputs if output.flags & CODE]
         if not self.machine.branches or sum(part.size for output in code for part in output.parts) < BRANCHES_REACH:
             return
-        part = self.layout.named(b".text").parts[0]
+        part = self.layout.output_named(b".text").parts[0]
         files, size = {}, BRANCHES_REACH
         for section in part.inputs:
             files.setdefault(section.file, []).append(section)
@@ -202,11 +189,8 @@ class Plan:
         self.thunk_part = part
 
     def choose_dynamic_symbols(self):
-        self.undefined, self.listed = [], []
-        if not self.options.has_dynamic:
-            return
         table = self.resolver.table.values()
-        self.undefined = sorted((target for target in table if target.kind == "undefined" and self.scan.is_left(target) and target.needs), key=lambda target: target.plan)
+        self.undefined = sorted((target for target in table if target.kind == "undefined" and self.scan.is_left_to_loader(target) and target.needs), key=lambda target: target.plan)
         for library in self.libraries:
             self.undefined += [target for target in library.used if not target.copy and not target.canonical]
         listed = [target for target in table if target.exported and target.kind in ("defined", "common")] + [target for target in self.own if target.exported]
@@ -229,130 +213,98 @@ class Plan:
                 self.version_needs.setdefault(library, {})[b"GLIBC_ABI_DT_RELR"] = number
                 number += 1
 
+    def is_emitted(self, file, i):
+        """Whether `.symtab` has symbol i of an object: by its name, unless what it is in is left out."""
+        at, info, _, section, _, _ = file.symbols[i]
+        where = file.section_of(i)
+        if not at or not section or info & 15 == SECTION or where is not None and where.slot == "discard":
+            return False
+        if i < file.locals:
+            return not file.strings.startswith(b".L", at)
+        target = file.globals[i - file.locals]
+        return target.is_at(file, i) and target.is_own()
+
     def choose_symtab(self):
-        """Which symbols `.symtab` has, and how many bytes that is."""
-        local, other, names = 24, 0, 1
-        keep = self.options.strip != "all"
+        """Which symbols `.symtab` has, and the bytes of its parts: those of local symbols, of others, and of names."""
+        self.has_symtab = self.options.strip != "all"
+        local, others = [b""], []
         for file in self.objects:
-            file.emitted = bytearray(len(file.symbols))
-            if not keep:
-                continue
-            emitted, strings, first = file.emitted, file.strings, file.locals
-            for i, (at, info, other_bits, section, value, size) in enumerate(file.symbols):
-                if not at or not section or info & 15 == SECTION:
-                    continue
-                end = strings.index(b"\0", at)
-                if i < first:
-                    if strings[at : at + 2] == b".L" or section < 0xFF00 and file.sections[section].slot == "discard":
-                        continue
-                    local += 24
-                else:
-                    target = file.globals[i - first]
-                    if target.file is not file or target.index != i or not target.is_own():
-                        continue
-                    if target.section is not None and target.section.slot == "discard":
-                        continue
-                    if target.is_hidden():
-                        local += 24
-                    else:
-                        other += 24
-                emitted[i] = 1
-                names += end - at + 1
-        self.has_symtab = keep
-        for target in self.own if keep else ():
-            names += len(target.name) + 1
-            if target.is_hidden():
-                local += 24
-            else:
-                other += 24
-        for targets, _, _ in self.thunks if keep else ():
-            local += 24 * len(targets)
-            names += sum(len("__wild_thunk_") + len(target.name) + 1 for _, target in targets)
-        self.symtab_sizes = local, other, names
+            file.emitted = bytearray(self.has_symtab and self.is_emitted(file, i) for i in range(len(file.symbols)))
+            for i in (i for i, is_emitted in enumerate(file.emitted) if is_emitted):
+                (local if i < file.locals or file.globals[i - file.locals].is_hidden() else others).append(file.symbol_name(i))
+        for target in self.own:
+            (local if target.is_hidden() else others).append(target.name)
+        local += [b"__wild_thunk_" + target.name for targets, _, _ in self.thunks for _, target in targets]
+        self.symtab_sizes = 24 * len(local), 24 * len(others), sum(len(name) + 1 for name in local + others)
 
     # ---- tables
 
     def add_tables(self):
-        layout, options = self.layout, self.options
-        sizes = self.scan.count()
-
-        def table(name, kind, flags, entry, link, *parts):
-            output = layout.output(name, kind, flags, entry, link)
-            for role, size, align in parts:
-                output.part(role, size, align)
-            return output
-
-        if options.interpreter and options.has_loader and not options.shared:
-            table(b".interp", PROGBITS, ALLOC, 0, None, ("interp", len(options.interpreter) + 1, 1))
-        self.properties = self.merged_properties()
-        if self.properties:
-            table(b".note.gnu.property", NOTE, ALLOC, 0, None, ("property", 16 + 16 * len(self.properties), 8))
-        if options.build_id is not None:
-            table(b".note.gnu.build-id", NOTE, ALLOC, 0, None, ("build_id", 16 + (len(options.build_id) or 20), 4))
-        if options.has_dynamic:
-            count = 1 + len(self.undefined) + len(self.listed)
-            strings = 1 + sum(len(target.name) + 1 for target in self.undefined + self.listed) + sum(len(library.soname) + 1 for library in self.libraries)
-            strings += sum(len(text) + 1 for text in (options.soname, options.rpath) if text is not None)
-            for library, versions in self.version_needs.items():
-                strings += len(library.soname) + 1 + sum(len(name) + 1 for name in versions)
-            table(b".dynsym", DYNSYM, ALLOC, 24, b".dynstr", ("dynsym", 24 * count, 8))
-            table(b".dynstr", STRTAB, ALLOC, 0, None, ("dynstr", strings, 1))
-            self.bloom = 1
-            while 64 * self.bloom < 10 * len(self.listed):
-                self.bloom *= 2
-            if options.hash_style in ("gnu", "both"):
-                table(b".gnu.hash", GNU_HASH, ALLOC, 0, b".dynsym", ("gnu_hash", 16 + 8 * self.bloom + 4 * (self.buckets + len(self.listed)), 8))
-            if options.hash_style in ("sysv", "both"):
-                table(b".hash", HASH, ALLOC, 4, b".dynsym", ("sysv_hash", 8 + 4 * (self.buckets + count), 8))
-            if self.version_needs:
-                table(b".gnu.version", VERSYM, ALLOC, 2, b".dynsym", ("gnu_version", 2 * count, 2))
-                table(b".gnu.version_r", VERNEED, ALLOC, 0, b".dynstr", ("gnu_version_r", sum(16 + 16 * len(versions) for versions in self.version_needs.values()), 8))
-            table(b".rela.dyn", RELA, ALLOC, 24, b".dynsym", ("rela_dyn_relative", sizes["rela_dyn_relative"], 8), ("rela_dyn_general", sizes["rela_dyn_general"], 8))
-        elif sizes["rela_dyn_general"] or sizes["rela_dyn_relative"]:
+        """What the writer makes. A part of which the output has no bytes is left out later."""
+        options, libraries, sizes = self.options, self.libraries, self.scan.count()
+        names, count = [target.name for target in self.undefined + self.listed], 1 + len(self.undefined) + len(self.listed)
+        names += [library.soname for library in libraries] + [text for text in (options.soname, options.rpath) if text is not None]
+        names += [name for library, versions in self.version_needs.items() for name in (library.soname, *versions)]
+        self.bloom = 1
+        while 64 * self.bloom < 10 * len(self.listed):
+            self.bloom *= 2
+        if not options.has_dynamic and (sizes["rela_dyn_general"] or sizes["rela_dyn_relative"]):
             raise Refused("a static output has no entries for a loader")
-        table(b".rela.plt", RELA, ALLOC | 64, 24, b".dynsym" if options.has_dynamic else None, ("rela_plt", sizes["rela_plt"], 8))
-        table(b".plt.got", PROGBITS, ALLOC | CODE, 16, None, ("plt_got", sizes["plt_got"], 16))
-        table(b".relr.dyn", RELR, ALLOC, 8, None, ("relr_dyn", sizes["relr_dyn"], 8))
+        self.properties = self.merged_properties()
         self.got_header = int(not sizes["got"] and b"_GLOBAL_OFFSET_TABLE_" in self.resolver.table)
-        table(b".got", PROGBITS, ALLOC | WRITE, 8, None, ("got", sizes["got"] + 8 * self.got_header, 8), ("got_relr", sizes["got_relr"], 8))
-        if options.has_dynamic:
-            table(b".dynamic", DYNAMIC, ALLOC | WRITE, 16, b".dynstr", ("dynamic", 16 * self.dynamic_entries(sizes), 8))
+        has_gnu, has_sysv = (options.has_dynamic and options.hash_style in (style, "both") for style in ("gnu", "sysv"))
+        versions = [16 + 16 * len(versions) for versions in self.version_needs.values()]
+        rows = [
+            (b".interp", PROGBITS, ALLOC, 0, None, ("interp", len(options.interpreter) + 1 if options.interpreter and options.has_loader and not options.shared else 0, 1)),
+            (b".note.gnu.property", NOTE, ALLOC, 0, None, ("property", 16 + 16 * len(self.properties) if self.properties else 0, 8)),
+            (b".note.gnu.build-id", NOTE, ALLOC, 0, None, ("build_id", 0 if options.build_id is None else 16 + (len(options.build_id) or 20), 4)),
+            (b".dynsym", DYNSYM, ALLOC, 24, b".dynstr", ("dynsym", options.has_dynamic * 24 * count, 8)),
+            (b".dynstr", STRTAB, ALLOC, 0, None, ("dynstr", options.has_dynamic * (1 + sum(len(name) + 1 for name in names)), 1)),
+            (b".gnu.hash", GNU_HASH, ALLOC, 0, b".dynsym", ("gnu_hash", has_gnu * (16 + 8 * self.bloom + 4 * (self.buckets + len(self.listed))), 8)),
+            (b".hash", HASH, ALLOC, 4, b".dynsym", ("sysv_hash", has_sysv * (8 + 4 * (self.buckets + count)), 8)),
+            (b".gnu.version", VERSYM, ALLOC, 2, b".dynsym", ("gnu_version", bool(versions) * 2 * count, 2)),
+            (b".gnu.version_r", VERNEED, ALLOC, 0, b".dynstr", ("gnu_version_r", sum(versions), 8)),
+            (b".rela.dyn", RELA, ALLOC, 24, b".dynsym", *((role, sizes[role], 8) for role in ("rela_dyn_relative", "rela_dyn_general"))),
+            (b".rela.plt", RELA, ALLOC | INFO_LINK, 24, b".dynsym", ("rela_plt", sizes["rela_plt"], 8)),
+            (b".plt.got", PROGBITS, ALLOC | CODE, 16, None, ("plt_got", sizes["plt_got"], 16)),
+            (b".relr.dyn", RELR, ALLOC, 8, None, ("relr_dyn", sizes["relr_dyn"], 8)),
+            (b".got", PROGBITS, ALLOC | WRITE, 8, None, ("got", sizes["got"] + 8 * self.got_header, 8), ("got_relr", sizes["got_relr"], 8)),
+            (b".dynamic", DYNAMIC, ALLOC | WRITE, 16, b".dynstr", ("dynamic", options.has_dynamic * 16 * self.dynamic_entries(sizes), 8)),
+        ]
         if self.has_symtab:
-            local, other, names = self.symtab_sizes
-            table(b".symtab", SYMTAB, 0, 24, b".strtab", ("symtab_local", local, 8), ("symtab_global", other, 8))
-            table(b".strtab", STRTAB, 0, 0, None, ("strtab", names, 1))
-        names = table(b".shstrtab", STRTAB, 0, 0, None, ("shstrtab", 1, 1))
-        names.parts[0].size = 1 + sum(len(output.name) + 1 for output in layout.outputs if any(part.size or part.is_kept for part in output.parts))
-        if len(layout.outputs) > 0xFF00:
+            local, others, text = self.symtab_sizes
+            rows += [(b".symtab", SYMTAB, 0, 24, b".strtab", ("symtab_local", local, 8), ("symtab_global", others, 8)), (b".strtab", STRTAB, 0, 0, None, ("strtab", text, 1))]
+        for name, kind, flags, entry, link, *parts in [*rows, (b".shstrtab", STRTAB, 0, 0, None, ("shstrtab", 1, 1))]:
+            output = self.layout.output(name, kind, flags, entry, link)
+            for role, size, align in parts:
+                last = output.part(role, size, align)
+        last.size += sum(len(output.name) + 1 for output in self.layout.outputs if any(part.size or part.is_kept for part in output.parts))
+        if len(self.layout.outputs) > 0xFF00:
             raise Refused("more output sections than the planner counts")
 
     def dynamic_entries(self, sizes):
         """The entries of the dynamic section (docs/LINKERS.md, "The entries of `dynamic`")."""
-        options, layout = self.options, self.layout
-        count = len(self.libraries) + (options.rpath is not None) + (options.soname is not None)
+        options, count = self.options, 7
         for name, entries in (b".init", 1), (b".fini", 1), (b".init_array", 2), (b".fini_array", 2), (b".preinit_array", 2):
-            output = layout.named(name)
+            output = self.layout.output_named(name)
             count += entries * bool(output and output.kind != NOBITS and any(part.size for part in output.parts))
-        count += 4 + 4 * bool(sizes["rela_plt"]) + 3 * bool(sizes["rela_dyn_relative"] or sizes["rela_dyn_general"]) + bool(sizes["rela_dyn_relative"])
-        count += 3 * bool(sizes["relr_dyn"]) + (options.hash_style in ("gnu", "both")) + (options.hash_style in ("sysv", "both")) + 3 * bool(self.version_needs)
-        return count + (not options.shared) + 3
+        count += 4 * bool(sizes["rela_plt"]) + 3 * bool(sizes["rela_dyn_relative"] or sizes["rela_dyn_general"]) + bool(sizes["rela_dyn_relative"]) + 3 * bool(sizes["relr_dyn"])
+        count += len(self.libraries) + (options.rpath is not None) + (options.soname is not None) + (not options.shared)
+        return count + (2 if options.hash_style == "both" else 1) + 3 * bool(self.version_needs)
 
     def merged_properties(self):
         """Properties of the program: of one sort those bits that all objects have, of another those that any has (x86-64 psABI, "Program Property")."""
-        common, any_of = None, 0
+        common, any_of = 0xFFFFFFFF, 0
         for file in self.objects:
             found = {}
-            for section in file.sections:
-                if section.name == b".note.gnu.property":
-                    data = section.bytes()
-                    size = struct.unpack_from("<I", data, 4)[0] if data else 0
-                    at, end = 16, 16 + size
-                    while at + 8 <= end:
-                        kind, length = struct.unpack_from("<II", data, at)
-                        if length == 4:
-                            found[kind] = struct.unpack_from("<I", data, at + 8)[0]
-                        at += 8 + up(length, 8)
-            common = found.get(self.machine.own_property, 0) & (common if common is not None else 0xFFFFFFFF)
+            for data in (section.bytes() for section in file.sections if section.name == b".note.gnu.property" and section.size):
+                at, end = 16, 16 + struct.unpack_from("<I", data, 4)[0]
+                while at + 8 <= end:
+                    kind, length = struct.unpack_from("<II", data, at)
+                    if length == 4:
+                        found[kind] = struct.unpack_from("<I", data, at + 8)[0]
+                    at += 8 + up(length, 8)
+            common &= found.get(self.machine.own_property, 0)
             any_of |= found.get(self.machine.other_property, 0)
         return [{"ptype": kind, "value": value} for kind, value in ((self.machine.own_property, common), (self.machine.other_property, any_of)) if value and kind]
 
@@ -397,22 +349,18 @@ class Plan:
         edge = EDGES.fullmatch(name)
         return self.layout.edge(edge[2], edge[1] == b"stop")
 
-    def give_values(self):
-        for target in [*self.scan.targets.values(), *self.undefined, *self.listed, *self.own, *self.commons]:
-            target.raw = self.value_of(target)
-
     # ---- the text
 
     def flags(self, target):
         scan, needs = self.scan, target.needs
         flags = [name for bit, name in SLOT_FLAGS if needs & bit]
-        if target.kind == "shared" or target.kind == "undefined" and scan.is_left(target):
+        if target.kind == "shared" or target.kind == "undefined" and scan.is_left_to_loader(target):
             flags.append("DYNAMIC")
         elif not scan.is_interposable(target):
             flags.append("NON_INTERPOSABLE")
         if target.exported:
             flags.append("EXPORT_DYNAMIC")
-        if target.kind == "undefined" and not scan.is_left(target):
+        if target.kind == "undefined" and not scan.is_left_to_loader(target):
             flags += ["UNDEFINED_WEAK", "ABSOLUTE"]
         if target.absolute:
             flags.append("ABSOLUTE")
@@ -426,195 +374,151 @@ class Plan:
             flags.append("DOWNGRADE_TO_LOCAL")
         return flags
 
-    def described(self, target, place, emit):
+    def full_symbol(self, target, place, emit):
         """A symbol that has more than its place."""
-        symbol = {"name": target.name.hex(), "info": target.info, "other": target.other, "size": target.size, "place": place, "flags": self.flags(target)}
+        symbol = {"name": target.name.hex(), "info": target.info, "other": target.other, "size": target.size, "place": place, "flags": self.flags(target), "emit": bool(emit)}
         if isinstance(place, dict) and "section" in place or target.absolute:
             symbol["value"] = target.value
         if target.kind == "shared":
             symbol["version"] = target.listed_version
-        if emit:
-            symbol["emit"] = True
-        resolution = {"raw_value": target.raw if target.raw is not None else self.value_of(target)}
-        for name in ("dynsym", "got", "plt"):
-            if getattr(target, name) is not None:
-                resolution[name] = getattr(target, name)
-        symbol["resolution"] = resolution
-        return spelled(symbol)
+        given = {"raw_value": self.value_of(target), "dynsym": target.dynsym, "got": target.got, "plt": target.plt}
+        symbol["resolution"] = {name: value for name, value in given.items() if value is not None}
+        return symbol
 
-    def symbol_text(self, file, i):
+    def symbol(self, file, i):
+        """Symbol i of an object."""
         at, info, other, section, value, size = file.symbols[i]
-        if i < file.locals:
-            target = file.local_targets.get(i)
-        else:
-            target = file.globals[i - file.locals]
-            if target.file is not file or target.index != i or target.kind == "shared":
-                return self.reference_text(file, i, target)
-        where = file.section_of(i)
-        place = '{"section":%d}' % where.index if where else '"absolute"' if section == ABSOLUTE else '"common"' if section == COMMON else '"undefined"'
-        emit = file.emitted[i]
+        where, emit, is_local = file.section_of(i), file.emitted[i], i < file.locals
+        target = file.local_targets.get(i) if is_local else file.globals[i - file.locals]
+        place = {"section": where.index} if where else PLACES.get(section, "undefined")
+        if not is_local and (not target.is_at(file, i) or target.kind == "shared"):
+            # another symbol defines it, or none
+            symbol = {"name": target.name.hex(), "info": info, "place": place if where else "undefined"}
+            return {**symbol, "flags": ["NON_INTERPOSABLE"]} if target.plan is None else {**symbol, "definition": target.plan}
         if target is not None and (target.needs or target.dynsym is not None or target.kind != "defined"):
-            return self.described(target, json.loads(place), emit)
-        name = file.symbol_name(i).hex() if emit or i >= file.locals else ""
-        flags = '"NON_INTERPOSABLE"'
-        if section == ABSOLUTE:
-            flags += ',"ABSOLUTE"'
-        if target is not None:
-            other = target.other
-            if target.is_hidden():
-                flags += ',"DOWNGRADE_TO_LOCAL"'
-        text = '{"name":"%s","info":%d,"place":%s,"flags":[%s]' % (name, info, place, flags)
-        if value:
-            text += ',"value":%d' % value
-        if size:
-            text += ',"size":%d' % size
-        if other:
-            text += ',"other":%d' % other
-        if emit:
-            text += ',"emit":true'
+            return self.full_symbol(target, place, emit)
+        flags = ["NON_INTERPOSABLE"] + ["ABSOLUTE"] * (section == ABSOLUTE) + ["DOWNGRADE_TO_LOCAL"] * (target is not None and target.is_hidden())
+        symbol = {"name": "" if is_local and not emit else file.symbol_name(i).hex(), "info": info, "place": place, "flags": flags, "value": value, "size": size, "other": target.other if target else other, "emit": bool(emit)}
         # a reference of another file needs the address, and one into merged strings that of the string
         if where and info & 15 != SECTION and (target is not None or where.slot == "merge") and where.slot != "discard":
-            text += ',"resolution":{"raw_value":%d}' % where.place_of(value)
+            symbol["resolution"] = {"raw_value": where.place_of(value)}
         elif section == ABSOLUTE:
-            text += ',"resolution":{"raw_value":%d}' % value
-        return text + "}"
+            symbol["resolution"] = {"raw_value": value}
+        return symbol
 
-    def reference_text(self, file, i, target):
-        """A symbol of an object that another symbol defines, or none."""
-        info, where = file.symbols[i][1], file.section_of(i)
-        name = target.name.hex()
-        place = ',"place":{"section":%d}' % where.index if where else ""
-        if target.plan is not None:
-            return '{"name":"%s","info":%d%s,"definition":%d}' % (name, info, place, target.plan)
-        return '{"name":"%s","info":%d%s,"flags":["NON_INTERPOSABLE"]}' % (name, info, place)
-
-    def section_text(self, file, section):
-        slot = section.slot
-        if slot == "discard":
-            return '{"slot":"discard"}'
-        head = '{"slot":"%s","name":"%s","size":%d,"flags":%d' % (slot, section.name.hex(), section.size, section.flags & 0xFFFFFFFF)
-        if slot == "frame":
-            head += ',"part":%d,"address":%d' % (self.layout.frames.index, self.layout.frames.address)
-        else:
-            head += ',"part":%d,"address":%d' % (section.part.index, section.address())
-        if section.reversed:
-            head += ',"reversed":true'
+    def section(self, file, section):
+        """An input section."""
+        if section.slot == "discard":
+            return {"slot": "discard"}
+        part = self.layout.frames if section.slot == "frame" else section.part
+        made = {"slot": section.slot, "name": section.name.hex(), "size": section.size, "flags": section.flags & 0xFFFFFFFF, "part": part.index, "address": part.address + section.position, "reversed": section.reversed}
         if section.kind == NOBITS:
-            return head + ',"nobits":true}'
-        if slot == "merge":
-            base = section.part.address
-            pairs = ",".join(['{"offset":%d,"address":%d}' % (start, base + place) for start, place in zip(*section.strings)])
-            return head + ',"strings":[' + pairs + "]}"
-        head += ',"bytes":"' + section.bytes().hex() + '"'
-        if section.relocations is not None:
-            first = file.first_symbol
-            records = section.records()
-            if slot == "frame":
-                records = sorted(records)
-            head += ',"relocations":[' + ",".join([
-                '{"offset":%d,"number":%d,"symbol":%d,"addend":%d}' % (offset, info & 0xFFFFFFFF, first + (info >> 32), addend)
-                if info >> 32 else '{"offset":%d,"number":%d,"addend":%d}' % (offset, info & 0xFFFFFFFF, addend)
-                for offset, info, addend in records
-            ]) + "]"
-        return head + "}"
+            made["nobits"] = True
+        elif section.slot == "merge":
+            made["strings"] = [{"offset": start, "address": part.address + place} for start, place in zip(*section.strings)]
+        else:
+            made["bytes"] = section.bytes().hex()
+            records = sorted(section.records()) if section.slot == "frame" else section.records()
+            made["relocations"] = [
+                {"offset": offset, "number": info & 0xFFFFFFFF, "symbol": file.first_symbol + (info >> 32) if info >> 32 else None, "addend": addend} for offset, info, addend in records
+            ]
+        return made
 
-    def text(self):
-        """The plan, in pieces."""
-        options, layout = self.options, self.layout
-        names = {output.name: output.index for output in layout.outputs}
-        plan = {
-            "machine": self.resolver.machine, "kind": options.kind, "page_size": self.machine.page, "got_base": self.got_base, "got_header": self.got_header,
-            "options": {"relax": True, "relr": options.relr, "eh_frame_hdr": bool(options.eh_frame_hdr and layout.frames), "terminator": layout.frames is not None, "strip_all": not self.has_symtab, "versions": bool(options.has_dynamic and self.version_needs), "new_dtags": True, "execstack": self.execstack, "static_tls": self.is_static_tls(), "origin": bool(options.rpath and b"$ORIGIN" in options.rpath)},
+    def output_section(self, output):
+        """A section of the output."""
+        link = next((other.index for other in self.layout.outputs if other.name == output.link), 0)
+        return {"name": output.name.hex(), "kind": output.kind, "flags": output.flags, "address": output.address, "offset": output.offset, "size": output.size, "link": link, "align": output.align(), "entsize": output.entry}
+
+    def shape(self):
+        """What each plan has, of an object too."""
+        page = self.machine.page
+        return {
+            "machine": self.resolver.machine, "kind": self.options.kind, "page_size": page,
             "parts": [
-                {"role": part.role, "section": output.index if output else 0, "offset": part.offset, "address": part.address, "size": part.size, "align": min(part.align, self.machine.page)}
-                for part, output in self.parts_with_outputs()
+                {"role": part.role, "section": part.output.index if part.output else 0, "offset": part.offset, "address": part.address, "size": part.size, "align": part.align if self.options.partial else min(part.align, page)}
+                for part in self.layout.parts
             ],
-            "sections": [{}] + [
-                {"name": output.name.hex(), "kind": output.kind, "flags": output.flags, "address": output.address, "offset": output.offset, "size": output.size, "link": names.get(output.link, 0), "align": output.align(), "entsize": output.entry}
-                for output in layout.outputs
-            ],
-            "segments": [
-                dict(zip(("kind", "flags", "offset", "address", "physical", "file_size", "mem_size", "align"), (kind, flags, offset, address, address, size, memory, align)))
-                for kind, flags, offset, address, size, memory, align in layout.segments(self.execstack)
-            ],
-            "properties": self.properties,
+            "sections": [{}] + [self.output_section(output) for output in self.layout.outputs],
+        }
+
+    def head(self):
+        """The plan without symbols and files."""
+        options, layout = self.options, self.layout
+        own_options = {
+            "relax": True, "relr": options.relr, "eh_frame_hdr": bool(options.eh_frame_hdr and layout.frames), "terminator": layout.frames is not None, "strip_all": not self.has_symtab,
+            "versions": bool(options.has_dynamic and self.version_needs), "new_dtags": True, "execstack": self.execstack,
+            "static_tls": options.shared and any(target.needs & GOT_OFFSET for target in self.scan.targets.values()), "origin": bool(options.rpath and b"$ORIGIN" in options.rpath),
+        }
+        for name in "soname", "rpath":
+            if getattr(options, name) is not None and options.has_dynamic:
+                own_options[name] = getattr(options, name).hex()
+        names = "kind", "flags", "offset", "address", "physical", "file_size", "mem_size", "align"
+        plan = {
+            **self.shape(), "got_base": self.got_base, "got_header": self.got_header, "options": own_options, "properties": self.properties,
+            "segments": [dict(zip(names, (kind, flags, offset, address, address, *rest))) for kind, flags, offset, address, *rest in layout.segments(self.execstack)],
+            "merged": [{"part": part.index, "strings": [(string + b"\0").hex() for string in part.strings]} for part in layout.merges],
         }
         if layout.thread:
             plan["tls"] = dict(zip(("start", "end", "align"), layout.thread))
         if self.scan.tlsld:
             plan["tlsld"] = self.got_base + 8 * self.got_header
-        if options.interpreter and self.part_of("interp"):
+        if self.part_of("interp"):
             plan["interp"] = (options.interpreter + b"\0").hex()
-        for name in "soname", "rpath":
-            if getattr(options, name) is not None and options.has_dynamic:
-                plan["options"][name] = getattr(options, name).hex()
         if options.has_dynamic:
             plan["dynsyms"] = [{"symbol": target.plan, "name": target.name.hex(), "version": target.listed_version} for target in self.listed]
             if self.part_of("gnu_hash"):
                 plan["gnu_hash"] = {"buckets": self.buckets, "bloom_count": self.bloom, "bloom_shift": 26, "base": 1 + len(self.undefined)}
             if self.part_of("sysv_hash"):
                 plan["sysv_hash"] = {"buckets": self.buckets}
-        if layout.merges:
-            plan["merged"] = [{"part": part.index, "strings": [(string + b"\0").hex() for string in part.strings]} for part in layout.merges]
         if self.thunks:
             plan["primary_part"] = self.thunk_part.index
             plan["thunk_blocks"] = [
                 [{"symbol": symbol, "address": self.thunk_part.address + start + 12 * i} for i, (symbol, _) in enumerate(targets)] for targets, _, start in self.thunks
             ]
         if layout.sorted:
-            place = {id(file): i for i, file in enumerate(self.objects, 1)}
-            plan["sorted"] = [{"group": 0, "file": place[id(section.file)], "section": section.index} for section in layout.sorted]
-        entry = self.resolver.table.get(options.entry) if options.entry else None
+            numbers = {file: i for i, file in enumerate(self.objects, 1)}
+            plan["sorted"] = [{"group": 0, "file": numbers[section.file], "section": section.index} for section in layout.sorted]
+        entry = self.resolver.table.get(options.entry)
         if entry is not None and entry.plan is not None:
             plan["entry"] = {"symbol": entry.plan}
-        yield spelled(plan)[:-1] + ',"symbols":['
-        separator = ""
+        return plan
+
+    def files(self):
+        """The files of the one group."""
+        yield {"role": "prelude"}
         for file in self.objects:
-            if file.symbols:
-                yield separator + ",".join([self.symbol_text(file, i) for i in range(len(file.symbols))])
-                separator = ","
-        for library in self.libraries:
-            for target in library.used:
-                yield separator + self.described(target, "absolute", False)
-                separator = ","
-        for target in self.own:
-            yield separator + self.described(target, {"output": self.output_at(target.raw)}, self.has_symtab)
-            separator = ","
-        yield '],'
-        yield from self.object_texts()
-        if options.has_dynamic:
-            with_versions = [library for library in self.libraries if library in self.version_needs]
+            made = {"role": "object", "first_symbol": file.first_symbol, "symbol_count": len(file.symbols), "sections": [self.section(file, section) for section in file.sections]}
+            if self.thunks:
+                block = self.block_of.get(file, 0)
+                made.update(thunk_block=block, owns_thunk_block=self.thunks[block][1] is file)
+            yield made
+        if self.options.has_dynamic:
+            last = [library for library in self.libraries if library in self.version_needs][-1:]
             for library in self.libraries:
-                each = {"role": "dynamic", "first_symbol": library.first_symbol, "symbol_count": len(library.used), "lib_name": library.soname.hex()}
-                copies = [target.plan for target in library.used if target.copy]
-                if copies:
-                    each["copies"] = copies
+                made = {"role": "dynamic", "first_symbol": library.first_symbol, "symbol_count": len(library.used), "lib_name": library.soname.hex(), "copies": [target.plan for target in library.used if target.copy]}
                 if library in self.version_needs:
                     versions = [{"name": name.hex(), "index": index} for name, index in self.version_needs[library].items()]
-                    each["verneed"] = {"last": library is with_versions[-1], "versions": versions}
-                yield "," + spelled(each)
+                    made["verneed"] = {"last": library in last, "versions": versions}
+                yield made
         if self.own:
-            yield ',{"role":"synthetic","first_symbol":%d,"symbol_count":%d}' % (self.first_own, len(self.own))
-        yield ',{"role":"epilogue"}]}]'
+            yield {"role": "synthetic", "first_symbol": self.first_own, "symbol_count": len(self.own)}
+        yield {"role": "epilogue"}
 
-    def object_texts(self):
-        """The one group of all files, as far as the last object."""
-        yield '"groups":[{"part_sizes":' + spelled([part.size for part in self.layout.parts]) + ',"files":[{"role":"prelude"}'
+    def symbols(self):
+        """All symbols, in a list for each file."""
         for file in self.objects:
-            block = self.block_of.get(file, 0)
-            owns = ',"thunk_block":%d' % block + ',"owns_thunk_block":true' * (self.thunks[block][1] is file) if self.thunks else ""
-            yield ',{"role":"object","first_symbol":%d,"symbol_count":%d%s,"sections":[' % (file.first_symbol, len(file.symbols), owns)
-            yield ",".join([self.section_text(file, section) for section in file.sections]) + "]}"
+            yield [self.symbol(file, i) for i in range(len(file.symbols))]
+        yield [self.full_symbol(target, "absolute", False) for library in self.libraries for target in library.used]
+        outputs = [output for output in self.layout.outputs if output.flags & ALLOC and not output.flags & TLS]
+        for target in self.own:
+            # in the section that has its address, or begins before it
+            place = max((output for output in outputs if output.address <= self.value_of(target)), key=lambda output: output.index, default=outputs[0])
+            yield [self.full_symbol(target, {"output": place.index}, self.has_symtab)]
 
-    def parts_with_outputs(self):
-        outputs = {id(part): output for output in self.layout.outputs for part in output.parts}
-        return [(part, outputs.get(id(part))) for part in self.layout.parts]
-
-    def output_at(self, address):
-        """The output section that has an address, or begins ahead of it."""
-        starts = [(output.address, output.index) for output in self.layout.outputs if output.flags & ALLOC and not output.flags & TLS]
-        at = bisect.bisect_right(starts, (address, 1 << 32)) - 1
-        return starts[max(at, 0)][1]
-
-    def is_static_tls(self):
-        return self.options.shared and any(target.needs & GOT_OFFSET for target in self.scan.targets.values())
+    def text(self):
+        """The plan, in pieces. A file's symbols and sections are made when their piece is: all at once would not fit the memory."""
+        yield json_text(self.head())[:-1] + ',"symbols":['
+        yield from list_text(self.symbols())
+        yield '],"groups":[{"part_sizes":' + json_text([part.size for part in self.layout.parts]) + ',"files":['
+        yield from list_text([file] for file in self.files())
+        yield "]}]"

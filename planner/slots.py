@@ -36,7 +36,7 @@ class Scan:
 
     def is_lookup(self, target):
         """Whether a loader looks the symbol up: another module's definition may count."""
-        return target.kind == "shared" or target.kind == "undefined" and self.is_left(target) or self.is_interposable(target)
+        return target.kind == "shared" or target.kind == "undefined" and self.is_left_to_loader(target) or self.is_interposable(target)
 
     def is_interposable(self, target):
         return self.options.shared and target.exported and target.other & 3 == 0 and target.kind in ("defined", "common") and not self.options.symbolic
@@ -45,7 +45,7 @@ class Scan:
         """Whether the output's own resolver says where the symbol is. One that a loader looks up is as any function: the loader runs the resolver."""
         return target.is_ifunc() and not self.is_lookup(target)
 
-    def is_left(self, target):
+    def is_left_to_loader(self, target):
         """Whether a name that nothing defines is left to the loader. In a program it is 0, as with `-z nodynamic-undefined-weak` of GNU ld."""
         return self.options.shared and target.kind == "undefined" and target.other & 3 == 0
 
@@ -57,12 +57,15 @@ class Scan:
 
     def scan(self):
         """All references; once more where other names of a symbol that is copied are referred to too: these are the copy's."""
-        self.scan_all()
+        for file in self.resolver.objects:
+            for section in file.sections:
+                if section.relocations is not None and section.flags & ALLOC and section.slot in ("loaded", "sorted", "frame") and section.kind != NOBITS:
+                    self.scan_section(file, section)
         if self.join_names():
             for target in self.targets.values():
                 target.needs, target.copy, target.canonical = 0, False, False
             self.__init__(self.resolver, self.machine, self.options)
-            self.scan_all()
+            self.scan()
 
     def join_names(self):
         joined = False
@@ -73,17 +76,9 @@ class Scan:
                     other.kind, other.exported, other.joined, joined = "linker", True, target, True
         return joined
 
-    def scan_all(self):
-        for file in self.resolver.objects:
-            for section in file.sections:
-                if section.relocations is not None and section.flags & ALLOC and section.slot in ("loaded", "sorted", "frame") and section.kind != NOBITS:
-                    self.scan_section(file, section)
-
     def scan_section(self, file, section):
         sorts, first, symbols = self.machine.sorts, file.locals, file.symbols
-        moves, writable = self.options.moves, section.flags & WRITE
-        executable = not self.options.shared
-        is_call = False
+        moves, executable, is_call = self.options.moves, not self.options.shared, False
         for offset, info, addend in section.records():
             sort = sorts.get(info & 0xFFFFFFFF)
             if sort is None or is_call:
@@ -115,10 +110,10 @@ class Scan:
                 if self.is_lookup(target):
                     self.need(target, GOT_OFFSET)
             else:
-                self.refer(file, section, target, sort, offset, writable, executable)
+                self.refer(file, section, target, sort, offset)
 
     def count_relative(self, file, section, offset):
-        if section.kept is not None and not section_keeps(section, offset):
+        if section.kept is not None and not any(start <= offset < end for start, end in section.kept):
             return
         if not section.flags & WRITE:
             raise Refused(f"{file.name}: section {section.name.decode()} is not writable, and an address in it moves: compile with -fPIC or -fPIE")
@@ -133,15 +128,14 @@ class Scan:
             self.targets[id(target)] = target
         target.needs |= bits | USED
 
-    def refer(self, file, section, target, sort, offset, writable, executable):
-        lookup = self.is_lookup(target)
+    def refer(self, file, section, target, sort, offset):
+        lookup, executable, writable = self.is_lookup(target), not self.options.shared, section.flags & WRITE
         if target.kind == "undefined" and target.strong and (not lookup or self.options.no_undefined):
             self.missing.setdefault(target.name, file)
         if target.kind == "undefined" and not lookup:
             # absent, and 0: slots have a 0 that does not move
-            if sort in (SLOT, RELAXED):
-                if sort == SLOT or not self.is_rewritten(section, offset):
-                    self.need(target, GOT)
+            if sort == SLOT or sort == RELAXED and not self.is_rewritten(section, offset):
+                self.need(target, GOT)
             elif sort == OFFSET_SLOT:
                 self.need(target, GOT_OFFSET)
             return
@@ -171,11 +165,8 @@ class Scan:
         elif sort == CALL:
             if lookup:
                 self.need(target, GOT | STUB)
-        elif sort == SLOT:
+        elif sort == SLOT or sort == RELAXED and (lookup or not self.is_rewritten(section, offset)):
             self.need(target, GOT | ADDRESS)
-        elif sort == RELAXED:
-            if lookup or not self.is_rewritten(section, offset):
-                self.need(target, GOT | ADDRESS)
         elif sort == OFFSET_SLOT:
             if lookup or not executable or not self.is_offset_rewritten(section, offset):
                 self.need(target, GOT_OFFSET)
@@ -238,12 +229,11 @@ class Scan:
         for target in self.targets.values():
             needs, lookup = target.needs, self.is_lookup(target) and not target.copy
             got += self.words(target) * (not self.is_in_block(target))
-            if needs & GOT_OFFSET and (lookup or shared):
-                self.general += 1
+            if needs & GOT_OFFSET:
+                self.general += lookup or shared
             if needs & GOT_PAIR:
-                self.general += bool(shared or target.kind == "shared") + bool(lookup)
-            if needs & GOT_DESCRIPTOR:
-                self.general += 1
+                self.general += (shared or target.kind == "shared") + lookup
+            self.general += bool(needs & GOT_DESCRIPTOR)
             if needs & GOT:
                 if target.canonical or self.is_chosen_here(target):
                     self.plt_entries += 1
@@ -286,12 +276,7 @@ def packed_words(offsets):
     return count
 
 
-def section_keeps(section, offset):
-    """Whether an offset of frames lies in an entry that is kept."""
-    return any(start <= offset < end for start, end in section.kept)
-
-
-def keep_frames(section, scan):
+def keep_frames(section):
     """The entries of a section of frames that the output keeps, as (start, end), and how many are of functions (docs/FRAMES.md)."""
     data, kept, fdes, at = section.bytes(), [], 0, 0
     file, first = section.file, {}

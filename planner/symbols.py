@@ -11,17 +11,21 @@ from elf import (
 class Target:
     """What a reference is to: a name, or a local symbol of one object that has a slot."""
 
-    __slots__ = ("name", "kind", "file", "index", "info", "other", "size", "value", "align", "strong", "version", "needs", "exported", "plan", "raw", "dynsym", "got", "plt", "copy", "canonical", "alias", "section", "absolute", "listed_version", "first", "joined")
+    __slots__ = ("name", "kind", "file", "index", "info", "other", "size", "value", "align", "strong", "version", "needs", "exported", "plan", "dynsym", "got", "plt", "copy", "canonical", "alias", "section", "absolute", "listed_version", "first", "joined")
 
     def __init__(self, name):
         self.name, self.kind, self.file, self.index = name, "undefined", None, 0
         self.info, self.other, self.size, self.value, self.align = GLOBAL << 4, DEFAULT, 0, 0, 1
         self.strong = self.exported = self.copy = self.canonical = self.absolute = False
-        self.joined = self.version = self.raw = self.dynsym = self.got = self.plt = self.alias = self.section = None
+        self.joined = self.version = self.dynsym = self.got = self.plt = self.alias = self.section = None
         self.needs, self.plan, self.first, self.listed_version = 0, None, None, 1
 
     def type(self):
         return self.info & 15
+
+    def is_at(self, file, i):
+        """Whether symbol i of a file is the one that the name means."""
+        return self.file is file and self.index == i
 
     def is_own(self):
         return self.kind in ("defined", "common", "linker")
@@ -116,15 +120,10 @@ class Resolver:
                 self.take_object(file)
 
     def take_members(self, archive):
-        more = True
-        while more:
-            more = False
-            for name in [name for name in self.unresolved if name in archive.index]:
-                if name in self.unresolved:
-                    member = archive.member(archive.index[name])
-                    if member:
-                        self.take_object(member)
-                        more = True
+        while names := [name for name in self.unresolved if name in archive.index and archive.index[name] not in archive.taken]:
+            for name in names:
+                if name in self.unresolved and (member := archive.member(archive.index[name])):
+                    self.take_object(member)
 
     def check_machine(self, file):
         self.machine = self.machine or file.machine
@@ -133,8 +132,6 @@ class Resolver:
 
     def take_library(self, library):
         self.check_machine(library)
-        if library.soname is None:
-            library.soname = os.path.basename(library.name).encode()
         if library.soname in self.shared_names:
             self.shared_names[library.soname].needed |= library.needed
             return
@@ -254,22 +251,12 @@ class Resolver:
     def finish(self, is_provided):
         """Says which libraries are needed, which names are the linker's own, and which other modules see."""
         self.libraries = [library for library in self.libraries if library.needed]
+        seen = {name for library in self.libraries for name in (*library.refers, *library.defines)}
         for name, target in self.table.items():
             if target.kind == "shared" and not target.file.needed:
                 target.kind, target.info, (target.file, target.index) = "undefined", WEAK << 4, target.first
             if target.kind == "undefined" and not self.options.partial and is_provided(name):
                 target.kind, target.file, target.other, target.info = "linker", None, HIDDEN, GLOBAL << 4
                 self.unresolved.pop(name, None)
-        executable = not self.options.shared
-        for library in self.libraries:
-            for name in library.refers | set(library.defines):
-                target = self.table.get(name)
-                if target and target.kind in ("defined", "common") and not target.is_hidden():
-                    target.exported = True
-        if not self.options.partial:
-            for target in self.table.values():
-                if target.kind in ("defined", "common") and not target.is_hidden() and (not executable or self.options.export_dynamic):
-                    target.exported = True
-        if self.options.static:
-            for target in self.table.values():
-                target.exported = False
+            exports = self.options.shared or self.options.export_dynamic or name in seen
+            target.exported = bool(exports and target.kind in ("defined", "common") and not target.is_hidden() and not self.options.static and not self.options.partial)
