@@ -7,7 +7,7 @@ use wild_tests_plans::SMALLEST;
 fn words_that_are_no_command(rt: HostRuntime) -> Result<(), Fail> {
     for words in [&[][..], &["explained"], &["needs", "needs"], &["link", "1"]] {
         let (status, text) = explained(&rt, rt.alloc(), words, SMALLEST)?;
-        let usage = "usage: explain [--first] [--relocations] [--byte OFFSET] | needs\n";
+        let usage = "usage: explain [--first | --all] [--relocations] [--byte OFFSET] | needs\n";
         assert!(rt; status == 2 && text.as_str() == usage, "{words:?}");
     }
     Ok(())

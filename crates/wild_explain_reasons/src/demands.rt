@@ -1,0 +1,175 @@
+//! What needs a table: the first item of a plan for which bytes are written in a part of a role, and the members on which that depends.
+
+use crate::faults::push_relocation;
+use crate::items::{Item, SectionPlace, push_decided, push_item, section_at};
+use crate::names::role_at;
+use std::alloc::AllocError;
+use std::fmt::Write;
+use wild_needs::total_share;
+use wild_slot::{
+    EntryPart, SymbolSlots, Treatment, WordPart, begins_relr_got, count_entries, count_relr_slots,
+    count_words, treatment_of,
+};
+use wild_types::{
+    InputRelocation, InputSection, Layout, Role, Slot, Symbol, got_of, is_there,
+};
+
+/// The members on which a role's bytes depend; of a table with entries or words, what would make its first one needless.
+fn depends_on(role: Role) -> &'static str {
+    match role {
+        Role::ProgramHeaders => "/segments has items; a relocatable object has none",
+        Role::Got | Role::GotRelr => "the flags GOT, GOT_TLS_OFFSET, GOT_TLS_MODULE and GOT_TLS_DESCRIPTOR of its definition, and /tlsld",
+        Role::PltGot => "the flag PLT of its definition",
+        Role::RelaPlt => "the flags PLT and IFUNC of its definition",
+        Role::RelaDynRelative => "an address that moves with the base, which the flag ABSOLUTE denies, and the flag DYNAMIC if another module defines the symbol; with /options/relr even places are packed in relr_dyn",
+        Role::RelaDynGeneral => "a symbol that another module may define, which the flag NON_INTERPOSABLE of its definition denies",
+        Role::RelrDyn => "/options/relr, and an address that moves with the base, which the flag ABSOLUTE denies",
+        Role::Dynsym | Role::Dynstr | Role::Dynamic => "/kind: outputs that a loader relocates have dynamic tables",
+        Role::GnuVersion => "/options/versions",
+        Role::GnuVersionD => "/verdefs",
+        Role::GnuVersionR => "`verneed` of a library",
+        Role::SysvHash => "/sysv_hash",
+        Role::GnuHash => "/gnu_hash",
+        Role::EhFrame => "an input section of slot `frame` (in a relocatable object frames have slot `loaded`), and /options/terminator",
+        Role::EhFrameHdr => "/options/eh_frame_hdr",
+        Role::Interp => "/interp",
+        Role::BuildId => "/build_id",
+        Role::Property => "/properties",
+        Role::SymtabLocal | Role::SymtabGlobal | Role::Strtab => "/options/strip_all, which is false: the output has a table of symbols",
+        Role::SymtabShndxLocal | Role::SymtabShndxGlobal => "the number of sections, which is above 65279",
+        _ => "each output has it",
+    }
+}
+
+/// Whether a relocation needs bytes in a part of a role.
+fn is_relocation_of(
+    layout: &Layout,
+    section: &InputSection,
+    relocation: &InputRelocation,
+    role: Role,
+) -> bool {
+    let place = relocation.place_from(section.address);
+    match treatment_of(layout, section.flags, relocation) {
+        Treatment::BaseRelative => match role {
+            Role::RelaDynRelative => !layout.packs(place),
+            Role::RelrDyn => layout.packs(place),
+            _ => false,
+        },
+        Treatment::Symbolic(_) | Treatment::Indirect(_) | Treatment::Extent(_, _) => {
+            matches!(role, Role::RelaDynGeneral)
+        }
+        _ => false,
+    }
+}
+
+/// The first relocation of a section that needs bytes in a part of a role.
+fn first_relocation(layout: &Layout, section: &InputSection, role: Role) -> Option<usize> {
+    let is_read = matches!(section.slot, Slot::Loaded | Slot::Sorted) && !section.nobits;
+    for (i, relocation) in section.relocations.as_slice().iter().enumerate() {
+        if is_read && is_relocation_of(layout, section, relocation, role) {
+            return Some(i);
+        }
+    }
+    None
+}
+
+/// Whether the slots or the stub of a symbol need bytes in a part of a role.
+fn is_symbol_of(layout: &Layout, symbol: &Symbol, role: Role) -> bool {
+    if got_of(symbol).is_none() {
+        return false;
+    }
+    let slots = SymbolSlots::of(layout, symbol);
+    let (words, place) = (slots.words(), symbol.slots_address());
+    let (relr, machine) = (layout.options.relr, layout.machine);
+    match role {
+        Role::Got => count_words(WordPart::Got, relr, place, words) != 0,
+        Role::GotRelr => count_words(WordPart::RelrGot, relr, place, words) != 0,
+        Role::PltGot => slots.has_stub(),
+        Role::RelaPlt => count_entries(EntryPart::Plt, machine, relr, place, words) != 0,
+        Role::RelaDynRelative => {
+            count_entries(EntryPart::Relative, machine, relr, place, words) != 0
+        }
+        Role::RelaDynGeneral => count_entries(EntryPart::General, machine, relr, place, words) != 0,
+        Role::RelrDyn => count_relr_slots(relr, place, words) != 0 || begins_relr_got(words),
+        _ => false,
+    }
+}
+
+/// The first item that needs bytes in a part of a role, with the number of its relocation.
+fn first_demand(layout: &Layout, role: Role) -> Option<(Item, Option<usize>)> {
+    for (group, found) in layout.groups.as_slice().iter().enumerate() {
+        for (file, held) in found.files.as_slice().iter().enumerate() {
+            for (section, input) in held.sections.as_slice().iter().enumerate() {
+                let at = SectionPlace {
+                    group,
+                    file,
+                    section,
+                };
+                let index = first_relocation(layout, input, role);
+                if index.is_some() || matches!(role, Role::EhFrame) && input.slot.is_frame() {
+                    return Some((Item::Input(at), index));
+                }
+            }
+            if matches!(role, Role::RelaDynGeneral) && held.copied().len() != 0 {
+                return Some((Item::File(group, file), None));
+            }
+            for (i, symbol) in layout.own_symbols(held).iter().enumerate() {
+                if is_symbol_of(layout, symbol, role) {
+                    let number = held.first_symbol.0.saturating_add(i);
+                    return Some((Item::Symbol(number), None));
+                }
+            }
+        }
+    }
+    None
+}
+
+/// Adds an item that needs bytes: its path, and a relocation or a symbol as it is.
+fn push_demanding(
+    out: &mut String,
+    layout: &Layout,
+    item: Item,
+    index: Option<usize>,
+) -> Result<(), AllocError> {
+    push_item(out, item)?;
+    match (item, index) {
+        (Item::Input(at), Some(index)) => {
+            write!(out, "/relocations/{index}, ")?;
+            if let Some(section) = section_at(layout, at) {
+                push_relocation(out, layout, section, index)?;
+            }
+        }
+        (Item::Symbol(symbol), _) => {
+            write!(out, ", ")?;
+            push_decided(out, layout, symbol)?;
+        }
+        (Item::File(_, _), _) => write!(out, "/copies")?,
+        _ => write!(out, "/slot")?,
+    }
+    Ok(())
+}
+
+/// Adds what needs a table that has no part: the first item, the members on which that depends, and the other tables without a part.
+pub(crate) fn push_demand(out: &mut String, layout: &Layout, index: usize) -> Result<(), AllocError> {
+    let Some((_, role)) = role_at(index) else {
+        return Ok(());
+    };
+    let text = depends_on(role);
+    write!(out, "needed: for ")?;
+    if let Some((item, relocation)) = first_demand(layout, role) {
+        push_demanding(out, layout, item, relocation)?;
+        write!(out, "; it depends on ")?;
+    }
+    writeln!(out, "{text}")?;
+    for i in index.saturating_add(1)..30 {
+        if let Some((word, other)) = role_at(i)
+            && !is_there(other, layout.parts.as_slice())
+        {
+            let needed = total_share(layout, other);
+            if needed != 0 {
+                writeln!(out, "also: no part has the role {word}, needed {needed} bytes")?;
+            }
+        }
+    }
+    Ok(())
+}
