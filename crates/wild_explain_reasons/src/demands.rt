@@ -1,6 +1,7 @@
 //! What needs a table: the first item of a plan for which bytes are written in a part of a role, and the members on which that depends.
 
 use crate::faults::push_relocation;
+use crate::hints::{LIKELY, push_hint};
 use crate::items::{Item, SectionPlace, push_decided, push_item, section_at};
 use crate::names::role_at;
 use std::alloc::AllocError;
@@ -11,20 +12,20 @@ use wild_slot::{
     count_words, treatment_of,
 };
 use wild_types::{
-    InputRelocation, InputSection, Layout, Role, Slot, Symbol, got_of, is_there,
+    InputRelocation, InputSection, Layout, Place, Role, Slot, Symbol, SymbolIndex, got_of, is_there,
 };
 
 /// The members on which a role's bytes depend; of a table with entries or words, what would make its first one needless.
 fn depends_on(role: Role) -> &'static str {
     match role {
-        Role::ProgramHeaders => "/segments has items; a relocatable object has none",
+        Role::ProgramHeaders => "/segments, which has items: a relocatable object has none",
         Role::Got | Role::GotRelr => "the flags GOT, GOT_TLS_OFFSET, GOT_TLS_MODULE and GOT_TLS_DESCRIPTOR of its definition, and /tlsld",
         Role::PltGot => "the flag PLT of its definition",
         Role::RelaPlt => "the flags PLT and IFUNC of its definition",
         Role::RelaDynRelative => "an address that moves with the base, which the flag ABSOLUTE denies, and the flag DYNAMIC if another module defines the symbol; with /options/relr even places are packed in relr_dyn",
         Role::RelaDynGeneral => "a symbol that another module may define, which the flag NON_INTERPOSABLE of its definition denies",
         Role::RelrDyn => "/options/relr, and an address that moves with the base, which the flag ABSOLUTE denies",
-        Role::Dynsym | Role::Dynstr | Role::Dynamic => "/kind: outputs that a loader relocates have dynamic tables",
+        Role::Dynsym | Role::Dynstr | Role::Dynamic => "/kind: an output that a loader relocates has dynamic tables",
         Role::GnuVersion => "/options/versions",
         Role::GnuVersionD => "/verdefs",
         Role::GnuVersionR => "`verneed` of a library",
@@ -149,18 +150,72 @@ fn push_demanding(
     Ok(())
 }
 
+/// Adds the option that a part of RELR words needs.
+fn push_packed(out: &mut String, layout: &Layout) -> Result<(), AllocError> {
+    let parts = layout.parts.as_slice();
+    let has_part = is_there(Role::RelrDyn, parts) || is_there(Role::GotRelr, parts);
+    if has_part && !layout.options.relr {
+        let text = "is false, expected true: a part has the role relr_dyn or got_relr";
+        push_hint(out, LIKELY, Item::Plan, "/options/relr", text)?;
+    }
+    Ok(())
+}
+
+/// The symbol that an item refers to: the symbol itself, or the definition of the symbol of its relocation.
+fn symbol_of(layout: &Layout, item: Item, index: Option<usize>) -> Option<SymbolIndex> {
+    match item {
+        Item::Symbol(symbol) => Some(layout.canonical(SymbolIndex(symbol))),
+        Item::Input(at) => {
+            let section = section_at(layout, at)?;
+            let relocation = section.relocations.as_slice().get(index?)?;
+            Some(layout.canonical(relocation.symbol?))
+        }
+        _ => None,
+    }
+}
+
+/// Adds the flag that the symbol of an item likely lacks.
+fn push_flags(
+    out: &mut String,
+    layout: &Layout,
+    role: Role,
+    item: Item,
+    index: Option<usize>,
+) -> Result<(), AllocError> {
+    if let Some(symbol) = symbol_of(layout, item, index)
+        && let Some(found) = layout.symbols.as_slice().get(symbol.0)
+        && !found.flags.is_dynamic()
+    {
+        let item = Item::Symbol(symbol.0);
+        if matches!(found.place, Place::Undefined) && !found.flags.is_undefined_weak() {
+            let text = "is without DYNAMIC, and the symbol is undefined: expected where another module defines it";
+            push_hint(out, LIKELY, item, "/flags", text)?;
+        } else if matches!(role, Role::RelaDynGeneral) && found.flags.is_interposable() {
+            let text = "is without NON_INTERPOSABLE: expected where no other module may define the symbol";
+            push_hint(out, LIKELY, item, "/flags", text)?;
+        }
+    }
+    Ok(())
+}
+
 /// Adds what needs a table that has no part: the first item, the members on which that depends, and the other tables without a part.
 pub(crate) fn push_demand(out: &mut String, layout: &Layout, index: usize) -> Result<(), AllocError> {
     let Some((_, role)) = role_at(index) else {
         return Ok(());
     };
     let text = depends_on(role);
-    write!(out, "needed: for ")?;
-    if let Some((item, relocation)) = first_demand(layout, role) {
+    let demand = first_demand(layout, role);
+    write!(out, "needed: ")?;
+    if let Some((item, relocation)) = demand {
+        write!(out, "for ")?;
         push_demanding(out, layout, item, relocation)?;
-        write!(out, "; it depends on ")?;
+        write!(out, "; ")?;
     }
-    writeln!(out, "{text}")?;
+    writeln!(out, "it depends on {text}")?;
+    if let Some((item, relocation)) = demand {
+        push_flags(out, layout, role, item, relocation)?;
+    }
+    push_packed(out, layout)?;
     for i in index.saturating_add(1)..30 {
         if let Some((word, other)) = role_at(i)
             && !is_there(other, layout.parts.as_slice())

@@ -6,6 +6,7 @@ use crate::names::{push_name, push_symbol, push_type};
 use crate::thunks::refused_thunk;
 use std::alloc::AllocError;
 use std::fmt::Write;
+use wild_reloc::RelocationSize;
 use wild_slot::{SlotFault, SymbolSlots};
 use wild_types::{
     At, Fault, FrameFault, InputSection, Layout, Machine, Missing, field_bytes, row_of,
@@ -279,7 +280,7 @@ fn push_range(
 }
 
 /// The first relocation of a section at an offset.
-fn relocation_at(section: &InputSection, offset: u64) -> Option<usize> {
+pub(crate) fn relocation_at(section: &InputSection, offset: u64) -> Option<usize> {
     for (i, relocation) in section.relocations.as_slice().iter().enumerate() {
         if relocation.offset == offset {
             return Some(i);
@@ -320,6 +321,36 @@ fn push_overlap(
         push_relocation(out, layout, section, second)?;
         write!(out, "; /relocations/{first}: ")?;
         push_relocation(out, layout, section, first)?;
+    }
+    Ok(())
+}
+
+/// Adds the relocations of AArch64 instructions with a byte whose offset is no multiple of 4.
+fn push_odd(
+    out: &mut String,
+    layout: &Layout,
+    at: SectionPlace,
+    byte: u64,
+) -> Result<(), AllocError> {
+    let Some(section) = section_at(layout, at) else {
+        return Ok(());
+    };
+    for (i, relocation) in section.relocations.as_slice().iter().enumerate() {
+        let offset = relocation.offset;
+        if offset <= byte
+            && byte < offset.saturating_add(4)
+            && offset % 4 != 0
+            && let Some(row) = row_of(Machine::AArch64, relocation.number)
+            && matches!(row.size, RelocationSize::BitMasking(_))
+        {
+            let even = offset / 4 * 4;
+            write!(out, "likely: ")?;
+            push_item(out, Item::Input(at))?;
+            writeln!(
+                out,
+                "/relocations/{i}/offset is {offset}, expected a multiple of 4 (such as {even}): an instruction has four bytes"
+            )?;
+        }
     }
     Ok(())
 }
@@ -468,6 +499,11 @@ pub(crate) fn push_fault(
     }
     writeln!(out)?;
     push_lacking(out, layout, fault)?;
+    if let (Some(place), Fault::OverlappingSites { byte }, Machine::AArch64) =
+        (place, fault, layout.machine)
+    {
+        push_odd(out, layout, place, byte)?;
+    }
     if let Fault::UnsupportedRelocation { number } = fault {
         push_other_machine(out, layout, number)?;
     }

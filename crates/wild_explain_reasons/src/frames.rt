@@ -1,13 +1,22 @@
 //! Frames that are not kept: the first faulty entry of a section, and the FDEs that are dropped.
 
-use crate::faults::frame_words;
+use crate::faults::{frame_words, relocation_at};
 use crate::fields::word_at;
 use crate::items::{Item, SectionPlace, push_item};
 use std::alloc::{AllocError, Global};
 use std::fmt::Write;
-use wild_frames::{FrameError, FrameSource, Target, count_frames, write_eh_frame_data};
+use wild_frames::{BadFrame, FrameError, FrameSource, Target, count_frames, write_eh_frame_data};
 use wild_placement::FileFrames;
-use wild_types::{InputRelocation, Layout};
+use wild_types::{FrameFault, InputRelocation, InputSection, Layout};
+
+/// The relocation that has a fault: the one at its offset, or at the FDE's PC Begin.
+fn relocation_of(section: &InputSection, bad: BadFrame) -> Option<usize> {
+    match bad.why {
+        FrameFault::Malformed | FrameFault::Unsorted => relocation_at(section, bad.offset),
+        FrameFault::PcBegin => relocation_at(section, bad.offset.saturating_add(8)),
+        _ => None,
+    }
+}
 
 /// Adds the first fault of a section's frames, if there is one, and returns whether there is.
 fn push_bad_frame(
@@ -26,9 +35,12 @@ fn push_bad_frame(
             let offset = bad.offset;
             write!(out, "likely: ")?;
             push_item(out, Item::Input(at))?;
+            if let Some(index) = relocation_of(frames.section, bad) {
+                write!(out, "/relocations/{index}")?;
+            }
             writeln!(
                 out,
-                " has faulty frames at offset {offset}, from where none is kept: {what}; {remedy}"
+                " has a fault of frames at offset {offset}, from where none is kept: {what}; {remedy}"
             )?;
             Ok(true)
         }

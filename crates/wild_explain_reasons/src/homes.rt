@@ -7,7 +7,7 @@ use std::fmt::Write;
 use wild_types::{Fault, Layout, Missing, Place, Slot};
 
 /// The input section that a symbol is in.
-fn home_of(layout: &Layout, symbol: usize) -> Option<SectionPlace> {
+pub(crate) fn home_of(layout: &Layout, symbol: usize) -> Option<SectionPlace> {
     let Place::Section(section) = layout.symbols.as_slice().get(symbol)?.place else {
         return None;
     };

@@ -3,7 +3,8 @@
 use crate::fronts::push_front;
 use crate::headers::{first_of, lies_in, reached};
 use crate::hints::{LIKELY, push_expected, push_hint};
-use crate::items::{Item, SectionPlace, section_at};
+use crate::homes::home_of;
+use crate::items::{Item, SectionPlace, push_item, section_at};
 use crate::names::push_symbol;
 use crate::symbols::position_of;
 use crate::tests::{InputTest, PartTest, SectionTest, SegmentTest, SymbolTest, Test};
@@ -168,6 +169,21 @@ fn push_range(out: &mut String, layout: &Layout) -> Result<(), AllocError> {
     Ok(())
 }
 
+/// Adds why a symbol is in no input section: its file has fewer, or no file has the symbol.
+fn push_home(out: &mut String, layout: &Layout, symbol: usize) -> Result<(), AllocError> {
+    if let Some(at) = home_of(layout, symbol)
+        && let Some(group) = layout.groups.as_slice().get(at.group)
+        && let Some(file) = group.files.as_slice().get(at.file)
+    {
+        let (section, count) = (at.section, file.sections.len());
+        write!(out, "likely: /symbols/{symbol}/place/section is {section}, expected below {count}: ")?;
+        push_item(out, Item::File(at.group, at.file))?;
+        writeln!(out, " has so many input sections")?;
+        return Ok(());
+    }
+    push_range(out, layout)
+}
+
 /// Adds that the dynamic symbol table has no entry of a symbol.
 fn push_unlisted(out: &mut String, layout: &Layout, index: usize) -> Result<(), AllocError> {
     if position_of(layout, index).is_none() {
@@ -302,7 +318,7 @@ pub(crate) fn push_likely(
         (Test::Segment(SegmentTest::Dynamic), Item::Segment(segment)) => {
             push_dynamic(out, layout, segment)
         }
-        (Test::Symbol(SymbolTest::Home), _) => push_range(out, layout),
+        (Test::Symbol(SymbolTest::Home), Item::Symbol(symbol)) => push_home(out, layout, symbol),
         (Test::Symbol(SymbolTest::Position), Item::Symbol(symbol)) => {
             push_unlisted(out, layout, symbol)
         }
