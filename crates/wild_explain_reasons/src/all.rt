@@ -27,8 +27,8 @@ fn is_alone(test: &Test) -> bool {
         Test::Part(test) => !matches!(
             test,
             PartTest::Order
-                | PartTest::Again
-                | PartTest::Follows
+                | PartTest::RoleTwice
+                | PartTest::RelativeEnd
                 | PartTest::Entries
                 | PartTest::Split
                 | PartTest::Last
@@ -37,8 +37,8 @@ fn is_alone(test: &Test) -> bool {
         Test::Segment(test) => !matches!(test, SegmentTest::Order | SegmentTest::Dynamic),
         Test::Symbol(test) => !matches!(
             test,
-            SymbolTest::Home
-                | SymbolTest::Unwritten
+            SymbolTest::SymbolFile
+                | SymbolTest::UnwrittenSlot
                 | SymbolTest::Slot
                 | SymbolTest::Stub
                 | SymbolTest::Position
@@ -52,7 +52,7 @@ fn is_alone(test: &Test) -> bool {
         ),
         Test::Input(test) => !matches!(
             test,
-            InputTest::Before | InputTest::Behind | InputTest::Order | InputTest::Front
+            InputTest::ShareStart | InputTest::ShareEnd | InputTest::Order | InputTest::Front
         ),
         Test::Listed(test) | Test::Version(test) => !matches!(test, EntryTest::Order),
         Test::Thunk(test) => matches!(test, ThunkTest::Symbol | ThunkTest::Any),

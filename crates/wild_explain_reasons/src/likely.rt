@@ -270,8 +270,8 @@ fn push_input(
         return Ok(());
     };
     match test {
-        InputTest::Before
-        | InputTest::Behind
+        InputTest::ShareStart
+        | InputTest::ShareEnd
         | InputTest::RawPart
         | InputTest::Allocation
         | InputTest::Room => push_part_named(out, layout, at, section),
@@ -308,7 +308,7 @@ pub(crate) fn push_likely(
             push_first_section(out, layout)?;
             push_part_before(out, layout, part)
         }
-        (Test::Part(PartTest::Outside), Item::Part(part)) => push_holder(out, layout, part),
+        (Test::Part(PartTest::SectionRange), Item::Part(part)) => push_holder(out, layout, part),
         (Test::Section(SectionTest::Memory), Item::Section(section)) => {
             push_short_segment(out, layout, section, false)
         }
@@ -318,7 +318,7 @@ pub(crate) fn push_likely(
         (Test::Segment(SegmentTest::Dynamic), Item::Segment(segment)) => {
             push_dynamic(out, layout, segment)
         }
-        (Test::Symbol(SymbolTest::Home), Item::Symbol(symbol)) => push_home(out, layout, symbol),
+        (Test::Symbol(SymbolTest::SymbolFile), Item::Symbol(symbol)) => push_home(out, layout, symbol),
         (Test::Symbol(SymbolTest::Position), Item::Symbol(symbol)) => {
             push_unlisted(out, layout, symbol)
         }
