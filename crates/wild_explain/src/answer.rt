@@ -9,7 +9,8 @@ use serde_json::Value;
 use std::alloc::{AllocError, Global};
 use std::thread::Threads;
 use wild_explain_reasons::{
-    push_advice, push_all, push_fields, push_image, push_needs, push_no_plan, push_owner, push_reason,
+    push_advice, push_all, push_fields, push_image, push_needs, push_no_plan, push_owner,
+    push_reason,
 };
 use wild_image::write_layout;
 use wild_plan::{Error, Fault, Layout};

@@ -11,9 +11,7 @@ use std::alloc::{AllocError, Global};
 use std::fmt::Write;
 use wild_needs::elf_entry_address;
 use wild_records::abi::segment::{PF_X, PT_LOAD};
-use wild_types::{
-    File, Layout, Role, SymbolIndex, is_allocated, is_there, is_writable, part_with,
-};
+use wild_types::{File, Layout, Role, SymbolIndex, is_allocated, is_there, is_writable, part_with};
 
 /// Adds an allocated section that begins before the end of those before it.
 fn push_overlaps(out: &mut String, layout: &Layout) -> Result<(), AllocError> {

@@ -102,7 +102,10 @@ fn push_shares(out: &mut String, layout: &Layout) -> Result<(), AllocError> {
             let (given, needed) = (group.given(part), needs(layout, part, i));
             if given != needed {
                 let word = part_word(layout, part);
-                writeln!(out, "fails: /groups/{i}/part_sizes/{part} ({word}) is {given}, expected {needed}")?;
+                writeln!(
+                    out,
+                    "fails: /groups/{i}/part_sizes/{part} ({word}) is {given}, expected {needed}"
+                )?;
             }
         }
     }

@@ -97,7 +97,8 @@ pub(crate) fn push_sections(
                 }
             }
             Slot::Loaded if section.name.as_slice().starts_with(b".debug_") => {
-                let text = "is `loaded`, expected `debug` for a section that debuggers read: code that was left out has a tombstone then";
+                let text =
+                    "is `loaded`, expected `debug` for a section that debuggers read: code that was left out has a tombstone then";
                 push_hint(out, ADVICE, Item::Input(at), "/slot", text)?;
             }
             _ => {}
@@ -122,7 +123,10 @@ fn push_over(
             let (address, size) = (resolution.raw_value, symbol.size);
             let end = section.address.saturating_add(section.size);
             if address < end && section.address < address.saturating_add(size) {
-                write!(out, "advice: /symbols/{definition}/resolution/raw_value is {address}, where ")?;
+                write!(
+                    out,
+                    "advice: /symbols/{definition}/resolution/raw_value is {address}, where "
+                )?;
                 push_item(out, Item::Input(at))?;
                 writeln!(
                     out,
@@ -159,7 +163,8 @@ pub(crate) fn push_copies_over(
         if let Some(symbol) = layout.symbols.as_slice().get(definition)
             && symbol.size == 0
         {
-            let text = "is 0, and the symbol is copied: expected the size that the library has, as a loader copies so many bytes";
+            let text =
+                "is 0, and the symbol is copied: expected the size that the library has, as a loader copies so many bytes";
             push_hint(out, ADVICE, Item::Symbol(definition), "/size", text)?;
         }
     }

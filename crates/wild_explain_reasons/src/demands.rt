@@ -19,25 +19,33 @@ use wild_types::{
 fn depends_on(role: Role) -> &'static str {
     match role {
         Role::ProgramHeaders => "/segments, which has items: a relocatable object has none",
-        Role::Got | Role::GotRelr => "the flags GOT, GOT_TLS_OFFSET, GOT_TLS_MODULE and GOT_TLS_DESCRIPTOR of its definition, and /tlsld",
+        Role::Got | Role::GotRelr =>
+            "the flags GOT, GOT_TLS_OFFSET, GOT_TLS_MODULE and GOT_TLS_DESCRIPTOR of its definition, and /tlsld",
         Role::PltGot => "the flag PLT of its definition",
         Role::RelaPlt => "the flags PLT and IFUNC of its definition",
-        Role::RelaDynRelative => "an address that moves with the base, which the flag ABSOLUTE denies, and the flag DYNAMIC if another module defines the symbol; with /options/relr even places are packed in relr_dyn",
-        Role::RelaDynGeneral => "a symbol that another module may define, which the flag NON_INTERPOSABLE of its definition denies",
-        Role::RelrDyn => "/options/relr, and an address that moves with the base, which the flag ABSOLUTE denies",
-        Role::Dynsym | Role::Dynstr | Role::Dynamic => "/kind: an output that a loader relocates has dynamic tables",
+        Role::RelaDynRelative =>
+            "an address that moves with the base, which the flag ABSOLUTE denies, and the flag DYNAMIC if another module defines the symbol; with /options/relr even places are packed in relr_dyn",
+        Role::RelaDynGeneral =>
+            "a symbol that another module may define, which the flag NON_INTERPOSABLE of its definition denies",
+        Role::RelrDyn =>
+            "/options/relr, and an address that moves with the base, which the flag ABSOLUTE denies",
+        Role::Dynsym | Role::Dynstr | Role::Dynamic =>
+            "/kind: an output that a loader relocates has dynamic tables",
         Role::GnuVersion => "/options/versions",
         Role::GnuVersionD => "/verdefs",
         Role::GnuVersionR => "`verneed` of a library",
         Role::SysvHash => "/sysv_hash",
         Role::GnuHash => "/gnu_hash",
-        Role::EhFrame => "an input section of slot `frame` (in a relocatable object frames have slot `loaded`), and /options/terminator",
+        Role::EhFrame =>
+            "an input section of slot `frame` (in a relocatable object frames have slot `loaded`), and /options/terminator",
         Role::EhFrameHdr => "/options/eh_frame_hdr",
         Role::Interp => "/interp",
         Role::BuildId => "/build_id",
         Role::Property => "/properties",
-        Role::SymtabLocal | Role::SymtabGlobal | Role::Strtab => "/options/strip_all, which is false: the output has a table of symbols",
-        Role::SymtabShndxLocal | Role::SymtabShndxGlobal => "the number of sections, which is above 65279",
+        Role::SymtabLocal | Role::SymtabGlobal | Role::Strtab =>
+            "/options/strip_all, which is false: the output has a table of symbols",
+        Role::SymtabShndxLocal | Role::SymtabShndxGlobal =>
+            "the number of sections, which is above 65279",
         _ => "each output has it",
     }
 }
@@ -188,10 +196,12 @@ fn push_flags(
     {
         let item = Item::Symbol(symbol.0);
         if matches!(found.place, Place::Undefined) && !found.flags.is_undefined_weak() {
-            let text = "is without DYNAMIC, and the symbol is undefined: expected where another module defines it";
+            let text =
+                "is without DYNAMIC, and the symbol is undefined: expected where another module defines it";
             push_hint(out, LIKELY, item, "/flags", text)?;
         } else if matches!(role, Role::RelaDynGeneral) && found.flags.is_interposable() {
-            let text = "is without NON_INTERPOSABLE: expected where no other module may define the symbol";
+            let text =
+                "is without NON_INTERPOSABLE: expected where no other module may define the symbol";
             push_hint(out, LIKELY, item, "/flags", text)?;
         }
     }
@@ -199,7 +209,11 @@ fn push_flags(
 }
 
 /// Adds what needs a table that has no part: the first item, the members on which that depends, and the other tables without a part.
-pub(crate) fn push_demand(out: &mut String, layout: &Layout, index: usize) -> Result<(), AllocError> {
+pub(crate) fn push_demand(
+    out: &mut String,
+    layout: &Layout,
+    index: usize,
+) -> Result<(), AllocError> {
     let Some((_, role)) = role_at(index) else {
         return Ok(());
     };
@@ -222,7 +236,10 @@ pub(crate) fn push_demand(out: &mut String, layout: &Layout, index: usize) -> Re
         {
             let needed = total_share(layout, other);
             if needed != 0 {
-                writeln!(out, "also: no part has the role {word}, needed {needed} bytes")?;
+                writeln!(
+                    out,
+                    "also: no part has the role {word}, needed {needed} bytes"
+                )?;
             }
         }
     }

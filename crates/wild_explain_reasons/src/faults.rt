@@ -462,7 +462,10 @@ fn push_other_machine(out: &mut String, layout: &Layout, number: u32) -> Result<
         Machine::AArch64 => (Machine::X86_64, "x86_64"),
     };
     if row_of(layout.machine, number).is_none() && row_of(other, number).is_some() {
-        write!(out, "likely: /machine is expected to be `{word}`, which has the type ")?;
+        write!(
+            out,
+            "likely: /machine is expected to be `{word}`, which has the type "
+        )?;
         push_type(out, other, number)?;
         writeln!(out)?;
     }
@@ -499,9 +502,11 @@ pub(crate) fn push_fault(
     }
     writeln!(out)?;
     push_lacking(out, layout, fault)?;
-    if let (Some(place), Fault::OverlappingSites { byte }, Machine::AArch64) =
-        (place, fault, layout.machine)
-    {
+    if let (Some(place), Fault::OverlappingSites { byte }, Machine::AArch64) = (
+        place,
+        fault,
+        layout.machine,
+    ) {
         push_odd(out, layout, place, byte)?;
     }
     if let Fault::UnsupportedRelocation { number } = fault {

@@ -60,7 +60,11 @@ fn skip_relocations(relocations: &[InputRelocation], first: usize, offset: u64) 
 }
 
 /// Why an FDE at an offset is dropped, by the first of its relocations; empty if it is kept.
-fn why_dropped(frames: &FileFrames<'_>, entry: u64, first: Option<&InputRelocation>) -> &'static str {
+fn why_dropped(
+    frames: &FileFrames<'_>,
+    entry: u64,
+    first: Option<&InputRelocation>,
+) -> &'static str {
     match first {
         Some(relocation) if relocation.offset == entry.saturating_add(8) => {
             match frames.target(relocation) {

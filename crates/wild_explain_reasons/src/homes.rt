@@ -38,7 +38,10 @@ fn push_namesake(out: &mut String, layout: &Layout, symbol: usize) -> Result<(),
                 && other.resolution.is_some()
                 && other.name.as_slice() == own.name.as_slice()
             {
-                write!(out, "likely: /symbols/{symbol}/definition is not given, expected {i}: ")?;
+                write!(
+                    out,
+                    "likely: /symbols/{symbol}/definition is not given, expected {i}: "
+                )?;
                 writeln!(out, "that symbol has the same name and a resolution")?;
                 return Ok(());
             }
@@ -55,11 +58,13 @@ fn push_homeless(out: &mut String, layout: &Layout, symbol: usize) -> Result<(),
         let item = Item::Input(at);
         match section.slot {
             Slot::Discard => {
-                let text = "is `discard`, and the symbol is in that input section, which is left out";
+                let text =
+                    "is `discard`, and the symbol is in that input section, which is left out";
                 return push_hint(out, LIKELY, item, "/slot", text);
             }
             Slot::Merge => {
-                let text = "has no item at or before the offset of the reference: the symbol is in that input section, whose strings are merged";
+                let text =
+                    "has no item at or before the offset of the reference: the symbol is in that input section, whose strings are merged";
                 return push_hint(out, LIKELY, item, "/strings", text);
             }
             _ => {}
@@ -69,7 +74,11 @@ fn push_homeless(out: &mut String, layout: &Layout, symbol: usize) -> Result<(),
 }
 
 /// Adds what likely made a symbol lack what a relocation takes.
-pub(crate) fn push_lacking(out: &mut String, layout: &Layout, fault: Fault) -> Result<(), AllocError> {
+pub(crate) fn push_lacking(
+    out: &mut String,
+    layout: &Layout,
+    fault: Fault,
+) -> Result<(), AllocError> {
     let Fault::MissingResolution { what, symbol } = fault else {
         return Ok(());
     };
@@ -78,7 +87,8 @@ pub(crate) fn push_lacking(out: &mut String, layout: &Layout, fault: Fault) -> R
         push_homeless(out, layout, symbol)?;
     }
     if matches!(what, Missing::Stub | Missing::Slot) && !layout.options.relax {
-        let text = "is false: with it, references to a symbol of the output need no stub and no slot";
+        let text =
+            "is false: with it, references to a symbol of the output need no stub and no slot";
         push_hint(out, LIKELY, Item::Plan, "/options/relax", text)?;
     }
     Ok(())

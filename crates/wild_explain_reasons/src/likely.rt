@@ -99,7 +99,8 @@ fn push_short_segment(
         return Ok(());
     };
     if section.address == 0 {
-        let text = "has 2 (SHF_ALLOC), and the section's address is 0: a section that is not loaded has not that flag";
+        let text =
+            "has 2 (SHF_ALLOC), and the section's address is 0: a section that is not loaded has not that flag";
         return push_hint(out, LIKELY, Item::Section(index), "/flags", text);
     }
     let mut last = None;
@@ -124,7 +125,14 @@ fn push_short_segment(
         ("/mem_size", segment.mem_size)
     };
     let numbers = (size, ahead.saturating_add(section.size));
-    push_expected(out, LIKELY, Item::Segment(i), member, numbers, "the end of that section")
+    push_expected(
+        out,
+        LIKELY,
+        Item::Segment(i),
+        member,
+        numbers,
+        "the end of that section",
+    )
 }
 
 /// Adds the first member of a `PT_DYNAMIC` segment that is not that of the part.
@@ -176,7 +184,10 @@ fn push_home(out: &mut String, layout: &Layout, symbol: usize) -> Result<(), All
         && let Some(file) = group.files.as_slice().get(at.file)
     {
         let (section, count) = (at.section, file.sections.len());
-        write!(out, "likely: /symbols/{symbol}/place/section is {section}, expected below {count}: ")?;
+        write!(
+            out,
+            "likely: /symbols/{symbol}/place/section is {section}, expected below {count}: "
+        )?;
         push_item(out, Item::File(at.group, at.file))?;
         writeln!(out, " has so many input sections")?;
         return Ok(());
@@ -222,7 +233,8 @@ fn push_part_named(
     if let Some(part) = layout.parts.as_slice().get(section.part)
         && has_role(Role::EhFrame, part)
     {
-        let text = "is expected to be `frame`, or the part another one: the part has the role eh_frame";
+        let text =
+            "is expected to be `frame`, or the part another one: the part has the role eh_frame";
         return push_hint(out, LIKELY, item, "/slot", text);
     }
     match part_named(layout, section.name.as_slice()) {
@@ -318,7 +330,9 @@ pub(crate) fn push_likely(
         (Test::Segment(SegmentTest::Dynamic), Item::Segment(segment)) => {
             push_dynamic(out, layout, segment)
         }
-        (Test::Symbol(SymbolTest::SymbolFile), Item::Symbol(symbol)) => push_home(out, layout, symbol),
+        (Test::Symbol(SymbolTest::SymbolFile), Item::Symbol(symbol)) => push_home(
+            out, layout, symbol,
+        ),
         (Test::Symbol(SymbolTest::Position), Item::Symbol(symbol)) => {
             push_unlisted(out, layout, symbol)
         }

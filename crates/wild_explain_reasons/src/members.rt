@@ -153,13 +153,15 @@ pub fn push_no_plan(out: &mut String, path: &str, found: &str) -> Result<(), All
             )?;
             return Ok(());
         }
-        Some(_) => "the member has another value than docs/PLAN.md says, or does not go with another one",
+        Some(_) =>
+            "the member has another value than docs/PLAN.md says, or does not go with another one",
         None => "the member is unknown, or its value has another type than docs/PLAN.md says",
     };
     writeln!(out, "what: {what}\nwhere: {path}")?;
     let expected = match row_for(&VALUES, path) {
         Some(values) => values,
-        None => "a whole number, true, false, a list or an object, as docs/PLAN.md has it for that member",
+        None =>
+            "a whole number, true, false, a list or an object, as docs/PLAN.md has it for that member",
     };
     writeln!(out, "found: {found}; expected {expected}")?;
     Ok(())

@@ -80,7 +80,11 @@ fn push_thread_segment(out: &mut String, layout: &Layout) -> Result<(), AllocErr
 }
 
 /// Adds the segments that are missing, in lines that begin with a word.
-pub(crate) fn push_missing(out: &mut String, layout: &Layout, word: &str) -> Result<(), AllocError> {
+pub(crate) fn push_missing(
+    out: &mut String,
+    layout: &Layout,
+    word: &str,
+) -> Result<(), AllocError> {
     let is_dynamic = matches!(layout.kind, OutputKind::DynamicExecutable(_));
     if is_dynamic && segment_of(layout, PT_INTERP).is_none() {
         writeln!(
@@ -106,9 +110,21 @@ pub(crate) fn push_missing(out: &mut String, layout: &Layout, word: &str) -> Res
 
 /// The kinds of segments that have the place of a part, its role, and what a line about them says.
 const PLACED: [(u32, Role, &str); 3] = [
-    (PT_INTERP, Role::Interp, "that of the part interp, as the segment is PT_INTERP: a kernel reads the path there"),
-    (PT_PHDR, Role::ProgramHeaders, "that of the part program_headers, as the segment is PT_PHDR: a dynamic linker takes the base from there"),
-    (PT_GNU_EH_FRAME, Role::EhFrameHdr, "that of the part eh_frame_hdr, as the segment is PT_GNU_EH_FRAME: an unwinder reads the table there"),
+    (
+        PT_INTERP,
+        Role::Interp,
+        "that of the part interp, as the segment is PT_INTERP: a kernel reads the path there",
+    ),
+    (
+        PT_PHDR,
+        Role::ProgramHeaders,
+        "that of the part program_headers, as the segment is PT_PHDR: a dynamic linker takes the base from there",
+    ),
+    (
+        PT_GNU_EH_FRAME,
+        Role::EhFrameHdr,
+        "that of the part eh_frame_hdr, as the segment is PT_GNU_EH_FRAME: an unwinder reads the table there",
+    ),
 ];
 
 /// Adds the segments that do not have the place of their part.
@@ -144,7 +160,10 @@ fn push_permission(
     let ((place, found), (flag, word)) = (segment, wanted);
     if found.flags & flag == 0 {
         let (flags, expected) = (found.flags, found.flags | flag);
-        write!(out, "advice: /segments/{place}/flags is {flags}, expected {expected}: ")?;
+        write!(
+            out,
+            "advice: /segments/{place}/flags is {flags}, expected {expected}: "
+        )?;
         push_section(out, layout, index)?;
         writeln!(out, " is {word}")?;
     }
@@ -169,10 +188,22 @@ pub(crate) fn push_permissions(
             && let Some(segment) = segment_at(barriers.loaded.as_slice(), section.address)
         {
             if is_writable(section.flags) {
-                push_permission(out, layout, i, segment, (PF_W, "writable (flag 1, SHF_WRITE)"))?;
+                push_permission(
+                    out,
+                    layout,
+                    i,
+                    segment,
+                    (PF_W, "writable (flag 1, SHF_WRITE)"),
+                )?;
             }
             if is_executable(section.flags) {
-                push_permission(out, layout, i, segment, (PF_X, "code (flag 4, SHF_EXECINSTR)"))?;
+                push_permission(
+                    out,
+                    layout,
+                    i,
+                    segment,
+                    (PF_X, "code (flag 4, SHF_EXECINSTR)"),
+                )?;
             }
         }
     }

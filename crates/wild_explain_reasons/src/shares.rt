@@ -15,7 +15,10 @@ fn push_segment_count(out: &mut String, layout: &Layout, part: &Part) -> Result<
     let room = part.size / 56;
     let count = layout.segments.len() as u64;
     if count != room {
-        write!(out, "likely: /segments has {count} items, and the part has room for {room}")?;
+        write!(
+            out,
+            "likely: /segments has {count} items, and the part has room for {room}"
+        )?;
         writeln!(out, ": a program header has 56 bytes")?;
     }
     push_missing(out, layout, LIKELY)
@@ -87,7 +90,8 @@ fn push_nameless(out: &mut String, alloc: Global, layout: &Layout) -> Result<(),
     for (i, section) in layout.sections.as_slice().iter().enumerate() {
         let is_named = section.section_symbol || is_marked(&alone, i);
         if is_marked(&filled, i) && !is_named {
-            let text = "is false, and no input section has `singleton` with that section: it has no symbol in the table";
+            let text =
+                "is false, and no input section has `singleton` with that section: it has no symbol in the table";
             push_hint(out, LIKELY, Item::Section(i), "/section_symbol", text)?;
         }
     }
@@ -111,7 +115,8 @@ fn push_omitted(out: &mut String, alloc: Global, layout: &Layout) -> Result<(), 
     for (i, symbol) in layout.symbols.as_slice().iter().enumerate() {
         let is_undefined = matches!(symbol.place, Place::Undefined) && symbol.definition.is_none();
         if is_marked(&named, i) && is_undefined && !symbol.emit {
-            let text = "is false, and relocations name the undefined symbol: it has no entry in the table";
+            let text =
+                "is false, and relocations name the undefined symbol: it has no entry in the table";
             push_hint(out, LIKELY, Item::Symbol(i), "/emit", text)?;
         }
     }
