@@ -208,6 +208,22 @@ fn push_flags(
     Ok(())
 }
 
+/// Adds the role of the part of frames, or their slot in a relocatable object.
+fn push_frame_part(out: &mut String, layout: &Layout, item: Item) -> Result<(), AllocError> {
+    if let Item::Input(at) = item
+        && let Some(section) = section_at(layout, at)
+        && section.slot.is_frame()
+    {
+        if layout.kind.is_partial_link() {
+            let text = "is `frame`, expected `loaded`: a relocatable object keeps frames as they are";
+            return push_hint(out, LIKELY, item, "/slot", text);
+        }
+        let text = "is expected to be eh_frame: it is the part of a section of slot `frame`";
+        return push_hint(out, LIKELY, Item::Part(section.part), "/role", text);
+    }
+    Ok(())
+}
+
 /// Adds what needs a table that has no part: the first item, the members on which that depends, and the other tables without a part.
 pub(crate) fn push_demand(
     out: &mut String,
@@ -228,6 +244,7 @@ pub(crate) fn push_demand(
     writeln!(out, "it depends on {text}")?;
     if let Some((item, relocation)) = demand {
         push_flags(out, layout, role, item, relocation)?;
+        push_frame_part(out, layout, item)?;
     }
     push_packed(out, layout)?;
     for i in index.saturating_add(1)..30 {
