@@ -56,11 +56,12 @@ impl Error {
         self.column
     }
 
-    /// A fault at an offset of a text.
-    fn at(fault: Fault, bytes: &[u8]) -> Error {
+    /// A fault at an offset of a text: the byte there, or the last byte of a text that ends too early.
+    fn at(fault: Fault, text: &[u8], at: usize) -> Error {
+        let bytes = &text[..at];
         let line = 1 + bytes.iter().filter(|byte| **byte == b'\n').count();
-        let column = 1 + bytes.iter().rev().take_while(|byte| **byte != b'\n').count();
-        Error { fault, line, column }
+        let column = bytes.iter().rev().take_while(|byte| **byte != b'\n').count();
+        Error { fault, line, column: column + usize::from(at < text.len()) }
     }
 }
 
@@ -80,7 +81,7 @@ impl Value {
     pub fn from_slice(alloc: Global, bytes: &[u8]) -> Result<Value, Error> {
         match str::from_utf8(bytes) {
             Ok(text) => Value::from_str(alloc, text),
-            Err(e) => Err(Error::at(Fault::Syntax, &bytes[..e.valid_up_to()])),
+            Err(e) => Err(Error::at(Fault::Syntax, bytes, e.valid_up_to())),
         }
     }
 
@@ -184,7 +185,7 @@ struct Reader<'a> {
 
 impl Reader<'_> {
     fn error(&self, fault: Fault) -> Error {
-        Error::at(fault, &self.text.as_bytes()[..self.at])
+        Error::at(fault, self.text.as_bytes(), self.at)
     }
 
     fn peek(&self) -> Option<u8> {
@@ -219,11 +220,17 @@ impl Reader<'_> {
             b'n' => self.expect("null").map(|()| Value::Null),
             b't' => self.expect("true").map(|()| Value::Bool(true)),
             b'f' => self.expect("false").map(|()| Value::Bool(false)),
-            b'"' => Ok(Value::String(self.string()?)),
+            b'"' => Ok(Value::String(self.whole(Reader::string)?)),
             b'[' if depth > 0 => Ok(Value::Array(self.items(depth - 1)?)),
             b'{' if depth > 0 => Ok(Value::Object(self.members(depth - 1)?)),
-            _ => Ok(Value::Number(self.number()?)),
+            _ => Ok(Value::Number(self.whole(Reader::number)?)),
         }
+    }
+
+    /// A token; at a fault in it the reader is at its start.
+    fn whole<T>(&mut self, token: fn(&mut Self) -> Result<T, Fault>) -> Result<T, Fault> {
+        let start = self.at;
+        token(self).inspect_err(|_| self.at = start)
     }
 
     fn items(&mut self, depth: usize) -> Result<Vec<Value>, Fault> {
@@ -252,7 +259,7 @@ impl Reader<'_> {
         }
         loop {
             self.skip_space();
-            let name = self.string()?;
+            let name = self.whole(Reader::string)?;
             self.skip_space();
             self.expect(":")?;
             members.insert(name, self.value(depth)?);
