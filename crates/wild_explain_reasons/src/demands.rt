@@ -15,7 +15,7 @@ use wild_types::{
     InputRelocation, InputSection, Layout, Place, Role, Slot, Symbol, SymbolIndex, got_of, is_there,
 };
 
-/// The members on which a role's bytes depend; of a table with entries or words, what would make its first one needless.
+/// The members on which the bytes of a role depend.
 fn depends_on(role: Role) -> &'static str {
     match role {
         Role::ProgramHeaders => "/segments, which has items: a relocatable object has none",
@@ -24,11 +24,11 @@ fn depends_on(role: Role) -> &'static str {
         Role::PltGot => "the flag PLT of its definition",
         Role::RelaPlt => "the flags PLT and IFUNC of its definition",
         Role::RelaDynRelative =>
-            "an address that moves with the base, which the flag ABSOLUTE denies, and the flag DYNAMIC if another module defines the symbol; with /options/relr even places are packed in relr_dyn",
+            "an address that moves with the base (not with the flag ABSOLUTE, nor with DYNAMIC where another module defines the symbol); with /options/relr one at an even place is packed in relr_dyn",
         Role::RelaDynGeneral =>
-            "a symbol that another module may define, which the flag NON_INTERPOSABLE of its definition denies",
+            "a symbol that another module may define (not with the flag NON_INTERPOSABLE at its definition)",
         Role::RelrDyn =>
-            "/options/relr, and an address that moves with the base, which the flag ABSOLUTE denies",
+            "/options/relr, and an address that moves with the base (not with the flag ABSOLUTE)",
         Role::Dynsym | Role::Dynstr | Role::Dynamic =>
             "/kind: an output that a loader relocates has dynamic tables",
         Role::GnuVersion => "/options/versions",
@@ -43,7 +43,7 @@ fn depends_on(role: Role) -> &'static str {
         Role::BuildId => "/build_id",
         Role::Property => "/properties",
         Role::SymtabLocal | Role::SymtabGlobal | Role::Strtab =>
-            "/options/strip_all, which is false: the output has a table of symbols",
+            "/options/strip_all: without it the output has a table of symbols, and a relocatable object has one in any case",
         Role::SymtabShndxLocal | Role::SymtabShndxGlobal =>
             "the number of sections, which is above 65279",
         _ => "each output has it",
@@ -215,7 +215,8 @@ fn push_frame_part(out: &mut String, layout: &Layout, item: Item) -> Result<(), 
         && section.slot.is_frame()
     {
         if layout.kind.is_partial_link() {
-            let text = "is `frame`, expected `loaded`: a relocatable object keeps frames as they are";
+            let text =
+                "is `frame`, expected `loaded`: a relocatable object keeps frames as they are";
             return push_hint(out, LIKELY, item, "/slot", text);
         }
         let text = "is expected to be eh_frame: it is the part of a section of slot `frame`";

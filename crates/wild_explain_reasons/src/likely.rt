@@ -14,7 +14,7 @@ use wild_records::Rela;
 use wild_records::abi::segment::PT_LOAD;
 use wild_types::{File, InputSection, Layout, Part, Role, Slot, has_role, is_allocated};
 
-/// Adds that section 0 is none, if the list of sections begins with another one.
+/// Adds that the list of sections does not begin with the empty section 0.
 fn push_first_section(out: &mut String, layout: &Layout) -> Result<(), AllocError> {
     if let Some(first) = layout.sections.as_slice().get(0)
         && (first.kind != 0 || first.name.len() != 0)
@@ -24,7 +24,7 @@ fn push_first_section(out: &mut String, layout: &Layout) -> Result<(), AllocErro
             LIKELY,
             Item::Section(0),
             "",
-            "is expected to be {}: each part names the section after its own",
+            "is expected to be {}: without it each part names the section after its own",
         )?;
     }
     Ok(())
@@ -88,7 +88,7 @@ fn push_holder(out: &mut String, layout: &Layout, index: usize) -> Result<(), Al
     push_distance(out, layout, index, part)
 }
 
-/// Adds the loaded segment that a section is not in, though it begins before the first byte that none has.
+/// Adds the last loaded segment before the first byte of a section that no segment has, with the offset or the size that it needs.
 fn push_short_segment(
     out: &mut String,
     layout: &Layout,

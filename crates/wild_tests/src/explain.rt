@@ -23,3 +23,47 @@ fn needs_of_groups(rt: HostRuntime) -> Result<(), Fail> {
     assert!(rt; status == 0 && text.contains(line));
     Ok(())
 }
+
+/// Options of `explain`: the words, a text of the smallest plan and its replacement, and a line that is printed.
+const OPTIONS: &[(&[&str], &str, &str, &str)] = &[
+    (
+        &["explain", "--byte", "344"],
+        "\"page_size\":4096",
+        "\"page_size\":4096",
+        "no byte: the image has 344 bytes\n",
+    ),
+    (
+        &["explain", "--byte", "343"],
+        "\"page_size\":4096",
+        "\"page_size\":4096",
+        "part: byte 191 of /parts/4 (section_headers), address 191\n",
+    ),
+    (
+        &["explain", "--first"],
+        "[64,56,7,17,192]",
+        "[64,56,7,18,192]",
+        "found: offset 135, address 0, size 17, align 1, in section 2 `.shstrtab`; expected 18\n",
+    ),
+    (
+        &["explain", "--all"],
+        "[64,56,7,17,192]",
+        "[64,56,7,18,193]",
+        "fails: clause 7, index 4\n",
+    ),
+    (
+        &["explain", "--all"],
+        "[64,56,7,17,192]",
+        "[64,56,7,18,193]",
+        "fails: /groups/0/part_sizes/4 (section_headers) is 193, expected 192\n",
+    ),
+];
+
+#[test]
+fn options_of_explain(rt: HostRuntime) -> Result<(), Fail> {
+    for (words, old, new, line) in OPTIONS {
+        let plan = SMALLEST.replace(rt.alloc(), *old, *new)?;
+        let (_, text) = explained(&rt, rt.alloc(), *words, plan.as_str())?;
+        assert!(rt; text.contains(*line), "{words:?}");
+    }
+    Ok(())
+}
