@@ -27,20 +27,20 @@ MENDS = [
 
 
 def crates():
-    """The crates that the programs are made of, the lowest first, and the crates of tests."""
+    """The crates that the programs and the tests are made of, the lowest first, and the crates of tests."""
     below = {}
     for line in (TOP / 'crates.txt').read_text().splitlines():
         if ':' in line.split('#')[0]:
             name, list_ = line.split(':')
             below[name.split()[0]] = list_.split()
     reached = set()
-    todo = list(PROGRAMS)
+    todo = list(PROGRAMS + TESTS)
     while todo:
         for name in below[todo.pop()]:
             if name in below and name not in reached:
                 reached.add(name)
                 todo.append(name)
-    return [name for name in below if name in reached] + list(TESTS)
+    return [name for name in below if name in reached and name not in TESTS] + list(TESTS)
 
 
 def rust(source, crate, names):

@@ -158,6 +158,9 @@ pub(crate) fn push_copies_over(
     layout: &Layout,
     copied: &File,
 ) -> Result<(), AllocError> {
+    if copied.copied().len() == 0 {
+        return Ok(());
+    }
     for copy in copied.copied() {
         let definition = layout.canonical(*copy).0;
         if let Some(symbol) = layout.symbols.as_slice().get(definition)

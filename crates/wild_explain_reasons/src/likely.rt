@@ -103,9 +103,10 @@ fn push_short_segment(
             "has 2 (SHF_ALLOC), and the section's address is 0: a section that is not loaded has not that flag";
         return push_hint(out, LIKELY, Item::Section(index), "/flags", text);
     }
+    let first = reached(layout, section, in_file);
     let mut last = None;
     for (i, segment) in layout.segments.as_slice().iter().enumerate() {
-        if segment.kind == PT_LOAD && segment.address <= reached(layout, section, in_file) {
+        if segment.kind == PT_LOAD && segment.address <= first {
             last = Some((i, *segment));
         }
     }
