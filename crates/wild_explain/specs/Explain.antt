@@ -76,7 +76,7 @@ pub record IsAnswerOf (whole : List ℕ) (c : Command) (code : ℕ) (said : List
 
 -- the list of the commands
 abbrev pub usage_text : List ℕ
-usage_text = codes "usage: explain [--first] [--relocations] [--byte OFFSET] | needs\n"
+usage_text = codes "usage: explain [--first | --all] [--relocations] [--byte OFFSET] | needs\n"
 
 -- the answer, with its status and its text, is right for the words and the input
 abbrev pub IsRightAnswer : List (String Global) → SourceChange → ℕ → List ℕ → Answer → Type 0

@@ -9,15 +9,21 @@ use serde_json::Value;
 use std::alloc::{AllocError, Global};
 use std::thread::Threads;
 use wild_explain_reasons::{
-    push_advice, push_fields, push_image, push_needs, push_no_plan, push_owner, push_reason,
+    push_advice, push_all, push_fields, push_image, push_needs, push_no_plan, push_owner,
+    push_reason,
 };
 use wild_image::write_layout;
 use wild_plan::{Error, Fault, Layout};
 use wild_program::{LINKED, NO_PLAN, REFUSED};
 use wild_text::{PlanFault, no_plan_answer, read_plan, refusal_answer};
 
-/// The status and the text for a fault, with its reason; out of memory has none.
-fn refusal_of(alloc: Global, layout: &Layout, error: Error) -> Result<(u8, String), AllocError>
+/// The status and the text for a fault, with its reason, and those of other faults if all are asked for; out of memory has none.
+fn refusal_of(
+    alloc: Global,
+    layout: &Layout,
+    error: Error,
+    all: bool,
+) -> Result<(u8, String), AllocError>
     ensures { IfOk result (λ a. IsRefusedAs error a.0 (string_bytes a.1)) }
 {
     match error.fault {
@@ -26,6 +32,9 @@ fn refusal_of(alloc: Global, layout: &Layout, error: Error) -> Result<(u8, Strin
             let line = refusal_answer(alloc, error)?;
             let mut reason = String::new(alloc);
             push_reason(&mut reason, alloc, layout, error)?;
+            if all {
+                push_all(&mut reason, layout)?;
+            }
             let text = format!(in alloc; "{line}{reason}")?;
             Ok((REFUSED, text))
         }
@@ -92,7 +101,7 @@ fn explain_layout(
             let text = image_answer(alloc, layout, made.out.as_slice(), view)?;
             Ok((LINKED, text))
         }
-        Err(error) => refusal_of(alloc, layout, error),
+        Err(error) => refusal_of(alloc, layout, error, view.all),
     }
 }
 
@@ -115,15 +124,35 @@ fn layout_answer(
     }
 }
 
+/// The longest text that is shown as it is.
+const SHOWN: usize = 80;
+
+/// What a plan has at a path: a short text, a number or a flag as it is, of anything else its type.
+fn found_at(alloc: Global, value: &Value, path: &str) -> Result<String, AllocError> {
+    match value.pointer(path) {
+        Some(Value::String(text)) if text.len() > SHOWN => String::from_str(alloc, "a longer text"),
+        Some(found) if !found.is_array() && !found.is_object() => found.to_string(alloc),
+        Some(found) if found.is_array() => String::from_str(alloc, "a list"),
+        Some(_) => String::from_str(alloc, "an object"),
+        None => String::from_str(alloc, "nothing"),
+    }
+}
+
 /// The text for a value whose first wrong member has that path.
-fn no_plan_reason(alloc: Global, path: &str) -> Result<String, AllocError>
+fn no_plan_reason(alloc: Global, value: &Value, path: &str) -> Result<String, AllocError>
     ensures { IfOk result (λ s. Begins (no_plan_text path.now) (string_bytes s)) }
 {
     let line = no_plan_answer(alloc, path)?;
+    let found = found_at(alloc, value, path)?;
     let mut reason = String::new(alloc);
-    push_no_plan(&mut reason, path)?;
+    push_no_plan(&mut reason, path, found.as_str())?;
     let text = join_lines(alloc, line.as_str(), reason.as_str())?;
     Ok(text)
+}
+
+/// Where a text is no JSON.
+fn json_reason(alloc: Global, line: usize, column: usize) -> Result<String, AllocError> {
+    format!(in alloc; "what: the text is no JSON\nwhere: line {line}, column {column}\n")
 }
 
 /// The status and the text for the bytes of a plan.
@@ -141,7 +170,8 @@ pub(crate) fn plan_answer(
             if e.is_memory() {
                 return Err(AllocError);
             }
-            let text = join_lines(alloc, "not a plan: json\n", "what: the text is no JSON\n")?;
+            let reason = json_reason(alloc, e.line(), e.column())?;
+            let text = join_lines(alloc, "not a plan: json\n", reason.as_str())?;
             return Ok((NO_PLAN, text));
         }
     };
@@ -149,7 +179,7 @@ pub(crate) fn plan_answer(
         Ok(layout) => layout,
         Err(PlanFault::OutOfMemory) => return Err(AllocError),
         Err(PlanFault::At(path)) => {
-            let text = no_plan_reason(alloc, path.as_str())?;
+            let text = no_plan_reason(alloc, &value, path.as_str())?;
             return Ok((NO_PLAN, text));
         }
     };

@@ -5,8 +5,8 @@ ghost use Rattle.wild_explain.specs.Explain.{IsPlain, IsOneWord, Asks};
 /// The options of `explain`.
 #[derive(Clone, Copy)]
 pub struct View {
-    /// Explain only the first of several faults.
-    pub first_only: bool,
+    /// Explain all faults that do not depend on each other, after the first one.
+    pub all: bool,
     /// List what each relocation wrote.
     pub relocations: bool,
     /// Find the owner of the byte at this offset of the file.
@@ -24,7 +24,7 @@ pub enum Command {
 
 /// No options.
 const NO_OPTIONS: View = View {
-    first_only: false,
+    all: false,
     relocations: false,
     byte: None,
 };
@@ -39,7 +39,9 @@ fn view_of(options: &[String]) -> Option<View> {
             view.byte = Some(word.parse::<u64>().ok()?);
             is_offset = false;
         } else if word == "--first" {
-            view.first_only = true;
+            view.all = false;
+        } else if word == "--all" {
+            view.all = true;
         } else if word == "--relocations" {
             view.relocations = true;
         } else if word == "--byte" {

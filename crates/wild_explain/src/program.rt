@@ -11,7 +11,8 @@ use wild_io::{ReadFault, Sink, Source, read_whole};
 use wild_program::{LIMIT, READ_FAULT, TOO_LONG, USAGE, write_answer};
 
 /// The list of the commands.
-const USAGE_TEXT: &[u8; 65] = b"usage: explain [--first] [--relocations] [--byte OFFSET] | needs\n";
+const USAGE_TEXT: &[u8; 73] =
+    b"usage: explain [--first | --all] [--relocations] [--byte OFFSET] | needs\n";
 
 /// Reads the plan and writes the command's answer.
 fn run_command<S: Source, K: Sink>(

@@ -1,9 +1,12 @@
 //! For each clause: its name, the members that are likely wrong if it fails, and the first of its tests that an item fails.
 
+use crate::demands::push_demand;
+use crate::faults::push_relocation;
 use crate::fronts::{is_named_once, test_merged, test_sorted, types_before};
 use crate::headers::{first_of, test_part, test_section, test_segment};
 use crate::items::{Item, SectionPlace, push_found, push_item, section_at};
 use crate::layout_rows::{LAYOUT_ROWS, Row};
+use crate::likely::push_likely;
 use crate::lists::{
     first_astray, test_file, test_group, test_input, test_listed, test_version, wrong_relocation,
 };
@@ -11,14 +14,14 @@ use crate::names::part_word;
 use crate::needs::push_room;
 use crate::partial::test_made;
 use crate::plan::{push_plan, test_plan};
-use crate::symbols::{position_of, test_symbol};
+use crate::symbols::{test_symbol, undefined_entries};
 use crate::table_rows::TABLE_ROWS;
-use crate::tests::{FileTest, InputTest, PartTest, SectionTest, Test};
+use crate::tests::{FileTest, InputTest, PartTest, PlanTest, SectionTest, Test};
 use crate::thunks::find_thunk;
-use crate::verdict::{Finding, Verdict, plain};
+use crate::verdict::{Finding, Verdict, due, plain};
 use std::alloc::AllocError;
 use std::fmt::Write;
-use wild_types::{Layout, Role, has_role};
+use wild_types::{Layout, Role, field_bytes, has_role};
 
 /// The number of each clause, its name, and what is likely wrong in a plan that fails it.
 const CLAUSES: [(u32, &str, &str); 22] = [
@@ -194,18 +197,14 @@ fn find_input(layout: &Layout, group: usize, test: &InputTest) -> Option<Finding
 /// The symbol of an item of `dynsyms`, with the position of its entry.
 fn placed(layout: &Layout, index: usize) -> Option<Finding> {
     let symbol = layout.dynsyms.as_slice().get(index)?.symbol.0;
-    let verdict = Verdict {
-        fails: true,
-        expected: match position_of(layout, symbol) {
-            Some(position) => Some(position as u64),
-            None => None,
-        },
-    };
+    let (undefined, _) = undefined_entries(layout, symbol);
+    let position = undefined.saturating_add(1).saturating_add(index);
+    let verdict = due(true, position as u64);
     finding(Item::Symbol(symbol), verdict)
 }
 
 /// The item that fails a test of a clause that fails at an index.
-fn find(layout: &Layout, index: usize, test: &Test) -> Option<Finding> {
+pub(crate) fn find(layout: &Layout, index: usize, test: &Test) -> Option<Finding> {
     match test {
         Test::Plan(test) => finding(Item::Plan, test_plan(layout, index, test)),
         Test::Part(test) => {
@@ -277,8 +276,34 @@ fn find(layout: &Layout, index: usize, test: &Test) -> Option<Finding> {
     }
 }
 
+/// Adds what an input section has: of a test of relocations, the first that fails it and the end of its field.
+fn push_input_found(
+    out: &mut String,
+    layout: &Layout,
+    at: SectionPlace,
+    test: &InputTest,
+) -> Result<(), AllocError> {
+    if let Some(section) = section_at(layout, at)
+        && let Some(index) = wrong_relocation(layout, section, test)
+        && let Some(relocation) = section.relocations.as_slice().get(index)
+    {
+        let width = field_bytes(layout.machine, relocation.number) as u64;
+        let (end, size) = (relocation.offset.saturating_add(width), section.size);
+        write!(out, "/{index}\nfound: ")?;
+        push_relocation(out, layout, section, index)?;
+        write!(out, "; its field ends at {end}, the section at {size}")?;
+        if let InputTest::Fields = test {
+            let last = size.saturating_sub(width);
+            write!(out, "; expected an offset up to {last}")?;
+        }
+        return Ok(());
+    }
+    write!(out, "\nfound: ")?;
+    push_found(out, layout, Item::Input(at))
+}
+
 /// Adds what fails, its path, what the plan has there, and what was expected.
-fn push_row(
+pub(crate) fn push_row(
     out: &mut String,
     layout: &Layout,
     index: usize,
@@ -289,24 +314,20 @@ fn push_row(
     write!(out, "what: {what}\nwhere: ")?;
     push_item(out, found.item)?;
     write!(out, "{member}")?;
-    match (found.item, test) {
-        (Item::Part(part), _) => {
-            let word = part_word(layout, part);
-            write!(out, " ({word})")?;
-        }
-        (Item::Input(at), Test::Input(test)) => {
-            if let Some(section) = section_at(layout, at)
-                && let Some(index) = wrong_relocation(layout, section, test)
-            {
-                write!(out, "/{index}")?;
-            }
-        }
-        _ => {}
+    if let Item::Part(part) = found.item {
+        let word = part_word(layout, part);
+        write!(out, " ({word})")?;
     }
-    write!(out, "\nfound: ")?;
-    match test {
-        Test::Plan(test) => push_plan(out, layout, index, test)?,
-        _ => push_found(out, layout, found.item)?,
+    match (found.item, test) {
+        (_, Test::Plan(test)) => {
+            write!(out, "\nfound: ")?;
+            push_plan(out, layout, index, test)?;
+        }
+        (Item::Input(at), Test::Input(test)) => push_input_found(out, layout, at, test)?,
+        _ => {
+            write!(out, "\nfound: ")?;
+            push_found(out, layout, found.item)?;
+        }
     }
     if let Some(expected) = found.verdict.expected {
         let word = match test {
@@ -317,6 +338,10 @@ fn push_row(
         write!(out, "; {word} {expected}")?;
     }
     writeln!(out)?;
+    push_likely(out, layout, test, found.item)?;
+    if let Test::Plan(PlanTest::NoTable) = test {
+        push_demand(out, layout, index)?;
+    }
     if let Test::Part(PartTest::Shares) = test
         && let Some(part) = layout.parts.as_slice().get(index)
         && has_role(Role::Raw, part)

@@ -1,12 +1,16 @@
 //! Explanations of faults in relocations, slots, copies and symbols.
 
+use crate::homes::push_lacking;
 use crate::items::{Item, SectionPlace, push_decided, push_found, push_item, section_at};
 use crate::names::{push_name, push_symbol, push_type};
 use crate::thunks::refused_thunk;
 use std::alloc::AllocError;
 use std::fmt::Write;
+use wild_reloc::RelocationSize;
 use wild_slot::{SlotFault, SymbolSlots};
-use wild_types::{At, Fault, FrameFault, InputSection, Layout, Missing};
+use wild_types::{
+    At, Fault, FrameFault, InputSection, Layout, Machine, Missing, field_bytes, row_of,
+};
 
 /// What is wrong with a relocation, a slot, a symbol or a section of frames, and the remedy. `words_number` has the row of a fault.
 const FAULT_WORDS: [(&str, &str); 27] = [
@@ -219,6 +223,12 @@ fn words_at(
     FAULT_WORDS.get(number).copied().unwrap_or(("", ""))
 }
 
+/// What is wrong with frames, and the remedy.
+pub(crate) fn frame_words(why: FrameFault) -> (&'static str, &'static str) {
+    let number = words_number(Fault::BadFrameData { why });
+    FAULT_WORDS.get(number).copied().unwrap_or(("", ""))
+}
+
 /// Adds a relocation: its type, its offset, its symbol and its addend.
 pub fn push_relocation(
     out: &mut String,
@@ -246,6 +256,105 @@ pub fn push_relocation(
     Ok(())
 }
 
+/// Adds the values that the field of a relocation at an offset takes, and the next type's machine.
+fn push_range(
+    out: &mut String,
+    layout: &Layout,
+    at: SectionPlace,
+    offset: Option<u64>,
+) -> Result<(), AllocError> {
+    if let Some(section) = section_at(layout, at)
+        && let Some(offset) = offset
+        && let Some(index) = relocation_at(section, offset)
+        && let Some(relocation) = section.relocations.as_slice().get(index)
+        && let Some(row) = row_of(layout.machine, relocation.number)
+    {
+        let (below, above) = (row.range.below, row.range.above.saturating_sub(1));
+        let multiple = row.alignment;
+        write!(out, ", expected from -{below} to {above}")?;
+        if multiple > 1 {
+            write!(out, ", and a multiple of {multiple}")?;
+        }
+    }
+    Ok(())
+}
+
+/// The first relocation of a section at an offset.
+pub(crate) fn relocation_at(section: &InputSection, offset: u64) -> Option<usize> {
+    for (i, relocation) in section.relocations.as_slice().iter().enumerate() {
+        if relocation.offset == offset {
+            return Some(i);
+        }
+    }
+    None
+}
+
+/// The first two relocations of a section whose fields have a byte.
+fn fields_with(layout: &Layout, section: &InputSection, byte: u64) -> Option<(usize, usize)> {
+    let mut first = None;
+    for (i, relocation) in section.relocations.as_slice().iter().enumerate() {
+        let width = field_bytes(layout.machine, relocation.number) as u64;
+        let end = relocation.offset.saturating_add(width);
+        if relocation.offset <= byte && byte < end {
+            if let Some(first) = first {
+                return Some((first, i));
+            }
+            first = Some(i);
+        }
+    }
+    None
+}
+
+/// Adds two relocations whose fields have a byte.
+fn push_overlap(
+    out: &mut String,
+    layout: &Layout,
+    at: SectionPlace,
+    byte: u64,
+) -> Result<(), AllocError> {
+    if let Some(section) = section_at(layout, at)
+        && let Some((first, second)) = fields_with(layout, section, byte)
+    {
+        write!(out, "where: ")?;
+        push_item(out, Item::Input(at))?;
+        write!(out, "/relocations/{second}/offset\nfound: ")?;
+        push_relocation(out, layout, section, second)?;
+        write!(out, "; /relocations/{first}: ")?;
+        push_relocation(out, layout, section, first)?;
+    }
+    Ok(())
+}
+
+/// Adds the relocations of AArch64 instructions with a byte whose offset is no multiple of 4.
+fn push_odd(
+    out: &mut String,
+    layout: &Layout,
+    at: SectionPlace,
+    byte: u64,
+) -> Result<(), AllocError> {
+    let Some(section) = section_at(layout, at) else {
+        return Ok(());
+    };
+    for (i, relocation) in section.relocations.as_slice().iter().enumerate() {
+        let offset = relocation.offset;
+        if offset <= byte
+            && byte < offset.saturating_add(4)
+            && offset % 4 != 0
+            && let Some(row) = row_of(Machine::AArch64, relocation.number)
+            && matches!(row.size, RelocationSize::BitMasking(_))
+        {
+            let even = offset / 4 * 4;
+            write!(out, "likely: ")?;
+            push_item(out, Item::Input(at))?;
+            writeln!(
+                out,
+                "/relocations/{i}/offset is {offset}, expected a multiple of 4 (such as {even}): an instruction has four bytes"
+            )?;
+        }
+    }
+    Ok(())
+}
+
 /// Adds the numbers of a fault.
 fn push_numbers(out: &mut String, layout: &Layout, fault: Fault) -> Result<(), AllocError> {
     match fault {
@@ -266,7 +375,6 @@ fn push_numbers(out: &mut String, layout: &Layout, fault: Fault) -> Result<(), A
         Fault::ThunkAddend { addend } => write!(out, "; addend {addend}, expected 0")?,
         _ => {}
     }
-    writeln!(out)?;
     Ok(())
 }
 
@@ -331,14 +439,10 @@ fn push_inside(
     write!(out, "where: ")?;
     push_item(out, Item::Input(at))?;
     write!(out, "/relocations")?;
-    let mut index = None;
-    if let Some(offset) = offset {
-        for (i, relocation) in section.relocations.as_slice().iter().enumerate() {
-            if index.is_none() && relocation.offset == offset {
-                index = Some(i);
-            }
-        }
-    }
+    let index = match offset {
+        Some(offset) => relocation_at(section, offset),
+        None => None,
+    };
     match index {
         Some(index) => {
             write!(out, "/{index}\nfound: ")?;
@@ -349,6 +453,23 @@ fn push_inside(
             push_name(out, section.name.as_slice())
         }
     }
+}
+
+/// Adds that a relocation type is one of the other machine.
+fn push_other_machine(out: &mut String, layout: &Layout, number: u32) -> Result<(), AllocError> {
+    let (other, word) = match layout.machine {
+        Machine::X86_64 => (Machine::AArch64, "aarch64"),
+        Machine::AArch64 => (Machine::X86_64, "x86_64"),
+    };
+    if row_of(layout.machine, number).is_none() && row_of(other, number).is_some() {
+        write!(
+            out,
+            "likely: /machine is expected to be `{word}`, which has the type "
+        )?;
+        push_type(out, other, number)?;
+        writeln!(out)?;
+    }
+    Ok(())
 }
 
 /// Adds why a relocation, a slot, a copy or a symbol is refused: what is wrong, its path, what the plan has there, and the remedy.
@@ -368,11 +489,29 @@ pub(crate) fn push_fault(
     };
     let (what, remedy) = words_at(layout, fault, place);
     writeln!(out, "what: {what}")?;
-    match place {
-        Some(place) => push_inside(out, layout, place, at.offset)?,
-        None => push_outside(out, layout, fault, at)?,
+    match (place, fault) {
+        (Some(place), Fault::OverlappingSites { byte }) => push_overlap(out, layout, place, byte)?,
+        (Some(place), _) => push_inside(out, layout, place, at.offset)?,
+        (None, _) => push_outside(out, layout, fault, at)?,
     }
     push_numbers(out, layout, fault)?;
+    if let Some(place) = place
+        && matches!(fault, Fault::OutOfRange { .. } | Fault::NoThunk { .. })
+    {
+        push_range(out, layout, place, at.offset)?;
+    }
+    writeln!(out)?;
+    push_lacking(out, layout, fault)?;
+    if let (Some(place), Fault::OverlappingSites { byte }, Machine::AArch64) = (
+        place,
+        fault,
+        layout.machine,
+    ) {
+        push_odd(out, layout, place, byte)?;
+    }
+    if let Fault::UnsupportedRelocation { number } = fault {
+        push_other_machine(out, layout, number)?;
+    }
     writeln!(out, "remedy: {remedy}")?;
     Ok(())
 }

@@ -8,7 +8,7 @@ use std::fmt::Write;
 use wild_records::abi::relocation::R_AARCH64_TLSDESC_CALL;
 use wild_reloc::RelocationSize;
 use wild_slot::{Treatment, treatment_of};
-use wild_types::{InputRelocation, InputSection, Layout, Machine, field_bytes, row_of};
+use wild_types::{InputSection, Layout, Machine, field_bytes, row_of};
 
 /// The byte at an offset; 0 past the end.
 fn byte_at(bytes: &[u8], offset: u64) -> u8 {
@@ -25,7 +25,7 @@ fn push_bytes(out: &mut String, bytes: &[u8], offset: u64, count: u64) -> Result
 }
 
 /// The word of 4 bytes at an offset.
-fn word_at(bytes: &[u8], offset: u64) -> u32 {
+pub(crate) fn word_at(bytes: &[u8], offset: u64) -> u32 {
     let mut word = [0; 4];
     for (i, byte) in word.iter_mut().enumerate() {
         *byte = byte_at(bytes, offset.saturating_add(i as u64));
@@ -33,12 +33,34 @@ fn word_at(bytes: &[u8], offset: u64) -> u32 {
     u32::from_le_bytes(word)
 }
 
-/// Whether one of the three bytes before a field differs in the image.
-fn is_changed_ahead(section: &InputSection, image: &[u8], start: u64, offset: u64) -> bool {
-    let first = offset.saturating_sub(3);
-    for i in first..offset {
+/// Whether a byte is in the field of the relocation at an index.
+fn is_in_field(layout: &Layout, section: &InputSection, index: usize, byte: u64) -> bool {
+    match section.relocations.as_slice().get(index) {
+        Some(relocation) => {
+            let width = field_bytes(layout.machine, relocation.number) as u64;
+            relocation.offset <= byte && byte < relocation.offset.saturating_add(width)
+        }
+        None => false,
+    }
+}
+
+/// Whether one of the three bytes before a field differs in the image, other than in the field of the relocation before or after it.
+fn is_changed_ahead(
+    layout: &Layout,
+    section: &InputSection,
+    index: usize,
+    image: &[u8],
+    start: u64,
+) -> bool {
+    let Some(relocation) = section.relocations.as_slice().get(index) else {
+        return false;
+    };
+    for i in relocation.offset.saturating_sub(3)..relocation.offset {
         let now = byte_at(image, start.saturating_add(i));
-        if byte_at(section.bytes.as_slice(), i) != now {
+        if byte_at(section.bytes.as_slice(), i) != now
+            && !is_in_field(layout, section, index.saturating_sub(1), i)
+            && !is_in_field(layout, section, index.saturating_add(1), i)
+        {
             return true;
         }
     }
@@ -48,16 +70,19 @@ fn is_changed_ahead(section: &InputSection, image: &[u8], start: u64, offset: u6
 /// Whether the instruction of a relocation differs in the image, in which the section begins at `start`: on AArch64 its word outside the
 /// field, on x86-64 one of the three bytes before the field.
 fn is_rewritten(
-    machine: Machine,
+    layout: &Layout,
     section: &InputSection,
-    relocation: &InputRelocation,
+    index: usize,
     image: &[u8],
     start: u64,
 ) -> bool {
-    let (number, offset) = (relocation.number, relocation.offset);
-    if let Machine::X86_64 = machine {
-        return is_changed_ahead(section, image, start, offset);
+    if let Machine::X86_64 = layout.machine {
+        return is_changed_ahead(layout, section, index, image, start);
     }
+    let Some(relocation) = section.relocations.as_slice().get(index) else {
+        return false;
+    };
+    let (number, offset) = (relocation.number, relocation.offset);
     let old = word_at(section.bytes.as_slice(), offset);
     let new = word_at(image, start.saturating_add(offset));
     match row_of(Machine::AArch64, number) {
@@ -75,16 +100,19 @@ fn is_rewritten(
 fn done_word(
     layout: &Layout,
     section: &InputSection,
-    relocation: &InputRelocation,
+    index: usize,
     image: &[u8],
     start: u64,
 ) -> &'static str {
     if section.slot.is_debug() {
         return "a value as the output is linked";
     }
-    if is_rewritten(layout.machine, section, relocation, image, start) {
+    if is_rewritten(layout, section, index, image, start) {
         return "its instruction was rewritten";
     }
+    let Some(relocation) = section.relocations.as_slice().get(index) else {
+        return "";
+    };
     match treatment_of(layout, section.flags, relocation) {
         Treatment::Nothing => "nothing is written",
         Treatment::Value(_) => "a value in its field",
@@ -114,7 +142,7 @@ fn push_section_fields(
     for (i, relocation) in section.relocations.as_slice().iter().enumerate() {
         let offset = relocation.offset;
         let width = field_bytes(layout.machine, relocation.number) as u64;
-        let word = done_word(layout, section, relocation, image, start);
+        let word = done_word(layout, section, i, image, start);
         push_item(out, Item::Input(at))?;
         write!(out, "/relocations/{i}: ")?;
         push_relocation(out, layout, section, i)?;

@@ -1,8 +1,10 @@
 //! Tests of the order of sections, of merged strings, of the linker's name of itself and of properties.
 
-use crate::items::{SectionPlace, section_at};
+use crate::hints::{LIKELY, push_expected};
+use crate::items::{Item, SectionPlace, section_at};
 use crate::tests::{MergedTest, PlanTest, SortedTest};
 use crate::verdict::{Verdict, due, plain};
+use std::alloc::AllocError;
 use wild_types::{InputSection, Layout, Merged, Role, Slot, SortedSection, has_role};
 
 /// Whether an entry of the order fails a test.
@@ -62,6 +64,24 @@ fn others_stand(layout: &Layout, part: usize, from: usize) -> bool {
         }
     }
     false
+}
+
+/// Adds the part whose room merged strings fill, if they name that part and do not fill it.
+pub(crate) fn push_front(out: &mut String, layout: &Layout, part: usize) -> Result<(), AllocError> {
+    for (i, merged) in layout.merged.as_slice().iter().enumerate() {
+        let size = size_of(merged);
+        if merged.part != part || size == room(layout, part) {
+            continue;
+        }
+        for j in 0..layout.parts.len() {
+            if size == room(layout, j) {
+                let numbers = (part as u64, j as u64);
+                let why = "the first group has as many bytes there as the strings have";
+                return push_expected(out, LIKELY, Item::Merged(i), "/part", numbers, why);
+            }
+        }
+    }
+    Ok(())
 }
 
 /// Whether the front of a part is that of merged strings or of the linker's name of itself.

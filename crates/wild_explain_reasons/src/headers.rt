@@ -51,7 +51,7 @@ fn end_before(layout: &Layout, index: usize) -> u64 {
 }
 
 /// Whether a part lies in its section.
-fn lies_in(layout: &Layout, section: &Section, part: &Part) -> bool {
+pub(crate) fn lies_in(layout: &Layout, section: &Section, part: &Part) -> bool {
     if !layout.fills_file(section) {
         return lies_within(section.address, section.size, part.address, part.size);
     }
@@ -144,7 +144,7 @@ pub(crate) fn test_part(layout: &Layout, index: usize, part: &Part, test: &PartT
 }
 
 /// The first address of a section that no loaded segment has, in its memory or in its file bytes.
-fn reached(layout: &Layout, section: &Section, in_file: bool) -> u64 {
+pub(crate) fn reached(layout: &Layout, section: &Section, in_file: bool) -> u64 {
     let mut reached = section.address;
     for segment in layout.segments.as_slice() {
         let size = if in_file {

@@ -2,13 +2,20 @@
 #![tactic(auto)]
 
 mod advice;
+mod all;
 mod clauses;
+mod contents;
+mod demands;
 mod faults;
 mod fields;
+mod frames;
 mod fronts;
 mod headers;
+mod hints;
+mod homes;
 mod items;
 mod layout_rows;
+mod likely;
 mod linking;
 mod lists;
 mod members;
@@ -18,6 +25,8 @@ mod owner;
 mod partial;
 mod plan;
 mod reason;
+mod segments;
+mod shares;
 mod stores;
 mod symbols;
 mod table_rows;
@@ -26,6 +35,7 @@ mod thunks;
 mod verdict;
 
 pub use advice::push_advice;
+pub use all::push_all;
 pub use faults::push_relocation;
 pub use fields::push_fields;
 pub use items::{Item, SectionPlace, push_item};

@@ -211,7 +211,7 @@ fn astray(
     let (from, to) = range;
     let end = input.address.saturating_add(input.size);
     let verdict = match test {
-        InputTest::ShareEnd => due(to < end, to),
+        InputTest::ShareEnd => due(to < end, to.saturating_sub(input.size)),
         _ => due(input.address < from, from),
     };
     let item = Item::Input(at);

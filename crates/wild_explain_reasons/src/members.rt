@@ -60,6 +60,58 @@ const MEMBERS: [(&str, &str); 26] = [
     ("/entry", "address, symbol"),
 ];
 
+/// The values of members that are words, flags or hex digits, by the shapes of their paths.
+const VALUES: [(&str, &str); 24] = [
+    ("/machine", "x86_64, aarch64"),
+    (
+        "/kind",
+        "static, static_pie, dynamic, dynamic_pie, shared, partial",
+    ),
+    (
+        "/parts/*/role",
+        "raw, file_header, program_headers, section_headers, shstrtab, got, got_relr, plt_got, rela_plt, rela_dyn_relative, rela_dyn_general, relr_dyn, dynsym, dynstr, gnu_version, gnu_version_d, gnu_version_r, sysv_hash, gnu_hash, eh_frame, eh_frame_hdr, dynamic, symtab_local, symtab_global, symtab_shndx_local, symtab_shndx_global, strtab, interp, build_id, property",
+    ),
+    (
+        "/symbols/*/flags/*",
+        "ABSOLUTE, DYNAMIC, IFUNC, NON_INTERPOSABLE, UNDEFINED_WEAK, GOT, PLT, GOT_TLS_OFFSET, GOT_TLS_MODULE, GOT_TLS_DESCRIPTOR, COPY_RELOCATION, EXPORT_DYNAMIC, DOWNGRADE_TO_LOCAL, CANONICAL_PLT, IFUNC_GOT_FOR_ADDRESS, CANONICAL_PLT_GOT_FOR_ADDRESS",
+    ),
+    (
+        "/symbols/*/place",
+        "undefined, absolute, common, {\"section\":K}, {\"output\":K}",
+    ),
+    (
+        "/groups/*/files/*/role",
+        "object, prelude, dynamic, script, synthetic, epilogue, not_loaded",
+    ),
+    (
+        "/groups/*/files/*/sections/*/slot",
+        "discard, loaded, sorted, debug, frame, merge, rela, group",
+    ),
+    ("/sections/*/name", HEX),
+    ("/symbols/*/name", HEX),
+    ("/groups/*/files/*/lib_name", HEX),
+    ("/groups/*/files/*/sections/*/name", HEX),
+    ("/groups/*/files/*/sections/*/bytes", HEX),
+    ("/dynsyms/*/name", HEX),
+    ("/merged/*/strings/*", HEX),
+    ("/identity/bytes", HEX),
+    ("/interp", HEX),
+    ("/options/rpath", HEX),
+    ("/options/soname", HEX),
+    ("/options/auxiliary/*", HEX),
+    ("/verdefs/*/name", HEX),
+    ("/groups/*/files/*/verneed/versions/*/name", HEX),
+    ("/sections/*/fill", HEX),
+    ("/build_id", HEX),
+    ("/entry", "null, {\"address\":N}, {\"symbol\":K}"),
+];
+
+/// What a member of hex digits has.
+const HEX: &str = "hex digits, two a byte (2e74657874 for .text)";
+
+/// The members that are flags, apart from options.
+const FLAGS: &str = "emit, malformed, nobits, reversed, owns_thunk_block, section_symbol, last";
+
 /// Whether a path is of that shape.
 fn is_shaped(path: &str, shape: &str) -> bool {
     let mut steps = path.split("/");
@@ -75,35 +127,51 @@ fn is_shaped(path: &str, shape: &str) -> bool {
     steps.next().is_none()
 }
 
-/// Adds why a text is no plan, from the path of its first wrong member: what is wrong, the path, and for an unknown member the known ones.
-pub fn push_no_plan(out: &mut String, path: &str) -> Result<(), AllocError> {
+/// What the table has for the first shape of a path.
+fn row_for(rows: &[(&'static str, &'static str)], path: &str) -> Option<&'static str> {
+    for (shape, text) in rows {
+        if is_shaped(path, *shape) {
+            return Some(*text);
+        }
+    }
+    None
+}
+
+/// Whether a list of names that are apart by `, ` has a name.
+fn has_name(names: &str, name: &str) -> bool {
+    for known in names.split(", ") {
+        if known == name {
+            return true;
+        }
+    }
+    false
+}
+
+/// Adds why a text is no plan, from the path of its first wrong member and what is found there: what is wrong, the path, and the members or
+/// values that are expected.
+pub fn push_no_plan(out: &mut String, path: &str, found: &str) -> Result<(), AllocError> {
     let (outer, name) = match path.rsplit_once("/") {
         Some(steps) => steps,
         None => ("?", path),
     };
-    let mut found = None;
-    for (shape, members) in &MEMBERS {
-        if found.is_none() && is_shaped(outer, *shape) {
-            found = Some(*members);
+    let what = match row_for(&MEMBERS, outer) {
+        Some(members) if !has_name(members, name) => {
+            writeln!(
+                out,
+                "what: the member is unknown\nwhere: {path}\nknown: {members}"
+            )?;
+            return Ok(());
         }
-    }
-    let mut is_known = false;
-    for known in found.unwrap_or("").split(", ") {
-        is_known = is_known || known == name;
-    }
-    match found {
-        Some(members) if !is_known => writeln!(
-            out,
-            "what: the member is unknown\nwhere: {path}\nknown: {members}"
-        )?,
-        Some(_) => writeln!(
-            out,
-            "what: the member has another value than docs/PLAN.md says, or does not go with another one\nwhere: {path}"
-        )?,
-        None => writeln!(
-            out,
-            "what: the member is unknown, or its value has another type than docs/PLAN.md says\nwhere: {path}"
-        )?,
-    }
+        Some(_) =>
+            "the member has another value than docs/PLAN.md says, or does not go with another one",
+        None => "the member is unknown, or its value has another type than docs/PLAN.md says",
+    };
+    writeln!(out, "what: {what}\nwhere: {path}")?;
+    let expected = match row_for(&VALUES, path) {
+        Some(values) => values,
+        None if outer == "/options" || has_name(FLAGS, name) => "true, false",
+        None => "a whole number in the range of the member, a list or an object (docs/PLAN.md)",
+    };
+    writeln!(out, "found: {found}; expected {expected}")?;
     Ok(())
 }

@@ -113,6 +113,11 @@ pub fn push_owner(out: &mut String, layout: &Layout, offset: u64) -> Result<(), 
             return Ok(());
         }
     }
-    writeln!(out, "padding: in no part and no section")?;
+    let size = layout.image_end();
+    if size <= u128::from(offset) {
+        writeln!(out, "no byte: the image has {size} bytes")?;
+    } else {
+        writeln!(out, "padding: in no part and no section")?;
+    }
     Ok(())
 }

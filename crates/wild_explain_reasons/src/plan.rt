@@ -151,6 +151,12 @@ pub(crate) fn push_plan(
             let (part, size) = (layout.identity.part, layout.identity.bytes.len());
             write!(out, "part {part}, {size} bytes")?;
         }
+        PlanTest::Entry => {
+            if let Some(Entry::Symbol(symbol)) = layout.entry {
+                let (symbol, symbols) = (symbol.0, layout.symbols.len());
+                write!(out, "symbol {symbol} of {symbols} symbols")?;
+            }
+        }
         PlanTest::Interpreter => {
             let length = layout.interp.len();
             write!(out, "{length} bytes")?;

@@ -2,9 +2,11 @@
 
 use crate::clauses::push_clause;
 use crate::faults::push_fault;
+use crate::hints::LIKELY;
 use crate::items::Item;
 use crate::linking::{push_library, push_path};
 use crate::names::part_word;
+use crate::shares::push_share_causes;
 use std::alloc::{AllocError, Global};
 use std::fmt::Write;
 use wild_types::{Error, Fault, Layout};
@@ -40,7 +42,7 @@ fn push_share(
 /// Adds why a layout was refused: what is wrong, its path, what the plan has there, and the remedy.
 pub fn push_reason(
     out: &mut String,
-    _alloc: Global,
+    alloc: Global,
     layout: &Layout,
     error: Error,
 ) -> Result<(), AllocError> {
@@ -61,14 +63,15 @@ pub fn push_reason(
             needed,
         } => {
             push_share(out, layout, part, group, given, needed)?;
+            push_share_causes(out, alloc, layout, part)?;
         }
         fault => return push_fault(out, layout, fault, error.at),
     }
     // Members that are likely missing: the path of the dynamic linker, and names of libraries.
-    push_path(out, layout, "likely")?;
+    push_path(out, layout, LIKELY)?;
     for (i, group) in layout.groups.as_slice().iter().enumerate() {
         for (j, file) in group.files.as_slice().iter().enumerate() {
-            push_library(out, layout, "likely", Item::File(i, j), file)?;
+            push_library(out, layout, LIKELY, Item::File(i, j), file)?;
         }
     }
     Ok(())

@@ -11,13 +11,13 @@ use wild_types::{File, InputSection, Layout, Role, SectionIndex, Segment, Slot, 
 /// The loaded segments in their order, and what keeps a loader from storing in the parts `got` and `got_relr`.
 #[derive(Drop)]
 pub(crate) struct Barriers {
-    loaded: Vec<(usize, Segment)>,
+    pub(crate) loaded: Vec<(usize, Segment)>,
     got: Option<Item>,
     block: Option<Item>,
 }
 
 /// The last segment that begins at an address or before it. Segments ascend, so this is a binary search.
-fn segment_at(loaded: &[(usize, Segment)], address: u64) -> Option<(usize, Segment)> {
+pub(crate) fn segment_at(loaded: &[(usize, Segment)], address: u64) -> Option<(usize, Segment)> {
     let mut found = None;
     let (mut low, mut high) = (0usize, loaded.len());
     for _ in 0..64 {

@@ -126,16 +126,8 @@ fn test_flags(layout: &Layout, symbol: &Symbol, test: &SymbolTest) -> bool {
     let stub = plt_of(symbol);
     let thread = has_thread_slot(flags);
     let got = got_of(symbol).is_some();
-    let value = match symbol.resolution {
-        Some(found) => found.raw_value,
-        None => 0,
-    };
     match test {
         SymbolTest::DynamicOwn => flags.is_dynamic() && !flags.is_interposable(),
-        SymbolTest::StubValue => {
-            let is_asked = flags.is_dynamic() && !flags.needs_copy_relocation();
-            is_asked && stub.is_some() && stub != Some(value)
-        }
         SymbolTest::StubWithoutGot => stub.is_some() && !got,
         SymbolTest::TwoSeconds => {
             flags.needs_ifunc_got_for_address() && flags.needs_canonical_plt_got_for_address()
@@ -186,6 +178,13 @@ pub(crate) fn test_symbol(
         SymbolTest::Position => match (dynsym_of(symbol), position_of(layout, index)) {
             (Some(found), Some(position)) => due(found != position as u64, position as u64),
             (found, _) => plain(found.is_some()),
+        },
+        SymbolTest::StubValue => match (symbol.resolution, plt_of(symbol)) {
+            (Some(found), Some(stub)) => {
+                let is_asked = symbol.flags.is_dynamic() && !symbol.flags.needs_copy_relocation();
+                due(is_asked && found.raw_value != stub, stub)
+            }
+            _ => plain(false),
         },
         SymbolTest::PartialSlot => {
             let is_slotted = got_of(symbol).is_some() || plt_of(symbol).is_some();

@@ -6,14 +6,27 @@ mod answers;
 mod row;
 
 use crate::row::row_holds;
+use std::alloc::{AllocError, Global};
 use std::io;
+
+/// A row in which `plan base` is the plan of the last block `base`.
+fn row_of(alloc: Global, row: &str, base: &str) -> Result<String, AllocError> {
+    let line = format!(in alloc; "text {base}\n")?;
+    row.replace(alloc, "plan base\n", line.as_str())
+}
 
 fn main(rt: HostRuntime) -> io::Result<()> {
     let alloc = rt.alloc();
     let text = io::read_to_string(alloc, rt.reader())?;
     let mut count = 0u64;
-    for row in text.as_str().split("\n\n") {
-        if !row_holds(&rt, alloc, row)? {
+    let mut base = "";
+    for block in text.as_str().split("\n\n") {
+        if let Some(plan) = block.strip_prefix("base ") {
+            base = plan;
+            continue;
+        }
+        let row = row_of(alloc, block, base)?;
+        if !row_holds(&rt, alloc, row.as_str())? {
             println!(rt; "differs:\n{row}")?;
         }
         count = count.saturating_add(1);

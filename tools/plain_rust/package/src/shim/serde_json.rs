@@ -27,41 +27,98 @@ pub enum Number {
     Float,
 }
 
+/// Why a text is no value.
 #[derive(Clone, Copy, Debug, PartialEq, Eq)]
-pub enum Error {
+enum Fault {
     OutOfMemory,
     /// The text is no JSON.
     Syntax,
 }
 
+/// A fault, and where the reader was, counted from 1.
+#[derive(Clone, Copy, Debug, PartialEq, Eq)]
+pub struct Error {
+    fault: Fault,
+    line: usize,
+    column: usize,
+}
+
 impl Error {
     pub fn is_memory(&self) -> bool {
-        *self == Error::OutOfMemory
+        self.fault == Fault::OutOfMemory
+    }
+
+    pub fn line(&self) -> usize {
+        self.line
+    }
+
+    pub fn column(&self) -> usize {
+        self.column
+    }
+
+    /// A fault at an offset of a text: the byte there, or the last byte of a text that ends too early.
+    fn at(fault: Fault, text: &[u8], at: usize) -> Error {
+        let bytes = &text[..at];
+        let line = 1 + bytes.iter().filter(|byte| **byte == b'\n').count();
+        let column = bytes.iter().rev().take_while(|byte| **byte != b'\n').count();
+        Error { fault, line, column: column + usize::from(at < text.len()) }
     }
 }
 
-impl From<AllocError> for Error {
-    fn from(_: AllocError) -> Error {
-        Error::OutOfMemory
+impl From<AllocError> for Fault {
+    fn from(_: AllocError) -> Fault {
+        Fault::OutOfMemory
     }
 }
 
-impl<T> From<AllocFailed<T>> for Error {
-    fn from(_: AllocFailed<T>) -> Error {
-        Error::OutOfMemory
+impl<T> From<AllocFailed<T>> for Fault {
+    fn from(_: AllocFailed<T>) -> Fault {
+        Fault::OutOfMemory
     }
 }
 
 impl Value {
     pub fn from_slice(alloc: Global, bytes: &[u8]) -> Result<Value, Error> {
-        Value::from_str(alloc, str::from_utf8(bytes).map_err(|_| Error::Syntax)?)
+        match str::from_utf8(bytes) {
+            Ok(text) => Value::from_str(alloc, text),
+            Err(e) => Err(Error::at(Fault::Syntax, bytes, e.valid_up_to())),
+        }
     }
 
     pub fn from_str(alloc: Global, text: &str) -> Result<Value, Error> {
         let mut reader = Reader { alloc, text, at: 0 };
-        let value = reader.value(127)?;
+        let value = reader.value(127).map_err(|fault| reader.error(fault))?;
         reader.skip_space();
-        if reader.at == text.len() { Ok(value) } else { Err(Error::Syntax) }
+        if reader.at == text.len() { Ok(value) } else { Err(reader.error(Fault::Syntax)) }
+    }
+
+    /// The value at a path of names and places, each after a `/`.
+    pub fn pointer(&self, path: &str) -> Option<&Value> {
+        let mut found = self;
+        for step in path.split('/').skip(1) {
+            found = match found {
+                Value::Object(members) => members.get(step)?,
+                Value::Array(items) => items.as_slice().get(step.parse::<usize>().ok()?)?,
+                _ => return None,
+            };
+        }
+        Some(found)
+    }
+
+    /// The text of a value that is no list and no object. A number with a fraction is not kept.
+    pub fn try_to_string(&self, alloc: Global) -> Result<String, AllocError> {
+        match self {
+            Value::Bool(flag) => String::from_str(alloc, if *flag { "true" } else { "false" }),
+            Value::Number(Number::Unsigned(n)) => String::from_str(alloc, &std::format!("{n}")),
+            Value::Number(Number::Negative(n)) => String::from_str(alloc, &std::format!("{n}")),
+            Value::Number(Number::Float) => String::from_str(alloc, "a number with a fraction"),
+            Value::String(text) => String::from_str(alloc, &std::format!("{:?}", text.as_str())),
+            _ => String::from_str(alloc, "null"),
+        }
+    }
+
+    pub fn is_array(&self) -> bool {
+        matches!(self, Value::Array(_))
     }
 
     pub fn get(&self, name: &str) -> Option<&Value> {
@@ -127,6 +184,10 @@ struct Reader<'a> {
 }
 
 impl Reader<'_> {
+    fn error(&self, fault: Fault) -> Error {
+        Error::at(fault, self.text.as_bytes(), self.at)
+    }
+
     fn peek(&self) -> Option<u8> {
         self.text.as_bytes().get(self.at).copied()
     }
@@ -144,29 +205,35 @@ impl Reader<'_> {
         is_next
     }
 
-    fn expect(&mut self, part: &str) -> Result<(), Error> {
+    fn expect(&mut self, part: &str) -> Result<(), Fault> {
         if !self.text.as_bytes()[self.at..].starts_with(part.as_bytes()) {
-            return Err(Error::Syntax);
+            return Err(Fault::Syntax);
         }
         self.at += part.len();
         Ok(())
     }
 
     /// A value with at most `depth` levels of arrays and objects.
-    fn value(&mut self, depth: usize) -> Result<Value, Error> {
+    fn value(&mut self, depth: usize) -> Result<Value, Fault> {
         self.skip_space();
-        match self.peek().ok_or(Error::Syntax)? {
+        match self.peek().ok_or(Fault::Syntax)? {
             b'n' => self.expect("null").map(|()| Value::Null),
             b't' => self.expect("true").map(|()| Value::Bool(true)),
             b'f' => self.expect("false").map(|()| Value::Bool(false)),
-            b'"' => Ok(Value::String(self.string()?)),
+            b'"' => Ok(Value::String(self.whole(Reader::string)?)),
             b'[' if depth > 0 => Ok(Value::Array(self.items(depth - 1)?)),
             b'{' if depth > 0 => Ok(Value::Object(self.members(depth - 1)?)),
-            _ => Ok(Value::Number(self.number()?)),
+            _ => Ok(Value::Number(self.whole(Reader::number)?)),
         }
     }
 
-    fn items(&mut self, depth: usize) -> Result<Vec<Value>, Error> {
+    /// A token; at a fault in it the reader is at its start.
+    fn whole<T>(&mut self, token: fn(&mut Self) -> Result<T, Fault>) -> Result<T, Fault> {
+        let start = self.at;
+        token(self).inspect_err(|_| self.at = start)
+    }
+
+    fn items(&mut self, depth: usize) -> Result<Vec<Value>, Fault> {
         let mut items = Vec::new(self.alloc);
         self.expect("[")?;
         self.skip_space();
@@ -183,7 +250,7 @@ impl Reader<'_> {
         }
     }
 
-    fn members(&mut self, depth: usize) -> Result<Map<String, Value>, Error> {
+    fn members(&mut self, depth: usize) -> Result<Map<String, Value>, Fault> {
         let mut members = Map::new();
         self.expect("{")?;
         self.skip_space();
@@ -192,7 +259,7 @@ impl Reader<'_> {
         }
         loop {
             self.skip_space();
-            let name = self.string()?;
+            let name = self.whole(Reader::string)?;
             self.skip_space();
             self.expect(":")?;
             members.insert(name, self.value(depth)?);
@@ -204,7 +271,7 @@ impl Reader<'_> {
         }
     }
 
-    fn string(&mut self) -> Result<String, Error> {
+    fn string(&mut self) -> Result<String, Fault> {
         self.expect("\"")?;
         let mut text = String::new(self.alloc);
         loop {
@@ -223,8 +290,8 @@ impl Reader<'_> {
     }
 
     /// The character of an escape, from the byte after the backslash on.
-    fn escaped(&mut self) -> Result<char, Error> {
-        let byte = self.peek().ok_or(Error::Syntax)?;
+    fn escaped(&mut self) -> Result<char, Fault> {
+        let byte = self.peek().ok_or(Fault::Syntax)?;
         self.at += 1;
         match byte {
             b'"' | b'\\' | b'/' => Ok(char::from(byte)),
@@ -236,24 +303,24 @@ impl Reader<'_> {
             b'u' => {
                 let first = self.four_digits()?;
                 if !(0xd800..0xdc00).contains(&first) {
-                    return char::from_u32(first).ok_or(Error::Syntax);
+                    return char::from_u32(first).ok_or(Fault::Syntax);
                 }
                 self.expect("\\u")?;
                 let second = self.four_digits()?;
                 if !(0xdc00..0xe000).contains(&second) {
-                    return Err(Error::Syntax);
+                    return Err(Fault::Syntax);
                 }
                 let code = 0x10000 + ((first - 0xd800) << 10) + (second - 0xdc00);
-                char::from_u32(code).ok_or(Error::Syntax)
+                char::from_u32(code).ok_or(Fault::Syntax)
             }
-            _ => Err(Error::Syntax),
+            _ => Err(Fault::Syntax),
         }
     }
 
-    fn four_digits(&mut self) -> Result<u32, Error> {
+    fn four_digits(&mut self) -> Result<u32, Fault> {
         let mut code = 0;
         for _ in 0..4 {
-            let digit = self.peek().and_then(|byte| char::from(byte).to_digit(16)).ok_or(Error::Syntax)?;
+            let digit = self.peek().and_then(|byte| char::from(byte).to_digit(16)).ok_or(Fault::Syntax)?;
             code = 16 * code + digit;
             self.at += 1;
         }
@@ -261,15 +328,15 @@ impl Reader<'_> {
     }
 
     /// Skips decimal digits, at least one.
-    fn digits(&mut self) -> Result<(), Error> {
+    fn digits(&mut self) -> Result<(), Fault> {
         let start = self.at;
         while self.peek().is_some_and(|byte| byte.is_ascii_digit()) {
             self.at += 1;
         }
-        if self.at == start { Err(Error::Syntax) } else { Ok(()) }
+        if self.at == start { Err(Fault::Syntax) } else { Ok(()) }
     }
 
-    fn number(&mut self) -> Result<Number, Error> {
+    fn number(&mut self) -> Result<Number, Fault> {
         let start = self.at;
         let is_negative = self.takes(b'-');
         if !self.takes(b'0') {
@@ -296,7 +363,7 @@ impl Reader<'_> {
         }
         match text.parse::<f64>() {
             Ok(n) if n.is_finite() => Ok(Number::Float),
-            _ => Err(Error::Syntax),
+            _ => Err(Fault::Syntax),
         }
     }
 }

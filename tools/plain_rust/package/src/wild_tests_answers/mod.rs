@@ -9,7 +9,13 @@ use crate::shim::thread::Process;
 #[test]
 fn rows() {
     let rows = include_str!("../../tests/rows.txt");
-    for row in rows.split("\n\n") {
-        assert_eq!(row::row_holds(&Process, Global, row), Ok(true), "{row}");
+    let mut base = "";
+    for block in rows.split("\n\n") {
+        if let Some(plan) = block.strip_prefix("base ") {
+            base = plan;
+            continue;
+        }
+        let row = block.replace("plan base\n", &format!("text {base}\n"));
+        assert_eq!(row::row_holds(&Process, Global, &row), Ok(true), "{row}");
     }
 }
