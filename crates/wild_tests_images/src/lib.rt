@@ -8,4 +8,6 @@ mod loaded_images;
 #[cfg(test)]
 mod pieces;
 #[cfg(test)]
+mod placed_layouts;
+#[cfg(test)]
 mod plans;

@@ -185,7 +185,7 @@ fn answers(alloc: Global) -> Result<Vec<Answer>, Fail> {
 }
 
 /// A world with symbol 1 at 0x7000, module 1's data 16 bytes before the thread pointer, and these answers of resolvers.
-fn world(alloc: Global, base: u64, resolvers: &[(u64, u64)]) -> Result<World, Fail> {
+pub(crate) fn world(alloc: Global, base: u64, resolvers: &[(u64, u64)]) -> Result<World, Fail> {
     let resolvers = Vec::from_slice(alloc, resolvers)?;
     let modules = Vec::from_slice(alloc, &[(1, -16)])?;
     Ok(World {

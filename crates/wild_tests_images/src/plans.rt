@@ -34,6 +34,18 @@ fn changed_text(alloc: Global, text: &str, changes: &[(&str, &str)]) -> Result<S
     Ok(whole)
 }
 
+/// The layout of a plan with changes.
+pub(crate) fn changed_layout(
+    alloc: Global,
+    plan: &str,
+    changes: &[(&str, &str)],
+) -> Result<Layout, Fail>
+    ensures { IfOk result (λ l. l.machine ≡ machine.X86_64) }
+{
+    let plan = changed_text(alloc, plan, changes)?;
+    layout_of(alloc, plan.as_str())
+}
+
 /// The image of a plan with changes.
 pub(crate) fn image_of(
     rt: &(impl Threads + Sync),
@@ -41,8 +53,7 @@ pub(crate) fn image_of(
     plan: &str,
     changes: &[(&str, &str)],
 ) -> Result<Vec<u8>, Fail> {
-    let plan = changed_text(alloc, plan, changes)?;
-    let layout = layout_of(alloc, plan.as_str())?;
+    let layout = changed_layout(alloc, plan, changes)?;
     let image = write::<ElfX86_64>(rt, alloc, &layout, 1)?;
     Ok(image.out.as_slice().to_vec(alloc)?)
 }

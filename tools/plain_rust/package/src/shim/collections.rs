@@ -3,6 +3,7 @@
 use super::alloc::{AllocFailed, Global};
 pub use std::collections::{LinkedList, btree_map};
 use std::hash::Hash;
+use std::ops::RangeBounds;
 
 /// `std`'s map; a call that allocates returns an error if there is no memory.
 pub struct HashMap<K, V>(std::collections::HashMap<K, V>);
@@ -21,6 +22,31 @@ impl<K: Eq + Hash, V> HashMap<K, V> {
 
     pub fn get(&self, key: K) -> Option<&V> {
         self.0.get(&key)
+    }
+}
+
+/// `std`'s map in the order of its keys. Its growth cannot be asked for first: if there is no memory, the process ends.
+pub struct BTreeMap<K, V>(std::collections::BTreeMap<K, V>);
+
+impl<K: Ord, V> BTreeMap<K, V> {
+    pub fn new(_: Global) -> BTreeMap<K, V> {
+        BTreeMap(std::collections::BTreeMap::new())
+    }
+
+    pub fn insert(&mut self, key: K, value: V) -> Result<Option<V>, AllocFailed<(K, V)>> {
+        Ok(self.0.insert(key, value))
+    }
+
+    pub fn remove(&mut self, key: &K) -> Option<V> {
+        self.0.remove(key)
+    }
+
+    pub fn get(&self, key: &K) -> Option<&V> {
+        self.0.get(key)
+    }
+
+    pub fn range(&self, range: impl RangeBounds<K>) -> btree_map::Range<'_, K, V> {
+        self.0.range(range)
     }
 }
 

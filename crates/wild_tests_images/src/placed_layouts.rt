@@ -1,0 +1,119 @@
+//! Layouts placed in memory: numbers, faults and bytes.
+use crate::loaded_images::world;
+use crate::plans::{changed_layout, image_of};
+use std::alloc::Global;
+use std::test::*;
+use std::thread::Threads;
+use wild_image::ElfX86_64;
+use wild_loader::{LoadFault, Memory, load_image};
+use wild_placer::{PlaceFault, Placed, place_code};
+use wild_tests_plans::{PACKED, RELOCATABLE, SLOTTED, WIDE};
+use wild_types::{Fault, Layout};
+
+/// Whether two memories have the same runs.
+fn has_same_runs(left: &Memory, right: &Memory) -> bool {
+    let (left, right) = (left.runs.as_slice(), right.runs.as_slice());
+    if left.len() != right.len() {
+        return false;
+    }
+    for i in 0..left.len() {
+        if left[i].start != right[i].start || left[i].bytes.as_slice() != right[i].bytes.as_slice() {
+            return false;
+        }
+    }
+    true
+}
+
+/// Plans with bases.
+const PLACES: [(&'static str, u64); 4] = [
+    (WIDE, 0),
+    (WIDE, 0x10_0000),
+    (PACKED, 0),
+    (PACKED, 0x10000),
+];
+
+/// The memory of a layout is that of its image.
+#[test]
+fn memory_of_a_layout(rt: HostRuntime) -> Result<(), Fail> {
+    let alloc = rt.alloc();
+    for (plan, base) in &PLACES {
+        let layout = changed_layout(alloc, *plan, &[])?;
+        let image = image_of(&rt, alloc, *plan, &[])?;
+        let world = world(alloc, *base, &[])?;
+        let loaded = load_image(alloc, image.as_slice(), &world).ok().ok_or("loaded")?;
+        let placed = place_code::<ElfX86_64>(&rt, alloc, &layout, &world, 1);
+        assert!(rt; has_same_runs(&placed.ok().ok_or("placed")?, &loaded), "{base}");
+    }
+    Ok(())
+}
+
+/// The fault of a layout in a world.
+fn fault_of(
+    rt: &(impl Threads + Sync),
+    alloc: Global,
+    layout: &Layout,
+    base: u64,
+) -> Result<Option<PlaceFault>, Fail> {
+    let world = world(alloc, base, &[])?;
+    Ok(place_code::<ElfX86_64>(rt, alloc, layout, &world, 1).err())
+}
+
+/// A fault of the layout comes before one of the loader.
+#[test]
+fn faults_in_order(rt: HostRuntime) -> Result<(), Fail> {
+    let alloc = rt.alloc();
+    let changes = &[(r#""number":2,"#, r#""number":200,"#)];
+    let refused = changed_layout(alloc, WIDE, changes)?;
+    let fault = fault_of(&rt, alloc, &refused, u64::MAX)?;
+    assert!(rt; matches!(
+        fault,
+        Some(PlaceFault::Write(error)) if matches!(error.fault, Fault::UnsupportedRelocation { .. })
+    ));
+    let fault = fault_of(&rt, alloc, &changed_layout(alloc, WIDE, &[])?, u64::MAX)?;
+    assert!(rt; matches!(fault, Some(PlaceFault::Load(LoadFault::Wraps { address: 0x40_0000 }))));
+    let fault = fault_of(&rt, alloc, &changed_layout(alloc, RELOCATABLE, &[])?, 0)?;
+    assert!(rt; matches!(fault, Some(PlaceFault::Load(LoadFault::NotElf))));
+    let fault = fault_of(&rt, alloc, &changed_layout(alloc, SLOTTED, &[])?, 0)?;
+    assert!(rt; matches!(fault, Some(PlaceFault::Load(LoadFault::NoAnswer { .. }))));
+    Ok(())
+}
+
+/// Two layouts at one address: the second is refused until the first is removed, and has the next number then.
+#[test]
+fn two_placements(rt: HostRuntime) -> Result<(), Fail> {
+    let alloc = rt.alloc();
+    let layout = changed_layout(alloc, WIDE, &[])?;
+    let world = world(alloc, 0, &[])?;
+    let mut placed = Placed::new(alloc);
+    assert!(rt; placed.byte(0x40_0080).is_none());
+    let first = placed.place::<ElfX86_64>(&rt, alloc, &layout, &world, 1);
+    assert!(rt; matches!(first, Ok(0)));
+    assert!(rt; placed.byte(0x40_0080) == Some(0xe8));
+    let second = placed.place::<ElfX86_64>(&rt, alloc, &layout, &world, 1);
+    assert!(rt; matches!(second, Err(PlaceFault::Taken { address: 0x40_0000 })));
+    assert!(rt; placed.remove(0).is_ok());
+    assert!(rt; placed.byte(0x40_0080).is_none());
+    assert!(rt; matches!(placed.remove(0), Err(PlaceFault::NoSuch { number: 0 })));
+    let third = placed.place::<ElfX86_64>(&rt, alloc, &layout, &world, 1);
+    assert!(rt; matches!(third, Ok(1)));
+    Ok(())
+}
+
+/// Placements at different bases, of which one is removed.
+#[test]
+fn placements_side_by_side(rt: HostRuntime) -> Result<(), Fail> {
+    let alloc = rt.alloc();
+    let layout = changed_layout(alloc, WIDE, &[])?;
+    let mut placed = Placed::new(alloc);
+    for number in 0..8u32 {
+        let world = world(alloc, u64::from(number) * 0x1000, &[])?;
+        let answer = placed.place::<ElfX86_64>(&rt, alloc, &layout, &world, 1);
+        assert!(rt; matches!(answer, Ok(found) if found == number), "{number}");
+    }
+    assert!(rt; placed.remove(3).is_ok());
+    for number in 0..8u64 {
+        let found = placed.byte(number * 0x1000 + 0x40_0080);
+        assert!(rt; found == if number == 3 { None } else { Some(0xe8) }, "{number}");
+    }
+    Ok(())
+}
