@@ -1,7 +1,8 @@
 -- The answer to a change.
 --   answer l c      Ok if the layout after the change has no faults; else why it is refused
 --   Relinks r l c   r is that answer, or out of memory
-use Rattle.std.specs.Prelude.{◌≡◌, ◌==◌, ◌⊎◌, if◌then◌else◌, List, [], ◌∷◌, length, Option, None, Some, Result, Ok, Err}
+--   CountsNone r new old   if r is one of the first two answers, the number of steps is as before
+use Rattle.std.specs.Prelude.{◌≡◌, ℕ, ◌==◌, ◌⊎◌, if◌then◌else◌, List, [], ◌∷◌, length, Option, None, Some, Result, Ok, Err}
 use Rattle.wild_types.specs.declared.fault.Error.{Error}
 use Rattle.wild_types.specs.declared.input.InputSection.{InputSection}
 use Rattle.wild_types.specs.declared.layout.Layout.{Layout}
@@ -28,3 +29,11 @@ answer l c = answer_for l c (found_section l c)
 -- that answer, or out of memory
 abbrev pub Relinks : Result (Unit {0}) RelinkFault → Layout → Change → Type 0
 Relinks r l c = (r ≡ answer l c) ⊎ (r ≡ Err refusal.OutOfMemory)
+
+-- no step is counted if the change names no section, or has another length
+abbrev pub CountsNone : Result (Unit {0}) RelinkFault → ℕ → ℕ → Type 0
+CountsNone (Ok done) new old = Unit {0}
+CountsNone (Err refusal.NoSection) new old = new ≡ old
+CountsNone (Err (refusal.Length given needed)) new old = new ≡ old
+CountsNone (Err (refusal.Write e)) new old = Unit {0}
+CountsNone (Err refusal.OutOfMemory) new old = Unit {0}

@@ -1,11 +1,11 @@
 //! Replaces an input section of a linked layout.
-ghost use Rattle.std.specs.Prelude.{◌≡◌, ◌≤◌, ◌+◌, ◌⊎◌, List, Err, OnOk, OnErr};
+ghost use Rattle.std.specs.Prelude.{◌≡◌, ℕ, ◌≤◌, ◌+◌, ◌⊎◌, List, Err, OnOk, OnErr};
 ghost use Rattle.wild_types.specs.declared.fault.Error.{Error};
 ghost use Rattle.wild_types.specs.Faults.{Refuses, Answers};
 ghost use Rattle.wild_layout.specs.Faults.{errors};
 ghost use Rattle.wild_layout.specs.Warnings.{warnings};
 ghost use Rattle.wild_change.specs.Change.{changed_layout};
-ghost use Rattle.wild_relinker.specs.Answer.{unless_errors, Relinks};
+ghost use Rattle.wild_relinker.specs.Answer.{unless_errors, Relinks, CountsNone};
 ghost use Rattle.wild_relinker.specs.declared.fault.RelinkFault.TheVariants.{OutOfMemory};
 ghost use Rattle.wild_relinker.specs.Changed.{KeepsLength};
 ghost use Rattle.wild_relinker.specs.Linked.{IsImage};
@@ -78,7 +78,8 @@ fn change_section<A: ShardedArch, R: Threads + Sync, L: Ledger>(
 
 /// Why a change is refused whose layout has that fault.
 fn refusal(error: Error) -> RelinkFault
-    ensures { (es : List Error) → Refuses error es → (Err result ≡ unless_errors es) ⊎ (result ≡ OutOfMemory) }
+    ensures answered { (es : List Error) → Refuses error es → (Err result ≡ unless_errors es) ⊎ (result ≡ OutOfMemory) }
+    ensures steps { (new old : ℕ) → CountsNone (Err result) new old }
 {
     match error.fault {
         Fault::OutOfMemory => RelinkFault::OutOfMemory,
@@ -103,6 +104,7 @@ fn relink_image<A: ShardedArch, R: Threads + Sync, L: Ledger>(
     ensures kept { OnErr result (image.new.layout ≡ image.old.layout) }
     ensures counted { OnOk result (steps.new ≡ steps.old + 1) }
     ensures most { steps.new ≤ steps.old + 1 }
+    ensures no_step { CountsNone result steps.new steps.old }
 {
     let Some(section) = found_section(&image.layout, &change) else {
         return Err(RelinkFault::NoSection);
@@ -133,6 +135,7 @@ pub fn relink<A: ShardedArch, R: Threads + Sync, L: Ledger>(
     ensures kept { OnErr result (linked.new ≡ linked.old) }
     ensures counted { OnOk result (steps.new ≡ steps.old + 1) }
     ensures most { steps.new ≤ steps.old + 1 }
+    ensures no_step { CountsNone result steps.new steps.old }
 {
     let by = Workers {
         rt,

@@ -198,10 +198,11 @@ fn change_of(alloc: Global, row: &Row) -> Result<Change, Fail> {
     let bytes = vec![in alloc; row.byte; row.length]?;
     let mut relocations = Vec::new(alloc);
     for call in 0..row.calls {
-        relocations.push(relocation(call.saturating_mul(8).saturating_add(1), 2))?;
+        let offset = call.saturating_mul(8).saturating_add(1);
+        relocations.extend_from_slice(&[relocation(offset, 2)])?;
     }
     if let Some((offset, number)) = row.last {
-        relocations.push(relocation(offset, number))?;
+        relocations.extend_from_slice(&[relocation(offset, number)])?;
     }
     Ok(Change {
         group,
