@@ -42,21 +42,21 @@ errors_line l [] = image_line (length (bytes l))
 errors_line l (e ∷ es) = refusal_text e
 
 -- the first line of `link`'s answer
-abbrev pub link_line : Meaning → List ℕ
+abbrev pub link_line : Meaning Layout → List ℕ
 link_line no_json = codes "not a plan: json\n"
 link_line (no_plan path) = no_plan_text path
 link_line (plan l) = errors_line l (errors l)
 
 -- the answer of `link` begins with that line
 abbrev pub LinkLineIsFirst : Type 0
-LinkLineIsFirst = (m : Meaning) → Begins (link_line m) (text (of_plan m))
+LinkLineIsFirst = (m : Meaning Layout) → Begins (link_line m) (text (of_plan m))
 
 -- the status of `link`, and a text that begins with its first line
 abbrev pub IsExplained : Layout → ℕ → List ℕ → Type 0
 IsExplained l code said = (code ≡ layout_status l) × Begins (errors_line l (errors l)) said
 
 -- the status and the text are right for the meaning of a plan's bytes
-abbrev pub IsRightText : Command → Meaning → ℕ → List ℕ → Type 0
+abbrev pub IsRightText : Command → Meaning Layout → ℕ → List ℕ → Type 0
 IsRightText c no_json code said = (code ≡ exit.no_plan) × Begins (link_line no_json) said
 IsRightText c (no_plan path) code said = (code ≡ exit.no_plan) × Begins (link_line (no_plan path)) said
 IsRightText (command.Explain view) (plan l) code said = IsExplained l code said
@@ -70,7 +70,7 @@ pub record IsRefusedAs (error : Error) (code : ℕ) (said : List ℕ) : Type 0 w
 
 -- the status and the text are right for the meaning of these bytes
 pub record IsAnswerOf (whole : List ℕ) (c : Command) (code : ℕ) (said : List ℕ) : Type 0 where
-  pub meaning : Meaning
+  pub meaning : Meaning Layout
   pub means : Means whole meaning
   pub told_is : IsRightText c meaning code said
 

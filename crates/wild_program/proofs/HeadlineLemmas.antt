@@ -10,6 +10,7 @@ use Rattle.wild_layout.specs.Faults.{errors}
 use Rattle.wild_laws.specs.Laws.{ImagesAreSound}
 use Rattle.wild_text.specs.Means.{no_json, no_plan, plan, Means}
 use Rattle.wild_text.specs.Answer.{image_text}
+use Rattle.wild_text.specs.Plan.{layout_in}
 use Rattle.wild_text.specs.Laws.{PlansAreRead}
 use Rattle.wild_layout.specs.Numbers.{NumbersFit}
 use Rattle.wild_program.specs.Exit as exit
@@ -43,7 +44,7 @@ image_of : (t : SourceChange) (l layout : Layout) (plan_bytes text : List ℕ) �
 image_of t l layout plan_bytes text sound reads fits left meant means none is =
     let same = all_read t plan_bytes meant.0 left meant.1 in
     let own : Means meant.0 (plan l) = meant.2 in
-    let one = one_meaning meant.0 (plan l) (plan layout) own (subst (λ (b : List ℕ). Means b (plan layout)) same means) in
+    let one = one_meaning layout_in meant.0 (plan l) (plan layout) own (subst (λ (b : List ℕ). Means b (plan layout)) same means) in
     let target = reads own.0 l own.2 in
     let shown : text ≡ image_text l (bytes l) (warnings l) (counts l) = is ∙ ap (errors_text l) none in
     subst (λ (k : Layout). IsLinkedText k text) (same_layout l layout one) (bytes l, warnings l, counts l, shown, sound l fits target.own none)

@@ -3,13 +3,15 @@
 #![tactic(auto)]
 
 mod command;
+mod input;
 mod making;
 mod program;
 mod status;
 mod words;
 
 pub use command::Command;
-pub use program::{LIMIT, run, run_surely, write_answer};
+pub use input::LIMIT;
+pub use program::{run, run_surely, write_answer};
 pub use status::{
     CUT_SHORT, LINKED, NO_MEMORY, NO_PLAN, READ_FAULT, REFUSED, TOO_LONG, USAGE, status_of,
 };

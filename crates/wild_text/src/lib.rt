@@ -22,5 +22,6 @@ mod warning;
 pub use answer::{image_answer, no_plan_answer, push_counts};
 pub use fault::PlanFault;
 pub use laws::{parts_are_read_again, plans_are_read};
+pub use members::Planned;
 pub use plan::read_plan;
 pub use refusal::refusal_answer;
