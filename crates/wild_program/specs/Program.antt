@@ -4,7 +4,7 @@
 --   IsRightAnswer words turn answer   the answer is the right one for these words and this input
 --   IsWritten told status text said   how an answer was written: the whole text, or a write failed
 --   IsLinkedText layout text  the text is that of a sound image of the layout
-use Rattle.std.specs.Prelude.{◌≡◌, ℕ, ◌+◌, ◌^◌, ◌≤◌, List, [], ◌∷◌, ◌++◌, length, map, codes, decimal, string_bytes, String, Option, Result, ◌⊎◌}
+use Rattle.std.specs.Prelude.{◌≡◌, ℕ, ◌+◌, ◌^◌, ◌≤◌, List, [], ◌∷◌, ◌++◌, length, map, codes, decimal, string_bytes, String, Option, Result, Ok, Err, ◌⊎◌}
 use Rattle.std.specs.List.{sum}
 use Rattle.std.specs.declared.alloc.Global.{Global}
 use Rattle.wild_program.specs.declared.command.Command.{Command}
@@ -22,6 +22,12 @@ use Rattle.wild_meaning.specs.LinkedImage.{IsSound}
 use Rattle.serde_json.specs.Data.{Data}
 use Rattle.wild_text.specs.Means.{Meaning, no_json, no_plan, plan, MeansBy, Means}
 use Rattle.wild_text.specs.Plan.{layout_in}
+use Rattle.wild_text.specs.Space.{space_in}
+use Rattle.wild_text.specs.SpaceAnswer.{space_text, not_bound_text}
+use Rattle.wild_text.specs.declared.space.SpaceRequest.{SpaceRequest}
+use Rattle.wild_space.specs.Bound.{bound}
+use Rattle.wild_space.specs.declared.space.Bound.{Bound}
+use Rattle.wild_space.specs.declared.fault.BindFault.{BindFault}
 use Rattle.wild_text.specs.Answer.{image_text, image_line, count_lines, refusal_text, no_plan_text}
 use Rattle.wild_program.specs.Exit as exit
 
@@ -41,18 +47,23 @@ IsLinkCommand words = (n : ℕ) × IsLink words n
 abbrev pub IsMakeCommand : List (String Global) → Type 0
 IsMakeCommand words = (n : ℕ) × (w : ℕ) × IsMake words n w
 
+-- the word is `space`
+abbrev pub IsSpace : List (String Global) → Type 0
+IsSpace words = map string_bytes words ≡ codes "space" ∷ []
+
 -- the words are a command
 abbrev pub IsCommand : List (String Global) → Type 0
-IsCommand words = IsLinkCommand words ⊎ IsMakeCommand words
+IsCommand words = IsLinkCommand words ⊎ (IsMakeCommand words ⊎ IsSpace words)
 
 -- the words are a command that reads its input to the end
 abbrev pub IsReading : List (String Global) → Type 0
-IsReading words = IsLinkCommand words
+IsReading words = IsLinkCommand words ⊎ IsSpace words
 
 -- the words are that command
 abbrev pub Asks : List (String Global) → Command → Type 0
 Asks words (command.Link w) = IsLink words w
 Asks words (command.Make n w) = IsMake words n w
+Asks words command.Space = IsSpace words
 
 -- the possible answers
 pub data Answer : Type 0 where
@@ -61,6 +72,7 @@ pub data Answer : Type 0 where
   too_long : Answer
   of_plan : Meaning Layout → Answer
   of_make : ℕ → Answer
+  of_space : Meaning SpaceRequest → Answer
 
 -- the status for a layout with these faults
 abbrev pub errors_status : List Error → ℕ
@@ -87,6 +99,26 @@ summary_text n image counts = codes "groups " ++ decimal n ++ codes "\n" ++ imag
 abbrev pub made_text : ℕ → List ℕ
 made_text n = summary_text n (bytes (plan_of_groups n)) (counts (plan_of_groups n))
 
+-- what the images of an input are bound to
+abbrev pub bound_images : SpaceRequest → Result Bound BindFault
+bound_images s = bound s.images s.resolvers
+
+abbrev pub bound_status : Result Bound BindFault → ℕ
+bound_status (Ok b) = exit.linked
+bound_status (Err fault) = exit.not_bound
+
+abbrev pub bound_text : Result Bound BindFault → List ℕ
+bound_text (Ok b) = space_text b.order b.binds
+bound_text (Err fault) = not_bound_text fault
+
+-- `linked` if the images are bound, else `not_bound`
+abbrev pub space_status : SpaceRequest → ℕ
+space_status s = bound_status (bound_images s)
+
+-- the text of the order and the binds, or of the first fault
+abbrev pub space_answer_text : SpaceRequest → List ℕ
+space_answer_text s = bound_text (bound_images s)
+
 -- the status for the meaning of an input, by the status of what it encodes
 abbrev pub meaning_status : {X : Type 0} → (X → ℕ) → Meaning X → ℕ
 meaning_status status_of no_json = exit.no_plan
@@ -105,13 +137,15 @@ status read_fault = exit.read_fault
 status too_long = exit.too_long
 status (of_plan meaning) = meaning_status layout_status meaning
 status (of_make n) = exit.linked
+status (of_space meaning) = meaning_status space_status meaning
 
 abbrev pub text : Answer → List ℕ
-text usage = codes "usage: link W | make N W\n"
+text usage = codes "usage: link W | make N W | space\n"
 text read_fault = codes "read fault\n"
 text too_long = codes "plan too long\n"
 text (of_plan meaning) = meaning_text layout_text meaning
 text (of_make n) = made_text n
+text (of_space meaning) = meaning_text space_answer_text meaning
 
 -- the maximal size of a plan in bytes
 abbrev pub limit : ℕ
@@ -157,6 +191,7 @@ IsRightAnswer words t read_fault = IsReading words × CountRose t.faults_before 
 IsRightAnswer words t too_long = IsReading words × IsTooLong t
 IsRightAnswer words t (of_plan meaning) = IsLinkCommand words × HasMeaning t meaning
 IsRightAnswer words t (of_make n) = ((w : ℕ) × IsMake words n w) × NothingRead t
+IsRightAnswer words t (of_space meaning) = IsSpace words × HasMeaningBy space_in t meaning
 
 -- the state of the sink before and after: the bytes written so far, and the number of failed writes
 pub record SinkChange : Type 0 where

@@ -10,6 +10,7 @@ ghost use Rattle.wild_program.specs.Steps.{IsRefusal, HasRightNumbers, IsAnswerO
 use crate::command::Command;
 use crate::input::{plan_of, read_input};
 use crate::making::made_answer;
+use crate::space::bind_answer;
 use crate::status::{CUT_SHORT, LINKED, NO_PLAN, READ_FAULT, REFUSED, TOO_LONG, USAGE};
 use crate::words::command_of;
 use std::alloc::{AllocError, Global};
@@ -105,6 +106,7 @@ fn command_answer(
             let summary = made_answer(rt, alloc, groups, workers)?;
             Ok((LINKED, summary))
         }
+        Command::Space => bind_answer(alloc, bytes),
     }
 }
 
@@ -147,19 +149,20 @@ fn run_command<S: Source, K: Sink>(
     ensures memory { OnErr result (K.output_bytes sink.new ≡ K.output_bytes sink.old) }
 {
     match command_of(alloc, words)? {
-        None => Ok(write_answer(sink, b"usage: link W | make N W\n", USAGE)),
+        None => Ok(write_answer(sink, b"usage: link W | make N W | space\n", USAGE)),
         Some(command) => answer_command(rt, alloc, words, command, source, sink),
     }
 }
 
 /// The whole program: reads the plan if the words need one, and writes the answer's text. The status is
-/// - 0 (`LINKED`): an image or a summary was written;
+/// - 0 (`LINKED`): an image, a summary or the binds of images were written;
 /// - 1 (`REFUSED`): the layout has a fault;
 /// - 2 (`USAGE`): the words are not a command;
 /// - 3 (`NO_PLAN`): the bytes are not a plan;
 /// - 4 (`READ_FAULT`): a read failed;
 /// - 5 (`CUT_SHORT`): a write failed;
-/// - 7 (`TOO_LONG`): the plan is too long.
+/// - 7 (`TOO_LONG`): the plan is too long;
+/// - 11 (`NOT_BOUND`): the images are not bound.
 pub fn run<S: Source, K: Sink>(
     rt: &(impl Threads + Sync),
     alloc: Global,
