@@ -41,7 +41,7 @@ one_make words m n v w h k =
     decimal_injective m n (omega arith) (omega arith) e
 
 of_answer : (words : List (String Global)) (t : SourceChange) (u : SinkChange) (said : ℕ) (a : Answer) → IsRightAnswer words t a → IsWritten u (status a) (text a) said → (n w : ℕ) → IsMake words n w → NothingRead t × IsWritten u exit.linked (made_text n) said
-of_answer words t u said usage due h n w m = absurd (due.0 (inr (inl (n, w, m))))
+of_answer words t u said usage due h n w m = absurd (due.0 (inr (n, w, m)))
 of_answer words t u said read_fault due h n w m = make_or_reading words n w m due.0
 of_answer words t u said too_long due h n w m = make_or_reading words n w m due.0
 of_answer words t u said (of_plan meaning) due h n w m = two_commands words n due.0 (w, m)

@@ -51,13 +51,13 @@ IsMakeCommand words = (n : ℕ) × (w : ℕ) × IsMake words n w
 abbrev pub IsSpace : List (String Global) → Type 0
 IsSpace words = map string_bytes words ≡ codes "space" ∷ []
 
--- the words are a command
-abbrev pub IsCommand : List (String Global) → Type 0
-IsCommand words = IsLinkCommand words ⊎ (IsMakeCommand words ⊎ IsSpace words)
-
 -- the words are a command that reads its input to the end
 abbrev pub IsReading : List (String Global) → Type 0
 IsReading words = IsLinkCommand words ⊎ IsSpace words
+
+-- the words are a command
+abbrev pub IsCommand : List (String Global) → Type 0
+IsCommand words = IsReading words ⊎ IsMakeCommand words
 
 -- the words are that command
 abbrev pub Asks : List (String Global) → Command → Type 0
