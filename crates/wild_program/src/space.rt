@@ -28,7 +28,11 @@ fn bound_answer(alloc: Global, request: &SpaceRequest) -> Result<(u8, Vec<u8>), 
     requires { 1 ≤ length request.now.images }
     ensures { IfOk result (λ a. (a.0 ≡ space_status request.now) × (a.1.items ≡ space_answer_text request.now)) }
 {
-    match bind_images(alloc, request.images.as_slice(), request.resolvers.as_slice()) {
+    match bind_images(
+        alloc,
+        request.images.as_slice(),
+        request.resolvers.as_slice(),
+    ) {
         Ok(bound) => {
             let text = space_answer(alloc, bound.order.as_slice(), bound.binds.as_slice())?;
             Ok((LINKED, text.into_bytes()))

@@ -45,10 +45,7 @@ impl Planned for (u64, u64) {
 
 /// The images, of which there has to be one.
 #[tactic(auto, unfolding(crate::specs::Space::images_in))]
-fn read_images(
-    alloc: Global,
-    json: &Value,
-) -> std::result::Result<Items<NamedImage>, PlanFault>
+fn read_images(alloc: Global, json: &Value) -> std::result::Result<Items<NamedImage>, PlanFault>
     ensures { Gives result (images_in (view json.now)) }
 {
     let images: Items<NamedImage> = member(alloc, json, "images", Items::new(alloc))?;
