@@ -23,7 +23,7 @@ use Rattle.wild_program.specs.Steps.{IsAnsweredBy, AnswerFits}
 use Rattle.wild_program.proofs.SourceLemmas.{all_read}
 
 -- text that was appended is the text that came behind
-appended : (before after : Option (List ℕ)) (xs added text : List ℕ) → before ≡ Some xs → after ≡ Some (xs ++ text) → Appends before after added → text ≡ added
+pub appended : (before after : Option (List ℕ)) (xs added text : List ℕ) → before ≡ Some xs → after ≡ Some (xs ++ text) → Appends before after added → text ≡ added
 appended None after xs added text b a h = absurd cc
 appended (Some ys) None xs added text b a h = absurd cc
 appended (Some ys) (Some zs) xs added text b a h =

@@ -4,7 +4,8 @@
 --   IsRightAnswer words turn answer   the answer is the right one for these words and this input
 --   IsWritten told status text said   how an answer was written: the whole text, or a write failed
 --   IsLinkedText layout text  the text is that of a sound image of the layout
-use Rattle.std.specs.Prelude.{◌≡◌, ℕ, ◌+◌, ◌^◌, ◌≤◌, List, [], ◌∷◌, ◌++◌, length, map, codes, decimal, string_bytes, String, Option, Result, Ok, Err, ◌⊎◌}
+--   IsSpaceText request text  the text is that of images that are bound as a dynamic linker binds them
+use Rattle.std.specs.Prelude.{◌≡◌, ℕ, ◌+◌, ◌^◌, ◌<◌, ◌≤◌, List, [], ◌∷◌, ◌++◌, length, map, codes, decimal, string_bytes, String, Option, Some, Result, Ok, Err, ◌⊎◌}
 use Rattle.std.specs.List.{sum}
 use Rattle.std.specs.declared.alloc.Global.{Global}
 use Rattle.wild_program.specs.declared.command.Command.{Command}
@@ -26,6 +27,11 @@ use Rattle.wild_text.specs.Space.{space_in}
 use Rattle.wild_text.specs.SpaceAnswer.{space_text, not_bound_text}
 use Rattle.wild_text.specs.declared.space.SpaceRequest.{SpaceRequest}
 use Rattle.wild_space.specs.Bound.{bound}
+use Rattle.wild_space.specs.Binds.{bind}
+use Rattle.wild_space.specs.OrderLaws.{IsBreadthFirst}
+use Rattle.wild_space.specs.BindLaws.{IsBound}
+use Rattle.wild_space.specs.BoundLaws.{IsMade}
+use Rattle.wild_space.specs.declared.binds.Definition.{Definition}
 use Rattle.wild_space.specs.declared.space.Bound.{Bound}
 use Rattle.wild_space.specs.declared.fault.BindFault.{BindFault}
 use Rattle.wild_text.specs.Answer.{image_text, image_line, count_lines, refusal_text, no_plan_text}
@@ -220,3 +226,12 @@ IsAnswered words t u said = (a : Answer) × IsRightAnswer words t a × IsWritten
 -- value or target that its relocation requires
 abbrev pub IsLinkedText : Layout → List ℕ → Type 0
 IsLinkedText layout text = (image : List ℕ) × (warnings : List EntryWarning) × (counts : List ℕ) × (text ≡ image_text layout image warnings counts) × IsSound layout image
+
+-- The text is that of the order and the binds of images, as a dynamic linker makes them. The order is breadth first. Each image has
+-- its binds, its world and its memory. Each symbol is bound to itself, or to the first definition of its name.
+pub record IsSpaceText (s : SpaceRequest) (text : List ℕ) : Type 0 where
+  pub space : Bound
+  pub shown : text ≡ space_text space.order space.binds
+  pub order : IsBreadthFirst s.images space.order
+  pub made : (n : ℕ) → n < length space.order → IsMade s.images s.resolvers space n
+  pub first : (n k : ℕ) (d : Definition) → bind s.images space.order n k ≡ Ok (Some d) → IsBound s.images space.order n k d

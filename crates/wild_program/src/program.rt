@@ -4,7 +4,7 @@ ghost use Rattle.wild_io.specs.Memory.{sure_unread};
 ghost use Rattle.wild_program.specs.Exit.{read_fault, cut_short};
 ghost use Rattle.wild_program.specs.declared.command.Command.TheVariants.{Link};
 ghost use Rattle.wild_program.specs.Program.{Asks, layout_status, layout_text, source_change, sink_change, IsWritten, IsAnswered};
-ghost use Rattle.wild_program.specs.Clauses.{HasItsCause, NothingFailed, IsDetermined, IsComplete, IsHeadline, IsMadeBy};
+ghost use Rattle.wild_program.specs.Clauses.{HasItsCause, NothingFailed, IsDetermined, IsComplete, IsHeadline, IsMadeBy, IsBoundBy};
 ghost use Rattle.wild_program.specs.Steps.{IsRefusal, HasRightNumbers, IsAnswerOf, IsAnsweredBy};
 
 use crate::command::Command;
@@ -20,7 +20,8 @@ use wild_io::{ReadFault, Sink, Source, SureSink, SureSource, write_whole};
 use wild_laws::images_are_sound;
 use wild_layout::numbers_fit;
 use wild_plan::{Error, Fault, Layout};
-use wild_text::{image_answer, plans_are_read, refusal_answer};
+use wild_space::{binds_are_first, orders_are_breadth_first, spaces_are_made};
+use wild_text::{image_answer, plans_are_read, refusal_answer, spaces_have_images};
 
 /// Writes the text, and returns the status, or the one for a failed write.
 pub fn write_answer<K: Sink>(sink: &mut K, answer: &[u8], code: u8) -> u8
@@ -200,11 +201,20 @@ pub fn run<S: Source, K: Sink>(
     ensures made { IfOk result (λ said. IsMadeBy words.now
         (source_change (S.unread_bytes source.old) (S.unread_bytes source.new) (S.faults source.old) (S.faults source.new))
         (sink_change (K.output_bytes sink.old) (K.output_bytes sink.new) (K.faults sink.old) (K.faults sink.new)) said) }
+    // If `space` writes binds, they are those of a dynamic linker: the order is breadth first, and each symbol is bound to itself or to
+    // the first definition of its name.
+    ensures bound { IfOk result (λ said. IsBoundBy words.now
+        (source_change (S.unread_bytes source.old) (S.unread_bytes source.new) (S.faults source.old) (S.faults source.new))
+        (sink_change (K.output_bytes sink.old) (K.output_bytes sink.new) (K.faults sink.old) (K.faults sink.new)) said) }
     // If memory is refused, no byte has been written.
     ensures memory { OnErr result (K.output_bytes sink.new ≡ K.output_bytes sink.old) }
 {
     plans_are_read();
     images_are_sound();
+    spaces_have_images();
+    spaces_are_made();
+    orders_are_breadth_first();
+    binds_are_first();
     run_command(rt, alloc, words, source, sink)
 }
 
