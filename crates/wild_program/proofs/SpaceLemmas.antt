@@ -1,5 +1,5 @@
 -- The text of status 0 of `space` is that of images that are bound as a dynamic linker binds them.
-use Rattle.std.proofs.Common.{◌≡◌, ◌≤◌, ℕ, List, length, ◌++◌, Some, Result, Ok, Err, refl, ap, ◌∙◌, subst, inl, inr, String, Global}
+use Rattle.std.proofs.Common.{◌≡◌, ◌≤◌, ℕ, List, length, Result, Ok, Err, refl, subst, inl, inr, String, Global}
 use Rattle.std.specs.Io.KnownBytes.{Appends}
 use Rattle.wild_space.specs.declared.space.Bound.{Bound}
 use Rattle.wild_space.specs.declared.fault.BindFault.{BindFault}
@@ -11,7 +11,7 @@ use Rattle.wild_text.specs.Space.{space_in}
 use Rattle.wild_text.specs.Laws.{SpacesHaveImages}
 use Rattle.wild_text.specs.declared.space.SpaceRequest.{SpaceRequest}
 use Rattle.wild_program.specs.Exit as exit
-use Rattle.wild_program.specs.Program.{Answer, usage, read_fault, too_long, of_plan, of_make, of_space, status, text as text_of, bound_images, bound_status, bound_text, SourceChange, SinkChange, HasMeaningBy, IsRightAnswer, IsWritten, IsSpaceText}
+use Rattle.wild_program.specs.Program.{Answer, usage, read_fault, too_long, of_plan, of_make, of_space, status, text as text_of, bound_images, bound_status, bound_text, SourceChange, SinkChange, IsRightAnswer, IsWritten, IsSpaceText}
 use Rattle.wild_program.specs.Clauses.{IsBoundBy}
 use Rattle.wild_program.specs.Steps.{IsAnsweredBy}
 use Rattle.wild_program.proofs.Statuses.{clash}

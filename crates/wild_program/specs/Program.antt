@@ -21,7 +21,7 @@ use Rattle.wild_layout.specs.Warnings.{warnings}
 use Rattle.wild_layout.specs.Faults.{errors}
 use Rattle.wild_meaning.specs.LinkedImage.{IsSound}
 use Rattle.serde_json.specs.Data.{Data}
-use Rattle.wild_text.specs.Means.{Meaning, no_json, no_plan, plan, MeansBy, Means}
+use Rattle.wild_text.specs.Means.{Meaning, no_json, no_plan, plan, MeansBy}
 use Rattle.wild_text.specs.Plan.{layout_in}
 use Rattle.wild_text.specs.Space.{space_in}
 use Rattle.wild_text.specs.SpaceAnswer.{space_text, not_bound_text}

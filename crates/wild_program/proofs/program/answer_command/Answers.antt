@@ -1,4 +1,4 @@
-use Rattle.wild_program.proofs.AnswerLemmas.{is_reading, right_answer}
+use Rattle.wild_program.proofs.AnswerLemmas.{right_answer}
 use Rattle.wild_program.proofs.program.answer_command.Goals as goal
 
 pub returns-clause-ok : goal.returns-clause-ok
