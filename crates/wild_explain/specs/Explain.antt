@@ -14,7 +14,7 @@ use Rattle.wild_layout.specs.Faults.{errors}
 use Rattle.wild_text.specs.Answer.{image_line, refusal_text, no_plan_text}
 use Rattle.wild_text.specs.Means.{Meaning, no_json, no_plan, plan, Means}
 use Rattle.wild_program.specs.Exit as exit
-use Rattle.wild_program.specs.Program.{Answer, usage, read_fault, too_long, of_plan, of_make, text, layout_status, SourceChange, SinkChange, HasMeaning, IsTooLong, NothingRead, IsWritten}
+use Rattle.wild_program.specs.Program.{Answer, usage, read_fault, too_long, of_plan, text, layout_status, SourceChange, SinkChange, HasMeaning, IsTooLong, NothingRead, IsWritten}
 use Rattle.wild_explain.specs.declared.command.Command.{Command}
 use Rattle.wild_explain.specs.declared.command.Command.TheVariants as command
 
@@ -84,7 +84,7 @@ IsRightAnswer words t code said usage = (IsPlain words → ⊥) × NothingRead t
 IsRightAnswer words t code said read_fault = ((c : Command) × Asks words c) × CountRose t.faults_before t.faults_after × (code ≡ exit.read_fault) × (said ≡ text read_fault)
 IsRightAnswer words t code said too_long = ((c : Command) × Asks words c) × IsTooLong t × (code ≡ exit.too_long) × (said ≡ text too_long)
 IsRightAnswer words t code said (of_plan meaning) = (c : Command) × Asks words c × HasMeaning t meaning × IsRightText c meaning code said
-IsRightAnswer words t code said (of_make n) = ⊥
+IsRightAnswer words t code said other = ⊥
 
 -- the returned status belongs to an answer that is right for the input, and that was written
 pub record IsAnswered (words : List (String Global)) (t : SourceChange) (u : SinkChange) (said : ℕ) : Type 0 where
