@@ -5,10 +5,10 @@ refused, by answer, and each refusal that had another answer; the status is 0 wh
 
     plans/refuse_growth.py              over crates/wild_main/out/wild_main, which ./build makes
     plans/refuse_growth.py PROGRAM
-    plans/refuse_growth.py PROGRAM smallest every     these plans alone, and shards
+    plans/refuse_growth.py PROGRAM smallest every     these plans alone, `make`, `space` and shards
 
-Each allocation is refused of `make 2 2` and of each plan, among them the smallest and one with a part of each role (plans/every.json). Of a plan whose
-debug section is cut into shards, which has 65,537 relocations, each is refused from the last of reading on, and some of those ahead.
+Each allocation is refused of `make 2 2`, of `space` for three images, and of each plan, among them the smallest and one with a part of each role
+(plans/every.json). Of a plan whose debug section is cut into shards, which has 65,537 relocations, each is refused from the last of reading on, and some of those ahead.
 
 The program asks the C library for memory, so a library that is loaded ahead of it refuses allocation N (malloc, calloc, realloc and their
 like), or that and all behind it. It says so with a byte on standard error, on which the program writes nothing; so the first run without that byte
@@ -21,6 +21,8 @@ import subprocess
 import sys
 import tempfile
 from collections import Counter
+
+import space_rows
 
 TOP = os.path.dirname(os.path.dirname(os.path.abspath(__file__)))
 SECONDS = 20
@@ -83,7 +85,7 @@ def answer(program, words, plan, library, first, last, whole=None):
 def sweep(program, library, words, plan, others):
     """How often each answer came, where one allocation is refused, and where (others) all behind it are too."""
     came, odd = Counter(), []
-    right = ["status 6, nothing written"] + ["the whole answer"] * (words[-1] != "1")
+    right = ["status 6, nothing written"] + ["the whole answer"] * (words[-1] == "2")
     calm = subprocess.run([program, *words], input=plan, stdout=subprocess.PIPE)
     call = 0
     while True:
@@ -151,18 +153,19 @@ def main():
     program = os.path.abspath(sys.argv[1]) if len(sys.argv) > 1 else f"{TOP}/crates/wild_main/out/wild_main"
     if not os.path.exists(program):
         sys.exit(f"refuse_growth: there is no {program}; ./build makes it")
-    runs = [(["make", "2", "2"], None)]
+    runs = [(["make", "2", "2"], "", b""), (["space"], "three images", space_rows.three_images().encode())]
     for path in sorted(glob.glob(f"{TOP}/plans/*.json")):
         if len(sys.argv) < 3 or os.path.basename(path).removesuffix(".json") in sys.argv[2:]:
-            runs += [(["link", workers], path) for workers in ("1", "2")]
+            with open(path, "rb") as file:
+                plan = file.read()
+            runs += [(["link", workers], f"plans/{os.path.basename(path)}", plan) for workers in ("1", "2")]
     failed, tried = False, 0
     with tempfile.TemporaryDirectory() as folder:
         library = shim(folder)
-        for words, path in runs:
-            plan = open(path, "rb").read() if path else b""
+        for words, of, plan in runs:
             for others in (False, True):
                 came, odd = sweep(program, library, words, plan, others)
-                name = f"{' '.join(words)}{' < plans/' + os.path.basename(path) if path else ''}"
+                name = " < ".join([" ".join(words), of] if of else [" ".join(words)])
                 told = "; ".join(f"{count} of {found}" for found, count in came.items())
                 print(f"{name}, {'each and all behind it' if others else 'each'} refused: {told}", flush=True)
                 for line in odd[:20]:

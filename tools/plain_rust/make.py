@@ -22,6 +22,7 @@ MENDS = [
     ('wild_symbols/prefix.rs', 'fn drop(self)', 'fn drop(&mut self)'),
     ('wild_symbols/prefix.rs', 'let SymbolTablePrefix { writer, kept } = self;\n        writer.join(kept);',
      'self.writer.join(self.kept);'),
+    ('wild_text/members.rs', 'Map::new(alloc)', 'Map::new()'),
     ('wild_program/words.rs', 'use std::{env, io};', 'use crate::shim::env;\nuse std::io;'),
 ]
 

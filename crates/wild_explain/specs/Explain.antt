@@ -14,7 +14,7 @@ use Rattle.wild_layout.specs.Faults.{errors}
 use Rattle.wild_text.specs.Answer.{image_line, refusal_text, no_plan_text}
 use Rattle.wild_text.specs.Means.{Meaning, no_json, no_plan, plan, Means}
 use Rattle.wild_program.specs.Exit as exit
-use Rattle.wild_program.specs.Program.{Answer, usage, read_fault, too_long, of_plan, of_make, text, layout_status, SourceChange, SinkChange, HasMeaning, IsTooLong, NothingRead, IsWritten}
+use Rattle.wild_program.specs.Program.{Answer, usage, read_fault, too_long, of_plan, text, layout_status, SourceChange, SinkChange, HasMeaning, IsTooLong, NothingRead, IsWritten}
 use Rattle.wild_explain.specs.declared.command.Command.{Command}
 use Rattle.wild_explain.specs.declared.command.Command.TheVariants as command
 
@@ -42,21 +42,21 @@ errors_line l [] = image_line (length (bytes l))
 errors_line l (e ∷ es) = refusal_text e
 
 -- the first line of `link`'s answer
-abbrev pub link_line : Meaning → List ℕ
+abbrev pub link_line : Meaning Layout → List ℕ
 link_line no_json = codes "not a plan: json\n"
 link_line (no_plan path) = no_plan_text path
 link_line (plan l) = errors_line l (errors l)
 
 -- the answer of `link` begins with that line
 abbrev pub LinkLineIsFirst : Type 0
-LinkLineIsFirst = (m : Meaning) → Begins (link_line m) (text (of_plan m))
+LinkLineIsFirst = (m : Meaning Layout) → Begins (link_line m) (text (of_plan m))
 
 -- the status of `link`, and a text that begins with its first line
 abbrev pub IsExplained : Layout → ℕ → List ℕ → Type 0
 IsExplained l code said = (code ≡ layout_status l) × Begins (errors_line l (errors l)) said
 
 -- the status and the text are right for the meaning of a plan's bytes
-abbrev pub IsRightText : Command → Meaning → ℕ → List ℕ → Type 0
+abbrev pub IsRightText : Command → Meaning Layout → ℕ → List ℕ → Type 0
 IsRightText c no_json code said = (code ≡ exit.no_plan) × Begins (link_line no_json) said
 IsRightText c (no_plan path) code said = (code ≡ exit.no_plan) × Begins (link_line (no_plan path)) said
 IsRightText (command.Explain view) (plan l) code said = IsExplained l code said
@@ -70,7 +70,7 @@ pub record IsRefusedAs (error : Error) (code : ℕ) (said : List ℕ) : Type 0 w
 
 -- the status and the text are right for the meaning of these bytes
 pub record IsAnswerOf (whole : List ℕ) (c : Command) (code : ℕ) (said : List ℕ) : Type 0 where
-  pub meaning : Meaning
+  pub meaning : Meaning Layout
   pub means : Means whole meaning
   pub told_is : IsRightText c meaning code said
 
@@ -84,7 +84,7 @@ IsRightAnswer words t code said usage = (IsPlain words → ⊥) × NothingRead t
 IsRightAnswer words t code said read_fault = ((c : Command) × Asks words c) × CountRose t.faults_before t.faults_after × (code ≡ exit.read_fault) × (said ≡ text read_fault)
 IsRightAnswer words t code said too_long = ((c : Command) × Asks words c) × IsTooLong t × (code ≡ exit.too_long) × (said ≡ text too_long)
 IsRightAnswer words t code said (of_plan meaning) = (c : Command) × Asks words c × HasMeaning t meaning × IsRightText c meaning code said
-IsRightAnswer words t code said (of_make n) = ⊥
+IsRightAnswer words t code said other = ⊥
 
 -- the returned status belongs to an answer that is right for the input, and that was written
 pub record IsAnswered (words : List (String Global)) (t : SourceChange) (u : SinkChange) (said : ℕ) : Type 0 where

@@ -1,9 +1,9 @@
 -- The words of one command are not those of another.
-use Rattle.std.proofs.Common.{◌≡◌, ℕ, List, [], ◌∷◌, length, sym, ap, ◌∙◌, subst, inr, arith, String, Global, decimal}
+use Rattle.std.proofs.Common.{◌≡◌, ℕ, List, [], ◌∷◌, length, sym, ap, ◌∙◌, subst, inl, inr, arith, String, Global, decimal}
 use Rattle.std.specs.Prelude.{codes}
 use Rattle.std.proofs.lemmas.Fmt.{decimal_injective}
 use Rattle.wild_program.specs.Exit as exit
-use Rattle.wild_program.specs.Program.{IsLinkCommand, IsMake, Answer, usage, read_fault, too_long, of_plan, of_make, status, text, made_text, SourceChange, SinkChange, IsRightAnswer, NothingRead, IsWritten}
+use Rattle.wild_program.specs.Program.{IsLinkCommand, IsMake, IsSpace, IsReading, Answer, usage, read_fault, too_long, of_plan, of_make, of_space, status, text, made_text, SourceChange, SinkChange, IsRightAnswer, NothingRead, IsWritten}
 use Rattle.wild_program.specs.Clauses.{IsMadeBy}
 use Rattle.wild_program.specs.Steps.{IsAnsweredBy}
 
@@ -13,6 +13,24 @@ two_commands words n l m = absurd (clash (ap length l.1.0) (ap length m.1.0))
   where
     clash : {k : ℕ} → k ≡ 2 → k ≡ 3 → ⊥
     clash a b = omega arith
+
+-- `space` has one word
+pub link_or_space : {X : Type 0} (words : List (String Global)) → IsLinkCommand words → IsSpace words → X
+link_or_space words l s = absurd (clash (ap length l.1.0) (ap length s))
+  where
+    clash : {k : ℕ} → k ≡ 2 → k ≡ 1 → ⊥
+    clash a b = omega arith
+
+pub make_or_space : {X : Type 0} (words : List (String Global)) (n w : ℕ) → IsMake words n w → IsSpace words → X
+make_or_space words n w m s = absurd (clash (ap length m.0) (ap length s))
+  where
+    clash : {k : ℕ} → k ≡ 3 → k ≡ 1 → ⊥
+    clash a b = omega arith
+
+-- `make` reads nothing
+pub make_or_reading : {X : Type 0} (words : List (String Global)) (n w : ℕ) → IsMake words n w → IsReading words → X
+make_or_reading words n w m (inl l) = two_commands words n l (w, m)
+make_or_reading words n w m (inr s) = make_or_space words n w m s
 
 one_make : (words : List (String Global)) (m n v w : ℕ) → IsMake words m v → IsMake words n w → m ≡ n
 one_make words m n v w h k =
@@ -24,9 +42,10 @@ one_make words m n v w h k =
 
 of_answer : (words : List (String Global)) (t : SourceChange) (u : SinkChange) (said : ℕ) (a : Answer) → IsRightAnswer words t a → IsWritten u (status a) (text a) said → (n w : ℕ) → IsMake words n w → NothingRead t × IsWritten u exit.linked (made_text n) said
 of_answer words t u said usage due h n w m = absurd (due.0 (inr (n, w, m)))
-of_answer words t u said read_fault due h n w m = two_commands words n due.0 (w, m)
-of_answer words t u said too_long due h n w m = two_commands words n due.0 (w, m)
+of_answer words t u said read_fault due h n w m = make_or_reading words n w m due.0
+of_answer words t u said too_long due h n w m = make_or_reading words n w m due.0
 of_answer words t u said (of_plan meaning) due h n w m = two_commands words n due.0 (w, m)
+of_answer words t u said (of_space meaning) due h n w m = make_or_space words n w m due.0
 of_answer words t u said (of_make k) due h n w m =
     (due.1, subst (λ (i : ℕ). IsWritten u exit.linked (made_text i) said) (one_make words k n due.0.0 w due.0.1 m) h)
 

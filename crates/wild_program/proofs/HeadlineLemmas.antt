@@ -10,19 +10,20 @@ use Rattle.wild_layout.specs.Faults.{errors}
 use Rattle.wild_laws.specs.Laws.{ImagesAreSound}
 use Rattle.wild_text.specs.Means.{no_json, no_plan, plan, Means}
 use Rattle.wild_text.specs.Answer.{image_text}
+use Rattle.wild_text.specs.Plan.{layout_in}
 use Rattle.wild_text.specs.Laws.{PlansAreRead}
 use Rattle.wild_layout.specs.Numbers.{NumbersFit}
 use Rattle.wild_program.specs.Exit as exit
-use Rattle.wild_program.specs.Program.{Answer, usage, read_fault, too_long, of_plan, of_make, status, text as text_of, errors_status, errors_text, layout_text, SourceChange, SinkChange, IsRightAnswer, IsWritten, HasMeaning, IsLinkedText}
+use Rattle.wild_program.specs.Program.{Answer, usage, read_fault, too_long, of_plan, of_make, of_space, status, text as text_of, errors_status, errors_text, layout_text, SourceChange, SinkChange, IsRightAnswer, IsWritten, HasMeaning, IsLinkedText}
 use Rattle.wild_program.specs.Clauses.{IsHeadline}
 use Rattle.wild_program.proofs.Statuses.{clash}
-use Rattle.wild_program.proofs.Commands.{two_commands}
+use Rattle.wild_program.proofs.Commands.{two_commands, link_or_space}
 use Rattle.wild_program.proofs.OneMeaning.{one_meaning}
 use Rattle.wild_program.specs.Steps.{IsAnsweredBy, AnswerFits}
 use Rattle.wild_program.proofs.SourceLemmas.{all_read}
 
 -- text that was appended is the text that came behind
-appended : (before after : Option (List ℕ)) (xs added text : List ℕ) → before ≡ Some xs → after ≡ Some (xs ++ text) → Appends before after added → text ≡ added
+pub appended : (before after : Option (List ℕ)) (xs added text : List ℕ) → before ≡ Some xs → after ≡ Some (xs ++ text) → Appends before after added → text ≡ added
 appended None after xs added text b a h = absurd cc
 appended (Some ys) None xs added text b a h = absurd cc
 appended (Some ys) (Some zs) xs added text b a h =
@@ -43,7 +44,7 @@ image_of : (t : SourceChange) (l layout : Layout) (plan_bytes text : List ℕ) �
 image_of t l layout plan_bytes text sound reads fits left meant means none is =
     let same = all_read t plan_bytes meant.0 left meant.1 in
     let own : Means meant.0 (plan l) = meant.2 in
-    let one = one_meaning meant.0 (plan l) (plan layout) own (subst (λ (b : List ℕ). Means b (plan layout)) same means) in
+    let one = one_meaning layout_in meant.0 (plan l) (plan layout) own (subst (λ (b : List ℕ). Means b (plan layout)) same means) in
     let target = reads own.0 l own.2 in
     let shown : text ≡ image_text l (bytes l) (warnings l) (counts l) = is ∙ ap (errors_text l) none in
     subst (λ (k : Layout). IsLinkedText k text) (same_layout l layout one) (bytes l, warnings l, counts l, shown, sound l fits target.own none)
@@ -58,6 +59,7 @@ said_image t u said (of_plan (no_plan path)) words sound reads fits due h took p
 said_image t u said (of_plan (plan l)) words sound reads fits due h took plan_bytes before text layout command zero left means loads b a =
     image_of t l layout plan_bytes text sound reads fits left due.1 means (no_errors (errors l) said zero h)
     (appended u.taken_before u.taken_after before (layout_text l) text b a took)
+said_image t u said (of_space m) words sound reads fits due h took plan_bytes before text layout command zero left means loads b a = link_or_space words command due.0
 said_image t u said (of_make n) words sound reads fits due h took plan_bytes before text layout command zero left means loads b a = two_commands words n command due.0
 
 told_image : (t : SourceChange) (u : SinkChange) (said : ℕ) (a : Answer) (words : List (String Global)) → ImagesAreSound → PlansAreRead → AnswerFits a → IsRightAnswer words t a

@@ -1,9 +1,11 @@
 -- What the program answers.
 --   IsLink words n            the words are `link` and the number n of workers
+--   IsReading words           the words are a command that reads its input to the end
 --   IsRightAnswer words turn answer   the answer is the right one for these words and this input
 --   IsWritten told status text said   how an answer was written: the whole text, or a write failed
 --   IsLinkedText layout text  the text is that of a sound image of the layout
-use Rattle.std.specs.Prelude.{◌≡◌, ℕ, ◌+◌, ◌^◌, ◌≤◌, List, [], ◌∷◌, ◌++◌, length, map, codes, decimal, string_bytes, String, Option, ◌⊎◌}
+--   IsSpaceText request text  the text is that of images that are bound as a dynamic linker binds them
+use Rattle.std.specs.Prelude.{◌≡◌, ℕ, ◌+◌, ◌^◌, ◌<◌, ◌≤◌, List, [], ◌∷◌, ◌++◌, length, map, codes, decimal, string_bytes, String, Option, Some, Result, Ok, Err, ◌⊎◌}
 use Rattle.std.specs.List.{sum}
 use Rattle.std.specs.declared.alloc.Global.{Global}
 use Rattle.wild_program.specs.declared.command.Command.{Command}
@@ -18,7 +20,20 @@ use Rattle.wild_layout.specs.Image.{bytes, counts}
 use Rattle.wild_layout.specs.Warnings.{warnings}
 use Rattle.wild_layout.specs.Faults.{errors}
 use Rattle.wild_meaning.specs.LinkedImage.{IsSound}
-use Rattle.wild_text.specs.Means.{Meaning, no_json, no_plan, plan, Means}
+use Rattle.serde_json.specs.Data.{Data}
+use Rattle.wild_text.specs.Means.{Meaning, no_json, no_plan, plan, MeansBy}
+use Rattle.wild_text.specs.Plan.{layout_in}
+use Rattle.wild_text.specs.Space.{space_in}
+use Rattle.wild_text.specs.SpaceAnswer.{space_text, not_bound_text}
+use Rattle.wild_text.specs.declared.space.SpaceRequest.{SpaceRequest}
+use Rattle.wild_space.specs.Bound.{bound}
+use Rattle.wild_space.specs.Binds.{bind}
+use Rattle.wild_space.specs.OrderLaws.{IsBreadthFirst}
+use Rattle.wild_space.specs.BindLaws.{IsBound}
+use Rattle.wild_space.specs.BoundLaws.{IsMade}
+use Rattle.wild_space.specs.declared.binds.Definition.{Definition}
+use Rattle.wild_space.specs.declared.space.Bound.{Bound}
+use Rattle.wild_space.specs.declared.fault.BindFault.{BindFault}
 use Rattle.wild_text.specs.Answer.{image_text, image_line, count_lines, refusal_text, no_plan_text}
 use Rattle.wild_program.specs.Exit as exit
 
@@ -38,22 +53,32 @@ IsLinkCommand words = (n : ℕ) × IsLink words n
 abbrev pub IsMakeCommand : List (String Global) → Type 0
 IsMakeCommand words = (n : ℕ) × (w : ℕ) × IsMake words n w
 
+-- the word is `space`
+abbrev pub IsSpace : List (String Global) → Type 0
+IsSpace words = map string_bytes words ≡ codes "space" ∷ []
+
+-- the words are a command that reads its input to the end
+abbrev pub IsReading : List (String Global) → Type 0
+IsReading words = IsLinkCommand words ⊎ IsSpace words
+
 -- the words are a command
 abbrev pub IsCommand : List (String Global) → Type 0
-IsCommand words = IsLinkCommand words ⊎ IsMakeCommand words
+IsCommand words = IsReading words ⊎ IsMakeCommand words
 
 -- the words are that command
 abbrev pub Asks : List (String Global) → Command → Type 0
 Asks words (command.Link w) = IsLink words w
 Asks words (command.Make n w) = IsMake words n w
+Asks words command.Space = IsSpace words
 
 -- the possible answers
 pub data Answer : Type 0 where
   usage : Answer
   read_fault : Answer
   too_long : Answer
-  of_plan : Meaning → Answer
+  of_plan : Meaning Layout → Answer
   of_make : ℕ → Answer
+  of_space : Meaning SpaceRequest → Answer
 
 -- the status for a layout with these faults
 abbrev pub errors_status : List Error → ℕ
@@ -80,23 +105,53 @@ summary_text n image counts = codes "groups " ++ decimal n ++ codes "\n" ++ imag
 abbrev pub made_text : ℕ → List ℕ
 made_text n = summary_text n (bytes (plan_of_groups n)) (counts (plan_of_groups n))
 
+-- what the images of an input are bound to
+abbrev pub bound_images : SpaceRequest → Result Bound BindFault
+bound_images s = bound s.images s.resolvers
+
+abbrev pub bound_status : Result Bound BindFault → ℕ
+bound_status (Ok b) = exit.linked
+bound_status (Err fault) = exit.not_bound
+
+abbrev pub bound_text : Result Bound BindFault → List ℕ
+bound_text (Ok b) = space_text b.order b.binds
+bound_text (Err fault) = not_bound_text fault
+
+-- `linked` if the images are bound, else `not_bound`
+abbrev pub space_status : SpaceRequest → ℕ
+space_status s = bound_status (bound_images s)
+
+-- the text of the order and the binds, or of the first fault
+abbrev pub space_answer_text : SpaceRequest → List ℕ
+space_answer_text s = bound_text (bound_images s)
+
+-- the status for the meaning of an input, by the status of what it encodes
+abbrev pub meaning_status : {X : Type 0} → (X → ℕ) → Meaning X → ℕ
+meaning_status status_of no_json = exit.no_plan
+meaning_status status_of (no_plan path) = exit.no_plan
+meaning_status status_of (plan x) = status_of x
+
+-- the text for the meaning of an input, by the text of what it encodes
+abbrev pub meaning_text : {X : Type 0} → (X → List ℕ) → Meaning X → List ℕ
+meaning_text text_of no_json = codes "not a plan: json\n"
+meaning_text text_of (no_plan path) = no_plan_text path
+meaning_text text_of (plan x) = text_of x
+
 abbrev pub status : Answer → ℕ
 status usage = exit.usage
 status read_fault = exit.read_fault
 status too_long = exit.too_long
-status (of_plan no_json) = exit.no_plan
-status (of_plan (no_plan path)) = exit.no_plan
-status (of_plan (plan layout)) = layout_status layout
+status (of_plan meaning) = meaning_status layout_status meaning
 status (of_make n) = exit.linked
+status (of_space meaning) = meaning_status space_status meaning
 
 abbrev pub text : Answer → List ℕ
-text usage = codes "usage: link W | make N W\n"
+text usage = codes "usage: link W | make N W | space\n"
 text read_fault = codes "read fault\n"
 text too_long = codes "plan too long\n"
-text (of_plan no_json) = codes "not a plan: json\n"
-text (of_plan (no_plan path)) = no_plan_text path
-text (of_plan (plan layout)) = layout_text layout
+text (of_plan meaning) = meaning_text layout_text meaning
 text (of_make n) = made_text n
+text (of_space meaning) = meaning_text space_answer_text meaning
 
 -- the maximal size of a plan in bytes
 abbrev pub limit : ℕ
@@ -127,17 +182,22 @@ pub record NothingRead (t : SourceChange) : Type 0 where
 abbrev pub IsTooLong : SourceChange → Type 0
 IsTooLong t = (taken : List ℕ) × Consumes t.left_before t.left_after taken × (length taken ≡ limit + 1)
 
--- bytes that were read to the end have that meaning
-abbrev pub HasMeaning : SourceChange → Meaning → Type 0
-HasMeaning t meaning = (whole : List ℕ) × IsRead t whole × Means whole meaning
+-- bytes that were read to the end have that meaning, if values are read so
+abbrev pub HasMeaningBy : {X : Type 0} → (Data → Result X (List ℕ)) → SourceChange → Meaning X → Type 0
+HasMeaningBy reads t meaning = (whole : List ℕ) × IsRead t whole × MeansBy reads whole meaning
+
+-- the same for a plan of a layout
+abbrev pub HasMeaning : SourceChange → Meaning Layout → Type 0
+HasMeaning t meaning = HasMeaningBy layout_in t meaning
 
 -- the answer is the right one for these words and this input
 abbrev pub IsRightAnswer : List (String Global) → SourceChange → Answer → Type 0
 IsRightAnswer words t usage = (IsCommand words → ⊥) × NothingRead t
-IsRightAnswer words t read_fault = IsLinkCommand words × CountRose t.faults_before t.faults_after
-IsRightAnswer words t too_long = IsLinkCommand words × IsTooLong t
+IsRightAnswer words t read_fault = IsReading words × CountRose t.faults_before t.faults_after
+IsRightAnswer words t too_long = IsReading words × IsTooLong t
 IsRightAnswer words t (of_plan meaning) = IsLinkCommand words × HasMeaning t meaning
 IsRightAnswer words t (of_make n) = ((w : ℕ) × IsMake words n w) × NothingRead t
+IsRightAnswer words t (of_space meaning) = IsSpace words × HasMeaningBy space_in t meaning
 
 -- the state of the sink before and after: the bytes written so far, and the number of failed writes
 pub record SinkChange : Type 0 where
@@ -166,3 +226,12 @@ IsAnswered words t u said = (a : Answer) × IsRightAnswer words t a × IsWritten
 -- value or target that its relocation requires
 abbrev pub IsLinkedText : Layout → List ℕ → Type 0
 IsLinkedText layout text = (image : List ℕ) × (warnings : List EntryWarning) × (counts : List ℕ) × (text ≡ image_text layout image warnings counts) × IsSound layout image
+
+-- The text is that of the order and the binds of images, as a dynamic linker makes them. The order is breadth first. Each image has
+-- its binds, its world and its memory. Each symbol is bound to itself, or to the first definition of its name.
+pub record IsSpaceText (s : SpaceRequest) (text : List ℕ) : Type 0 where
+  pub space : Bound
+  pub shown : text ≡ space_text space.order space.binds
+  pub order : IsBreadthFirst s.images space.order
+  pub made : (n : ℕ) → n < length space.order → IsMade s.images s.resolvers space n
+  pub first : (n k : ℕ) (d : Definition) → bind s.images space.order n k ≡ Ok (Some d) → IsBound s.images space.order n k d

@@ -2,28 +2,26 @@
 ghost use Rattle.std.specs.Prelude.{◌≡◌, ◌≢◌, ◌≤◌, Some, None, IfOk, OnErr};
 ghost use Rattle.wild_io.specs.Memory.{sure_unread};
 ghost use Rattle.wild_program.specs.Exit.{read_fault, cut_short};
-ghost use Rattle.wild_program.specs.Program.{IsLink, layout_status, layout_text, source_change, sink_change, IsWritten, IsAnswered};
-ghost use Rattle.wild_program.specs.Clauses.{HasItsCause, NothingFailed, IsDetermined, IsComplete, IsHeadline, IsMadeBy};
-ghost use Rattle.wild_program.specs.Steps.{IsRefusal, IsAnswerOf, IsAnsweredBy};
+ghost use Rattle.wild_program.specs.declared.command.Command.TheVariants.{Link};
+ghost use Rattle.wild_program.specs.Program.{Asks, layout_status, layout_text, source_change, sink_change, IsWritten, IsAnswered};
+ghost use Rattle.wild_program.specs.Clauses.{HasItsCause, NothingFailed, IsDetermined, IsComplete, IsHeadline, IsMadeBy, IsBoundBy};
+ghost use Rattle.wild_program.specs.Steps.{IsRefusal, HasRightNumbers, IsAnswerOf, IsAnsweredBy};
 
 use crate::command::Command;
+use crate::input::{plan_of, read_input};
 use crate::making::made_answer;
+use crate::space::bind_answer;
 use crate::status::{CUT_SHORT, LINKED, NO_PLAN, READ_FAULT, REFUSED, TOO_LONG, USAGE};
 use crate::words::command_of;
-use serde_json::Value;
 use std::alloc::{AllocError, Global};
 use std::thread::Threads;
 use wild_image::write_layout;
-use wild_io::{ReadFault, Sink, Source, SureSink, SureSource, read_whole, write_whole};
+use wild_io::{ReadFault, Sink, Source, SureSink, SureSource, write_whole};
 use wild_laws::images_are_sound;
 use wild_layout::numbers_fit;
 use wild_plan::{Error, Fault, Layout};
-use wild_text::{
-    PlanFault, image_answer, no_plan_answer, plans_are_read, read_plan, refusal_answer,
-};
-
-/// The maximal size of a plan in bytes.
-pub const LIMIT: usize = 1 << 31;
+use wild_space::{binds_are_first, orders_are_breadth_first, spaces_are_made};
+use wild_text::{image_answer, plans_are_read, refusal_answer, spaces_have_images};
 
 /// Writes the text, and returns the status, or the one for a failed write.
 pub fn write_answer<K: Sink>(sink: &mut K, answer: &[u8], code: u8) -> u8
@@ -74,64 +72,71 @@ fn refusal_of(alloc: Global, error: Error) -> Result<(u8, Vec<u8>), AllocError>
     }
 }
 
-/// The status and the text for the bytes of a plan.
-fn plan_answer(
+/// The status and the text of `link` for the bytes of a plan.
+fn link_answer(
     rt: &(impl Threads + Sync),
     alloc: Global,
     bytes: &[u8],
     workers: u8,
 ) -> Result<(u8, Vec<u8>), AllocError>
     requires { (1 ≤ workers) × (workers ≤ 64) }
-    ensures { IfOk result (λ a. IsAnswerOf bytes.now a.0 a.1.items) }
+    ensures { IfOk result (λ a. IsAnswerOf (Link workers) bytes.now a.0 a.1.items) }
 {
-    let value = match Value::from_slice(alloc, bytes) {
-        Ok(value) => value,
-        Err(e) => {
-            if e.is_memory() {
-                return Err(AllocError);
-            }
-            return Ok((NO_PLAN, b"not a plan: json\n".to_vec(alloc)?));
-        }
-    };
-    let layout = match read_plan(alloc, &value) {
+    let layout: Layout = match plan_of(alloc, bytes)? {
         Ok(layout) => layout,
-        Err(PlanFault::OutOfMemory) => return Err(AllocError),
-        Err(PlanFault::At(path)) => {
-            let text = no_plan_answer(alloc, path.as_str())?;
-            return Ok((NO_PLAN, text.into_bytes()));
-        }
+        Err(text) => return Ok((NO_PLAN, text)),
     };
     numbers_fit(&layout);
     let answer = layout_answer(rt, alloc, &layout, workers)?;
     Ok(answer)
 }
 
-/// Reads the plan and writes the answer.
-fn linked<S: Source, K: Sink>(
+/// The status and the text of a command, for the bytes of its input.
+fn command_answer(
+    rt: &(impl Threads + Sync),
+    alloc: Global,
+    command: Command,
+    bytes: &[u8],
+) -> Result<(u8, Vec<u8>), AllocError>
+    requires { HasRightNumbers command }
+    ensures { IfOk result (λ a. IsAnswerOf command bytes.now a.0 a.1.items) }
+{
+    match command {
+        Command::Link { workers } => link_answer(rt, alloc, bytes, workers),
+        Command::Make { groups, workers } => {
+            let summary = made_answer(rt, alloc, groups, workers)?;
+            Ok((LINKED, summary))
+        }
+        Command::Space => bind_answer(alloc, bytes),
+    }
+}
+
+/// Reads the input of the command, if it has one, and writes the answer.
+fn answer_command<S: Source, K: Sink>(
     rt: &(impl Threads + Sync),
     alloc: Global,
     words: &[String],
-    workers: u8,
+    command: Command,
     source: &mut S,
     sink: &mut K,
 ) -> Result<u8, AllocError>
-    requires { IsLink words.now workers }
+    requires { Asks words.now command }
     ensures ok { IfOk result (λ said. IsAnsweredBy words.now
         (source_change (S.unread_bytes source.old) (S.unread_bytes source.new) (S.faults source.old) (S.faults source.new))
         (sink_change (K.output_bytes sink.old) (K.output_bytes sink.new) (K.faults sink.old) (K.faults sink.new)) said) }
     ensures memory { OnErr result (K.output_bytes sink.new ≡ K.output_bytes sink.old) }
 {
-    let bytes = match read_whole(alloc, source, LIMIT) {
+    let bytes = match read_input(alloc, command, source) {
         Ok(bytes) => bytes,
         Err(ReadFault::Memory) => return Err(AllocError),
         Err(ReadFault::IoFailure) => return Ok(write_answer(sink, b"read fault\n", READ_FAULT)),
         Err(ReadFault::TooLong) => return Ok(write_answer(sink, b"plan too long\n", TOO_LONG)),
     };
-    let (code, answer) = plan_answer(rt, alloc, &bytes, workers)?;
+    let (code, answer) = command_answer(rt, alloc, command, &bytes)?;
     Ok(write_answer(sink, &answer, code))
 }
 
-/// Reads the plan if the command needs one, and writes the answer.
+/// Answers the command, if the words are one.
 fn run_command<S: Source, K: Sink>(
     rt: &(impl Threads + Sync),
     alloc: Global,
@@ -145,23 +150,20 @@ fn run_command<S: Source, K: Sink>(
     ensures memory { OnErr result (K.output_bytes sink.new ≡ K.output_bytes sink.old) }
 {
     match command_of(alloc, words)? {
-        None => Ok(write_answer(sink, b"usage: link W | make N W\n", USAGE)),
-        Some(Command::Link { workers }) => linked(rt, alloc, words, workers, source, sink),
-        Some(Command::Make { groups, workers }) => {
-            let answer = made_answer(rt, alloc, groups, workers)?;
-            Ok(write_answer(sink, &answer, LINKED))
-        }
+        None => Ok(write_answer(sink, b"usage: link W | make N W | space\n", USAGE)),
+        Some(command) => answer_command(rt, alloc, words, command, source, sink),
     }
 }
 
 /// The whole program: reads the plan if the words need one, and writes the answer's text. The status is
-/// - 0 (`LINKED`): an image or a summary was written;
+/// - 0 (`LINKED`): an image, a summary or the binds of images were written;
 /// - 1 (`REFUSED`): the layout has a fault;
 /// - 2 (`USAGE`): the words are not a command;
 /// - 3 (`NO_PLAN`): the bytes are not a plan;
 /// - 4 (`READ_FAULT`): a read failed;
 /// - 5 (`CUT_SHORT`): a write failed;
-/// - 7 (`TOO_LONG`): the plan is too long.
+/// - 7 (`TOO_LONG`): the plan is too long;
+/// - 11 (`NOT_BOUND`): the images are not bound.
 pub fn run<S: Source, K: Sink>(
     rt: &(impl Threads + Sync),
     alloc: Global,
@@ -199,11 +201,20 @@ pub fn run<S: Source, K: Sink>(
     ensures made { IfOk result (λ said. IsMadeBy words.now
         (source_change (S.unread_bytes source.old) (S.unread_bytes source.new) (S.faults source.old) (S.faults source.new))
         (sink_change (K.output_bytes sink.old) (K.output_bytes sink.new) (K.faults sink.old) (K.faults sink.new)) said) }
+    // If `space` writes binds, they are those of a dynamic linker: the order is breadth first, and each symbol is bound to itself or to
+    // the first definition of its name.
+    ensures bound { IfOk result (λ said. IsBoundBy words.now
+        (source_change (S.unread_bytes source.old) (S.unread_bytes source.new) (S.faults source.old) (S.faults source.new))
+        (sink_change (K.output_bytes sink.old) (K.output_bytes sink.new) (K.faults sink.old) (K.faults sink.new)) said) }
     // If memory is refused, no byte has been written.
     ensures memory { OnErr result (K.output_bytes sink.new ≡ K.output_bytes sink.old) }
 {
     plans_are_read();
     images_are_sound();
+    spaces_have_images();
+    spaces_are_made();
+    orders_are_breadth_first();
+    binds_are_first();
     run_command(rt, alloc, words, source, sink)
 }
 

@@ -3,7 +3,7 @@ ghost use Rattle.std.specs.Prelude.{◌≡◌, ◌≤◌, ◌<◌, ◌^◌, ℕ,
 ghost use Rattle.std.specs.Vec.Iter.{into_iter_items};
 ghost use Rattle.std.specs.IoError.{error_kind};
 ghost use Rattle.std.specs.declared.io.ErrorKind.TheVariants.{OutOfMemory};
-ghost use Rattle.wild_program.specs.Program.{IsLinkCommand, IsMakeCommand, IsCommand, Asks, IsLink, IsMake};
+ghost use Rattle.wild_program.specs.Program.{IsLinkCommand, IsMakeCommand, IsCommand, Asks, IsLink, IsMake, IsSpace};
 
 use crate::command::Command;
 use std::alloc::{AllocError, Global};
@@ -62,6 +62,12 @@ pub fn command_of(alloc: Global, words: &[String]) -> Result<Option<Command>, Al
     ensures { IfOk result (λ o. MatchOption o (IsCommand words.now → ⊥) (Asks words.now)) }
 {
     match words {
+        [name] => {
+            if name.as_str() != "space" {
+                return Ok(None);
+            }
+            Ok(Some(Command::Space))
+        }
         [name, workers] => {
             if name.as_str() != "link" {
                 return Ok(None);

@@ -22,6 +22,10 @@ e801000000c3c3002e74657874002e7368737472746162000000000000000000
 000000000000000001000000000000000000000000000000
 ";
 
+/// A shared object without segments, so without symbols (gABI, "ELF Header").
+const SPACE: &str =
+    r#"{"images":[{"bytes":"7f454c4602010100000000000000000003003e000100000000000000000000004000000000000000000000000000000000000000400038000000400000000000"}]}"#;
+
 /// Words that are no command.
 const NO_COMMANDS: &[&[&str]] = &[
     &[],
@@ -34,6 +38,7 @@ const NO_COMMANDS: &[&[&str]] = &[
     &["make", "01", "1"],
     &["make", "1", "01"],
     &["make", "65537", "1"],
+    &["space", "1"],
     &["--help"],
 ];
 
@@ -41,7 +46,7 @@ const NO_COMMANDS: &[&[&str]] = &[
 fn words_that_are_no_command(rt: HostRuntime) -> Result<(), Fail> {
     for words in NO_COMMANDS {
         let (status, text) = answer(&rt, rt.alloc(), words, b"{}", &CALM)?;
-        let usage = b"usage: link W | make N W\n".as_slice();
+        let usage = b"usage: link W | make N W | space\n".as_slice();
         assert!(rt; status == 2 && text.as_slice() == usage, "{words:?}");
     }
     Ok(())
@@ -97,7 +102,7 @@ fn is_prefix(text: &str, taken: &[u8], count: usize) -> bool {
     taken.len() == count && text.as_bytes().starts_with(taken)
 }
 
-/// Outputs of each kind: the words, the plan, the text that is written, and how many bytes a write takes at most.
+/// Outputs of each kind: the words, the input, the text that is written, and how many bytes a write takes at most.
 const TEXTS: &[(&[&str], &str, &str, usize)] = &[
     (&["link", "1"], SMALLEST, SMALLEST_TEXT, 8),
     (
@@ -113,7 +118,15 @@ const TEXTS: &[(&[&str], &str, &str, usize)] = &[
         "groups 1\nimage 408\ncount 1 8\nsum 16871\n",
         1,
     ),
-    (&[], "", "usage: link W | make N W\n", 1),
+    (&["space"], "{}", "not a plan: /images\n", 1),
+    (&["space"], SPACE, "order 0\n", 1),
+    (
+        &["space"],
+        r#"{"images":[{}]}"#,
+        "not bound Load image=0 NotElf\n",
+        1,
+    ),
+    (&[], "", "usage: link W | make N W | space\n", 1),
 ];
 
 /// Each write fails in turn, or takes nothing.

@@ -1,4 +1,4 @@
-//! What the two programs print for a plan in memory.
+//! What the two programs print for an input in memory.
 use std::alloc::{AllocError, Global};
 use std::thread::Threads;
 use wild_explain::explain;
@@ -23,15 +23,15 @@ fn words_of(alloc: Global, words: &[&str]) -> Result<Vec<String>, AllocError> {
     Ok(owned)
 }
 
-/// The status and the output of `link` with so many workers.
-pub(crate) fn link_answer(
+/// The status and the output of a command.
+pub(crate) fn command_answer(
     rt: &(impl Threads + Sync),
     alloc: Global,
-    plan: &str,
-    workers: &str,
+    words: &[&str],
+    input: &str,
 ) -> Result<(u8, Vec<u8>), AllocError> {
-    let words = words_of(alloc, &["link", workers])?;
-    let mut source = source_of(alloc, plan)?;
+    let words = words_of(alloc, words)?;
+    let mut source = source_of(alloc, input)?;
     let mut sink = sink(alloc);
     let status = run(rt, alloc, &words, &mut source, &mut sink)?;
     Ok((status, sink.bytes().to_vec(alloc)?))

@@ -1,5 +1,5 @@
-//! Plans and their answers. Each block of lines of the standard input is a row: a plan with changes, and what the programs print for
-//! it. Rows that differ are printed, and then the number of rows.
+//! Inputs and their answers. Each block of lines of the standard input is a row: a plan with changes or another input, and what the
+//! programs print for it. Rows that differ are printed, and then the number of rows.
 #![tactic(auto)]
 
 mod answers;

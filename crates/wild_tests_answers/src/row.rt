@@ -1,5 +1,5 @@
 //! A row of the table: lines of a word and a text.
-use crate::answers::{explain_answer, link_answer};
+use crate::answers::{command_answer, explain_answer};
 use std::alloc::{AllocError, Global};
 use std::thread::Threads;
 use wild_tests_plans::{FIRST_PLANS, OTHER_PLANS};
@@ -35,8 +35,19 @@ fn parts_of(line: &str) -> (&str, &str) {
     }
 }
 
-/// The plan of a row: a plan by its name, or a text. Each `new` replaces the `old` before it, which has to occur in the plan.
-fn plan_of(alloc: Global, row: &str) -> Result<Option<String>, AllocError> {
+/// Whether the row is one of the command `space`.
+fn is_of_space(row: &str) -> bool {
+    for line in row.lines() {
+        let (word, _) = parts_of(line);
+        if word == "space" {
+            return true;
+        }
+    }
+    false
+}
+
+/// The input of a row: a plan by its name, or a text. Each `new` replaces the `old` before it, which has to occur in the input.
+fn input_of(alloc: Global, row: &str) -> Result<Option<String>, AllocError> {
     let mut plan = String::new(alloc);
     let mut old = String::new(alloc);
     for line in row.lines() {
@@ -46,7 +57,7 @@ fn plan_of(alloc: Global, row: &str) -> Result<Option<String>, AllocError> {
                 return Ok(None);
             };
             plan = String::from_str(alloc, known)?;
-        } else if word == "text" {
+        } else if word == "text" || word == "space" {
             plan = String::from_str(alloc, text)?;
         } else if word == "old" {
             old = String::from_str(alloc, text)?;
@@ -73,31 +84,44 @@ fn answer_of(alloc: Global, row: &str) -> Result<String, AllocError> {
     Ok(answer)
 }
 
-/// The status of both programs with such an answer.
+/// The status of the programs with such an answer.
 fn status_of(answer: &str) -> u8 {
-    if answer.starts_with("image") {
+    if answer.starts_with("image") || answer.starts_with("order") {
         0
     } else if answer.starts_with("refused") {
         1
+    } else if answer.starts_with("not bound") {
+        11
     } else {
         3
     }
 }
 
-/// Whether `link` gives the answer for the plan, with one worker and with many.
+/// Whether `link` gives the answer for the input, with one worker and with many.
 fn is_linked(
     rt: &(impl Threads + Sync),
     alloc: Global,
-    plan: &str,
+    input: &str,
     answer: &str,
 ) -> Result<bool, AllocError> {
     for workers in ["1", "2", "64"] {
-        let (status, text) = link_answer(rt, alloc, plan, workers)?;
+        let (status, text) = command_answer(rt, alloc, &["link", workers], input)?;
         if status != status_of(answer) || !text.starts_with(answer.as_bytes()) {
             return Ok(false);
         }
     }
     Ok(true)
+}
+
+/// Whether this is the whole answer of `space` for the input.
+fn is_bound(
+    rt: &(impl Threads + Sync),
+    alloc: Global,
+    input: &str,
+    answer: &str,
+) -> Result<bool, AllocError> {
+    let (status, text) = command_answer(rt, alloc, &["space"], input)?;
+    Ok(status == status_of(answer) && text.as_slice() == answer.as_bytes())
 }
 
 /// What the output of `explain` has to contain, or may not contain, by a line of the row.
@@ -134,16 +158,19 @@ fn is_explained(
     Ok(true)
 }
 
-/// Whether both programs print what the row says.
+/// Whether the programs print what the row says.
 pub(crate) fn row_holds(
     rt: &(impl Threads + Sync),
     alloc: Global,
     row: &str,
 ) -> Result<bool, AllocError> {
     let answer = answer_of(alloc, row)?;
-    let Some(plan) = plan_of(alloc, row)? else {
+    let Some(input) = input_of(alloc, row)? else {
         return Ok(false);
     };
-    let (plan, answer) = (plan.as_str(), answer.as_str());
-    Ok(is_linked(rt, alloc, plan, answer)? && is_explained(rt, alloc, plan, answer, row)?)
+    let (input, answer) = (input.as_str(), answer.as_str());
+    if is_of_space(row) {
+        return is_bound(rt, alloc, input, answer);
+    }
+    Ok(is_linked(rt, alloc, input, answer)? && is_explained(rt, alloc, input, answer, row)?)
 }

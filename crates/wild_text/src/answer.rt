@@ -2,6 +2,7 @@
 ghost use Rattle.std.specs.Prelude.{◌≡◌, ◌++◌, ◌*◌, IfOk, OnOk, string_bytes, length};
 ghost use Rattle.hex.specs.Hex.{encode_lower};
 ghost use Rattle.wild_text.specs.Answer.{image_text, count_lines, hex_text, no_plan_text};
+ghost use Rattle.wild_text.specs.RelinkAnswer.{rewritten_text, no_section_text, no_length_text};
 
 use crate::warning::push_warnings;
 use std::alloc::{AllocError, Global};
@@ -46,6 +47,27 @@ fn push_hex(out: &mut Vec<u8>, bytes: &[u8]) -> Result<(), AllocError>
     Ok(())
 }
 
+/// A first line, and the text for an image of a layout.
+fn image_after(
+    alloc: Global,
+    first: &str,
+    layout: &Layout,
+    image: &[u8],
+    warnings: &[EntryWarning],
+    counts: &[u64],
+) -> Result<Vec<u8>, AllocError>
+    ensures { IfOk result (λ v. v.items ≡ first.now ++ image_text layout.now image.now warnings.now counts.now) }
+{
+    let size = image.len();
+    let mut head = format!(in alloc; "{first}image {size}\n")?;
+    push_warnings(&mut head, alloc, layout, warnings)?;
+    push_counts(&mut head, counts)?;
+    let mut out = head.into_bytes();
+    out.reserve(size.saturating_mul(2).saturating_add(size.div_ceil(LINE)))?;
+    push_hex(&mut out, image)?;
+    Ok(out)
+}
+
 /// The text for an image of a layout, with its warnings and the number of relocations of each section.
 pub fn image_answer(
     alloc: Global,
@@ -56,14 +78,36 @@ pub fn image_answer(
 ) -> Result<Vec<u8>, AllocError>
     ensures { IfOk result (λ v. v.items ≡ image_text layout.now image.now warnings.now counts.now) }
 {
-    let size = image.len();
-    let mut head = format!(in alloc; "image {size}\n")?;
-    push_warnings(&mut head, alloc, layout, warnings)?;
-    push_counts(&mut head, counts)?;
-    let mut out = head.into_bytes();
-    out.reserve(size.saturating_mul(2).saturating_add(size.div_ceil(LINE)))?;
-    push_hex(&mut out, image)?;
-    Ok(out)
+    image_after(alloc, "", layout, image, warnings, counts)
+}
+
+/// The text for the image of a layout with a changed section.
+pub fn relink_answer(
+    alloc: Global,
+    layout: &Layout,
+    image: &[u8],
+    warnings: &[EntryWarning],
+    counts: &[u64],
+) -> Result<Vec<u8>, AllocError>
+    ensures { IfOk result (λ v. v.items ≡ rewritten_text layout.now image.now warnings.now counts.now) }
+{
+    image_after(alloc, "rewritten 1\n", layout, image, warnings, counts)
+}
+
+/// The text for a change that names no section that may be changed.
+pub fn no_section_answer(alloc: Global) -> Result<String, AllocError>
+    ensures { IfOk result (λ s. string_bytes s ≡ no_section_text) }
+{
+    String::from_str(alloc, "no change section\n")
+}
+
+/// The text for new bytes of another length.
+pub fn no_length_answer(alloc: Global, given: usize, needed: usize) -> Result<String, AllocError>
+    ensures { IfOk result (λ s. string_bytes s ≡ no_length_text given needed) }
+{
+    let mut text = String::new(alloc);
+    writeln!(text, "no change length given={given} needed={needed}")?;
+    Ok(text)
 }
 
 /// The text for a value whose first wrong member has that path.

@@ -13,14 +13,23 @@ mod ordered_members;
 mod output;
 mod plan;
 mod refusal;
+mod relink;
 mod shapes;
+mod space;
+mod space_lines;
 mod symbol;
 mod values;
 mod versions;
 mod warning;
 
-pub use answer::{image_answer, no_plan_answer, push_counts};
+pub use answer::{
+    image_answer, no_length_answer, no_plan_answer, no_section_answer, push_counts, relink_answer,
+};
 pub use fault::PlanFault;
-pub use laws::{parts_are_read_again, plans_are_read};
+pub use laws::{parts_are_read_again, plans_are_read, spaces_have_images};
+pub use members::Planned;
 pub use plan::read_plan;
 pub use refusal::refusal_answer;
+pub use relink::RelinkRequest;
+pub use space::SpaceRequest;
+pub use space_lines::{space_answer, space_refusal};

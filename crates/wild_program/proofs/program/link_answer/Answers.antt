@@ -1,0 +1,26 @@
+use Rattle.std.proofs.Common.{refl}
+use Rattle.wild_text.specs.Means.{plan}
+use Rattle.wild_program.specs.Program.{of_plan, layout_status, layout_text}
+use Rattle.wild_program.proofs.AnswerLemmas.{no_plan_said, no_plan_fits}
+use Rattle.wild_program.proofs.program.link_answer.Goals as goal
+
+pub returns-in-Err : goal.returns-in-Err
+returns-in-Err g c =
+    let none = rw c.in-Err.is at c.in_ok-layout.ensures in
+    let said = no_plan_said layout_status layout_text none.meaning c.in-Err.text.items none.line in
+    record {
+      answer = of_plan none.meaning;
+      meant = (none.meaning, refl, none.means);
+      fits = no_plan_fits none.meaning c.in-Err.text.items none.line;
+      status_is = said.0;
+      text_is = said.1;
+    }
+
+pub returns : goal.returns
+returns g c = record {
+  answer = of_plan (plan c.in-Ok.layout);
+  meant = (plan c.in-Ok.layout, refl, rw c.in-Ok.is at c.in_ok-layout.ensures);
+  fits = c.numbers_fit.ensures;
+  status_is = c.in_ok-answer.ensures.0;
+  text_is = c.in_ok-answer.ensures.1;
+}
