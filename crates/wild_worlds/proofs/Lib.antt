@@ -7,4 +7,5 @@ mod AnsweredValues
 mod Answers
 mod Worlds
 mod DebugFile
+mod MixedFile
 mod JointPremises

@@ -4,8 +4,10 @@
 --   HasNote l            an image only for debuggers has a note with a reference that is checked, and with one that is left out
 --   HasOmittedSection l          of a section that a program would load, it has only the header
 --   IsJoinedForDebuggers l   the same for such a layout, and for a reference in a note, whose field has only one right value
+--   HasManySorts l           sections, symbols and slots of several sorts
+--   IsLinkedElsewhere l      the image is linked in a legal world at a base other than 0
 --   PremisesAreJoined    this is so for a layout of each kind that can be loaded at any base, and for one only for debuggers
-use Rattle.std.specs.Prelude.{◌≡◌, ◌≢◌, ℕ, false, [], Some, Contains, slice_get}
+use Rattle.std.specs.Prelude.{◌≡◌, ◌≢◌, ℕ, ◌≤◌, false, true, [], Some, Contains, slice_get}
 use Rattle.wild_records.specs.Abi.Relocation.{r_x86_64_none}
 use Rattle.wild_records.specs.Abi.Section.{sht_note, shf_alloc}
 use Rattle.wild_types.specs.declared.kind.Machine.{Machine}
@@ -17,13 +19,18 @@ use Rattle.wild_types.specs.declared.part.Part.{Part}
 use Rattle.wild_types.specs.declared.section.Section.{Section}
 use Rattle.wild_types.specs.declared.input.InputRelocation.{InputRelocation}
 use Rattle.wild_types.specs.declared.input.InputSection.{InputSection}
+use Rattle.wild_types.specs.declared.input.Slot.TheVariants as slot
 use Rattle.wild_types.specs.declared.layout.Layout.{Layout}
+use Rattle.wild_types.specs.declared.layout.Merged.{Merged}
+use Rattle.wild_types.specs.Flags.{ifunc, got_tls_offset}
 use Rattle.wild_layout.specs.Faults.{errors}
 use Rattle.wild_layout.specs.Image.{bytes}
 use Rattle.wild_loader.specs.declared.world.World.{World}
 use Rattle.wild_loader.specs.Memory.{number_in}
 use Rattle.wild_meaning.specs.Section.{IsSet, IsForDebuggers, IsHeaderOnly}
 use Rattle.wild_meaning.specs.World.{IsLegal}
+use Rattle.wild_meaning.specs.Value.{HasFlag}
+use Rattle.wild_meaning.specs.Frames.{kept_bytes}
 use Rattle.wild_types.specs.Item.{Item}
 use Rattle.wild_meaning.specs.Item.{IsInput, IsLoadedSlot, IsKept, IsKeptSection, IsReference, placed_item, place_at}
 use Rattle.wild_meaning.specs.Sequence.{Sort, Target, TargetInSlot, Instruction}
@@ -125,7 +132,39 @@ pub record IsJoinedForDebuggers (l : Layout) : Type 0 where
   pub refused : Refuses l world (HasWrongNumber (place_at world note.item note.reference.offset) 4 number)
   pub header_only : HasOmittedSection l
 
+-- ---- a layout with much in it
+
+-- the layout has a function that a resolver chooses, thread-local data with a slot, a merged string, a section that is placed in a
+-- given order, and a section of frames, of which bytes are kept
+pub record HasManySorts (l : Layout) : Type 0 where
+  pub resolver : ℕ
+  pub resolved : HasFlag l resolver ifunc true
+  pub thread : ℕ
+  pub slotted : HasFlag l thread got_tls_offset true
+  pub merged : Merged
+  pub strings : Contains l.merged merged
+  pub sorted : InputSection
+  pub placed : IsInput l sorted
+  pub order : sorted.slot ≡ slot.Sorted
+  pub frames : InputSection
+  pub framed : IsInput l frames
+  pub frame : frames.slot ≡ slot.Frame
+  pub kept : 1 ≤ kept_bytes l frames
+
+-- the layout has no faults, and a legal world at a base other than 0 in which its image is linked
+pub record IsLinkedElsewhere (l : Layout) : Type 0 where
+  pub faultless : errors l ≡ []
+  pub world : World
+  pub elsewhere : world.base ≢ 0
+  pub legal : IsLegal l world
+  pub described : DescribesOutput l (bytes l)
+  pub linked : IsLinked l world (bytes l)
+
 -- ---- the layouts
+
+-- a layout with much in it, of a kind, for a machine
+abbrev pub IsMetWithMany : Machine → OutputKind → Type 0
+IsMetWithMany machine kind = (l : Layout) × (l.machine ≡ machine) × (l.kind ≡ kind) × HasManySorts l × IsLinkedElsewhere l
 
 -- a layout of a kind, for a machine
 abbrev pub IsMet : Machine → OutputKind → Type 0
@@ -135,8 +174,8 @@ IsMet machine kind = (l : Layout) × (l.machine ≡ machine) × (l.kind ≡ kind
 abbrev pub IsMetForDebuggers : Machine → OutputKind → Type 0
 IsMetForDebuggers machine kind = (l : Layout) × (l.machine ≡ machine) × (l.kind ≡ kind) × IsJoinedForDebuggers l
 
--- a program without a dynamic linker, one with it, and a shared object, for either machine; and the debuggers' image of a program
--- without a dynamic linker
+-- a program without a dynamic linker, one with it, and a shared object, for either machine; the debuggers' image of a program without
+-- a dynamic linker; and such a program with much in it
 pub record PremisesAreJoined : Type 0 where
   pub static_pie : IsMet machine.X86_64 (output.StaticExecutable model.Relocatable)
   pub dynamic_pie : IsMet machine.X86_64 (output.DynamicExecutable model.Relocatable)
@@ -145,3 +184,4 @@ pub record PremisesAreJoined : Type 0 where
   pub words : IsMet machine.AArch64 (output.DynamicExecutable model.Relocatable)
   pub words_shared : IsMet machine.AArch64 output.SharedObject
   pub for_debuggers : IsMetForDebuggers machine.X86_64 (output.StaticExecutable model.Relocatable)
+  pub mixed : IsMetWithMany machine.X86_64 (output.StaticExecutable model.Relocatable)

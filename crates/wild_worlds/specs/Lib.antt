@@ -3,4 +3,5 @@ pub mod References
 pub mod Symbols
 pub mod Worked
 pub mod DebugFile
+pub mod MixedFile
 pub mod Joined
