@@ -28,10 +28,9 @@ class Scan:
             return file.globals[i - file.locals]
         target = file.local_targets.get(i)
         if target is None:
-            _, info, other, section, value, size = file.symbols[i]
             target = file.local_targets[i] = Target(file.symbol_name(i))
-            target.kind, target.file, target.index, target.info, target.other, target.size, target.value = "defined", file, i, info, other, size, value
-            target.section, target.absolute = file.section_of(i), section == 0xFFF1
+            target.define(file, i)
+            target.other = file.symbols[i][2]
         return target
 
     def is_lookup(self, target):
