@@ -214,7 +214,7 @@ class Library(Elf):
 
 
 def script_words(data):
-    """The files that a script names in GROUP and INPUT, each with whether it stands in AS_NEEDED, or None where it has other commands."""
+    """The files that a script names in GROUP and INPUT, each with whether AS_NEEDED has it, or None if the script has other commands."""
     words = re.findall(r"[(),]|[^\s(),]+", re.sub(r"/\*.*?\*/", "", data.decode("latin1"), flags=re.S))
     files, stack = [], []
     for i, word in enumerate(words):

@@ -16,7 +16,7 @@ class Machine(NamedTuple):
     own_property: int  # GNU_PROPERTY_.._FEATURE_1_AND: what all inputs have
     other_property: int  # GNU_PROPERTY_X86_ISA_1_NEEDED: what any input needs
     emulations: tuple
-    branches: tuple  # types of branches that may go by a thunk
+    branches: tuple  # types of branches that may use a thunk
     tiny: dict = {}  # types of the tiny code model, which the writer does not know, and their names
 
 

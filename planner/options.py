@@ -11,7 +11,7 @@ def by_spelling(*rows):
     return {spelling: row[:-1] for row in rows for spelling in row[-1].split()}
 
 
-# options that change nothing here: what they ask for is done anyway, or allows what is not done
+# options that change nothing here: what they require is done anyway, or allows what is not done
 WITHOUT_EFFECT = set("""
     --gc-sections --no-gc-sections -O1 -O2 -O0 -EL -X --discard-locals --fatal-warnings --no-fatal-warnings --no-copy-dt-needed-entries --enable-new-dtags --no-undefined-version --no-add-needed
     --fix-cortex-a53-843419 --fix-cortex-a53-835769 --sort-common --warn-common --no-warn-mismatch -nostdlib --no-ld-generated-unwind-info --allow-shlib-undefined --no-allow-shlib-undefined --sysroot=/

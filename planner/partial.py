@@ -1,4 +1,4 @@
-"""Makes the plan of a relocatable object (docs/PARTIAL.md): sections of one name behind each other, members of groups each for itself, with tables of relocations."""
+"""Makes the plan of a relocatable object (docs/PARTIAL.md): sections of one name are one section of the output, members of groups stay as they are, and each has its table of relocations."""
 from elf import GROUP, IN_GROUP, INFO_LINK, LINK_ORDER, NOBITS, RELA, SECTION, STRTAB, SYMTAB, SYMTAB_SHNDX, UNDEFINED, Refused, up
 from plan import PLACES, Plan
 
@@ -23,7 +23,7 @@ class PartialPlan(Plan):
                     yield section
 
     def place_sections(self):
-        """Groups first: the header of one stands in front of its members' (gABI, "Section Groups")."""
+        """Groups first: the header of a group comes before those of its members (gABI, "Section Groups")."""
         for section in self.kept_sections():
             if section.kind == GROUP:
                 output = self.layout.output(b".group", GROUP, 0, 4, b".symtab")

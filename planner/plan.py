@@ -73,7 +73,7 @@ class Plan:
 
     def make(self):
         self.layout.place_inputs(self.objects)
-        # the stack may be executed where an object asks for that (`.note.GNU-stack` with SHF_EXECINSTR)
+        # the stack may be executed if an object says so (`.note.GNU-stack` with SHF_EXECINSTR)
         stacks = (section.flags & CODE for file in self.objects for section in file.sections if section.name == b".note.GNU-stack")
         self.execstack = any(stacks) if self.options.execstack is None else self.options.execstack
         self.keep_frames()
@@ -151,7 +151,7 @@ class Plan:
             target.plan, at = at, at + 1
 
     def place_thunks(self):
-        """On AArch64 a branch reaches 128 MiB: where there is more code, files that lie within reach of each other have a block of thunks behind them."""
+        """On AArch64 a branch reaches 128 MiB: if there is more code, files within reach of each other have a block of thunks after them."""
         code = [output for output in self.layout.outputs if output.flags & CODE]
         if not self.machine.branches or sum(part.size for output in code for part in output.parts) < BRANCHES_REACH:
             return
@@ -207,7 +207,7 @@ class Plan:
                 if target.version not in versions:
                     versions[target.version], number = number, number + 1
                 target.listed_version = versions[target.version]
-        # glibc asks a program with packed addresses to say that its loader knows them
+        # a program with packed addresses needs this version of glibc, so that a loader without them refuses it
         for library in self.libraries:
             if self.options.relr and b"GLIBC_ABI_DT_RELR" in library.version_names.values():
                 self.version_needs.setdefault(library, {})[b"GLIBC_ABI_DT_RELR"] = number

@@ -1,4 +1,4 @@
-"""Which slots, stubs, copies and entries the references ask for (docs/SLOTS.md), and how many bytes of each table that is.
+"""Which slots, stubs, copies and entries the references need (docs/SLOTS.md), and how many bytes of each table that is.
 
 A reference that the writer rewrites under `relax` needs no slot (docs/REWRITES.md). Where that is not sure from the bytes a slot is given: one too many
 does no harm.
@@ -28,10 +28,9 @@ class Scan:
             return file.globals[i - file.locals]
         target = file.local_targets.get(i)
         if target is None:
-            _, info, other, section, value, size = file.symbols[i]
             target = file.local_targets[i] = Target(file.symbol_name(i))
-            target.kind, target.file, target.index, target.info, target.other, target.size, target.value = "defined", file, i, info, other, size, value
-            target.section, target.absolute = file.section_of(i), section == 0xFFF1
+            target.define(file, i)
+            target.other = file.symbols[i][2]
         return target
 
     def is_lookup(self, target):
@@ -88,7 +87,7 @@ class Scan:
                 continue
             i = info >> 32
             if i < first:
-                # a local symbol has an address in the output, so most references ask for nothing
+                # a local symbol has an address in the output, so most references need nothing
                 if sort == DISTANCE or sort == NARROW or sort == CALL or sort == SIZE:
                     if symbols[i][1] & 15 != IFUNC:
                         continue
@@ -213,7 +212,7 @@ class Scan:
         return bool(needs & GOT_OFFSET) + 2 * bool(needs & GOT_PAIR) + 2 * bool(needs & GOT_DESCRIPTOR) + bool(needs & GOT) + self.has_second(target)
 
     def has_second(self, target):
-        """A second slot for the address, beside that which the stub jumps by."""
+        """A second slot for the address, after the one that the stub uses."""
         return bool(target.needs & ADDRESS and target.needs & GOT and (target.canonical or self.is_chosen_here(target) and target.needs & STUB))
 
     def is_in_block(self, target):
@@ -262,7 +261,7 @@ class Scan:
 
 
 def packed_words(offsets):
-    """How many words pack places: an address, and behind it bitmaps of 63 places each (gABI, "Relative Relocation Table")."""
+    """How many words pack places: an address, and after it bitmaps of 63 places each (gABI, "Relative Relocation Table")."""
     count, next_place, is_marked = 0, None, False
     for offset in offsets:
         while next_place is not None and offset >= next_place + 504 and is_marked:

@@ -23,6 +23,13 @@ class Target:
     def type(self):
         return self.info & 15
 
+    def define(self, file, i):
+        """The name means symbol i of a file."""
+        _, info, _, section, value, size = file.symbols[i]
+        self.kind, self.file, self.index, self.size, self.value = "defined", file, i, size, value
+        self.info = info & 15 | (GLOBAL << 4 if info >> 4 == UNIQUE else info & 0xF0)
+        self.absolute, self.section = section == ABSOLUTE, file.section_of(i)
+
     def is_at(self, file, i):
         """Whether symbol i of a file is the one that the name means."""
         return self.file is file and self.index == i
@@ -220,11 +227,7 @@ class Resolver:
         target.strong = True
 
     def set(self, target, file, i):
-        _, info, other, section, value, size = file.symbols[i]
-        target.kind, target.file, target.index, target.size, target.value = "defined", file, i, size, value
-        target.info = info & 15 | (GLOBAL << 4 if info >> 4 == UNIQUE else info & 0xF0)
-        target.absolute = section == ABSOLUTE
-        target.section = file.section_of(i)
+        target.define(file, i)
         self.unresolved.pop(target.name, None)
 
     def define(self, target, file, i):

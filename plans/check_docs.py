@@ -672,11 +672,15 @@ def is_there(crate, item):
 
 def exported(crate):
     """The items that a crate exports, each with the crate that defines it."""
-    library, items = read(f"crates/{crate}/src/lib.rt"), {}
+    library, items, uses = read(f"crates/{crate}/src/lib.rt"), {}, set()
     for home, names in re.findall(r"^pub use (\w+)[\w:]*?::(\{[^}]*\}|\w+);", library, re.M):
-        items.update(dict.fromkeys(re.findall(r"\w+", names), home if os.path.isdir(f"{TOP}/crates/{home}") else crate))
+        for name in re.findall(r"\w+", names):
+            items[name] = home if os.path.isdir(f"{TOP}/crates/{home}") else crate
+            uses.add((home, name))
     for module in re.findall(r"^pub mod (\w+);", library, re.M):
-        items.update((f"{module}::{item}", crate) for _, item in re.findall(PUBLIC, read(f"crates/{crate}/src/{module}.rt"), re.M))
+        for _, name in re.findall(PUBLIC, read(f"crates/{crate}/src/{module}.rt"), re.M):
+            if (module, name) not in uses:
+                items[f"{module}::{name}"] = crate
     return items
 
 
@@ -705,11 +709,11 @@ def calls():
         if crate := re.match(r"(?:Call|Law) of `(\w+)`", heads[0]):
             name, items = cells[0].strip("`"), exported(crate[1])
             item, method = (name, "") if name in items else name.rpartition("::")[::2]
-            lines[items.get(item, crate[1]), item.split("::")[-1], method] += 1
+            lines[items.get(item, crate[1]), item, method] += 1
             for item, home in items.items():
-                item = item.split("::")[-1]
-                if item in public(home):
-                    expected.update((home, item, method) for method in {"", *public(home)[item]})
+                methods = public(home).get(item.split("::")[-1])
+                if methods is not None:
+                    expected.update((home, item, method) for method in {"", *methods})
     for key in sorted(expected | set(lines)):
         same(f"docs/API.md: {'::'.join(filter(None, key))}", f"{int(key in expected)} lines", f"{lines[key]} lines")
 
