@@ -80,10 +80,6 @@ IsReading words = IsLinkCommand words ⊎ (IsRelinkCommand words ⊎ IsSpace wor
 abbrev pub IsCommand : List (String Global) → Type 0
 IsCommand words = IsReading words ⊎ IsMakeCommand words
 
--- the words are a command
-abbrev pub IsCommand : List (String Global) → Type 0
-IsCommand words = IsReading words ⊎ IsMakeCommand words
-
 -- the words are that command
 abbrev pub Asks : List (String Global) → Command → Type 0
 Asks words (command.Link w) = IsLink words w
