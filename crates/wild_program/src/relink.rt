@@ -1,5 +1,5 @@
 //! The answer of the command `relink`.
-ghost use Rattle.std.specs.Prelude.{◌≡◌, ◌≤◌, IfOk};
+ghost use Rattle.std.specs.Prelude.{◌≡◌, ◌≤◌, ◌<◌, IfOk};
 ghost use Rattle.wild_program.specs.declared.command.Command.TheVariants.{Relink};
 ghost use Rattle.wild_program.specs.Program.{relink_status, relink_answer_text};
 ghost use Rattle.wild_program.specs.Steps.{IsAnswerOf};
@@ -8,8 +8,8 @@ use crate::input::plan_of;
 use crate::program::refusal_of;
 use crate::status::{LINKED, NO_PLAN, NOT_CHANGED};
 use std::alloc::{AllocError, Global};
-use std::marker::Sync;
-use std::sync::ledger::Blank;
+use std::marker::{Brand, Sync};
+use std::sync::ledger::{Blank, Ledger};
 use std::thread::Threads;
 use wild_debug::ShardedArch;
 use wild_image::Steps;
@@ -18,15 +18,20 @@ use wild_relax::{ElfAArch64, ElfX86_64};
 use wild_relinker::{Linked, RelinkFault, relink};
 use wild_text::{RelinkRequest, no_length_answer, no_section_answer, relink_answer};
 
-/// The status and the text for a plan and its change, for the machine that the plan names.
-fn machine_answer<A: ShardedArch + Sync>(
+/// The status and the text for a plan and its change, for the machine that the plan names. `blank` names the ledger in which the
+/// groups that are written are counted.
+fn machine_answer<A: ShardedArch + Sync, L: Ledger>(
     rt: &(impl Threads + Sync),
     alloc: Global,
     request: RelinkRequest,
     workers: u8,
+    blank: Blank,
 ) -> Result<(u8, Vec<u8>), AllocError>
 where
     A::Relaxation: Sync,
+    requires name { blank.name ≡ L.name }
+    requires parts { blank.parts ≡ L.parts }
+    requires some { 0 < blank.parts }
     requires machine { request.plan.machine ≡ A.machine }
     requires workers { (1 ≤ workers) × (workers ≤ 64) }
     ensures { IfOk result (λ a. (a.0 ≡ relink_status request) × (a.1.items ≡ relink_answer_text request)) }
@@ -36,8 +41,8 @@ where
         Ok(linked) => linked,
         Err(error) => return refusal_of(alloc, error),
     };
-    let mut steps = Steps::new(Blank::new(1));
-    match relink::<A, _, _>(rt, alloc, &mut linked, change, &mut steps) {
+    let mut steps = Steps::<L>::new(blank);
+    match relink::<A, _, L>(rt, alloc, &mut linked, change, &mut steps) {
         Ok(()) => {
             let text = relink_answer(
                 alloc,
@@ -72,8 +77,8 @@ fn request_answer(
     ensures { IfOk result (λ a. (a.0 ≡ relink_status request) × (a.1.items ≡ relink_answer_text request)) }
 {
     match request.plan.machine {
-        Machine::X86_64 => machine_answer::<ElfX86_64>(rt, alloc, request, workers),
-        Machine::AArch64 => machine_answer::<ElfAArch64>(rt, alloc, request, workers),
+        Machine::X86_64 => machine_answer::<ElfX86_64, Brand>(rt, alloc, request, workers, Blank::new(1)),
+        Machine::AArch64 => machine_answer::<ElfAArch64, Brand>(rt, alloc, request, workers, Blank::new(1)),
     }
 }
 
