@@ -2,7 +2,7 @@
 ghost use Rattle.std.specs.Prelude.{◌≡◌, ◌≤◌, ◌<◌, IfOk};
 ghost use Rattle.wild_program.specs.declared.command.Command.TheVariants.{Relink};
 ghost use Rattle.wild_program.specs.Program.{relink_status, relink_answer_text};
-ghost use Rattle.wild_program.specs.Steps.{IsAnswerOf};
+ghost use Rattle.wild_program.specs.Steps.{IsChangeAnswer, IsAnswerOf};
 
 use crate::input::plan_of;
 use crate::program::refusal_of;
@@ -11,12 +11,42 @@ use std::alloc::{AllocError, Global};
 use std::marker::{Brand, Sync};
 use std::sync::ledger::{Blank, Ledger};
 use std::thread::Threads;
-use wild_debug::ShardedArch;
-use wild_image::Steps;
+use wild_image::{ElfAArch64, ElfX86_64, ShardedArch, Steps};
 use wild_plan::Machine;
-use wild_relax::{ElfAArch64, ElfX86_64};
 use wild_relinker::{Linked, RelinkFault, relink};
 use wild_text::{RelinkRequest, no_length_answer, no_section_answer, relink_answer};
+
+/// The status and the text for the answer to a change of a linked layout; out of memory has none.
+fn change_answer(
+    alloc: Global,
+    linked: &Linked,
+    change: Result<(), RelinkFault>,
+) -> Result<(u8, Vec<u8>), AllocError>
+    ensures { IfOk result (λ a. IsChangeAnswer change linked.now.layout a.0 a.1.items) }
+{
+    match change {
+        Ok(()) => {
+            let text = relink_answer(
+                alloc,
+                linked.layout(),
+                linked.out(),
+                linked.warnings(),
+                linked.counts(),
+            )?;
+            Ok((LINKED, text))
+        }
+        Err(RelinkFault::NoSection) => {
+            let text = no_section_answer(alloc)?;
+            Ok((NOT_CHANGED, text.into_bytes()))
+        }
+        Err(RelinkFault::Length { given, needed }) => {
+            let text = no_length_answer(alloc, given, needed)?;
+            Ok((NOT_CHANGED, text.into_bytes()))
+        }
+        Err(RelinkFault::Write(error)) => refusal_of(alloc, error),
+        Err(RelinkFault::OutOfMemory) => Err(AllocError),
+    }
+}
 
 /// The status and the text for a plan and its change, for the machine that the plan names. `blank` names the ledger in which the
 /// groups that are written are counted.
@@ -42,28 +72,8 @@ where
         Err(error) => return refusal_of(alloc, error),
     };
     let mut steps = Steps::<L>::new(blank);
-    match relink::<A, _, L>(rt, alloc, &mut linked, change, &mut steps) {
-        Ok(()) => {
-            let text = relink_answer(
-                alloc,
-                linked.layout(),
-                linked.out(),
-                linked.warnings(),
-                linked.counts(),
-            )?;
-            Ok((LINKED, text))
-        }
-        Err(RelinkFault::NoSection) => {
-            let text = no_section_answer(alloc)?;
-            Ok((NOT_CHANGED, text.into_bytes()))
-        }
-        Err(RelinkFault::Length { given, needed }) => {
-            let text = no_length_answer(alloc, given, needed)?;
-            Ok((NOT_CHANGED, text.into_bytes()))
-        }
-        Err(RelinkFault::Write(error)) => refusal_of(alloc, error),
-        Err(RelinkFault::OutOfMemory) => Err(AllocError),
-    }
+    let result = relink::<A, _, L>(rt, alloc, &mut linked, change, &mut steps);
+    change_answer(alloc, &linked, result)
 }
 
 /// The status and the text for a plan and its change.
