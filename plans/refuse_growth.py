@@ -7,8 +7,8 @@ refused, by answer, and each refusal that had another answer; the status is 0 wh
     plans/refuse_growth.py PROGRAM
     plans/refuse_growth.py PROGRAM smallest every     these plans alone, `make`, `space` and shards
 
-Each allocation is refused of `make 2 2`, of `space` for three images, and of each plan, among them the smallest and one with a part of each role
-(plans/every.json). Of a plan whose debug section is cut into shards, which has 65,537 relocations, each is refused from the last of reading on, and some of those ahead.
+Each allocation is refused of `make 2 2`, of `space` for three images, of each plan, among them the smallest and one with a part of each role
+(plans/every.json), and of `relink` for a section of each plan. Of a plan whose debug section is cut into shards, which has 65,537 relocations, each is refused from the last of reading on, and some of those ahead.
 
 The program asks the C library for memory, so a library that is loaded ahead of it refuses allocation N (malloc, calloc, realloc and their
 like), or that and all behind it. It says so with a byte on standard error, on which the program writes nothing; so the first run without that byte
@@ -80,6 +80,17 @@ def answer(program, words, plan, library, first, last, whole=None):
         return "the whole answer", bool(ran.stderr)
     text = "nothing written" if not ran.stdout else f"{len(ran.stdout)} bytes written"
     return f"status {ran.returncode}, {text}", bool(ran.stderr)
+
+
+def with_change(plan):
+    """The input of `relink`: a plan, and its first section that may be changed with the bytes and relocations that it has."""
+    value = json.loads(plan)
+    for place in ((g, f, s) for g, group in enumerate(value["groups"]) for f, file in enumerate(group["files"]) for s in range(len(file.get("sections", ())))):
+        section = value["groups"][place[0]]["files"][place[1]]["sections"][place[2]]
+        if section.get("slot") in ("loaded", "debug"):
+            change = {**dict(zip(("group", "file", "section"), place)), "bytes": section.get("bytes", ""), "relocations": section.get("relocations", [])}
+            return json.dumps({"plan": value, "change": change}, separators=(",", ":")).encode()
+    return plan
 
 
 def sweep(program, library, words, plan, others):
@@ -158,7 +169,8 @@ def main():
         if len(sys.argv) < 3 or os.path.basename(path).removesuffix(".json") in sys.argv[2:]:
             with open(path, "rb") as file:
                 plan = file.read()
-            runs += [(["link", workers], f"plans/{os.path.basename(path)}", plan) for workers in ("1", "2")]
+            name = f"plans/{os.path.basename(path)}"
+            runs += [(["link", "1"], name, plan), (["link", "2"], name, plan), (["relink", "1"], name, with_change(plan))]
     failed, tried = False, 0
     with tempfile.TemporaryDirectory() as folder:
         library = shim(folder)
