@@ -8,7 +8,7 @@ use crate::input::plan_of;
 use crate::program::refusal_of;
 use crate::status::{LINKED, NO_PLAN, NOT_CHANGED};
 use std::alloc::{AllocError, Global};
-use std::marker::{Brand, Sync};
+use std::marker::Brand;
 use std::sync::ledger::{Blank, Ledger};
 use std::thread::Threads;
 use wild_image::{ElfAArch64, ElfX86_64, ShardedArch, Steps};
