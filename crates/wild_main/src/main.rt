@@ -1,4 +1,4 @@
-//! The program `link W`, `make N W` and `space` over standard input and output.
+//! The program `link W`, `make N W`, `relink W` and `space` over standard input and output.
 #![tactic(auto)]
 
 use std::process::ExitCode;

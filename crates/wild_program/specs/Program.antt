@@ -23,9 +23,16 @@ use Rattle.wild_meaning.specs.LinkedImage.{IsSound}
 use Rattle.serde_json.specs.Data.{Data}
 use Rattle.wild_text.specs.Means.{Meaning, no_json, no_plan, plan, MeansBy}
 use Rattle.wild_text.specs.Plan.{layout_in}
+use Rattle.wild_text.specs.Relink.{relink_in}
+use Rattle.wild_text.specs.RelinkAnswer.{rewritten_text, no_section_text, no_length_text}
+use Rattle.wild_text.specs.declared.relink.RelinkRequest.{RelinkRequest}
 use Rattle.wild_text.specs.Space.{space_in}
 use Rattle.wild_text.specs.SpaceAnswer.{space_text, not_bound_text}
 use Rattle.wild_text.specs.declared.space.SpaceRequest.{SpaceRequest}
+use Rattle.wild_change.specs.Change.{changed_layout}
+use Rattle.wild_relinker.specs.Answer.{answer}
+use Rattle.wild_relinker.specs.declared.fault.RelinkFault.{RelinkFault}
+use Rattle.wild_relinker.specs.declared.fault.RelinkFault.TheVariants as refusal
 use Rattle.wild_space.specs.Bound.{bound}
 use Rattle.wild_space.specs.Binds.{bind}
 use Rattle.wild_space.specs.OrderLaws.{IsBreadthFirst}
@@ -53,13 +60,21 @@ IsLinkCommand words = (n : ℕ) × IsLink words n
 abbrev pub IsMakeCommand : List (String Global) → Type 0
 IsMakeCommand words = (n : ℕ) × (w : ℕ) × IsMake words n w
 
+-- the words are `relink` and a number of workers from 1 to 64, in decimal
+abbrev pub IsRelink : List (String Global) → ℕ → Type 0
+IsRelink words n = (map string_bytes words ≡ codes "relink" ∷ decimal n ∷ []) × (1 ≤ n) × (n ≤ 64)
+
+-- the words are `relink W`
+abbrev pub IsRelinkCommand : List (String Global) → Type 0
+IsRelinkCommand words = (n : ℕ) × IsRelink words n
+
 -- the word is `space`
 abbrev pub IsSpace : List (String Global) → Type 0
 IsSpace words = map string_bytes words ≡ codes "space" ∷ []
 
 -- the words are a command that reads its input to the end
 abbrev pub IsReading : List (String Global) → Type 0
-IsReading words = IsLinkCommand words ⊎ IsSpace words
+IsReading words = IsLinkCommand words ⊎ (IsRelinkCommand words ⊎ IsSpace words)
 
 -- the words are a command
 abbrev pub IsCommand : List (String Global) → Type 0
@@ -69,6 +84,7 @@ IsCommand words = IsReading words ⊎ IsMakeCommand words
 abbrev pub Asks : List (String Global) → Command → Type 0
 Asks words (command.Link w) = IsLink words w
 Asks words (command.Make n w) = IsMake words n w
+Asks words (command.Relink w) = IsRelink words w
 Asks words command.Space = IsSpace words
 
 -- the possible answers
@@ -78,6 +94,7 @@ pub data Answer : Type 0 where
   too_long : Answer
   of_plan : Meaning Layout → Answer
   of_make : ℕ → Answer
+  of_relink : Meaning RelinkRequest → Answer
   of_space : Meaning SpaceRequest → Answer
 
 -- the status for a layout with these faults
@@ -104,6 +121,29 @@ summary_text n image counts = codes "groups " ++ decimal n ++ codes "\n" ++ imag
 -- the summary for the made plan of n groups
 abbrev pub made_text : ℕ → List ℕ
 made_text n = summary_text n (bytes (plan_of_groups n)) (counts (plan_of_groups n))
+
+-- the status for a plan with these faults, whose change has that answer
+abbrev pub change_status : List Error → Result (Unit {0}) RelinkFault → ℕ
+change_status (e ∷ es) a = exit.refused
+change_status [] (Ok done) = exit.linked
+change_status [] (Err (refusal.Write e)) = exit.refused
+change_status [] (Err fault) = exit.not_changed
+
+-- the text for a plan with these faults, whose change has that answer and makes this layout
+abbrev pub change_text : List Error → Result (Unit {0}) RelinkFault → Layout → List ℕ
+change_text (e ∷ es) a l = refusal_text e
+change_text [] (Ok done) l = rewritten_text l (bytes l) (warnings l) (counts l)
+change_text [] (Err (refusal.Write e)) l = refusal_text e
+change_text [] (Err (refusal.Length given needed)) l = no_length_text given needed
+change_text [] (Err fault) l = no_section_text
+
+-- `refused` if the plan has a fault, or the changed layout; `not_changed` if there is no such change; else `linked`
+abbrev pub relink_status : RelinkRequest → ℕ
+relink_status r = change_status (errors r.plan) (answer r.plan r.change)
+
+-- the text of the image of the changed layout, or of the first fault
+abbrev pub relink_answer_text : RelinkRequest → List ℕ
+relink_answer_text r = change_text (errors r.plan) (answer r.plan r.change) (changed_layout r.plan r.change)
 
 -- what the images of an input are bound to
 abbrev pub bound_images : SpaceRequest → Result Bound BindFault
@@ -143,14 +183,16 @@ status read_fault = exit.read_fault
 status too_long = exit.too_long
 status (of_plan meaning) = meaning_status layout_status meaning
 status (of_make n) = exit.linked
+status (of_relink meaning) = meaning_status relink_status meaning
 status (of_space meaning) = meaning_status space_status meaning
 
 abbrev pub text : Answer → List ℕ
-text usage = codes "usage: link W | make N W | space\n"
+text usage = codes "usage: link W | make N W | relink W | space\n"
 text read_fault = codes "read fault\n"
 text too_long = codes "plan too long\n"
 text (of_plan meaning) = meaning_text layout_text meaning
 text (of_make n) = made_text n
+text (of_relink meaning) = meaning_text relink_answer_text meaning
 text (of_space meaning) = meaning_text space_answer_text meaning
 
 -- the maximal size of a plan in bytes
@@ -197,6 +239,7 @@ IsRightAnswer words t read_fault = IsReading words × CountRose t.faults_before 
 IsRightAnswer words t too_long = IsReading words × IsTooLong t
 IsRightAnswer words t (of_plan meaning) = IsLinkCommand words × HasMeaning t meaning
 IsRightAnswer words t (of_make n) = ((w : ℕ) × IsMake words n w) × NothingRead t
+IsRightAnswer words t (of_relink meaning) = IsRelinkCommand words × HasMeaningBy relink_in t meaning
 IsRightAnswer words t (of_space meaning) = IsSpace words × HasMeaningBy space_in t meaning
 
 -- the state of the sink before and after: the bytes written so far, and the number of failed writes

@@ -1,11 +1,13 @@
 //! The program as a library: `link W` reads a plan and writes its image as text; `make N W` writes the summary of the
-//! image of N groups; `space` reads images and writes how a dynamic linker binds them. The caller chooses the source and the sink.
+//! image of N groups; `relink W` reads a plan and a change of one input section; `space` reads images and writes how a dynamic
+//! linker binds them. The caller chooses the source and the sink.
 #![tactic(auto)]
 
 mod command;
 mod input;
 mod making;
 mod program;
+mod relink;
 mod space;
 mod status;
 mod words;
@@ -14,8 +16,8 @@ pub use command::Command;
 pub use input::LIMIT;
 pub use program::{run, run_surely, write_answer};
 pub use status::{
-    CUT_SHORT, LINKED, NO_MEMORY, NO_PLAN, NOT_BOUND, READ_FAULT, REFUSED, TOO_LONG, USAGE,
-    status_of,
+    CUT_SHORT, LINKED, NO_MEMORY, NO_PLAN, NOT_BOUND, NOT_CHANGED, READ_FAULT, REFUSED, TOO_LONG,
+    USAGE, status_of,
 };
 pub use wild_io::{
     IoFailure, MemSink, MemSource, ReadFault, ReaderSource, Sink, Source, SureSink, SureSource,

@@ -10,6 +10,7 @@ ghost use Rattle.wild_program.specs.Steps.{IsRefusal, HasRightNumbers, IsAnswerO
 use crate::command::Command;
 use crate::input::{plan_of, read_input};
 use crate::making::made_answer;
+use crate::relink::rewrite_answer;
 use crate::space::bind_answer;
 use crate::status::{CUT_SHORT, LINKED, NO_PLAN, READ_FAULT, REFUSED, TOO_LONG, USAGE};
 use crate::words::command_of;
@@ -60,7 +61,7 @@ fn layout_answer(
 }
 
 /// The status and the text for a fault; out of memory has none.
-fn refusal_of(alloc: Global, error: Error) -> Result<(u8, Vec<u8>), AllocError>
+pub(crate) fn refusal_of(alloc: Global, error: Error) -> Result<(u8, Vec<u8>), AllocError>
     ensures { IfOk result (λ a. IsRefusal error a.0 a.1.items) }
 {
     match error.fault {
@@ -107,6 +108,7 @@ fn command_answer(
             let summary = made_answer(rt, alloc, groups, workers)?;
             Ok((LINKED, summary))
         }
+        Command::Relink { workers } => rewrite_answer(rt, alloc, bytes, workers),
         Command::Space => bind_answer(alloc, bytes),
     }
 }
@@ -150,7 +152,7 @@ fn run_command<S: Source, K: Sink>(
     ensures memory { OnErr result (K.output_bytes sink.new ≡ K.output_bytes sink.old) }
 {
     match command_of(alloc, words)? {
-        None => Ok(write_answer(sink, b"usage: link W | make N W | space\n", USAGE)),
+        None => Ok(write_answer(sink, b"usage: link W | make N W | relink W | space\n", USAGE)),
         Some(command) => answer_command(rt, alloc, words, command, source, sink),
     }
 }
@@ -163,6 +165,7 @@ fn run_command<S: Source, K: Sink>(
 /// - 4 (`READ_FAULT`): a read failed;
 /// - 5 (`CUT_SHORT`): a write failed;
 /// - 7 (`TOO_LONG`): the plan is too long;
+/// - 9 (`NOT_CHANGED`): the change names no section that may be changed, or has bytes of another length;
 /// - 11 (`NOT_BOUND`): the images are not bound.
 pub fn run<S: Source, K: Sink>(
     rt: &(impl Threads + Sync),

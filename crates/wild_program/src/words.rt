@@ -69,15 +69,18 @@ pub fn command_of(alloc: Global, words: &[String]) -> Result<Option<Command>, Al
             Ok(Some(Command::Space))
         }
         [name, workers] => {
-            if name.as_str() != "link" {
+            if name.as_str() != "link" && name.as_str() != "relink" {
                 return Ok(None);
             }
             let Some(workers) = number_of(alloc, workers.as_str(), 64)? else {
                 return Ok(None);
             };
-            Ok(Some(Command::Link {
-                workers: workers as u8,
-            }))
+            let workers = workers as u8;
+            if name.as_str() == "link" {
+                Ok(Some(Command::Link { workers }))
+            } else {
+                Ok(Some(Command::Relink { workers }))
+            }
         }
         [name, groups, workers] => {
             if name.as_str() != "make" {

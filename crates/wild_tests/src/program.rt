@@ -38,6 +38,10 @@ const NO_COMMANDS: &[&[&str]] = &[
     &["make", "01", "1"],
     &["make", "1", "01"],
     &["make", "65537", "1"],
+    &["relink"],
+    &["relink", "0"],
+    &["relink", "65"],
+    &["relink", "1", "1"],
     &["space", "1"],
     &["--help"],
 ];
@@ -46,7 +50,7 @@ const NO_COMMANDS: &[&[&str]] = &[
 fn words_that_are_no_command(rt: HostRuntime) -> Result<(), Fail> {
     for words in NO_COMMANDS {
         let (status, text) = answer(&rt, rt.alloc(), words, b"{}", &CALM)?;
-        let usage = b"usage: link W | make N W | space\n".as_slice();
+        let usage = b"usage: link W | make N W | relink W | space\n".as_slice();
         assert!(rt; status == 2 && text.as_slice() == usage, "{words:?}");
     }
     Ok(())
@@ -118,6 +122,18 @@ const TEXTS: &[(&[&str], &str, &str, usize)] = &[
         "groups 1\nimage 408\ncount 1 8\nsum 16871\n",
         1,
     ),
+    (
+        &["relink", "1"],
+        "{}",
+        "refused MalformedLayout clause=1 index=0\n",
+        1,
+    ),
+    (
+        &["relink", "1"],
+        r#"{"change":0}"#,
+        "not a plan: /change\n",
+        1,
+    ),
     (&["space"], "{}", "not a plan: /images\n", 1),
     (&["space"], SPACE, "order 0\n", 1),
     (
@@ -126,7 +142,7 @@ const TEXTS: &[(&[&str], &str, &str, usize)] = &[
         "not bound Load image=0 NotElf\n",
         1,
     ),
-    (&[], "", "usage: link W | make N W | space\n", 1),
+    (&[], "", "usage: link W | make N W | relink W | space\n", 1),
 ];
 
 /// Each write fails in turn, or takes nothing.

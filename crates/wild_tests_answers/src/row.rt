@@ -35,18 +35,22 @@ fn parts_of(line: &str) -> (&str, &str) {
     }
 }
 
-/// Whether the row is one of the command `space`.
-fn is_of_space(row: &str) -> bool {
+/// The command of a row.
+fn command_of(row: &str) -> &'static str {
     for line in row.lines() {
         let (word, _) = parts_of(line);
         if word == "space" {
-            return true;
+            return "space";
+        }
+        if word == "change" || word == "relink" {
+            return "relink";
         }
     }
-    false
+    "link"
 }
 
-/// The input of a row: a plan by its name, or a text. Each `new` replaces the `old` before it, which has to occur in the input.
+/// The input of a row: a plan by its name, or a text. Each `new` replaces the `old` before it, which has to occur in the input. A `change`
+/// adds itself to the plan before it.
 fn input_of(alloc: Global, row: &str) -> Result<Option<String>, AllocError> {
     let mut plan = String::new(alloc);
     let mut old = String::new(alloc);
@@ -57,8 +61,10 @@ fn input_of(alloc: Global, row: &str) -> Result<Option<String>, AllocError> {
                 return Ok(None);
             };
             plan = String::from_str(alloc, known)?;
-        } else if word == "text" || word == "space" {
+        } else if word == "text" || word == "space" || word == "relink" {
             plan = String::from_str(alloc, text)?;
+        } else if word == "change" {
+            plan = format!(in alloc; "{{\"plan\":{plan},\"change\":{text}}}")?;
         } else if word == "old" {
             old = String::from_str(alloc, text)?;
         } else if word == "new" {
@@ -86,10 +92,15 @@ fn answer_of(alloc: Global, row: &str) -> Result<String, AllocError> {
 
 /// The status of the programs with such an answer.
 fn status_of(answer: &str) -> u8 {
-    if answer.starts_with("image") || answer.starts_with("order") {
+    if answer.starts_with("image")
+        || answer.starts_with("order")
+        || answer.starts_with("rewritten")
+    {
         0
     } else if answer.starts_with("refused") {
         1
+    } else if answer.starts_with("no change") {
+        9
     } else if answer.starts_with("not bound") {
         11
     } else {
@@ -97,15 +108,16 @@ fn status_of(answer: &str) -> u8 {
     }
 }
 
-/// Whether `link` gives the answer for the input, with one worker and with many.
-fn is_linked(
+/// Whether `link` or `relink` gives the answer for the input, with one worker and with many.
+fn is_written(
     rt: &(impl Threads + Sync),
     alloc: Global,
+    command: &str,
     input: &str,
     answer: &str,
 ) -> Result<bool, AllocError> {
     for workers in ["1", "2", "64"] {
-        let (status, text) = command_answer(rt, alloc, &["link", workers], input)?;
+        let (status, text) = command_answer(rt, alloc, &[command, workers], input)?;
         if status != status_of(answer) || !text.starts_with(answer.as_bytes()) {
             return Ok(false);
         }
@@ -169,8 +181,10 @@ pub(crate) fn row_holds(
         return Ok(false);
     };
     let (input, answer) = (input.as_str(), answer.as_str());
-    if is_of_space(row) {
+    let command = command_of(row);
+    if command == "space" {
         return is_bound(rt, alloc, input, answer);
     }
-    Ok(is_linked(rt, alloc, input, answer)? && is_explained(rt, alloc, input, answer, row)?)
+    let is_right = is_written(rt, alloc, command, input, answer)?;
+    Ok(is_right && is_explained(rt, alloc, input, answer, row)?)
 }

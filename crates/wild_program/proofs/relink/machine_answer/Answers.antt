@@ -1,0 +1,10 @@
+use Rattle.std.proofs.lemmas.Result.{IfOk-weaker}
+use Rattle.wild_change.specs.Change.{changed_layout}
+use Rattle.wild_layout.specs.Faults.{errors}
+use Rattle.wild_relinker.specs.Answer.{answer}
+use Rattle.wild_program.proofs.ChangeLemmas.{plan_refused, change_said}
+use Rattle.wild_program.proofs.relink.machine_answer.Goals as goal
+
+pub returns-in-Err : goal.returns-in-Err
+returns-in-Err g c =
+    IfOk-weaker c.refusal_of.result _ _ (λ a h. plan_refused c.in-Err.error (errors c.args.request.plan) (answer c.args.request.plan c.args.request.change) (changed_layout c.args.request.plan c.args.request.change) a.0 a.1.items c.in-Err.ensures.faults h) c.refusal_of.ensures
