@@ -17,7 +17,9 @@ fn has_same_runs(left: &Memory, right: &Memory) -> bool {
         return false;
     }
     for i in 0..left.len() {
-        if left[i].start != right[i].start || left[i].bytes.as_slice() != right[i].bytes.as_slice() {
+        if left[i].start != right[i].start
+            || left[i].bytes.as_slice() != right[i].bytes.as_slice()
+        {
             return false;
         }
     }
@@ -40,9 +42,14 @@ fn memory_of_a_layout(rt: HostRuntime) -> Result<(), Fail> {
         let layout = changed_layout(alloc, *plan, &[])?;
         let image = image_of(&rt, alloc, *plan, &[])?;
         let world = world(alloc, *base, &[])?;
-        let loaded = load_image(alloc, image.as_slice(), &world).ok().ok_or("loaded")?;
+        let loaded = load_image(alloc, image.as_slice(), &world)
+            .ok()
+            .ok_or("loaded")?;
         let placed = place_code::<ElfX86_64>(&rt, alloc, &layout, &world, 1);
-        assert!(rt; has_same_runs(&placed.ok().ok_or("placed")?, &loaded), "{base}");
+        assert!(rt;
+            has_same_runs(&placed.ok().ok_or("placed")?, &loaded),
+            "{base}"
+        );
     }
     Ok(())
 }
@@ -65,12 +72,19 @@ fn faults_in_order(rt: HostRuntime) -> Result<(), Fail> {
     let changes = &[(r#""number":2,"#, r#""number":200,"#)];
     let refused = changed_layout(alloc, WIDE, changes)?;
     let fault = fault_of(&rt, alloc, &refused, u64::MAX)?;
-    assert!(rt; matches!(
+    assert!(rt;
+        matches!(
         fault,
         Some(PlaceFault::Write(error)) if matches!(error.fault, Fault::UnsupportedRelocation { .. })
-    ));
+    )
+    );
     let fault = fault_of(&rt, alloc, &changed_layout(alloc, WIDE, &[])?, u64::MAX)?;
-    assert!(rt; matches!(fault, Some(PlaceFault::Load(LoadFault::Wraps { address: 0x40_0000 }))));
+    assert!(rt;
+        matches!(
+            fault,
+            Some(PlaceFault::Load(LoadFault::Wraps { address: 0x40_0000 }))
+        )
+    );
     let fault = fault_of(&rt, alloc, &changed_layout(alloc, RELOCATABLE, &[])?, 0)?;
     assert!(rt; matches!(fault, Some(PlaceFault::Load(LoadFault::NotElf))));
     let fault = fault_of(&rt, alloc, &changed_layout(alloc, SLOTTED, &[])?, 0)?;
@@ -113,7 +127,10 @@ fn placements_side_by_side(rt: HostRuntime) -> Result<(), Fail> {
     assert!(rt; placed.remove(3).is_ok());
     for number in 0..8u64 {
         let found = placed.byte(number * 0x1000 + 0x40_0080);
-        assert!(rt; found == if number == 3 { None } else { Some(0xe8) }, "{number}");
+        assert!(rt;
+            found == if number == 3 { None } else { Some(0xe8) },
+            "{number}"
+        );
     }
     Ok(())
 }
