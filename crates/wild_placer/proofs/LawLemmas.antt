@@ -2,7 +2,6 @@
 use Rattle.std.proofs.Common.{◌≡◌, ℕ, ◌+◌, List, [], ◌∷◌, map, refl, sym, ap, ◌∙◌}
 use Rattle.std.specs.Prelude.{Option, None, Some, Result, Ok, Err}
 use Rattle.wild_words.specs.Extents.{least_extent}
-use Rattle.wild_types.specs.declared.layout.Layout.{Layout}
 use Rattle.wild_layout.specs.Image.{bytes}
 use Rattle.wild_records.specs.declared.file_header.FileHeader.{FileHeader}
 use Rattle.wild_records.specs.declared.program_header.ProgramHeader.{ProgramHeader}
@@ -24,15 +23,13 @@ use Rattle.wild_loader.specs.Places.{places}
 use Rattle.wild_loader.specs.Relocate.{rela_patch, place_patch, add_without_overlap, runs_of_patches, memory_with_patches, relocate}
 use Rattle.wild_loader.specs.Load.{image_with, image_at, load}
 use Rattle.wild_loader.proofs.IndexLemmas.{extents-put}
-use Rattle.wild_meaning.specs.World.{IsLoadable, IsLegal}
 use Rattle.wild_meaning.specs.LinkedImage.{IsLinked}
 use Rattle.wild_laws.specs.Laws.{ImagesAreSound}
-use Rattle.wild_placer.specs.Place.{layout_memory}
-use Rattle.wild_placer.specs.Laws.{IsPlacedSoundly, PlacementsAreSound, PlacedRunsAreSeparate}
+use Rattle.wild_placer.specs.Laws.{PlacementsAreSound, PlacedRunsAreSeparate}
 use Rattle.wild_placer.proofs.PlaceLemmas.{same_ok, no_error, has_memory}
 
-pub sound : ImagesAreSound → PlacementsAreSound
-sound images l w m fits flags kind legal is =
+pub placements_hold : ImagesAreSound → PlacementsAreSound
+placements_hold images l w m fits flags kind legal is =
     let has = has_memory l w m is in
     let linked : IsLinked l w (bytes l) = (images l fits flags has.none kind).1 w legal in
     record { linked = linked; same = same_ok linked.memory m (sym linked.accepted ∙ has.loaded) }
@@ -106,5 +103,5 @@ loaded_apart w image m h =
     let a = step_ok (image_at w.base image) apply m h in
     ap least_extent (relocated w (memory_of a.value.machine a.value.runs) m a.value.tables a.next) ∙ image_apart w.base image a.value a.is
 
-pub separate : PlacedRunsAreSeparate
-separate l w m is = loaded_apart w (bytes l) m (has_memory l w m is).loaded
+pub runs_are_separate : PlacedRunsAreSeparate
+runs_are_separate l w m is = loaded_apart w (bytes l) m (has_memory l w m is).loaded

@@ -82,14 +82,14 @@ listed-next n rs i r q l is =
     ∙ listed-more n 0 (take i rs) r q
     ∙ ap (λ (k : ℕ). or_else (own_entry n k r q) (listed_run n 0 (take i rs) q)) place
 
-pub listed_one_more : (n : ℕ) (rs : List Run) (i : ℕ) (r : Run) (runs before after : Runs) → i < length rs → r ≡ get_or rs i r → ((q : ℕ) → before q ≡ with_runs n (take i rs) runs q) → ((q : ℕ) → after q ≡ or_else (own_entry n i r q) (before q)) → (q : ℕ) → after q ≡ with_runs n (take (i + 1) rs) runs q
-listed_one_more n rs i r runs before after l is h step q =
+pub one_more_run : (n : ℕ) (rs : List Run) (i : ℕ) (r : Run) (runs before after : Runs) → i < length rs → r ≡ get_or rs i r → ((q : ℕ) → before q ≡ with_runs n (take i rs) runs q) → ((q : ℕ) → after q ≡ or_else (own_entry n i r q) (before q)) → (q : ℕ) → after q ≡ with_runs n (take (i + 1) rs) runs q
+one_more_run n rs i r runs before after l is h step q =
     step q
     ∙ ap (or_else (own_entry n i r q)) (h q)
     ∙ sym (or-or (own_entry n i r q) (listed_run n 0 (take i rs) q) (runs q))
     ∙ sym (ap (λ (o : Option LoadedRun). or_else o (runs q)) (listed-next n rs i r q l is))
 
--- ---- what was listed is removed again
+-- ---- runs that were listed are removed
 
 neither_first : (a b : Bool) → (a || b) ≡ false → a ≡ false
 neither_first true b h = h
@@ -114,8 +114,8 @@ begins-whole [] (suc i) q h = h
 begins-whole (r ∷ rs) zero q h = cc
 begins-whole (r ∷ rs) (suc i) q h = or_by (begins_at r q) (any_begins (take i rs) q) (any_begins rs q) h (begins-whole rs i q)
 
-pub restored : (n : ℕ) (rs : List Run) (runs before after : Runs) → ((q : ℕ) → any_begins rs q ≡ true → runs q ≡ None) → ((q : ℕ) → before q ≡ with_runs n rs runs q) → ((q : ℕ) → after q ≡ without_runs rs before q) → (q : ℕ) → after q ≡ runs q
-restored n rs runs before after free h gone q =
+pub runs_as_before : (n : ℕ) (rs : List Run) (runs before after : Runs) → ((q : ℕ) → any_begins rs q ≡ true → runs q ≡ None) → ((q : ℕ) → before q ≡ with_runs n rs runs q) → ((q : ℕ) → after q ≡ without_runs rs before q) → (q : ℕ) → after q ≡ runs q
+runs_as_before n rs runs before after free h gone q =
     elim (cases_Bool (any_begins rs q)) [
       | inl t ↦ gone q ∙ ap (λ (b : Bool). if b then None else before q) t ∙ sym (free q t)
       | inr f ↦ gone q ∙ ap (λ (b : Bool). if b then None else before q) f ∙ h q ∙ ap (λ (o : Option LoadedRun). or_else o (runs q)) (listed-none n 0 rs q f)

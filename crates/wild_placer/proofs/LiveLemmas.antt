@@ -1,6 +1,6 @@
 -- The listed runs of live placements, as memories are added and removed.
 use Rattle.std.proofs.Common.{◌≡◌, ℕ, zero, suc, ◌+◌, ◌-◌, ◌^◌, ◌<◌, ◌≤◌, true, false, List, [], ◌∷◌, length, get_or, ◌∙◌, sym, ap, subst, refl, arith, inl, inr, ◌⊎◌}
-use Rattle.std.specs.Prelude.{Bool, not, ◌&&◌, ◌||◌, ◌==◌, if◌then◌else◌, Option, Some, None, IsSome, cond, slice_get, slice_index, nat_lt, nat_le}
+use Rattle.std.specs.Prelude.{Bool, not, ◌&&◌, ◌||◌, ◌==◌, if◌then◌else◌, Option, Some, None, IsSome, cond, slice_get, slice_index, nat_lt}
 use Rattle.std.specs.Ordering.{nat_cmp, is_eq}
 use Rattle.std.proofs.lemmas.Bool.{cases_Bool, eqb-true, eq-eqb, ltb-true, ltb-false}
 use Rattle.std.proofs.lemmas.Option.{same_Some, none-some, slice_get_within, get_or_from_slice_get}
@@ -13,16 +13,16 @@ use Rattle.wild_loader.specs.SegmentLaws.{DoesNotOverlap}
 use Rattle.wild_loader.proofs.RunLemmas.{runs-apart}
 use Rattle.wild_placer.specs.declared.index.LoadedRun.{LoadedRun}
 use Rattle.wild_placer.specs.Index.{Runs, IsRunAt, IsTaken, AreSeparate}
-use Rattle.wild_placer.specs.Shared.{IsInRuns, IsLeastOfRuns}
+use Rattle.wild_placer.specs.Shared.{IsLeastOfRuns}
 use Rattle.wild_placer.specs.Listed.{begins_at, any_begins, entry_of, own_entry, or_else, listed_run, with_runs, without_runs}
 use Rattle.wild_placer.specs.Live.{Memories, IsRun, HoldsRun, ArePlaced}
 use Rattle.wild_placer.proofs.IndexLemmas.{clash, not_some, start_is_taken}
 use Rattle.wild_placer.proofs.SharedLemmas.{address_low, address_high, is_address}
 use Rattle.wild_placer.proofs.ListedLemmas.{is_key, listed-none}
 
-pub some_of : {X : Type 0} (o : Option X) → IsSome o → (x : X) × (o ≡ Some x)
-some_of {X} None h = absurd (not_some {X = X} None h refl)
-some_of (Some x) h = (x, refl)
+pub value_of_some : {X : Type 0} (o : Option X) → IsSome o → (x : X) × (o ≡ Some x)
+value_of_some {X} None h = absurd (not_some {X = X} None h refl)
+value_of_some (Some x) h = (x, refl)
 
 positive : (n : ℕ) → (n == 0) ≡ false → 1 ≤ n
 positive zero f = cc
@@ -36,15 +36,15 @@ pub record IsFound (rs : List Run) (a : ℕ) : Type 0 where
   pub listed : slice_get rs index ≡ Some run
   pub has : has_address run a ≡ true
 
-found_next : (r : Run) (rs : List Run) (a : ℕ) → IsFound rs a → IsFound (r ∷ rs) a
-found_next r rs a f = record { index = suc f.index; run = f.run; listed = f.listed; has = f.has }
+found_in_rest : (r : Run) (rs : List Run) (a : ℕ) → IsFound rs a → IsFound (r ∷ rs) a
+found_in_rest r rs a f = record { index = suc f.index; run = f.run; listed = f.listed; has = f.has }
 
 pub byte-found : (rs : List Run) (a b : ℕ) → byte_of rs a ≡ Some b → IsFound rs a
 byte-found [] a b h = absurd (none-some b h)
 byte-found (r ∷ rs) a b h =
     elim (cases_Bool (has_address r a)) [
       | inl t ↦ record { index = 0; run = r; listed = refl; has = t }
-      | inr f ↦ found_next r rs a (byte-found rs a b (rw f at h))
+      | inr f ↦ found_in_rest r rs a (byte-found rs a b (rw f at h))
     ]
 
 byte-there : (rs : List Run) (i a : ℕ) (r : Run) → slice_get rs i ≡ Some r → has_address r a ≡ true → byte_of rs a ≡ None → ⊥
@@ -77,8 +77,8 @@ byte-some m i a r low at has = rw low (some (byte_of m.runs a) refl)
 -- ---- live placements
 
 -- a byte of a live placement is in a listed run
-pub listed_at : (next : ℕ) (memories : Memories) (runs : Runs) (n a i : ℕ) (m : Memory) (r : Run) → ArePlaced next memories runs → memories n ≡ Some m → slice_get m.runs i ≡ Some r → has_address r a ≡ true → IsRunAt runs a r.start (entry_of n i r)
-listed_at next memories runs n a i m r placed live at has =
+pub run_is_listed : (next : ℕ) (memories : Memories) (runs : Runs) (n a i : ℕ) (m : Memory) (r : Run) → ArePlaced next memories runs → memories n ≡ Some m → slice_get m.runs i ≡ Some r → has_address r a ≡ true → IsRunAt runs a r.start (entry_of n i r)
+run_is_listed next memories runs n a i m r placed live at has =
     let low = address_low r a has in
     let high = address_high r a has in
     record { listed = placed.listed n i m r live at (omega (arith, low, high)); low = low; high = high }
@@ -90,7 +90,7 @@ free_at next memories runs a placed free n m live = none (byte_in m a) refl
     none None e = e
     none (Some b) e =
         let f = byte-found m.runs a b (byte_of-in m a b e) in
-        absurd (free (record { start = f.run.start; run = entry_of n f.index f.run; is = listed_at next memories runs n a f.index m f.run placed live f.listed f.has }))
+        absurd (free (record { start = f.run.start; run = entry_of n f.index f.run; is = run_is_listed next memories runs n a f.index m f.run placed live f.listed f.has }))
 
 -- the placement of a listed run has each of its bytes
 pub taken_has : (next : ℕ) (memories : Memories) (runs : Runs) (a start : ℕ) (x : LoadedRun) (m : Memory) → ArePlaced next memories runs → nat_lt a (2 ^ 64) ≡ true → IsRunAt runs a start x → memories x.number ≡ Some m → IsSome (byte_in m a)
@@ -136,13 +136,13 @@ one_run runs a s t x y separate p q =
 -- no two live placements have a byte at one address
 pub placements_apart : (next : ℕ) (memories : Memories) (runs : Runs) (a n k : ℕ) (m q : Memory) → ArePlaced next memories runs → memories n ≡ Some m → memories k ≡ Some q → IsSome (byte_in m a) → IsSome (byte_in q a) → n ≡ k
 placements_apart next memories runs a n k m q placed live other has too =
-    let b = some_of (byte_in m a) has in
-    let d = some_of (byte_in q a) too in
+    let b = value_of_some (byte_in m a) has in
+    let d = value_of_some (byte_in q a) too in
     let f = byte-found m.runs a b.0 (byte_of-in m a b.0 b.1) in
     let g = byte-found q.runs a d.0 (byte_of-in q a d.0 d.1) in
     ap (λ (x : LoadedRun). x.number) (one_run runs a f.run.start g.run.start (entry_of n f.index f.run) (entry_of k g.index g.run) placed.separate
-    (listed_at next memories runs n a f.index m f.run placed live f.listed f.has)
-    (listed_at next memories runs k a g.index q g.run placed other g.listed g.has))
+    (run_is_listed next memories runs n a f.index m f.run placed live f.listed f.has)
+    (run_is_listed next memories runs k a g.index q g.run placed other g.listed g.has))
 
 -- ---- runs that begin at an address
 
@@ -153,8 +153,8 @@ pub record IsBegun (rs : List Run) (q : ℕ) : Type 0 where
   pub full : 1 ≤ length run.bytes
   pub begins : run.start ≡ q
 
-begun_next : (r : Run) (rs : List Run) (q : ℕ) → IsBegun rs q → IsBegun (r ∷ rs) q
-begun_next r rs q b = record { index = suc b.index; run = b.run; listed = b.listed; full = b.full; begins = b.begins }
+begins_in_rest : (r : Run) (rs : List Run) (q : ℕ) → IsBegun rs q → IsBegun (r ∷ rs) q
+begins_in_rest r rs q b = record { index = suc b.index; run = b.run; listed = b.listed; full = b.full; begins = b.begins }
 
 begins_parts : (r : Run) (q : ℕ) → begins_at r q ≡ true → (1 ≤ length r.bytes) × (r.start ≡ q)
 begins_parts r q h =
@@ -163,16 +163,16 @@ begins_parts r q h =
       | inr f ↦ (positive (length r.bytes) f, eqb-true _ _ (sym (ap (λ (b : Bool). not b && r.start == q) f) ∙ h))
     ]
 
-pub begun : (rs : List Run) (q : ℕ) → any_begins rs q ≡ true → IsBegun rs q
-begun [] q h = absurd (clash false h refl)
-begun (r ∷ rs) q h =
+pub run_that_begins : (rs : List Run) (q : ℕ) → any_begins rs q ≡ true → IsBegun rs q
+run_that_begins [] q h = absurd (clash false h refl)
+run_that_begins (r ∷ rs) q h =
     elim (cases_Bool (begins_at r q)) [
       | inl t ↦ (let parts = begins_parts r q t in record { index = 0; run = r; listed = refl; full = parts.0; begins = parts.1 })
-      | inr f ↦ begun_next r rs q (begun rs q (sym (ap (λ (b : Bool). b || any_begins rs q) f) ∙ h))
+      | inr f ↦ begins_in_rest r rs q (run_that_begins rs q (sym (ap (λ (b : Bool). b || any_begins rs q) f) ∙ h))
     ]
 
-begins : (r : Run) → 1 ≤ length r.bytes → begins_at r r.start ≡ true
-begins r some =
+begins_at_start : (r : Run) → 1 ≤ length r.bytes → begins_at r r.start ≡ true
+begins_at_start r some =
     elim (cases_Bool (length r.bytes == 0)) [
       | inl t ↦ (let e = eqb-true (length r.bytes) 0 t in absurd (omega (arith, e, some)))
       | inr f ↦ ap (λ (b : Bool). not b && r.start == r.start) f ∙ eq-eqb r.start r.start refl
@@ -196,7 +196,7 @@ free_start runs rs q separate none h = by (runs q) refl
     by : (o : Option LoadedRun) → runs q ≡ o → runs q ≡ None
     by None e = e
     by (Some x) e =
-        let b = begun rs q h in
+        let b = run_that_begins rs q h in
         let full = b.full in
         let begin = b.begins in
         absurd (none q (record { index = b.index; run = b.run; before = slice_get_within rs b.index b.run b.listed; listed = b.listed; has = is_address b.run q (omega (arith, begin)) (omega (arith, begin, full)) }) (start_is_taken runs q x separate e))
@@ -217,16 +217,16 @@ placed_again next memories others runs same placed e f = record {
 -- ---- a placement is removed
 
 -- what is left after one number is taken out
-still : (n q : ℕ) (memories after : Memories) (x : Memory) → after q ≡ cond (is_eq (nat_cmp n q)) None (memories q) → after q ≡ Some x → (memories q ≡ Some x) × ((n == q) ≡ false)
-still n q memories after x step h =
+memory_after_removal : (n q : ℕ) (memories after : Memories) (x : Memory) → after q ≡ cond (is_eq (nat_cmp n q)) None (memories q) → after q ≡ Some x → (memories q ≡ Some x) × ((n == q) ≡ false)
+memory_after_removal n q memories after x step h =
     elim (cases_Bool (n == q)) [
       | inl t ↦ (let gone : after q ≡ None = step ∙ ap (λ (b : Bool). cond b None (memories q)) (is_key n q ∙ t) in absurd (none-some x (sym gone ∙ h)))
       | inr f ↦ (let kept : after q ≡ memories q = step ∙ ap (λ (b : Bool). cond b None (memories q)) (is_key n q ∙ f) in (sym kept ∙ h, f))
     ]
 
 -- what is left after the runs of a memory are taken out
-left : (rs : List Run) (a : ℕ) (runs rest : Runs) (x : LoadedRun) → rest a ≡ without_runs rs runs a → rest a ≡ Some x → (runs a ≡ Some x) × (any_begins rs a ≡ false)
-left rs a runs rest x step h =
+run_after_removal : (rs : List Run) (a : ℕ) (runs rest : Runs) (x : LoadedRun) → rest a ≡ without_runs rs runs a → rest a ≡ Some x → (runs a ≡ Some x) × (any_begins rs a ≡ false)
+run_after_removal rs a runs rest x step h =
     elim (cases_Bool (any_begins rs a)) [
       | inl t ↦ (let gone : rest a ≡ None = step ∙ ap (λ (b : Bool). if b then None else runs a) t in absurd (none-some x (sym gone ∙ h)))
       | inr f ↦ (let kept : rest a ≡ runs a = step ∙ ap (λ (b : Bool). if b then None else runs a) f in (sym kept ∙ h, f))
@@ -242,22 +242,22 @@ held_begins m a x h full = by (slice_get m.runs x.index) refl h
         let begin = h.0 in
         let end = h.1 in
         let some : 1 ≤ length r.bytes = omega (arith, end, full) in
-        any-listed m.runs x.index a r e (subst (λ (q : ℕ). begins_at r q ≡ true) begin (begins r some))
+        any-listed m.runs x.index a r e (subst (λ (q : ℕ). begins_at r q ≡ true) begin (begins_at_start r some))
 
-pub removed : (next n : ℕ) (memories after : Memories) (m : Memory) (runs rest : Runs) → ArePlaced next memories runs → memories n ≡ Some m → ((q : ℕ) → after q ≡ cond (is_eq (nat_cmp n q)) None (memories q)) → ((q : ℕ) → rest q ≡ without_runs m.runs runs q) → ArePlaced next after rest
-removed next n memories after m runs rest placed live taken gone = record {
-  numbers = λ k x h. placed.numbers k x (still n k memories after x (taken k) h).0;
-  listed = λ k i x r h at full. by_run k i x r (still n k memories after x (taken k) h) at full;
-  held = λ a x h. by_entry a x (left m.runs a runs rest x (gone a) h);
+pub placed_after_removal : (next n : ℕ) (memories after : Memories) (m : Memory) (runs rest : Runs) → ArePlaced next memories runs → memories n ≡ Some m → ((q : ℕ) → after q ≡ cond (is_eq (nat_cmp n q)) None (memories q)) → ((q : ℕ) → rest q ≡ without_runs m.runs runs q) → ArePlaced next after rest
+placed_after_removal next n memories after m runs rest placed live taken gone = record {
+  numbers = λ k x h. placed.numbers k x (memory_after_removal n k memories after x (taken k) h).0;
+  listed = λ k i x r h at full. by_run k i x r (memory_after_removal n k memories after x (taken k) h) at full;
+  held = λ a x h. by_entry a x (run_after_removal m.runs a runs rest x (gone a) h);
   separate = record {
-    filled = λ a x h. placed.separate.filled a x (left m.runs a runs rest x (gone a) h).0;
-    apart = λ a b x y h g l. placed.separate.apart a b x y (left m.runs a runs rest x (gone a) h).0 (left m.runs b runs rest y (gone b) g).0 l;
+    filled = λ a x h. placed.separate.filled a x (run_after_removal m.runs a runs rest x (gone a) h).0;
+    apart = λ a b x y h g l. placed.separate.apart a b x y (run_after_removal m.runs a runs rest x (gone a) h).0 (run_after_removal m.runs b runs rest y (gone b) g).0 l;
   };
 }
   where
     not_begun : (k i : ℕ) (x : Memory) (r : Run) → (memories k ≡ Some x) × ((n == k) ≡ false) → slice_get x.runs i ≡ Some r → 1 ≤ length r.bytes → any_begins m.runs r.start ≡ true → ⊥
     not_begun k i x r s at full t =
-        let b = begun m.runs r.start t in
+        let b = run_that_begins m.runs r.start t in
         let mine = subst (λ (q : ℕ). runs q ≡ Some (entry_of n b.index b.run)) b.begins (placed.listed n b.index m b.run live b.listed b.full) in
         let other = placed.listed k i x r s.0 at full in
         let same : n ≡ k = ap (λ (y : LoadedRun). y.number) (same_Some _ _ (sym mine ∙ other)) in
@@ -318,10 +318,10 @@ pub record IsListed (n i : ℕ) (rs : List Run) (q : ℕ) (x : LoadedRun) : Type
   pub begins : run.start ≡ q
   pub is : x ≡ entry_of n (i + index) run
 
-is_listed : (n i : ℕ) (rs : List Run) (q : ℕ) (x : LoadedRun) → listed_run n i rs q ≡ Some x → IsListed n i rs q x
+entry_is_listed : (n i : ℕ) (rs : List Run) (q : ℕ) (x : LoadedRun) → listed_run n i rs q ≡ Some x → IsListed n i rs q x
 unfolding listed_run
-is_listed n i [] q x h = absurd (none-some x h)
-is_listed n i (r ∷ rs) q x h = by (listed_run n (i + 1) rs q) refl (λ e. is_listed n (i + 1) rs q x e) h
+entry_is_listed n i [] q x h = absurd (none-some x h)
+entry_is_listed n i (r ∷ rs) q x h = by (listed_run n (i + 1) rs q) refl (λ e. entry_is_listed n (i + 1) rs q x e) h
   where
     here : Some (entry_of n i r) ≡ Some x → begins_at r q ≡ true → IsListed n i (r ∷ rs) q x
     here e t =
@@ -346,12 +346,12 @@ is_listed n i (r ∷ rs) q x h = by (listed_run n (i + 1) rs q) refl (λ e. is_l
 abbrev pub BeginApart : List Run → Type 0
 BeginApart rs = (i j : ℕ) (r q : Run) → slice_get rs i ≡ Some r → slice_get rs j ≡ Some q → 1 ≤ length r.bytes → 1 ≤ length q.bytes → r.start ≡ q.start → i ≡ j
 
-each_listed : (n i k : ℕ) (rs : List Run) (r : Run) → BeginApart rs → slice_get rs k ≡ Some r → 1 ≤ length r.bytes → listed_run n i rs r.start ≡ Some (entry_of n (i + k) r)
+each_run_is_listed : (n i k : ℕ) (rs : List Run) (r : Run) → BeginApart rs → slice_get rs k ≡ Some r → 1 ≤ length r.bytes → listed_run n i rs r.start ≡ Some (entry_of n (i + k) r)
 unfolding listed_run
-each_listed n i k [] r apart at some = absurd (none-some r at)
-each_listed n i zero (x ∷ rs) r apart at some =
+each_run_is_listed n i k [] r apart at some = absurd (none-some r at)
+each_run_is_listed n i zero (x ∷ rs) r apart at some =
     let same : x ≡ r = same_Some x r at in
-    let own : begins_at x r.start ≡ true = subst (λ (y : Run). begins_at y r.start ≡ true) (sym same) (begins r some) in
+    let own : begins_at x r.start ≡ true = subst (λ (y : Run). begins_at y r.start ≡ true) (sym same) (begins_at_start r some) in
     let place : i ≡ i + 0 = omega arith in
     ap (λ (o : Option LoadedRun). or_else o (own_entry n i x r.start)) (listed-none n (i + 1) rs r.start (not_later x rs r apart same some))
     ∙ ap (λ (b : Bool). if b then Some (entry_of n i x) else None) own
@@ -362,44 +362,44 @@ each_listed n i zero (x ∷ rs) r apart at some =
     not_later x rs r apart same some =
         elim (cases_Bool (any_begins rs r.start)) [
           | inl t ↦ (
-              let b = begun rs r.start t in
+              let b = run_that_begins rs r.start t in
               let e : 0 ≡ suc b.index = apart 0 (suc b.index) r b.run (ap (λ (y : Run). Some y) same) b.listed some b.full (sym b.begins) in
               absurd (omega (arith, e))
               )
           | inr f ↦ f
         ]
-each_listed n i (suc k) (x ∷ rs) r apart at some =
+each_run_is_listed n i (suc k) (x ∷ rs) r apart at some =
     let next : i + 1 + k ≡ i + suc k = omega arith in
-    ap (λ (o : Option LoadedRun). or_else o (own_entry n i x r.start)) (each_listed n (i + 1) k rs r (λ a b p q pa qa pf qf s. less a b (apart (suc a) (suc b) p q pa qa pf qf s)) at some)
+    ap (λ (o : Option LoadedRun). or_else o (own_entry n i x r.start)) (each_run_is_listed n (i + 1) k rs r (λ a b p q pa qa pf qf s. less a b (apart (suc a) (suc b) p q pa qa pf qf s)) at some)
     ∙ ap (λ (j : ℕ). Some (entry_of n j r)) next
   where
     less : (a b : ℕ) → suc a ≡ suc b → a ≡ b
     less a b e = omega (arith, e)
 
 -- what is there after one number is added
-after_add : (n q : ℕ) (m x : Memory) (memories after : Memories) → after q ≡ cond (is_eq (nat_cmp n q)) (Some m) (memories q) → after q ≡ Some x → ((q ≡ n) × (m ≡ x)) ⊎ (memories q ≡ Some x)
-after_add n q m x memories after step h =
+memory_after_addition : (n q : ℕ) (m x : Memory) (memories after : Memories) → after q ≡ cond (is_eq (nat_cmp n q)) (Some m) (memories q) → after q ≡ Some x → ((q ≡ n) × (m ≡ x)) ⊎ (memories q ≡ Some x)
+memory_after_addition n q m x memories after step h =
     elim (cases_Bool (n == q)) [
       | inl t ↦ (let put : after q ≡ Some m = step ∙ ap (λ (b : Bool). cond b (Some m) (memories q)) (is_key n q ∙ t) in inl (sym (eqb-true _ _ t), same_Some m x (sym put ∙ h)))
       | inr f ↦ (let kept : after q ≡ memories q = step ∙ ap (λ (b : Bool). cond b (Some m) (memories q)) (is_key n q ∙ f) in inr (sym kept ∙ h))
     ]
 
 -- what is listed after the runs of a memory are added
-now_listed : (n a : ℕ) (rs : List Run) (runs more : Runs) (x : LoadedRun) → more a ≡ with_runs n rs runs a → more a ≡ Some x → IsListed n 0 rs a x ⊎ (runs a ≡ Some x)
-now_listed n a rs runs more x step h = by (listed_run n 0 rs a) refl (sym step ∙ h)
+run_after_addition : (n a : ℕ) (rs : List Run) (runs more : Runs) (x : LoadedRun) → more a ≡ with_runs n rs runs a → more a ≡ Some x → IsListed n 0 rs a x ⊎ (runs a ≡ Some x)
+run_after_addition n a rs runs more x step h = by (listed_run n 0 rs a) refl (sym step ∙ h)
   where
     by : (o : Option LoadedRun) → listed_run n 0 rs a ≡ o → or_else o (runs a) ≡ Some x → IsListed n 0 rs a x ⊎ (runs a ≡ Some x)
     by None e h = inr h
-    by (Some y) e h = inl (is_listed n 0 rs a x (e ∙ h))
+    by (Some y) e h = inl (entry_is_listed n 0 rs a x (e ∙ h))
 
-pub added : (next : ℕ) (memories after : Memories) (m : Memory) (runs more : Runs) → ArePlaced next memories runs → least_shared m.runs ≡ None → IsLeastOfRuns runs m.runs (length m.runs) None → ((q : ℕ) → after q ≡ cond (is_eq (nat_cmp next q)) (Some m) (memories q)) → ((q : ℕ) → more q ≡ with_runs next m.runs runs q) → ArePlaced (next + 1) after more
-added next memories after m runs more placed none free put new = record {
-  numbers = λ k x h. by_number k x (after_add next k m x memories after (put k) h);
-  listed = λ k i x r h at full. by_run k i x r (after_add next k m x memories after (put k) h) at full;
-  held = λ a x h. by_entry a x (now_listed next a m.runs runs more x (new a) h);
+pub placed_after_addition : (next : ℕ) (memories after : Memories) (m : Memory) (runs more : Runs) → ArePlaced next memories runs → least_shared m.runs ≡ None → IsLeastOfRuns runs m.runs (length m.runs) None → ((q : ℕ) → after q ≡ cond (is_eq (nat_cmp next q)) (Some m) (memories q)) → ((q : ℕ) → more q ≡ with_runs next m.runs runs q) → ArePlaced (next + 1) after more
+placed_after_addition next memories after m runs more placed none free put new = record {
+  numbers = λ k x h. by_number k x (memory_after_addition next k m x memories after (put k) h);
+  listed = λ k i x r h at full. by_run k i x r (memory_after_addition next k m x memories after (put k) h) at full;
+  held = λ a x h. by_entry a x (run_after_addition next a m.runs runs more x (new a) h);
   separate = record {
-    filled = λ a x h. by_filled a x (now_listed next a m.runs runs more x (new a) h);
-    apart = λ a b x y h g l. by_apart a b x y (now_listed next a m.runs runs more x (new a) h) (now_listed next b m.runs runs more y (new b) g) l;
+    filled = λ a x h. by_filled a x (run_after_addition next a m.runs runs more x (new a) h);
+    apart = λ a b x y h g l. by_apart a b x y (run_after_addition next a m.runs runs more x (new a) h) (run_after_addition next b m.runs runs more y (new b) g) l;
   };
 }
   where
@@ -418,7 +418,7 @@ added next memories after m runs more placed none free put new = record {
     old_run : (k i : ℕ) (x : Memory) (r : Run) → memories k ≡ Some x → slice_get x.runs i ≡ Some r → 1 ≤ length r.bytes → (o : Option LoadedRun) → listed_run next 0 m.runs r.start ≡ o → or_else o (runs r.start) ≡ Some (entry_of k i r)
     old_run k i x r live at full None e = placed.listed k i x r live at full
     old_run k i x r live at full (Some y) e =
-        let f = is_listed next 0 m.runs r.start y e in
+        let f = entry_is_listed next 0 m.runs r.start y e in
         let begin = f.begins in
         let some = f.full in
         absurd (own_free f.index r.start f.run f.at (is_address f.run r.start (omega (arith, begin)) (omega (arith, begin, some))) (start_is_taken runs r.start (entry_of k i r) placed.separate (placed.listed k i x r live at full)))
@@ -426,7 +426,7 @@ added next memories after m runs more placed none free put new = record {
     by_run : (k i : ℕ) (x : Memory) (r : Run) → ((k ≡ next) × (m ≡ x)) ⊎ (memories k ≡ Some x) → slice_get x.runs i ≡ Some r → 1 ≤ length r.bytes → more r.start ≡ Some (entry_of k i r)
     by_run k i x r (inl p) at full =
         let mine : slice_get m.runs i ≡ Some r = subst (λ (y : Memory). slice_get y.runs i ≡ Some r) (sym p.1) at in
-        let listed : listed_run next 0 m.runs r.start ≡ Some (entry_of next (0 + i) r) = each_listed next 0 i m.runs r (λ a b q s qa sa qf sf e. same_index m.runs a b q s ordered qa sa qf sf e) mine full in
+        let listed : listed_run next 0 m.runs r.start ≡ Some (entry_of next (0 + i) r) = each_run_is_listed next 0 i m.runs r (λ a b q s qa sa qf sf e. same_index m.runs a b q s ordered qa sa qf sf e) mine full in
         let place : 0 + i ≡ i = omega arith in
         let whole : entry_of next (0 + i) r ≡ entry_of k i r = ap (λ (j : ℕ). entry_of next j r) place ∙ ap (λ (j : ℕ). entry_of j i r) (sym p.0) in
         new r.start ∙ ap (λ (o : Option LoadedRun). or_else o (runs r.start)) listed ∙ ap (λ (y : LoadedRun). Some y) whole

@@ -14,7 +14,6 @@ use Rattle.wild_loader.specs.declared.memory.Memory.{Memory}
 use Rattle.wild_loader.specs.declared.world.World.{World}
 use Rattle.wild_loader.specs.Load.{load}
 use Rattle.wild_loader.specs.Outcome.{Fails as LoaderFails}
-use Rattle.wild_placer.specs.declared.fault.PlaceFault.{PlaceFault}
 use Rattle.wild_placer.specs.declared.fault.PlaceFault.TheVariants as faults
 use Rattle.wild_placer.specs.Place.{first_fault_or, layout_memory, Fails, write_fault_by, write_fault, load_fault}
 

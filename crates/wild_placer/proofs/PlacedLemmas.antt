@@ -18,10 +18,10 @@ use Rattle.wild_placer.specs.Live.{byte_in_memory, ArePlaced}
 use Rattle.wild_placer.specs.Placed.{without, IsFree, IsByte, IsFirstTaken, AreApart, HasByte}
 use Rattle.wild_placer.proofs.IndexLemmas.{clash, is_some_of, not_some, greater}
 use Rattle.wild_placer.proofs.ListedLemmas.{is_key}
-use Rattle.wild_placer.proofs.LiveLemmas.{some_of, byte-found, byte_of-in, byte-some, free_at, taken_has, taken_live, placements_apart}
+use Rattle.wild_placer.proofs.LiveLemmas.{value_of_some, byte-found, byte_of-in, byte-some, free_at, taken_has, taken_live, placements_apart}
 
-turned : (n k : ℕ) → (n == k) ≡ (k == n)
-turned n k =
+equality_turned : (n k : ℕ) → (n == k) ≡ (k == n)
+equality_turned n k =
     elim (cases_Bool (k == n)) [
       | inl t ↦ eq-eqb n k (sym (eqb-true k n t)) ∙ sym t
       | inr f ↦ other f (cases_Bool (n == k))
@@ -32,26 +32,26 @@ turned n k =
     other f (inr g) = g ∙ sym f
 
 is_key_turned : (n k : ℕ) → is_eq (nat_cmp n k) ≡ (k == n)
-is_key_turned n k = is_key n k ∙ turned n k
+is_key_turned n k = is_key n k ∙ equality_turned n k
 
 -- a look-up finds the first pair of a number
-found_first : (es : List (ℕ × Memory)) (n : ℕ) → lookup (is_at (nat_cmp n)) es ≡ first_value es n
-found_first [] n = refl
-found_first (e ∷ es) n = ap (λ (b : Bool). cond b (Some e.1) (lookup (is_at (nat_cmp n)) es)) (is_key_turned n e.0) ∙ ap (λ (o : Option Memory). cond (e.0 == n) (Some e.1) o) (found_first es n)
+look_up_is_first : (es : List (ℕ × Memory)) (n : ℕ) → lookup (is_at (nat_cmp n)) es ≡ first_value es n
+look_up_is_first [] n = refl
+look_up_is_first (e ∷ es) n = ap (λ (b : Bool). cond b (Some e.1) (lookup (is_at (nat_cmp n)) es)) (is_key_turned n e.0) ∙ ap (λ (o : Option Memory). cond (e.0 == n) (Some e.1) o) (look_up_is_first es n)
 
 pub get_first : (live : BTreeMap ℕ Memory) (n : ℕ) → get nat_cmp live n ≡ first_value live.entries n
-get_first live n = found_first live.entries n
+get_first live n = look_up_is_first live.entries n
 
-pub removed_first : (n : ℕ) (es : List (ℕ × Memory)) → remove_entry (is_at (nat_cmp n)) es ≡ without n es
-removed_first n [] = refl
-removed_first n (e ∷ es) = ap (λ (b : Bool). cond b es (e ∷ remove_entry (is_at (nat_cmp n)) es)) (is_key_turned n e.0) ∙ ap (λ (ps : List (ℕ × Memory)). cond (e.0 == n) es (e ∷ ps)) (removed_first n es)
+pub removal_is_without : (n : ℕ) (es : List (ℕ × Memory)) → remove_entry (is_at (nat_cmp n)) es ≡ without n es
+removal_is_without n [] = refl
+removal_is_without n (e ∷ es) = ap (λ (b : Bool). cond b es (e ∷ remove_entry (is_at (nat_cmp n)) es)) (is_key_turned n e.0) ∙ ap (λ (ps : List (ℕ × Memory)). cond (e.0 == n) es (e ∷ ps)) (removal_is_without n es)
 
 -- a number above all goes to the end
-pub inserted_last : (es : List (ℕ × Memory)) (n : ℕ) (m : Memory) → ((k : ℕ) → IsSome (lookup (is_at (nat_cmp k)) es) → k < n) → insert_entry nat_cmp es n m ≡ es ++ (n, m) ∷ []
-inserted_last [] n m below = refl
-inserted_last (e ∷ es) n m below =
+pub insertion_is_last : (es : List (ℕ × Memory)) (n : ℕ) (m : Memory) → ((k : ℕ) → IsSome (lookup (is_at (nat_cmp k)) es) → k < n) → insert_entry nat_cmp es n m ≡ es ++ (n, m) ∷ []
+insertion_is_last [] n m below = refl
+insertion_is_last (e ∷ es) n m below =
     ap (λ (o : Ordering). match_ordering o ((n, m) ∷ e ∷ es) ((e.0, m) ∷ es) (e ∷ insert_entry nat_cmp es n m)) (greater n e.0 (below e.0 (first e es)))
-    ∙ ap (λ (ps : List (ℕ × Memory)). e ∷ ps) (inserted_last es n m (λ k some. below k (later k e es some)))
+    ∙ ap (λ (ps : List (ℕ × Memory)). e ∷ ps) (insertion_is_last es n m (λ k some. below k (later k e es some)))
   where
     first : (e : ℕ × Memory) (es : List (ℕ × Memory)) → IsSome (lookup (is_at (nat_cmp e.0)) (e ∷ es))
     first e es = is_some_of (lookup (is_at (nat_cmp e.0)) (e ∷ es)) e.1 (ap (λ (b : Bool). cond b (Some e.1) (lookup (is_at (nat_cmp e.0)) es)) (is_key e.0 e.0 ∙ eq-eqb e.0 e.0 refl))
@@ -64,7 +64,7 @@ inserted_last (e ∷ es) n m below =
     later k e es some = either (is_eq (nat_cmp k e.0)) e.1 (lookup (is_at (nat_cmp k)) es) some
 
 pub numbers_below : (next : ℕ) (live : BTreeMap ℕ Memory) (runs : Runs) → ArePlaced next (get nat_cmp live) runs → (k : ℕ) → IsSome (lookup (is_at (nat_cmp k)) live.entries) → k < next
-numbers_below next live runs placed k some = let m = some_of (get nat_cmp live k) some in placed.numbers k m.0 m.1
+numbers_below next live runs placed k some = let m = value_of_some (get nat_cmp live k) some in placed.numbers k m.0 m.1
 
 -- ---- bytes
 
@@ -81,13 +81,13 @@ is_byte next a b number live m h e = record { number = number; memory = m; live 
 pub taken_byte : (next a start : ℕ) (x : LoadedRun) (live : BTreeMap ℕ Memory) (runs : Runs) → ArePlaced next (get nat_cmp live) runs → nat_lt a (2 ^ 64) ≡ true → IsRunAt runs a start x → (b : ℕ) × IsByte (record { next = next; live = live.entries }) a b
 taken_byte next a start x live runs placed low at =
     let m = taken_live next (get nat_cmp live) runs start x placed at.listed in
-    let b = some_of (byte_in m.0 a) (taken_has next (get nat_cmp live) runs a start x m.0 placed low at m.1) in
+    let b = value_of_some (byte_in m.0 a) (taken_has next (get nat_cmp live) runs a start x m.0 placed low at m.1) in
     (b.0, is_byte next a b.0 x.number live m.0 m.1 b.1)
 
 -- a byte of a memory is in one of its runs
 in_runs : (m : Memory) (a : ℕ) → HasByte m a → IsInRuns m.runs (length m.runs) a
 in_runs m a has =
-    let b = some_of (byte_in m a) has in
+    let b = value_of_some (byte_in m a) has in
     let f = byte-found m.runs a b.0 (byte_of-in m a b.0 b.1) in
     record { index = f.index; run = f.run; before = slice_get_within m.runs f.index f.run f.listed; listed = f.listed; has = f.has }
 

@@ -6,7 +6,7 @@ use Rattle.std.proofs.lemmas.Option.{same_Some, slice_get_read, slice_get_within
 use Rattle.wild_words.specs.Extents.{least}
 use Rattle.wild_loader.specs.declared.memory.Run.{Run}
 use Rattle.wild_loader.specs.Runs.{has_address}
-use Rattle.wild_placer.specs.Index.{Runs, IsTaken, NoneIsTaken, IsFirstTaken}
+use Rattle.wild_placer.specs.Index.{Runs, NoneIsTaken, IsFirstTaken}
 use Rattle.wild_placer.specs.Shared.{IsInRuns, IsLeast, IsLeastOf, IsLeastOfRun, IsLeastOfRuns}
 
 -- an address of a run is from its start on and before its end

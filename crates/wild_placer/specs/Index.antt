@@ -4,7 +4,7 @@
 --   NoneIsTaken runs s e      no run contains an address from s on and before e
 --   IsFirstTaken runs s e a   a is the least address from s on and before e that a run contains
 --   AreSeparate runs          each run has a byte, and no two share one
-use Rattle.std.specs.Prelude.{◌≡◌, ℕ, ◌<◌, ◌≤◌, Option, Some, None, IsSome}
+use Rattle.std.specs.Prelude.{◌≡◌, ℕ, ◌<◌, ◌≤◌, Option, Some, IsSome}
 use Rattle.wild_placer.specs.declared.index.LoadedRun.{LoadedRun}
 
 -- the run that begins at an address

@@ -1,5 +1,5 @@
 //! The runs of loaded bytes of live placements, found by address.
-ghost use Rattle.std.specs.Prelude.{◌≡◌, ℕ, ◌<◌, ◌≤◌, None, IsSome, IfSome, IfNone};
+ghost use Rattle.std.specs.Prelude.{◌≡◌, ℕ, ◌<◌, ◌≤◌, None, IfSome, IfNone};
 ghost use Rattle.std.specs.Ordering.{nat_cmp};
 ghost use Rattle.std.specs.BTreeMap.{get};
 ghost use Rattle.wild_placer.specs.Index.{IsTaken, IsFirstTaken, NoneIsTaken, AreSeparate, IsRunAt, IsLastStart, IsFirstStart};

@@ -1,4 +1,4 @@
-use Rattle.std.proofs.Common.{◌≡◌, ℕ, ◌+◌, ◌-◌, ◌^◌, ◌<◌, List, ◌∙◌, sym, ap, subst, refl}
+use Rattle.std.proofs.Common.{ℕ, ◌+◌, ◌-◌, ◌^◌, ◌<◌, List, ◌∙◌, sym, ap, subst, refl}
 use Rattle.wild_loader.specs.declared.memory.Memory.{Memory}
 use Rattle.wild_placer.specs.Placed.{Placements, IsAdded, AddFails}
 use Rattle.wild_placer.proofs.placed.Placed.add.Goals as goal
