@@ -1,21 +1,18 @@
 -- Bytes of runs that are shifted by a base.
-use Rattle.std.proofs.Common.{◌≡◌, ℕ, zero, suc, ◌+◌, ◌-◌, ◌*◌, ◌^◌, ◌<◌, ◌≤◌, inl, inr, ◌⊎◌, Bool, true, false, List, [], ◌∷◌, ◌++◌, length, get_or, map, refl, sym, ap, ◌∙◌, arith, subst, nat_le, nat_lt, min, take, drop, replicate}
-use Rattle.std.specs.Prelude.{Option, Some, None, Result, Ok, Err, All, if◌then◌else◌, ◌&&◌, ◌==◌, option_map, option_and_then, slice_index}
+use Rattle.std.proofs.Common.{◌≡◌, ℕ, ◌+◌, ◌-◌, ◌^◌, ◌<◌, ◌≤◌, inl, inr, Bool, true, false, List, [], ◌∷◌, ◌++◌, length, map, refl, sym, ◌∙◌, arith, subst, nat_le, nat_lt, min, take, drop, replicate}
+use Rattle.std.specs.Prelude.{Some, None, Ok, Err, All, if◌then◌else◌, ◌&&◌, ◌==◌, slice_index}
 use Rattle.std.proofs.lemmas.Bool.{cases_Bool, false≢true, leb-true, le-leb, ltb-true, ltb-false, lt-ltb}
-use Rattle.std.proofs.lemmas.Bool.Decides.{leb_tells}
 use Rattle.std.proofs.lemmas.List.Elements.{All-head, All-tail, All-nil, All-append, All-cons, All-take, All-drop, All-replicate}
 use Rattle.wild_records.specs.Abi.Segment.{pt_load}
-use Rattle.wild_records.specs.declared.file_header.FileHeader.{FileHeader}
 use Rattle.wild_records.specs.declared.program_header.ProgramHeader.{ProgramHeader}
 use Rattle.wild_loader.specs.declared.fault.LoadFault.TheVariants as faults
 use Rattle.wild_loader.specs.declared.image.Image.{Image}
 use Rattle.wild_loader.specs.declared.memory.Machine.{Machine}
 use Rattle.wild_loader.specs.declared.memory.Memory.{Memory}
 use Rattle.wild_loader.specs.declared.memory.Run.{Run}
-use Rattle.wild_loader.specs.Outcome.{◌>>=◌}
 use Rattle.wild_loader.specs.Headers.{header, program_headers}
 use Rattle.wild_loader.specs.Load.{image_at, image_with}
-use Rattle.wild_loader.specs.Memory.{memory_of, byte_of, byte_in, number_in, Holds}
+use Rattle.wild_loader.specs.Memory.{memory_of, byte_of, byte_in, Holds}
 use Rattle.wild_loader.specs.MovedLaws.{shifted_run}
 use Rattle.wild_loader.specs.Runs.{has_address, check_no_overlap, least_shared}
 use Rattle.wild_loader.specs.Segments.{runs_of, run_of, load_segment, load_segments, segments}

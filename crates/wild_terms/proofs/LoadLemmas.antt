@@ -1,13 +1,12 @@
 -- In a world, the loader makes the changes of symbolic loading.
 use Rattle.std.proofs.Common.{◌≡◌, ℕ, zero, suc, ◌+◌, ◌-◌, ◌*◌, ◌%◌, ◌^◌, ◌<◌, ◌≤◌, inl, inr, ◌⊎◌, Bool, true, false, List, [], ◌∷◌, ◌++◌, length, get_or, map, refl, sym, ap, ◌∙◌, arith, subst}
-use Rattle.std.specs.Prelude.{Option, Some, None, Result, Ok, Err, All, AllPairs, Contains, if◌then◌else◌, ◌==◌, option_map, option_and_then, is_some}
+use Rattle.std.specs.Prelude.{Option, Some, None, Result, Ok, Err, All, AllPairs, if◌then◌else◌, ◌==◌, option_map, option_and_then, is_some}
 use Rattle.std.specs.List.Sorted.{IsPermutation}
 use Rattle.std.proofs.lemmas.Bool.{eqb-true, eq-eqb, ne_eqb}
 use Rattle.std.proofs.lemmas.Nat.{mod-mul-add}
 use Rattle.std.proofs.lemmas.List.{append_assoc, append-nil, map-append, length-map, get_or-map}
 use Rattle.std.proofs.lemmas.List.Elements.{All-head, All-tail, All-nil, All-cons, All-append, All-map, All-contains}
 use Rattle.std.proofs.lemmas.List.Sorted.{All-permutation, IsPermutation-sym, Contains-permutation}
-use Rattle.wild_words.specs.declared.extents.Extent.{Extent}
 use Rattle.wild_words.specs.Words.{word, number}
 use Rattle.wild_words.proofs.WordLemmas.{length-word, number-word}
 use Rattle.wild_words.proofs.ListLemmas.{AllPairs-tail}
@@ -22,11 +21,10 @@ use Rattle.wild_loader.specs.declared.kind.DynamicKind.{DynamicKind}
 use Rattle.wild_loader.specs.declared.image.Image.{Image}
 use Rattle.wild_loader.specs.declared.memory.Memory.{Memory}
 use Rattle.wild_loader.specs.declared.memory.Run.{Run}
-use Rattle.wild_loader.specs.declared.tables.Tables.{Tables}
 use Rattle.wild_loader.specs.declared.world.World.{World}
 use Rattle.wild_loader.specs.Outcome.{◌>>=◌, known}
-use Rattle.wild_loader.specs.Changes.{first_value, kind_of, change_of, size_of, bytes_after, patch_over}
-use Rattle.wild_loader.specs.EntryLaws.{HasMade, patches_of, IsApplied}
+use Rattle.wild_loader.specs.Changes.{first_value, kind_of, size_of, bytes_after, patch_over}
+use Rattle.wild_loader.specs.EntryLaws.{HasMade, patches_of}
 use Rattle.wild_loader.specs.Headers.{header, program_headers}
 use Rattle.wild_loader.specs.Load.{image_at, load}
 use Rattle.wild_loader.specs.Memory.{memory_of, byte_in, number_in, Holds}
@@ -47,9 +45,9 @@ use Rattle.wild_terms.specs.declared.load.TermPatch.{TermPatch}
 use Rattle.wild_terms.specs.Terms.{number_term}
 use Rattle.wild_terms.specs.Outline.{based, change_terms}
 use Rattle.wild_terms.specs.Values.{value_of, IsWorldOf}
-use Rattle.wild_terms.specs.Symbolic.{width_of, extent_of, AreApart, covers, patch_covering, patch_terms, place_terms, rela_terms, apart_terms, image_tails, relocate_terms, Symbolic, image_terms, terms_of, IsSorted, known_byte, known_number, whole_term, term_by, term_at, noted_term, descriptor_by, descriptor_at}
-use Rattle.wild_terms.specs.Laws.{Follows, HasRoom, TermsAreLoaded}
-use Rattle.wild_terms.proofs.PatchLemmas.{covered, outside, covering_in, none_covering, pairs_apart, last_apart, some_width, no_patch}
+use Rattle.wild_terms.specs.Symbolic.{width_of, extent_of, AreApart, covers, patch_covering, patch_terms, place_terms, rela_terms, apart_terms, image_tails, relocate_terms, Symbolic, image_terms, terms_of, known_byte, known_number, whole_term, term_by, term_at, noted_term, descriptor_by, descriptor_at}
+use Rattle.wild_terms.specs.Laws.{Follows, TermsAreLoaded}
+use Rattle.wild_terms.proofs.PatchLemmas.{outside, covering_in, none_covering, pairs_apart, last_apart, some_width, no_patch}
 use Rattle.wild_terms.proofs.ValueLemmas.{based_is, change_by, change_is}
 use Rattle.wild_terms.proofs.ByteLemmas.{EndsInRange, byte_moves, bytes_move, room_of, image_in_range, image_has_bytes, byte_small}
 use Rattle.wild_loader.proofs.Numbers.{number_bound, fits_eight}

@@ -1,6 +1,6 @@
 -- What an entry stores in a world is the value of its term.
 use Rattle.std.proofs.Common.{◌≡◌, ℕ, ℤ, ◌+◌, ◌-◌, ◌%◌, ◌^◌, ◌<◌, Bool, true, false, ◌&&◌, refl, arith, ap, sym, ◌∙◌}
-use Rattle.std.specs.Prelude.{◌==◌, Option, Some, None, Result, Ok, Err, slice_get, unwrap_or, if◌then◌else◌}
+use Rattle.std.specs.Prelude.{◌==◌, Option, Some, None, Ok, Err, slice_get, unwrap_or, if◌then◌else◌}
 use Rattle.std.specs.Int.{cast_unsigned, w64}
 use Rattle.std.proofs.lemmas.Bool.{eqb-true}
 use Rattle.wild_records.specs.declared.relocations.Rela.{Rela}
@@ -13,7 +13,7 @@ use Rattle.wild_loader.specs.declared.change.Change.TheVariants as loaded
 use Rattle.wild_loader.specs.declared.world.World.{World}
 use Rattle.wild_loader.specs.declared.world.Answer.{Answer}
 use Rattle.wild_loader.specs.Outcome.{◌>>=◌, known}
-use Rattle.wild_loader.specs.Changes.{first_value, answer_of, answer_at, sum_with_addend, module_and_offset, distance_of, thread_offset, change_of}
+use Rattle.wild_loader.specs.Changes.{first_value, answer_of, answer_at, sum_with_addend, module_and_offset, thread_offset, change_of}
 use Rattle.wild_loader.proofs.EntryLemmas.{stepped, same-ok}
 use Rattle.wild_terms.specs.declared.term.Atom.{Atom}
 use Rattle.wild_terms.specs.declared.term.Atom.TheVariants.{Zero, Base, Address, Module, Offset, ThreadOffset, Size, OwnModule, OwnDistance, Resolver}
@@ -23,9 +23,9 @@ use Rattle.wild_terms.specs.declared.outline.KnownAnswer.TheVariants.{Foreign, O
 use Rattle.wild_terms.specs.declared.outline.Outline.{Outline}
 use Rattle.wild_terms.specs.declared.outline.TermChange.{TermChange}
 use Rattle.wild_terms.specs.declared.outline.TermChange.TheVariants as changes
-use Rattle.wild_terms.specs.Terms.{number_term, atom_term, sum, same_atom, difference, same_term}
+use Rattle.wild_terms.specs.Terms.{number_term, atom_term, sum, same_atom}
 use Rattle.wild_terms.specs.Outline.{has_resolver, based, module_by, own_module, distance_by, own_distance, answer_for, address_of, module_of, offset_of, thread_offset_of, size_of, resolver_term, module_term, thread_offset_term, addend_of, change_terms}
-use Rattle.wild_terms.specs.Values.{no_answer, answer_or, unsigned_or, distance_or, value_of, IsKnown, Agrees, IsAnswered, HasResolver, IsProgram, IsWorldOf}
+use Rattle.wild_terms.specs.Values.{no_answer, answer_or, unsigned_or, distance_or, value_of, IsAnswered, IsWorldOf}
 use Rattle.wild_terms.specs.Laws.{SumsAreValues, DifferencesAreValues, SameTermsAreEqual}
 
 -- ---- arithmetic

@@ -1,6 +1,4 @@
-use Rattle.std.proofs.Common.{◌≡◌, arith, rules}
-use Rattle.std.specs.Prelude.{None}
-use Rattle.wild_loader.specs.Memory.{byte_in}
+use Rattle.std.proofs.Common.{arith}
 use Rattle.wild_terms.proofs.ReadLemmas.{are_missing}
 use Rattle.wild_terms.proofs.load.+check_loaded.Goals as goal
 

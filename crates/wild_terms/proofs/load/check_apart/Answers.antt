@@ -1,4 +1,4 @@
-use Rattle.std.proofs.Common.{◌≡◌, ◌∙◌}
+use Rattle.std.proofs.Common.{◌≡◌}
 use Rattle.std.specs.Prelude.{None}
 use Rattle.wild_terms.specs.Symbolic.{shared_byte}
 use Rattle.wild_terms.proofs.PatchLemmas.{last_apart}

@@ -1,0 +1,6 @@
+use Rattle.std.proofs.Common.{◌≡◌, drop}
+use Rattle.wild_checker.specs.Search.{in_sections}
+use Rattle.wild_checker.proofs.question.ask_sections.Given as goal
+
+abbrev pub invariant-loop-n : goal.invariant-loop-n
+invariant-loop-n g l = in_sections (g.Q.Question.asks l.question) l.group l.file l.n (drop l.n l.sections) ≡ in_sections (g.Q.Question.asks l.question) l.group l.file 0 l.sections

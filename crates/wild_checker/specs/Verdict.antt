@@ -1,0 +1,100 @@
+-- The verdict on an image, and what Yes says.
+--   HoldsIn l w image          in that world the loader accepts the image, and each kept item holds
+--   HoldsEverywhere l image    in every legal world
+--   IsAnswer l image v         v is the verdict
+--   YesIsFounded               after Yes the image holds everywhere
+use Rattle.std.specs.Prelude.{◌≡◌, ℕ, ◌<◌, Bool, true, false, List, Option, Some, None, Result, Ok, Err, All, if◌then◌else◌}
+use Rattle.wild_types.specs.declared.layout.Layout.{Layout}
+use Rattle.wild_types.specs.Item.{Item}
+use Rattle.wild_types.specs.Kinds.{is_partial_link}
+use Rattle.wild_loader.specs.declared.memory.Memory.{Memory}
+use Rattle.wild_loader.specs.declared.world.World.{World}
+use Rattle.wild_loader.specs.declared.fault.LoadFault.{LoadFault}
+use Rattle.wild_loader.specs.declared.fault.LoadFault.TheVariants as faults
+use Rattle.wild_loader.specs.Load.{load}
+use Rattle.wild_meaning.specs.World.{IsLoadable, IsLegal}
+use Rattle.wild_meaning.specs.Item.{IsKept}
+use Rattle.wild_meaning.specs.Reference.{ItemHolds}
+use Rattle.wild_terms.specs.declared.outline.Outline.{Outline}
+use Rattle.wild_terms.specs.Symbolic.{Symbolic, IsSorted, terms_of}
+use Rattle.wild_checker.specs.declared.question.Site.{Site}
+use Rattle.wild_checker.specs.declared.verdict.Doubt.TheVariants as doubts
+use Rattle.wild_checker.specs.declared.verdict.Verdict.{Verdict}
+use Rattle.wild_checker.specs.declared.verdict.Verdict.TheVariants.{Yes, No}
+use Rattle.wild_checker.specs.Outline.{IsOutlineOf}
+use Rattle.wild_checker.specs.Search.{in_groups}
+use Rattle.wild_checker.specs.Sections.{changed_byte, doubtful_reference}
+use Rattle.wild_checker.specs.Segments.{segment_doubt}
+
+-- ---- what Yes says
+
+-- in that world the loader accepts the image, and each kept item holds
+pub record HoldsIn (l : Layout) (w : World) (image : List ℕ) : Type 0 where
+  pub memory : Memory
+  pub accepted : load w image ≡ Ok memory
+  pub kept : (item : Item) → IsKept l item → ItemHolds l w memory item
+
+-- in every legal world, if the output can be loaded at all
+abbrev pub HoldsEverywhere : Layout → List ℕ → Type 0
+HoldsEverywhere l image = IsLoadable l.kind → (w : World) → IsLegal l w → HoldsIn l w image
+
+-- ---- the verdict
+
+abbrev pub by_reference : Option Site → Verdict
+by_reference None = Yes
+by_reference (Some site) = No (doubts.Reference site)
+
+abbrev pub by_byte : Layout → Option Site → Verdict
+by_byte l None = by_reference (in_groups doubtful_reference 0 l.groups)
+by_byte l (Some site) = No (doubts.Byte site)
+
+abbrev pub whole : Site
+whole = record { group = 0; file = 0; section = 0; index = 0 }
+
+-- the verdict on an image whose segments to load are the layout's: the first changed byte, else the first reference
+abbrev pub sections_verdict : Layout → Symbolic → Verdict
+sections_verdict l t = if l.options.only_keep_debug then No (doubts.Reference whole) else by_byte l (in_groups (changed_byte t) 0 l.groups)
+
+abbrev pub by_segment : Layout → Symbolic → Option ℕ → Verdict
+by_segment l t None = sections_verdict l t
+by_segment l t (Some index) = No (doubts.Segment index)
+
+-- v is the verdict on an image that is read as terms
+pub record IsSegmentVerdict (l : Layout) (image : List ℕ) (t : Symbolic) (v : Verdict) : Type 0 where
+  pub doubt : Option ℕ
+  pub is : segment_doubt l image ≡ Ok doubt
+  pub said : v ≡ by_segment l t doubt
+
+-- v is the verdict on an image that is refused with a fault
+abbrev pub IsRefusal : LoadFault → Verdict → Type 0
+IsRefusal faults.OutOfMemory v = ⊥
+IsRefusal fault v = v ≡ No (doubts.Load fault)
+
+-- the same, for an image that is read as terms or refused
+pub record IsLoadedVerdict (l : Layout) (image : List ℕ) (s : Symbolic) (v : Verdict) : Type 0 where
+  pub sorted : Symbolic
+  pub order : IsSorted s sorted
+  pub verdict : IsSegmentVerdict l image sorted v
+
+abbrev pub IsReadVerdict : Layout → List ℕ → Result Symbolic LoadFault → Verdict → Type 0
+IsReadVerdict l image (Err fault) v = IsRefusal fault v
+IsReadVerdict l image (Ok s) v = IsLoadedVerdict l image s v
+
+-- v is the verdict, by an outline of the layout
+pub record IsOutlined (l : Layout) (image : List ℕ) (v : Verdict) : Type 0 where
+  pub outline : Outline
+  pub is : IsOutlineOf l outline
+  pub said : IsReadVerdict l image (terms_of outline image) v
+
+-- the same; a relocatable object is not loaded
+abbrev pub IsVerdict : (partial : Bool) → Layout → List ℕ → Verdict → Type 0
+IsVerdict true l image v = v ≡ No doubts.Partial
+IsVerdict false l image v = IsOutlined l image v
+
+-- v is the verdict
+abbrev pub IsAnswer : Layout → List ℕ → Verdict → Type 0
+IsAnswer l image v = IsVerdict (is_partial_link l.kind) l image v
+
+-- after Yes the image holds everywhere
+abbrev pub YesIsFounded : Type 0
+YesIsFounded = (l : Layout) (image : List ℕ) → All (λ b. b < 256) image → IsAnswer l image Yes → HoldsEverywhere l image

@@ -1,0 +1,18 @@
+//! Laws of the checker.
+ghost use Rattle.wild_checker.specs.Outline.{WorldsAreOutlined};
+ghost use Rattle.wild_checker.specs.Verdict.{YesIsFounded};
+
+use wild_terms::terms_are_loaded;
+
+/// A legal world of a layout is one of its outline.
+pub fn worlds_are_outlined()
+    ensures { WorldsAreOutlined }
+{}
+
+/// After Yes the image holds in every legal world.
+pub fn yes_is_founded()
+    ensures { YesIsFounded }
+{
+    terms_are_loaded();
+    worlds_are_outlined();
+}

@@ -1,0 +1,14 @@
+//! The image checker: is an image, whoever wrote it, right in every legal world?
+#![tactic(auto)]
+
+mod bytes;
+mod laws;
+mod outline;
+mod question;
+mod references;
+mod segments;
+mod verdict;
+
+pub use laws::{worlds_are_outlined, yes_is_founded};
+pub use outline::outline_of;
+pub use verdict::{Doubt, Site, Verdict, verify_image};
