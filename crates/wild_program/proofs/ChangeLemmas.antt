@@ -67,6 +67,7 @@ same_text (Err refusals.OutOfMemory) l m h = refl
 pub change_said : (es : List Error) (a r : Result (Unit {0}) RelinkFault) (l m : Layout) (code : ℕ) (text : List ℕ) → es ≡ [] → (r ≡ a) ⊎ (r ≡ Err refusals.OutOfMemory) → OnOk r (l ≡ m) → IsChangeAnswer r l code text
     → (code ≡ change_status es a) × (text ≡ change_text es a m)
 change_said es a r l m code text none answered made said =
-    let e = is_answer a r answered said.known in
-    (said.status_is ∙ ap (λ (x : Result (Unit {0}) RelinkFault). change_status [] x) e ∙ sym (ap (λ (xs : List Error). change_status xs a) none),
-     said.text_is ∙ same_text r l m made ∙ ap (λ (x : Result (Unit {0}) RelinkFault). change_text [] x m) e ∙ sym (ap (λ (xs : List Error). change_text xs a m) none))
+    let e = is_answer a r answered said.known in (
+      said.status_is ∙ ap (λ (x : Result (Unit {0}) RelinkFault). change_status [] x) e ∙ sym (ap (λ (xs : List Error). change_status xs a) none),
+      said.text_is ∙ same_text r l m made ∙ ap (λ (x : Result (Unit {0}) RelinkFault). change_text [] x m) e ∙ sym (ap (λ (xs : List Error). change_text xs a m) none),
+    )

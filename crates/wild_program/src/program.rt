@@ -152,7 +152,11 @@ fn run_command<S: Source, K: Sink>(
     ensures memory { OnErr result (K.output_bytes sink.new ≡ K.output_bytes sink.old) }
 {
     match command_of(alloc, words)? {
-        None => Ok(write_answer(sink, b"usage: link W | make N W | relink W | space\n", USAGE)),
+        None => Ok(write_answer(
+            sink,
+            b"usage: link W | make N W | relink W | space\n",
+            USAGE,
+        )),
         Some(command) => answer_command(rt, alloc, words, command, source, sink),
     }
 }

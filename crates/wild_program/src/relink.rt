@@ -87,8 +87,20 @@ fn request_answer(
     ensures { IfOk result (λ a. (a.0 ≡ relink_status request) × (a.1.items ≡ relink_answer_text request)) }
 {
     match request.plan.machine {
-        Machine::X86_64 => machine_answer::<ElfX86_64, Brand>(rt, alloc, request, workers, Blank::new(1)),
-        Machine::AArch64 => machine_answer::<ElfAArch64, Brand>(rt, alloc, request, workers, Blank::new(1)),
+        Machine::X86_64 => machine_answer::<ElfX86_64, Brand>(
+            rt,
+            alloc,
+            request,
+            workers,
+            Blank::new(1),
+        ),
+        Machine::AArch64 => machine_answer::<ElfAArch64, Brand>(
+            rt,
+            alloc,
+            request,
+            workers,
+            Blank::new(1),
+        ),
     }
 }
 
