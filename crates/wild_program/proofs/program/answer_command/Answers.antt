@@ -1,4 +1,3 @@
-use Rattle.std.proofs.Common.{ap, ◌∙◌, Err}
 use Rattle.wild_program.specs.Program.{read_fault, too_long}
 use Rattle.wild_program.proofs.AnswerLemmas.{is_reading, right_answer}
 use Rattle.wild_program.proofs.program.answer_command.Goals as goal
@@ -15,10 +14,10 @@ returns-clause-ok g c =
 
 pub returns-in-Err-IoFailure-clause-ok : goal.returns-in-Err-IoFailure-clause-ok
 returns-in-Err-IoFailure-clause-ok g c =
-    let failed = c.read_input.ensures.failed (c.in-Err-IoFailure.is ∙ ap (λ e. Err e) c.in-Err-IoFailure.field-0-is) in
+    let failed = c.read_input.ensures.failed (rw c.in-Err-IoFailure.field-0-is at c.in-Err-IoFailure.is) in
     record { answer = read_fault; due = (is_reading c.args.words.now c.args.command c.requires failed.0, failed.1); told_as = c.write_answer.ensures; fits = tt }
 
 pub returns-in-Err-TooLong-clause-ok : goal.returns-in-Err-TooLong-clause-ok
 returns-in-Err-TooLong-clause-ok g c =
-    let long = c.read_input.ensures.too_long (c.in-Err-TooLong.is ∙ ap (λ e. Err e) c.in-Err-TooLong.field-0-is) in
+    let long = c.read_input.ensures.too_long (rw c.in-Err-TooLong.field-0-is at c.in-Err-TooLong.is) in
     record { answer = too_long; due = (is_reading c.args.words.now c.args.command c.requires long.0, long.1); told_as = c.write_answer-in-Err-TooLong.ensures; fits = tt }
