@@ -44,9 +44,13 @@ use Rattle.wild_space.specs.declared.fault.BindFault.{BindFault}
 use Rattle.wild_text.specs.Answer.{image_text, image_line, count_lines, refusal_text, no_plan_text}
 use Rattle.wild_program.specs.Exit as exit
 
--- the words are `link` and a number of workers from 1 to 64, in decimal
+-- the words are this name and a number of workers from 1 to 64, in decimal
+abbrev pub HasWorkers : List ℕ → List (String Global) → ℕ → Type 0
+HasWorkers name words n = (map string_bytes words ≡ name ∷ decimal n ∷ []) × (1 ≤ n) × (n ≤ 64)
+
+-- the words are `link` and a number of workers
 abbrev pub IsLink : List (String Global) → ℕ → Type 0
-IsLink words n = (map string_bytes words ≡ codes "link" ∷ decimal n ∷ []) × (1 ≤ n) × (n ≤ 64)
+IsLink words n = HasWorkers (codes "link") words n
 
 -- the words are `make`, a number of groups from 1 to 65,536 and a number of workers from 1 to 64, in decimal
 abbrev pub IsMake : List (String Global) → ℕ → ℕ → Type 0
@@ -60,9 +64,9 @@ IsLinkCommand words = (n : ℕ) × IsLink words n
 abbrev pub IsMakeCommand : List (String Global) → Type 0
 IsMakeCommand words = (n : ℕ) × (w : ℕ) × IsMake words n w
 
--- the words are `relink` and a number of workers from 1 to 64, in decimal
+-- the words are `relink` and a number of workers
 abbrev pub IsRelink : List (String Global) → ℕ → Type 0
-IsRelink words n = (map string_bytes words ≡ codes "relink" ∷ decimal n ∷ []) × (1 ≤ n) × (n ≤ 64)
+IsRelink words n = HasWorkers (codes "relink") words n
 
 -- the words are `relink W`
 abbrev pub IsRelinkCommand : List (String Global) → Type 0

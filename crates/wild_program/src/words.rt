@@ -3,7 +3,7 @@ ghost use Rattle.std.specs.Prelude.{◌≡◌, ◌≤◌, ◌<◌, ◌^◌, ℕ,
 ghost use Rattle.std.specs.Vec.Iter.{into_iter_items};
 ghost use Rattle.std.specs.IoError.{error_kind};
 ghost use Rattle.std.specs.declared.io.ErrorKind.TheVariants.{OutOfMemory};
-ghost use Rattle.wild_program.specs.Program.{IsLinkCommand, IsMakeCommand, IsCommand, Asks, IsLink, IsMake, IsSpace};
+ghost use Rattle.wild_program.specs.Program.{HasWorkers, IsMakeCommand, IsSpace, IsCommand, Asks};
 
 use crate::command::Command;
 use std::alloc::{AllocError, Global};
@@ -57,31 +57,29 @@ fn number_of(alloc: Global, digits: &str, most: u32) -> Result<Option<u32>, Allo
     }
 }
 
-/// The command that the words are, if they are one.
-pub fn command_of(alloc: Global, words: &[String]) -> Result<Option<Command>, AllocError>
-    ensures { IfOk result (λ o. MatchOption o (IsCommand words.now → ⊥) (Asks words.now)) }
+/// The number of workers, if the words are this name and such a number.
+fn workers_of(alloc: Global, words: &[String], name: &str) -> Result<Option<u8>, AllocError>
+    ensures { IfOk result (λ o. MatchOption o ((n : ℕ) → HasWorkers name.now words.now n → ⊥) (HasWorkers name.now words.now)) }
 {
     match words {
-        [name] => {
-            if name.as_str() != "space" {
-                return Ok(None);
-            }
-            Ok(Some(Command::Space))
-        }
-        [name, workers] => {
-            if name.as_str() != "link" && name.as_str() != "relink" {
+        [first, workers] => {
+            if first.as_str() != name {
                 return Ok(None);
             }
             let Some(workers) = number_of(alloc, workers.as_str(), 64)? else {
                 return Ok(None);
             };
-            let workers = workers as u8;
-            if name.as_str() == "link" {
-                Ok(Some(Command::Link { workers }))
-            } else {
-                Ok(Some(Command::Relink { workers }))
-            }
+            Ok(Some(workers as u8))
         }
+        _ => Ok(None),
+    }
+}
+
+/// The command of the words that make a layout, if they are such.
+fn make_of(alloc: Global, words: &[String]) -> Result<Option<Command>, AllocError>
+    ensures { IfOk result (λ o. MatchOption o (IsMakeCommand words.now → ⊥) (Asks words.now)) }
+{
+    match words {
         [name, groups, workers] => {
             if name.as_str() != "make" {
                 return Ok(None);
@@ -99,4 +97,35 @@ pub fn command_of(alloc: Global, words: &[String]) -> Result<Option<Command>, Al
         }
         _ => Ok(None),
     }
+}
+
+/// The command of the one word, if it is one.
+fn space_of(words: &[String]) -> Option<Command>
+    ensures { MatchOption result (IsSpace words.now → ⊥) (Asks words.now) }
+{
+    match words {
+        [name] => {
+            if name.as_str() != "space" {
+                return None;
+            }
+            Some(Command::Space)
+        }
+        _ => None,
+    }
+}
+
+/// The command that the words are, if they are one.
+pub fn command_of(alloc: Global, words: &[String]) -> Result<Option<Command>, AllocError>
+    ensures { IfOk result (λ o. MatchOption o (IsCommand words.now → ⊥) (Asks words.now)) }
+{
+    if let Some(command) = space_of(words) {
+        return Ok(Some(command));
+    }
+    if let Some(workers) = workers_of(alloc, words, "link")? {
+        return Ok(Some(Command::Link { workers }));
+    }
+    if let Some(workers) = workers_of(alloc, words, "relink")? {
+        return Ok(Some(Command::Relink { workers }));
+    }
+    make_of(alloc, words)
 }

@@ -1,4 +1,5 @@
-use Rattle.wild_program.proofs.AnswerLemmas.{right_answer}
+use Rattle.wild_program.specs.Program.{read_fault, too_long}
+use Rattle.wild_program.proofs.AnswerLemmas.{is_reading, right_answer}
 use Rattle.wild_program.proofs.program.answer_command.Goals as goal
 
 pub returns-clause-ok : goal.returns-clause-ok
@@ -10,3 +11,13 @@ returns-clause-ok g c =
       told_as = rw (← meant.status_is, ← meant.text_is, ← c.deref-2.ensures.value) c.write_answer-2.ensures;
       fits = meant.fits;
     }
+
+pub returns-in-Err-IoFailure-clause-ok : goal.returns-in-Err-IoFailure-clause-ok
+returns-in-Err-IoFailure-clause-ok g c =
+    let failed = c.read_input.ensures.failed (rw c.in-Err-IoFailure.field-0-is at c.in-Err-IoFailure.is) in
+    record { answer = read_fault; due = (is_reading c.args.words.now c.args.command c.requires failed.0, failed.1); told_as = c.write_answer.ensures; fits = tt }
+
+pub returns-in-Err-TooLong-clause-ok : goal.returns-in-Err-TooLong-clause-ok
+returns-in-Err-TooLong-clause-ok g c =
+    let long = c.read_input.ensures.too_long (rw c.in-Err-TooLong.field-0-is at c.in-Err-TooLong.is) in
+    record { answer = too_long; due = (is_reading c.args.words.now c.args.command c.requires long.0, long.1); told_as = c.write_answer-in-Err-TooLong.ensures; fits = tt }

@@ -8,3 +8,9 @@ use Rattle.wild_program.proofs.relink.machine_answer.Goals as goal
 pub returns-in-Err : goal.returns-in-Err
 returns-in-Err g c =
     IfOk-weaker c.refusal_of.result _ _ (λ a h. plan_refused c.in-Err.error (errors c.args.request.plan) (answer c.args.request.plan c.args.request.change) (changed_layout c.args.request.plan c.args.request.change) a.0 a.1.items c.in-Err.ensures.faults h) c.refusal_of.ensures
+
+pub returns : goal.returns
+returns g c =
+    let answered = rw c.in-Ok.ensures.layout at c.relink-result.ensures.answered in
+    let made = rw c.in-Ok.ensures.layout at c.relink-result.ensures.changed in
+    IfOk-weaker c.change_answer.result _ _ (λ a h. change_said (errors c.args.request.plan) (answer c.args.request.plan c.args.request.change) c.relink-result.result c.relink-result.new.linked.layout (changed_layout c.args.request.plan c.args.request.change) a.0 a.1.items c.in-Ok.ensures.faults answered made h) c.change_answer.ensures

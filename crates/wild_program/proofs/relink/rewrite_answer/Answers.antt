@@ -6,7 +6,7 @@ use Rattle.wild_program.proofs.relink.rewrite_answer.Goals as goal
 
 pub returns-in-Err : goal.returns-in-Err
 returns-in-Err g c =
-    let none = rw c.in-Err.is at c.in_ok-plan_of.ensures in
+    let none = rw c.in-Err.is at c.in_ok-request.ensures in
     let said = no_plan_said relink_status relink_answer_text none.meaning c.in-Err.text.items none.line in
     record {
       answer = of_relink none.meaning;
@@ -19,7 +19,7 @@ returns-in-Err g c =
 pub returns : goal.returns
 returns g c = record {
   answer = of_relink (plan c.in-Ok.request);
-  meant = (plan c.in-Ok.request, refl, rw c.in-Ok.is at c.in_ok-plan_of.ensures);
+  meant = (plan c.in-Ok.request, refl, rw c.in-Ok.is at c.in_ok-request.ensures);
   fits = tt;
   status_is = c.in_ok-answer.ensures.0;
   text_is = c.in_ok-answer.ensures.1;
