@@ -15,7 +15,7 @@ returns-in-Err g c = record {
 
 pub returns-in-Err-At : goal.returns-in-Err-At
 returns-in-Err-At g c =
-    let same : c.as_str.result.now ≡ string_bytes c.in-Err-At.path = rw c.in-Err-At.path-is at c.as_str.ensures.value in
+    let same : c.as_str-in-Err-At.result.now ≡ string_bytes c.in-Err-At.path = rw c.in-Err-At.path-is at c.as_str-in-Err-At.ensures.value in
     record {
       meaning = no_plan (string_bytes c.in-Err-At.path);
       means = (view c.in-Ok.value, c.in-Ok.ensures.ok, rw c.in-Err-At.field-0-is at c.in-Err-At.ensures);
