@@ -19,13 +19,13 @@ fn main(rt: HostRuntime) -> io::Result<()> {
     let alloc = rt.alloc();
     let text = io::read_to_string(alloc, rt.reader())?;
     let mut count = 0u64;
-    let mut base = "";
+    let mut base = String::new(alloc);
     for block in text.as_str().split("\n\n") {
         if let Some(plan) = block.strip_prefix("base ") {
-            base = plan;
+            base = String::from_str(alloc, plan)?;
             continue;
         }
-        let row = row_of(alloc, block, base)?;
+        let row = row_of(alloc, block, base.as_str())?;
         if !row_holds(&rt, alloc, row.as_str())? {
             println!(rt; "differs:\n{row}")?;
         }

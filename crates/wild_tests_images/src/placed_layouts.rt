@@ -8,7 +8,7 @@ use wild_image::ElfX86_64;
 use wild_loader::{LoadFault, Memory, load_image};
 use wild_placer::{PlaceFault, Placed, place_code};
 use wild_tests_plans::{PACKED, RELOCATABLE, SLOTTED, WIDE};
-use wild_types::{Fault, Layout};
+use wild_types::Fault;
 
 /// Whether two memories have the same runs.
 fn has_same_runs(left: &Memory, right: &Memory) -> bool {
@@ -54,15 +54,17 @@ fn memory_of_a_layout(rt: HostRuntime) -> Result<(), Fail> {
     Ok(())
 }
 
-/// The fault of a layout in a world.
+/// The fault of a plan with changes in a world.
 fn fault_of(
     rt: &(impl Threads + Sync),
     alloc: Global,
-    layout: &Layout,
+    plan: &str,
+    changes: &[(&str, &str)],
     base: u64,
 ) -> Result<Option<PlaceFault>, Fail> {
+    let layout = changed_layout(alloc, plan, changes)?;
     let world = world(alloc, base, &[])?;
-    Ok(place_code::<ElfX86_64>(rt, alloc, layout, &world, 1).err())
+    Ok(place_code::<ElfX86_64>(rt, alloc, &layout, &world, 1).err())
 }
 
 /// A fault of the layout comes before one of the loader.
@@ -70,24 +72,23 @@ fn fault_of(
 fn faults_in_order(rt: HostRuntime) -> Result<(), Fail> {
     let alloc = rt.alloc();
     let changes = &[(r#""number":2,"#, r#""number":200,"#)];
-    let refused = changed_layout(alloc, WIDE, changes)?;
-    let fault = fault_of(&rt, alloc, &refused, u64::MAX)?;
+    let fault = fault_of(&rt, alloc, WIDE, changes, u64::MAX)?;
     assert!(rt;
         matches!(
         fault,
         Some(PlaceFault::Write(error)) if matches!(error.fault, Fault::UnsupportedRelocation { .. })
     )
     );
-    let fault = fault_of(&rt, alloc, &changed_layout(alloc, WIDE, &[])?, u64::MAX)?;
+    let fault = fault_of(&rt, alloc, WIDE, &[], u64::MAX)?;
     assert!(rt;
         matches!(
             fault,
             Some(PlaceFault::Load(LoadFault::Wraps { address: 0x40_0000 }))
         )
     );
-    let fault = fault_of(&rt, alloc, &changed_layout(alloc, RELOCATABLE, &[])?, 0)?;
+    let fault = fault_of(&rt, alloc, RELOCATABLE, &[], 0)?;
     assert!(rt; matches!(fault, Some(PlaceFault::Load(LoadFault::NotElf))));
-    let fault = fault_of(&rt, alloc, &changed_layout(alloc, SLOTTED, &[])?, 0)?;
+    let fault = fault_of(&rt, alloc, SLOTTED, &[], 0)?;
     assert!(rt; matches!(fault, Some(PlaceFault::Load(LoadFault::NoAnswer { .. }))));
     Ok(())
 }
