@@ -1,143 +1,16 @@
 -- The least number that is in two lists is found over lists that are cut.
-use Rattle.std.proofs.Common.{◌≡◌, ℕ, suc, ◌+◌, ◌<◌, ◌≤◌, ◌⊎◌, inl, inr, List, [], ◌∷◌, ◌++◌, length, drop, take, get_or, refl, sym, ap, ◌∙◌, arith, max, min, subst}
-use Rattle.std.specs.Prelude.{Option, Some, None, nat_lt, nat_le}
-use Rattle.std.specs.List.{sum_by}
+use Rattle.std.proofs.Common.{◌≡◌, ℕ, ◌+◌, ◌<◌, ◌≤◌, inl, inr, List, [], ◌∷◌, ◌++◌, length, drop, take, get_or, refl, sym, ap, ◌∙◌, arith, max, min, subst}
+use Rattle.std.specs.Prelude.{Option, nat_le}
 use Rattle.std.specs.List.Sorted.{IsPermutation, IsNonDecreasingBy}
-use Rattle.std.proofs.lemmas.Bool.{cases_Bool, cases_lt, and_right, ltb-true, ltb-false, lt-ltb, le-ltb, le-leb, lt-leb, leb-true}
+use Rattle.std.proofs.lemmas.Bool.{cases_Bool, cases_lt, leb-true}
 use Rattle.std.proofs.lemmas.List.{drop_more, drop_all, append_assoc, append-nil, take_more, map-append}
 use Rattle.std.proofs.lemmas.List.Sorted.{sum_by-IsPermutation}
-use Rattle.std.proofs.lemmas.List.Sums.{sum_by-cons}
 use Rattle.wild_words.specs.declared.extents.Extent.{Extent}
-use Rattle.wild_words.specs.Extents.{least, shared_extents, shared_among, least_extent}
+use Rattle.wild_words.specs.Extents.{least, shared_among, least_extent, covers, total}
+use Rattle.wild_words.proofs.ExtentLemmas.{IsLeastOf, one-least, least-same, least-or, covers-in, covers-low, covers-high, total-sum, among-least, pairs-least, RisesFrom, total-low, rises-from}
 use Rattle.wild_space.specs.declared.image.NamedImage.{NamedImage}
 use Rattle.wild_space.specs.Overlaps.{extents_in, placed, shared_lists, shared_with, least_in_two}
-use Rattle.wild_space.specs.Counts.{covers, total, kept, cut, has_number, count, LeastIsLeast, NoneIsInOne}
-
--- ---- the least number of which something holds, or none
-
-abbrev IsLeastOf : Option ℕ → (ℕ → Type 0) → Type 0
-IsLeastOf None P = (a : ℕ) → P a → ⊥
-IsLeastOf (Some m) P = P m × ((a : ℕ) → P a → m ≤ a)
-
-one-least : (P : ℕ → Type 0) (o p : Option ℕ) → IsLeastOf o P → IsLeastOf p P → o ≡ p
-one-least P None None h k = refl
-one-least P None (Some n) h k = absurd (h n k.0)
-one-least P (Some m) None h k = absurd (k m h.0)
-one-least P (Some m) (Some n) h k = let a = h.1 n k.0 in let b = k.1 m h.0 in ap Some (omega (arith, a, b))
-
-least-same : (P Q : ℕ → Type 0) (o : Option ℕ) → ((a : ℕ) → P a → Q a) → ((a : ℕ) → Q a → P a) → IsLeastOf o P → IsLeastOf o Q
-least-same P Q None to from h = λ a q. h a (from a q)
-least-same P Q (Some m) to from h = (to m h.0, λ a q. h.1 a (from a q))
-
-least-or : (P Q R : ℕ → Type 0) (o p : Option ℕ) → ((a : ℕ) → P a → R a) → ((a : ℕ) → Q a → R a) → ((a : ℕ) → R a → P a ⊎ Q a) → IsLeastOf o P → IsLeastOf p Q → IsLeastOf (least o p) R
-least-or P Q R None p one two split h k = least-same Q R p two (λ a r. elim (split a r) [ inl x ↦ absurd (h a x) | inr y ↦ y ]) k
-least-or P Q R (Some m) None one two split h k = least-same P R (Some m) one (λ a r. elim (split a r) [ inl x ↦ x | inr y ↦ absurd (k a y) ]) h
-least-or P Q R (Some m) (Some n) one two split h k = (
-  elim (cases_lt m n) [
-    | inl l ↦ (let e : min m n ≡ m = omega arith in rw e (one m h.0))
-    | inr l ↦ (let e : min m n ≡ n = omega arith in rw e (two n k.0))
-  ],
-  λ a r. elim (split a r) [ inl x ↦ (let b = h.1 a x in omega (arith, b)) | inr y ↦ (let b = k.1 a y in omega (arith, b)) ],
-)
-
--- ---- how many extents have a number
-
-covers-in : (e : Extent) (a : ℕ) → e.start ≤ a → a < e.end → covers e a ≡ 1
-unfolding covers
-covers-in e a low high = rw (le-leb _ _ low, lt-ltb _ _ high) refl
-
-covers-low : (e : Extent) (a : ℕ) → a < e.start → covers e a ≡ 0
-unfolding covers
-covers-low e a low = rw (lt-leb _ _ low) refl
-
-covers-high : (e : Extent) (a : ℕ) → e.end ≤ a → covers e a ≡ 0
-unfolding covers
-covers-high e a high = rw (and_right (nat_le e.start a) (nat_lt a e.end) (le-ltb _ _ high)) refl
-
-record Within (e : Extent) (a : ℕ) : Type 0 where
-  low : e.start ≤ a
-  high : a < e.end
-
-covered : (e : Extent) (a : ℕ) → 1 ≤ covers e a → Within e a
-covered e a h =
-    elim (cases_lt a e.start) [
-      | inl l ↦ (let z = covers-low e a l in absurd (omega (arith, h, z)))
-      | inr low ↦
-          elim (cases_lt a e.end) [
-            | inl high ↦ record { low = low; high = high }
-            | inr g ↦ (let z = covers-high e a g in absurd (omega (arith, h, z)))
-          ]
-    ]
-
-covers-most : (e : Extent) (a : ℕ) → covers e a ≤ 1
-covers-most e a =
-    elim (cases_lt a e.start) [
-      | inl l ↦ (let z = covers-low e a l in omega (arith, z))
-      | inr low ↦
-          elim (cases_lt a e.end) [
-            | inl high ↦ (let z = covers-in e a low high in omega (arith, z))
-            | inr g ↦ (let z = covers-high e a g in omega (arith, z))
-          ]
-    ]
-
-total-sum : (a : ℕ) (es : List Extent) → total a es ≡ sum_by (λ e. covers e a) es
-total-sum a [] = refl
-total-sum a (e ∷ es) = (let r = total-sum a es in rw r refl) ∙ sym (sum_by-cons (λ e. covers e a) e es)
-
--- ---- the least by pairs
-
-pair-least : (e f : Extent) → IsLeastOf (shared_extents e f) (λ a. (1 ≤ covers e a) × (1 ≤ covers f a))
-pair-least e f =
-    elim (cases_Bool (nat_lt (max e.start f.start) (min e.end f.end))) [
-      | inl t ↦
-          (let l = ltb-true _ _ t in
-          let one = covers-in e (max e.start f.start) (omega arith) (omega (arith, l)) in
-          let two = covers-in f (max e.start f.start) (omega arith) (omega (arith, l)) in
-          rw t ((omega (arith, one), omega (arith, two)), λ a h. let x = covered e a h.0 in let y = covered f a h.1 in let p = x.low in let q = y.low in omega (arith, p, q)))
-      | inr n ↦
-          (let l = ltb-false _ _ n in
-          rw n (λ a h. let x = covered e a h.0 in let y = covered f a h.1 in let p = x.low in let q = y.low in let r = x.high in let s = y.high in omega (arith, l, p, q, r, s)))
-    ]
-
-among-least : (e : Extent) (fs : List Extent) → IsLeastOf (shared_among e fs) (λ a. (1 ≤ covers e a) × (1 ≤ total a fs))
-among-least e [] = λ a h. let x = h.1 in omega (arith, x)
-among-least e (f ∷ fs) =
-    least-or (λ a. (1 ≤ covers e a) × (1 ≤ covers f a)) (λ a. (1 ≤ covers e a) × (1 ≤ total a fs)) (λ a. (1 ≤ covers e a) × (1 ≤ covers f a + total a fs)) (shared_extents e f) (shared_among e fs)
-    (λ a h. (h.0, (let x = h.1 in omega (arith, x))))
-    (λ a h. (h.0, (let x = h.1 in omega (arith, x))))
-    (λ a h. elim (cases_lt 0 (covers f a)) [ inl l ↦ inl (h.0, l) | inr z ↦ inr (h.0, (let x = h.1 in omega (arith, x, z))) ])
-    (pair-least e f)
-    (among-least e fs)
-
-pairs-least : (es : List Extent) → IsLeastOf (least_extent es) (λ a. 2 ≤ total a es)
-unfolding least_extent
-pairs-least [] = λ a h. omega (arith, h)
-pairs-least (e ∷ es) =
-    least-or (λ a. (1 ≤ covers e a) × (1 ≤ total a es)) (λ a. 2 ≤ total a es) (λ a. 2 ≤ covers e a + total a es) (shared_among e es) (least_extent es)
-    (λ a h. let x = h.0 in let y = h.1 in omega (arith, x, y))
-    (λ a h. omega (arith, h))
-    (λ a h. let most = covers-most e a in elim (cases_lt 1 (total a es)) [ inl l ↦ inr l | inr z ↦ inl (omega (arith, h, z), omega (arith, h, most)) ])
-    (among-least e es)
-    (pairs-least es)
-
--- ---- starts in order
-
--- the starts rise, from s on
-abbrev RisesFrom : ℕ → List Extent → Type 0
-RisesFrom s [] = Unit {0}
-RisesFrom s (e ∷ es) = (s ≤ e.start) × RisesFrom e.start es
-
-total-low : (s a : ℕ) (es : List Extent) → RisesFrom s es → a < s → total a es ≡ 0
-total-low s a [] rises l = refl
-total-low s a (e ∷ es) rises l =
-    let from = rises.0 in
-    let here = covers-low e a (omega (arith, from, l)) in
-    let rest = total-low e.start a es rises.1 (omega (arith, from, l)) in
-    omega (arith, here, rest)
-
-rises-from : (s : ℕ) (es : List Extent) → IsNonDecreasingBy (λ e. e.start) es → ((d : Extent) → 0 < length es → s ≤ (get_or es 0 d).start) → RisesFrom s es
-rises-from s [] sorted first = tt
-rises-from s (e ∷ es) sorted first = (first e (omega arith), rises-from e.start es (λ i j d l m. sorted (suc i) (suc j) d (omega arith) (omega arith)) (λ d l. sorted 0 1 d (omega arith) (omega arith)))
+use Rattle.wild_space.specs.Counts.{kept, cut, has_number, count, LeastIsLeast, NoneIsInOne}
 
 -- ---- the loop
 

@@ -1,20 +1,11 @@
 -- How many extents of a list have a number.
---   total a es         how many of the extents have number a
 --   has_number es a    1 if one of them has it, otherwise 0
 --   count a ess        how many of the lists have it
 --   cut reach es       extents in order of their starts, each without the numbers of those before it
-use Rattle.std.specs.Prelude.{◌≡◌, ℕ, ◌+◌, ◌≤◌, ◌&&◌, if◌then◌else◌, nat_le, nat_lt, max, min, List, [], ◌∷◌, ◌++◌, Some, None}
+use Rattle.std.specs.Prelude.{◌≡◌, ℕ, ◌+◌, ◌≤◌, if◌then◌else◌, nat_le, max, min, List, [], ◌∷◌, ◌++◌, Some, None}
 use Rattle.wild_words.specs.declared.extents.Extent.{Extent}
+use Rattle.wild_words.specs.Extents.{total}
 use Rattle.wild_space.specs.Overlaps.{least_in_two}
-
--- 1 if the extent has a number, otherwise 0
-unfoldable pub covers : Extent → ℕ → ℕ
-covers e a = if nat_le e.start a && nat_lt a e.end then 1 else 0
-
--- how many of the extents have a number
-abbrev pub total : ℕ → List Extent → ℕ
-total a [] = 0
-total a (e ∷ es) = covers e a + total a es
 
 -- the part of an extent after reach
 abbrev pub kept : ℕ → Extent → List Extent

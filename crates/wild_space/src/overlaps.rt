@@ -4,7 +4,8 @@ ghost use Rattle.wild_records.specs.ProgramHeader.{program_header_size};
 ghost use Rattle.wild_loader.specs.Headers.{program_headers};
 ghost use Rattle.wild_space.specs.Order.{AreOrdered};
 ghost use Rattle.wild_space.specs.Binds.{place_of};
-ghost use Rattle.wild_space.specs.Counts.{total, kept, cut, has_number};
+ghost use Rattle.wild_words.specs.Extents.{total};
+ghost use Rattle.wild_space.specs.Counts.{kept, cut, has_number};
 ghost use Rattle.wild_space.specs.Overlaps.{extent_of, has_addresses, extents_of, extents_in, placed, least_in_two};
 
 use crate::ordered::OrderedImages;

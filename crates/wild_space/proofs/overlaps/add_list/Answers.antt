@@ -3,7 +3,8 @@ use Rattle.std.specs.Prelude.{All}
 use Rattle.std.proofs.lemmas.List.Sorted.{All-permutation, IsNonDecreasingBy-from_sort_by_key}
 use Rattle.std.proofs.lemmas.Result.{IfOk-weaker}
 use Rattle.wild_words.specs.declared.extents.Extent.{Extent}
-use Rattle.wild_space.specs.Counts.{total, has_number, cut}
+use Rattle.wild_words.specs.Extents.{total}
+use Rattle.wild_space.specs.Counts.{has_number, cut}
 use Rattle.wild_space.proofs.CountLemmas.{list_added}
 use Rattle.wild_space.proofs.overlaps.add_list.Goals as goal
 

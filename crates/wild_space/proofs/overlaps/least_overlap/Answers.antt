@@ -1,8 +1,8 @@
 use Rattle.std.proofs.Common.{◌≡◌, ℕ, ◌<◌, ◌≤◌, List, length, arith, ap, ◌∙◌, get_or}
 use Rattle.std.proofs.lemmas.List.{take_all}
 use Rattle.wild_words.specs.declared.extents.Extent.{Extent}
-use Rattle.wild_words.specs.Extents.{least_extent}
-use Rattle.wild_space.specs.Counts.{total, has_number, count}
+use Rattle.wild_words.specs.Extents.{least_extent, total}
+use Rattle.wild_space.specs.Counts.{has_number, count}
 use Rattle.wild_space.specs.Overlaps.{extents_in, placed}
 use Rattle.wild_space.proofs.CountLemmas.{count_more, found_is}
 use Rattle.wild_space.proofs.overlaps.least_overlap.Goals as goal

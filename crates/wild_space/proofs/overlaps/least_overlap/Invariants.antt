@@ -1,5 +1,6 @@
 use Rattle.std.proofs.Common.{◌≡◌, ℕ, take}
-use Rattle.wild_space.specs.Counts.{total, count}
+use Rattle.wild_words.specs.Extents.{total}
+use Rattle.wild_space.specs.Counts.{count}
 use Rattle.wild_space.specs.Overlaps.{placed}
 use Rattle.wild_space.proofs.overlaps.least_overlap.Given as goal
 
