@@ -13,7 +13,7 @@ mod rule;
 mod steps;
 mod work;
 
-pub use gathering::{JobResults, gather};
+pub use gathering::{JobResults, gather, gather_alone};
 pub use hand::{Hand, Shape};
 pub use job::{Counted, Gate, Job, OpenGate};
 pub use per_worker::PerWorker;

@@ -8,6 +8,7 @@ mod laws;
 mod pass;
 mod relocations;
 mod search;
+mod sorter;
 mod table;
 mod walk;
 mod write;
@@ -18,9 +19,8 @@ pub use frames::{FrameSource, Target};
 pub use laws::kept_entries_are_read;
 pub use pass::Pass;
 pub use search::{check_order, look_up, tables_are_searched};
-pub use table::{
-    Fde, TableError, sort_eh_frame_hdr_entries, write_eh_frame_hdr, write_search_table,
-};
+pub use sorter::{Sorter, sort_eh_frame_hdr_entries, sort_entries_alone};
+pub use table::{Fde, TableError, write_eh_frame_hdr, write_search_table};
 pub use walk::Walk;
 pub use write::{
     add_found, walk_continues, write_eh_frame_data, write_eh_frame_terminator, write_entry,

@@ -1,15 +1,12 @@
 //! The search table of frames (LSB, "The .eh_frame_hdr section").
 ghost use Rattle.std.specs.Prelude.{◌≡◌, ◌<◌, ◌≤◌, ◌+◌, ◌*◌, ◌^◌, ◌++◌, [], ◌∷◌, if◌then◌else◌, length, map, take, OnOk, IfOk};
-ghost use Rattle.std.specs.Ordering.{nat_cmp};
 ghost use Rattle.std.specs.List.{flat_map};
-ghost use Rattle.std.specs.List.Sorted.{IsPermutation, IsNonDecreasingBy, IsStableByKey};
+ghost use Rattle.std.specs.List.Sorted.{IsPermutation, IsNonDecreasingBy};
 ghost use Rattle.wild_records.specs.Frames.{eh_frame_hdr_size, eh_frame_hdr_entry_size};
 ghost use Rattle.wild_frames.specs.Table.{distance, far, entry_of, far_fde, table_errors, header_of, rank, rank_of, hdr_bytes, entry_bytes, in_order, IsTable, table_of, Answers};
 
-use rayon::prelude::*;
+use crate::sorter::Sorter;
 use std::alloc::{AllocError, AllocFailed, Global};
-use std::marker::Sync;
-use std::thread::Threads;
 use wild_records::abi::frame::{
     DW_EH_PE_ABSPTR, DW_EH_PE_DATAREL, DW_EH_PE_PCREL, DW_EH_PE_SDATA4, DW_EH_PE_UDATA4,
     EH_FRAME_HDR_VERSION,
@@ -106,26 +103,6 @@ fn entries_of(alloc: Global, header: u64, fdes: &[Fde]) -> Result<Vec<EhFrameHdr
     Ok(entries)
 }
 
-/// Sorts entries by the start of their code; the sort is stable. Time n log n, on as many threads as there are processors.
-pub fn sort_eh_frame_hdr_entries(
-    rt: &(impl Threads + Sync),
-    alloc: Global,
-    entries: &mut [EhFrameHdrEntry],
-) -> Result<(), AllocError>
-    ensures permutation { IsPermutation entries.old entries.new }
-    ensures sorted { OnOk result (IsNonDecreasingBy rank_of entries.new) }
-    ensures stable { IsStableByKey rank_of nat_cmp entries.old entries.new }
-{
-    par_sort_by_key(
-        rt,
-        alloc,
-        entries,
-        |e: &EhFrameHdrEntry| -> u32
-            ensures { result ≡ rank_of e.now }
-        { rank(e.frame_ptr) },
-    )
-}
-
 /// Writes the header to the start of the table's bytes, or returns the fault that the frames are too far from it.
 pub fn write_eh_frame_hdr(
     header: u64,
@@ -170,31 +147,33 @@ fn put_entries(entries: &[EhFrameHdrEntry], out: &mut [u8])
 }
 
 /// Writes the entries after the header, sorted by the start of their code.
-fn put_sorted(
-    rt: &(impl Threads + Sync),
+fn put_sorted<S: Sorter>(
+    sorter: &S,
     alloc: Global,
     entries: &mut [EhFrameHdrEntry],
     out: &mut [u8],
 ) -> Result<(), AllocError>
-    requires { length out.old ≡ 12 + 8 * length entries.old }
+    requires ready { S.ready sorter.now }
+    requires room { length out.old ≡ 12 + 8 * length entries.old }
     ensures bytes { OnOk result (out.new ≡ take 12 out.old ++ flat_map entry_bytes (in_order entries.old)) }
     ensures all { OnOk result (IsPermutation entries.old (in_order entries.old)) }
     ensures sorted { OnOk result (IsNonDecreasingBy rank_of (in_order entries.old)) }
 {
-    sort_eh_frame_hdr_entries(rt, alloc, entries)?;
+    sorter.sort(alloc, entries)?;
     put_entries(entries, out);
     Ok(())
 }
 
 /// Writes the search table of the kept FDEs, or returns the first distance that is too far.
-pub fn write_search_table(
-    rt: &(impl Threads + Sync),
+pub fn write_search_table<S: Sorter>(
+    sorter: &S,
     alloc: Global,
     header: u64,
     eh_frame: u64,
     fdes: &[Fde],
     out: &mut [u8],
 ) -> Result<(), TableError>
+    requires ready { S.ready sorter.now }
     requires room { length out.old ≡ eh_frame_hdr_size + eh_frame_hdr_entry_size * length fdes.now }
     requires few { length fdes.now < 2 ^ 32 }
     requires place { header + 4 < 2 ^ 64 }
@@ -204,6 +183,6 @@ pub fn write_search_table(
 {
     write_eh_frame_hdr(header, eh_frame, fdes.len() as u32, out)?;
     let mut entries = entries_of(alloc, header, fdes)?;
-    put_sorted(rt, alloc, &mut entries, out)?;
+    put_sorted(sorter, alloc, &mut entries, out)?;
     Ok(())
 }

@@ -5,6 +5,7 @@ use std::alloc::{AllocError, Global};
 use std::marker::Sync;
 use std::test::Fail;
 use std::thread::Threads;
+use wild_executor::Threaded;
 use wild_frames::{
     BadFrame, Fde, FrameError, FrameSource, TableError, Target, count_frames, write_eh_frame_data,
     write_search_table,
@@ -193,7 +194,7 @@ fn table(
         },
     ];
     let mut out = vec![in alloc; 0; 28]?;
-    write_search_table(rt, alloc, 0x402000, eh_frame, &fdes, &mut out)?;
+    write_search_table(&Threaded(rt), alloc, 0x402000, eh_frame, &fdes, &mut out)?;
     Ok(out)
 }
 

@@ -7,15 +7,15 @@ use Rattle.wild_frames.proofs.table.put_sorted.Goals as goal
 
 pub returns-clause-bytes : goal.returns-clause-bytes
 returns-clause-bytes g c =
-    let s = sorted_is_in_order c.args.entries.now c.sort_eh_frame_hdr_entries.new.entries c.in_ok-sort_eh_frame_hdr_entries.ensures.sorted c.in_ok-sort_eh_frame_hdr_entries.ensures.stable in
+    let s = sorted_is_in_order c.args.entries.now c.sort.new.entries c.in_ok-sort.ensures.sorted c.in_ok-sort.ensures.stable in
     c.put_entries.ensures ∙ ap (λ (es : List EhFrameHdrEntry). take 12 c.args.out.now ++ flat_map entry_bytes es) s
 
 pub returns-clause-all : goal.returns-clause-all
 returns-clause-all g c =
-    let s = sorted_is_in_order c.args.entries.now c.sort_eh_frame_hdr_entries.new.entries c.in_ok-sort_eh_frame_hdr_entries.ensures.sorted c.in_ok-sort_eh_frame_hdr_entries.ensures.stable in
-    subst (IsPermutation c.args.entries.now) s c.sort_eh_frame_hdr_entries.ensures.permutation
+    let s = sorted_is_in_order c.args.entries.now c.sort.new.entries c.in_ok-sort.ensures.sorted c.in_ok-sort.ensures.stable in
+    subst (IsPermutation c.args.entries.now) s c.sort.ensures.permutation
 
 pub returns-clause-sorted : goal.returns-clause-sorted
 returns-clause-sorted g c =
-    let s = sorted_is_in_order c.args.entries.now c.sort_eh_frame_hdr_entries.new.entries c.in_ok-sort_eh_frame_hdr_entries.ensures.sorted c.in_ok-sort_eh_frame_hdr_entries.ensures.stable in
-    subst (IsNonDecreasingBy rank_of) s c.in_ok-sort_eh_frame_hdr_entries.ensures.sorted
+    let s = sorted_is_in_order c.args.entries.now c.sort.new.entries c.in_ok-sort.ensures.sorted c.in_ok-sort.ensures.stable in
+    subst (IsNonDecreasingBy rank_of) s c.in_ok-sort.ensures.sorted
