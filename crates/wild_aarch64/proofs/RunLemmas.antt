@@ -37,9 +37,9 @@ br_16 = refl
 pub hints_are_skipped : HintsAreSkipped
 hints_are_skipped cs a ks = refl
 
-all_hints-behind : (cs : List (Option Code)) → all_hints (cs ++ (Some Hint ∷ [])) ≡ all_hints cs
-all_hints-behind [] = refl
-all_hints-behind (c ∷ cs) = rw (all_hints-behind cs) refl
+all_hints-after : (cs : List (Option Code)) → all_hints (cs ++ (Some Hint ∷ [])) ≡ all_hints cs
+all_hints-after [] = refl
+all_hints-after (c ∷ cs) = rw (all_hints-after cs) refl
 
 goes_as : (next : Next) (f g : RegisterValues → Option Action) (b c : Bool) → ((ks : RegisterValues) → f ks ≡ g ks) → b ≡ c → goes_on next f b ≡ goes_on next g c
 goes_as (On ks) f g b c h e = h ks
@@ -49,7 +49,7 @@ goes_as Stuck f g b c h e = refl
 pub hints_are_lost : HintsAreLost
 hints_are_lost [] a ks = refl
 hints_are_lost (c ∷ cs) a ks =
-    goes_as (step a ks c) (λ next. run (cs ++ (Some Hint ∷ [])) (a + 4) next) (λ next. run cs (a + 4) next) (all_hints (cs ++ (Some Hint ∷ []))) (all_hints cs) (λ next. hints_are_lost cs (a + 4) next) (all_hints-behind cs)
+    goes_as (step a ks c) (λ next. run (cs ++ (Some Hint ∷ [])) (a + 4) next) (λ next. run cs (a + 4) next) (all_hints (cs ++ (Some Hint ∷ []))) (all_hints cs) (λ next. hints_are_lost cs (a + 4) next) (all_hints-after cs)
 
 -- ---- words that jump
 

@@ -25,7 +25,7 @@ use Rattle.wild_table_formats.specs.declared.symbols.SymbolFields.{SymbolFields}
 use Rattle.wild_table_formats.specs.DynamicEntries.{NamedFields, or_none, listed, undefined}
 use Rattle.wild_table_formats.specs.DynamicFields.{own_attributes, in_section, resolved_value, is_thread_symbol, value_in, common_section, some_section, placed_fields, fields_at, canonical_fields, section_named, exported_fields_in, role_of}
 use Rattle.wild_names.specs.Laws.{table_symbols}
-use Rattle.wild_names.proofs.NumberedLemmas.{defined_elsewhere, length-elsewhere, behind}
+use Rattle.wild_names.proofs.NumberedLemmas.{defined_elsewhere, length-elsewhere, slice_get-second_list}
 use Rattle.wild_meaning.specs.Value.{IsSymbol}
 use Rattle.wild_bound.specs.Premises.{HasPlainEntry}
 
@@ -172,11 +172,11 @@ table_entry l c j s r h there plain decided =
           let place : length front + k ≡ j = omega (arith, ge) in
           let other : j ≡ length others + k = omega (arith, ge, long) in
           let here : slice_get (others ++ indexes_of l.dynsyms) (length others + k) ≡ Some c = subst (λ (q : ℕ). slice_get (dynamic_symbols l) q ≡ Some c) other h in
-          let d = exported_at l.dynsyms k c (sym (behind others (indexes_of l.dynsyms) k) ∙ here) in
+          let d = exported_at l.dynsyms k c (sym (slice_get-second_list others (indexes_of l.dynsyms) k) ∙ here) in
           let exported : slice_get (map (listed l) l.dynsyms) k ≡ Some (listed l d.item) = slice_get-map (listed l) l.dynsyms k ∙ ap (λ (q : Option DynamicSymbol). option_map (listed l) q) d.is in
           record {
             fields = listed l d.item;
-            is = subst (λ (q : ℕ). slice_get (table_symbols l) q ≡ Some (listed l d.item)) place (behind front (map (listed l) l.dynsyms) k ∙ exported);
+            is = subst (λ (q : ℕ). slice_get (table_symbols l) q ≡ Some (listed l d.item)) place (slice_get-second_list front (map (listed l) l.dynsyms) k ∙ exported);
             are = listed_is l s r d.item (subst (λ (q : ℕ). IsSymbol l q s) (sym d.symbol) there) plain decided;
           })
     ]

@@ -30,7 +30,7 @@ use Rattle.wild_imports.specs.Imports.{find_definition}
 use Rattle.wild_names.specs.Laws.{table_symbols}
 use Rattle.wild_names.specs.LookUpLaws.{IsWritten, first_with_name}
 use Rattle.wild_names.specs.ReadLaws.{IsReadBack, AreReadBack, DynamicSymbolsAreRead}
-use Rattle.wild_names.proofs.NumberedLemmas.{defined_elsewhere, length-elsewhere, behind}
+use Rattle.wild_names.proofs.NumberedLemmas.{defined_elsewhere, length-elsewhere, slice_get-second_list}
 use Rattle.wild_names.proofs.ShapeLemmas.{well_formed, gnu_laid_out}
 use Rattle.wild_space.specs.declared.image.NamedImage.{NamedImage}
 use Rattle.wild_space.specs.Binds.{place_of, symbol_of, name_in, find_in, is_own, first_definition, definition_of_name, bind}
@@ -49,7 +49,7 @@ pub record LookUps : Type 0 where
 -- ---- the entry of an exported symbol
 
 exported_entry : (l : Layout) (j : ℕ) (d : DynamicSymbol) → slice_get l.dynsyms j ≡ Some d → slice_get (table_symbols l) (length (defined_elsewhere l (files_of l.groups)) + j) ≡ Some (listed l d)
-exported_entry l j d h = behind (defined_elsewhere l (files_of l.groups)) (map (listed l) l.dynsyms) j ∙ slice_get-map (listed l) l.dynsyms j ∙ ap (λ (q : Option DynamicSymbol). option_map (listed l) q) h
+exported_entry l j d h = slice_get-second_list (defined_elsewhere l (files_of l.groups)) (map (listed l) l.dynsyms) j ∙ slice_get-map (listed l) l.dynsyms j ∙ ap (λ (q : Option DynamicSymbol). option_map (listed l) q) h
 
 read_exported : (l : Layout) (j : ℕ) (d : DynamicSymbol) (read : AreReadBack l) → slice_get l.dynsyms j ≡ Some d → IsReadBack l read.tables (first_listed l + j) (listed l d)
 read_exported l j d read h =

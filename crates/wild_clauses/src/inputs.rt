@@ -164,15 +164,15 @@ fn has_room(slot: Slot) -> bool
     matches!(slot, Slot::Loaded | Slot::Sorted | Slot::Frame)
 }
 
-/// Whether a section that is written is allocated exactly if its part's section, of index `home`, is. Relocatable objects pass:
-/// they have no addresses.
-fn allocation_agrees(layout: &Layout, home: SectionIndex, section: &InputSection) -> bool
-    requires { home ≡ section_of layout.now section.now.part }
+/// Whether a section that is written is allocated exactly if its part's section, of index `output_section`, is.
+/// Relocatable objects pass: they have no addresses.
+fn allocation_agrees(layout: &Layout, output_section: SectionIndex, section: &InputSection) -> bool
+    requires { output_section ≡ section_of layout.now section.now.part }
     ensures { result ≡ allocation_agrees layout.now section.now }
 {
     layout.kind.is_partial_link()
         || !has_room(section.slot)
-        || is_allocated(section.flags) == layout.is_allocated_section(home)
+        || is_allocated(section.flags) == layout.is_allocated_section(output_section)
 }
 
 /// An input section is allocated exactly if it has to be.
@@ -197,12 +197,12 @@ fn has_or_gets_bytes(section: &InputSection) -> bool
     section.bytes.len() != 0 || matches!(section.slot, Slot::Rela) && section.size != 0
 }
 
-/// Whether the section has no bytes, or its part's section, of index `home`, has data.
-fn bytes_take_room(layout: &Layout, home: SectionIndex, section: &InputSection) -> bool
-    requires { home ≡ section_of layout.now section.now.part }
+/// Whether the section has no bytes, or its part's section, of index `output_section`, has data.
+fn bytes_take_room(layout: &Layout, output_section: SectionIndex, section: &InputSection) -> bool
+    requires { output_section ≡ section_of layout.now section.now.part }
     ensures { result ≡ bytes_take_room layout.now section.now }
 {
-    !has_or_gets_bytes(section) || layout.has_data(home)
+    !has_or_gets_bytes(section) || layout.has_data(output_section)
 }
 
 /// No bytes are placed in a section without data.
@@ -231,13 +231,13 @@ impl Test<InputSection> for PassesAll<'_> {
 
     fn passes(&self, section: &InputSection) -> bool {
         let layout = self.layout;
-        let home = layout.section_of(section.part);
+        let output_section = layout.section_of(section.part);
         LengthFits.passes(section)
             && FramesPartFits { layout }.passes(section)
             && DiscardedIsEmpty.passes(section)
             && PartIsRaw { layout }.passes(section)
-            && allocation_agrees(layout, home, section)
-            && bytes_take_room(layout, home, section)
+            && allocation_agrees(layout, output_section, section)
+            && bytes_take_room(layout, output_section, section)
     }
 }
 

@@ -78,14 +78,14 @@ room_by l f at s slot.Rela e = refl
 room_by l f at s slot.Group e = rw e refl
 
 -- how many bytes of frames a section has is told by how it stands
-pub room_of_laid : (l : Layout) (f : File) (at : ℕ) (s : InputSection) → frame_room (placed_section l f at s) ≡ kept_size l f s
+pub room_of_placed : (l : Layout) (f : File) (at : ℕ) (s : InputSection) → frame_room (placed_section l f at s) ≡ kept_size l f s
 unfolding placed_section kept_size
-room_of_laid l f at s = room_by l f at s s.slot refl
+room_of_placed l f at s = room_by l f at s s.slot refl
 
 -- one more section of those to come
-pub laid_more : {Y : Type 0} (G : InputSection → List Y) (l : Layout) (f : File) (at : ℕ) (ss : List InputSection) (i : ℕ) (s : InputSection) (now next whole : List Y) → i < length ss → s ≡ get_or ss i s → now ++ flat_map G (placed_sections l f at (drop i ss)) ≡ whole → next ≡ now ++ G (placed_section l f at s)
+pub placed_sections_more : {Y : Type 0} (G : InputSection → List Y) (l : Layout) (f : File) (at : ℕ) (ss : List InputSection) (i : ℕ) (s : InputSection) (now next whole : List Y) → i < length ss → s ≡ get_or ss i s → now ++ flat_map G (placed_sections l f at (drop i ss)) ≡ whole → next ≡ now ++ G (placed_section l f at s)
     → next ++ flat_map G (placed_sections l f (address_after at (kept_size l f s)) (drop (i + 1) ss)) ≡ whole
-laid_more {Y} G l f at ss i s now next whole low read before is =
+placed_sections_more {Y} G l f at ss i s now next whole low read before is =
     let rest = flat_map G (placed_sections l f (address_after at (kept_size l f s)) (drop (i + 1) ss)) in
     let cut : drop i ss ≡ s ∷ drop (i + 1) ss = drop_more ss i s low ∙ ap (λ (x : InputSection). x ∷ drop (i + 1) ss) (sym read) in
     ap (λ (ys : List Y). ys ++ rest) is
@@ -94,8 +94,8 @@ laid_more {Y} G l f at ss i s now next whole low read before is =
     ∙ before
 
 -- no more
-pub laid_done : {Y : Type 0} (G : InputSection → List Y) (l : Layout) (f : File) (at : ℕ) (ss : List InputSection) (i : ℕ) (now whole : List Y) → length ss ≤ i → now ++ flat_map G (placed_sections l f at (drop i ss)) ≡ whole → now ≡ whole
-laid_done {Y} G l f at ss i now whole end before =
+pub placed_sections_done : {Y : Type 0} (G : InputSection → List Y) (l : Layout) (f : File) (at : ℕ) (ss : List InputSection) (i : ℕ) (now whole : List Y) → length ss ≤ i → now ++ flat_map G (placed_sections l f at (drop i ss)) ≡ whole → now ≡ whole
+placed_sections_done {Y} G l f at ss i now whole end before =
     sym (append-nil now) ∙ sym (ap (λ (xs : List InputSection). now ++ flat_map G (placed_sections l f at xs)) (drop_all i ss end)) ∙ before
 
 -- the addresses of the frames to come
@@ -149,31 +149,31 @@ part_by l f at s slot.Rela = refl
 part_by l f at s slot.Group = refl
 
 -- a section stays in its part
-pub part_of_laid : (l : Layout) (f : File) (at : ℕ) (s : InputSection) → (placed_section l f at s).part ≡ s.part
+pub part_of_placed_section : (l : Layout) (f : File) (at : ℕ) (s : InputSection) → (placed_section l f at s).part ≡ s.part
 unfolding placed_section
-part_of_laid l f at s = part_by l f at s s.slot
+part_of_placed_section l f at s = part_by l f at s s.slot
 
-listed_laid : (l : Layout) (f : File) (ss : List InputSection) (at k : ℕ) → section_of_input l (slice_get (placed_sections l f at ss) k) ≡ section_of_input l (slice_get ss k)
-listed_laid l f [] at k = refl
-listed_laid l f (s ∷ ss) at zero = let e = part_of_laid l f at s in rw e refl
-listed_laid l f (s ∷ ss) at (suc k) = listed_laid l f ss (address_after at (kept_size l f s)) k
+listed_section_of_placed : (l : Layout) (f : File) (ss : List InputSection) (at k : ℕ) → section_of_input l (slice_get (placed_sections l f at ss) k) ≡ section_of_input l (slice_get ss k)
+listed_section_of_placed l f [] at k = refl
+listed_section_of_placed l f (s ∷ ss) at zero = let e = part_of_placed_section l f at s in rw e refl
+listed_section_of_placed l f (s ∷ ss) at (suc k) = listed_section_of_placed l f ss (address_after at (kept_size l f s)) k
 
-output_laid : (l : Layout) (at : ℕ) (f : File) (p : Place) → output_section l (Some (placed_file l at f)) p ≡ output_section l (Some f) p
-output_laid l at f (places.Section k) = listed_laid l f f.sections at k
-output_laid l at f (places.Output k) = refl
-output_laid l at f places.Undefined = refl
-output_laid l at f places.Absolute = refl
-output_laid l at f places.Common = refl
+output_section_of_placed : (l : Layout) (at : ℕ) (f : File) (p : Place) → output_section l (Some (placed_file l at f)) p ≡ output_section l (Some f) p
+output_section_of_placed l at f (places.Section k) = listed_section_of_placed l f f.sections at k
+output_section_of_placed l at f (places.Output k) = refl
+output_section_of_placed l at f places.Undefined = refl
+output_section_of_placed l at f places.Absolute = refl
+output_section_of_placed l at f places.Common = refl
 
-fields_laid : (l : Layout) (at : ℕ) (f : File) (n : SymtabName) (i : ℕ) (s : Symbol) → fields_of l (placed_file l at f) n i s ≡ fields_of l f n i s
-fields_laid l at f named.Itself i s = ap (table_by l i f.role s) (output_laid l at f s.place)
-fields_laid l at f named.Slot i s = refl
-fields_laid l at f named.Stub i s = refl
-fields_laid l at f (named.Thunk a) i s = refl
+fields_of_placed : (l : Layout) (at : ℕ) (f : File) (n : SymtabName) (i : ℕ) (s : Symbol) → fields_of l (placed_file l at f) n i s ≡ fields_of l f n i s
+fields_of_placed l at f named.Itself i s = ap (table_by l i f.role s) (output_section_of_placed l at f s.place)
+fields_of_placed l at f named.Slot i s = refl
+fields_of_placed l at f named.Stub i s = refl
+fields_of_placed l at f (named.Thunk a) i s = refl
 
-entry_laid : (l : Layout) (at : ℕ) (f : File) (x : TableSymbol) → named_entry l (placed_file l at f) x ≡ named_entry l f x
+entry_of_placed : (l : Layout) (at : ℕ) (f : File) (x : TableSymbol) → named_entry l (placed_file l at f) x ≡ named_entry l f x
 unfolding table_fields
-entry_laid l at f x = ap (λ (r : Result TableFields Fault). record { name = Some (item_name x); local = is_local x; fields = table_fields_or_null r }) (fields_laid l at f x.named x.index x.symbol)
+entry_of_placed l at f x = ap (λ (r : Result TableFields Fault). record { name = Some (item_name x); local = is_local x; fields = table_fields_or_null r }) (fields_of_placed l at f x.named x.index x.symbol)
 
 map_same : {X Y : Type 0} (f g : X → Y) (xs : List X) → ((x : X) → f x ≡ g x) → map f xs ≡ map g xs
 map_same f g [] same = refl
@@ -181,7 +181,7 @@ map_same {X} {Y} f g (x ∷ xs) same = ap (λ (y : Y). y ∷ map f xs) (same x) 
 
 file_table-placed_file : (l : Layout) (at : ℕ) (f : File) → file_table l (placed_file l at f) ≡ file_table l f
 unfolding file_items
-file_table-placed_file l at f = ap (λ (ns : List NamedEntry). null_entries l f ++ ns) (map_same (named_entry l (placed_file l at f)) (named_entry l f) (file_items l f) (entry_laid l at f))
+file_table-placed_file l at f = ap (λ (ns : List NamedEntry). null_entries l f ++ ns) (map_same (named_entry l (placed_file l at f)) (named_entry l f) (file_items l f) (entry_of_placed l at f))
 
 slot_bytes-placed_file : (l : Layout) (r : Role) (at : ℕ) (f : File) → slot_bytes l r (placed_file l at f) ≡ slot_bytes l r f
 unfolding slot_words_of slot_entries_of stubs_of flat_places_of

@@ -10,7 +10,7 @@ use Rattle.wild_needs.specs.TableSymbols.{TableSymbol, file_items}
 use Rattle.wild_types.specs.Lookups.{has_symtab}
 use Rattle.wild_layout.specs.Faults.{flat_map_from, table_error, table_errors}
 use Rattle.wild_contents.specs.Walks.{SymtabCheckState, Passes, Lacks}
-use Rattle.wild_sections.proofs.FaultLemmas.{Refuses-front, Refuses-behind}
+use Rattle.wild_sections.proofs.FaultLemmas.{Refuses-front, Refuses-after}
 
 pub pass_one : (a : SymtabCheckState) (x : TableSymbol) → table_error a.layout a.at a.file x ≡ [] → SinkRun Passes Lacks a (x ∷ []) (Ok tt) a
 pass_one a x h = more (h, refl) none
@@ -30,7 +30,7 @@ passed {a = a} (more {b = b} {x = x} {xs = xs} h t) = ap (λ (es : List Error). 
 
 lacked : {a b : SymtabCheckState} {xs : List TableSymbol} {e : Error} → SinkRun Passes Lacks a xs (Err e) b → Refuses e (errors_of a xs)
 lacked {a = a} {e = e} (stop {x = x} {xs = xs} h) = Refuses-front e (table_error a.layout a.at a.file x) (errors_of a xs) h
-lacked {a = a} {e = e} (more {b = b} {x = x} {xs = xs} h t) = Refuses-behind e (table_error a.layout a.at a.file x) (errors_of a xs) h.0 (subst (λ (c : SymtabCheckState). Refuses e (errors_of c xs)) h.1 (lacked t))
+lacked {a = a} {e = e} (more {b = b} {x = x} {xs = xs} h t) = Refuses-after e (table_error a.layout a.at a.file x) (errors_of a xs) h.0 (subst (λ (c : SymtabCheckState). Refuses e (errors_of c xs)) h.1 (lacked t))
 
 pub looked : (a b : SymtabCheckState) (xs : List TableSymbol) (r : Result (Unit {0}) Error) → SinkRun Passes Lacks a xs r b → Answers r (flat_map (table_error a.layout a.at a.file) xs)
 looked a b xs (Ok u) run = passed run

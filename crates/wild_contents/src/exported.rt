@@ -20,13 +20,13 @@ fn fields_of<A: Arch>(resolved: &Resolved<A>, listed: &DynamicSymbol) -> Result<
     let index = listed.symbol.0;
     match resolved.layout.symbols.as_slice().get(index) {
         Some(symbol) => {
-            let home = resolved.home(index, symbol);
+            let symbol_file = resolved.symbol_file(index, symbol);
             exported_symbol_fields(
                 resolved.layout,
                 resolved.named,
                 index,
-                home.role,
-                home.section.0,
+                symbol_file.role,
+                symbol_file.section.0,
                 symbol,
             )
         }

@@ -50,7 +50,7 @@ fn add_placed<A: Arch>(
 
 /// Appends what a section of a file contributes to the part of that role. The file's next frames begin at address `at`; returns the
 /// address after this section's frames.
-#[tactic(auto, using(crate::proofs::PlacedLemmas::room_of_laid))]
+#[tactic(auto, using(crate::proofs::PlacedLemmas::room_of_placed))]
 fn add_section<A: Arch>(
     alloc: Global,
     resolved: &Resolved<A>,
@@ -70,7 +70,7 @@ fn add_section<A: Arch>(
 }
 
 /// Appends what the sections of a file contribute. The file's frames begin at `at`; returns the address after them.
-#[tactic(auto, using(crate::proofs::PlacedLemmas::laid_more, crate::proofs::PlacedLemmas::laid_done, crate::proofs::PlacedLemmas::reach_more, crate::proofs::PlacedLemmas::reach_done, crate::proofs::PlacedLemmas::behind_small))]
+#[tactic(auto, using(crate::proofs::PlacedLemmas::placed_sections_more, crate::proofs::PlacedLemmas::placed_sections_done, crate::proofs::PlacedLemmas::reach_more, crate::proofs::PlacedLemmas::reach_done, crate::proofs::PlacedLemmas::behind_small))]
 fn add_sections<A: Arch>(
     alloc: Global,
     resolved: &Resolved<A>,

@@ -1,8 +1,8 @@
 //! Explanations of faults in relocations, slots, copies and symbols.
 
-use crate::homes::push_lacking;
 use crate::items::{Item, SectionPlace, push_decided, push_found, push_item, section_at};
 use crate::names::{push_name, push_symbol, push_type};
+use crate::symbol_places::push_lacking;
 use crate::thunks::refused_thunk;
 use std::alloc::AllocError;
 use std::fmt::Write;

@@ -3,9 +3,9 @@
 use crate::fronts::push_front;
 use crate::headers::{first_of, lies_in, reached};
 use crate::hints::{LIKELY, push_expected, push_hint};
-use crate::homes::home_of;
 use crate::items::{Item, SectionPlace, push_item, section_at};
 use crate::names::push_symbol;
+use crate::symbol_places::place_of_symbol;
 use crate::symbols::position_of;
 use crate::tests::{InputTest, PartTest, SectionTest, SegmentTest, SymbolTest, Test};
 use std::alloc::AllocError;
@@ -179,8 +179,8 @@ fn push_range(out: &mut String, layout: &Layout) -> Result<(), AllocError> {
 }
 
 /// Adds why a symbol is in no input section: its file has fewer, or no file has the symbol.
-fn push_home(out: &mut String, layout: &Layout, symbol: usize) -> Result<(), AllocError> {
-    if let Some(at) = home_of(layout, symbol)
+fn push_symbol_place(out: &mut String, layout: &Layout, symbol: usize) -> Result<(), AllocError> {
+    if let Some(at) = place_of_symbol(layout, symbol)
         && let Some(group) = layout.groups.as_slice().get(at.group)
         && let Some(file) = group.files.as_slice().get(at.file)
     {
@@ -331,7 +331,7 @@ pub(crate) fn push_likely(
         (Test::Segment(SegmentTest::Dynamic), Item::Segment(segment)) => {
             push_dynamic(out, layout, segment)
         }
-        (Test::Symbol(SymbolTest::SymbolFile), Item::Symbol(symbol)) => push_home(
+        (Test::Symbol(SymbolTest::SymbolFile), Item::Symbol(symbol)) => push_symbol_place(
             out, layout, symbol,
         ),
         (Test::Symbol(SymbolTest::Position), Item::Symbol(symbol)) => {

@@ -3,7 +3,7 @@
 use crate::fronts::{ends_without_zero, test_identity};
 use crate::headers::segments_before;
 use crate::names::{role_at, role_word};
-use crate::symbols::{behind_reserved, undefined_entries};
+use crate::symbols::{offset_after_reserved, undefined_entries};
 use crate::tests::PlanTest;
 use crate::thunks::has_thunks;
 use crate::verdict::{Verdict, due, plain};
@@ -83,7 +83,7 @@ pub(crate) fn test_plan(layout: &Layout, index: usize, test: &PlanTest) -> Verdi
             plain(has_thunks(layout) && !holds_thunks)
         }
         PlanTest::Pair => {
-            let behind = behind_reserved(layout);
+            let behind = offset_after_reserved(layout);
             due(layout.tlsld.unwrap_or(behind) != behind, behind)
         }
         PlanTest::SysvBuckets => plain(match layout.sysv_hash {

@@ -16,7 +16,7 @@ fn start_of(layout: &Layout, role: Role) -> u64 {
 }
 
 /// The address after the reserved words of `got`.
-pub(crate) fn behind_reserved(layout: &Layout) -> u64 {
+pub(crate) fn offset_after_reserved(layout: &Layout) -> u64 {
     start_of(layout, Role::Got).saturating_add(layout.got_header.saturating_mul(8))
 }
 
@@ -25,7 +25,7 @@ pub(crate) fn behind_reserved(layout: &Layout) -> u64 {
 fn free_at(layout: &Layout, index: usize) -> Option<(u64, u64, u64)> {
     let pair = if layout.tlsld.is_some() { 16 } else { 0 };
     let relr = layout.options.relr;
-    let mut got = behind_reserved(layout).saturating_add(pair);
+    let mut got = offset_after_reserved(layout).saturating_add(pair);
     let mut block = start_of(layout, Role::GotRelr);
     let mut stub = start_of(layout, Role::PltGot);
     for group in layout.groups.as_slice() {

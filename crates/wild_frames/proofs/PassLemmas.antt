@@ -240,11 +240,11 @@ cie_here bs at next x h e l m = elim (cases_lt at x) [
 ]
 
 -- the places of the CIEs behind what was found
-abbrev MetBehind : Frames → State → Found → Type 0
-MetBehind s st f = (x : ℕ) → x < (after st f).at → is_some (cie_at x (after st f).cies) ≡ has_cie s.bytes x
+abbrev MetAfter : Frames → State → Found → Type 0
+MetAfter s st f = (x : ℕ) → x < (after st f).at → is_some (cie_at x (after st f).cies) ≡ has_cie s.bytes x
 
 met_kept : (s : Frames) (st : State) (k : KeptEntry) → All (λ c. c.from < st.at) st.cies → All (λ c. c.to ≤ st.to) st.cies → IsBoundary s.bytes st.at → ((x : ℕ) → x < st.at → is_some (cie_at x st.cies) ≡ has_cie s.bytes x)
-    → KeptFacts s st k → MetBehind s st (finds.Kept k)
+    → KeptFacts s st k → MetAfter s st (finds.Kept k)
 met_kept s st k before ahead here met h x l =
     let z = same_zero s st k ahead h in
     let from = h.from in
@@ -276,7 +276,7 @@ met_kept s st k before ahead here met h x l =
     both_false false = refl
 
 met_dropped : (s : Frames) (st : State) (size : ℕ) → All (λ c. c.from < st.at) st.cies → IsBoundary s.bytes st.at → ((x : ℕ) → x < st.at → is_some (cie_at x st.cies) ≡ has_cie s.bytes x)
-    → DroppedFacts s st size → MetBehind s st (finds.Dropped size)
+    → DroppedFacts s st size → MetAfter s st (finds.Dropped size)
 met_dropped s st size before here met h x l = elim (cases_lt x st.at) [
   | inl low ↦ met x low
   | inr high ↦ (
@@ -290,7 +290,7 @@ met_dropped s st size before here met h x l = elim (cases_lt x st.at) [
     both_false true = refl
     both_false false = refl
 
-met_behind : (s : Frames) (p : Pass) (st : State) (f : Found) → FollowsWalk s p st → IsBoundary s.bytes st.at → Facts s st f → walk_continues f ≡ true → MetBehind s st f
+met_behind : (s : Frames) (p : Pass) (st : State) (f : Found) → FollowsWalk s p st → IsBoundary s.bytes st.at → Facts s st f → walk_continues f ≡ true → MetAfter s st f
 met_behind s p st (finds.Kept k) h b x t = met_kept s st k h.fits.met.before h.ahead b h.met x
 met_behind s p st (finds.Dropped size) h b x t = met_dropped s st size h.fits.met.before b h.met x
 met_behind s p st (finds.Tail from) h b x t = cc

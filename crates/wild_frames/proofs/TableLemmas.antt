@@ -186,17 +186,17 @@ of_map header (f ∷ fs) =
     All-cons (IsEntryOf header (f ∷ fs)) (entry_of header f) (map (entry_of header) fs) (record { place = 0; within = omega arith; is = λ d. refl })
     (λ i d l. let o = of_map header fs i d l in let w = o.within in record { place = suc o.place; within = omega (arith, w); is = o.is })
 
-abbrev Beside : (Fde → ℕ) → Fde → Fde → Type 0
-Beside extent f g = (f.code + extent f ≤ g.code) ⊎ (g.code + extent g ≤ f.code)
+abbrev CoverDisjointCode : (Fde → ℕ) → Fde → Fde → Type 0
+CoverDisjointCode extent f g = (f.code + extent f ≤ g.code) ⊎ (g.code + extent g ≤ f.code)
 
-beside_flip : (extent : Fde → ℕ) (f g : Fde) → Beside extent f g → Beside extent g f
-beside_flip extent f g (inl a) = inr a
-beside_flip extent f g (inr a) = inl a
+disjoint_code_flip : (extent : Fde → ℕ) (f g : Fde) → CoverDisjointCode extent f g → CoverDisjointCode extent g f
+disjoint_code_flip extent f g (inl a) = inr a
+disjoint_code_flip extent f g (inr a) = inl a
 
-not_beside : (extent : Fde → ℕ) (fdes : List Fde) (i j : ℕ) (f : Fde) (x : ℕ) → CoverApart extent fdes → i < length fdes → j < length fdes
+no_disjoint_code : (extent : Fde → ℕ) (fdes : List Fde) (i j : ℕ) (f : Fde) (x : ℕ) → CoverApart extent fdes → i < length fdes → j < length fdes
     → (get_or fdes i f).code ≤ (get_or fdes j f).code → (get_or fdes j f).code ≤ x → x < (get_or fdes i f).code + extent (get_or fdes i f) → (i ≡ j → ⊥) → ⊥
-not_beside extent fdes i j f x c l m a b e n =
-    elim (at_places (Beside extent) fdes (beside_flip extent) c.apart i j f n l m) [
+no_disjoint_code extent fdes i j f x c l m a b e n =
+    elim (at_places (CoverDisjointCode extent) fdes (disjoint_code_flip extent) c.apart i j f n l m) [
       | inl u ↦ omega (arith, u, b, e)
       | inr u ↦ (let p = c.some j f m in omega (arith, u, a, p))
     ]
@@ -205,9 +205,9 @@ one_place : (extent : Fde → ℕ) (fdes : List Fde) (i j : ℕ) (f : Fde) (x : 
     → (get_or fdes i f).code ≤ (get_or fdes j f).code → (get_or fdes j f).code ≤ x → x < (get_or fdes i f).code + extent (get_or fdes i f) → i ≡ j
 one_place extent fdes i j f x c l m a b e =
     elim (cases_lt i j) [
-      | inl u ↦ absurd (not_beside extent fdes i j f x c l m a b e (λ s. omega (arith, u, s)))
+      | inl u ↦ absurd (no_disjoint_code extent fdes i j f x c l m a b e (λ s. omega (arith, u, s)))
       | inr u ↦ elim (cases_lt j i) [
-        | inl v ↦ absurd (not_beside extent fdes i j f x c l m a b e (λ s. omega (arith, v, s)))
+        | inl v ↦ absurd (no_disjoint_code extent fdes i j f x c l m a b e (λ s. omega (arith, v, s)))
         | inr v ↦ omega (arith, u, v)
       ]
     ]

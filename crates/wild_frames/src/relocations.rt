@@ -59,7 +59,7 @@ pub(crate) fn count_before(rest: &[InputRelocation], end: u64) -> usize
     requires { IsSorted rest.now }
     ensures within { result ≤ length rest.now }
     ensures own { take result rest.now ≡ filter (λ r. nat_lt r.offset end) rest.now }
-    ensures behind { drop result rest.now ≡ filter (λ r. nat_le end r.offset) rest.now }
+    ensures later { drop result rest.now ≡ filter (λ r. nat_le end r.offset) rest.now }
 {
     for (i, relocation) in rest.iter().enumerate() {
         if relocation.offset >= end {

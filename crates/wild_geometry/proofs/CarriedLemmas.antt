@@ -24,7 +24,7 @@ use Rattle.wild_plan_rules.specs.Contents.{has_room}
 use Rattle.wild_plan_rules.specs.Indexes.{part_index_fits}
 use Rattle.wild_layout.specs.Loadable.{CarriesByte, IsMapped, IsPartMapped}
 use Rattle.wild_geometry.specs.Carried.{EachPartIsLoaded}
-use Rattle.wild_geometry.proofs.PlacedSectionLemmas.{Laid}
+use Rattle.wild_geometry.proofs.PlacedSectionLemmas.{AllClausesHold}
 use Rattle.wild_geometry.proofs.SectionLemmas.{Holds, Stood}
 use Rattle.wild_geometry.proofs.PieceLemmas.{place_is}
 
@@ -107,7 +107,7 @@ abbrev pub IsByteCarried : Layout → ℕ → ℕ → Type 0
 IsByteCarried l offset address = (h : Segment) × CarriesByte l h offset address
 
 -- byte n of a section with data
-byte_of : (l : Layout) → Laid l → is_partial_link l.kind ≡ false → (k : ℕ) (o : Filled l k) (n : ℕ) → n < o.section.size → IsByteCarried l (o.section.offset + n) (o.section.address + n)
+byte_of : (l : Layout) → AllClausesHold l → is_partial_link l.kind ≡ false → (k : ℕ) (o : Filled l k) (n : ℕ) → n < o.section.size → IsByteCarried l (o.section.offset + n) (o.section.address + n)
 byte_of l h kind k o n lt =
     let loaded = later_item (λ x. bytes_are_loaded side.File l l.segments x ≡ true) l.sections k o.section o.is o.later (h.segments.loaded kind) in
     let found = segment_of l l.segments o.section loaded o.allocated o.bits n lt in
@@ -118,7 +118,7 @@ byte_of l h kind k o n lt =
     (found.item, record { listed = found.listed; loaded = c.loaded; from = a; to = b; distance = omega arith })
 
 -- a byte of a part of such a section, that many behind the part's start
-pub byte_of_part : (l : Layout) → Laid l → is_partial_link l.kind ≡ false → (p : Part) → part_lies l p ≡ true → (o : Filled l p.section) → (k : ℕ) → k < p.size → IsByteCarried l (p.offset + k) (p.address + k)
+pub byte_of_part : (l : Layout) → AllClausesHold l → is_partial_link l.kind ≡ false → (p : Part) → part_lies l p ≡ true → (o : Filled l p.section) → (k : ℕ) → k < p.size → IsByteCarried l (p.offset + k) (p.address + k)
 byte_of_part l h kind p lies o k lt =
     let level = part_level l p lies o in
     let low = level.low in
@@ -133,8 +133,8 @@ byte_of_part l h kind p lies o k lt =
 
 -- ---- parts
 
-pub IsPartMapped-from_laid : (l : Layout) → Laid l → (i : ℕ) (d : Part) → i < length l.parts → IsPartMapped l (get_or l.parts i d)
-IsPartMapped-from_laid l h i d low kind loaded written k lt =
+pub IsPartMapped-from_clauses : (l : Layout) → AllClausesHold l → (i : ℕ) (d : Part) → i < length l.parts → IsPartMapped l (get_or l.parts i d)
+IsPartMapped-from_clauses l h i d low kind loaded written k lt =
     let p = get_or l.parts i d in
     let asked : (is_partial_link l.kind || not (is_loaded_role p.role)) ≡ false = rw (kind, loaded) refl in
     let both = and_parts (is_allocated_section l p.section) (has_data l p.section) (or_other (is_partial_link l.kind || not (is_loaded_role p.role)) (is_allocated_section l p.section && has_data l p.section) (h.parts.loaded i d low) asked) in
@@ -143,8 +143,8 @@ IsPartMapped-from_laid l h i d low kind loaded written k lt =
     (c.0, record { listed = c.1.listed; loaded = c.1.loaded; from = c.1.from; to = c.1.to; distance = c.1.distance })
 
 -- any part of an allocated section with bytes in the file
-pub EachPartIsLoaded-from_laid : (l : Layout) → Laid l → EachPartIsLoaded l
-EachPartIsLoaded-from_laid l h = λ kind i d low place takes k lt. (
+pub EachPartIsLoaded-from_clauses : (l : Layout) → AllClausesHold l → EachPartIsLoaded l
+EachPartIsLoaded-from_clauses l h = λ kind i d low place takes k lt. (
     let p = get_or l.parts i d in
     byte_of_part l h kind p (h.parts.lie i d low) (Filled-from_tests l p.section (ltb-true _ _ (h.indexes.parts i d low)) place takes) k lt)
 
@@ -155,7 +155,7 @@ room_of_loaded slot.Loaded h = refl
 room_of_loaded other h = cc
 
 -- the output section of an input section that is allocated
-output_of : (l : Layout) → Laid l → is_partial_link l.kind ≡ false → (s : InputSection) → Holds l s → is_loaded s.slot ≡ true → allocated s.flags ≡ true → (st : Stood l s) → Filled l st.part.section
+output_of : (l : Layout) → AllClausesHold l → is_partial_link l.kind ≡ false → (s : InputSection) → Holds l s → is_loaded s.slot ≡ true → allocated s.flags ≡ true → (st : Stood l s) → Filled l st.part.section
 output_of l h kind s holds loaded alloc st =
     let room = room_of_loaded s.slot loaded in
     let asked : (is_partial_link l.kind || not (has_room s.slot)) ≡ false = rw (kind, room) refl in
@@ -165,7 +165,7 @@ output_of l h kind s holds loaded alloc st =
     let named = ltb-true _ _ (holds_at (λ p. part_index_fits l p ≡ true) l.parts s.part st.part st.is h.indexes.parts) in
     Filled-from_tests l st.part.section named place st.takes
 
-pub IsMapped-from_stood : (l : Layout) → Laid l → is_partial_link l.kind ≡ false → (s : InputSection) → Holds l s → (is_filled l s ≡ true → Stood l s) → IsMapped l s
+pub IsMapped-from_stood : (l : Layout) → AllClausesHold l → is_partial_link l.kind ≡ false → (s : InputSection) → Holds l s → (is_filled l s ≡ true → Stood l s) → IsMapped l s
 IsMapped-from_stood l h kind s holds stood loaded filled alloc =
     let st = stood filled in
     let o = output_of l h kind s holds loaded alloc st in

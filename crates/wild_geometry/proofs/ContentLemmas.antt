@@ -29,7 +29,7 @@ use Rattle.wild_needs.specs.DynamicStrings.{file_strings, needed_entries, needed
 use Rattle.wild_types.specs.Lookups.{may_have_relative}
 use Rattle.wild_needs.specs.Entries.{rela_place, rela_places, words_of, entry_count, sorted_words, dynamic_relocations, general_count}
 use Rattle.wild_placement.specs.PlacedSections.{placed_file, placed_files, of_last_file, processed_sections}
-use Rattle.wild_placement.proofs.PlacedFiles.{ReadsNoSection, laid_total, All-laid}
+use Rattle.wild_placement.proofs.PlacedFiles.{ReadsNoSection, placed_files_total, All-placed_files}
 use Rattle.wild_types.specs.FileSymbols.{copies_of}
 use Rattle.wild_types.specs.Lists.{total}
 use Rattle.wild_needs.specs.Needs.{bytes_per_image, dynsym_count, bytes_if_last, build_id_room, properties_room, file_table_bytes, first_share, share, has_last, last_share, group_share}
@@ -48,7 +48,7 @@ use Rattle.wild_layout.specs.RelativeRelocations.{relative_value, listed_entry, 
 use Rattle.wild_layout.specs.SlotBytes.{slot_bytes, header_bytes, block_bytes}
 use Rattle.wild_relr.specs.WriterState.{word_bytes}
 use Rattle.wild_geometry.proofs.LastGroupLemmas.{some_if}
-use Rattle.wild_geometry.proofs.FrameSections.{HasFrameRooms, laid_rooms, joined_all, frames_length}
+use Rattle.wild_geometry.proofs.FrameSections.{HasFrameRooms, placed_frame_rooms, joined_all, frames_length}
 use Rattle.wild_geometry.proofs.NoteLengths.{length-build_id, length-properties, length-search_table}
 use Rattle.wild_geometry.proofs.SlotLengths.{slot_length, header_length, block_length}
 use Rattle.wild_geometry.proofs.SymbolLengths.{length-group_symbols}
@@ -224,7 +224,7 @@ group_length l other g n = refl
 by_file_length : (l : Layout) (r : Role) (g : Group) → is_by_group r ≡ false → length (content l r g) ≡ group_share l r g
 by_file_length l r g n =
     let a = length-append (flat_map (file_content l r) (placed_files l g)) (group_bytes l r g) in
-    let b = joined_all (file_content l r) (share l r) (placed_files l g) (All-laid l (λ f. length (file_content l r f) ≡ share l r f) g (λ i f m at. file_length l r (placed_file l at (get_or g.files i f)) n (laid_rooms l (get_or g.files i f) at))) in
+    let b = joined_all (file_content l r) (share l r) (placed_files l g) (All-placed_files l (λ f. length (file_content l r f) ≡ share l r f) g (λ i f m at. file_length l r (placed_file l at (get_or g.files i f)) n (placed_frame_rooms l (get_or g.files i f) at))) in
     let c = group_length l r g n in
     omega arith
 
@@ -258,7 +258,7 @@ dynamic_content l g = by_group_content l role.Dynamic g refl
 records_length : (l : Layout) (r : Role) (g : Group) (n : File → ℕ) → is_by_group r ≡ true → relr_got_share l r g + last_share l r g ≡ 0 → ((f : File) → share l r f ≡ n f) → ReadsNoSection l n → length (group_bytes l r g) ≡ total n g.files → length (content l r g) ≡ group_share l r g
 records_length l r g n told none each stays long =
     let a = total_by (share l r) n (placed_files l g) each in
-    let b = laid_total l n g stays in
+    let b = placed_files_total l n g stays in
     rw (by_group_content l r g told) (omega arith)
 
 symbols_length : (l : Layout) (g : Group) → length (content l role.Dynsym g) ≡ group_share l role.Dynsym g
@@ -319,8 +319,8 @@ length-dynamic_content l g =
 pub dynamic_share : (l : Layout) (g : Group) → group_share l role.Dynamic g ≡ dynamic_entry_size * total (needed_count l) g.files + total (λ (f : File). bytes_if_last f.role (dynamic_entry_size * dynamic_count l)) g.files
 dynamic_share l g =
     let e = each (placed_files l g) in
-    let a = laid_total l (needed_count l) g (λ at f. refl) in
-    let b = laid_total l (λ (f : File). bytes_if_last f.role (dynamic_entry_size * dynamic_count l)) g (λ at f. refl) in
+    let a = placed_files_total l (needed_count l) g (λ at f. refl) in
+    let b = placed_files_total l (λ (f : File). bytes_if_last f.role (dynamic_entry_size * dynamic_count l)) g (λ at f. refl) in
     omega arith
   where
     one : (f : File) → share l role.Dynamic f ≡ dynamic_entry_size * needed_count l f + bytes_if_last f.role (dynamic_entry_size * dynamic_count l)

@@ -19,7 +19,7 @@ use Rattle.wild_types.proofs.ListLemmas.{All-from_none_fails}
 use Rattle.wild_plan_rules.proofs.ClauseLemmas.{None-from_fails}
 use Rattle.wild_layout.specs.Loadable.{EntriesLie, HasEntriesAlone}
 use Rattle.wild_geometry.proofs.ClauseLemmas.{Both-from_first_error}
-use Rattle.wild_geometry.proofs.PlacedSectionLemmas.{Laid}
+use Rattle.wild_geometry.proofs.PlacedSectionLemmas.{AllClausesHold}
 use Rattle.wild_geometry.proofs.RoleLemmas.{FoundAt-from_find}
 use Rattle.wild_geometry.proofs.TableLemmas.{same_role}
 use Rattle.wild_geometry.proofs.CarriedLemmas.{Filled, Filled-from_tests, part_level}
@@ -47,7 +47,7 @@ later_get [] k i x e is = cc
 later_get (y ∷ ys) zero i x e is = absurd (omega arith)
 later_get (y ∷ ys) (suc k) i x e is = let same : k ≡ i = omega arith in rw (← same) is
 
-held : (l : Layout) → Laid l → is_fixed_static l.kind ≡ true → (k : ℕ) (s : Section) → 1 ≤ k → slice_get l.sections k ≡ Some s → holds_entries (entry_parts l.parts) k s ≡ true
+held : (l : Layout) → AllClausesHold l → is_fixed_static l.kind ≡ true → (k : ℕ) (s : Section) → 1 ≤ k → slice_get l.sections k ≡ Some s → holds_entries (entry_parts l.parts) k s ≡ true
 unfolding check_entries
 held l h fixed k s later is =
     let asked = rw fixed at h.segments.entries in
@@ -66,7 +66,7 @@ record EntriesStand (l : Layout) (p : Part) : Type 0 where
   named : p.section < length l.sections
   lies : part_lies l p ≡ true
 
-entries_stand : (l : Layout) → Laid l → is_fixed_static l.kind ≡ true → (r : Role) (p : Part) → is_entry_role r ≡ true → part_with r l.parts ≡ Some p → EntriesStand l p
+entries_stand : (l : Layout) → AllClausesHold l → is_fixed_static l.kind ≡ true → (r : Role) (p : Part) → is_entry_role r ≡ true → part_with r l.parts ≡ Some p → EntriesStand l p
 unfolding check_entries
 entries_stand l h fixed r p entries there =
     let f = FoundAt-from_find (has_role r) l.parts p there in
@@ -92,7 +92,7 @@ record PartOfEntries (l : Layout) (p : Part) : Type 0 where
   lies : part_lies l p ≡ true
   kind : filled.section.kind ≡ sht_rela
 
-part_of_entries : (l : Layout) → Laid l → is_fixed_static l.kind ≡ true → (r : Role) (p : Part) → is_entry_role r ≡ true → part_with r l.parts ≡ Some p → is_header_only_at l p.section ≡ false → PartOfEntries l p
+part_of_entries : (l : Layout) → AllClausesHold l → is_fixed_static l.kind ≡ true → (r : Role) (p : Part) → is_entry_role r ≡ true → part_with r l.parts ≡ Some p → is_header_only_at l p.section ≡ false → PartOfEntries l p
 part_of_entries l h fixed r p entries there written =
     let st = entries_stand l h fixed r p entries there in
     let takes = and_from (has_data l p.section) (not (is_header_only_at l p.section)) (with_bits (slice_get l.sections p.section) st.kind) (rw written refl) in
@@ -103,7 +103,7 @@ part_of_entries l h fixed r p entries there written =
     with_bits None e = refl
     with_bits (Some s) e = rw e refl
 
-pub stands_later : (l : Layout) → Laid l → is_fixed_static l.kind ≡ true → (r : Role) (p : Part) → is_entry_role r ≡ true → part_with r l.parts ≡ Some p → 1 ≤ p.section
+pub stands_later : (l : Layout) → AllClausesHold l → is_fixed_static l.kind ≡ true → (r : Role) (p : Part) → is_entry_role r ≡ true → part_with r l.parts ≡ Some p → 1 ≤ p.section
 stands_later l h fixed r p entries there =
     let st = entries_stand l h fixed r p entries there in
     let named = and_parts (not (p.section == 0)) (allocated (flags_of (slice_get l.sections p.section))) st.allocated in
@@ -123,7 +123,7 @@ written_at l k n s is written at =
     by false b e = refl
 
 -- the part lies in its section
-entries_lie : (l : Layout) → Laid l → is_fixed_static l.kind ≡ true → (k : ℕ) (s : Section) → slice_get l.sections k ≡ Some s → is_header_only l s ≡ false → (r : Role) (p : Part) → is_entry_role r ≡ true → part_with r l.parts ≡ Some p → p.section ≡ k → EntriesLie p s
+entries_lie : (l : Layout) → AllClausesHold l → is_fixed_static l.kind ≡ true → (k : ℕ) (s : Section) → slice_get l.sections k ≡ Some s → is_header_only l s ≡ false → (r : Role) (p : Part) → is_entry_role r ≡ true → part_with r l.parts ≡ Some p → p.section ≡ k → EntriesLie p s
 entries_lie l h fixed k s is written r p entries there at =
     let part = part_of_entries l h fixed r p entries there (written_at l k p.section s is written at) in
     let o = part.filled in
@@ -140,8 +140,8 @@ entries_lie l h fixed k s is written r p entries there at =
       to = omega arith;
     }
 
-pub HasEntriesAlone-from_laid : (l : Layout) → Laid l → is_fixed_static l.kind ≡ true → (k : ℕ) (s : Section) → 1 ≤ k → slice_get l.sections k ≡ Some s → HasEntriesAlone l k s
-HasEntriesAlone-from_laid l h fixed k s later is = record {
+pub HasEntriesAlone-from_clauses : (l : Layout) → AllClausesHold l → is_fixed_static l.kind ≡ true → (k : ℕ) (s : Section) → 1 ≤ k → slice_get l.sections k ≡ Some s → HasEntriesAlone l k s
+HasEntriesAlone-from_clauses l h fixed k s later is = record {
   own = λ written r p entries there at. entries_lie l h fixed k s is written r p entries there at;
   full = λ a r. size_is l k s (held l h fixed k s later is) a r;
 }

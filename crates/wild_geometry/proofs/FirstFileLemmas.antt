@@ -10,7 +10,7 @@ use Rattle.wild_types.specs.FileRoles.{is_prelude, is_epilogue}
 use Rattle.wild_types.specs.FilePlaces.{bool_eq, file_position_fits, later_positions_fit, group_positions_fit, first_misplaced_file}
 use Rattle.wild_types.proofs.FileLemmas.{same_bool}
 use Rattle.wild_placement.specs.PlacedSections.{placed_files}
-use Rattle.wild_placement.proofs.PlacedFiles.{ReadsNoSection, laid_same}
+use Rattle.wild_placement.proofs.PlacedFiles.{ReadsNoSection, placed_files_same}
 use Rattle.wild_layout.specs.Content.{unique_table, file_part_bytes, file_content, group_bytes, content}
 use Rattle.wild_layout.specs.SlotBytes.{slot_bytes, header_bytes}
 use Rattle.wild_geometry.proofs.ClauseLemmas.{SharesHold}
@@ -47,6 +47,6 @@ content_of_first l r g once some s = by l.groups g some s.files
     by [] g some h = absurd (omega arith)
     by (x ∷ gs) g some h =
         elim (cases_Bool (group_positions_fit true (length gs == 0) x.files)) [
-          | inl t ↦ rw (once.block x) (append-nil (flat_map (file_content l r) (placed_files l x)) ∙ laid_same l (file_content l r) x once.stays ∙ first_content l r once (length gs == 0) x.files t)
+          | inl t ↦ rw (once.block x) (append-nil (flat_map (file_content l r) (placed_files l x)) ∙ placed_files_same l (file_content l r) x once.stays ∙ first_content l r once (length gs == 0) x.files t)
           | inr f ↦ cc (rw f at h)
         ]

@@ -16,12 +16,12 @@ use Rattle.wild_placement.specs.PlacedSections.{address_after, part_address, pla
 use Rattle.wild_needs.specs.Needs.{frame_room, share}
 use Rattle.wild_layout.specs.Content.{content}
 use Rattle.wild_layout.specs.TablePlaces.{table_bytes, bytes_before, TableLies}
-use Rattle.wild_geometry.proofs.PlacedSectionLemmas.{Laid}
+use Rattle.wild_geometry.proofs.PlacedSectionLemmas.{AllClausesHold}
 use Rattle.wild_geometry.proofs.FrameSections.{frame_room_is}
 use Rattle.wild_geometry.proofs.ContentLemmas.{length_joined, length-content}
-use Rattle.wild_geometry.proofs.TablePieces.{PartLies-from_laid}
-use Rattle.wild_geometry.proofs.RoleLemmas.{HasTable-from_laid}
-use Rattle.wild_geometry.proofs.StartLemmas.{frame_starts_from_laid}
+use Rattle.wild_geometry.proofs.TablePieces.{PartLies-from_clauses}
+use Rattle.wild_geometry.proofs.RoleLemmas.{HasTable-from_clauses}
+use Rattle.wild_geometry.proofs.StartLemmas.{frame_starts_from_clauses}
 use Rattle.wild_geometry.proofs.StayLemmas.{FramesEnd}
 
 -- ---- what is kept has room
@@ -59,14 +59,14 @@ kept_within l g =
 low_behind : (at n k limit : ℕ) → at + n + k ≤ limit → limit < 2 ^ 64 → address_after at n + k ≤ limit
 low_behind at n k limit h low = omega arith
 
-group_ends : (l : Layout) → Laid l → (j : ℕ) (g : Group) → j < length l.groups → FramesEnd l (get_or l.groups j g)
+group_ends : (l : Layout) → AllClausesHold l → (j : ℕ) (g : Group) → j < length l.groups → FramesEnd l (get_or l.groups j g)
 group_ends l h j g m = by (part_with role.EhFrame l.parts) refl
   where
     x : Group
     x = get_or l.groups j g
 
     start : x.eh_frame_start ≡ bytes_before l role.EhFrame j
-    start = frame_starts_from_laid l h j x (slice_get-get_or l.groups j g m)
+    start = frame_starts_from_clauses l h j x (slice_get-get_or l.groups j g m)
 
     some : role_place role.EhFrame ≡ 0 → ⊥
     some e = absurd (omega arith)
@@ -84,18 +84,18 @@ group_ends l h j g m = by (part_with role.EhFrame l.parts) refl
     low p t =
         let size = t.size in
         let P : Part → Type 0 = λ q. q.address + q.size ≤ 2 ^ 62 in
-        let address : P p = All-contains P l.parts p (λ i q n. (PartLies-from_laid l h i q n).address) t.listed in
+        let address : P p = All-contains P l.parts p (λ i q n. (PartLies-from_clauses l h i q n).address) t.listed in
         omega arith
 
     by : (o : Option Part) → part_with role.EhFrame l.parts ≡ o → FramesEnd l x
     by None is =
-        let none = ap length ((HasTable-from_laid l h role.EhFrame some).missing is) in
+        let none = ap length ((HasTable-from_clauses l h role.EhFrame some).missing is) in
         let all = ends in
         subst (λ (o : Option Part). address_after (part_address o) x.eh_frame_start + total (file_frames l) x.files ≤ 2 ^ 62) (sym is) (low_behind 0 x.eh_frame_start (total (file_frames l) x.files) (2 ^ 62) (omega arith) (omega arith))
     by (Some p) is =
-        let most = low p ((HasTable-from_laid l h role.EhFrame some).there p is) in
+        let most = low p ((HasTable-from_clauses l h role.EhFrame some).there p is) in
         let all = ends in
         subst (λ (o : Option Part). address_after (part_address o) x.eh_frame_start + total (file_frames l) x.files ≤ 2 ^ 62) (sym is) (low_behind p.address x.eh_frame_start (total (file_frames l) x.files) (2 ^ 62) (omega arith) (omega arith))
 
-pub frames_end : (l : Layout) → Laid l → All (FramesEnd l) l.groups
+pub frames_end : (l : Layout) → AllClausesHold l → All (FramesEnd l) l.groups
 frames_end l h = λ j g m. group_ends l h j g m

@@ -118,8 +118,8 @@ frame_room_is l f at s = by s.slot refl
 abbrev pub HasFrameRooms : Layout → File → Type 0
 HasFrameRooms l f = All (HasFrameRoom l f) f.sections
 
-pub laid_rooms : (l : Layout) (f : File) (at : ℕ) → HasFrameRooms l (placed_file l at f)
-laid_rooms l f at = All-sections l f (HasFrameRoom l (placed_file l at f)) at f.sections (λ i s m a. frame_room_of l f (placed_file l at f) a (get_or f.sections i s))
+pub placed_frame_rooms : (l : Layout) (f : File) (at : ℕ) → HasFrameRooms l (placed_file l at f)
+placed_frame_rooms l f at = All-sections l f (HasFrameRoom l (placed_file l at f)) at f.sections (λ i s m a. frame_room_of l f (placed_file l at f) a (get_or f.sections i s))
 
 -- lists joined end to end, each of whose items gives so many
 pub joined_all : {X Y : Type 0} (f : X → List Y) (n : X → ℕ) (xs : List X) → All (λ (x : X). length (f x) ≡ n x) xs → length (flat_map f xs) ≡ total n xs

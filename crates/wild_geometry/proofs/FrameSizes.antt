@@ -44,9 +44,9 @@ data_bytes l f s r =
 -- ---- sections as they stand
 
 -- what is known of a section that stands at an address, of which n bytes of frames are kept
-pub data StandsSo (t : InputSection) (at n : ℕ) : Type 0 where
-  NoFrame : is_frame t.slot ≡ false → n ≡ 0 → StandsSo t at n
-  Frames : is_frame t.slot ≡ true → t.nobits ≡ false → t.address ≡ at → t.size ≡ n → StandsSo t at n
+pub data HasKeptSize (t : InputSection) (at n : ℕ) : Type 0 where
+  NoFrame : is_frame t.slot ≡ false → n ≡ 0 → HasKeptSize t at n
+  Frames : is_frame t.slot ≡ true → t.nobits ≡ false → t.address ≡ at → t.size ≡ n → HasKeptSize t at n
 
 pub turned_slot : (s : InputSection) → (with_word_order s).slot ≡ s.slot
 unfolding with_word_order
@@ -56,11 +56,11 @@ turned_slot s = by s.reversed
     by true = refl
     by false = refl
 
-pub stands_so : (l : Layout) (f : File) (at : ℕ) (s : InputSection) → StandsSo (placed_section l f at s) at (kept_size l f s)
+pub placed_section_has_kept_size : (l : Layout) (f : File) (at : ℕ) (s : InputSection) → HasKeptSize (placed_section l f at s) at (kept_size l f s)
 unfolding placed_section kept_size
-stands_so l f at s = by s.slot refl
+placed_section_has_kept_size l f at s = by s.slot refl
   where
-    by : (k : Slot) → s.slot ≡ k → StandsSo (placed_by k l f at s) at (if is_frame k then length (frame_bytes (frames_of l f s)) else 0)
+    by : (k : Slot) → s.slot ≡ k → HasKeptSize (placed_by k l f at s) at (if is_frame k then length (frame_bytes (frames_of l f s)) else 0)
     by slot.Loaded e = NoFrame (ap is_frame (turned_slot (unread l s) ∙ slot_of_unread l s ∙ e)) refl
     by slot.Debug e = NoFrame (ap is_frame (turned_slot s ∙ e)) refl
     by slot.Frame e = Frames refl refl refl refl
@@ -122,11 +122,11 @@ sections_size l f g at (s ∷ ss) lies =
     let t = placed_section l g at s in
     let ts = placed_sections l g (address_after at (kept_size l g s)) ss in
     let rest = sections_size l f g (address_after at (kept_size l g s)) ss (All-tail (SectionLies l) t ts lies) in
-    let mine = one (stands_so l g at s) (All-head (SectionLies l) t ts lies) in
+    let mine = one (placed_section_has_kept_size l g at s) (All-head (SectionLies l) t ts lies) in
     let both = length-append (frame_bytes_of l f t) (flat_map (frame_bytes_of l f) ts) in
     omega (arith, rest, mine, both)
   where
-    one : StandsSo (placed_section l g at s) at (kept_size l g s) → SectionLies l (placed_section l g at s) → length (frame_bytes_of l f (placed_section l g at s)) ≡ kept_size l g s
+    one : HasKeptSize (placed_section l g at s) at (kept_size l g s) → SectionLies l (placed_section l g at s) → length (frame_bytes_of l f (placed_section l g at s)) ≡ kept_size l g s
     one (NoFrame plain none) lies = ap (λ (bs : List ℕ). length bs) (no_item l f (placed_section l g at s) plain) ∙ sym none
     one (Frames frame with_data here wide) lies = length-frame_item l f (placed_section l g at s) lies frame with_data ∙ wide
 

@@ -26,10 +26,10 @@ use Rattle.wild_plan_rules.specs.Fronts.{given_by, fills_front, merged_size, has
 use Rattle.wild_plan_rules.specs.Thunks.{sections_in_ranges}
 use Rattle.wild_layout.specs.Image.{some_piece, offset_in, offset_of_part, merged_bytes, front_piece, merged_and_identity_pieces}
 use Rattle.wild_layout.specs.SectionPlaces.{HasRoom, FrontLies}
-use Rattle.wild_geometry.proofs.PlacedSectionLemmas.{Laid}
+use Rattle.wild_geometry.proofs.PlacedSectionLemmas.{AllClausesHold}
 use Rattle.wild_geometry.proofs.OrderLemmas.{Follows, EndsBy-image}
 use Rattle.wild_geometry.proofs.ShareLemmas.{size_from_shares}
-use Rattle.wild_geometry.proofs.RunLemmas.{sections_in, Run-behind}
+use Rattle.wild_geometry.proofs.RunLemmas.{sections_in, Run-after}
 use Rattle.wild_geometry.proofs.StandingLemmas.{all_sections}
 use Rattle.wild_geometry.proofs.SectionLemmas.{raw_role, right_or, filled_given}
 use Rattle.wild_geometry.proofs.PieceLemmas.{All-written, AllPairs-written, owner_at, owners_apart, owner_ends, InImage}
@@ -108,7 +108,7 @@ pub record FrontsStand (l : Layout) : Type 0 where
   pub stood : All (λ x. IsWritten l x → FrontStands l x) (fronts l)
   pub differ : AllPairs Differ (fronts l)
 
-front_given : (l : Layout) → Laid l → (x : Front) → HasSome x → (none : Bool) → none ≡ false → holds_bytes l none (slice_get l.parts x.part) ≡ true → fills_front l x.part (length x.bytes) ≡ true → has_front l x.part ≡ true → FrontGiven l x
+front_given : (l : Layout) → AllClausesHold l → (x : Front) → HasSome x → (none : Bool) → none ≡ false → holds_bytes l none (slice_get l.parts x.part) ≡ true → fills_front l x.part (length x.bytes) ≡ true → has_front l x.part ≡ true → FrontGiven l x
 front_given l h x some none is_none holds fills has = by_part (slice_get l.parts x.part) refl holds
   where
     fills_by : (g : Group) (gs : List Group) → l.groups ≡ g ∷ gs → given x.part g ≡ length x.bytes
@@ -153,13 +153,13 @@ left_or : (a b : Bool) → a ≡ true → (a || b) ≡ true
 left_or true b e = refl
 left_or false b e = cc
 
-merged_given : (l : Layout) → Laid l → All (λ (m : Merged). HasSome (merged_front m) → FrontGiven l (merged_front m)) l.merged
+merged_given : (l : Layout) → AllClausesHold l → All (λ (m : Merged). HasSome (merged_front m) → FrontGiven l (merged_front m)) l.merged
 merged_given l h i m low some =
     let x = get_or l.merged i m in
     let named = any_at (λ (y : Merged). y.part == x.part) l.merged i m low (eq-eqb x.part x.part refl) in
     front_given l h (merged_front x) some (0 == merged_size x) (ne_eqb 0 (merged_size x) (λ e. omega arith)) (h.inputs.merged i m low) (h.fronts.merged i m low) (left_or (list_any (λ (y : Merged). y.part == x.part) l.merged) (not (length l.identity.bytes == 0) && l.identity.part == x.part) named)
 
-identity_given : (l : Layout) → Laid l → HasSome (identity_front l) → FrontGiven l (identity_front l)
+identity_given : (l : Layout) → AllClausesHold l → HasSome (identity_front l) → FrontGiven l (identity_front l)
 identity_given l h some =
     let none = ne_eqb (length l.identity.bytes) 0 (λ e. omega arith) in
     let holds = or_other (length l.identity.bytes == 0) (holds_bytes l false (slice_get l.parts l.identity.part)) h.inputs.identity none in
@@ -195,7 +195,7 @@ merged_differ i (m ∷ ms) h =
     none_left true b e t = e
     none_left false b e t = cc
 
-identity_differs : (l : Layout) → Laid l → All (λ (x : Front). All (Differ x) (identity_front l ∷ [])) (map merged_front l.merged)
+identity_differs : (l : Layout) → AllClausesHold l → All (λ (x : Front). All (Differ x) (identity_front l ∷ [])) (map merged_front l.merged)
 identity_differs l h = All-map (λ (x : Front). All (Differ x) (identity_front l ∷ [])) merged_front l.merged (λ i m low.
     All-cons (Differ (merged_front (get_or l.merged i m))) (identity_front l) [] (λ some other same.
     let none = ne_eqb (length l.identity.bytes) 0 (λ e. omega arith) in
@@ -206,8 +206,8 @@ identity_differs l h = All-map (λ (x : Front). All (Differ x) (identity_front l
     is_false true e = cc
     is_false false e = refl
 
-pub FrontsStand-from_laid : (l : Layout) → Laid l → FrontsStand l
-FrontsStand-from_laid l h =
+pub FrontsStand-from_clauses : (l : Layout) → AllClausesHold l → FrontsStand l
+FrontsStand-from_clauses l h =
     let P : Front → Type 0 = λ x. IsWritten l x → FrontStands l x in
     record {
       stood = All-append P (map merged_front l.merged) (identity_front l ∷ [])
@@ -283,7 +283,7 @@ fronts_within l h = each_front l (InImage l) (λ i x m w. front_ends l (get_or (
 -- ---- nothing else of the first group stands there, and the others' stand behind
 
 -- the test of the clause on a file of the first group
-leaves_front_of : (l : Layout) → Laid l → (g : Group) (gs : List Group) → l.groups ≡ g ∷ gs → All (λ (f : File). file_leaves_front l f ≡ true) g.files
+leaves_front_of : (l : Layout) → AllClausesHold l → (g : Group) (gs : List Group) → l.groups ≡ g ∷ gs → All (λ (f : File). file_leaves_front l f ≡ true) g.files
 leaves_front_of l h g gs split =
     let first : group_leaves_front l (Some g) ≡ true = sym (ap (λ (hs : List Group). group_leaves_front l (slice_get hs 0)) split) ∙ h.inputs.front in
     All-from_list_all (file_leaves_front l) g.files first
@@ -299,14 +299,14 @@ filled_takes l s h =
     let ranges = both.0 in
     right_or (not (length s.bytes == 0)) (brings_bytes l s) (and_from (has_range s.slot || has_counted s.slot) (has_bytes l s) (rw ranges refl) both.1)
 
-abbrev StandsBehind : Layout → Front → ℕ → InputSection → Type 0
-StandsBehind l x at s = is_filled l s ≡ true → s.part ≡ x.part → at + length x.bytes ≤ s.address
+abbrev IsPlacedAfter : Layout → Front → ℕ → InputSection → Type 0
+IsPlacedAfter l x at s = is_filled l s ≡ true → s.part ≡ x.part → at + length x.bytes ≤ s.address
 
-pub sections_behind : (l : Layout) → Laid l → (x : Front) (st : FrontStands l x) → All (StandsBehind l x st.part.address) (all_sections l)
+pub sections_behind : (l : Layout) → AllClausesHold l → (x : Front) (st : FrontStands l x) → All (IsPlacedAfter l x st.part.address) (all_sections l)
 sections_behind l h x st = by l.groups refl
   where
     P : InputSection → Type 0
-    P = StandsBehind l x st.part.address
+    P = IsPlacedAfter l x st.part.address
 
     of_first : (g : Group) (gs : List Group) → l.groups ≡ g ∷ gs → All P (sections_in l g)
     of_first g gs split = All-flat_map P (sections_in_ranges l) g.files (λ i f m j s n filled same.
@@ -321,7 +321,7 @@ sections_behind l h x st = by l.groups refl
         let low = slice_get_within l.parts x.part st.part st.room.listed in
         let same = get_or_from_slice_get l.parts x.part st.part st.part st.room.listed in
         let address = ap (λ (q : Part). q.address) same in
-        let run = Run-behind l g gs (subst (λ (hs : List Group). section_misplaced l (map (λ (q : Part). q.address) l.parts) 0 hs ≡ None) split h.inputs.order) x.part st.part low in
+        let run = Run-after l g gs (subst (λ (hs : List Group). section_misplaced l (map (λ (q : Part). q.address) l.parts) 0 hs ≡ None) split h.inputs.order) x.part st.part low in
         let fills = st.fills g gs split in
         λ i s m filled at. (let from = run i s m (and_from (has_range_bytes l (get_or (flat_map (sections_in l) gs) i s)) ((get_or (flat_map (sections_in l) gs) i s).part == x.part) (filled_given l (get_or (flat_map (sections_in l) gs) i s) filled) (eq-eqb _ _ at)) in omega arith)
 
@@ -330,7 +330,7 @@ sections_behind l h x st = by l.groups refl
     by (g ∷ gs) split = subst (λ (hs : List Group). All P (flat_map (sections_in l) hs)) (sym split) (All-append P (sections_in l g) (flat_map (sections_in l) gs) (of_first g gs split) (of_later g gs split))
 
 -- no thunk of the first group stands in such a part
-pub no_thunks_there : (l : Layout) → Laid l → (x : Front) (st : FrontStands l x) → x.part ≡ l.primary_part → (g : Group) (gs : List Group) → l.groups ≡ g ∷ gs → All (λ (f : File). length (thunks_of l f) ≡ 0) g.files
+pub no_thunks_there : (l : Layout) → AllClausesHold l → (x : Front) (st : FrontStands l x) → x.part ≡ l.primary_part → (g : Group) (gs : List Group) → l.groups ≡ g ∷ gs → All (λ (f : File). length (thunks_of l f) ≡ 0) g.files
 no_thunks_there l h x st same g gs split i f m =
     let file = get_or g.files i f in
     let tests = and_parts (list_all (leaves_front l) (sections_in_ranges l file)) (length (thunks_of l file) == 0 || not (has_front l l.primary_part)) (leaves_front_of l h g gs split i f m) in
@@ -377,13 +377,13 @@ part_of : (l : Layout) (none : Bool) (o : Option Part) → holds_bytes l none o 
 part_of l none None h = cc
 part_of l none (Some p) h = (p, refl, (and_parts (is_raw (Some p)) (none || has_data l p.section) h).0)
 
-pub merged_lies : (l : Layout) → Laid l → All (λ (m : Merged). FrontLies l m.part (merged_bytes m)) l.merged
+pub merged_lies : (l : Layout) → AllClausesHold l → All (λ (m : Merged). FrontLies l m.part (merged_bytes m)) l.merged
 merged_lies l h i m low =
     let x = get_or l.merged i m in
     let there = part_of l (0 == merged_size x) (slice_get l.parts x.part) (h.inputs.merged i m low) in
     FrontLies-from_given l x.part (merged_bytes x) there.0 there.1 there.2 (merged_given l h i m low)
 
-pub identity_lies : (l : Layout) → Laid l → 1 ≤ length l.identity.bytes → FrontLies l l.identity.part l.identity.bytes
+pub identity_lies : (l : Layout) → AllClausesHold l → 1 ≤ length l.identity.bytes → FrontLies l l.identity.part l.identity.bytes
 identity_lies l h some =
     let none = ne_eqb (length l.identity.bytes) 0 (λ e. omega arith) in
     let there = part_of l false (slice_get l.parts l.identity.part) (or_other (length l.identity.bytes == 0) (holds_bytes l false (slice_get l.parts l.identity.part)) h.inputs.identity none) in

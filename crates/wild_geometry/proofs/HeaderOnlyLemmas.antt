@@ -19,7 +19,7 @@ use Rattle.wild_plan_rules.specs.Fronts.{dynamic_is_dropped}
 use Rattle.wild_plan_rules.specs.Places.{is_in_loaded_section}
 use Rattle.wild_meaning.specs.Section.{IsHeaderOnlySection, IsHeaderOnly}
 use Rattle.wild_meaning.proofs.BitLemmas.{alloc_bit, bit_alloc}
-use Rattle.wild_geometry.proofs.PlacedSectionLemmas.{Laid}
+use Rattle.wild_geometry.proofs.PlacedSectionLemmas.{AllClausesHold}
 use Rattle.wild_geometry.proofs.ShareLemmas.{alone}
 use Rattle.wild_geometry.proofs.RoleLemmas.{FoundAt-from_find}
 use Rattle.wild_geometry.proofs.TableLemmas.{same_role}
@@ -77,13 +77,13 @@ role_is_written l r h = written_by l (part_with r l.parts) h
 -- ---- relocatable objects
 
 -- a relocatable object is written whole
-pub KeepsAll-from_partial : (l : Layout) → Laid l → is_partial_link l.kind ≡ true → KeepsAll l
+pub KeepsAll-from_partial : (l : Layout) → AllClausesHold l → is_partial_link l.kind ≡ true → KeepsAll l
 KeepsAll-from_partial l h partial = first_not l.options.only_keep_debug (is_partial_link l.kind) h.fronts.tables partial
 
 -- ---- the dynamic section
 
 -- nothing is written of it in an image for debuggers alone
-pub dynamic_is_hollow : (l : Layout) → Laid l → l.options.only_keep_debug ≡ true → (p : Part) → part_with role.Dynamic l.parts ≡ Some p → is_header_only_at l p.section ≡ true
+pub dynamic_is_hollow : (l : Layout) → AllClausesHold l → l.options.only_keep_debug ≡ true → (p : Part) → part_with role.Dynamic l.parts ≡ Some p → is_header_only_at l p.section ≡ true
 dynamic_is_hollow l h on p there =
     let f = FoundAt-from_find (has_role role.Dynamic) l.parts p there in
     let P : Part → Type 0 = λ x. dynamic_is_dropped l x ≡ true in
@@ -123,7 +123,7 @@ first_found r (p ∷ ps) (suc k) d low has none =
     ]
 
 -- a role but that of raw parts is one part's
-pub part_of_role : (l : Layout) → Laid l → (r : Role) (p : Part) → (role_place r ≡ 0 → ⊥) → Contains l.parts p → p.role ≡ r → part_with r l.parts ≡ Some p
+pub part_of_role : (l : Layout) → AllClausesHold l → (r : Role) (p : Part) → (role_place r ≡ 0 → ⊥) → Contains l.parts p → p.role ≡ r → part_with r l.parts ≡ Some p
 part_of_role l h r p some c has =
     let k = c.0 in
     let low = c.1 in

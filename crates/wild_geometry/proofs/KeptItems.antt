@@ -36,7 +36,7 @@ use Rattle.wild_types.specs.Rows.{field_bytes}
 use Rattle.wild_frames.specs.declared.frames.Target.{Target}
 use Rattle.wild_frames.specs.Frames.{Frames, frame_bytes}
 use Rattle.wild_placement.specs.ReversedWords.{reversed_section, with_word_order}
-use Rattle.wild_placement.specs.FrameInputs.{has_symbol, home_of, target_in, target_at, symbol_target, target_by, target_of, frames_of, kept_size, section_target}
+use Rattle.wild_placement.specs.FrameInputs.{has_symbol, defining_file_of, target_in, target_at, symbol_target, target_by, target_of, frames_of, kept_size, section_target}
 use Rattle.wild_placement.specs.PlacedSections.{Input, placed_frames, placed_by, placed_section, placed_sections, placed_file, placed_from, placed_files, file_frames, frames_at, address_after, part_address, sorted_inputs, as_loaded, processed_sections, of_last_file, sorted_sections, frame_flags, moved_relocations}
 use Rattle.wild_placement.proofs.PlainLemmas.{unread_linked}
 use Rattle.wild_layout.specs.SectionPlaces.{HasWords, SectionLies}
@@ -46,7 +46,7 @@ use Rattle.wild_meaning.specs.Item.{IsInput, IsLoadedSlot, IsKeptSection, placed
 use Rattle.wild_meaning.proofs.BitLemmas.{alloc_bit}
 use Rattle.wild_geometry.specs.PlacedSections.{Own, Ordered, IsPlacedSection, IsPlacedItem, KeptItemsArePlaced}
 use Rattle.wild_geometry.proofs.HeaderOnlyLemmas.{part_is_written, role_is_written}
-use Rattle.wild_geometry.proofs.PlacedInputs.{laid_of, laid_section_of, each_at}
+use Rattle.wild_geometry.proofs.PlacedInputs.{placed_file_of, placed_section_in, each_at}
 use Rattle.wild_geometry.proofs.ReversedItems.{turned_item}
 use Rattle.wild_geometry.proofs.FrameSizes.{sections_size, group_given}
 
@@ -84,9 +84,9 @@ turned_written l s plain written = by s.reversed
     by true = rw (plain, written) refl
     by false = rw (plain, written) refl
 
-laid_loaded : (l : Layout) (f : File) (at : ℕ) (s : InputSection) → is_partial_link l.kind ≡ false → s.slot ≡ slot.Loaded → placed_section l f at s ≡ with_word_order s
+placed_loaded_section : (l : Layout) (f : File) (at : ℕ) (s : InputSection) → is_partial_link l.kind ≡ false → s.slot ≡ slot.Loaded → placed_section l f at s ≡ with_word_order s
 unfolding placed_section
-laid_loaded l f at s kind e = ap (λ (k : Slot). placed_by k l f at s) e ∙ ap with_word_order (unread_linked l s kind)
+placed_loaded_section l f at s kind e = ap (λ (k : Slot). placed_by k l f at s) e ∙ ap with_word_order (unread_linked l s kind)
 
 -- a sorted one is among those that stand in their order
 is_sorted : (l : Layout) (s : InputSection) → is_partial_link l.kind ≡ false → IsLaidOut l → (k : IsInput l s) → s.slot ≡ slot.Sorted → Contains (sorted_inputs l) (record { file = k.file; section = as_loaded s })
@@ -97,10 +97,10 @@ loaded_item : (l : Layout) (item : Item) (s : InputSection) → is_partial_link 
 loaded_item l item s kind laid k e is =
     let g = k.input.group in
     let f = k.input.file in
-    let a = laid_of l g f k.input.filed in
-    let c = laid_section_of l f a.0 f.sections s k.input.listed in
+    let a = placed_file_of l g f k.input.filed in
+    let c = placed_section_in l f a.0 f.sections s k.input.listed in
     let t = placed_section l f c.0 s in
-    let same : t ≡ with_word_order s = laid_loaded l f c.0 s kind e in
+    let same : t ≡ with_word_order s = placed_loaded_section l f c.0 s kind e in
     let n = k.has_data in
     let here = turned_item l f s (λ r. has_words l s laid k.input (rw (e, n) refl) r) in
     record {
@@ -169,7 +169,7 @@ sorted_item : (l : Layout) (item : Item) (s : InputSection) → is_partial_link 
 sorted_item l item s kind laid k e is =
     let f = k.input.file in
     let last = last_file l laid in
-    let a = laid_of l last.group last.file last.filed in
+    let a = placed_file_of l last.group last.file last.filed in
     let n = k.has_data in
     let words = λ (r : s.reversed ≡ true). has_words l s laid k.input (rw (e, n) refl) r in
     let here = turned_item l f (as_loaded s) (λ r. (let w = words r in record { whole = w.whole; bytes = w.bytes; fields = w.fields })) in
@@ -215,16 +215,16 @@ input_stands l s kind laid k loaded = by_slot s.slot refl loaded
   where
     by_slot : (t : Slot) → s.slot ≡ t → IsLoadedSlot t → InputStands l s
     by_slot slot.Loaded e h =
-        let a = laid_of l k.group k.file k.filed in
-        let c = laid_section_of l k.file a.0 k.file.sections s k.listed in
+        let a = placed_file_of l k.group k.file k.filed in
+        let c = placed_section_in l k.file a.0 k.file.sections s k.listed in
         record {
           section = placed_section l k.file c.0 s;
           input = record { group = k.group; grouped = k.grouped; file = placed_file l a.0 k.file; filed = a.1; owner = placed_file l a.0 k.file; listed = Own refl c.1 };
-          is = laid_loaded l k.file c.0 s kind e ∙ ap with_word_order (loaded_same s e);
+          is = placed_loaded_section l k.file c.0 s kind e ∙ ap with_word_order (loaded_same s e);
         }
     by_slot slot.Sorted e h =
         let last = last_file l laid in
-        let a = laid_of l last.group last.file last.filed in
+        let a = placed_file_of l last.group last.file last.filed in
         record {
           section = with_word_order (as_loaded s);
           input = record { group = last.group; grouped = last.grouped; file = placed_file l a.0 last.file; filed = a.1; owner = k.file; listed = Ordered last.last (record { file = k.file; section = as_loaded s }) (is_sorted l s kind laid k e) refl refl };
@@ -243,8 +243,8 @@ section_item l item s kind laid k is = by_slot s.slot refl k.loaded
 -- ---- frames
 
 -- the judge finds what the writer does
-home_same : (l : Layout) (f : File) (i : ℕ) → IsLaidOut l → Contains (files_of l.groups) f → home_of l f i ≡ file_of (files_of l.groups) i
-home_same l f i laid c =
+defining_file_same : (l : Layout) (f : File) (i : ℕ) → IsLaidOut l → Contains (files_of l.groups) f → defining_file_of l f i ≡ file_of (files_of l.groups) i
+defining_file_same l f i laid c =
     elim (cases_Bool (has_symbol f i)) [
       | inl t ↦ (let own = laid.ranges f i c t in rw t (sym own))
       | inr n ↦ rw n refl
@@ -263,7 +263,7 @@ target_same l f r laid c = by_symbol r.symbol
     by_file k (Some g) = by_section (slice_get g.sections k)
 
     by_place : (i : ℕ) (p : Place) → code_at l i p ≡ target_at l f i p
-    by_place i (at.Section k) = by_file k (file_of (files_of l.groups) i) ∙ ap (target_in l k) (sym (home_same l f i laid c))
+    by_place i (at.Section k) = by_file k (file_of (files_of l.groups) i) ∙ ap (target_in l k) (sym (defining_file_same l f i laid c))
     by_place i other = refl
 
     by_listed : (i : ℕ) (o : Option Symbol) → code_by l i o ≡ symbol_target l f i o
@@ -370,9 +370,9 @@ frame_flags_same : (flags : ℕ) → frame_flags flags ≡ without (without flag
 unfolding bit
 frame_flags_same flags = refl
 
-laid_framed : (l : Layout) (f : File) (at : ℕ) (s : InputSection) → s.slot ≡ slot.Frame → placed_section l f at s ≡ placed_frames l f at s
+placed_frame_section : (l : Layout) (f : File) (at : ℕ) (s : InputSection) → s.slot ≡ slot.Frame → placed_section l f at s ≡ placed_frames l f at s
 unfolding placed_section
-laid_framed l f at s e = ap (λ (k : Slot). placed_by k l f at s) e
+placed_frame_section l f at s e = ap (λ (k : Slot). placed_by k l f at s) e
 
 framed_item : (l : Layout) (f : File) (a b at : ℕ) (s : InputSection) → IsLaidOut l → Contains (files_of l.groups) f → b ≡ at → item_of l (placed_file l a f) (placed_frames l f b s) ≡ frames_item l f s at
 unfolding moved_relocations bit
@@ -464,7 +464,7 @@ frames_kept : (l : Layout) (item : Item) (s : InputSection) → IsLaidOut l → 
 frames_kept l item s laid k is =
     let found = frame_found l s laid k in
     let t = placed_section l k.file found.at s in
-    let same : t ≡ placed_frames l k.file found.at s = laid_framed l k.file found.at s k.frame in
+    let same : t ≡ placed_frames l k.file found.at s = placed_frame_section l k.file found.at s k.frame in
     let input : IsPlacedSection l t = record { group = k.group; grouped = k.grouped; file = placed_file l found.base k.file; filed = found.filed; owner = placed_file l found.base k.file; listed = Own refl found.listed } in
     let small = (each_at (SectionLies l) l t laid.inputs input).small in
     let here : t.address ≡ found.at = ap (λ (x : InputSection). x.address) same in
@@ -484,8 +484,8 @@ frames_kept l item s laid k is =
 
 -- ---- items
 
-pub kept_laid : KeptItemsArePlaced
-kept_laid = λ l item kind laid kept. by_kept l item kind laid kept
+pub kept_items_placed : KeptItemsArePlaced
+kept_items_placed = λ l item kind laid kept. by_kept l item kind laid kept
   where
     by_kept : (l : Layout) (item : Item) → is_partial_link l.kind ≡ false → IsLaidOut l → IsKept l item → IsPlacedItem l item
     by_kept l item kind laid (OfSection s k is) = section_item l item s kind laid k is

@@ -19,7 +19,7 @@ use Rattle.wild_plan_rules.specs.Places.{within}
 use Rattle.wild_plan_rules.specs.Segments.{size_in_file, is_segment_of, dynamic_astray}
 use Rattle.wild_plan_rules.specs.LoadedTables.{begins_at_end_of, entries_follow, rest_of_table, is_read_from_one_segment, holds_part, carries_part, carries_rest, carries_table, table_is_loaded}
 use Rattle.wild_layout.specs.Loadable.{IsStatic, HasSegment, IsCarriedWhole, BeginsAtEnd, AreCarriedTogether}
-use Rattle.wild_geometry.proofs.PlacedSectionLemmas.{Laid}
+use Rattle.wild_geometry.proofs.PlacedSectionLemmas.{AllClausesHold}
 use Rattle.wild_geometry.proofs.RoleLemmas.{FoundAt-from_find, no_count, nothing_shared}
 use Rattle.wild_records.specs.declared.dynamic.DynamicEntry.{DynamicEntry}
 use Rattle.wild_needs.specs.Dynamic.{dynamic_entries, dynamic_count}
@@ -57,8 +57,8 @@ segment_of_part l p i (g ∷ gs) h =
           record { segment = rest.segment; first = rw f rest.first; is = rest.is })
     ]
 
-pub HasSegment-from_laid : (l : Layout) → Laid l → (p : Part) → part_with role.Dynamic l.parts ≡ Some p → HasSegment l p
-HasSegment-from_laid l h p there =
+pub HasSegment-from_clauses : (l : Layout) → AllClausesHold l → (p : Part) → part_with role.Dynamic l.parts ≡ Some p → HasSegment l p
+HasSegment-from_clauses l h p there =
     let P : Option Part → Type 0 = λ o. dynamic_astray l o 0 l.segments ≡ None in
     let s = segment_of_part l p 0 l.segments (subst P there h.segments.dynamic) in
     let g = s.segment in
@@ -67,8 +67,8 @@ HasSegment-from_laid l h p there =
     let c = and_parts (g.offset == p.offset) (g.address == p.address) b.0 in
     record { segment = g; first = s.first; offset = eqb-true _ _ c.0; address = eqb-true _ _ c.1; file_size = eqb-true _ _ b.1; mem_size = eqb-true _ _ a.1 }
 
-pub all_static_from_laid : (l : Layout) → Laid l → part_with role.Dynamic l.parts ≡ None → All IsStatic l.segments
-all_static_from_laid l h none =
+pub all_static_from_clauses : (l : Layout) → AllClausesHold l → part_with role.Dynamic l.parts ≡ None → All IsStatic l.segments
+all_static_from_clauses l h none =
     let P : Option Part → Type 0 = λ o. dynamic_astray l o 0 l.segments ≡ None in
     all_static l 0 l.segments (subst P none h.segments.dynamic)
 
@@ -87,7 +87,7 @@ unasked true true n h e = cc
 unasked true false n h e = refl
 unasked false there n h e = cc
 
-pub no_dynamic_part : (l : Layout) → Laid l → is_fixed_static l.kind ≡ true → part_with role.Dynamic l.parts ≡ None
+pub no_dynamic_part : (l : Layout) → AllClausesHold l → is_fixed_static l.kind ≡ true → part_with role.Dynamic l.parts ≡ None
 no_dynamic_part l h fixed = none_found (has_role role.Dynamic) l.parts (unasked (is_fixed_static l.kind) (list_any (has_role role.Dynamic) l.parts) (role_place role.Dynamic) h.roles.unasked fixed)
 
 -- ---- an output with entries for dynamic linking
@@ -99,7 +99,7 @@ some_count l needs h =
     let P : List DynamicEntry → Type 0 = λ es. entries_before_null (es ++ d ∷ []) ≡ entries_before_null es in
     cc (subst P (nil_from_length (dynamic_entries l) h) (behind_null l (d ∷ []) needs))
 
-pub dynamic_part : (l : Layout) → Laid l → needs_dynamic l.kind ≡ true → (p : Part) × (part_with role.Dynamic l.parts ≡ Some p)
+pub dynamic_part : (l : Layout) → AllClausesHold l → needs_dynamic l.kind ≡ true → (p : Part) × (part_with role.Dynamic l.parts ≡ Some p)
 dynamic_part l h needs = by (part_with role.Dynamic l.parts) refl
   where
     by : (o : Option Part) → part_with role.Dynamic l.parts ≡ o → (p : Part) × (part_with role.Dynamic l.parts ≡ Some p)
@@ -115,7 +115,7 @@ record CarriesTable (l : Layout) (p : Part) (rest : Option Part) : Type 0 where
   part : carries_part l p segment ≡ true
   behind : carries_rest l rest segment ≡ true
 
-table_carried : (l : Layout) → Laid l → needs_dynamic l.kind ≡ true → (r : Role) (p : Part) → is_read_from_one_segment l r ≡ true → part_with r l.parts ≡ Some p → 1 ≤ p.size → CarriesTable l p (rest_of_table l.parts p)
+table_carried : (l : Layout) → AllClausesHold l → needs_dynamic l.kind ≡ true → (r : Role) (p : Part) → is_read_from_one_segment l r ≡ true → part_with r l.parts ≡ Some p → 1 ≤ p.size → CarriesTable l p (rest_of_table l.parts p)
 table_carried l h needs r p asked there some =
     let f = FoundAt-from_find (has_role r) l.parts p there in
     let P : Part → Type 0 = λ x. table_is_loaded l x ≡ true in
@@ -143,7 +143,7 @@ HasPart-from_test l p g written h =
     let c = and_parts (nat_le g.offset p.offset) (nat_le (p.offset + p.size) (g.offset + g.file_size)) b.0 in
     record { loaded = eqb-true _ _ a.0; low = leb-true _ _ c.0; high = leb-true _ _ c.1; level = eqb-true _ _ b.1 }
 
-whole_carried : (l : Layout) → Laid l → needs_dynamic l.kind ≡ true → (r : Role) (p : Part) → is_read_from_one_segment l r ≡ true → part_with r l.parts ≡ Some p → is_header_only_at l p.section ≡ false → 1 ≤ p.size → IsCarriedWhole l p
+whole_carried : (l : Layout) → AllClausesHold l → needs_dynamic l.kind ≡ true → (r : Role) (p : Part) → is_read_from_one_segment l r ≡ true → part_with r l.parts ≡ Some p → is_header_only_at l p.section ≡ false → 1 ≤ p.size → IsCarriedWhole l p
 whole_carried l h needs r p asked there written some =
     let c = table_carried l h needs r p asked there some in
     let has = HasPart-from_test l p c.segment written c.part in
@@ -152,11 +152,11 @@ whole_carried l h needs r p asked there written some =
     let level = has.level in
     record { segment = c.segment; listed = c.listed; loaded = has.loaded; from = omega arith; to = omega arith; distance = omega arith }
 
-pub table_carried_whole : (l : Layout) → Laid l → needs_dynamic l.kind ≡ true → (r : Role) (p : Part) → is_table_role r ≡ true → part_with r l.parts ≡ Some p → is_header_only_at l p.section ≡ false → 1 ≤ p.size → IsCarriedWhole l p
+pub table_carried_whole : (l : Layout) → AllClausesHold l → needs_dynamic l.kind ≡ true → (r : Role) (p : Part) → is_table_role r ≡ true → part_with r l.parts ≡ Some p → is_header_only_at l p.section ≡ false → 1 ≤ p.size → IsCarriedWhole l p
 table_carried_whole l h needs r p table = whole_carried l h needs r p (rw table refl)
 
 -- the tables in which names are looked up
-pub look_up_carried_whole : (l : Layout) → Laid l → needs_dynamic l.kind ≡ true → has_hashes l ≡ true → (r : Role) (p : Part) → is_look_up_role r ≡ true → part_with r l.parts ≡ Some p → is_header_only_at l p.section ≡ false → 1 ≤ p.size → IsCarriedWhole l p
+pub look_up_carried_whole : (l : Layout) → AllClausesHold l → needs_dynamic l.kind ≡ true → has_hashes l ≡ true → (r : Role) (p : Part) → is_look_up_role r ≡ true → part_with r l.parts ≡ Some p → is_header_only_at l p.section ≡ false → 1 ≤ p.size → IsCarriedWhole l p
 look_up_carried_whole l h needs hashes r p look = whole_carried l h needs r p (either (is_table_role r) (is_look_up_role r) (has_hashes l) look hashes)
   where
     either : (a b c : Bool) → b ≡ true → c ≡ true → (a || (b && c)) ≡ true
@@ -165,8 +165,8 @@ look_up_carried_whole l h needs hashes r p look = whole_carried l h needs r p (e
 
 -- ---- entries with addends are one table
 
-pub BeginsAtEnd-from_laid : (l : Layout) → Laid l → (p q : Part) → part_with role.RelaDynRelative l.parts ≡ Some p → part_with role.RelaDynGeneral l.parts ≡ Some q → BeginsAtEnd p q
-BeginsAtEnd-from_laid l h p q first second =
+pub BeginsAtEnd-from_clauses : (l : Layout) → AllClausesHold l → (p q : Part) → part_with role.RelaDynRelative l.parts ≡ Some p → part_with role.RelaDynGeneral l.parts ≡ Some q → BeginsAtEnd p q
+BeginsAtEnd-from_clauses l h p q first second =
     let f = FoundAt-from_find (has_role role.RelaDynGeneral) l.parts q second in
     let P : Part → Type 0 = λ x. entries_follow l.parts x ≡ true in
     let follow = subst P (f.is q) (h.roles.follow f.place q f.within) in
@@ -175,8 +175,8 @@ BeginsAtEnd-from_laid l h p q first second =
     let both = and_parts (q.offset == p.offset + p.size) (q.address == p.address + p.size) (subst Q first behind) in
     record { offset = eqb-true _ _ both.0; address = eqb-true _ _ both.1 }
 
-pub AreCarriedTogether-from_laid : (l : Layout) → Laid l → needs_dynamic l.kind ≡ true → (p q : Part) → part_with role.RelaDynRelative l.parts ≡ Some p → part_with role.RelaDynGeneral l.parts ≡ Some q → is_header_only_at l p.section ≡ false → is_header_only_at l q.section ≡ false → 1 ≤ p.size → 1 ≤ q.size → AreCarriedTogether l p q
-AreCarriedTogether-from_laid l h needs p q first second written other some more =
+pub AreCarriedTogether-from_clauses : (l : Layout) → AllClausesHold l → needs_dynamic l.kind ≡ true → (p q : Part) → part_with role.RelaDynRelative l.parts ≡ Some p → part_with role.RelaDynGeneral l.parts ≡ Some q → is_header_only_at l p.section ≡ false → is_header_only_at l q.section ≡ false → 1 ≤ p.size → 1 ≤ q.size → AreCarriedTogether l p q
+AreCarriedTogether-from_clauses l h needs p q first second written other some more =
     let c = table_carried l h needs role.RelaDynRelative p refl first some in
     let g = c.segment in
     let f = FoundAt-from_find (has_role role.RelaDynRelative) l.parts p first in

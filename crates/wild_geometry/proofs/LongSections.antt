@@ -20,7 +20,7 @@ use Rattle.wild_layout.specs.SectionPlaces.{FieldLies}
 use Rattle.wild_layout.specs.Geometry.{NamesSymbol}
 use Rattle.wild_layout.proofs.DebugLemmas.{length-debug_bytes}
 use Rattle.wild_layout.proofs.PartialLemmas.{is_own, length-rela_bytes_of, length-group_words, section_bytes_zeros, section_bytes_debug, section_bytes_rela, section_bytes_group}
-use Rattle.wild_geometry.proofs.PlacedSectionLemmas.{Laid}
+use Rattle.wild_geometry.proofs.PlacedSectionLemmas.{AllClausesHold}
 use Rattle.wild_geometry.proofs.SiteLemmas.{length-section_bytes}
 use Rattle.wild_geometry.proofs.StandingLemmas.{EachIn}
 use Rattle.wild_geometry.proofs.SectionLemmas.{Holds, Known, each_known, is_whole, length_of_data}
@@ -112,7 +112,7 @@ target_entries l ss k size h (Some s) is t =
     let long = length-map (with_word_order s).relocations (counted_from (base_of s)) in
     record { many = omega arith; named = All-map (NamesSymbol l) (counted_from (base_of s)) (with_word_order s).relocations (turned_named l s known.holds.symbols) }
 
-pub each_tabled : (l : Layout) → Laid l → EachIn l (IsTabledTable l)
+pub each_tabled : (l : Layout) → AllClausesHold l → EachIn l (IsTabledTable l)
 each_tabled l h = λ i g m j f n k s o rela.
     let x = get_or (get_or l.groups i g).files j f in
     let y = get_or x.sections k s in

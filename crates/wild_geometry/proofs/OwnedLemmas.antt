@@ -22,7 +22,7 @@ use Rattle.wild_layout.specs.Thunks.{thunk_bytes}
 use Rattle.wild_layout.specs.Image.{thunk_piece, thunk_pieces, of_first_file, merged_and_identity_pieces, owned_pieces}
 use Rattle.wild_layout.proofs.ThunkLemmas.{length-thunk_bytes}
 use Rattle.wild_geometry.proofs.InterleaveLemmas.{AllPairs-two, All-two}
-use Rattle.wild_geometry.proofs.PlacedSectionLemmas.{Laid}
+use Rattle.wild_geometry.proofs.PlacedSectionLemmas.{AllClausesHold}
 use Rattle.wild_geometry.proofs.OrderLemmas.{Follows}
 use Rattle.wild_geometry.proofs.RunLemmas.{sections_in}
 use Rattle.wild_geometry.proofs.StandingLemmas.{all_sections}
@@ -53,14 +53,14 @@ sections_and_thunks l f stood h =
 -- ---- what stands at fronts
 
 -- an input section stands apart from it
-section_and_front : (l : Layout) → Laid l → AllPairs (Follows l) l.parts → (i : ℕ) (d : InputSection) → i < length (all_sections l) → is_filled l (get_or (all_sections l) i d) ≡ true → Stood l (get_or (all_sections l) i d) → (x : Front) → FrontStands l x
+section_and_front : (l : Layout) → AllClausesHold l → AllPairs (Follows l) l.parts → (i : ℕ) (d : InputSection) → i < length (all_sections l) → is_filled l (get_or (all_sections l) i d) ≡ true → Stood l (get_or (all_sections l) i d) → (x : Front) → FrontStands l x
     → Disjoint (room_of l (get_or (all_sections l) i d)) (front_at l x)
 section_and_front l h f i d low filled a x st =
     let s = get_or (all_sections l) i d in
     let behind = sections_behind l h x st i d low filled in
     subst (Disjoint (room_of l s)) (front_is l x st) (owners_apart l f s.part x.part s.address st.part.address (room_of l s).bytes x.bytes a.part st.part (stood_room l s a) st.room (λ e. inr (let b = behind e in omega arith)))
 
-sections_and_fronts : (l : Layout) → Laid l → AllPairs (Follows l) l.parts → SectionsStand l → FrontsStand l → All (λ a. All (Disjoint a) (merged_and_identity_pieces l)) (section_rooms l)
+sections_and_fronts : (l : Layout) → AllClausesHold l → AllPairs (Follows l) l.parts → SectionsStand l → FrontsStand l → All (λ a. All (Disjoint a) (merged_and_identity_pieces l)) (section_rooms l)
 sections_and_fronts l h f stood st =
     All-flat_map (λ a. All (Disjoint a) (merged_and_identity_pieces l)) (section_room l) (all_sections l) (λ i s m.
     All-optional (λ a. All (Disjoint a) (merged_and_identity_pieces l)) (is_filled l (get_or (all_sections l) i s)) (room_of l (get_or (all_sections l) i s)) (λ filled.
@@ -68,14 +68,14 @@ sections_and_fronts l h f stood st =
     section_and_front l h f i s m filled (stood i s m filled) (get_or (fronts l) j x) (st.stood j x n some))))
 
 -- and so does a thunk, which stands behind it in a part of its own
-abbrev ThunkBehind : Layout → Front → ℕ → Thunk → Type 0
-ThunkBehind l x at t = x.part ≡ l.primary_part → at + length x.bytes ≤ t.address
+abbrev ThunkAfter : Layout → Front → ℕ → Thunk → Type 0
+ThunkAfter l x at t = x.part ≡ l.primary_part → at + length x.bytes ≤ t.address
 
-thunks_behind : (l : Layout) → Laid l → ThunksStand l → (x : Front) (st : FrontStands l x) → All (ThunkBehind l x st.part.address) (all_thunks l)
+thunks_behind : (l : Layout) → AllClausesHold l → ThunksStand l → (x : Front) (st : FrontStands l x) → All (ThunkAfter l x st.part.address) (all_thunks l)
 thunks_behind l h thunks x st = by l.groups refl
   where
     P : Thunk → Type 0
-    P = ThunkBehind l x st.part.address
+    P = ThunkAfter l x st.part.address
 
     of_first : (g : Group) (gs : List Group) → l.groups ≡ g ∷ gs → All P (thunks_in l g)
     of_first g gs split = All-flat_map P (thunks_of l) g.files (λ i f m j t n same. absurd (let none = no_thunks_there l h x st same g gs split i f m in omega arith))
@@ -91,7 +91,7 @@ thunks_behind l h thunks x st = by l.groups refl
     by [] split = subst (λ (hs : List Group). All P (flat_map (thunks_in l) hs)) (sym split) (All-nil P)
     by (g ∷ gs) split = subst (λ (hs : List Group). All P (flat_map (thunks_in l) hs)) (sym split) (All-append P (thunks_in l g) (flat_map (thunks_in l) gs) (of_first g gs split) (of_later g gs split))
 
-fronts_and_thunks : (l : Layout) → Laid l → AllPairs (Follows l) l.parts → ThunksStand l → FrontsStand l → All (λ a. All (Disjoint a) (pieces_of_thunks l)) (merged_and_identity_pieces l)
+fronts_and_thunks : (l : Layout) → AllClausesHold l → AllPairs (Follows l) l.parts → ThunksStand l → FrontsStand l → All (λ a. All (Disjoint a) (pieces_of_thunks l)) (merged_and_identity_pieces l)
 fronts_and_thunks l h f thunks st =
     each_front l (λ a. All (Disjoint a) (pieces_of_thunks l)) (λ i x m some.
     let y = get_or (fronts l) i x in
@@ -174,7 +174,7 @@ once_by_file l h some = flat_map-flat_map (λ (f : File). of_first_file f (merge
 
 -- what is known of all that files own
 pub record Owned (l : Layout) : Type 0 where
-  pub laid : Laid l
+  pub laid : AllClausesHold l
   pub follow : AllPairs (Follows l) l.parts
   pub places : map extent_of (flat_map (file_rooms l) (files_of l.groups)) ≡ map extent_of (flat_map (owned_pieces l) l.groups)
   pub first : first_misplaced_file true 0 l.groups ≡ None

@@ -20,22 +20,22 @@ use Rattle.wild_geometry.specs.PlacedSections.{IsSectionOfFile, Own, Ordered, Is
 -- ---- files
 
 -- what is made of files without their sections
-pub laid_same : {Y : Type 0} (make : File → List Y) (l : Layout) (g : Group) → ((at : ℕ) (f : File) → make (placed_file l at f) ≡ make f) → flat_map make (placed_files l g) ≡ flat_map make g.files
+pub placed_files_same : {Y : Type 0} (make : File → List Y) (l : Layout) (g : Group) → ((at : ℕ) (f : File) → make (placed_file l at f) ≡ make f) → flat_map make (placed_files l g) ≡ flat_map make g.files
 unfolding placed_files
-laid_same make l g each = from make l (frames_at l g) g.files each
+placed_files_same make l g each = from make l (frames_at l g) g.files each
   where
     from : {Y : Type 0} (make : File → List Y) (l : Layout) (at : ℕ) (fs : List File) → ((at : ℕ) (f : File) → make (placed_file l at f) ≡ make f) → flat_map make (placed_from l at fs) ≡ flat_map make fs
     from make l at [] each = refl
     from make l at (f ∷ fs) each = ap (λ ys. ys ++ flat_map make (placed_from l (address_after at (file_frames l f)) fs)) (each at f) ∙ ap (λ ys. make f ++ ys) (from make l (address_after at (file_frames l f)) fs each)
 
 -- in all groups
-pub laid_same_all : {Y : Type 0} (make : File → List Y) (l : Layout) → ((at : ℕ) (f : File) → make (placed_file l at f) ≡ make f) → flat_map (λ (g : Group). flat_map make (placed_files l g)) l.groups ≡ flat_map (λ (g : Group). flat_map make g.files) l.groups
-laid_same_all make l each = flat_map-same (λ (g : Group). flat_map make (placed_files l g)) (λ (g : Group). flat_map make g.files) l.groups (λ g. laid_same make l g each)
+pub placed_files_same_all : {Y : Type 0} (make : File → List Y) (l : Layout) → ((at : ℕ) (f : File) → make (placed_file l at f) ≡ make f) → flat_map (λ (g : Group). flat_map make (placed_files l g)) l.groups ≡ flat_map (λ (g : Group). flat_map make g.files) l.groups
+placed_files_same_all make l each = flat_map-same (λ (g : Group). flat_map make (placed_files l g)) (λ (g : Group). flat_map make g.files) l.groups (λ g. placed_files_same make l g each)
 
 -- a file of a group stands among those that do
-pub laid_of : (l : Layout) (g : Group) (f : File) → Contains g.files f → (at : ℕ) × Contains (placed_files l g) (placed_file l at f)
+pub placed_file_of : (l : Layout) (g : Group) (f : File) → Contains g.files f → (at : ℕ) × Contains (placed_files l g) (placed_file l at f)
 unfolding placed_files
-laid_of l g f c = from l (frames_at l g) g.files f c
+placed_file_of l g f c = from l (frames_at l g) g.files f c
   where
     from : (l : Layout) (at : ℕ) (fs : List File) (f : File) → Contains fs f → (a : ℕ) × Contains (placed_from l at fs) (placed_file l a f)
     from l at [] f c = absurd (omega (arith, c.1))
@@ -46,9 +46,9 @@ laid_of l g f c = from l (frames_at l g) g.files f c
         there l at g gs f (suc k) lt e again = (let r = again (k, omega (arith, lt), e) in (r.0, Contains-there (placed_file l r.0 f) (placed_file l at g) (placed_from l (address_after at (file_frames l g)) gs) r.1))
 
 -- a section of a file stands among those that do
-pub laid_section_of : (l : Layout) (f : File) (at : ℕ) (ss : List InputSection) (s : InputSection) → Contains ss s → (a : ℕ) × Contains (placed_sections l f at ss) (placed_section l f a s)
-laid_section_of l f at [] s c = absurd (omega (arith, c.1))
-laid_section_of l f at (t ∷ ts) s c = there l f at t ts s c.0 c.1 c.2 (λ c'. laid_section_of l f (address_after at (kept_size l f t)) ts s c')
+pub placed_section_in : (l : Layout) (f : File) (at : ℕ) (ss : List InputSection) (s : InputSection) → Contains ss s → (a : ℕ) × Contains (placed_sections l f at ss) (placed_section l f a s)
+placed_section_in l f at [] s c = absurd (omega (arith, c.1))
+placed_section_in l f at (t ∷ ts) s c = there l f at t ts s c.0 c.1 c.2 (λ c'. placed_section_in l f (address_after at (kept_size l f t)) ts s c')
   where
     there : (l : Layout) (f : File) (at : ℕ) (t : InputSection) (ts : List InputSection) (s : InputSection) (k : ℕ) → k < length (t ∷ ts) → get_or (t ∷ ts) k s ≡ s → (Contains ts s → (a : ℕ) × Contains (placed_sections l f (address_after at (kept_size l f t)) ts) (placed_section l f a s)) → (a : ℕ) × Contains (placed_sections l f at (t ∷ ts)) (placed_section l f a s)
     there l f at t ts s zero lt e again = (at, subst (λ (x : InputSection). Contains (placed_section l f at t ∷ placed_sections l f (address_after at (kept_size l f t)) ts) (placed_section l f at x)) e (Contains-here (placed_section l f at t) (placed_sections l f (address_after at (kept_size l f t)) ts)))

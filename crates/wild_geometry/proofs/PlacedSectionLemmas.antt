@@ -211,7 +211,7 @@ FrontsHold-from_check l h =
 
 -- ---- all of them, and the shares
 
-pub record Laid (l : Layout) : Type 0 where
+pub record AllClausesHold (l : Layout) : Type 0 where
   pub sizes : SizesFit l
   pub counts : CountsFit l
   pub order : part_out_of_order l 0 0 l.parts ≡ None
@@ -236,8 +236,8 @@ pub record Laid (l : Layout) : Type 0 where
   pub fronts : FrontsHold l
   pub needed : flat_map_from (part_errors l) 0 l.parts ≡ []
 
-pub Laid-from_clauses : (l : Layout) → first_clause l ≡ Ok tt → flat_map_from (part_errors l) 0 l.parts ≡ [] → Laid l
-Laid-from_clauses l h n =
+pub AllClausesHold-from_clauses : (l : Layout) → first_clause l ≡ Ok tt → flat_map_from (part_errors l) 0 l.parts ≡ [] → AllClausesHold l
+AllClausesHold-from_clauses l h n =
     let c = NoneFails-from_first_clause l h in
     record {
       sizes = SizesFit-from_check l c.sizes;

@@ -29,7 +29,7 @@ use Rattle.wild_types.proofs.PartLemmas.{not_raw}
 use Rattle.wild_layout.specs.Content.{last_file_room, dynamic_room, content}
 use Rattle.wild_layout.specs.TablePlaces.{table_bytes, bytes_before, TableLies, HasTable}
 use Rattle.wild_layout.specs.Image.{shares_before, table_piece, table_pieces, owned_pieces, group_pieces, pieces}
-use Rattle.wild_geometry.proofs.PlacedSectionLemmas.{Laid}
+use Rattle.wild_geometry.proofs.PlacedSectionLemmas.{AllClausesHold}
 use Rattle.wild_geometry.proofs.InterleaveLemmas.{Contains-flat_map_from}
 use Rattle.wild_geometry.proofs.OrderLemmas.{Takes, EndsBy-image}
 use Rattle.wild_geometry.proofs.ShareLemmas.{total_same, content_is_given, size_from_shares}
@@ -102,7 +102,7 @@ past_end [] k l = refl
 past_end (x ∷ xs) zero l = absurd (omega arith)
 past_end (x ∷ xs) (suc k) l = past_end xs k (omega arith)
 
-no_room : (l : Layout) → Laid l → list_any (has_role role.Dynamic) l.parts ≡ false → dynamic_room l ≡ 0
+no_room : (l : Layout) → AllClausesHold l → list_any (has_role role.Dynamic) l.parts ≡ false → dynamic_room l ≡ 0
 no_room l h none =
     let place = no_part role.Dynamic 0 l.parts none in
     let some = h.counts.some_group in
@@ -113,7 +113,7 @@ no_room l h none =
     ap (last_file_room l) item.is ∙ (omega arith)
 
 -- where the last group has nothing to write, there are no entries
-pub no_count : (l : Layout) → Laid l → total_share l role.Dynamic ≡ 0 → dynamic_count l ≡ 0
+pub no_count : (l : Layout) → AllClausesHold l → total_share l role.Dynamic ≡ 0 → dynamic_count l ≡ 0
 no_count l h shared =
     let some = h.counts.some_group in
     let item = ItemAt-within l.groups (length l.groups - 1) (omega arith) in
@@ -125,7 +125,7 @@ no_count l h shared =
     omega arith
 
 -- and no group gives anything to the dynamic section
-dynamic_nothing : (l : Layout) → Laid l → list_any (has_role role.Dynamic) l.parts ≡ false → total_share l role.Dynamic ≡ 0 → table_bytes l role.Dynamic ≡ []
+dynamic_nothing : (l : Layout) → AllClausesHold l → list_any (has_role role.Dynamic) l.parts ≡ false → total_share l role.Dynamic ≡ 0 → table_bytes l role.Dynamic ≡ []
 dynamic_nothing l h none shared =
     let room = no_room l h none in
     let count = no_count l h shared in
@@ -146,13 +146,13 @@ dynamic_nothing l h none shared =
         rw n (by gs e (omega arith))
 
 -- where the part of a role is not there, nothing has to be written in one
-pub nothing_shared : (l : Layout) → Laid l → (r : Role) → part_with r l.parts ≡ None → total_share l r ≡ 0
+pub nothing_shared : (l : Layout) → AllClausesHold l → (r : Role) → part_with r l.parts ≡ None → total_share l r ≡ 0
 nothing_shared l h r none =
     let P : Role → Type 0 = λ s. role_has_needed_part l s ≡ true in
     let asked = subst P (role_at r) (h.roles.given (role_place r) role.Raw (role_listed r)) in
     given_there l r asked (none_passes (has_role r) l.parts none)
 
-missing_table : (l : Layout) → Laid l → (r : Role) → part_with r l.parts ≡ None → table_bytes l r ≡ []
+missing_table : (l : Layout) → AllClausesHold l → (r : Role) → part_with r l.parts ≡ None → table_bytes l r ≡ []
 missing_table l h r none =
     let absent = none_passes (has_role r) l.parts none in
     let shared = nothing_shared l h r none in
@@ -166,7 +166,7 @@ missing_table l h r none =
     ]
 
 -- part i is the part of the role
-table_lies : (l : Layout) → Laid l → (r : Role) → (role_place r ≡ 0 → ⊥) → (p : Part) (i : ℕ) → i < length l.parts → ((d : Part) → get_or l.parts i d ≡ p) → p.role ≡ r → TableLies l r p
+table_lies : (l : Layout) → AllClausesHold l → (r : Role) → (role_place r ≡ 0 → ⊥) → (p : Part) (i : ℕ) → i < length l.parts → ((d : Part) → get_or l.parts i d ≡ p) → p.role ≡ r → TableLies l r p
 unfolding pieces
 table_lies l h r some p i low is has =
     let read = is p in
@@ -203,8 +203,8 @@ table_lies l h r some p i low is has =
           );
     }
 
-pub HasTable-from_laid : (l : Layout) → Laid l → (r : Role) → (role_place r ≡ 0 → ⊥) → HasTable l r
-HasTable-from_laid l h r some = record {
+pub HasTable-from_clauses : (l : Layout) → AllClausesHold l → (r : Role) → (role_place r ≡ 0 → ⊥) → HasTable l r
+HasTable-from_clauses l h r some = record {
   there = λ p found. let f = FoundAt-from_find (has_role r) l.parts p found in table_lies l h r some p f.place f.within f.is (same_role p.role r (eqb-true _ _ f.passes));
   missing = missing_table l h r;
 }

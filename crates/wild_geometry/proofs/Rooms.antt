@@ -17,7 +17,7 @@ use Rattle.wild_types.specs.FileRoles.{is_epilogue}
 use Rattle.wild_types.specs.Lookups.{is_filled, is_loaded, is_rela, has_range, files_of}
 use Rattle.wild_placement.specs.ReversedWords.{with_word_order}
 use Rattle.wild_placement.specs.PlacedSections.{Input, unread, rela_with_target, placed_by, placed_section, placed_sections, placed_file, placed_files, sorted_inputs, of_last_file}
-use Rattle.wild_placement.proofs.PlacedFiles.{joined_sections, joined_laid}
+use Rattle.wild_placement.proofs.PlacedFiles.{joined_sections, joined_placed_files}
 use Rattle.wild_plan_rules.specs.Thunks.{sections_in_ranges}
 use Rattle.wild_layout.specs.Image.{offset_in, section_piece, section_pieces, of_first_file, sorted_piece, merged_and_identity_pieces, thunk_pieces, file_pieces, owned_pieces}
 use Rattle.wild_layout.specs.Sites.{section_bytes, extent_of}
@@ -197,7 +197,7 @@ in_file l sorted f at own =
 
 in_group : (l : Layout) → All (HasSortedPlace l) (sorted_inputs l) → (g : Group) → All (λ (f : File). All (HasPlace l f) f.sections) g.files → flat_map (λ (f : File). map extent_of (file_rooms l f)) g.files ≡ map extent_of (owned_pieces l g)
 in_group l sorted g own =
-    joined_laid l (λ (f : File). map extent_of (file_rooms l f)) (λ (f : File). map extent_of (file_pieces l f)) g (λ i f m at. in_file l sorted (get_or g.files i f) at (own i f m))
+    joined_placed_files l (λ (f : File). map extent_of (file_rooms l f)) (λ (f : File). map extent_of (file_pieces l f)) g (λ i f m at. in_file l sorted (get_or g.files i f) at (own i f m))
     ∙ sym (map-flat_map extent_of (file_pieces l) (placed_files l g))
 
 -- the rooms are where all that files own stands

@@ -19,7 +19,7 @@ use Rattle.wild_types.proofs.ListLemmas.{total-prefix}
 use Rattle.wild_layout.specs.Content.{content}
 use Rattle.wild_layout.specs.TablePlaces.{bytes_before}
 use Rattle.wild_geometry.proofs.ContentLemmas.{length-content}
-use Rattle.wild_geometry.proofs.PlacedSectionLemmas.{Laid}
+use Rattle.wild_geometry.proofs.PlacedSectionLemmas.{AllClausesHold}
 use Rattle.wild_geometry.proofs.RoleLemmas.{nothing_shared}
 use Rattle.wild_geometry.proofs.ShareLemmas.{total_same, content_is_given}
 use Rattle.wild_geometry.proofs.TableLemmas.{same_role}
@@ -100,7 +100,7 @@ record IsTable (r : Role) : Type 0 where
   dynamic : role_place r ≡ role_place role.Dynamic → ⊥
 
 -- each group is given of the part what it gives to it
-given_is_content : (l : Layout) → Laid l → (r : Role) → IsTable r → (place : Option ℕ) → place_with r l.parts ≡ place → (j : ℕ) (g : Group) → j < length l.groups → group_share_at place (get_or l.groups j g) ≡ length (content l r (get_or l.groups j g))
+given_is_content : (l : Layout) → AllClausesHold l → (r : Role) → IsTable r → (place : Option ℕ) → place_with r l.parts ≡ place → (j : ℕ) (g : Group) → j < length l.groups → group_share_at place (get_or l.groups j g) ≡ length (content l r (get_or l.groups j g))
 given_is_content l h r table None is j g n =
     let shared = nothing_shared l h r (none_with r 0 l.parts is) in
     let one = total-prefix (group_share l r) l.groups j g n in
@@ -117,29 +117,29 @@ given_is_content l h r table (Some i) is j g n =
     sym (subst (λ (s : Role). length (content l s (get_or l.groups j g)) ≡ given i (get_or l.groups j g)) has (content_is_given l h.sizes.parts h.shares h.roles.again h.needed i p low raw j g n))
 
 -- the groups before group j are given what they give
-shares_before : (l : Layout) → Laid l → (r : Role) → IsTable r → (j : ℕ) → total (group_share_at (place_with r l.parts)) (take j l.groups) ≡ bytes_before l r j
+shares_before : (l : Layout) → AllClausesHold l → (r : Role) → IsTable r → (j : ℕ) → total (group_share_at (place_with r l.parts)) (take j l.groups) ≡ bytes_before l r j
 shares_before l h r table j = total_same (group_share_at (place_with r l.parts)) (λ (x : Group). length (content l r x)) l.groups j (λ k d m. given_is_content l h r table (place_with r l.parts) refl k d m)
 
 -- ---- the whole
 
-group_follows : (l : Layout) → Laid l → (j : ℕ) (g : Group) → slice_get l.groups j ≡ Some g → Follows (start_places l.parts) no_starts (take j l.groups) g
+group_follows : (l : Layout) → AllClausesHold l → (j : ℕ) (g : Group) → slice_get l.groups j ≡ Some g → Follows (start_places l.parts) no_starts (take j l.groups) g
 group_follows l h j g is = subst (Follows (start_places l.parts) no_starts (take j l.groups)) (get_or_from_slice_get l.groups j g g is) (starts_follow (start_places l.parts) no_starts 0 l.groups h.starts j g (slice_get_within l.groups j g is))
 
-pub starts_from_laid : (l : Layout) → Laid l → (j : ℕ) (g : Group) → slice_get l.groups j ≡ Some g → g.dynstr_start ≡ bytes_before l role.Dynstr j
-starts_from_laid l h j g is =
+pub starts_from_clauses : (l : Layout) → AllClausesHold l → (j : ℕ) (g : Group) → slice_get l.groups j ≡ Some g → g.dynstr_start ≡ bytes_before l role.Dynstr j
+starts_from_clauses l h j g is =
     let start = (group_follows l h j g is).dynstr in
     let before = shares_before l h role.Dynstr (record { raw = λ e. absurd (omega arith); dynamic = λ e. absurd (omega arith) }) j in
     omega arith
 
-pub table_starts_from_laid : (l : Layout) → Laid l → (j : ℕ) (g : Group) → slice_get l.groups j ≡ Some g → g.strtab_start ≡ bytes_before l role.Strtab j
-table_starts_from_laid l h j g is =
+pub table_starts_from_clauses : (l : Layout) → AllClausesHold l → (j : ℕ) (g : Group) → slice_get l.groups j ≡ Some g → g.strtab_start ≡ bytes_before l role.Strtab j
+table_starts_from_clauses l h j g is =
     let start = (group_follows l h j g is).strtab in
     let before = shares_before l h role.Strtab (record { raw = λ e. absurd (omega arith); dynamic = λ e. absurd (omega arith) }) j in
     omega arith
 
 -- and its frames
-pub frame_starts_from_laid : (l : Layout) → Laid l → (j : ℕ) (g : Group) → slice_get l.groups j ≡ Some g → g.eh_frame_start ≡ bytes_before l role.EhFrame j
-frame_starts_from_laid l h j g is =
+pub frame_starts_from_clauses : (l : Layout) → AllClausesHold l → (j : ℕ) (g : Group) → slice_get l.groups j ≡ Some g → g.eh_frame_start ≡ bytes_before l role.EhFrame j
+frame_starts_from_clauses l h j g is =
     let start = (group_follows l h j g is).frames in
     let before = shares_before l h role.EhFrame (record { raw = λ e. absurd (omega arith); dynamic = λ e. absurd (omega arith) }) j in
     omega arith

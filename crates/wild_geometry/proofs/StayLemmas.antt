@@ -189,9 +189,9 @@ pub record Stays (l : Layout) (R : File → InputSection → Type 0) (P : InputS
   pub table : (f : File) (s : InputSection) → is_rela s.slot ≡ true → R f s → P (rela_with_target f s)
   pub other : (f : File) (s : InputSection) → is_as_it_is s.slot ≡ true → R f s → P s
 
-laid_stays : (l : Layout) (R : File → InputSection → Type 0) (P : InputSection → Type 0) → Stays l R P → (f : File) (at : ℕ) (s : InputSection) → at + kept_size l f s ≤ 2 ^ 62 → R f s → P (placed_section l f at s)
+placed_section_stays : (l : Layout) (R : File → InputSection → Type 0) (P : InputSection → Type 0) → Stays l R P → (f : File) (at : ℕ) (s : InputSection) → at + kept_size l f s ≤ 2 ^ 62 → R f s → P (placed_section l f at s)
 unfolding placed_section
-laid_stays l R P stays f at s low r = by s.slot refl
+placed_section_stays l R P stays f at s low r = by s.slot refl
   where
     by : (k : Slot) → s.slot ≡ k → P (placed_by k l f at s)
     by slot.Loaded e = stays.loaded f s (ap is_loaded e) r
@@ -220,7 +220,7 @@ file_stays l R P stays f at low h =
     let sorted = of_last_file f (map (λ (x : Input). x.section) (sorted_inputs l)) in
     let own = All-append-left (R f) f.sections sorted h in
     All-append P (placed_sections l f at f.sections) (of_last_file f (sorted_sections l))
-    (All-low_sections l f P (2 ^ 62) at f.sections (omega arith) low (λ i s m a ends. laid_stays l R P stays f a (get_or f.sections i s) ends (own i s m)))
+    (All-low_sections l f P (2 ^ 62) at f.sections (omega arith) low (λ i s m a ends. placed_section_stays l R P stays f a (get_or f.sections i s) ends (own i s m)))
     (sorted_stays l R P stays f (is_epilogue f.role) (All-append-right (R f) f.sections sorted h))
 
 -- the frames of a group end below 2^62

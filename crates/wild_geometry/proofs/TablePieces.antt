@@ -22,7 +22,7 @@ use Rattle.wild_layout.specs.Sites.{extent_of}
 use Rattle.wild_layout.specs.Thunks.{thunk_bytes}
 use Rattle.wild_layout.specs.SectionPlaces.{PartLies, HasRoom}
 use Rattle.wild_geometry.proofs.InterleaveLemmas.{All-flat_map_from, AllPairs-flat_map_from, All-both, AllPairs-both}
-use Rattle.wild_geometry.proofs.PlacedSectionLemmas.{Laid}
+use Rattle.wild_geometry.proofs.PlacedSectionLemmas.{AllClausesHold}
 use Rattle.wild_geometry.proofs.OrderLemmas.{Takes, EndsBy-image, Follows, PartsFollow-from_order}
 use Rattle.wild_geometry.proofs.ShareLemmas.{total_to, size_from_shares, content_is_given, content_of_raw}
 use Rattle.wild_geometry.proofs.StandingLemmas.{all_sections, sorted_loaded}
@@ -32,7 +32,7 @@ use Rattle.wild_geometry.proofs.LongSections.{each_tabled}
 use Rattle.wild_geometry.proofs.Rooms.{DoNotOverlap, room_of, section_room, place_of_known, place_of_sorted, rooms_stand}
 use Rattle.wild_geometry.proofs.ThunkRuns.{all_thunks}
 use Rattle.wild_geometry.proofs.ThunkLemmas.{SectionsStand, ThunksStand, thunk_room, each_thunk}
-use Rattle.wild_geometry.proofs.FrontLemmas.{Front, fronts, FrontStands, All-some, AllPairs-some, front_at, front_is, each_front, FrontsStand-from_laid}
+use Rattle.wild_geometry.proofs.FrontLemmas.{Front, fronts, FrontStands, All-some, AllPairs-some, front_at, front_is, each_front, FrontsStand-from_clauses}
 use Rattle.wild_geometry.proofs.OwnedLemmas.{Owned, each_owned, owned_apart, owned_within}
 
 -- ---- parts
@@ -43,8 +43,8 @@ not_raw_holds l p h raw = elim (or_cases (has_role role.Raw p) (has_data l p.sec
 pub not_raw_takes : (l : Layout) (p : Part) → takes_room l p ≡ true → has_role role.Raw p ≡ false → is_header_only_at l p.section ≡ false → Takes l p
 not_raw_takes l p h raw written = and_from (has_data l p.section) (not (is_header_only_at l p.section)) (not_raw_holds l p h raw) (rw written refl)
 
-pub PartLies-from_laid : (l : Layout) → Laid l → (i : ℕ) (p : Part) → i < length l.parts → PartLies l i (get_or l.parts i p)
-PartLies-from_laid l h i p m = record {
+pub PartLies-from_clauses : (l : Layout) → AllClausesHold l → (i : ℕ) (p : Part) → i < length l.parts → PartLies l i (get_or l.parts i p)
+PartLies-from_clauses l h i p m = record {
   low = leb-true _ _ (and_parts _ (ends_low (get_or l.parts i p).offset (get_or l.parts i p).size) (h.sizes.parts i p m)).1;
   address = leb-true _ _ (and_parts _ (ends_low (get_or l.parts i p).address (get_or l.parts i p).size) (and_parts _ (ends_low (get_or l.parts i p).offset (get_or l.parts i p).size) (h.sizes.parts i p m)).0).1;
   shares = size_from_shares l.groups 0 l.parts h.shares.sums i i p (omega arith) m;
@@ -62,13 +62,13 @@ pub record Given (l : Layout) (i : ℕ) (p : Part) (j : ℕ) (n : ℕ) : Type 0 
   pub some : 1 ≤ n
   pub ends : shares_before l i j + n ≤ p.size
 
-pub given_from_content : (l : Layout) → Laid l → (i : ℕ) (p : Part) → i < length l.parts → (j : ℕ) (g : Group) → j < length l.groups → is_header_only_at l (get_or l.parts i p).section ≡ false → 1 ≤ length (content l (get_or l.parts i p).role (get_or l.groups j g)) → Given l i (get_or l.parts i p) j (length (content l (get_or l.parts i p).role (get_or l.groups j g)))
+pub given_from_content : (l : Layout) → AllClausesHold l → (i : ℕ) (p : Part) → i < length l.parts → (j : ℕ) (g : Group) → j < length l.groups → is_header_only_at l (get_or l.parts i p).section ≡ false → 1 ≤ length (content l (get_or l.parts i p).role (get_or l.groups j g)) → Given l i (get_or l.parts i p) j (length (content l (get_or l.parts i p).role (get_or l.groups j g)))
 given_from_content l h i p m j g n written some =
     let q = get_or l.parts i p in
     elim (cases_Bool (has_role role.Raw q)) [
       | inl t ↦ absurd (let z = content_of_raw l q.role (get_or l.groups j g) (eqb-true _ _ t) in omega arith)
       | inr raw ↦
-          (let lies = PartLies-from_laid l h i p m in
+          (let lies = PartLies-from_clauses l h i p m in
           let share = lies.tables raw j g n in
           let sum = lies.shares in
           let within = total-prefix (given i) l.groups j g n in
@@ -150,7 +150,7 @@ each_given l P n j g at h =
     one : (m i : ℕ) (p : Part) → m ≡ i → i < length l.parts → All P (table_piece l j (get_or l.groups j g) m (get_or l.parts i p))
     one m i p e low = rw e (of_given l P i j p g (h i p low))
 
-two_given : (l : Layout) → Laid l → AllPairs (Follows l) l.parts → (i k : ℕ) (p q : Part) (a b : ℕ) (g f : Group) → i < length l.parts → k < length l.parts → a < length l.groups → b < length l.groups → IsWrittenAt l i p → IsWrittenAt l k q → 1 ≤ length (content_at l i p a g) → 1 ≤ length (content_at l k q b f) → (i ≡ k → a < b) → Disjoint (piece_at l i p a g) (piece_at l k q b f)
+two_given : (l : Layout) → AllClausesHold l → AllPairs (Follows l) l.parts → (i k : ℕ) (p q : Part) (a b : ℕ) (g f : Group) → i < length l.parts → k < length l.parts → a < length l.groups → b < length l.groups → IsWrittenAt l i p → IsWrittenAt l k q → 1 ≤ length (content_at l i p a g) → 1 ≤ length (content_at l k q b f) → (i ≡ k → a < b) → Disjoint (piece_at l i p a g) (piece_at l k q b f)
 two_given l h follow i k p q a b g f li lk la lb here there x y order =
     tables_apart l follow i k (get_or l.parts i p) (get_or l.parts k q) a b (content_at l i p a g) (content_at l k q b f)
     (slice_get-get_or l.parts i p li) (slice_get-get_or l.parts k q lk)
@@ -158,7 +158,7 @@ two_given l h follow i k p q a b g f li lk la lb here there x y order =
     (omega arith) g order
 
 -- the pieces of one group
-group_apart : (l : Layout) → Laid l → AllPairs (Follows l) l.parts → (n j : ℕ) (g : Group) → n ≡ j → j < length l.groups → AllPairs Disjoint (table_pieces l n (get_or l.groups j g))
+group_apart : (l : Layout) → AllClausesHold l → AllPairs (Follows l) l.parts → (n j : ℕ) (g : Group) → n ≡ j → j < length l.groups → AllPairs Disjoint (table_pieces l n (get_or l.groups j g))
 group_apart l h follow n j g at low =
     rw at (AllPairs-flat_map_from Disjoint (table_piece l j (get_or l.groups j g)) 0 l.parts
     (λ m i p e m'. (let at = (get_or l.parts i p).offset + shares_before l m j in let bs = content_at l i p j g in AllPairs-written Disjoint (is_header_only_at l (get_or l.parts i p).section) (some_piece at bs) (λ written. AllPairs-some Disjoint at bs)))
@@ -170,7 +170,7 @@ group_apart l h follow n j g at low =
         of_given l (Disjoint (piece_at l i p j g)) k j q g (λ there y.
         two_given l h follow i k p q j j g g (omega arith) lk low low here there x y (λ e. absurd (omega arith)))))
 
-given_apart : (l : Layout) → Laid l → AllPairs (Follows l) l.parts → AllPairs Disjoint (given_pieces l)
+given_apart : (l : Layout) → AllClausesHold l → AllPairs (Follows l) l.parts → AllPairs Disjoint (given_pieces l)
 given_apart l h follow =
     AllPairs-flat_map_from Disjoint (table_pieces l) 0 l.groups
     (λ n j g e low. group_apart l h follow n j g (omega arith) low)
@@ -187,7 +187,7 @@ front_apart : (l : Layout) → AllPairs (Follows l) l.parts → (i : ℕ) (p : P
 front_apart l f i p j xs x is g st = subst (Disjoint (piece_in l i p j xs)) (front_is l x st) (owner_apart l f i p j xs x.part st.part.address x.bytes st.part is g st.room)
 
 -- a group's bytes of a part, with all that files own
-given_and_owned : (l : Layout) → Laid l → Owned l → All (λ a. All (Disjoint a) (flat_map (owned_pieces l) l.groups)) (given_pieces l)
+given_and_owned : (l : Layout) → AllClausesHold l → Owned l → All (λ a. All (Disjoint a) (flat_map (owned_pieces l) l.groups)) (given_pieces l)
 given_and_owned l h own =
     All-flat_map_from (λ a. All (Disjoint a) (flat_map (owned_pieces l) l.groups)) (table_pieces l) 0 l.groups (λ n j g e low.
     each_given l (λ a. All (Disjoint a) (flat_map (owned_pieces l) l.groups)) n j g (omega arith) (λ i p li here x.
@@ -205,7 +205,7 @@ given_and_owned l h own =
     let there = own.thunks.stood written k t m in
     owner_apart l own.follow i (get_or l.parts i p) j (content_at l i p j g) l.primary_part y.address (thunk_bytes l y) there.part (slice_get-get_or l.parts i p li) given (thunk_room l y there)))))
 
-given_within : (l : Layout) → Laid l → All (InImage l) (given_pieces l)
+given_within : (l : Layout) → AllClausesHold l → All (InImage l) (given_pieces l)
 given_within l h =
     All-flat_map_from (InImage l) (table_pieces l) 0 l.groups (λ n j g e low.
     each_given l (InImage l) n j g (omega arith) (λ i p li here x.
@@ -215,8 +215,8 @@ given_within l h =
     omega arith))
 
 -- what is known of all that files own
-owned_from_laid : (l : Layout) → Laid l → SectionsStand l → ThunksStand l → Owned l
-owned_from_laid l laid stood thunks = record {
+owned_from_clauses : (l : Layout) → AllClausesHold l → SectionsStand l → ThunksStand l → Owned l
+owned_from_clauses l laid stood thunks = record {
   laid = laid;
   follow = (PartsFollow-from_order l 0 0 l.parts laid.order).pairs;
   places = rooms_stand l (λ i g m j f n k s o. place_of_known l (get_or (get_or l.groups i g).files j f) (get_or (get_or (get_or l.groups i g).files j f).sections k s) (each_known l laid i g m j f n k s o) (each_tabled l laid i g m j f n k s o)) (λ i x m. place_of_sorted l (get_or (sorted_inputs l) i x) (sorted_known l laid i x m) (sorted_loaded l i x m));
@@ -224,13 +224,13 @@ owned_from_laid l laid stood thunks = record {
   some = laid.counts.some_group;
   stood = stood;
   thunks = thunks;
-  fronts = FrontsStand-from_laid l laid;
+  fronts = FrontsStand-from_clauses l laid;
 }
 
-pub AreDisjoint-from_laid : (l : Layout) → Laid l → Runs l → SectionsStand l → ThunksStand l → AreDisjoint (image_size l) (pieces l)
+pub AreDisjoint-from_clauses : (l : Layout) → AllClausesHold l → Runs l → SectionsStand l → ThunksStand l → AreDisjoint (image_size l) (pieces l)
 unfolding pieces
-AreDisjoint-from_laid l laid runs stood thunks =
-    let own = owned_from_laid l laid stood thunks in
+AreDisjoint-from_clauses l laid runs stood thunks =
+    let own = owned_from_clauses l laid stood thunks in
     let h : Standing l = record { follow = own.follow; ends = EndsBy-image l; runs = runs; stood = stood } in
     record {
       within = All-both (InImage l) (table_pieces l) (owned_pieces l) 0 l.groups (given_within l laid) (owned_within l own (section_rooms_within l h));

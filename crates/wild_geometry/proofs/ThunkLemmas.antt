@@ -28,13 +28,13 @@ use Rattle.wild_layout.specs.Image.{thunk_offset, thunk_piece, unless_hollow}
 use Rattle.wild_layout.specs.SectionPlaces.{HasRoom}
 use Rattle.wild_layout.specs.ThunkPlaces.{ThunkLies, IsOwned}
 use Rattle.wild_layout.proofs.ThunkLemmas.{length-thunk_bytes}
-use Rattle.wild_geometry.proofs.PlacedSectionLemmas.{Laid}
+use Rattle.wild_geometry.proofs.PlacedSectionLemmas.{AllClausesHold}
 use Rattle.wild_geometry.proofs.OrderLemmas.{Follows, EndsBy-image}
 use Rattle.wild_geometry.proofs.ShareLemmas.{size_from_shares}
 use Rattle.wild_geometry.proofs.RunLemmas.{get_or-map_address, length-map_address}
 use Rattle.wild_geometry.proofs.StandingLemmas.{all_sections}
 use Rattle.wild_geometry.proofs.SectionLemmas.{Stood, raw_role}
-use Rattle.wild_geometry.proofs.ThunkRuns.{thunks_in, all_thunks, LiesFrom, Ahead, SectionThunkApart, unused, Spread-from_groups, Thunks-behind}
+use Rattle.wild_geometry.proofs.ThunkRuns.{thunks_in, all_thunks, LiesFrom, Ahead, SectionThunkApart, unused, Spread-from_groups, Thunks-after}
 use Rattle.wild_geometry.proofs.PieceLemmas.{All-written, AllPairs-written, offset_is, owners_apart, owner_ends}
 use Rattle.wild_geometry.proofs.CarriedLemmas.{Filled-from_tests, byte_of_part}
 
@@ -85,7 +85,7 @@ none_stand l none =
           subst (All P) (sym later) (All-nil P));
     }
 
-some_stand : (l : Layout) → Laid l → (p : Part) → slice_get l.parts l.primary_part ≡ Some p → holds_thunks l (Some p) ≡ true → misplaced_in l (Some p) ≡ None → ThunksStand l
+some_stand : (l : Layout) → AllClausesHold l → (p : Part) → slice_get l.parts l.primary_part ≡ Some p → holds_thunks l (Some p) ≡ true → misplaced_in l (Some p) ≡ None → ThunksStand l
 some_stand l h p is fits placed =
     let k = l.primary_part in
     let a = and_parts (is_raw (Some p)) (has_data l p.section && is_allocated_section l p.section) fits in
@@ -107,11 +107,11 @@ some_stand l h p is fits placed =
       beside = r.beside;
       behind = λ g gs q split there. (let same_part = same_Some p q (sym is ∙ there) in
           subst (λ (x : Part). All (λ (t : Thunk). x.address + given k g ≤ t.address) (flat_map (thunks_in l) gs)) same_part
-          (Thunks-behind l (p.address + p.size) p.address (map (λ (x : Part). x.address) l.parts) 0 0 g gs (subst (λ (hs : List Group). section_misplaced l (map (λ (x : Part). x.address) l.parts) 0 hs ≡ None) split h.inputs.order) (subst (λ (hs : List Group). misplaced_from l (p.address + p.size) p.address 0 hs ≡ None) split placed) low start));
+          (Thunks-after l (p.address + p.size) p.address (map (λ (x : Part). x.address) l.parts) 0 0 g gs (subst (λ (hs : List Group). section_misplaced l (map (λ (x : Part). x.address) l.parts) 0 hs ≡ None) split h.inputs.order) (subst (λ (hs : List Group). misplaced_from l (p.address + p.size) p.address 0 hs ≡ None) split placed) low start));
     }
 
-pub ThunksStand-from_laid : (l : Layout) → Laid l → ThunksStand l
-ThunksStand-from_laid l h =
+pub ThunksStand-from_clauses : (l : Layout) → AllClausesHold l → ThunksStand l
+ThunksStand-from_clauses l h =
     elim (cases_Bool (has_thunks l)) [
       | inl some ↦ by_part some (slice_get l.parts l.primary_part) refl (implied (has_thunks l) (holds_thunks l (slice_get l.parts l.primary_part)) h.inputs.primary some) (rw some at h.thunks.placed)
       | inr none ↦ none_stand l none
@@ -157,7 +157,7 @@ thunk_in_image l t st = owner_ends l (EndsBy-image l) l.primary_part t.address t
 
 -- ---- thunks of a layout that is laid out
 
-thunk_lies : (l : Layout) → Laid l → is_partial_link l.kind ≡ false → (t : Thunk) → ThunkStood l t → ThunkLies l t
+thunk_lies : (l : Layout) → AllClausesHold l → is_partial_link l.kind ≡ false → (t : Thunk) → ThunkStood l t → ThunkLies l t
 thunk_lies l h kind t st =
     let p = st.part in
     let from = st.room.from in
@@ -183,10 +183,10 @@ none_used : (bs : List (List Thunk)) → All (λ (b : List Thunk). (length b == 
 none_used [] h = refl
 none_used (b ∷ bs) h = (let here = All-head (λ (x : List Thunk). (length x == 0) ≡ true) b bs h in let rest = none_used bs (All-tail (λ (x : List Thunk). (length x == 0) ≡ true) b bs h) in rw (here, rest) refl)
 
-none_in_partial : (l : Layout) → Laid l → is_partial_link l.kind ≡ true → has_thunks l ≡ false
+none_in_partial : (l : Layout) → AllClausesHold l → is_partial_link l.kind ≡ true → has_thunks l ≡ false
 none_in_partial l h partial = none_used l.thunk_blocks (λ i b m. implied (is_partial_link l.kind) (length (get_or l.thunk_blocks i b) == 0) (h.partial.thunks i b m) partial)
 
-pub thunks_lie : (l : Layout) → Laid l → ThunksStand l → is_header_only_part l l.primary_part ≡ false → All (λ (g : Group). All (λ (f : File). All (ThunkLies l) (thunks_of l f)) g.files) l.groups
+pub thunks_lie : (l : Layout) → AllClausesHold l → ThunksStand l → is_header_only_part l l.primary_part ≡ false → All (λ (g : Group). All (λ (f : File). All (ThunkLies l) (thunks_of l f)) g.files) l.groups
 thunks_lie l h st written =
     elim (cases_Bool (is_partial_link l.kind)) [
       | inl partial ↦ (λ i g m j f n. subst (λ (ts : List Thunk). All (ThunkLies l) ts) (sym (no_thunks l (none_in_partial l h partial) (get_or (get_or l.groups i g).files j f))) (All-nil (ThunkLies l)))
@@ -236,7 +236,7 @@ found l i (x ∷ xs) h (suc k) b is used =
     behind true rest i h = cc
     behind false rest i h = h
 
-pub blocks_owned : (l : Layout) → Laid l → (b : List Thunk) (t : Thunk) → Contains l.thunk_blocks b → Contains b t → IsOwned l b
+pub blocks_owned : (l : Layout) → AllClausesHold l → (b : List Thunk) (t : Thunk) → Contains l.thunk_blocks b → Contains b t → IsOwned l b
 blocks_owned l h b t c d =
     let is : slice_get l.thunk_blocks c.0 ≡ Some b = slice_get-get_or l.thunk_blocks c.0 b c.1 ∙ ap Some c.2 in
     let here : 0 + c.0 ≡ c.0 = omega arith in

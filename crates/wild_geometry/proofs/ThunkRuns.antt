@@ -274,9 +274,9 @@ Spread-from_groups l last start starts i j (g ∷ gs) h w m is end e =
     Spread-append l k start next end (sections_in l g) (flat_map (sections_in l) gs) (thunks_in l g) (flat_map (thunks_in l) gs) (Spread-longer l k start here.0.0 next (sections_in l g) (thunks_in l g) first.0 first.1) rest
 
 -- those of the groups behind the first stand behind what that is given
-pub Thunks-behind : (l : Layout) (last start : ℕ) (starts : List ℕ) (i j : ℕ) (g : Group) (gs : List Group) → section_misplaced l starts i (g ∷ gs) ≡ None → misplaced_from l last start j (g ∷ gs) ≡ None → l.primary_part < length starts → start ≡ get_or starts l.primary_part 0
+pub Thunks-after : (l : Layout) (last start : ℕ) (starts : List ℕ) (i j : ℕ) (g : Group) (gs : List Group) → section_misplaced l starts i (g ∷ gs) ≡ None → misplaced_from l last start j (g ∷ gs) ≡ None → l.primary_part < length starts → start ≡ get_or starts l.primary_part 0
     → All (λ (t : Thunk). start + given l.primary_part g ≤ t.address) (flat_map (thunks_in l) gs)
-Thunks-behind l last start starts i j g gs h w m is =
+Thunks-after l last start starts i j g gs h w m is =
     let k = l.primary_part in
     let next = start + given k g in
     let placed = none_if (parts_placed l g 0 starts) (section_misplaced l (ends_of g 0 starts) (i + 1) gs) i h in

@@ -19,7 +19,7 @@ use Rattle.wild_layout.specs.Content.{unique_table, content}
 use Rattle.wild_layout.specs.Image.{shares_before, table_piece, table_pieces, owned_pieces, group_pieces, pieces}
 use Rattle.wild_layout.specs.TablePlaces.{IsPiece, HasTables}
 use Rattle.wild_geometry.proofs.InterleaveLemmas.{Contains-flat_map_from}
-use Rattle.wild_geometry.proofs.PlacedSectionLemmas.{Laid}
+use Rattle.wild_geometry.proofs.PlacedSectionLemmas.{AllClausesHold}
 use Rattle.wild_geometry.proofs.OrderLemmas.{EndsBy-image}
 use Rattle.wild_geometry.proofs.TableLemmas.{role_place-1, role_place-2, role_place-3, IsLocatedAt, IsLocatedAt-from_test, IsLocatedAt-from_missing}
 use Rattle.wild_geometry.proofs.FirstFileLemmas.{StandsOnce, content_of_first}
@@ -32,7 +32,7 @@ not_both true false h e = refl
 not_both false b h e = cc
 
 -- what stands once in the image stands where its part does
-IsPiece-from_part : (l : Layout) → Laid l → (r : Role) (at : ℕ) (s : IsLocatedAt r at l.parts) → s.item.role ≡ r → has_role role.Raw s.item ≡ false → is_header_role r ≡ true → (length (unique_table l r) ≡ 0 → at ≤ image_size l) → StandsOnce l r → Group → IsPiece l at (unique_table l r)
+IsPiece-from_part : (l : Layout) → AllClausesHold l → (r : Role) (at : ℕ) (s : IsLocatedAt r at l.parts) → s.item.role ≡ r → has_role role.Raw s.item ≡ false → is_header_role r ≡ true → (length (unique_table l r) ≡ 0 → at ≤ image_size l) → StandsOnce l r → Group → IsPiece l at (unique_table l r)
 unfolding pieces
 IsPiece-from_part l h r at s is raw header empty once g = by s.listed.0 s.listed.1 s.listed.2
   where
@@ -68,20 +68,20 @@ IsPiece-from_part l h r at s is raw header empty once g = by s.listed.0 s.listed
             subst (λ (bs : List ℕ). P at bs) first (subst (λ (n : ℕ). P n (content_at l i s.item 0 g)) place all)
 
 -- the program headers of an output that is loaded
-headers_are_present : (l : Layout) → Laid l → is_partial_link l.kind ≡ false → file_header_size ≤ image_size l → Group → IsPiece l file_header_size (program_header_bytes l)
+headers_are_present : (l : Layout) → AllClausesHold l → is_partial_link l.kind ≡ false → file_header_size ≤ image_size l → Group → IsPiece l file_header_size (program_header_bytes l)
 headers_are_present l h kind low g =
     let p = IsLocatedAt-from_test role.ProgramHeaders file_header_size 0 l.parts (h.roles.program_headers kind) in
     IsPiece-from_part l h role.ProgramHeaders file_header_size p (role_place-2 p.item.role p.has) (rw p.has refl) refl (λ e. low) (record { own = λ x. refl; slots = λ x. refl; header = refl; block = λ x. refl; stays = λ at f. refl }) g
 
 -- a relocatable object has none
-no_headers : (l : Layout) → Laid l → is_partial_link l.kind ≡ true → file_header_size ≤ image_size l → IsPiece l file_header_size (program_header_bytes l)
+no_headers : (l : Layout) → AllClausesHold l → is_partial_link l.kind ≡ true → file_header_size ≤ image_size l → IsPiece l file_header_size (program_header_bytes l)
 no_headers l h kind low =
     let none = eqb-true (length l.segments) 0 (implied (is_partial_link l.kind) (length l.segments == 0) h.partial.segments kind) in
     let long = length-unique_table l role.ProgramHeaders in
     record { within = omega arith; listed = λ some. absurd (omega arith) }
 
-pub HasTables-from_laid : (l : Layout) → Laid l → HasTables l
-HasTables-from_laid l h = by (ItemAt-within l.groups 0 h.counts.some_group).item
+pub HasTables-from_clauses : (l : Layout) → AllClausesHold l → HasTables l
+HasTables-from_clauses l h = by (ItemAt-within l.groups 0 h.counts.some_group).item
   where
     by : Group → HasTables l
     by g =

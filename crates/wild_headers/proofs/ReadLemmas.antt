@@ -17,8 +17,8 @@ use Rattle.wild_table_formats.specs.HeaderLaws.{ProgramHeadersAreRead, SectionHe
 use Rattle.wild_table_formats.proofs.HeaderLemmas.{length-program_header, length-section_header, named}
 use Rattle.wild_table_formats.proofs.HeaderLengths.{length-section_headers_of}
 
-HasBytesAt-behind : (xs ys part : List ℕ) (n at whole : ℕ) → length xs ≡ n → whole ≡ n + at → HasBytesAt ys at part → HasBytesAt (xs ++ ys) whole part
-HasBytesAt-behind xs ys part n at whole len is s = record {
+HasBytesAt-after : (xs ys part : List ℕ) (n at whole : ℕ) → length xs ≡ n → whole ≡ n + at → HasBytesAt ys at part → HasBytesAt (xs ++ ys) whole part
+HasBytesAt-after xs ys part n at whole len is s = record {
   fits = let e = length-append xs ys in let f = s.fits in omega (arith, e, f, len, is);
   same = λ k l.
       let a : whole + k - n ≡ at + k = omega (arith, is) in
@@ -31,7 +31,7 @@ HasBytesAt-table f n w [] k d l = absurd (omega (arith, l))
 HasBytesAt-table f n w (x ∷ xs) zero d l = let e : n * 0 ≡ 0 = omega arith in rw e (HasBytesAt-left (f x) (flat_map f xs))
 HasBytesAt-table f n w (x ∷ xs) (suc k) d l =
     let e : n * suc k ≡ n + n * k = omega arith in
-    HasBytesAt-behind (f x) (flat_map f xs) (f (get_or xs k d)) n (n * k) (n * (suc k)) (w x) e (HasBytesAt-table f n w xs k d (omega (arith, l)))
+    HasBytesAt-after (f x) (flat_map f xs) (f (get_or xs k d)) n (n * k) (n * (suc k)) (w x) e (HasBytesAt-table f n w xs k d (omega (arith, l)))
 
 pub programs_stand : ProgramHeadersAreRead
 programs_stand l k d h = HasBytesAt-table (λ g. spell (program_header_fields (program_header l g))) program_header_size (λ g. length-program_header (program_header l g)) l.segments k d h
@@ -52,7 +52,7 @@ HasBytesAt-name : (ss : List Section) (k : ℕ) (d : Section) → k < length ss 
 HasBytesAt-name [] k d l = absurd (omega (arith, l))
 HasBytesAt-name (s ∷ ss) zero d l = HasBytesAt-left (s.name ++ 0 ∷ []) (flat_map (λ (t : Section). t.name ++ 0 ∷ []) ss)
 HasBytesAt-name (s ∷ ss) (suc k) d l =
-    HasBytesAt-behind (s.name ++ 0 ∷ []) (flat_map (λ (t : Section). t.name ++ 0 ∷ []) ss) ((get_or ss k d).name ++ 0 ∷ []) (length s.name + 1) (total named (take k ss)) (total named (take (suc k) (s ∷ ss)))
+    HasBytesAt-after (s.name ++ 0 ∷ []) (flat_map (λ (t : Section). t.name ++ 0 ∷ []) ss) ((get_or ss k d).name ++ 0 ∷ []) (length s.name + 1) (total named (take k ss)) (total named (take (suc k) (s ∷ ss)))
     (length-append s.name (0 ∷ [])) (omega arith) (HasBytesAt-name ss k d (omega (arith, l)))
 
 pub names_stand : SectionNamesAreRead

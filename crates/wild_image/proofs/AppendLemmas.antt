@@ -26,11 +26,11 @@ use Rattle.wild_image.specs.Append.{BeginsWith, HasRest, RangedLies, SortedLies}
 use Rattle.wild_image.proofs.StandingLemmas.{piece_at, StandsFor, ranged_stands, ranged_none, sorted_stands, one_input, one_owned, one_piece, one_in, one_lies}
 
 -- what is left behind the first i items, whatever stands behind them all
-abbrev pub StandsBehind : {X : Type 0} → (X → List ℕ) → List X → List ℕ → List ℕ → ℕ → Type 0
-StandsBehind f xs base now i = (rest : List ℕ) → base ≡ flat_map f xs ++ rest → now ≡ flat_map f (drop i xs) ++ rest
+abbrev pub IsPlacedAfter : {X : Type 0} → (X → List ℕ) → List X → List ℕ → List ℕ → ℕ → Type 0
+IsPlacedAfter f xs base now i = (rest : List ℕ) → base ≡ flat_map f xs ++ rest → now ≡ flat_map f (drop i xs) ++ rest
 
 -- what is left begins with the next item's
-pub next_begins : {X : Type 0} (f : X → List ℕ) (xs : List X) (i : ℕ) (x : X) (base now : List ℕ) → i < length xs → x ≡ get_or xs i x → BeginsWith (flat_map f xs) base → StandsBehind f xs base now i → BeginsWith (f x) now
+pub next_begins : {X : Type 0} (f : X → List ℕ) (xs : List X) (i : ℕ) (x : X) (base now : List ℕ) → i < length xs → x ≡ get_or xs i x → BeginsWith (flat_map f xs) base → IsPlacedAfter f xs base now i → BeginsWith (f x) now
 next_begins {X} f xs i x base now h read begins stands =
     let e = stands begins.0 begins.1 in
     let split = ap (λ (ys : List X). flat_map f ys ++ begins.0) (drop_more xs i x h) in
@@ -38,28 +38,28 @@ next_begins {X} f xs i x base now h read begins stands =
     (flat_map f (drop (i + 1) xs) ++ begins.0, subst P (sym read) (e ∙ split ∙ append_assoc (f (get_or xs i x)) (flat_map f (drop (i + 1) xs)) begins.0))
 
 -- one more item
-pub stands_more : {X : Type 0} (f : X → List ℕ) (xs : List X) (i : ℕ) (x : X) (base now next : List ℕ) → i < length xs → x ≡ get_or xs i x → StandsBehind f xs base now i → HasRest (f x) now next → StandsBehind f xs base next (i + 1)
+pub stands_more : {X : Type 0} (f : X → List ℕ) (xs : List X) (i : ℕ) (x : X) (base now next : List ℕ) → i < length xs → x ≡ get_or xs i x → IsPlacedAfter f xs base now i → HasRest (f x) now next → IsPlacedAfter f xs base next (i + 1)
 stands_more {X} f xs i x base now next h read stands goes = λ rest e.
     let split = ap (λ (ys : List X). flat_map f ys ++ rest) (drop_more xs i x h) in
     let P : X → Type 0 = λ y. now ≡ f y ++ (flat_map f (drop (i + 1) xs) ++ rest) in
     goes (flat_map f (drop (i + 1) xs) ++ rest) (subst P (sym read) (stands rest e ∙ split ∙ append_assoc (f (get_or xs i x)) (flat_map f (drop (i + 1) xs)) rest))
 
 -- the same, for an item that a loop read by its place
-pub next_begins_at : {X : Type 0} (f : X → List ℕ) (xs items : List X) (i : ℕ) (d : X) (base now : List ℕ) → items ≡ xs → i < length items → d ≡ get_or items i d → BeginsWith (flat_map f xs) base → StandsBehind f xs base now i → BeginsWith (f d) now
+pub next_begins_at : {X : Type 0} (f : X → List ℕ) (xs items : List X) (i : ℕ) (d : X) (base now : List ℕ) → items ≡ xs → i < length items → d ≡ get_or items i d → BeginsWith (flat_map f xs) base → IsPlacedAfter f xs base now i → BeginsWith (f d) now
 next_begins_at {X} f xs items i d base now same h read begins stands =
     let P : List X → Type 0 = λ ys. i < length ys → BeginsWith (f (get_or ys i d)) now in
     subst (λ (x : X). BeginsWith (f x) now) (sym read) (subst P (sym same) (λ low. next_begins f xs i (get_or xs i d) base now low (get_or_default xs i d (get_or xs i d) low) begins stands) h)
 
-pub stands_more_at : {X : Type 0} (f : X → List ℕ) (xs items : List X) (i : ℕ) (d : X) (base now next : List ℕ) → items ≡ xs → i < length items → d ≡ get_or items i d → StandsBehind f xs base now i → HasRest (f d) now next → StandsBehind f xs base next (i + 1)
+pub stands_more_at : {X : Type 0} (f : X → List ℕ) (xs items : List X) (i : ℕ) (d : X) (base now next : List ℕ) → items ≡ xs → i < length items → d ≡ get_or items i d → IsPlacedAfter f xs base now i → HasRest (f d) now next → IsPlacedAfter f xs base next (i + 1)
 stands_more_at {X} f xs items i d base now next same h read stands goes =
-    let P : List X → Type 0 = λ ys. i < length ys → HasRest (f (get_or ys i d)) now next → StandsBehind f xs base next (i + 1) in
+    let P : List X → Type 0 = λ ys. i < length ys → HasRest (f (get_or ys i d)) now next → IsPlacedAfter f xs base next (i + 1) in
     subst P (sym same) (λ low on. stands_more f xs i (get_or xs i d) base now next low (get_or_default xs i d (get_or xs i d) low) stands on) h (subst (λ (x : X). HasRest (f x) now next) read goes)
 
 pub read_at : {X : Type 0} (xs items : List X) (i : ℕ) (d : X) → items ≡ xs → i < length items → d ≡ get_or items i d → slice_get xs i ≡ Some d
 read_at {X} xs items i d same h read = let P : List X → Type 0 = λ ys. slice_get ys i ≡ Some d in subst P same (slice_get-get_or items i d h ∙ ap (λ (x : X). Some x) (sym read))
 
 -- all items
-pub stands_all : {X : Type 0} (f : X → List ℕ) (xs : List X) (i : ℕ) (base now : List ℕ) → length xs ≤ i → StandsBehind f xs base now i → HasRest (flat_map f xs) base now
+pub stands_all : {X : Type 0} (f : X → List ℕ) (xs : List X) (i : ℕ) (base now : List ℕ) → length xs ≤ i → IsPlacedAfter f xs base now i → HasRest (flat_map f xs) base now
 stands_all {X} f xs i base now h stands = λ rest e. stands rest e ∙ ap (λ (ys : List X). flat_map f ys ++ rest) (drop_all i xs h)
 
 -- what stands at the front, cut off
@@ -231,14 +231,14 @@ lies_at {X} P xs items i d same h all =
     let Q : List X → Type 0 = λ ys. i < length ys → P (get_or ys i d) in
     subst Q (sym same) (λ low. all i d low) h
 
-pub begins_at : {X : Type 0} (f : X → List ℕ) (xs items : List X) (i : ℕ) (d : X) (base now : List ℕ) → items ≡ xs → i < length items → BeginsWith (flat_map f xs) base → StandsBehind f xs base now i → BeginsWith (f (get_or items i d)) now
+pub begins_at : {X : Type 0} (f : X → List ℕ) (xs items : List X) (i : ℕ) (d : X) (base now : List ℕ) → items ≡ xs → i < length items → BeginsWith (flat_map f xs) base → IsPlacedAfter f xs base now i → BeginsWith (f (get_or items i d)) now
 begins_at {X} f xs items i d base now same h begins stands =
     let Q : List X → Type 0 = λ ys. i < length ys → BeginsWith (f (get_or ys i d)) now in
     subst Q (sym same) (λ low. next_begins f xs i (get_or xs i d) base now low (get_or_default xs i d (get_or xs i d) low) begins stands) h
 
-pub stands_at : {X : Type 0} (f : X → List ℕ) (xs items : List X) (i : ℕ) (d : X) (base now next : List ℕ) → items ≡ xs → i < length items → StandsBehind f xs base now i → HasRest (f (get_or items i d)) now next → StandsBehind f xs base next (i + 1)
+pub stands_at : {X : Type 0} (f : X → List ℕ) (xs items : List X) (i : ℕ) (d : X) (base now next : List ℕ) → items ≡ xs → i < length items → IsPlacedAfter f xs base now i → HasRest (f (get_or items i d)) now next → IsPlacedAfter f xs base next (i + 1)
 stands_at {X} f xs items i d base now next same h stands goes =
-    let Q : List X → Type 0 = λ ys. i < length ys → HasRest (f (get_or ys i d)) now next → StandsBehind f xs base next (i + 1) in
+    let Q : List X → Type 0 = λ ys. i < length ys → HasRest (f (get_or ys i d)) now next → IsPlacedAfter f xs base next (i + 1) in
     subst Q (sym same) (λ low on. stands_more f xs i (get_or xs i d) base now next low (get_or_default xs i d (get_or xs i d) low) stands on) h goes
 
 pub overlay_at : {X : Type 0} (f : X → List Piece) (xs items : List X) (i : ℕ) (d : X) (base now next : List ℕ) → items ≡ xs → i < length items → now ≡ overlay (flat_map f (take i xs)) base → next ≡ overlay (f (get_or items i d)) now → next ≡ overlay (flat_map f (take (i + 1) xs)) base

@@ -28,7 +28,7 @@ use Rattle.wild_types.specs.Faults.{Refuses}
 use Rattle.wild_plan_rules.proofs.ClauseLemmas.{test_holds, first_holds, rest_holds}
 use Rattle.wild_table_formats.proofs.HeaderLengths.{role_below}
 use Rattle.wild_layout.proofs.LayoutLemmas.{definitions_fit}
-use Rattle.wild_sections.proofs.FaultLemmas.{Refuses-front, Refuses-behind}
+use Rattle.wild_sections.proofs.FaultLemmas.{Refuses-front, Refuses-after}
 use Rattle.wild_contents.proofs.HashLemmas.{sysv_stands, gnu_stands}
 
 -- the section of a role has an index below 2^31
@@ -105,4 +105,4 @@ unfolding errors
 share_refused l e none h =
     let clauses = clause_errors (first_clause l) in
     let shares = flat_map_from (part_errors l) 0 l.parts in
-    Refuses-front e (clauses ++ shares) (flat_map_from (group_errors l) 0 l.groups) (Refuses-behind e clauses shares none h)
+    Refuses-front e (clauses ++ shares) (flat_map_from (group_errors l) 0 l.groups) (Refuses-after e clauses shares none h)

@@ -36,7 +36,7 @@ use Rattle.wild_layout.specs.Faults.{item_errors, debug_errors, frame_refusal, b
 use Rattle.wild_layout.specs.SearchTable.{search_table, search_table_faults}
 use Rattle.wild_layout.specs.SectionPlaces.{SectionLies}
 use Rattle.wild_layout.specs.Thunks.{file_thunks}
-use Rattle.wild_layout.proofs.MovedSites.{laid_moves, turned_or_stays, debug_count}
+use Rattle.wild_layout.proofs.MovedSites.{placed_section_moves, turned_or_stays, debug_count}
 use Rattle.wild_sections.proofs.FaultLemmas.{Refuses-front}
 use Rattle.wild_words.proofs.ListLemmas.{nil_parts}
 use Rattle.wild_contents.specs.declared.search_table.SearchTable.{SearchTable}
@@ -88,9 +88,9 @@ slot_is l f at s slot.Rela e = refl
 slot_is l f at s other e = e
 
 -- a section stands in its own slot
-pub laid_slot : (l : Layout) (f : File) (at : ℕ) (s : InputSection) → (placed_section l f at s).slot ≡ s.slot
+pub placed_section_slot : (l : Layout) (f : File) (at : ℕ) (s : InputSection) → (placed_section l f at s).slot ≡ s.slot
 unfolding placed_section
-laid_slot l f at s = slot_is l f at s s.slot refl
+placed_section_slot l f at s = slot_is l f at s s.slot refl
 
 whole_unless : (s : InputSection) (k : Slot) → s.slot ≡ k → is_frame k ≡ false → IsWhole s
 whole_unless s k e none = λ h. cc (rw (e, none) at h)
@@ -106,9 +106,9 @@ whole_by l f at s slot.Merge e = whole_unless s slot.Merge e refl
 whole_by l f at s slot.Group e = whole_unless s slot.Group e refl
 
 -- frames that stand have data
-pub laid_whole : (l : Layout) (f : File) (at : ℕ) (s : InputSection) → IsWhole (placed_section l f at s)
+pub placed_section_whole : (l : Layout) (f : File) (at : ℕ) (s : InputSection) → IsWhole (placed_section l f at s)
 unfolding placed_section
-laid_whole l f at s = whole_by l f at s s.slot refl
+placed_section_whole l f at s = whole_by l f at s s.slot refl
 
 sorted_slot : (l : Layout) (s : InputSection) → (with_word_order (as_loaded (unread l s))).slot ≡ slot.Loaded
 sorted_slot l s = turned_slot (as_loaded (unread l s))
@@ -117,9 +117,9 @@ pub sorted_whole : (l : Layout) (s : InputSection) → IsWhole (with_word_order 
 sorted_whole l s = whole_unless (with_word_order (as_loaded (unread l s))) slot.Loaded (sorted_slot l s) refl
 
 -- a section is of its kind of output as it stands
-pub laid_kind : (l : Layout) (f : File) (at : ℕ) (s : InputSection) → IsOfKind l s → IsOfKind l (placed_section l f at s)
-laid_kind l f at s h =
-    let e = laid_slot l f at s in
+pub placed_section_kind : (l : Layout) (f : File) (at : ℕ) (s : InputSection) → IsOfKind l s → IsOfKind l (placed_section l f at s)
+placed_section_kind l f at s h =
+    let e = placed_section_slot l f at s in
     record { table = λ t. h.table (sym (ap is_rela e) ∙ t); debug = λ t. h.debug (sym (ap is_debug e) ∙ t) }
 
 pub sorted_kind : (l : Layout) (s : InputSection) → IsOfKind l (with_word_order (as_loaded (unread l s)))
@@ -128,9 +128,9 @@ sorted_kind l s =
     record { table = λ t. cc (rw e at t); debug = λ t. cc (rw e at t) }
 
 -- what debuggers read has as many relocations as the input has
-pub laid_origins : (l : Layout) (f : File) (at : ℕ) (s : InputSection) → IsOfKind l s → HasOrigins (placed_content l f at s)
-laid_origins l f at s h = λ t.
-    let d : is_debug s.slot ≡ true = sym (ap is_debug (laid_slot l f at s)) ∙ t in
+pub placed_content_origins : (l : Layout) (f : File) (at : ℕ) (s : InputSection) → IsOfKind l s → HasOrigins (placed_content l f at s)
+placed_content_origins l f at s h = λ t.
+    let d : is_debug s.slot ≡ true = sym (ap is_debug (placed_section_slot l f at s)) ∙ t in
     debug_count l f at s (h.debug d) (debug_slot s.slot d)
 
 pub sorted_origins : (l : Layout) (s : InputSection) → HasOrigins (sorted_content l s)
@@ -233,8 +233,8 @@ unfolding placed_section_faults
 faults_kept l group file section f x kept = ap (λ (b : Bool). if b then [] else kept_section_faults l group file section f x) kept
 
 -- their sites are apart as those of the input
-pub laid_apart : (l : Layout) (f : File) (at : ℕ) (s : InputSection) → CanBeReversed l s → is_read (placed_section l f at s) ≡ true → PlacedApart l f (placed_content l f at s)
-laid_apart l f at s t read = laid_moves l f (block_for l f (placed_section l f at s)) at s t read
+pub placed_content_apart : (l : Layout) (f : File) (at : ℕ) (s : InputSection) → CanBeReversed l s → is_read (placed_section l f at s) ≡ true → PlacedApart l f (placed_content l f at s)
+placed_content_apart l f at s t read = placed_section_moves l f (block_for l f (placed_section l f at s)) at s t read
 
 not_true : (b : Bool) → not b ≡ true → b ≡ false
 not_true true h = cc

@@ -45,9 +45,9 @@ unfolding with_word_order
 straight_turned s e = ap (λ (b : Bool). if b then reversed_section s else s) e
 
 -- it stands as it is
-pub so_laid : (l : Layout) (f : File) (at : ℕ) (s : InputSection) → IsWrittenUnchanged l s → placed_section l f at s ≡ s
+pub unchanged_section_placed : (l : Layout) (f : File) (at : ℕ) (s : InputSection) → IsWrittenUnchanged l s → placed_section l f at s ≡ s
 unfolding placed_section
-so_laid l f at s h =
+unchanged_section_placed l f at s h =
     ap (λ (k : Slot). placed_by k l f at s) h.loaded
     ∙ ap (λ (b : Bool). with_word_order (if b then without_relocations s else s)) h.final
     ∙ straight_turned s h.straight
@@ -83,7 +83,7 @@ so_faults : (l : Layout) (group file : ℕ) (f : File) (at section : ℕ) (s : I
 unfolding section_errors
 so_faults l group file f at section s h =
     sym (
-    ap (placed_section_errors l group file f section s) (so_laid l f at s h)
+    ap (placed_section_errors l group file f section s) (unchanged_section_placed l f at s h)
     ∙ ap (λ (b : Bool). if b then placed_section_errors_by (is_debug s.slot) l group file f section s s else []) (written l s h)
     ∙ plain s.slot refl h.loaded
     )
@@ -100,7 +100,7 @@ so_owned : (l : Layout) (f : File) (at : ℕ) (s : InputSection) → IsWrittenUn
 unfolding section_bytes
 so_owned l f at s h =
     sym (
-    ap (section_owned l f) (so_laid l f at s h)
+    ap (section_owned l f) (unchanged_section_placed l f at s h)
     ∙ ap (λ (b : Bool). if b then section_bytes l f s else []) h.filled
     ∙ ap (λ (b : Bool). if b then replicate s.size 0 else bytes_by s.slot l f s) h.bits
     ∙ ap (λ (k : Slot). bytes_by k l f s) h.loaded
@@ -111,7 +111,7 @@ so_frames : (l : Layout) (f : File) (at : ℕ) (s : InputSection) (old : List �
 unfolding frame_bytes_of
 so_frames l f at s old h =
     sym (
-    ap (λ (x : InputSection). old ++ (if is_frame x.slot then item_bytes l (item_of l f x) else [])) (so_laid l f at s h)
+    ap (λ (x : InputSection). old ++ (if is_frame x.slot then item_bytes l (item_of l f x) else [])) (unchanged_section_placed l f at s h)
     ∙ ap (λ (k : Slot). old ++ (if is_frame k then item_bytes l (item_of l f s) else [])) h.loaded
     ∙ append-nil old
     )

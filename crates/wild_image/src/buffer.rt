@@ -356,7 +356,7 @@ fn add_unchanged<A: Arch>(
 /// Places a section of the file and appends its bytes, or returns its first fault. The file's next frames begin at address `at`;
 /// returns the address after this section's frames.
 #[inline(never)]
-#[tactic(auto, using(crate::proofs::PlacedLemmas::section_placed, crate::proofs::PlacedLemmas::laid_whole, crate::proofs::PlacedLemmas::laid_apart, wild_contents::proofs::PlacedLemmas::room_of_laid))]
+#[tactic(auto, using(crate::proofs::PlacedLemmas::section_placed, crate::proofs::PlacedLemmas::placed_section_whole, crate::proofs::PlacedLemmas::placed_content_apart, wild_contents::proofs::PlacedLemmas::room_of_placed))]
 fn add_section<A: ShardedArch, R: Threads + Sync>(
     by: &Workers<R>,
     resolved: &Resolved<A>,

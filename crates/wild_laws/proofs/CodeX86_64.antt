@@ -24,7 +24,7 @@ use Rattle.wild_meaning.specs.Template.{IsInstruction, IsSequence, IsTemplate}
 use Rattle.wild_meaning.proofs.PairLemmas.{IsGetterCall, IsDouble, as_its_call, as_double}
 use Rattle.wild_meaning.proofs.BitLemmas.{code_bit, bit_code}
 use Rattle.wild_laws.specs.FirstTypes.{addresses_x86_64, first_types, branch_types, thread_types, HasFirstTypes, IsBranch, IsThreadCall}
-use Rattle.wild_laws.proofs.SequencesX86_64.{is_first, is_thread, thread, one_of, asking, calling, direct, by_instruction}
+use Rattle.wild_laws.proofs.SequencesX86_64.{is_first, is_thread, thread, one_of, first_number_is_thread, calling, direct, by_instruction}
 
 -- ---- bytes
 
@@ -45,7 +45,7 @@ five P h (b ∷ c ∷ d ∷ e ∷ f ∷ g ∷ bs) n = absurd (omega (arith, n))
 
 -- the first of a sequence asks for a thread address
 first_asks : (l : Layout) (s : Item) (a b : InputRelocation) (start : ℕ) (o : Instruction) → l.machine ≡ machine.X86_64 → IsGetterCall l s a b start o → is_thread a.number ≡ true
-first_asks l s a b start o x q = asking o q.partner a.number (subst (λ (m : Machine). Contains (instructions_of m) o) x q.stands.known) q.calls q.stands.number
+first_asks l s a b start o x q = first_number_is_thread o q.partner a.number (subst (λ (m : Machine). Contains (instructions_of m) o) x q.stands.known) q.calls q.stands.number
 
 -- the second of a sequence is the call of the function that gives thread addresses, behind one that asks for such an address
 second_calls : (l : Layout) (s : Item) (a b : InputRelocation) (start : ℕ) (o : Instruction) → l.machine ≡ machine.X86_64 → IsGetterCall l s a b start o → IsThreadCall l s b

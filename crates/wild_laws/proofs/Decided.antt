@@ -32,7 +32,7 @@ use Rattle.wild_layout.specs.Faults.{flat_map_from, group_errors, file_errors, f
 use Rattle.wild_layout.specs.SectionPlaces.{FieldLies, SectionLies, HasWords}
 use Rattle.wild_layout.specs.Geometry.{IsLaidOut}
 use Rattle.wild_layout.proofs.SiteLemmas.{sites_apart}
-use Rattle.wild_layout.proofs.MovedSites.{laid_moves, turned_or_stays}
+use Rattle.wild_layout.proofs.MovedSites.{placed_section_moves, turned_or_stays}
 use Rattle.wild_layout.proofs.FaultLemmas.{no_overlap, sections_of_file, sorted_of_file, files_of_group}
 use Rattle.wild_geometry.specs.PlacedSections.{IsSectionOfFile, Own, Ordered}
 use Rattle.wild_geometry.specs.Loaded.{IsDecided}
@@ -102,7 +102,7 @@ sections_of l g k f at i (s ∷ ss) words lies none =
     let ts = placed_sections l f (address_after at (kept_size l f s)) ss in
     let parts = nil_parts (section_errors l g k f at i s) (sections_errors l g k f (address_after at (kept_size l f s)) (i + 1) ss) none in
     All-cons (Decided l f) t ts
-    (λ reads written. section_decided l g k i f s t reads written (All-head (SectionLies l) t ts lies) (laid_moves l f (block_for l f t) at s (All-head (HasTheirWords l) s ss words) reads) parts.0)
+    (λ reads written. section_decided l g k i f s t reads written (All-head (SectionLies l) t ts lies) (placed_section_moves l f (block_for l f t) at s (All-head (HasTheirWords l) s ss words) reads) parts.0)
     (sections_of l g k f (address_after at (kept_size l f s)) (i + 1) ss (All-tail (HasTheirWords l) s ss words) (All-tail (SectionLies l) t ts lies) parts.1)
 
 -- ---- files

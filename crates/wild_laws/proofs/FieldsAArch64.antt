@@ -126,16 +126,16 @@ word_beside l s r k x types out listed word =
           subst (λ (n : ℕ). (k < r.offset) ⊎ (r.offset + n ≤ k)) f.wide (All-contains (λ (q : InputRelocation). (g : Formula) → formula_of l.machine q.number ≡ Some g → (k < q.offset) ⊎ (q.offset + form_width g.form ≤ k)) s.relocations r out listed f.formula (subst (λ (m : Machine). formula_of m r.number ≡ Some f.formula) (sym x) f.known)))
     ]
 
-abbrev Beside : ℕ → ℕ → ℕ → Type 0
-Beside k start n = (k < start) ⊎ (start + n ≤ k)
+abbrev IsOutsideWords : ℕ → ℕ → ℕ → Type 0
+IsOutsideWords k start n = (k < start) ⊎ (start + n ≤ k)
 
 -- behind those before it is not in this word either
-next_word : (k start at offset : ℕ) → offset ≡ start + at → start + at ≤ k → (k < offset) ⊎ (offset + 4 ≤ k) → Beside k start (at + 4)
+next_word : (k start at offset : ℕ) → offset ≡ start + at → start + at ≤ k → (k < offset) ⊎ (offset + 4 ≤ k) → IsOutsideWords k start (at + 4)
 next_word k start at offset e past (inl h) = absurd (omega (arith, e, past, h))
 next_word k start at offset e past (inr h) = inr (omega (arith, e, h))
 
-further_words : (l : Layout) (s : Item) (first : InputRelocation) (k start index at : ℕ) (ps : List Partner) (rs : List InputRelocation) → l.machine ≡ machine.AArch64 → HasFirstTypes machine.AArch64 s → InNoField l s k → HasPartners l s first start index ps rs → are_words at ps ≡ true → Beside k start at → Beside k start (at + 4 * length ps)
-further_words l s first k start index at [] [] x types out has words h = let e : at ≡ at + 4 * 0 = omega arith in subst (λ (n : ℕ). Beside k start n) e h
+further_words : (l : Layout) (s : Item) (first : InputRelocation) (k start index at : ℕ) (ps : List Partner) (rs : List InputRelocation) → l.machine ≡ machine.AArch64 → HasFirstTypes machine.AArch64 s → InNoField l s k → HasPartners l s first start index ps rs → are_words at ps ≡ true → IsOutsideWords k start at → IsOutsideWords k start (at + 4 * length ps)
+further_words l s first k start index at [] [] x types out has words h = let e : at ≡ at + 4 * 0 = omega arith in subst (λ (n : ℕ). IsOutsideWords k start n) e h
 further_words l s first k start index at [] (r ∷ rs) x types out has words h = absurd has
 further_words l s first k start index at (p ∷ ps) [] x types out has words h = absurd has
 further_words l s first k start index at (p ∷ ps) (r ∷ rs) x types out has words (inl low) = inl low
@@ -143,9 +143,9 @@ further_words l s first k start index at (p ∷ ps) (r ∷ rs) x types out has w
     let parts = and_parts (p.field == at) (list_all is_word p.numbers && are_words (at + 4) ps) words in
     let more = and_parts (list_all is_word p.numbers) (are_words (at + 4) ps) parts.1 in
     let field : r.offset ≡ start + at = has.0.field ∙ ap (λ (n : ℕ). start + n) (eqb-true p.field at parts.0) in
-    let beside = word_beside l s r k x types out (listed_at s.relocations index r has.0.listed) (listed_passes is_word p.numbers r.number more.0 has.0.number) in
+    let outside = word_beside l s r k x types out (listed_at s.relocations index r has.0.listed) (listed_passes is_word p.numbers r.number more.0 has.0.number) in
     let e : at + 4 + 4 * length ps ≡ at + 4 * length (p ∷ ps) = omega arith in
-    subst (λ (n : ℕ). Beside k start n) e (further_words l s first k start (index + 1) (at + 4) ps rs x types out has.1 more.1 (next_word k start at r.offset field past beside))
+    subst (λ (n : ℕ). IsOutsideWords k start n) e (further_words l s first k start (index + 1) (at + 4) ps rs x types out has.1 more.1 (next_word k start at r.offset field past outside))
 
 -- what is known of an instruction's words
 record HasWords (o : Instruction) : Type 0 where
@@ -163,12 +163,12 @@ has_words l o x known =
     record { field = eqb-true o.field 0 first.0; numbers = second.0; further = third.0; size = eqb-true (size_of o) (4 + 4 * length o.partners) third.1 }
 
 -- a byte in no field is not in the first word
-first_word : (l : Layout) (s : Item) (r : InputRelocation) (k start : ℕ) (o : Instruction) → l.machine ≡ machine.AArch64 → HasFirstTypes machine.AArch64 s → InNoField l s k → Contains s.relocations r → HasWords o → IsInstruction l s r start o → Beside k start 4
+first_word : (l : Layout) (s : Item) (r : InputRelocation) (k start : ℕ) (o : Instruction) → l.machine ≡ machine.AArch64 → HasFirstTypes machine.AArch64 s → InNoField l s k → Contains s.relocations r → HasWords o → IsInstruction l s r start o → IsOutsideWords k start 4
 first_word l s r k start o x types out listed h t =
     let field : r.offset ≡ start + 0 = t.field ∙ ap (λ (n : ℕ). start + n) h.field in
     by_side k start r.offset field (word_beside l s r k x types out listed (listed_passes is_word o.numbers r.number h.numbers t.number))
   where
-    by_side : (k start offset : ℕ) → offset ≡ start + 0 → (k < offset) ⊎ (offset + 4 ≤ k) → Beside k start 4
+    by_side : (k start offset : ℕ) → offset ≡ start + 0 → (k < offset) ⊎ (offset + 4 ≤ k) → IsOutsideWords k start 4
     by_side k start offset e (inl a) = inl (omega (arith, e, a))
     by_side k start offset e (inr a) = inr (omega (arith, e, a))
 
@@ -177,11 +177,11 @@ template_beside : (l : Layout) (s : Item) (r : InputRelocation) (k start : ℕ) 
 template_beside l s r k start o first x types out listed (inl t) =
     let h = has_words l o x t.0.stands.known in
     let four : 4 ≡ size_of o = sym (h.size ∙ ap (λ (ps : List Partner). 4 + 4 * length ps) t.0.single) in
-    subst (λ (n : ℕ). Beside k start n) four (first_word l s r k start o x types out listed h t.0.stands)
+    subst (λ (n : ℕ). IsOutsideWords k start n) four (first_word l s r k start o x types out listed h t.0.stands)
 template_beside l s r k start o first x types out listed (inr q) =
     let h = has_words l o x q.sequence.stands.known in
     let front = first_word l s first k start o x types out (listed_at s.relocations q.sequence.index first q.sequence.listed) h q.sequence.stands in
-    subst (λ (n : ℕ). Beside k start n) (sym h.size) (further_words l s first k start (q.sequence.index + 1) 4 o.partners q.rest x types out q.sequence.has h.further front)
+    subst (λ (n : ℕ). IsOutsideWords k start n) (sym h.size) (further_words l s first k start (q.sequence.index + 1) 4 o.partners q.rest x types out q.sequence.has h.further front)
 
 pub word_byte : (l : Layout) (w : World) (m : Memory) (s : Item) (k : ℕ) → l.machine ≡ machine.AArch64 → HasFirstTypes machine.AArch64 s → ItemHolds l w m s → k < length s.bytes → InNoField l s k → IsInputByte w m s k
 word_byte l w m s k x types holds lt out = holds.others k lt (record { fields = out; templates = λ r start o first ref t. template_beside l s r k start o first x types out ref.listed t })

@@ -52,12 +52,12 @@ abbrev pub direct : ℕ → Deed → Instruction
 direct opcode deed = of_field (branch (opcode ∷ []) Number deed) 1 Target branch_types
 
 -- those behind the two
-abbrev behind : List Instruction → List Instruction
-behind (a ∷ b ∷ os) = os
-behind other = []
+abbrev all_but_two : List Instruction → List Instruction
+all_but_two (a ∷ b ∷ os) = os
+all_but_two other = []
 
 abbrev others : List Instruction
-others = behind (instructions_of machine.X86_64)
+others = all_but_two (instructions_of machine.X86_64)
 
 abbrev has_none : List ℕ → Bool
 has_none ns = list_all (λ n. not (is_first n)) ns
@@ -89,8 +89,8 @@ all_ask : list_all asks_alone (instructions_of machine.X86_64) ≡ true
 all_ask = refl
 
 -- the first field of a sequence asks for a thread address
-pub asking : (o : Instruction) (p : Partner) (n : ℕ) → Contains (instructions_of machine.X86_64) o → o.partners ≡ p ∷ [] → Contains o.numbers n → is_thread n ≡ true
-asking o p n known calls number =
+pub first_number_is_thread : (o : Instruction) (p : Partner) (n : ℕ) → Contains (instructions_of machine.X86_64) o → o.partners ≡ p ∷ [] → Contains o.numbers n → is_thread n ≡ true
+first_number_is_thread o p n known calls number =
     listed_passes is_thread o.numbers n (implied (are_several o.partners) (list_all is_thread o.numbers) (listed_passes asks_alone (instructions_of machine.X86_64) o all_ask known) (ap are_several calls)) number
 
 abbrev calls_alone : Partner → Bool
@@ -126,7 +126,7 @@ abbrev is_other : Instruction → Bool
 is_other o = are_several o.partners || (list_all (λ n. not (is_slot n)) o.numbers || has_other o)
 
 abbrev behind_slots : List Instruction
-behind_slots = behind others
+behind_slots = all_but_two others
 
 all_other : list_all is_other behind_slots ≡ true
 all_other = refl

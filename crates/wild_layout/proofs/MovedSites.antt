@@ -2,7 +2,7 @@
 --   stays_apart     where the relocations stand as in the input
 --   turned_apart    where words are reversed
 --   framed_apart    where frames are kept, each with its relocations
---   laid_moves      of a section as it stands; turned_or_stays    of one that may be reversed
+--   placed_section_moves      of a section as it stands; turned_or_stays    of one that may be reversed
 --   debug_count     one that debuggers read has as many relocations as in the input
 use Rattle.std.proofs.Common.{◌≡◌, ℕ, zero, suc, ◌+◌, ◌-◌, ◌*◌, ◌%◌, ◌<◌, ◌≤◌, ◌⊎◌, inl, inr, Bool, true, false, List, [], ◌∷◌, ◌++◌, length, get_or, map, refl, sym, ap, ◌∙◌, arith, subst, ◌/◌, AllPairs, if◌then◌else◌}
 use Rattle.std.specs.Prelude.{All, Contains, Option, Some, None, ◌==◌, ◌||◌, not, option_map, slice_get}
@@ -401,9 +401,9 @@ as_input fs =
     map-flat_map (λ (x : OfEntry). x.relocation) (of_entries fs) (kept_in fs)
     ∙ flat_map-same (λ k. map (λ (x : OfEntry). x.relocation) (of_entries fs k)) (entry_relocations fs) (kept_in fs) (λ k. map-map (λ (x : OfEntry). x.relocation) (of_entry k) (entry_relocations fs k) ∙ map-id (entry_relocations fs k))
 
-as_laid : (fs : Frames) → map (λ (x : OfEntry). moved_entry x.entry x.relocation) (all_of_entries fs) ≡ moved_relocations fs
+as_placed_relocations : (fs : Frames) → map (λ (x : OfEntry). moved_entry x.entry x.relocation) (all_of_entries fs) ≡ moved_relocations fs
 unfolding moved_relocations
-as_laid fs =
+as_placed_relocations fs =
     map-flat_map (λ (x : OfEntry). moved_entry x.entry x.relocation) (of_entries fs) (kept_in fs)
     ∙ flat_map-same (λ k. map (λ (x : OfEntry). moved_entry x.entry x.relocation) (of_entries fs k)) (λ k. map (moved_entry k) (entry_relocations fs k)) (kept_in fs) (λ k. map-map (λ (x : OfEntry). moved_entry x.entry x.relocation) (of_entry k) (entry_relocations fs k))
 
@@ -433,17 +433,17 @@ beside_back : (a b : KeptEntry) → EntriesApart a b → EntriesApart b a
 beside_back a b (inl h) = inr h
 beside_back a b (inr h) = inl h
 
-record IsBehind (st : State) (k : KeptEntry) : Type 0 where
+record IsAfter (st : State) (k : KeptEntry) : Type 0 where
   from : st.at ≤ k.from
   to : st.to ≤ k.to
 
-all_behind : (s : Frames) (st : State) (fs : List Found) → IsWalked s st fs → All (IsBehind st) (flat_map kept_of fs)
-all_behind s st [] w = All-nil (IsBehind st)
+all_behind : (s : Frames) (st : State) (fs : List Found) → IsWalked s st fs → All (IsAfter st) (flat_map kept_of fs)
+all_behind s st [] w = All-nil (IsAfter st)
 all_behind s st (finds.Kept k ∷ fs) w =
     let at = w.facts.from in
     let to = w.facts.to in
     let rest = all_behind s (state_after st k) fs w.others in
-    All-cons (IsBehind st) k (flat_map kept_of fs) (record { from = omega (arith, at); to = omega (arith, to) }) (λ i d m. (let f = (rest i d m).from in let t = (rest i d m).to in record { from = omega (arith, f); to = omega (arith, t) }))
+    All-cons (IsAfter st) k (flat_map kept_of fs) (record { from = omega (arith, at); to = omega (arith, to) }) (λ i d m. (let f = (rest i d m).from in let t = (rest i d m).to in record { from = omega (arith, f); to = omega (arith, t) }))
 all_behind s st (finds.Dropped size ∷ fs) w = (let rest = all_behind s _ fs w.others in λ i d m. (let f = (rest i d m).from in let t = (rest i d m).to in record { from = omega (arith, f); to = omega (arith, t) }))
 all_behind s st (finds.End ∷ fs) w = all_behind s _ fs w.others
 all_behind s st (finds.Tail at ∷ fs) w = all_behind s _ fs w.others
@@ -535,7 +535,7 @@ record IsOfEntry (fs : Frames) (i : ℕ) (r : InputRelocation) : Type 0 where
   is : r ≡ moved_entry item.entry item.relocation
 
 from_entry : (fs : Frames) (i : ℕ) (r : InputRelocation) → slice_get (moved_relocations fs) i ≡ Some r → IsOfEntry fs i r
-from_entry fs i r h = by_item (slice_get (all_of_entries fs) i) refl (sym (slice_get-map (λ (x : OfEntry). moved_entry x.entry x.relocation) (all_of_entries fs) i) ∙ ap (λ (rs : List InputRelocation). slice_get rs i) (as_laid fs) ∙ h)
+from_entry fs i r h = by_item (slice_get (all_of_entries fs) i) refl (sym (slice_get-map (λ (x : OfEntry). moved_entry x.entry x.relocation) (all_of_entries fs) i) ∙ ap (λ (rs : List InputRelocation). slice_get rs i) (as_placed_relocations fs) ∙ h)
   where
     by_item : (o : Option OfEntry) → slice_get (all_of_entries fs) i ≡ o → option_map (λ (x : OfEntry). moved_entry x.entry x.relocation) o ≡ Some r → IsOfEntry fs i r
     by_item None e h = cc
@@ -551,7 +551,7 @@ frames_apart l s fs moved still wide = moves_by l s (kept_relocations fs) (IsInE
     count : length (kept_relocations fs) ≡ length s.relocations
     count =
         ap length (sym (as_input fs)) ∙ length-map (all_of_entries fs) (λ (x : OfEntry). x.relocation)
-        ∙ sym (length-map (all_of_entries fs) (λ (x : OfEntry). moved_entry x.entry x.relocation)) ∙ ap length (as_laid fs ∙ sym moved)
+        ∙ sym (length-map (all_of_entries fs) (λ (x : OfEntry). moved_entry x.entry x.relocation)) ∙ ap length (as_placed_relocations fs ∙ sym moved)
 
     plain : (i : ℕ) (x : IsTemplateSite l s i) → ⊥
     plain i x = both_ways (executable s.flags) still (rewritten_is_code l s i x.relocation x.row x.value x.rewritten)
@@ -628,9 +628,9 @@ turned_not_read s x is n h = by_test s.reversed h
     by_test false h = not_read s x is n h
 
 -- a section of a file
-pub laid_moves : (l : Layout) (f : File) (k at : ℕ) (s : InputSection) → (is_counted s ≡ true → s.reversed ≡ true → HasWords l.machine s) → is_read (placed_section l f at s) ≡ true → MovesApart l (item_with k (placed_section l f at s)) (origins_of l f s)
+pub placed_section_moves : (l : Layout) (f : File) (k at : ℕ) (s : InputSection) → (is_counted s ≡ true → s.reversed ≡ true → HasWords l.machine s) → is_read (placed_section l f at s) ≡ true → MovesApart l (item_with k (placed_section l f at s)) (origins_of l f s)
 unfolding placed_section
-laid_moves l f k at s words h = by_slot s.slot refl h
+placed_section_moves l f k at s words h = by_slot s.slot refl h
   where
     by_slot : (x : Slot) → s.slot ≡ x → is_read (placed_by x l f at s) ≡ true → MovesApart l (item_with k (placed_by x l f at s)) (if is_frame x then kept_relocations (frames_of l f s) else (unread l s).relocations)
     by_slot slot.Loaded is h = loaded_moves (is_partial_link l.kind) l k s words is h

@@ -41,8 +41,8 @@ use Rattle.wild_loaded.proofs.SlotSites.{all_sites}
 use Rattle.wild_loaded.specs.FilledLaws.{TablesAreMade}
 use Rattle.wild_loaded.proofs.Fillings.{Table, PackedTable, RelativeTable, GeneralTable, JumpTable, Filling, Misses, DoNotOverlap, IsKnown, Makes, packed_in}
 use Rattle.wild_loaded.proofs.FilledTables.{ChangeLaws, AreSorted, tables_made, patches_apart, All-made}
-use Rattle.wild_loaded.proofs.Homes.{HomesApart, homes_back, beside_across, behind_misses}
-use Rattle.wild_loaded.proofs.SectionsApart.{section_home, stored_home}
+use Rattle.wild_loaded.proofs.LoadedRanges.{AreDisjointRanges, disjoint_ranges_flip, fillings_disjoint, misses_past_file_bytes}
+use Rattle.wild_loaded.proofs.SectionsApart.{range_of_section, stored_section_is_carried}
 use Rattle.wild_loaded.proofs.PlacesApart.{HavePlaces, places_beside}
 use Rattle.wild_loaded.proofs.SectionFillings.{section_fillings}
 use Rattle.wild_loaded.proofs.FilledSections.{have_places}
@@ -51,8 +51,8 @@ use Rattle.wild_loaded.proofs.SlotFillings.{pair_sites, got_sites, words_by_site
 use Rattle.wild_loaded.proofs.SlotsSpaced.{all_spaced}
 use Rattle.wild_loaded.proofs.SlotsKnown.{SlotLaws, IsFilledSlots, SiteIsKnown, AreFilled, sites_known, sites_filled, blocks_known, blocks_placed, blocks_wide, blocks_ascend}
 use Rattle.wild_loaded.proofs.GotPlaces.{got_ascends}
-use Rattle.wild_loaded.proofs.TableHomes.{role_home, role_there, roles_apart, table_ends, InTable, in_table}
-use Rattle.wild_loaded.proofs.CopyFillings.{CopyLaws, HasCopies, copies_filled, LiesBehind, copies_behind, copies_known, copies_beside}
+use Rattle.wild_loaded.proofs.TableRanges.{range_of_role, role_there, roles_apart, table_ends, InTable, in_table}
+use Rattle.wild_loaded.proofs.CopyFillings.{CopyLaws, HasCopies, copies_filled, LiesPastFileBytes, copies_behind, copies_known, copies_beside}
 use Rattle.wild_loaded.proofs.TableLists.{sections_filled, slots_filled, blocks_filled, stored_fillings, all_fillings, all_packed, entries_sorted, jumps_sorted}
 use Rattle.wild_loaded.proofs.PackedTables.{AreWhole, packed_sorted}
 
@@ -112,13 +112,13 @@ slot_tables l w laws h =
       block = in_table l role.GotRelr (start_of l role.GotRelr) (blocks_filled l) refl h.laid (omega arith) from (λ k d m. (let t = to k d m in let n = wide k d m in omega (arith, t, n))) (blocks_ascend (start_of l role.GotRelr) (end_of l role.GotRelr) (all_sites l) block);
     }
 
-pub got_apart : (l : Layout) → KeepsAll l → IsLaidOut l → HomesApart (role_home l role.Got) (role_home l role.GotRelr)
+pub got_apart : (l : Layout) → KeepsAll l → IsLaidOut l → AreDisjointRanges (range_of_role l role.Got) (range_of_role l role.GotRelr)
 got_apart l keeps laid = roles_apart l role.Got role.GotRelr refl refl (λ e. cc) keeps laid
 
 tables_beside : (l : Layout) → IsLoadable l.kind → KeepsAll l → IsLaidOut l → SlotTables l → AllPairs DoNotOverlap (slots_filled l ++ blocks_filled l)
 tables_beside l kind keeps laid t =
     AllPairs-append DoNotOverlap (slots_filled l) (blocks_filled l) t.got.beside t.block.beside
-    (λ k d m. (λ i e n. beside_across l (role_home l role.Got) (role_home l role.GotRelr) (get_or (slots_filled l) k d) (get_or (blocks_filled l) i e) kind laid (role_there l role.Got refl (not_hollow_role l role.Got keeps) kind laid) (role_there l role.GotRelr refl (not_hollow_role l role.GotRelr keeps) kind laid) (got_apart l keeps laid) (t.got.within k d m) (t.block.within i e n)))
+    (λ k d m. (λ i e n. fillings_disjoint l (range_of_role l role.Got) (range_of_role l role.GotRelr) (get_or (slots_filled l) k d) (get_or (blocks_filled l) i e) kind laid (role_there l role.Got refl (not_hollow_role l role.Got keeps) kind laid) (role_there l role.GotRelr refl (not_hollow_role l role.GotRelr keeps) kind laid) (got_apart l keeps laid) (t.got.within k d m) (t.block.within i e n)))
 
 -- ---- sections
 
@@ -131,7 +131,7 @@ sections_beside l r xs loaded other kind keeps laid h t =
     let s = get_or (all_sections l) i d in
     let stored = h.stored i d m (not_empty _ k n) in
     let c : Contains (all_sections l) s = (i, m, get_or_default (all_sections l) i s d m) in
-    beside_across l (section_home l s) (role_home l r) (get_or (section_fillings l s) k e) (get_or xs p f) kind laid (stored_home l s stored) (role_there l r loaded (not_hollow_role l r keeps) kind laid) (homes_back (role_home l r) (section_home l s) (section_apart l r s loaded other keeps laid c stored)) (h.within i d m k e n) (t.within p f q))))
+    fillings_disjoint l (range_of_section l s) (range_of_role l r) (get_or (section_fillings l s) k e) (get_or xs p f) kind laid (stored_section_is_carried l s stored) (role_there l r loaded (not_hollow_role l r keeps) kind laid) (disjoint_ranges_flip (range_of_role l r) (range_of_section l s) (section_apart l r s loaded other keeps laid c stored)) (h.within i d m k e n) (t.within p f q))))
 
 both_beside : (xs ys zs : List Filling) → All (λ (x : Filling). All (DoNotOverlap x) ys) xs → All (λ (x : Filling). All (DoNotOverlap x) zs) xs → All (λ (x : Filling). All (DoNotOverlap x) (ys ++ zs)) xs
 both_beside xs ys zs h k = λ i d m. All-append (DoNotOverlap (get_or xs i d)) ys zs (h i d m) (k i d m)
@@ -147,18 +147,18 @@ stored_beside l kind keeps laid h t =
 -- ---- copies
 
 -- a copy and a filling in file bytes
-behind_beside : (l : Layout) (x y : Filling) → (LiesBehind l y) → ((a : ℕ) → IsPastFileBytes l a → Misses a x) → DoNotOverlap x y
+behind_beside : (l : Layout) (x y : Filling) → (LiesPastFileBytes l y) → ((a : ℕ) → IsPastFileBytes l a → Misses a x) → DoNotOverlap x y
 behind_beside l x y behind misses = λ k lt j less e. misses (y.entry.offset + j) (behind j less) k lt (sym e)
 
 table_behind : (l : Layout) (r : Role) (xs : List Filling) → is_loaded_role r ≡ true → IsLoadable l.kind → KeepsAll l → IsLaidOut l → InTable l r xs → All (λ (x : Filling). (a : ℕ) → IsPastFileBytes l a → Misses a x) xs
-table_behind l r xs loaded kind keeps laid t = λ i d m. (λ a b. behind_misses l (role_home l r) a (get_or xs i d) kind laid (role_there l r loaded (not_hollow_role l r keeps) kind laid) (t.within i d m) b)
+table_behind l r xs loaded kind keeps laid t = λ i d m. (λ a b. misses_past_file_bytes l (range_of_role l r) a (get_or xs i d) kind laid (role_there l r loaded (not_hollow_role l r keeps) kind laid) (t.within i d m) b)
 
 -- no filling in file bytes has a byte behind file bytes
 pub stored_misses : (l : Layout) → IsLoadable l.kind → KeepsAll l → IsLaidOut l → HavePlaces l (section_fillings l) → SlotTables l → All (λ (x : Filling). (a : ℕ) → IsPastFileBytes l a → Misses a x) (stored_fillings l)
 stored_misses l kind keeps laid h t =
     let P : Filling → Type 0 = λ x. (a : ℕ) → IsPastFileBytes l a → Misses a x in
     All-append P (sections_filled l) (slots_filled l ++ blocks_filled l)
-    (All-flat_map P (section_fillings l) (all_sections l) (λ i d m. (λ k e n. (λ a b. behind_misses l (section_home l (get_or (all_sections l) i d)) a (get_or (section_fillings l (get_or (all_sections l) i d)) k e) kind laid (stored_home l (get_or (all_sections l) i d) (h.stored i d m (not_empty _ k n))) (h.within i d m k e n) b))))
+    (All-flat_map P (section_fillings l) (all_sections l) (λ i d m. (λ k e n. (λ a b. misses_past_file_bytes l (range_of_section l (get_or (all_sections l) i d)) a (get_or (section_fillings l (get_or (all_sections l) i d)) k e) kind laid (stored_section_is_carried l (get_or (all_sections l) i d) (h.stored i d m (not_empty _ k n))) (h.within i d m k e n) b))))
     (All-append P (slots_filled l) (blocks_filled l) (table_behind l role.Got (slots_filled l) refl kind keeps laid t.got) (table_behind l role.GotRelr (blocks_filled l) refl kind keeps laid t.block))
 
 -- ---- all of them

@@ -113,16 +113,16 @@ copy_of l w i laws h c =
 
 -- ---- they lie behind file bytes
 
-abbrev pub LiesBehind : Layout → Filling → Type 0
-LiesBehind l x = (k : ℕ) → k < x.width → IsPastFileBytes l (x.entry.offset + k)
+abbrev pub LiesPastFileBytes : Layout → Filling → Type 0
+LiesPastFileBytes l x = (k : ℕ) → k < x.width → IsPastFileBytes l (x.entry.offset + k)
 
-behind_of : (l : Layout) (w : World) (i : ℕ) (x : Filling) → HasCopies l w → IsCopyOf l w i x → LiesBehind l x
+behind_of : (l : Layout) (w : World) (i : ℕ) (x : Filling) → HasCopies l w → IsCopyOf l w i x → LiesPastFileBytes l x
 behind_of l w i x h c = λ k lt.
     let width = c.width in
     subst (λ (a : ℕ). IsPastFileBytes l (a + k)) (sym c.place) ((h.legal.symbols.copies i c.raw c.answer c.has).behind k (omega (arith, width, lt)))
 
-pub copies_behind : (l : Layout) (w : World) → CopyLaws → HasCopies l w → All (LiesBehind l) (copies_filled l w)
-copies_behind l w laws h = All-map (LiesBehind l) (copy_filling l w) (all_copies l) (All-each (λ (i : ℕ). LiesBehind l (copy_filling l w i)) (all_copies l) (λ i c. behind_of l w i (copy_filling l w i) h (copy_of l w i laws h c)))
+pub copies_behind : (l : Layout) (w : World) → CopyLaws → HasCopies l w → All (LiesPastFileBytes l) (copies_filled l w)
+copies_behind l w laws h = All-map (LiesPastFileBytes l) (copy_filling l w) (all_copies l) (All-each (λ (i : ℕ). LiesPastFileBytes l (copy_filling l w i)) (all_copies l) (λ i c. behind_of l w i (copy_filling l w i) h (copy_of l w i laws h c)))
 
 segment_ends : (l : Layout) (w : World) (a : ℕ) → IsLegal l w → IsPastFileBytes l a → w.base + a + 1 ≤ 2 ^ 64
 segment_ends l w a legal b =
@@ -146,7 +146,7 @@ known_of l w i laws h c =
     zeroed : ℕ
     zeroed = 0
 
-    zero_there : (x : Filling) → (1 ≤ x.width → w.base + x.entry.offset + x.width ≤ 2 ^ 64) → LiesBehind l x → (k : ℕ) → k < x.width → byte_in (image_memory l w) (loaded_at w x.entry.offset + k) ≡ Some (slice_index (replicate x.width 0) k)
+    zero_there : (x : Filling) → (1 ≤ x.width → w.base + x.entry.offset + x.width ≤ 2 ^ 64) → LiesPastFileBytes l x → (k : ℕ) → k < x.width → byte_in (image_memory l w) (loaded_at w x.entry.offset + k) ≡ Some (slice_index (replicate x.width 0) k)
     zero_there x low behind k lt =
         let some : 1 ≤ x.width = omega (arith, lt) in
         let at = place_loaded w x.entry.offset x.width some (low some) in

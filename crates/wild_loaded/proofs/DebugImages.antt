@@ -37,7 +37,7 @@ use Rattle.wild_meaning.specs.Item.{IsKept}
 use Rattle.wild_meaning.proofs.BitLemmas.{alloc_bit}
 use Rattle.wild_meaning.proofs.OutputLemmas.{not_partial}
 use Rattle.wild_geometry.specs.Loaded.{HasItem, InFile}
-use Rattle.wild_geometry.proofs.KeptItems.{kept_laid}
+use Rattle.wild_geometry.proofs.KeptItems.{kept_items_placed}
 use Rattle.wild_loaded.specs.Laws.{HeadersAreThere, SegmentsAreLoadable, SectionsAreStored, ZerosAreStored, BlanksAreStored, FileBytesAreStored, TextsAreStored}
 use Rattle.wild_loaded.specs.Memory.{headers_of, image_memory, EachDecided}
 use Rattle.wild_loaded.specs.LoadedMemoryLaws.{DebugImagesAreLoaded}
@@ -152,7 +152,7 @@ bare_accepted l w laws bare kind numbers legal laid = by_part (part_with role.Dy
 -- memory has an item as the file has it
 bare_item : (l : Layout) (w : World) (item : Item) → BareLaws → IsLoadable l.kind → IsLegal l w → IsLaidOut l → EachDecided l → IsKept l item → HasItem l w (image_memory l w) item InFile
 bare_item l w item laws kind legal laid decided kept =
-    let k = kept_laid l item (not_partial l.kind kind) laid kept in
+    let k = kept_items_placed l item (not_partial l.kind kind) laid kept in
     subst (λ (i : Item). HasItem l w (image_memory l w) i InFile) (sym k.is) (laws.sections l w k.section kind legal laid k.kept (decided k.section k.kept.input k.kept.reads k.kept.written))
 
 pub bare_loaded : BareLaws → DebugImagesAreLoaded

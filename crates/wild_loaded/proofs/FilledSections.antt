@@ -33,8 +33,8 @@ use Rattle.wild_loaded.specs.Memory.{IsStored, EachDecided}
 use Rattle.wild_loaded.specs.Laws.{SectionsAreInSegments}
 use Rattle.wild_loaded.proofs.Fillings.{Filling, DoNotOverlap}
 use Rattle.wild_loaded.proofs.KeptSections.{IsKeptWell, kept_well}
-use Rattle.wild_loaded.proofs.SectionsApart.{section_home}
-use Rattle.wild_loaded.proofs.Homes.{LiesIn}
+use Rattle.wild_loaded.proofs.SectionsApart.{range_of_section}
+use Rattle.wild_loaded.proofs.LoadedRanges.{LiesIn}
 use Rattle.wild_loaded.proofs.PlacesApart.{HavePlaces}
 use Rattle.wild_loaded.proofs.SectionFillings.{section_filling, section_fillings, IsFilledBy, filled_by, filling_decided}
 
@@ -93,7 +93,7 @@ filled_there l s x keeps laid decided input k =
 
 -- ---- all fillings
 
-pub lies_there : (l : Layout) (block : ℕ) (s : InputSection) (x : Filling) → IsFilledThere l block s x → LiesIn (section_home l s) x
+pub lies_there : (l : Layout) (block : ℕ) (s : InputSection) (x : Filling) → IsFilledThere l block s x → LiesIn (range_of_section l s) x
 lies_there l block s x h =
     let is = h.by.place in
     let ends = h.ends in
@@ -201,6 +201,6 @@ stored_there l block s x law kind laid h =
 pub have_places : (l : Layout) → SectionsAreInSegments → IsLoadable l.kind → KeepsAll l → IsLaidOut l → EachDecided l → HavePlaces l (section_fillings l)
 have_places l law kind keeps laid decided = record {
   stored = All-each (λ (s : InputSection). 1 ≤ length (section_fillings l s) → IsStored l s) (all_sections l) (λ s c some. (let x = first_filling (section_fillings l s) some in stored_there l (block_for l (input_of l s c).owner s) s x.0 law kind laid (filled_there l s x.0 keeps laid decided (input_of l s c) (filling_known l s x.0 x.1))));
-  within = All-each (λ (s : InputSection). All (LiesIn (section_home l s)) (section_fillings l s)) (all_sections l) (λ s c. All-each (LiesIn (section_home l s)) (section_fillings l s) (λ x k. lies_there l (block_for l (input_of l s c).owner s) s x (filled_there l s x keeps laid decided (input_of l s c) (filling_known l s x k))));
+  within = All-each (λ (s : InputSection). All (LiesIn (range_of_section l s)) (section_fillings l s)) (all_sections l) (λ s c. All-each (LiesIn (range_of_section l s)) (section_fillings l s) (λ x k. lies_there l (block_for l (input_of l s c).owner s) s x (filled_there l s x keeps laid decided (input_of l s c) (filling_known l s x k))));
   beside = All-each (λ (s : InputSection). AllPairs DoNotOverlap (section_fillings l s)) (all_sections l) (λ s c. fillings_beside l s keeps laid decided (input_of l s c));
 }

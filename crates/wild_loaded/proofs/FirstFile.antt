@@ -17,7 +17,7 @@ use Rattle.wild_layout.specs.Content.{content, file_content}
 use Rattle.wild_layout.specs.SearchTable.{search_table}
 use Rattle.wild_layout.specs.TablePlaces.{table_bytes}
 use Rattle.wild_layout.specs.Geometry.{IsLaidOut}
-use Rattle.wild_geometry.proofs.PlacedInputs.{laid_same_all}
+use Rattle.wild_geometry.proofs.PlacedInputs.{placed_files_same_all}
 
 -- the first file has xs, the others have nothing
 abbrev pub once : {X : Type 0} → List X → File → List X
@@ -105,7 +105,7 @@ only_front false xs = refl
 by_first : (l : Layout) (r : Role) (bs : List ℕ) → IsLaidOut l → ((g : Group) → content l r g ≡ flat_map (file_content l r) (placed_files l g)) → ((f : File) → file_content l r f ≡ once bs f) → table_bytes l r ≡ bs
 by_first l r bs laid group each =
     flat_map-same (content l r) (λ (g : Group). flat_map (once bs) (placed_files l g)) l.groups (λ g. group g ∙ flat_map-same (file_content l r) (once bs) (placed_files l g) each)
-    ∙ laid_same_all (once bs) l (λ at f. refl)
+    ∙ placed_files_same_all (once bs) l (λ at f. refl)
     ∙ stands_once bs l.groups laid.some_group laid.files
 
 pub interpreter_bytes : (l : Layout) → IsLaidOut l → table_bytes l role.Interp ≡ l.interp

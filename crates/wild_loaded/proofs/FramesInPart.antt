@@ -7,7 +7,7 @@ use Rattle.std.proofs.lemmas.List.{length-append, append-nil}
 use Rattle.std.proofs.lemmas.List.Elements.{All-nil, All-cons, All-head, All-tail, All-append, All-weaker, All-contains}
 use Rattle.wild_words.specs.Words.{HasBytesAt}
 use Rattle.wild_words.proofs.ListLemmas.{AllPairs-nil, AllPairs-append, All-append-left, All-flat_map, All-append-right, flat_map-same}
-use Rattle.wild_words.proofs.RecordLemmas.{HasBytesAt-front, HasBytesAt-behind, HasBytesAt-whole}
+use Rattle.wild_words.proofs.RecordLemmas.{HasBytesAt-front, HasBytesAt-after, HasBytesAt-whole}
 use Rattle.wild_types.specs.declared.part.Part.{Part}
 use Rattle.wild_types.specs.declared.part.Role.TheVariants as role
 use Rattle.wild_types.specs.declared.input.Slot.{Slot}
@@ -34,11 +34,11 @@ use Rattle.wild_layout.specs.SectionPlaces.{SectionLies}
 use Rattle.wild_layout.specs.Geometry.{EachSection, IsLaidOut}
 use Rattle.wild_layout.specs.TablePlaces.{table_bytes, bytes_before}
 use Rattle.wild_geometry.proofs.SiteLemmas.{length-section_bytes}
-use Rattle.wild_geometry.proofs.FrameSizes.{StandsSo, NoFrame, Frames, turned_slot, stands_so, frame_item, no_item, length-frame_item, IsLoadedInput, sorted_loaded, group_given}
+use Rattle.wild_geometry.proofs.FrameSizes.{HasKeptSize, NoFrame, Frames, turned_slot, placed_section_has_kept_size, frame_item, no_item, length-frame_item, IsLoadedInput, sorted_loaded, group_given}
 use Rattle.wild_geometry.proofs.PlacedInputs.{sections_of, all_sections}
 use Rattle.wild_layout.proofs.SiteLemmas.{All-one}
 use Rattle.wild_types.specs.declared.layout.SortedSection.{SortedSection}
-use Rattle.wild_loaded.proofs.TableHomes.{table_ends}
+use Rattle.wild_loaded.proofs.TableRanges.{table_ends}
 use Rattle.wild_slots.specs.SlotPlaces.{IsLocatedAt}
 
 -- ---- runs of frames
@@ -86,7 +86,7 @@ pub record FramesLie (l : Layout) (f : File) (base : ℕ) (whole : List ℕ) (at
   pub each : All (EachFrame l f base whole) ts
   pub run : InRun at (at + n) ts
 
-one_section : (l : Layout) (f : File) (base : ℕ) (whole : List ℕ) (at n : ℕ) (t : InputSection) (ts : List InputSection) (rest : ℕ) → base ≤ at → SectionLies l t → StandsSo t at n → HasBytesAt whole (at - base) (frame_bytes_of l f t ++ flat_map (frame_bytes_of l f) ts) → (HasBytesAt whole (at + n - base) (flat_map (frame_bytes_of l f) ts) → FramesLie l f base whole (at + n) rest ts) → FramesLie l f base whole at (n + rest) (t ∷ ts)
+one_section : (l : Layout) (f : File) (base : ℕ) (whole : List ℕ) (at n : ℕ) (t : InputSection) (ts : List InputSection) (rest : ℕ) → base ≤ at → SectionLies l t → HasKeptSize t at n → HasBytesAt whole (at - base) (frame_bytes_of l f t ++ flat_map (frame_bytes_of l f) ts) → (HasBytesAt whole (at + n - base) (flat_map (frame_bytes_of l f) ts) → FramesLie l f base whole (at + n) rest ts) → FramesLie l f base whole at (n + rest) (t ∷ ts)
 one_section l f base whole at n t ts rest up lies (NoFrame plain none) st again =
     let nothing = no_item l f t plain in
     let later = again (subst (λ (bs : List ℕ). HasBytesAt whole (at + n - base) (bs ++ flat_map (frame_bytes_of l f) ts)) nothing (subst (λ (k : ℕ). HasBytesAt whole (k - base) (frame_bytes_of l f t ++ flat_map (frame_bytes_of l f) ts)) (omega (arith, none)) st)) in
@@ -108,7 +108,7 @@ one_section l f base whole at n t ts rest up lies (Frames frame with_data here w
     let long = length-frame_item l f t lies frame with_data in
     let size : length (frame_bytes_of l f t) ≡ n = long ∙ wide in
     let mine = HasBytesAt-front whole (frame_bytes_of l f t) (flat_map (frame_bytes_of l f) ts) (at - base) st in
-    let next = HasBytesAt-behind whole (frame_bytes_of l f t) (flat_map (frame_bytes_of l f) ts) (at - base) n size st in
+    let next = HasBytesAt-after whole (frame_bytes_of l f t) (flat_map (frame_bytes_of l f) ts) (at - base) n size st in
     let later = again (subst (λ (k : ℕ). HasBytesAt whole k (flat_map (frame_bytes_of l f) ts)) (omega (arith, up)) next) in
     let all = later.size in
     let both = length-append (frame_bytes_of l f t) (flat_map (frame_bytes_of l f) ts) in
@@ -130,7 +130,7 @@ sections_lie l f g base whole at [] up low lies st = record { size = refl; each 
 sections_lie l f g base whole at (s ∷ ss) up low lies st =
     let t = placed_section l g at s in
     let n = kept_size l g s in
-    let so = stands_so l g at s in
+    let so = placed_section_has_kept_size l g at s in
     let next = address_after at n in
     let mine = All-head (SectionLies l) t (placed_sections l g next ss) lies in
     let both = length-append (frame_bytes_of l f t) (flat_map (frame_bytes_of l f) (placed_sections l g next ss)) in
@@ -141,7 +141,7 @@ sections_lie l f g base whole at (s ∷ ss) up low lies st =
     (sections_lie l f g base whole next ss (omega (arith, on, up)) (omega (arith, on, both, few, low)) (All-tail (SectionLies l) t (placed_sections l g next ss) lies)
     (subst (λ (k : ℕ). HasBytesAt whole (k - base) (flat_map (frame_bytes_of l f) (placed_sections l g next ss))) (sym on) there)))
   where
-    at_most : (l : Layout) (f : File) (t : InputSection) (at n : ℕ) → SectionLies l t → StandsSo t at n → n ≡ length (frame_bytes_of l f t)
+    at_most : (l : Layout) (f : File) (t : InputSection) (at n : ℕ) → SectionLies l t → HasKeptSize t at n → n ≡ length (frame_bytes_of l f t)
     at_most l f t at n lies (NoFrame plain none) = none ∙ sym (ap (λ (bs : List ℕ). length bs) (no_item l f t plain))
     at_most l f t at n lies (Frames frame with_data here wide) = sym wide ∙ sym (length-frame_item l f t lies frame with_data)
 
@@ -261,7 +261,7 @@ files_lie l base whole at (f ∷ (h ∷ hs)) up low alone lies st =
     let mine = file_lies l f base whole at up (omega (arith, low, both)) (All-head (LiesWell l) g fs lies) (HasBytesAt-front whole (frames_bytes l g) (flat_map (frames_bytes l) fs) (at - base) st) in
     let just = gives_just l f base whole at mine alone.0 in
     let on : next ≡ at + length (frames_bytes l g) = omega (arith, low, both, just) in
-    let there = HasBytesAt-behind whole (frames_bytes l g) (flat_map (frames_bytes l) fs) (at - base) n just st in
+    let there = HasBytesAt-after whole (frames_bytes l g) (flat_map (frames_bytes l) fs) (at - base) n just st in
     let later = files_lie l base whole next (h ∷ hs) (omega (arith, on, up)) (omega (arith, on, low, both)) alone.1 (All-tail (LiesWell l) g fs lies) (subst (λ (k : ℕ). HasBytesAt whole k (flat_map (frames_bytes l) fs)) (omega (arith, on, up, just)) there) in
     files_step l f fs base whole at mine (gives_most l f base whole at mine) (subst (λ (k : ℕ). FilesLie l base whole k (k + length (flat_map (frames_bytes l) fs)) fs) on later)
 
@@ -304,7 +304,7 @@ groups_lie l whole before (g ∷ gs) low alone lies starts st =
     let start = starts 0 g refl in
     let at : frames_at l g ≡ base + before = omega (arith, start, low) in
     let mine = group_lies l base whole before g at (omega (arith, low, both)) (All-head (λ (x : Group). LastAlone x.files) g gs alone) (All-head (GroupLies l) g gs lies) (HasBytesAt-front whole (content l role.EhFrame g) (flat_map (content l role.EhFrame) gs) before st) in
-    let there = HasBytesAt-behind whole (content l role.EhFrame g) (flat_map (content l role.EhFrame) gs) before n refl st in
+    let there = HasBytesAt-after whole (content l role.EhFrame g) (flat_map (content l role.EhFrame) gs) before n refl st in
     let later = groups_lie l whole (before + n) gs (omega (arith, low, both)) (All-tail (λ (x : Group). LastAlone x.files) g gs alone) (All-tail (GroupLies l) g gs lies) (λ j h e. (let s = starts (suc j) h e in omega (arith, s))) there in
     record {
       each = All-cons (EachIn l base whole) g gs mine.each later.each;

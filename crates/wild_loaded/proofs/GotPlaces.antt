@@ -30,7 +30,7 @@ use Rattle.wild_loaded.specs.Laws.{SlotsAreStored}
 use Rattle.wild_loaded.proofs.SlotSites.{of_site, sites_at, all_sites}
 use Rattle.wild_loaded.proofs.SlotFillings.{pair_sites, got_sites, made_of, words_by_sites}
 use Rattle.wild_loaded.proofs.SlotsKnown.{IsFilledSlots}
-use Rattle.wild_loaded.proofs.TableHomes.{table_ends}
+use Rattle.wild_loaded.proofs.TableRanges.{table_ends}
 
 -- ---- the pair
 

@@ -30,7 +30,7 @@ pub mod PairLemmas
 pub mod Permuted
 pub mod Fillings
 pub mod FilledTables
-pub mod Homes
+pub mod LoadedRanges
 pub mod KeptSections
 pub mod SectionsApart
 pub mod SectionsDisjoint
@@ -41,7 +41,7 @@ pub mod SectionsKnown
 pub mod SlotFillings
 pub mod SlotsSpaced
 pub mod SlotsKnown
-pub mod TableHomes
+pub mod TableRanges
 pub mod GotPlaces
 pub mod CopyFillings
 pub mod FirstFile

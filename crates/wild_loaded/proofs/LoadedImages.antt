@@ -1,6 +1,6 @@
 -- The image of a layout is loaded: its addresses move, what is left to entries is filled, and nothing else changes.
 use Rattle.wild_meaning.proofs.OutputLemmas.{not_partial}
-use Rattle.wild_geometry.proofs.KeptItems.{kept_laid}
+use Rattle.wild_geometry.proofs.KeptItems.{kept_items_placed}
 use Rattle.wild_geometry.specs.PlacedSections.{KeptItemsArePlaced}
 use Rattle.std.proofs.Common.{◌≡◌, ℕ, ◌+◌, Bool, true, false, [], length, refl, sym, ap, ◌∙◌, arith, subst}
 use Rattle.std.specs.Prelude.{Some, Ok, Contains, if◌then◌else◌}
@@ -107,7 +107,7 @@ pub memory_moved : MovingLaws → MemoryHasChanges
 memory_moved laws = λ l w m keeps kind numbers legal laid loaded decided whole none applied.
     let h = moved_image l w m laws (record { keeps = keeps; kind = kind; numbers = numbers; legal = legal; laid = laid; decided = decided; whole = whole; none = none }) applied in
     record {
-      items = λ s kept. item_moved l w m s kept_laid h kept;
+      items = λ s kept. item_moved l w m s kept_items_placed h kept;
       slots = slots_loaded l w m h;
       thunks = thunks_moved l w m laws.thunks h;
       zeros = λ a b free. zero_moved l w m a h b free;

@@ -19,11 +19,11 @@ use Rattle.wild_meaning.specs.World.{IsPastFileBytes}
 use Rattle.wild_meaning.specs.LinkedImage.{IsNotCopied}
 use Rattle.wild_loaded.specs.Memory.{IsStored}
 use Rattle.wild_loaded.proofs.Fillings.{Filling, Misses, general_of, place_entry}
-use Rattle.wild_loaded.proofs.Homes.{Home, HasHome, HomesApart, homes_back, misses_across, behind_misses}
-use Rattle.wild_loaded.proofs.SectionsApart.{section_home, stored_home}
+use Rattle.wild_loaded.proofs.LoadedRanges.{LoadedRange, IsCarriedRange, AreDisjointRanges, disjoint_ranges_flip, misses_across, misses_past_file_bytes}
+use Rattle.wild_loaded.proofs.SectionsApart.{range_of_section, stored_section_is_carried}
 use Rattle.wild_loaded.proofs.PlacesApart.{misses_all}
 use Rattle.wild_loaded.proofs.SectionFillings.{section_fillings}
-use Rattle.wild_loaded.proofs.TableHomes.{role_home, role_there, roles_apart, InTable}
+use Rattle.wild_loaded.proofs.TableRanges.{range_of_role, role_there, roles_apart, InTable}
 use Rattle.wild_loaded.proofs.CopyFillings.{all_copies, copy_filling, copies_filled, copies_behind, copy_of}
 use Rattle.wild_loaded.proofs.TableLists.{sections_filled, slots_filled, blocks_filled, stored_fillings, all_fillings}
 use Rattle.wild_loaded.proofs.AllTables.{copies_of_well, stored_misses}
@@ -36,12 +36,12 @@ all_miss l w a s g b c = All-append (Misses a) (stored_fillings l) (copies_fille
 -- ---- copies
 
 -- a byte of a run of file bytes is that of no copy
-home_misses : (l : Layout) (w : World) (m : Memory) (h : Home) (k : ℕ) → IsMovedImage l w m → HasHome l h → k < h.size → All (Misses (h.address + k)) (copies_filled l w)
-home_misses l w m h k image there lt = λ i d b. (λ j less e.
+range_misses_copies : (l : Layout) (w : World) (m : Memory) (h : LoadedRange) (k : ℕ) → IsMovedImage l w m → IsCarriedRange l h → k < h.size → All (Misses (h.address + k)) (copies_filled l w)
+range_misses_copies l w m h k image there lt = λ i d b. (λ j less e.
     let y = get_or (copies_filled l w) i d in
     let behind = copies_behind l w image.laws.filled.copies (copies_of_well l w image.well) i d b j less in
     let p : Filling = general_of (place_entry (h.address + k)) 1 in
-    behind_misses l h (y.entry.offset + j) p image.well.kind image.well.laid there (record { from = omega arith; to = omega (arith, lt) }) behind 0 (omega arith) (omega (arith, e)))
+    misses_past_file_bytes l h (y.entry.offset + j) p image.well.kind image.well.laid there (record { from = omega arith; to = omega (arith, lt) }) behind 0 (omega arith) (omega (arith, e)))
 
 -- an address to which no symbol's bytes are copied
 pub copies_miss : (l : Layout) (w : World) (m : Memory) (a : ℕ) → IsMovedImage l w m → IsNotCopied l w a → All (Misses a) (copies_filled l w)
@@ -60,7 +60,7 @@ copies_miss l w m a h none = All-map (Misses a) (copy_filling l w) (all_copies l
 
 section_misses_table : (l : Layout) (w : World) (m : Memory) (r : Role) (s : InputSection) (k : ℕ) (xs : List Filling) → IsMovedImage l w m → is_loaded_role r ≡ true → (r ≡ role.EhFrame → ⊥) → Contains (all_sections l) s → IsStored l s → k < s.size → InTable l r xs → All (Misses (s.address + k)) xs
 section_misses_table l w m r s k xs h loaded other c stored lt t = λ i d b.
-    misses_across l (section_home l s) (role_home l r) k (get_or xs i d) h.well.kind h.well.laid (stored_home l s stored) (role_there l r loaded (not_hollow_role l r h.well.keeps) h.well.kind h.well.laid) (homes_back (role_home l r) (section_home l s) (section_apart l r s loaded other h.well.keeps h.well.laid c stored)) lt (t.within i d b)
+    misses_across l (range_of_section l s) (range_of_role l r) k (get_or xs i d) h.well.kind h.well.laid (stored_section_is_carried l s stored) (role_there l r loaded (not_hollow_role l r h.well.keeps) h.well.kind h.well.laid) (disjoint_ranges_flip (range_of_role l r) (range_of_section l s) (section_apart l r s loaded other h.well.keeps h.well.laid c stored)) lt (t.within i d b)
 
 -- a byte of a section that the section's own fillings miss
 pub section_misses : (l : Layout) (w : World) (m : Memory) (s : InputSection) (k : ℕ) → IsMovedImage l w m → Contains (all_sections l) s → IsStored l s → k < s.size → All (Misses (s.address + k)) (section_fillings l s) → All (Misses (s.address + k)) (all_fillings l w)
@@ -69,56 +69,56 @@ section_misses l w m s k h c stored lt own =
     (misses_all l (section_fillings l) s k h.well.kind h.well.keeps h.well.laid h.sections c stored lt own)
     (section_misses_table l w m role.Got s k (slots_filled l) h refl (λ e. cc) c stored lt h.slots.got)
     (section_misses_table l w m role.GotRelr s k (blocks_filled l) h refl (λ e. cc) c stored lt h.slots.block)
-    (home_misses l w m (section_home l s) k h (stored_home l s stored) lt)
+    (range_misses_copies l w m (range_of_section l s) k h (stored_section_is_carried l s stored) lt)
 
 -- ---- bytes of tables
 
-run_misses_sections : (l : Layout) (w : World) (m : Memory) (r : Home) (k : ℕ) → IsMovedImage l w m → HasHome l r → ((s : InputSection) → Contains (all_sections l) s → IsStored l s → HomesApart r (section_home l s)) → k < r.size → All (Misses (r.address + k)) (sections_filled l)
+run_misses_sections : (l : Layout) (w : World) (m : Memory) (r : LoadedRange) (k : ℕ) → IsMovedImage l w m → IsCarriedRange l r → ((s : InputSection) → Contains (all_sections l) s → IsStored l s → AreDisjointRanges r (range_of_section l s)) → k < r.size → All (Misses (r.address + k)) (sections_filled l)
 run_misses_sections l w m r k h there apart lt =
     All-flat_map (Misses (r.address + k)) (section_fillings l) (all_sections l) (λ i d b. (λ j e n.
     let s = get_or (all_sections l) i d in
     let stored = h.sections.stored i d b (not_empty _ j n) in
     let c : Contains (all_sections l) s = (i, b, get_or_default (all_sections l) i s d b) in
-    misses_across l r (section_home l s) k (get_or (section_fillings l s) j e) h.well.kind h.well.laid there (stored_home l s stored) (apart s c stored) lt (h.sections.within i d b j e n)))
+    misses_across l r (range_of_section l s) k (get_or (section_fillings l s) j e) h.well.kind h.well.laid there (stored_section_is_carried l s stored) (apart s c stored) lt (h.sections.within i d b j e n)))
 
-run_misses_table : (l : Layout) (w : World) (m : Memory) (r : Home) (t : Role) (k : ℕ) (xs : List Filling) → IsMovedImage l w m → HasHome l r → is_loaded_role t ≡ true → HomesApart r (role_home l t) → k < r.size → InTable l t xs → All (Misses (r.address + k)) xs
+run_misses_table : (l : Layout) (w : World) (m : Memory) (r : LoadedRange) (t : Role) (k : ℕ) (xs : List Filling) → IsMovedImage l w m → IsCarriedRange l r → is_loaded_role t ≡ true → AreDisjointRanges r (range_of_role l t) → k < r.size → InTable l t xs → All (Misses (r.address + k)) xs
 run_misses_table l w m r t k xs h there loaded apart low table = λ i d b.
-    misses_across l r (role_home l t) k (get_or xs i d) h.well.kind h.well.laid there (role_there l t loaded (not_hollow_role l t h.well.keeps) h.well.kind h.well.laid) apart low (table.within i d b)
+    misses_across l r (range_of_role l t) k (get_or xs i d) h.well.kind h.well.laid there (role_there l t loaded (not_hollow_role l t h.well.keeps) h.well.kind h.well.laid) apart low (table.within i d b)
 
-table_misses_sections : (l : Layout) (w : World) (m : Memory) (r : Role) (k : ℕ) → IsMovedImage l w m → is_loaded_role r ≡ true → (r ≡ role.EhFrame → ⊥) → k < (role_home l r).size → All (Misses ((role_home l r).address + k)) (sections_filled l)
+table_misses_sections : (l : Layout) (w : World) (m : Memory) (r : Role) (k : ℕ) → IsMovedImage l w m → is_loaded_role r ≡ true → (r ≡ role.EhFrame → ⊥) → k < (range_of_role l r).size → All (Misses ((range_of_role l r).address + k)) (sections_filled l)
 table_misses_sections l w m r k h loaded other lt =
-    run_misses_sections l w m (role_home l r) k h (role_there l r loaded (not_hollow_role l r h.well.keeps) h.well.kind h.well.laid) (λ s c stored. section_apart l r s loaded other h.well.keeps h.well.laid c stored) lt
+    run_misses_sections l w m (range_of_role l r) k h (role_there l r loaded (not_hollow_role l r h.well.keeps) h.well.kind h.well.laid) (λ s c stored. section_apart l r s loaded other h.well.keeps h.well.laid c stored) lt
 
-table_misses_table : (l : Layout) (w : World) (m : Memory) (r t : Role) (k : ℕ) (xs : List Filling) → IsMovedImage l w m → is_loaded_role r ≡ true → is_loaded_role t ≡ true → (r ≡ t → ⊥) → k < (role_home l r).size → InTable l t xs → All (Misses ((role_home l r).address + k)) xs
+table_misses_table : (l : Layout) (w : World) (m : Memory) (r t : Role) (k : ℕ) (xs : List Filling) → IsMovedImage l w m → is_loaded_role r ≡ true → is_loaded_role t ≡ true → (r ≡ t → ⊥) → k < (range_of_role l r).size → InTable l t xs → All (Misses ((range_of_role l r).address + k)) xs
 table_misses_table l w m r t k xs h lr lt other low table =
-    run_misses_table l w m (role_home l r) t k xs h (role_there l r lr (not_hollow_role l r h.well.keeps) h.well.kind h.well.laid) lt (roles_apart l r t lr lt other h.well.keeps h.well.laid) low table
+    run_misses_table l w m (range_of_role l r) t k xs h (role_there l r lr (not_hollow_role l r h.well.keeps) h.well.kind h.well.laid) lt (roles_apart l r t lr lt other h.well.keeps h.well.laid) low table
 
 -- a byte of a stub
-pub stub_misses : (l : Layout) (w : World) (m : Memory) (k : ℕ) → IsMovedImage l w m → k < (role_home l role.PltGot).size → All (Misses ((role_home l role.PltGot).address + k)) (all_fillings l w)
+pub stub_misses : (l : Layout) (w : World) (m : Memory) (k : ℕ) → IsMovedImage l w m → k < (range_of_role l role.PltGot).size → All (Misses ((range_of_role l role.PltGot).address + k)) (all_fillings l w)
 stub_misses l w m k h lt =
-    all_miss l w ((role_home l role.PltGot).address + k)
+    all_miss l w ((range_of_role l role.PltGot).address + k)
     (table_misses_sections l w m role.PltGot k h refl (λ e. cc) lt)
     (table_misses_table l w m role.PltGot role.Got k (slots_filled l) h refl refl (λ e. cc) lt h.slots.got)
     (table_misses_table l w m role.PltGot role.GotRelr k (blocks_filled l) h refl refl (λ e. cc) lt h.slots.block)
-    (home_misses l w m (role_home l role.PltGot) k h (role_there l role.PltGot refl (not_hollow_role l role.PltGot h.well.keeps) h.well.kind h.well.laid) lt)
+    (range_misses_copies l w m (range_of_role l role.PltGot) k h (role_there l role.PltGot refl (not_hollow_role l role.PltGot h.well.keeps) h.well.kind h.well.laid) lt)
 
 -- a byte of a run that shares none with sections and tables
-pub run_misses : (l : Layout) (w : World) (m : Memory) (r : Home) (k : ℕ) → IsMovedImage l w m → HasHome l r → ((s : InputSection) → Contains (all_sections l) s → IsStored l s → HomesApart r (section_home l s)) → ((t : Role) → is_loaded_role t ≡ true → HomesApart r (role_home l t)) → k < r.size → All (Misses (r.address + k)) (all_fillings l w)
+pub run_misses : (l : Layout) (w : World) (m : Memory) (r : LoadedRange) (k : ℕ) → IsMovedImage l w m → IsCarriedRange l r → ((s : InputSection) → Contains (all_sections l) s → IsStored l s → AreDisjointRanges r (range_of_section l s)) → ((t : Role) → is_loaded_role t ≡ true → AreDisjointRanges r (range_of_role l t)) → k < r.size → All (Misses (r.address + k)) (all_fillings l w)
 run_misses l w m r k h there sections tables lt =
     all_miss l w (r.address + k)
     (run_misses_sections l w m r k h there sections lt)
     (run_misses_table l w m r role.Got k (slots_filled l) h there refl (tables role.Got refl) lt h.slots.got)
     (run_misses_table l w m r role.GotRelr k (blocks_filled l) h there refl (tables role.GotRelr refl) lt h.slots.block)
-    (home_misses l w m r k h there lt)
+    (range_misses_copies l w m r k h there lt)
 
 -- a byte of the table of slots that the fillings there miss
-pub got_misses : (l : Layout) (w : World) (m : Memory) (k : ℕ) → IsMovedImage l w m → k < (role_home l role.Got).size → All (Misses ((role_home l role.Got).address + k)) (slots_filled l) → All (Misses ((role_home l role.Got).address + k)) (all_fillings l w)
+pub got_misses : (l : Layout) (w : World) (m : Memory) (k : ℕ) → IsMovedImage l w m → k < (range_of_role l role.Got).size → All (Misses ((range_of_role l role.Got).address + k)) (slots_filled l) → All (Misses ((range_of_role l role.Got).address + k)) (all_fillings l w)
 got_misses l w m k h lt own =
-    all_miss l w ((role_home l role.Got).address + k)
+    all_miss l w ((range_of_role l role.Got).address + k)
     (table_misses_sections l w m role.Got k h refl (λ e. cc) lt)
     own
     (table_misses_table l w m role.Got role.GotRelr k (blocks_filled l) h refl refl (λ e. cc) lt h.slots.block)
-    (home_misses l w m (role_home l role.Got) k h (role_there l role.Got refl (not_hollow_role l role.Got h.well.keeps) h.well.kind h.well.laid) lt)
+    (range_misses_copies l w m (range_of_role l role.Got) k h (role_there l role.Got refl (not_hollow_role l role.Got h.well.keeps) h.well.kind h.well.laid) lt)
 
 -- ---- zeros
 

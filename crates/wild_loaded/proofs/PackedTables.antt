@@ -1,7 +1,7 @@
 -- The words of packed places: a loader finds the places of addresses and of slots in them, and no others.
 use Rattle.wild_types.specs.FileRoles.{is_epilogue}
 use Rattle.wild_loaded.proofs.FramesInPart.{LastAlone, groups_alone}
-use Rattle.wild_geometry.proofs.PlacedInputs.{all_sections, by_files, laid_same_all}
+use Rattle.wild_geometry.proofs.PlacedInputs.{all_sections, by_files, placed_files_same_all}
 use Rattle.wild_layout.specs.Geometry.{IsLaidOut}
 use Rattle.wild_placement.specs.PlacedSections.{placed_file, placed_files, processed_sections, of_last_file, sorted_sections}
 use Rattle.wild_needs.specs.Needs.{has_last}
@@ -148,9 +148,9 @@ runs_places l whole =
 
 -- ---- the order
 
-flat_laid : (l : Layout) (at : ℕ) (f : File) → flat_places_of l (placed_file l at f) ≡ flat_places_of l f
+relr_places_of_placed : (l : Layout) (at : ℕ) (f : File) → flat_places_of l (placed_file l at f) ≡ flat_places_of l f
 unfolding flat_places_of
-flat_laid l at f = refl
+relr_places_of_placed l at f = refl
 
 -- what the last file has, of the files of a group
 of_last : {X : Type 0} (xs : List X) (fs : List File) → LastAlone fs → flat_map (λ (f : File). if is_epilogue f.role then xs else []) fs ≡ (if list_any (λ (f : File). is_epilogue f.role) fs then xs else [])
@@ -184,7 +184,7 @@ sections_parts l laid =
     flat_map-same (λ (g : Group). flat_map (λ (f : File). a f ++ sorted_places l f) (placed_files l g)) (λ (g : Group). flat_map (λ (f : File). flat_map (relr_places l) (processed_sections l f)) (placed_files l g)) l.groups (λ g. flat_map-same (λ (f : File). a f ++ sorted_places l f) (λ (f : File). flat_map (relr_places l) (processed_sections l f)) (placed_files l g) (λ f. sym (file_parts l f)))
     ∙ sym (by_files (relr_places l) l) in
     let alone = groups_alone true 0 l.groups laid.files in
-    let last : dd ≡ flat_map (last_places l) l.groups = laid_same_all (sorted_places l) l (λ at f. refl) ∙ flat_map-listed (λ (g : Group). flat_map (sorted_places l) g.files) (last_places l) l.groups (λ g c. of_last (flat_map (relr_places l) (sorted_sections l)) g.files (All-contains (λ (x : Group). LastAlone x.files) l.groups g alone c)) in
+    let last : dd ≡ flat_map (last_places l) l.groups = placed_files_same_all (sorted_places l) l (λ at f. refl) ∙ flat_map-listed (λ (g : Group). flat_map (sorted_places l) g.files) (last_places l) l.groups (λ g c. of_last (flat_map (relr_places l) (sorted_sections l)) g.files (All-contains (λ (x : Group). LastAlone x.files) l.groups g alone c)) in
     subst (λ (xs : List ℕ). IsPermutation xs (aa ++ flat_map (last_places l) l.groups)) same (subst (λ (xs : List ℕ). IsPermutation (flat_map (λ (g : Group). flat_map (λ (f : File). a f ++ sorted_places l f) (placed_files l g)) l.groups) (aa ++ xs)) last all)
 
 moved_up : (a b c d : List ℕ) → IsPermutation ((a ++ b) ++ (c ++ d)) ((a ++ d) ++ (b ++ c))
@@ -214,7 +214,7 @@ recorded_sorted l laid =
     let sections = IsPermutation-sym (flat_map (relr_places l) (all_sections l)) (aa ++ dd) (sections_parts l laid) in
     let four = IsPermutation-trans (ff ++ ee) ((aa ++ dd) ++ (bb ++ cc')) (flat_map (relr_places l) (all_sections l) ++ (bb ++ cc')) three (IsPermutation-append_left (bb ++ cc') (aa ++ dd) (flat_map (relr_places l) (all_sections l)) sections) in
     let whole = IsPermutation-trans (recorded_places l) (ff ++ ee) (flat_map (relr_places l) (all_sections l) ++ (bb ++ cc')) outer four in
-    let flats : bb ≡ made_of (relr_slot_place l.options.relr) (all_sites l) = laid_same_all b l (flat_laid l) ∙ all_by_sites (of_site (relr_slot_place l.options.relr)) b l (flat_by_sites l) in
+    let flats : bb ≡ made_of (relr_slot_place l.options.relr) (all_sites l) = placed_files_same_all b l (relr_places_of_placed l) ∙ all_by_sites (of_site (relr_slot_place l.options.relr)) b l (flat_by_sites l) in
     let blocks : cc' ≡ made_of relr_got_place (all_sites l) = groups_by_sites (of_site relr_got_place) c l (block_by_sites l) in
     let same : flat_map (relr_places l) (all_sections l) ++ (bb ++ cc') ≡ packed_list l = ap (λ (xs : List ℕ). flat_map (relr_places l) (all_sections l) ++ (xs ++ cc')) flats ∙ ap (λ (xs : List ℕ). flat_map (relr_places l) (all_sections l) ++ (made_of (relr_slot_place l.options.relr) (all_sites l) ++ xs)) blocks in
     subst (λ (xs : List ℕ). IsPermutation (recorded_places l) xs) same whole

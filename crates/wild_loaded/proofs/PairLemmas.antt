@@ -9,21 +9,21 @@ use Rattle.wild_layout.specs.Faults.{flat_map_from}
 -- ---- lists of lists
 
 -- behind what else stands between them
-pub All-behind : {X Y : Type 0} (P : Y → Type 0) (t : ℕ → X → List Y) (g : X → List Y) (i : ℕ) (xs : List X) → All P (flat_map_from (λ n x. t n x ++ g x) i xs) → All P (flat_map g xs)
-All-behind P t g i [] a = All-nil P
-All-behind P t g i (x ∷ xs) a =
+pub All-after : {X Y : Type 0} (P : Y → Type 0) (t : ℕ → X → List Y) (g : X → List Y) (i : ℕ) (xs : List X) → All P (flat_map_from (λ n x. t n x ++ g x) i xs) → All P (flat_map g xs)
+All-after P t g i [] a = All-nil P
+All-after P t g i (x ∷ xs) a =
     All-append P (g x) (flat_map g xs)
     (All-append-right P (t i x) (g x) (All-append-left P (t i x ++ g x) (flat_map_from (λ n x. t n x ++ g x) (i + 1) xs) a))
-    (All-behind P t g (i + 1) xs (All-append-right P (t i x ++ g x) (flat_map_from (λ n x. t n x ++ g x) (i + 1) xs) a))
+    (All-after P t g (i + 1) xs (All-append-right P (t i x ++ g x) (flat_map_from (λ n x. t n x ++ g x) (i + 1) xs) a))
 
-pub AllPairs-behind : {X Y : Type 0} (R : Y → Y → Type 0) (t : ℕ → X → List Y) (g : X → List Y) (i : ℕ) (xs : List X) → AllPairs R (flat_map_from (λ n x. t n x ++ g x) i xs) → AllPairs R (flat_map g xs)
-AllPairs-behind R t g i [] p = AllPairs-nil R
-AllPairs-behind {X} {Y} R t g i (x ∷ xs) p =
+pub AllPairs-after : {X Y : Type 0} (R : Y → Y → Type 0) (t : ℕ → X → List Y) (g : X → List Y) (i : ℕ) (xs : List X) → AllPairs R (flat_map_from (λ n x. t n x ++ g x) i xs) → AllPairs R (flat_map g xs)
+AllPairs-after R t g i [] p = AllPairs-nil R
+AllPairs-after {X} {Y} R t g i (x ∷ xs) p =
     let rest : List Y = flat_map_from (λ n x. t n x ++ g x) (i + 1) xs in
     AllPairs-append R (g x) (flat_map g xs)
     (AllPairs-right R (t i x) (g x) (AllPairs-left R (t i x ++ g x) rest p))
-    (AllPairs-behind R t g (i + 1) xs (AllPairs-right R (t i x ++ g x) rest p))
-    (λ k d l. All-behind (R (get_or (g x) k d)) t g (i + 1) xs (All-append-right (λ a. All (R a) rest) (t i x) (g x) (AllPairs-cross R (t i x ++ g x) rest p) k d l))
+    (AllPairs-after R t g (i + 1) xs (AllPairs-right R (t i x ++ g x) rest p))
+    (λ k d l. All-after (R (get_or (g x) k d)) t g (i + 1) xs (All-append-right (λ a. All (R a) rest) (t i x) (g x) (AllPairs-cross R (t i x ++ g x) rest p) k d l))
 
 -- ---- what f and g give, item by item
 

@@ -15,17 +15,17 @@ use Rattle.wild_types.specs.HeaderOnly.{KeepsAll}
 use Rattle.wild_layout.specs.Geometry.{IsLaidOut}
 use Rattle.wild_loaded.proofs.Fillings.{Filling, Misses, DoNotOverlap}
 use Rattle.wild_loaded.specs.Memory.{IsStored}
-use Rattle.wild_loaded.proofs.Homes.{LiesIn, beside_across, misses_across, homes_back}
-use Rattle.wild_loaded.proofs.SectionsApart.{section_home, stored_home}
+use Rattle.wild_loaded.proofs.LoadedRanges.{LiesIn, fillings_disjoint, misses_across, disjoint_ranges_flip}
+use Rattle.wild_loaded.proofs.SectionsApart.{range_of_section, stored_section_is_carried}
 
 -- places in sections that are stored, beside each other in each
 pub record HavePlaces (l : Layout) (of : InputSection → List Filling) : Type 0 where
   pub stored : All (λ (s : InputSection). 1 ≤ length (of s) → IsStored l s) (all_sections l)
-  pub within : All (λ (s : InputSection). All (LiesIn (section_home l s)) (of s)) (all_sections l)
+  pub within : All (λ (s : InputSection). All (LiesIn (range_of_section l s)) (of s)) (all_sections l)
   pub beside : All (λ (s : InputSection). AllPairs DoNotOverlap (of s)) (all_sections l)
 
 across_back : (l : Layout) (s t : InputSection) → AreAside l s t → AreAside l t s
-across_back l s t a = λ x y. homes_back (section_home l s) (section_home l t) (a y x)
+across_back l s t a = λ x y. disjoint_ranges_flip (range_of_section l s) (range_of_section l t) (a y x)
 
 -- ---- all sections
 
@@ -46,8 +46,8 @@ places_beside l of kind keeps laid h =
     (h.within i d (omega (arith, lt, m)) k e n)
     (h.within j d m p f q)))
   where
-    both : (s t : InputSection) (a b : Filling) → IsStored l s → IsStored l t → AreAside l s t → LiesIn (section_home l s) a → LiesIn (section_home l t) b → DoNotOverlap a b
-    both s t a b x y across la lb = beside_across l (section_home l s) (section_home l t) a b kind laid (stored_home l s x) (stored_home l t y) (across x y) la lb
+    both : (s t : InputSection) (a b : Filling) → IsStored l s → IsStored l t → AreAside l s t → LiesIn (range_of_section l s) a → LiesIn (range_of_section l t) b → DoNotOverlap a b
+    both s t a b x y across la lb = fillings_disjoint l (range_of_section l s) (range_of_section l t) a b kind laid (stored_section_is_carried l s x) (stored_section_is_carried l t y) (across x y) la lb
 
 -- a byte outside the places of its own section is outside all places
 pub misses_all : (l : Layout) (of : InputSection → List Filling) (s : InputSection) (k : ℕ) → IsLoadable l.kind → KeepsAll l → IsLaidOut l → HavePlaces l of → Contains (all_sections l) s → IsStored l s → k < s.size → All (Misses (s.address + k)) (of s) → All (Misses (s.address + k)) (flat_map of (all_sections l))
@@ -73,4 +73,4 @@ misses_all l of s k kind keeps laid h c stored below own =
         let pair = at_places (AreAside l) (all_sections l) (across_back l) (sections_aside l keeps laid) c.0 j d (λ e. other (sym e)) c.1 m in
         let here : get_or (all_sections l) c.0 d ≡ s = get_or_default (all_sections l) c.0 d s c.1 ∙ c.2 in
         let across = subst (λ (t : InputSection). AreAside l t (get_or (all_sections l) j d)) here pair in
-        λ p f q. (let other = h.stored j d m (not_empty _ p q) in misses_across l (section_home l s) (section_home l (get_or (all_sections l) j d)) k (get_or (of (get_or (all_sections l) j d)) p f) kind laid (stored_home l s stored) (stored_home l (get_or (all_sections l) j d) other) (across stored other) below (h.within j d m p f q))
+        λ p f q. (let other = h.stored j d m (not_empty _ p q) in misses_across l (range_of_section l s) (range_of_section l (get_or (all_sections l) j d)) k (get_or (of (get_or (all_sections l) j d)) p f) kind laid (stored_section_is_carried l s stored) (stored_section_is_carried l (get_or (all_sections l) j d) other) (across stored other) below (h.within j d m p f q))

@@ -5,7 +5,7 @@ use Rattle.std.specs.List.{flat_map}
 use Rattle.wild_loaded.specs.Laws.{PartsAreStored}
 use Rattle.wild_slots.specs.SlotPlaces.{IsLocatedAt}
 use Rattle.wild_placement.specs.PlacedSections.{placed_files, sorted_inputs, of_last_file}
-use Rattle.wild_loaded.proofs.TableHomes.{role_home, role_there}
+use Rattle.wild_loaded.proofs.TableRanges.{range_of_role, role_there}
 use Rattle.wild_loaded.proofs.FramesInPart.{frames_stand, never_framed}
 use Rattle.wild_loaded.proofs.SectionsDisjoint.{frame_inside}
 use Rattle.wild_loaded.proofs.SectionsApart.{filled_place}
@@ -122,10 +122,10 @@ frame_carried l s kind laid input frame written k lt =
     let from = h.from in
     let to = h.to in
     let e = h.distance (omega (arith, lt)) in
-    let c = role_there l role.EhFrame refl written kind laid (s.address + k - (role_home l role.EhFrame).address) (omega (arith, from, to, lt)) in
-    let place : (role_home l role.EhFrame).offset + (s.address + k - (role_home l role.EhFrame).address) ≡ file_place l s + k = omega (arith, e, from) in
-    let at : (role_home l role.EhFrame).address + (s.address + k - (role_home l role.EhFrame).address) ≡ s.address + k = omega (arith, from) in
-    (c.0, subst (λ (n : ℕ). CarriesByte l c.0 n (s.address + k)) place (subst (λ (n : ℕ). CarriesByte l c.0 ((role_home l role.EhFrame).offset + (s.address + k - (role_home l role.EhFrame).address)) n) at c.1))
+    let c = role_there l role.EhFrame refl written kind laid (s.address + k - (range_of_role l role.EhFrame).address) (omega (arith, from, to, lt)) in
+    let place : (range_of_role l role.EhFrame).offset + (s.address + k - (range_of_role l role.EhFrame).address) ≡ file_place l s + k = omega (arith, e, from) in
+    let at : (range_of_role l role.EhFrame).address + (s.address + k - (range_of_role l role.EhFrame).address) ≡ s.address + k = omega (arith, from) in
+    (c.0, subst (λ (n : ℕ). CarriesByte l c.0 n (s.address + k)) place (subst (λ (n : ℕ). CarriesByte l c.0 ((range_of_role l role.EhFrame).offset + (s.address + k - (range_of_role l role.EhFrame).address)) n) at c.1))
 
 -- and has them in the file
 pub stored_kept : (l : Layout) (s : InputSection) → IsLoadable l.kind → IsLaidOut l → IsKeptPlacedSection l s → 1 ≤ length s.bytes → IsStored l s

@@ -22,8 +22,8 @@ use Rattle.wild_layout.specs.SectionPlaces.{SectionLies}
 use Rattle.wild_layout.specs.Geometry.{IsLaidOut}
 use Rattle.wild_geometry.specs.PlacedSections.{file_place}
 use Rattle.wild_loaded.specs.Memory.{IsStored}
-use Rattle.wild_loaded.proofs.Homes.{Home, HasHome, HomesApart}
-use Rattle.wild_loaded.proofs.PairLemmas.{AllPairs-behind, AllPairs-first, AllPairs-across, All-second}
+use Rattle.wild_loaded.proofs.LoadedRanges.{LoadedRange, IsCarriedRange, AreDisjointRanges}
+use Rattle.wild_loaded.proofs.PairLemmas.{AllPairs-after, AllPairs-first, AllPairs-across, All-second}
 use Rattle.wild_layout.proofs.SiteLemmas.{Contains-flat_map}
 use Rattle.wild_geometry.proofs.PlacedInputs.{all_sections, by_files, input_of, in_processed}
 use Rattle.wild_geometry.proofs.Rooms.{room_of, length-room, section_room, apart_at}
@@ -35,7 +35,7 @@ use Rattle.wild_loaded.proofs.Rooms.{HasSize, lies_size, rooms_in, file_rooms, o
 rooms_apart : (l : Layout) → IsLaidOut l → AllPairs Disjoint (flat_map (file_rooms l) (stood_files l))
 unfolding pieces
 rooms_apart l laid =
-    let owned = AllPairs-behind Disjoint (table_pieces l) (owned_pieces l) 0 l.groups laid.owners.apart in
+    let owned = AllPairs-after Disjoint (table_pieces l) (owned_pieces l) 0 l.groups laid.owners.apart in
     let sizes = All-weaker (λ (g : Group). All (λ (f : File). All (SectionLies l) (processed_sections l f)) (placed_files l g)) (λ (g : Group). All (λ (f : File). All (HasSize l) (processed_sections l f)) (placed_files l g)) (λ g a. All-weaker (λ (f : File). All (SectionLies l) (processed_sections l f)) (λ (f : File). All (HasSize l) (processed_sections l f)) (λ f b. All-weaker (SectionLies l) (HasSize l) (lies_size l) (processed_sections l f) b) (placed_files l g) a) l.groups laid.inputs in
     apart_at (flat_map (owned_pieces l) l.groups) (flat_map (file_rooms l) (stood_files l)) (sym (rooms_stand l sizes)) owned
 
@@ -78,11 +78,11 @@ apart_rooms l s t fs ft a =
     h 0 (room_of l s) (omega arith) 0 (room_of l t) (omega arith)
 
 -- where a section stands
-abbrev pub section_home : Layout → InputSection → Home
-section_home l s = record { address = s.address; offset = file_place l s; size = s.size }
+abbrev pub range_of_section : Layout → InputSection → LoadedRange
+range_of_section l s = record { address = s.address; offset = file_place l s; size = s.size }
 
-pub stored_home : (l : Layout) (s : InputSection) → IsStored l s → HasHome l (section_home l s)
-stored_home l s h k lt = h.carried k lt
+pub stored_section_is_carried : (l : Layout) (s : InputSection) → IsStored l s → IsCarriedRange l (range_of_section l s)
+stored_section_is_carried l s h k lt = h.carried k lt
 
 not_frame : (k : Slot) → has_range k ≡ true → is_frame k ≡ false
 not_frame slot.Frame h = cc
@@ -93,9 +93,9 @@ pub filled_place : (l : Layout) (s : InputSection) → is_filled l s ≡ true �
 filled_place l s filled = ap (λ (b : Bool). offset_in (if b then part_with role.EhFrame l.parts else slice_get l.parts s.part) s.address) (not_frame s.slot (and_parts (has_range s.slot) (has_bytes l s) (and_parts (has_range_bytes l s) (not (is_header_only_part l s.part)) filled).0).0)
 
 -- sections with rooms apart share no byte of the file
-pub filled_apart : (l : Layout) (s t : InputSection) → is_filled l s ≡ true → is_filled l t ≡ true → Between Disjoint (section_room l) s t → HomesApart (section_home l s) (section_home l t)
+pub filled_apart : (l : Layout) (s t : InputSection) → is_filled l s ≡ true → is_filled l t ≡ true → Between Disjoint (section_room l) s t → AreDisjointRanges (range_of_section l s) (range_of_section l t)
 filled_apart l s t fs ft across = sides (apart_rooms l s t fs ft across) (length-room l s) (length-room l t) (filled_place l s fs) (filled_place l t ft)
   where
-    sides : Disjoint (room_of l s) (room_of l t) → length (room_of l s).bytes ≡ s.size → length (room_of l t).bytes ≡ t.size → file_place l s ≡ offset_in (slice_get l.parts s.part) s.address → file_place l t ≡ offset_in (slice_get l.parts t.part) t.address → HomesApart (section_home l s) (section_home l t)
+    sides : Disjoint (room_of l s) (room_of l t) → length (room_of l s).bytes ≡ s.size → length (room_of l t).bytes ≡ t.size → file_place l s ≡ offset_in (slice_get l.parts s.part) s.address → file_place l t ≡ offset_in (slice_get l.parts t.part) t.address → AreDisjointRanges (range_of_section l s) (range_of_section l t)
     sides (inl le) ns nt ps pt = inl (omega (arith, le, ns, ps, pt))
     sides (inr le) ns nt ps pt = inr (omega (arith, le, nt, ps, pt))

@@ -22,22 +22,22 @@ use Rattle.wild_layout.specs.TablePlaces.{table_bytes}
 use Rattle.wild_geometry.specs.PlacedSections.{file_place}
 use Rattle.wild_loaded.specs.Memory.{IsStored, HasPlace, Filled, Framed}
 use Rattle.wild_loaded.proofs.PartsHeld.{placed}
-use Rattle.wild_loaded.proofs.Homes.{Home, HomesApart, homes_back}
+use Rattle.wild_loaded.proofs.LoadedRanges.{LoadedRange, AreDisjointRanges, disjoint_ranges_flip}
 use Rattle.wild_geometry.proofs.PlacedInputs.{all_sections, each_at, input_of}
 use Rattle.wild_geometry.proofs.Rooms.{section_room}
-use Rattle.wild_loaded.proofs.SectionsApart.{section_home, section_rooms_apart, filled_apart}
+use Rattle.wild_loaded.proofs.SectionsApart.{range_of_section, section_rooms_apart, filled_apart}
 use Rattle.wild_loaded.proofs.FramesInPart.{FramesBeside, FrameWithin, frames_lie, frames_beside, part_base}
-use Rattle.wild_loaded.proofs.TableHomes.{role_home, home_of, any_roles_apart, filled_apart_from, table_ends}
+use Rattle.wild_loaded.proofs.TableRanges.{range_of_role, range_of_part, any_roles_apart, filled_apart_from, table_ends}
 
 -- ---- frames in their part
 
 -- the run lies in another
-pub record LiesInside (h i : Home) : Type 0 where
+pub record LiesInside (h i : LoadedRange) : Type 0 where
   pub from : i.address ≤ h.address
   pub to : h.address + h.size ≤ i.address + i.size
   pub distance : 1 ≤ h.size → h.offset ≡ i.offset + (h.address - i.address)
 
-pub inside_apart : (h i j : Home) → 1 ≤ h.size → LiesInside h i → HomesApart j i → HomesApart j h
+pub inside_apart : (h i j : LoadedRange) → 1 ≤ h.size → LiesInside h i → AreDisjointRanges j i → AreDisjointRanges j h
 inside_apart h i j some l (inl le) = (let d = l.distance some in inl (omega (arith, le, d)))
 inside_apart h i j some l (inr le) = (let d = l.distance some in let from = l.from in let to = l.to in inr (omega (arith, le, d, from, to)))
 
@@ -45,50 +45,50 @@ frame_place : (l : Layout) (s : InputSection) → is_frame s.slot ≡ true → f
 frame_place l s frame = ap (λ (b : Bool). offset_in (if b then part_with role.EhFrame l.parts else slice_get l.parts s.part) s.address) frame
 
 -- a section of frames lies in the part of frames
-pub frame_inside : (l : Layout) (s : InputSection) → IsLaidOut l → Contains (all_sections l) s → is_frame s.slot ≡ true → LiesInside (section_home l s) (role_home l role.EhFrame)
+pub frame_inside : (l : Layout) (s : InputSection) → IsLaidOut l → Contains (all_sections l) s → is_frame s.slot ≡ true → LiesInside (range_of_section l s) (range_of_role l role.EhFrame)
 frame_inside l s laid c frame =
     let w = All-contains (FrameWithin (part_base l) (part_base l + length (table_bytes l role.EhFrame))) (all_sections l) s (frames_lie l laid).run.within c frame in
     let ends = table_ends l role.EhFrame refl laid in
     let from = w.0 in
     let to = w.1 in
     let start : start_of l role.EhFrame ≡ part_base l = base_is (part_with role.EhFrame l.parts) in
-    let home = ends.0.0 in
+    let placed_range = ends.0.0 in
     let last = ends.0.1 in
     let off = offset_is (part_with role.EhFrame l.parts) in
     let place = frame_place l s frame in
     record {
-      from = omega (arith, from, start, home);
-      to = omega (arith, to, start, home, last);
-      distance = λ some. place ∙ off (omega (arith, some, from, to, start, home, last));
+      from = omega (arith, from, start, placed_range);
+      to = omega (arith, to, start, placed_range, last);
+      distance = λ some. place ∙ off (omega (arith, some, from, to, start, placed_range, last));
     }
   where
     base_is : (o : Option Part) → address_of_part o ≡ part_address o
     base_is None = refl
     base_is (Some p) = refl
 
-    offset_is : (o : Option Part) → 1 ≤ (home_of o).size → offset_in o s.address ≡ (home_of o).offset + (s.address - (home_of o).address)
+    offset_is : (o : Option Part) → 1 ≤ (range_of_part o).size → offset_in o s.address ≡ (range_of_part o).offset + (s.address - (range_of_part o).address)
     offset_is None some = absurd (omega (arith, some))
     offset_is (Some p) some = refl
 
 -- a section shares no byte with another table
-pub any_section_apart : (l : Layout) (r : Role) (s : InputSection) → (role_place r ≡ 0 → ⊥) → (r ≡ role.EhFrame → ⊥) → KeepsAll l → IsLaidOut l → Contains (all_sections l) s → IsStored l s → HomesApart (role_home l r) (section_home l s)
+pub any_section_apart : (l : Layout) (r : Role) (s : InputSection) → (role_place r ≡ 0 → ⊥) → (r ≡ role.EhFrame → ⊥) → KeepsAll l → IsLaidOut l → Contains (all_sections l) s → IsStored l s → AreDisjointRanges (range_of_role l r) (range_of_section l s)
 any_section_apart l r s some other keeps laid c stored = by_place stored.place
   where
-    by_place : HasPlace l s → HomesApart (role_home l r) (section_home l s)
+    by_place : HasPlace l s → AreDisjointRanges (range_of_role l r) (range_of_section l s)
     by_place (Filled filled) = filled_apart_from l r s some keeps laid (each_at (SectionLies l) l s laid.inputs (input_of l s c)) filled
-    by_place (Framed frame) = inside_apart (section_home l s) (role_home l role.EhFrame) (role_home l r) stored.some (frame_inside l s laid c frame) (any_roles_apart l r role.EhFrame some (λ e. cc) other keeps laid)
+    by_place (Framed frame) = inside_apart (range_of_section l s) (range_of_role l role.EhFrame) (range_of_role l r) stored.some (frame_inside l s laid c frame) (any_roles_apart l r role.EhFrame some (λ e. cc) other keeps laid)
 
 -- of a role that a program reads
-pub section_apart : (l : Layout) (r : Role) (s : InputSection) → is_loaded_role r ≡ true → (r ≡ role.EhFrame → ⊥) → KeepsAll l → IsLaidOut l → Contains (all_sections l) s → IsStored l s → HomesApart (role_home l r) (section_home l s)
+pub section_apart : (l : Layout) (r : Role) (s : InputSection) → is_loaded_role r ≡ true → (r ≡ role.EhFrame → ⊥) → KeepsAll l → IsLaidOut l → Contains (all_sections l) s → IsStored l s → AreDisjointRanges (range_of_role l r) (range_of_section l s)
 section_apart l r s loaded other keeps laid c stored = any_section_apart l r s (placed r loaded) other keeps laid c stored
 
 -- ---- two sections
 
 -- they share no byte, where both have bytes in the file
 abbrev pub AreAside : Layout → InputSection → InputSection → Type 0
-AreAside l s t = IsStored l s → IsStored l t → HomesApart (section_home l s) (section_home l t)
+AreAside l s t = IsStored l s → IsStored l t → AreDisjointRanges (range_of_section l s) (range_of_section l t)
 
-both_framed : (h i j : Home) → 1 ≤ h.size → 1 ≤ i.size → LiesInside h j → LiesInside i j → h.address + h.size ≤ i.address → HomesApart h i
+both_framed : (h i j : LoadedRange) → 1 ≤ h.size → 1 ≤ i.size → LiesInside h j → LiesInside i j → h.address + h.size ≤ i.address → AreDisjointRanges h i
 both_framed h i j sh si lh li le =
     let a = lh.distance sh in
     let b = li.distance si in
@@ -108,13 +108,13 @@ sections_aside l keeps laid = λ i j d lt m.
     both : (s t : InputSection) → Contains (all_sections l) s → Contains (all_sections l) t → Between Disjoint (section_room l) s t → FramesBeside s t → AreAside l s t
     both s t cs ct across beside = λ x y. by_places x.some y.some x.place y.place
       where
-        by_places : 1 ≤ s.size → 1 ≤ t.size → HasPlace l s → HasPlace l t → HomesApart (section_home l s) (section_home l t)
+        by_places : 1 ≤ s.size → 1 ≤ t.size → HasPlace l s → HasPlace l t → AreDisjointRanges (range_of_section l s) (range_of_section l t)
         by_places ss st (Filled fs) (Filled ft) = filled_apart l s t fs ft across
         by_places ss st (Filled fs) (Framed ft) =
-            (inside_apart (section_home l t) (role_home l role.EhFrame) (section_home l s) st (frame_inside l t laid ct ft)
-            (homes_back (role_home l role.EhFrame) (section_home l s) (filled_apart_from l role.EhFrame s (λ e. cc) keeps laid (each_at (SectionLies l) l s laid.inputs (input_of l s cs)) fs)))
+            (inside_apart (range_of_section l t) (range_of_role l role.EhFrame) (range_of_section l s) st (frame_inside l t laid ct ft)
+            (disjoint_ranges_flip (range_of_role l role.EhFrame) (range_of_section l s) (filled_apart_from l role.EhFrame s (λ e. cc) keeps laid (each_at (SectionLies l) l s laid.inputs (input_of l s cs)) fs)))
         by_places ss st (Framed fs) (Filled ft) =
-            homes_back (section_home l t) (section_home l s)
-            (inside_apart (section_home l s) (role_home l role.EhFrame) (section_home l t) ss (frame_inside l s laid cs fs)
-            (homes_back (role_home l role.EhFrame) (section_home l t) (filled_apart_from l role.EhFrame t (λ e. cc) keeps laid (each_at (SectionLies l) l t laid.inputs (input_of l t ct)) ft)))
-        by_places ss st (Framed fs) (Framed ft) = both_framed (section_home l s) (section_home l t) (role_home l role.EhFrame) ss st (frame_inside l s laid cs fs) (frame_inside l t laid ct ft) (beside fs ft)
+            disjoint_ranges_flip (range_of_section l t) (range_of_section l s)
+            (inside_apart (range_of_section l s) (range_of_role l role.EhFrame) (range_of_section l t) ss (frame_inside l s laid cs fs)
+            (disjoint_ranges_flip (range_of_role l role.EhFrame) (range_of_section l t) (filled_apart_from l role.EhFrame t (λ e. cc) keeps laid (each_at (SectionLies l) l t laid.inputs (input_of l t ct)) ft)))
+        by_places ss st (Framed fs) (Framed ft) = both_framed (range_of_section l s) (range_of_section l t) (range_of_role l role.EhFrame) ss st (frame_inside l s laid cs fs) (frame_inside l t laid ct ft) (beside fs ft)

@@ -34,7 +34,7 @@ use Rattle.wild_loaded.proofs.SlotsSpaced.{all_spaced}
 use Rattle.wild_loaded.proofs.SlotsKnown.{SiteIsKnown, sites_known, slot_makes, fills_size}
 use Rattle.wild_loaded.proofs.GotPlaces.{got_ascends}
 use Rattle.wild_loaded.proofs.CopyFillings.{copies_filled}
-use Rattle.wild_loaded.proofs.TableHomes.{role_home, stands_inside}
+use Rattle.wild_loaded.proofs.TableRanges.{range_of_role, stands_inside}
 use Rattle.wild_loaded.proofs.TableLists.{sections_filled, slots_filled, blocks_filled, stored_fillings, all_fillings}
 use Rattle.wild_loaded.proofs.AllTables.{slots_of_well}
 use Rattle.wild_loaded.proofs.MadeChanges.{IsMovedImage, HasEntry, kept_at, packed_made, made_over}
@@ -180,7 +180,7 @@ kept_word l w m at v h stands held out = λ k lt.
     let i = stands_inside l role.Got at (word 8 v) refl h.well.laid stands in
     let from = i.0 in
     let to = i.1 in
-    let start = (role_home l role.Got).address in
+    let start = (range_of_role l role.Got).address in
     let here : start + (at + k - start) ≡ at + k = omega (arith, from) in
     let own = subst (λ (a : ℕ). All (Misses a) (slots_filled l)) (sym here) (out k (omega (arith, n, lt))) in
     let all = got_misses l w m (at + k - start) h (omega (arith, from, to, n, lt)) own in

@@ -28,7 +28,7 @@ use Rattle.wild_loaded.specs.Memory.{image_memory}
 use Rattle.wild_loaded.proofs.SitesFit.{slots_low}
 use Rattle.wild_loaded.proofs.SlotSites.{SlotSite, sites_at, symbol_sites, file_sites, group_sites, all_sites}
 use Rattle.wild_loaded.proofs.SlotFillings.{IsPairWord, pair_words, pair_sites}
-use Rattle.wild_loaded.proofs.TableHomes.{role_home, stands_inside}
+use Rattle.wild_loaded.proofs.TableRanges.{range_of_role, stands_inside}
 use Rattle.wild_loaded.proofs.MadeChanges.{IsMovedImage, kept_at}
 use Rattle.wild_loaded.proofs.OutsideTables.{stub_misses}
 use Rattle.wild_loaded.proofs.SitesLoaded.{IsLoadedSite, site_after}
@@ -85,7 +85,7 @@ stub_loaded l w m i at stub s h there got plt = λ k lt.
     let n = stands_inside l role.PltGot stub (stub_in l at stub).bytes refl h.well.laid b.stands in
     let from = n.0 in
     let to = n.1 in
-    let start = (role_home l role.PltGot).address in
+    let start = (range_of_role l role.PltGot).address in
     let same = kept_at l w m (start + (stub + k - start)) h (stub_misses l w m (stub + k - start) h (omega (arith, from, to, lt))) in
     let e : w.base + (start + (stub + k - start)) ≡ w.base + stub + k = omega (arith, from) in
     subst (λ (a : ℕ). byte_in m a ≡ byte_in (image_memory l w) a) e same ∙ b.held k lt

@@ -29,13 +29,13 @@ use Rattle.wild_geometry.proofs.PlacedInputs.{all_sections, input_of}
 use Rattle.wild_geometry.proofs.PlacedOrigins.{kept_origin}
 use Rattle.wild_loaded.specs.Laws.{FileBytesAreStored}
 use Rattle.wild_loaded.proofs.Fillings.{Filling, Misses}
-use Rattle.wild_loaded.proofs.Homes.{Home, LiesIn}
+use Rattle.wild_loaded.proofs.LoadedRanges.{LoadedRange, LiesIn}
 use Rattle.wild_loaded.proofs.PartsHeld.{byte_carried}
-use Rattle.wild_loaded.proofs.SectionsApart.{section_home}
+use Rattle.wild_loaded.proofs.SectionsApart.{range_of_section}
 use Rattle.wild_loaded.proofs.SectionsDisjoint.{frame_inside}
 use Rattle.wild_loaded.proofs.SectionFillings.{section_fillings}
 use Rattle.wild_loaded.proofs.FilledSections.{filling_known, filled_there, lies_there}
-use Rattle.wild_loaded.proofs.TableHomes.{role_home, home_of}
+use Rattle.wild_loaded.proofs.TableRanges.{range_of_role, range_of_part}
 use Rattle.wild_loaded.proofs.TableLists.{sections_filled, slots_filled, blocks_filled}
 use Rattle.wild_loaded.proofs.MadeChanges.{IsMovedImage, kept_at}
 use Rattle.wild_loaded.proofs.OutsideTables.{all_miss, copies_miss}
@@ -46,15 +46,15 @@ file_bytes_stored law = λ l w a b kind legal laid h. byte_carried l w h.segment
 
 -- ---- what fills nothing there
 
-outside_misses : (h : Home) (x : Filling) (a : ℕ) → LiesIn h x → IsOutside h.address h.size a → Misses a x
+outside_misses : (h : LoadedRange) (x : Filling) (a : ℕ) → LiesIn h x → IsOutside h.address h.size a → Misses a x
 outside_misses h x a lies (inl lt) = λ j less e. (let from = lies.from in omega (arith, lt, from, e))
 outside_misses h x a lies (inr le) = λ j less e. (let to = lies.to in omega (arith, le, to, less, e))
 
 -- the parts that are filled
-role_outside : (l : Layout) (w : World) (a : ℕ) (r : Role) → IsUnfilled l w a → is_filled_role r ≡ true → IsOutside (role_home l r).address (role_home l r).size a
+role_outside : (l : Layout) (w : World) (a : ℕ) (r : Role) → IsUnfilled l w a → is_filled_role r ≡ true → IsOutside (range_of_role l r).address (range_of_role l r).size a
 role_outside l w a r free filled = by_part (part_with r l.parts) refl
   where
-    by_part : (o : Option Part) → part_with r l.parts ≡ o → IsOutside (home_of o).address (home_of o).size a
+    by_part : (o : Option Part) → part_with r l.parts ≡ o → IsOutside (range_of_part o).address (range_of_part o).size a
     by_part None e = inr (omega arith)
     by_part (Some p) e =
         let f = FoundAt-from_find (has_role r) l.parts p e in
@@ -65,7 +65,7 @@ role_outside l w a r free filled = by_part (part_with r l.parts) refl
 frame_outside : (l : Layout) (w : World) (a : ℕ) (s : InputSection) → IsLaidOut l → IsUnfilled l w a → Contains (all_sections l) s → is_frame s.slot ≡ true → IsOutside s.address s.size a
 frame_outside l w a s laid free c frame = by_part (role_outside l w a role.EhFrame free refl)
   where
-    by_part : IsOutside (role_home l role.EhFrame).address (role_home l role.EhFrame).size a → IsOutside s.address s.size a
+    by_part : IsOutside (range_of_role l role.EhFrame).address (range_of_role l role.EhFrame).size a → IsOutside s.address s.size a
     by_part (inl lt) = (let from = (frame_inside l s laid c frame).from in inl (omega (arith, lt, from)))
     by_part (inr le) = (let to = (frame_inside l s laid c frame).to in inr (omega (arith, le, to)))
 
@@ -82,8 +82,8 @@ section_misses l w m a s x h free c cx =
     let there = filled_there l s x h.well.keeps h.well.laid h.well.decided input known in
     let lies = lies_there l (block_for l input.owner s) s x there in
     elim (cases_Bool (is_frame s.slot)) [
-      | inl frame ↦ outside_misses (section_home l s) x a lies (frame_outside l w a s h.well.laid free c frame)
-      | inr plain ↦ outside_misses (section_home l s) x a lies (plain_outside l w a s h.well.keeps h.well.kind free input known.reads plain there.by.room)
+      | inl frame ↦ outside_misses (range_of_section l s) x a lies (frame_outside l w a s h.well.laid free c frame)
+      | inr plain ↦ outside_misses (range_of_section l s) x a lies (plain_outside l w a s h.well.keeps h.well.kind free input known.reads plain there.by.room)
     ]
 
 sections_miss : (l : Layout) (w : World) (m : Memory) (a : ℕ) → IsMovedImage l w m → IsUnfilled l w a → All (Misses a) (sections_filled l)
@@ -96,7 +96,7 @@ pub still_held : (l : Layout) (w : World) (m : Memory) (a b : ℕ) → FileBytes
 still_held l w m a b law h file free =
     kept_at l w m a h (all_miss l w a
     (sections_miss l w m a h free)
-    (λ i d lt. outside_misses (role_home l role.Got) (get_or (slots_filled l) i d) a (h.slots.got.within i d lt) (role_outside l w a role.Got free refl))
-    (λ i d lt. outside_misses (role_home l role.GotRelr) (get_or (blocks_filled l) i d) a (h.slots.block.within i d lt) (role_outside l w a role.GotRelr free refl))
+    (λ i d lt. outside_misses (range_of_role l role.Got) (get_or (slots_filled l) i d) a (h.slots.got.within i d lt) (role_outside l w a role.Got free refl))
+    (λ i d lt. outside_misses (range_of_role l role.GotRelr) (get_or (blocks_filled l) i d) a (h.slots.block.within i d lt) (role_outside l w a role.GotRelr free refl))
     (copies_miss l w m a h free.copies))
     ∙ law l w a b h.well.kind h.well.legal h.well.laid file

@@ -1,6 +1,6 @@
 -- What the tables of a layout fill, as one list, and that it has what each table has.
 use Rattle.wild_placement.specs.PlacedSections.{placed_file, placed_files, processed_sections}
-use Rattle.wild_geometry.proofs.PlacedInputs.{all_sections, by_files, laid_same_all}
+use Rattle.wild_geometry.proofs.PlacedInputs.{all_sections, by_files, placed_files_same_all}
 use Rattle.std.proofs.Common.{◌≡◌, ℕ, List, [], ◌∷◌, ◌++◌, map, refl, sym, ap, ◌∙◌, subst, append_assoc}
 use Rattle.std.specs.Prelude.{IsPermutation}
 use Rattle.std.specs.List.{flat_map}
@@ -108,12 +108,12 @@ all_relative l w =
     ∙ ap (λ (ys : List Rela). flat_map (section_entries l) (all_sections l) ++ ys) (append-nil (made_of (entry_of entries.Relative l.machine l.options.relr) (all_sites l)))
 
 -- the entries of slots in a table
-entries_laid : (part : EntryPart) (l : Layout) (at : ℕ) (f : File) → slot_entries_of part l (placed_file l at f) ≡ slot_entries_of part l f
+entries_of_placed : (part : EntryPart) (l : Layout) (at : ℕ) (f : File) → slot_entries_of part l (placed_file l at f) ≡ slot_entries_of part l f
 unfolding slot_entries_of
-entries_laid part l at f = refl
+entries_of_placed part l at f = refl
 
 slots_listed : (l : Layout) (part : EntryPart) → flat_map (λ (g : Group). flat_map (slot_entries_of part l) (placed_files l g)) l.groups ≡ made_of (entry_of part l.machine l.options.relr) (all_sites l)
-slots_listed l part = laid_same_all (slot_entries_of part l) l (entries_laid part l) ∙ all_by_sites (of_site (entry_of part l.machine l.options.relr)) (slot_entries_of part l) l (entries_by_sites part l)
+slots_listed l part = placed_files_same_all (slot_entries_of part l) l (entries_of_placed part l) ∙ all_by_sites (of_site (entry_of part l.machine l.options.relr)) (slot_entries_of part l) l (entries_by_sites part l)
 
 relative_sorted : (l : Layout) → IsPermutation (relative_list l) (flat_map (λ (g : Group). flat_map (relative_entries l) (placed_files l g)) l.groups)
 relative_sorted l =
@@ -173,9 +173,9 @@ general_sorted l laid =
     let one' = IsPermutation-trans whole (first ++ rest) (first ++ ((copies ++ fields) ++ slots)) one (IsPermutation-append_right first rest ((copies ++ fields) ++ slots) two') in
     let all = IsPermutation-trans whole (first ++ ((copies ++ fields) ++ slots)) ((fields ++ (first ++ slots)) ++ copies) one' (reversed_section fields first slots copies) in
     let ef : fields ≡ flat_map (section_generals l) (all_sections l) = sym (by_files (section_generals l) l) in
-    let eo : first ≡ storage_entries l = laid_same_all (entries_of_first_file l) l (λ at f. refl) ∙ stands_once (storage_entries l) l.groups laid.some_group laid.files in
+    let eo : first ≡ storage_entries l = placed_files_same_all (entries_of_first_file l) l (λ at f. refl) ∙ stands_once (storage_entries l) l.groups laid.some_group laid.files in
     let es : slots ≡ made_of (entry_of entries.General l.machine l.options.relr) (all_sites l) = slots_listed l entries.General in
-    let ec : copies ≡ map (copy_entry l) (all_copies l) = laid_same_all (λ (f : File). map (copy_entry l) (copies_of f)) l (λ at f. refl) ∙ sym (map-nested (copy_entry l) l.groups) in
+    let ec : copies ≡ map (copy_entry l) (all_copies l) = placed_files_same_all (λ (f : File). map (copy_entry l) (copies_of f)) l (λ at f. refl) ∙ sym (map-nested (copy_entry l) l.groups) in
     let same : (fields ++ (first ++ slots)) ++ copies ≡ general_list l =
     ap (λ (ys : List Rela). (ys ++ (first ++ slots)) ++ copies) ef
     ∙ ap (λ (ys : List Rela). (flat_map (section_generals l) (all_sections l) ++ (ys ++ slots)) ++ copies) eo

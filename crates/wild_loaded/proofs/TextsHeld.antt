@@ -35,21 +35,21 @@ use Rattle.wild_meaning.proofs.OutputLemmas.{not_partial}
 use Rattle.wild_geometry.specs.Carried.{IsPartLoaded, EachPartIsLoaded}
 use Rattle.wild_geometry.specs.PlacedSections.{file_place}
 use Rattle.wild_geometry.proofs.HeaderOnlyLemmas.{part_is_written}
-use Rattle.wild_geometry.proofs.PlacedInputs.{all_sections, laid_of}
+use Rattle.wild_geometry.proofs.PlacedInputs.{all_sections, placed_file_of}
 use Rattle.wild_geometry.proofs.Rooms.{room_of, length-room}
 use Rattle.wild_loaded.specs.Memory.{image_memory, IsStored, HasPlace, Filled, Framed}
 use Rattle.wild_loaded.specs.Laws.{TextsAreStored}
 use Rattle.wild_loaded.proofs.FirstFile.{first_file, interpreter_bytes}
-use Rattle.wild_loaded.proofs.Homes.{Home, HasHome, HomesApart, homes_back}
+use Rattle.wild_loaded.proofs.LoadedRanges.{LoadedRange, IsCarriedRange, AreDisjointRanges, disjoint_ranges_flip}
 use Rattle.wild_loaded.proofs.Loads.{piece_stands}
 use Rattle.wild_loaded.proofs.MadeChanges.{IsMovedImage, kept_at}
 use Rattle.wild_loaded.proofs.OutsideTables.{run_misses}
 use Rattle.wild_loaded.proofs.PartsHeld.{placed, byte_stands, byte_carried}
 use Rattle.wild_loaded.proofs.Rooms.{rooms_in, once_and_thunks, stood_files}
 use Rattle.wild_loaded.proofs.SectionBytesInMemory.{Contains-flat_map_from}
-use Rattle.wild_loaded.proofs.SectionsApart.{section_home, once_pieces_apart, room_listed, filled_place}
+use Rattle.wild_loaded.proofs.SectionsApart.{range_of_section, once_pieces_apart, room_listed, filled_place}
 use Rattle.wild_loaded.proofs.SectionsDisjoint.{inside_apart, frame_inside, any_section_apart}
-use Rattle.wild_loaded.proofs.TableHomes.{role_home, home_of, any_roles_apart, any_room_apart}
+use Rattle.wild_loaded.proofs.TableRanges.{range_of_role, range_of_part, any_roles_apart, any_room_apart}
 
 -- ---- parts
 
@@ -112,7 +112,7 @@ of_first : (l : Layout) (x : Piece) → IsLaidOut l → Contains (merged_and_ide
 unfolding pieces
 of_first l x laid c =
     let f = first_file l laid in
-    let a = laid_of l f.group f.file f.filed in
+    let a = placed_file_of l f.group f.file f.filed in
     let pf = placed_file l a.0 f.file in
     let sorted = of_last_file pf (flat_map (sorted_piece l) (sorted_inputs l)) in
     let mine : Contains (of_first_file pf (merged_and_identity_pieces l)) x = subst (λ (b : Bool). Contains (if b then merged_and_identity_pieces l else []) x) (sym f.first) c in
@@ -183,41 +183,41 @@ texts_stored law stand = λ l w kind legal laid loaded. record {
 
 -- ---- behind what the tables fill
 
-abbrev front_home : Part → List ℕ → Home
-front_home p bs = record { address = p.address; offset = p.offset; size = length bs }
+abbrev range_of_bytes : Part → List ℕ → LoadedRange
+range_of_bytes p bs = record { address = p.address; offset = p.offset; size = length bs }
 
 -- the strings share no byte with a section that owns bytes
-filled_apart : (l : Layout) (g : Merged) (p : Part) (s : InputSection) → IsLaidOut l → StringsStand l g p → Contains (all_sections l) s → is_filled l s ≡ true → HomesApart (front_home p (merged_bytes g)) (section_home l s)
+filled_apart : (l : Layout) (g : Merged) (p : Part) (s : InputSection) → IsLaidOut l → StringsStand l g p → Contains (all_sections l) s → is_filled l s ≡ true → AreDisjointRanges (range_of_bytes p (merged_bytes g)) (range_of_section l s)
 filled_apart l g p s laid stand c filled =
     let all = All-contains (λ a. All (Disjoint a) (flat_map (once_and_thunks l) (stood_files l))) (flat_map (rooms_in l) (stood_files l)) (room_of l s) (once_pieces_apart l laid) (room_listed l s c filled) in
     sides (All-contains (Disjoint (room_of l s)) (flat_map (once_and_thunks l) (stood_files l)) (piece_at p (merged_bytes g)) all stand.first.once) (length-room l s) (filled_place l s filled)
   where
-    sides : Disjoint (room_of l s) (piece_at p (merged_bytes g)) → length (room_of l s).bytes ≡ s.size → file_place l s ≡ offset_in (slice_get l.parts s.part) s.address → HomesApart (front_home p (merged_bytes g)) (section_home l s)
+    sides : Disjoint (room_of l s) (piece_at p (merged_bytes g)) → length (room_of l s).bytes ≡ s.size → file_place l s ≡ offset_in (slice_get l.parts s.part) s.address → AreDisjointRanges (range_of_bytes p (merged_bytes g)) (range_of_section l s)
     sides (inl le) fs e = inr (omega (arith, le, fs, e))
     sides (inr le) fs e = inl (omega (arith, le, e))
 
 -- nor with a table
-table_apart : (l : Layout) (g : Merged) (p : Part) (r : Role) → KeepsAll l → IsLaidOut l → slice_get l.parts g.part ≡ Some p → StringsStand l g p → (role_place r ≡ 0 → ⊥) → HomesApart (front_home p (merged_bytes g)) (role_home l r)
+table_apart : (l : Layout) (g : Merged) (p : Part) (r : Role) → KeepsAll l → IsLaidOut l → slice_get l.parts g.part ≡ Some p → StringsStand l g p → (role_place r ≡ 0 → ⊥) → AreDisjointRanges (range_of_bytes p (merged_bytes g)) (range_of_role l r)
 table_apart l g p r keeps laid there stand some =
     let fits = stand.fits in
     let room : HasRoom l g.part p.address (length (merged_bytes g)) p = record { listed = there; raw = stand.raw; takes = stand.takes; from = omega arith; to = omega (arith, fits) } in
     let at : offset_in (slice_get l.parts g.part) p.address ≡ p.offset + (p.address - p.address) = ap (λ (o : Option Part). offset_in o p.address) there in
     let apart = any_room_apart l r g.part p.address (length (merged_bytes g)) p some keeps laid room in
-    homes_back (role_home l r) (front_home p (merged_bytes g)) (subst (λ (k : ℕ). HomesApart (role_home l r) (record { address = p.address; offset = k; size = length (merged_bytes g) })) (at ∙ omega arith) apart)
+    disjoint_ranges_flip (range_of_role l r) (range_of_bytes p (merged_bytes g)) (subst (λ (k : ℕ). AreDisjointRanges (range_of_role l r) (record { address = p.address; offset = k; size = length (merged_bytes g) })) (at ∙ omega arith) apart)
 
-section_apart : (l : Layout) (g : Merged) (p : Part) (s : InputSection) → KeepsAll l → IsLaidOut l → slice_get l.parts g.part ≡ Some p → StringsStand l g p → Contains (all_sections l) s → IsStored l s → HomesApart (front_home p (merged_bytes g)) (section_home l s)
+section_apart : (l : Layout) (g : Merged) (p : Part) (s : InputSection) → KeepsAll l → IsLaidOut l → slice_get l.parts g.part ≡ Some p → StringsStand l g p → Contains (all_sections l) s → IsStored l s → AreDisjointRanges (range_of_bytes p (merged_bytes g)) (range_of_section l s)
 section_apart l g p s keeps laid there stand c stored = by_place stored.place
   where
-    by_place : HasPlace l s → HomesApart (front_home p (merged_bytes g)) (section_home l s)
+    by_place : HasPlace l s → AreDisjointRanges (range_of_bytes p (merged_bytes g)) (range_of_section l s)
     by_place (Filled filled) = filled_apart l g p s laid stand c filled
-    by_place (Framed frame) = inside_apart (section_home l s) (role_home l role.EhFrame) (front_home p (merged_bytes g)) stored.some (frame_inside l s laid c frame) (table_apart l g p role.EhFrame keeps laid there stand (λ e. cc))
+    by_place (Framed frame) = inside_apart (range_of_section l s) (range_of_role l role.EhFrame) (range_of_bytes p (merged_bytes g)) stored.some (frame_inside l s laid c frame) (table_apart l g p role.EhFrame keeps laid there stand (λ e. cc))
 
 -- the bytes are loaded
-front_there : (l : Layout) (p : Part) (bs : List ℕ) → IsLoadable l.kind → EachPartIsLoaded l → Contains l.parts p → is_allocated_section l p.section ≡ true → takes_file_bytes l p.section ≡ true → length bs ≤ p.size → HasHome l (front_home p bs)
+front_there : (l : Layout) (p : Part) (bs : List ℕ) → IsLoadable l.kind → EachPartIsLoaded l → Contains l.parts p → is_allocated_section l p.section ≡ true → takes_file_bytes l p.section ≡ true → length bs ≤ p.size → IsCarriedRange l (range_of_bytes p bs)
 front_there l p bs kind loaded c room takes fits k lt = byte_loaded l p kind loaded c room takes k (omega (arith, lt, fits))
 
 -- a run that shares no byte with sections and tables is as before
-run_kept : (l : Layout) (w : World) (m : Memory) (h : Home) (bs : List ℕ) → IsMovedImage l w m → HasHome l h → ((s : InputSection) → Contains (all_sections l) s → IsStored l s → HomesApart h (section_home l s)) → ((t : Role) → is_loaded_role t ≡ true → HomesApart h (role_home l t)) → length bs ≤ h.size → Holds (image_memory l w) (w.base + h.address) bs → Holds m (w.base + h.address) bs
+run_kept : (l : Layout) (w : World) (m : Memory) (h : LoadedRange) (bs : List ℕ) → IsMovedImage l w m → IsCarriedRange l h → ((s : InputSection) → Contains (all_sections l) s → IsStored l s → AreDisjointRanges h (range_of_section l s)) → ((t : Role) → is_loaded_role t ≡ true → AreDisjointRanges h (range_of_role l t)) → length bs ≤ h.size → Holds (image_memory l w) (w.base + h.address) bs → Holds m (w.base + h.address) bs
 run_kept l w m h bs image there sections tables fits before = λ k lt.
     let same = kept_at l w m (h.address + k) image (run_misses l w m h k image there sections tables (omega (arith, lt, fits))) in
     let e : w.base + (h.address + k) ≡ w.base + h.address + k = omega arith in
@@ -227,7 +227,7 @@ strings_moved : (l : Layout) (w : World) (m : Memory) (g : Merged) (p : Part) �
 strings_moved l w m g p law h loaded c there room written = λ k lt. (
     let well = h.well in
     let stand = strings_stand l g p well.laid c there (written_tested l g.part p there written) (omega (arith, lt)) in
-    run_kept l w m (front_home p (merged_bytes g)) (merged_bytes g) h
+    run_kept l w m (range_of_bytes p (merged_bytes g)) (merged_bytes g) h
     (front_there l p (merged_bytes g) well.kind loaded (listed_at l.parts g.part p there) (room_tested l g.part p there room) stand.takes stand.fits)
     (λ s d stored. section_apart l g p s well.keeps well.laid there stand d stored)
     (λ t reads. table_apart l g p t well.keeps well.laid there stand (placed t reads))
@@ -235,9 +235,9 @@ strings_moved l w m g p law h loaded c there room written = λ k lt. (
     ((law l w well.kind well.legal well.laid loaded).strings g p c there room written)
     k lt)
 
--- the home of the path is that of its role
-path_home : (l : Layout) (p : Part) → PathStands l p → role_home l role.Interp ≡ front_home p l.interp
-path_home l p s = ap home_of s.there ∙ ap (λ (n : ℕ). record { address = p.address; offset = p.offset; size = n }) (sym s.size)
+-- the range of the path is that of its role
+path_range : (l : Layout) (p : Part) → PathStands l p → range_of_role l role.Interp ≡ range_of_bytes p l.interp
+path_range l p s = ap range_of_part s.there ∙ ap (λ (n : ℕ). record { address = p.address; offset = p.offset; size = n }) (sym s.size)
 
 not_read : (t : Role) → is_loaded_role t ≡ true → role.Interp ≡ t → ⊥
 not_read t reads e = (let no : is_loaded_role role.Interp ≡ true = subst (λ (x : Role). is_loaded_role x ≡ true) (sym e) reads in cc)
@@ -247,11 +247,11 @@ path_moved l w m n p law h loaded is there room written =
     let well = h.well in
     let s = path_stands l n p well.laid is there (written_tested l n p there written) in
     let size = s.size in
-    let home = path_home l p s in
-    run_kept l w m (front_home p l.interp) l.interp h
+    let placed_range = path_range l p s in
+    run_kept l w m (range_of_bytes p l.interp) l.interp h
     (front_there l p l.interp well.kind loaded (listed_at l.parts n p there) (room_tested l n p there room) s.takes (omega (arith, size)))
-    (λ x d stored. subst (λ (y : Home). HomesApart y (section_home l x)) home (any_section_apart l role.Interp x (λ e. cc) (λ e. cc) well.keeps well.laid d stored))
-    (λ t reads. subst (λ (y : Home). HomesApart y (role_home l t)) home (any_roles_apart l role.Interp t (λ e. cc) (placed t reads) (not_read t reads) well.keeps well.laid))
+    (λ x d stored. subst (λ (y : LoadedRange). AreDisjointRanges y (range_of_section l x)) placed_range (any_section_apart l role.Interp x (λ e. cc) (λ e. cc) well.keeps well.laid d stored))
+    (λ t reads. subst (λ (y : LoadedRange). AreDisjointRanges y (range_of_role l t)) placed_range (any_roles_apart l role.Interp t (λ e. cc) (placed t reads) (not_read t reads) well.keeps well.laid))
     (omega arith)
     ((law l w well.kind well.legal well.laid loaded).interpreter n p is there room written)
 

@@ -3,7 +3,7 @@ use Rattle.wild_words.proofs.ListLemmas.{flat_map-flat_map}
 use Rattle.wild_placement.specs.PlacedSections.{placed_file, placed_files, of_last_file, sorted_inputs}
 use Rattle.wild_geometry.specs.PlacedSections.{file_place}
 use Rattle.wild_loaded.proofs.SectionsDisjoint.{inside_apart, frame_inside}
-use Rattle.wild_geometry.proofs.PlacedInputs.{all_sections, laid_of, laid_same_all}
+use Rattle.wild_geometry.proofs.PlacedInputs.{all_sections, placed_file_of, placed_files_same_all}
 use Rattle.wild_geometry.proofs.Rooms.{room_of, length-room}
 use Rattle.wild_loaded.proofs.Rooms.{rooms_in, stood_files}
 use Rattle.std.proofs.Common.{◌≡◌, ℕ, ◌+◌, ◌<◌, inl, inr, Bool, true, if◌then◌else◌, List, [], length, Some, flat_map, refl, sym, ap, ◌∙◌, arith, subst, ◌++◌}
@@ -43,9 +43,9 @@ use Rattle.wild_loaded.specs.Laws.{ThunksAreThere}
 use Rattle.wild_loaded.proofs.SectionBytesInMemory.{Contains-flat_map_from}
 use Rattle.wild_loaded.proofs.PartsHeld.{byte_stands, byte_carried}
 use Rattle.wild_loaded.proofs.Loads.{piece_stands}
-use Rattle.wild_loaded.proofs.Homes.{Home, HasHome, HomesApart, homes_back}
-use Rattle.wild_loaded.proofs.SectionsApart.{section_home, thunk_pieces_apart, room_listed, filled_place}
-use Rattle.wild_loaded.proofs.TableHomes.{role_home, room_apart}
+use Rattle.wild_loaded.proofs.LoadedRanges.{LoadedRange, IsCarriedRange, AreDisjointRanges, disjoint_ranges_flip}
+use Rattle.wild_loaded.proofs.SectionsApart.{range_of_section, thunk_pieces_apart, room_listed, filled_place}
+use Rattle.wild_loaded.proofs.TableRanges.{range_of_role, room_apart}
 use Rattle.wild_loaded.proofs.MadeChanges.{IsMovedImage, kept_at}
 use Rattle.wild_loaded.proofs.OutsideTables.{run_misses}
 
@@ -80,7 +80,7 @@ of_thunks l t keeps k =
 thunk_listed : (l : Layout) (t : Thunk) → KeepsAll l → IsOfFile l t → Contains (pieces l) (thunk_at l t)
 unfolding pieces
 thunk_listed l t keeps k =
-    let a = laid_of l k.group k.file k.filed in
+    let a = placed_file_of l k.group k.file k.filed in
     let f = placed_file l a.0 k.file in
     let sorted = of_last_file f (flat_map (sorted_piece l) (sorted_inputs l)) in
     let once = of_first_file f (merged_and_identity_pieces l) in
@@ -113,44 +113,44 @@ thunks_there law = λ l w keeps kind legal laid none b t c d.
 -- ---- behind what the tables fill
 
 -- where a thunk stands
-abbrev thunk_home : Layout → Thunk → Home
-thunk_home l t = record { address = t.address; offset = thunk_offset l t; size = thunk_size }
+abbrev range_of_thunk : Layout → Thunk → LoadedRange
+range_of_thunk l t = record { address = t.address; offset = thunk_offset l t; size = thunk_size }
 
-home_there : (l : Layout) (t : Thunk) → ThunkLies l t → HasHome l (thunk_home l t)
-home_there l t h k lt = h.carried k lt
+thunk_is_carried : (l : Layout) (t : Thunk) → ThunkLies l t → IsCarriedRange l (range_of_thunk l t)
+thunk_is_carried l t h k lt = h.carried k lt
 
 thunks_stood : (l : Layout) → flat_map (thunk_pieces l) (stood_files l) ≡ flat_map (thunk_pieces l) (files_of l.groups)
-thunks_stood l = flat_map-flat_map (thunk_pieces l) (placed_files l) l.groups ∙ laid_same_all (thunk_pieces l) l (λ at f. refl) ∙ sym (flat_map-flat_map (thunk_pieces l) (λ (g : Group). g.files) l.groups)
+thunks_stood l = flat_map-flat_map (thunk_pieces l) (placed_files l) l.groups ∙ placed_files_same_all (thunk_pieces l) l (λ at f. refl) ∙ sym (flat_map-flat_map (thunk_pieces l) (λ (g : Group). g.files) l.groups)
 
 -- a thunk shares no byte with a section that owns bytes
-filled_apart : (l : Layout) (t : Thunk) (s : InputSection) → KeepsAll l → IsLaidOut l → IsOfFile l t → Contains (all_sections l) s → is_filled l s ≡ true → HomesApart (thunk_home l t) (section_home l s)
+filled_apart : (l : Layout) (t : Thunk) (s : InputSection) → KeepsAll l → IsLaidOut l → IsOfFile l t → Contains (all_sections l) s → is_filled l s ≡ true → AreDisjointRanges (range_of_thunk l t) (range_of_section l s)
 filled_apart l t s keeps laid k c filled =
     let section = room_listed l s c filled in
     let thunk = subst (λ (ps : List Piece). Contains ps (thunk_at l t)) (sym (thunks_stood l)) (Contains-flat_map (thunk_pieces l) (files_of l.groups) k.file (thunk_at l t) (Contains-flat_map (λ (g : Group). g.files) l.groups k.group k.file k.grouped k.filed) (of_thunks l t keeps k)) in
     let all = All-contains (λ a. All (Disjoint a) (flat_map (thunk_pieces l) (stood_files l))) (flat_map (rooms_in l) (stood_files l)) (room_of l s) (thunk_pieces_apart l laid) section in
     sides (All-contains (Disjoint (room_of l s)) (flat_map (thunk_pieces l) (stood_files l)) (thunk_at l t) all thunk) (length-room l s) (length-thunk_bytes l t) (filled_place l s filled)
   where
-    sides : Disjoint (room_of l s) (thunk_at l t) → length (room_of l s).bytes ≡ s.size → length (thunk_bytes l t) ≡ thunk_size → file_place l s ≡ offset_in (slice_get l.parts s.part) s.address → HomesApart (thunk_home l t) (section_home l s)
+    sides : Disjoint (room_of l s) (thunk_at l t) → length (room_of l s).bytes ≡ s.size → length (thunk_bytes l t) ≡ thunk_size → file_place l s ≡ offset_in (slice_get l.parts s.part) s.address → AreDisjointRanges (range_of_thunk l t) (range_of_section l s)
     sides (inl le) fs ft e = inr (omega (arith, le, fs, e))
     sides (inr le) fs ft e = inl (omega (arith, le, ft, e))
 
 -- nor with a table
-table_apart : (l : Layout) (t : Thunk) (r : Role) → KeepsAll l → IsLaidOut l → ThunkLies l t → is_loaded_role r ≡ true → HomesApart (thunk_home l t) (role_home l r)
-table_apart l t r keeps laid h loaded = homes_back (role_home l r) (thunk_home l t) (room_apart l r l.primary_part t.address thunk_size h.stands.0 loaded keeps laid h.stands.1)
+table_apart : (l : Layout) (t : Thunk) (r : Role) → KeepsAll l → IsLaidOut l → ThunkLies l t → is_loaded_role r ≡ true → AreDisjointRanges (range_of_thunk l t) (range_of_role l r)
+table_apart l t r keeps laid h loaded = disjoint_ranges_flip (range_of_role l r) (range_of_thunk l t) (room_apart l r l.primary_part t.address thunk_size h.stands.0 loaded keeps laid h.stands.1)
 
 -- nor with any section
-section_apart : (l : Layout) (t : Thunk) (s : InputSection) → KeepsAll l → IsLaidOut l → IsOfFile l t → ThunkLies l t → Contains (all_sections l) s → IsStored l s → HomesApart (thunk_home l t) (section_home l s)
+section_apart : (l : Layout) (t : Thunk) (s : InputSection) → KeepsAll l → IsLaidOut l → IsOfFile l t → ThunkLies l t → Contains (all_sections l) s → IsStored l s → AreDisjointRanges (range_of_thunk l t) (range_of_section l s)
 section_apart l t s keeps laid k lies c stored = by_place stored.place
   where
-    by_place : HasPlace l s → HomesApart (thunk_home l t) (section_home l s)
+    by_place : HasPlace l s → AreDisjointRanges (range_of_thunk l t) (range_of_section l s)
     by_place (Filled filled) = filled_apart l t s keeps laid k c filled
-    by_place (Framed frame) = inside_apart (section_home l s) (role_home l role.EhFrame) (thunk_home l t) stored.some (frame_inside l s laid c frame) (table_apart l t role.EhFrame keeps laid lies refl)
+    by_place (Framed frame) = inside_apart (range_of_section l s) (range_of_role l role.EhFrame) (range_of_thunk l t) stored.some (frame_inside l s laid c frame) (table_apart l t role.EhFrame keeps laid lies refl)
 
 -- a byte of a thunk is filled by none of them
 thunk_kept : (l : Layout) (w : World) (m : Memory) (t : Thunk) (i : ℕ) → IsMovedImage l w m → IsOfFile l t → i < thunk_size → byte_in m (w.base + t.address + i) ≡ byte_in (image_memory l w) (w.base + t.address + i)
 thunk_kept l w m t i h k lt =
     let lies = each_of l (ThunkLies l) t (h.well.laid.thunks (not_hollow_part l l.primary_part h.well.keeps)) k in
-    let same = kept_at l w m (t.address + i) h (run_misses l w m (thunk_home l t) i h (home_there l t lies) (λ s c stored. section_apart l t s h.well.keeps h.well.laid k lies c stored) (λ r loaded. table_apart l t r h.well.keeps h.well.laid lies loaded) lt) in
+    let same = kept_at l w m (t.address + i) h (run_misses l w m (range_of_thunk l t) i h (thunk_is_carried l t lies) (λ s c stored. section_apart l t s h.well.keeps h.well.laid k lies c stored) (λ r loaded. table_apart l t r h.well.keeps h.well.laid lies loaded) lt) in
     let e : w.base + (t.address + i) ≡ w.base + t.address + i = omega arith in
     subst (λ (a : ℕ). byte_in m a ≡ byte_in (image_memory l w) a) e same
 

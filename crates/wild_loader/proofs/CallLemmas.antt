@@ -14,7 +14,7 @@ use Rattle.wild_loader.specs.declared.instruction.Operand.TheVariants.{Number, W
 use Rattle.wild_loader.specs.declared.instruction.Action.{Action}
 use Rattle.wild_loader.specs.declared.instruction.Deed.TheVariants.{Call, Jump}
 use Rattle.wild_loader.specs.Instruction.{Template, matches_cells, signed_32}
-use Rattle.wild_loader.specs.CodeX86_64.{branch, bare, rex, rex2, with_prefix}
+use Rattle.wild_loader.specs.CodeX86_64.{branch, no_prefix, rex, rex2, with_prefix}
 use Rattle.wild_loader.specs.InstructionX86_64.{whole_sequences, short}
 use Rattle.wild_loader.specs.Effect.{window, first_match, narrowed_value, operand_value, effect_of, step, step_of, step_x86_64}
 use Rattle.wild_loader.specs.StepLawsX86_64.{CallsAreNear}
@@ -33,7 +33,7 @@ jump_near = branch (0xe9 ∷ []) Number Jump
 
 -- the templates in front of the two of five bytes
 abbrev before : List Template
-before = whole_sequences ++ (with_prefix rex2 ++ (with_prefix rex ++ (with_prefix bare ++ (branch (0x67 ∷ 0xe8 ∷ []) Number Call ∷ branch (0xff ∷ 0x15 ∷ []) Word Call ∷ branch (0xff ∷ 0x25 ∷ []) Word Jump ∷ []))))
+before = whole_sequences ++ (with_prefix rex2 ++ (with_prefix rex ++ (with_prefix no_prefix ++ (branch (0x67 ∷ 0xe8 ∷ []) Number Call ∷ branch (0xff ∷ 0x15 ∷ []) Word Call ∷ branch (0xff ∷ 0x25 ∷ []) Word Jump ∷ []))))
 
 -- ---- effects
 

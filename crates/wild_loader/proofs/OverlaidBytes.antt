@@ -46,8 +46,8 @@ other_byte a b x r rs here ne =
       | inr f ↦ byte_of-past (with_byte a b r) rs x (same_addresses a b x r ∙ f) ∙ sym (byte_of-past r rs x f)
     ]
 
-behind : (r : Run) (rs ss : List Run) (x : ℕ) → byte_of rs x ≡ byte_of ss x → byte_of (r ∷ rs) x ≡ byte_of (r ∷ ss) x
-behind r rs ss x e = rw e refl
+byte_of-same_first : (r : Run) (rs ss : List Run) (x : ℕ) → byte_of rs x ≡ byte_of ss x → byte_of (r ∷ rs) x ≡ byte_of (r ∷ ss) x
+byte_of-same_first r rs ss x e = rw e refl
 
 pub put_byte-other : (a b x : ℕ) (runs : List Run) → x ≢ a → byte_of (put_byte a b runs) x ≡ byte_of runs x
 unfolding put_byte
@@ -55,7 +55,7 @@ put_byte-other a b x [] ne = refl
 put_byte-other a b x (r ∷ rs) ne =
     elim (cases_Bool (has_address r a)) [
       | inl t ↦ rw t (other_byte a b x r rs t ne)
-      | inr f ↦ rw f (behind r (put_byte a b rs) rs x (put_byte-other a b x rs ne))
+      | inr f ↦ rw f (byte_of-same_first r (put_byte a b rs) rs x (put_byte-other a b x rs ne))
     ]
 
 -- a byte is loaded exactly where one was

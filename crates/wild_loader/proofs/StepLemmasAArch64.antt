@@ -22,7 +22,7 @@ use Rattle.wild_loader.specs.Memory.{number_in, Holds}
 use Rattle.wild_loader.specs.InstructionAArch64.{action_of}
 use Rattle.wild_loader.specs.Effect.{words_at, narrowed_value, effect_in, step, step_of, step_aarch64}
 use Rattle.wild_loader.specs.StepLawsAArch64.{bytes_of_words, StubsAreRead, MarkedStubsAreRead, ThunksAreRead, JumpsReach}
-use Rattle.wild_loader.proofs.HeldBytes.{held-behind, number-front}
+use Rattle.wild_loader.proofs.HeldBytes.{held-after, number-front}
 
 -- ---- words that memory has
 
@@ -36,7 +36,7 @@ word-front m a w more small h =
     let long = length-word 4 w in
     let first : number_in m a 4 ≡ Some (number (word 4 w)) = subst (λ (n : ℕ). number_in m a n ≡ Some (number (word 4 w))) long (number-front m a (word 4 w) more h) in
     let is : number (word 4 w) ≡ w = number-word_4 w ∙ omega arith in
-    (first ∙ ap (λ (n : ℕ). Some n) is, subst (λ (n : ℕ). Holds m (a + n) more) long (held-behind m a (word 4 w) more h))
+    (first ∙ ap (λ (n : ℕ). Some n) is, subst (λ (n : ℕ). Holds m (a + n) more) long (held-after m a (word 4 w) more h))
 
 -- words that memory has are the first
 words-held : (m : Memory) (a : ℕ) (ws : List ℕ) (n : ℕ) → length ws ≤ n → AreWords ws → Holds m a (bytes_of_words ws) → (more : List ℕ) × (words_at m a n ≡ ws ++ more)

@@ -21,8 +21,8 @@ pub record Prefix : Type 0 where
   pub high_rm : List ℕ → ℕ
 
 -- no prefix: 32 bits
-abbrev pub bare : Prefix
-bare = record { cells = []; width = λ bs. 32; high_reg = λ bs. 0; high_rm = λ bs. 0 }
+abbrev pub no_prefix : Prefix
+no_prefix = record { cells = []; width = λ bs. 32; high_reg = λ bs. 0; high_rm = λ bs. 0 }
 
 -- 0100 1RXB (Intel SDM, "REX Prefixes")
 abbrev pub rex : Prefix

@@ -15,7 +15,7 @@ use Rattle.wild_loader.specs.declared.instruction.Operand.TheVariants.{Number, W
 use Rattle.wild_loader.specs.declared.instruction.Action.{Action}
 use Rattle.wild_loader.specs.declared.instruction.Deed.TheVariants.{Call, Jump, CallDescriptor, Nothing}
 use Rattle.wild_loader.specs.Instruction.{Template, Reader, Effect, exact_cells, Idle, meaning, effect, as_value}
-use Rattle.wild_loader.specs.CodeX86_64.{bare, rex, rex2, with_prefix, branch, stub}
+use Rattle.wild_loader.specs.CodeX86_64.{no_prefix, rex, rex2, with_prefix, branch, stub}
 use Rattle.wild_loader.specs.ThreadCodeX86_64.{nop_byte, nops, mov_pointer, lea_number, add_slot, number_template, slot_template, pointer_template, general_call, general_slot_call, far_pair_call, local_call, local_slot_call}
 
 abbrev pub whole_sequences : List Template
@@ -60,7 +60,7 @@ short =
 
 -- the longest first
 abbrev pub templates_x86_64 : List Template
-templates_x86_64 = whole_sequences ++ (with_prefix rex2 ++ (with_prefix rex ++ (with_prefix bare ++ (branches ++ short))))
+templates_x86_64 = whole_sequences ++ (with_prefix rex2 ++ (with_prefix rex ++ (with_prefix no_prefix ++ (branches ++ short))))
 
 -- `nop` may follow an instruction that replaces a longer one
 abbrev pub idle_x86_64 : Idle

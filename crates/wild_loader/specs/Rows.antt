@@ -19,10 +19,10 @@ use Rattle.wild_loader.specs.declared.instruction.Operand.TheVariants.{Number, W
 use Rattle.wild_loader.specs.declared.instruction.Deed.{Deed}
 use Rattle.wild_loader.specs.declared.instruction.Deed.TheVariants.{Set, Add, Subtract, Compare, Call, Jump, SetThreadAddress, CallDescriptor, Nothing}
 use Rattle.wild_loader.specs.Instruction.{Template, signed_at, sum_64}
-use Rattle.wild_loader.specs.CodeX86_64.{Prefix, bare, rex, rex2}
+use Rattle.wild_loader.specs.CodeX86_64.{Prefix, no_prefix, rex, rex2}
 
 abbrev pub prefix_of : declared-prefix.Prefix → Prefix
-prefix_of prefixes.NoPrefix = bare
+prefix_of prefixes.NoPrefix = no_prefix
 prefix_of prefixes.Rex = rex
 prefix_of prefixes.Rex2 = rex2
 

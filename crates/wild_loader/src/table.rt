@@ -8,7 +8,7 @@
 //! Read Intel SDM, volume 2; x86-64 psABI, "Procedure Linkage Table" and "Linker Optimization"; "ELF Handling For Thread-Local
 //! Storage", "Thread-Local Storage Access Models".
 ghost use Rattle.std.specs.Prelude.{◌≡◌, ◌++◌, map, option_map};
-ghost use Rattle.wild_loader.specs.CodeX86_64.{bare, rex, rex2, with_prefix};
+ghost use Rattle.wild_loader.specs.CodeX86_64.{no_prefix, rex, rex2, with_prefix};
 ghost use Rattle.wild_loader.specs.InstructionX86_64.{whole_sequences, branches, short, templates_x86_64};
 ghost use Rattle.wild_loader.specs.Effect.{first_match};
 ghost use Rattle.wild_loader.specs.Rows.{template_of};
@@ -127,7 +127,7 @@ const IN_REX: [Template; 9] = [
     one_register!(Rex 0x81 / 7 Compare),
 ];
 
-const IN_BARE: [Template; 9] = [
+const WITHOUT_PREFIX: [Template; 9] = [
     one_register!(NoPrefix 0x8b Word Set),
     one_register!(NoPrefix 0x03 Word Add),
     one_register!(NoPrefix 0x2b Word Subtract),
@@ -170,22 +170,22 @@ fn sequence(bytes: &[u8]) -> Option<Template>
     first_of(&SEQUENCES, bytes)
 }
 
-fn behind_rex2(bytes: &[u8]) -> Option<Template>
+fn template_after_rex2(bytes: &[u8]) -> Option<Template>
     ensures { option_map template_of result ≡ first_match (with_prefix rex2) bytes.now }
 {
     first_of(&IN_REX2, bytes)
 }
 
-fn behind_rex(bytes: &[u8]) -> Option<Template>
+fn template_after_rex(bytes: &[u8]) -> Option<Template>
     ensures { option_map template_of result ≡ first_match (with_prefix rex) bytes.now }
 {
     first_of(&IN_REX, bytes)
 }
 
-fn bare(bytes: &[u8]) -> Option<Template>
-    ensures { option_map template_of result ≡ first_match (with_prefix bare) bytes.now }
+fn template_without_prefix(bytes: &[u8]) -> Option<Template>
+    ensures { option_map template_of result ≡ first_match (with_prefix no_prefix) bytes.now }
 {
-    first_of(&IN_BARE, bytes)
+    first_of(&WITHOUT_PREFIX, bytes)
 }
 
 fn other(bytes: &[u8]) -> Option<Template>
@@ -199,8 +199,8 @@ pub fn template_x86_64(bytes: &[u8]) -> Option<Template>
     ensures { option_map template_of result ≡ first_match templates_x86_64 bytes.now }
 {
     sequence(bytes)
-        .or(behind_rex2(bytes))
-        .or(behind_rex(bytes))
-        .or(bare(bytes))
+        .or(template_after_rex2(bytes))
+        .or(template_after_rex(bytes))
+        .or(template_without_prefix(bytes))
         .or(other(bytes))
 }

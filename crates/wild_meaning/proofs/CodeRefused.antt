@@ -26,7 +26,7 @@ use Rattle.wild_meaning.specs.Template.{IsDescribed, IsInstruction, IsTemplate, 
 use Rattle.wild_meaning.specs.Worked.Builders.{Refuses}
 use Rattle.wild_meaning.specs.Worked.Static.{static_pie, static_pie_world, branch_code, branch_item, branch_reference, load_code, load_item, load_reference, described_code, described_item, described_reference, thread_symbol}
 use Rattle.wild_meaning.specs.Worked.StaticRefusals.{MemoryHas, another_branch, load_one_byte_off, descriptor_load, load_of_data}
-use Rattle.wild_meaning.proofs.SymbolUnique.{denoted, told_is}
+use Rattle.wild_meaning.proofs.SymbolUnique.{denoted, defining_symbol_is}
 use Rattle.wild_meaning.proofs.EffectLemmas.{meant}
 use Rattle.wild_meaning.proofs.AmongLemmas.{Among}
 use Rattle.wild_meaning.proofs.OneReference.{beside, effect_with, value_in, ReadsNumbers, IsNotDone, fills, same_bytes, single_only, single_refused, template_there}
@@ -233,7 +233,7 @@ no_offset_slot : (i p : ℕ) → i ≡ 2 → HasSlot ThreadOffset static_pie i p
 unfolding has_flag
 no_offset_slot i p e h =
     let there : HasSlotAddress ThreadOffset static_pie 2 p = subst (λ (k : ℕ). HasSlotAddress ThreadOffset static_pie k p) e h in
-    let same : there.symbol ≡ thread_symbol = told_is static_pie 2 there.definition there.symbol thread_symbol refl there.defined there.listed in
+    let same : there.symbol ≡ thread_symbol = defining_symbol_is static_pie 2 there.definition there.symbol thread_symbol refl there.defined there.listed in
     let both : true ≡ false = sym there.flagged ∙ ap (λ (s : Symbol). has_slot_of ThreadOffset s.flags) same in
     cc
 

@@ -122,15 +122,15 @@ legal_with gs bs ends small room = record {
 
 -- ---- with room for the symbol
 
-behind : (k : ℕ) → k < 8 → IsPastFileBytes copying_layout (0x3100 + k)
-behind k lt = record { segment = copying_room; listed = (1, omega arith, refl); loads = refl; from = omega arith; to = omega (arith, lt) }
+is_past_file_bytes : (k : ℕ) → k < 8 → IsPastFileBytes copying_layout (0x3100 + k)
+is_past_file_bytes k lt = record { segment = copying_room; listed = (1, omega arith, refl); loads = refl; from = omega arith; to = omega (arith, lt) }
 
 small_bytes : All (λ (b : ℕ). b < 256) copied_bytes
 small_bytes = All-from_recursion (λ (b : ℕ). b < 256) copied_bytes (omega arith, (omega arith, (omega arith, (omega arith, (omega arith, (omega arith, (omega arith, (omega arith, tt))))))))
 
 pub copying_legal : CopyingWorldIsLegal
 copying_legal = record {
-  legal = legal_with copying_layout.segments copied_bytes (All-from_recursion EndsLow copying_layout.segments ((λ k. omega arith), ((λ k. omega arith), ((λ k. omega arith), tt)))) small_bytes (record { within = omega arith; behind = behind });
+  legal = legal_with copying_layout.segments copied_bytes (All-from_recursion EndsLow copying_layout.segments ((λ k. omega arith), ((λ k. omega arith), ((λ k. omega arith), tt)))) small_bytes (record { within = omega arith; behind = is_past_file_bytes });
   copied = has_copy;
 }
 

@@ -121,8 +121,8 @@ in_block s h =
 abbrev IsPlacedUnchanged : InputSection → Type 0
 IsPlacedUnchanged s = s.reversed ≡ false
 
-stands_so : (s : InputSection) → IsInput copying_layout s → s.reversed ≡ false
-stands_so s h = All-contains IsPlacedUnchanged sections s (All-from_recursion IsPlacedUnchanged sections (refl, (refl, tt))) (listed_in s h)
+is_placed_unchanged : (s : InputSection) → IsInput copying_layout s → s.reversed ≡ false
+is_placed_unchanged s h = All-contains IsPlacedUnchanged sections s (All-from_recursion IsPlacedUnchanged sections (refl, (refl, tt))) (listed_in s h)
 
 abbrev IsLoaded : InputSection → Type 0
 IsLoaded s = s.slot ≡ slot.Loaded
@@ -133,7 +133,7 @@ SectionHolds s = s.nobits ≡ false → ItemHolds copying_layout copying_world c
 items_hold : (item : Item) → IsKept copying_layout item → ItemHolds copying_layout copying_world copying_memory item
 items_hold item (OfSection s kept is) =
     let there : SectionHolds s = All-contains SectionHolds sections s (All-from_recursion SectionHolds sections ((λ e. item_holds), ((λ e. absurd (let both : true ≡ false = e in cc)), tt))) (listed_in s kept.input) in
-    subst (λ (i : Item). ItemHolds copying_layout copying_world copying_memory i) (sym (is ∙ (stood_plain copying_layout kept.input.file s (stands_so s kept.input) ∙ in_block s kept.input))) (there kept.has_data)
+    subst (λ (i : Item). ItemHolds copying_layout copying_world copying_memory i) (sym (is ∙ (stood_plain copying_layout kept.input.file s (is_placed_unchanged s kept.input) ∙ in_block s kept.input))) (there kept.has_data)
 items_hold item (OfFrames s kept is) =
     let there : IsLoaded s = All-contains IsLoaded sections s (All-from_recursion IsLoaded sections (refl, (refl, tt))) (listed_in s (frame_input copying_layout s kept)) in
     let both : slot.Loaded ≡ slot.Frame = sym there ∙ kept.frame in
@@ -193,8 +193,8 @@ copying_segments = subst (λ (hs : List ProgramHeader). DescribeSegments copying
 )
 
 -- what the dynamic section tells: no entry is said to be relative
-copying_told : InformsLinker copying_layout processors.X86_64 copying_image
-copying_told = record {
+copying_information : InformsLinker copying_layout processors.X86_64 copying_image
+copying_information = record {
   segment = copying_third;
   first = ap first_dynamic copying_programs ∙ copying_dynamic;
   entries = copying_entries;
@@ -243,7 +243,7 @@ copying_described = record {
     segments = copying_segments;
     sections = no_sections copying_layout copying_image copying_header refl refl;
   };
-  dynamic = λ whole d. copying_told;
+  dynamic = λ whole d. copying_information;
 }
 
 pub copying_linked : CopyingImageIsLinked

@@ -48,9 +48,9 @@ in_front n (x ∷ xs) ys h = by (x == n) (has n xs) (has n (xs ++ ys)) h (λ e. 
     by true b c h f = refl
     by false b c h f = f h
 
-behind : (n : ℕ) (xs ys : List ℕ) → has n ys ≡ true → has n (xs ++ ys) ≡ true
-behind n [] ys h = h
-behind n (x ∷ xs) ys h = by (x == n) (has n (xs ++ ys)) (behind n xs ys h)
+has-append : (n : ℕ) (xs ys : List ℕ) → has n ys ≡ true → has n (xs ++ ys) ≡ true
+has-append n [] ys h = h
+has-append n (x ∷ xs) ys h = by (x == n) (has n (xs ++ ys)) (has-append n xs ys h)
   where
     by : (a c : Bool) → c ≡ true → (a || c) ≡ true
     by true c h = refl
@@ -61,14 +61,14 @@ partner_numbered l item first start index [] [] h r k lt e = absurd (omega (arit
 partner_numbered l item first start index [] (q ∷ rs) h r k lt e = absurd h
 partner_numbered l item first start index (p ∷ ps) [] h r k lt e = absurd h
 partner_numbered l item first start index (p ∷ ps) (q ∷ rs) h r zero lt e = in_front r.number p.numbers (all_numbers ps) (has_is r.number p.numbers (subst (λ (u : InputRelocation). Contains p.numbers u.number) e h.0.number))
-partner_numbered l item first start index (p ∷ ps) (q ∷ rs) h r (suc k) lt e = behind r.number p.numbers (all_numbers ps) (partner_numbered l item first start (index + 1) ps rs h.1 r k (omega (arith, lt)) e)
+partner_numbered l item first start index (p ∷ ps) (q ∷ rs) h r (suc k) lt e = has-append r.number p.numbers (all_numbers ps) (partner_numbered l item first start (index + 1) ps rs h.1 r k (omega (arith, lt)) e)
 
 pub numbered : (l : Layout) (item : Item) (r : InputRelocation) (start : ℕ) (o : Instruction) (first : InputRelocation) → IsOfSequence l item r start o first → has r.number (numbers_in o) ≡ true
 numbered l item r start o first h = by l item r start o first h.rest h.sequence h.one.0 h.one.1 h.one.2
   where
     by : (l : Layout) (item : Item) (r : InputRelocation) (start : ℕ) (o : Instruction) (first : InputRelocation) (rest : List InputRelocation) → IsSequence l item first rest start o → (k : ℕ) → k < length (first ∷ rest) → get_or (first ∷ rest) k r ≡ r → has r.number (numbers_in o) ≡ true
     by l item r start o first rest q zero lt e = in_front r.number o.numbers (all_numbers o.partners) (has_is r.number o.numbers (subst (λ (u : InputRelocation). Contains o.numbers u.number) e q.stands.number))
-    by l item r start o first rest q (suc k) lt e = behind r.number o.numbers (all_numbers o.partners) (partner_numbered l item first start (q.index + 1) o.partners rest q.has r k (omega (arith, lt)) e)
+    by l item r start o first rest q (suc k) lt e = has-append r.number o.numbers (all_numbers o.partners) (partner_numbered l item first start (q.index + 1) o.partners rest q.has r k (omega (arith, lt)) e)
 
 pub sequence_is : (P : Instruction → Type 0) (l : Layout) (item : Item) (r : InputRelocation) (start : ℕ) (o : Instruction) (first : InputRelocation) → l.machine ≡ machine.AArch64 → Among (takes r.number) P (instructions_of machine.AArch64) → IsOfSequence l item r start o first → P o
 sequence_is P l item r start o first x all h =

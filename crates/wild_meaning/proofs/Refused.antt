@@ -18,11 +18,11 @@ use Rattle.wild_meaning.specs.Formula.{Gives}
 use Rattle.wild_meaning.specs.Sequence.{Instruction}
 use Rattle.wild_meaning.specs.Template.{IsTemplate}
 use Rattle.wild_meaning.specs.Reference.{HoldsPlain, ReferenceHolds, IsCheckedAtZeroOnly, UsesOwnSymbolOnly, UsesOwnDefinition, ItemHolds}
-use Rattle.wild_meaning.proofs.SymbolUnique.{told, flag_of, owner_of}
+use Rattle.wild_meaning.proofs.SymbolUnique.{defining_symbol, flag_of, owner_of}
 
 -- ---- which references are asked
 
-pub not_excepted : (l : Layout) (item : Item) (r : InputRelocation) (i : ℕ) (t : Symbol) → r.symbol ≡ Some i → told l i ≡ Some t → has_flag t.flags absolute ≡ false → IsCheckedAtZeroOnly l item r → ⊥
+pub not_excepted : (l : Layout) (item : Item) (r : InputRelocation) (i : ℕ) (t : Symbol) → r.symbol ≡ Some i → defining_symbol l i ≡ Some t → has_flag t.flags absolute ≡ false → IsCheckedAtZeroOnly l item r → ⊥
 not_excepted l item r i t named e moves h =
     let both : Some i ≡ Some h.symbol = sym named ∙ h.named in
     let same : h.symbol ≡ i = cc in
@@ -30,7 +30,7 @@ not_excepted l item r i t named e moves h =
     let flags : true ≡ false = sym (flag_of l i absolute true t e still) ∙ moves in
     cc
 
-pub not_alone : (l : Layout) (item : Item) (r : InputRelocation) (f : Formula) (i : ℕ) (t : Symbol) → formula_of l.machine r.number ≡ Some f → r.symbol ≡ Some i → told l i ≡ Some t → (may_be_replaced l.kind t.flags ≡ true → UsesOwnDefinition l item i f → ⊥) → UsesOwnSymbolOnly l item r → ⊥
+pub not_alone : (l : Layout) (item : Item) (r : InputRelocation) (f : Formula) (i : ℕ) (t : Symbol) → formula_of l.machine r.number ≡ Some f → r.symbol ≡ Some i → defining_symbol l i ≡ Some t → (may_be_replaced l.kind t.flags ≡ true → UsesOwnDefinition l item i f → ⊥) → UsesOwnSymbolOnly l item r → ⊥
 not_alone l item r f i t known named e takes h =
     let both : Some i ≡ Some h.symbol = sym named ∙ h.named in
     let same : h.symbol ≡ i = cc in
@@ -61,7 +61,7 @@ data_there l w m item r f plain known (inl h) = plain_there l w m item r f known
 data_there l w m item r f plain known (inr h) = absurd (no_template l item r h.start h.instruction h.first plain h.template)
 
 -- it has its value where it is asked, and the image is for more than debuggers
-pub value_there : (l : Layout) (w : World) (m : Memory) (item : Item) (r : InputRelocation) (f : Formula) (i : ℕ) (t : Symbol) → (IsForDebuggers l → ⊥) → ItemHolds l w m item → (IsSet item.flags shf_execinstr → ⊥) → Contains item.relocations r → r.number ≢ r_x86_64_none → formula_of l.machine r.number ≡ Some f → r.symbol ≡ Some i → told l i ≡ Some t → has_flag t.flags absolute ≡ false → (may_be_replaced l.kind t.flags ≡ true → UsesOwnDefinition l item i f → ⊥) → HasValueThere l w m item r f
+pub value_there : (l : Layout) (w : World) (m : Memory) (item : Item) (r : InputRelocation) (f : Formula) (i : ℕ) (t : Symbol) → (IsForDebuggers l → ⊥) → ItemHolds l w m item → (IsSet item.flags shf_execinstr → ⊥) → Contains item.relocations r → r.number ≢ r_x86_64_none → formula_of l.machine r.number ≡ Some f → r.symbol ≡ Some i → defining_symbol l i ≡ Some t → has_flag t.flags absolute ≡ false → (may_be_replaced l.kind t.flags ≡ true → UsesOwnDefinition l item i f → ⊥) → HasValueThere l w m item r f
 value_there l w m item r f i t whole holds plain listed refers known named e moves takes =
     data_there l w m item r f plain known
     (holds.references r (record { listed = listed; refers = refers }) (λ left. whole left.0) (λ x. absurd (not_excepted l item r i t named e moves x)) (λ x. not_alone l item r f i t known named e takes x))

@@ -37,15 +37,15 @@ record IsOne (l : Layout) (image : List ℕ) (g : Segment) (count at : ℕ) : Ty
   pub told : DescribesSegment l g (program_header_at image at)
   pub one : count ≡ 1
 
-one_told : (l : Layout) (image : List ℕ) (g : Segment) (count at : ℕ) → DescribeSegments l (g ∷ []) (program_headers image count at) → IsOne l image g count at
+one_segment : (l : Layout) (image : List ℕ) (g : Segment) (count at : ℕ) → DescribeSegments l (g ∷ []) (program_headers image count at) → IsOne l image g count at
 unfolding program_headers
-one_told l image g zero at h = absurd h
-one_told l image g (suc zero) at h = record { told = h.0; one = refl }
-one_told l image g (suc (suc n)) at h = absurd h.1
+one_segment l image g zero at h = absurd h
+one_segment l image g (suc zero) at h = record { told = h.0; one = refl }
+one_segment l image g (suc (suc n)) at h = absurd h.1
 
 one : (l : Layout) (image : List ℕ) (g : Segment) → l.segments ≡ g ∷ [] → DescribesOutput l image → IsOne l image g (file_header_at image 0).program_count (file_header_at image 0).program_offset
 one l image g is h =
-    one_told l image g (file_header_at image 0).program_count (file_header_at image 0).program_offset (subst (λ (gs : List Segment). DescribeSegments l gs (headers_in image)) is h.header.segments)
+    one_segment l image g (file_header_at image 0).program_count (file_header_at image 0).program_offset (subst (λ (gs : List Segment). DescribeSegments l gs (headers_in image)) is h.header.segments)
 
 static_one : (image : List ℕ) → DescribesOutput static_pie image → IsOne static_pie image (loaded_segment 0x1000 0x110 0x110) (file_header_at image 0).program_count (file_header_at image 0).program_offset
 static_one image h = one static_pie image (loaded_segment 0x1000 0x110 0x110) refl h
@@ -179,8 +179,8 @@ entries_read l image ds d =
       told = subst (λ (xs : List DynamicEntry). DescribesTables l (processor_of l.machine) image xs) same told.told;
     }
 
-told_of : (l : Layout) (image : List ℕ) (ds : List DynamicEntry) → IsDynamic l image ds → DescribesTables l (processor_of l.machine) image ds
-told_of l image ds d = (entries_read l image ds d).told
+described_tables : (l : Layout) (image : List ℕ) (ds : List DynamicEntry) → IsDynamic l image ds → DescribesTables l (processor_of l.machine) image ds
+described_tables l image ds d = (entries_read l image ds d).told
 
 -- one value at most
 one_value : (o : Option ℕ) (m n : ℕ) → o ≡ Some m → o ≡ Some n → m ≡ n
@@ -188,24 +188,24 @@ one_value o m n e f = let both : Some m ≡ Some n = sym e ∙ f in cc
 
 pub wrong_entries : WrongEntriesAreRefused
 wrong_entries = record {
-  none = λ l image ds d h. (let now = (told_of l image ds d).now in let both : None ≡ Some now.value = sym h ∙ now.there in cc);
-  late = λ l image ds f d h wrong. (let now = (told_of l image ds d).now in wrong (subst (λ (v : ℕ). IsSet v df_bind_now) (one_value _ now.value f now.there h) now.set));
-  now = λ l image ds d h. (let now = (told_of l image ds d).now_1 in let both : None ≡ Some now.value = sym h ∙ now.there in cc);
-  word_size = λ l image ds a n d h there wrong. wrong (one_value _ n _ there ((told_of l image ds d).word_size a h));
-  symbol_size = λ l image ds a n d h there wrong. wrong (one_value _ n _ there ((told_of l image ds d).symbol_size a h));
-  cut = λ l image ds n d h wrong. wrong ((told_of l image ds d).whole n h);
-  twice = λ l image ds e n d c needed auxiliary h wrong. wrong (one_value _ n e.value h ((told_of l image ds d).one e c needed auxiliary));
-  symbols = λ l image ds p d h some none. (let both : None ≡ Some p.address = sym none ∙ (told_of l image ds d).tables.symbols.there p h some in cc);
-  elsewhere = λ l image ds p a d h some there wrong. wrong (one_value _ a p.address there ((told_of l image ds d).tables.symbols.there p h some));
-  strings = λ l image ds p n d h some there wrong. wrong (one_value _ n p.size there ((told_of l image ds d).tables.string_size p h some));
-  array = λ l image ds s a d h there wrong. wrong (one_value _ a s.address there ((told_of l image ds d).functions.init_array ∙ ap (λ (o : Option Section). option_map (λ (x : Section). x.address) o) h));
-  array_size = λ l image ds s n d h there wrong. wrong (one_value _ n s.size there ((told_of l image ds d).functions.init_size ∙ ap (λ (o : Option Section). option_map (λ (x : Section). x.size) o) h));
-  no_array = λ l image ds a d h there. (let both : None ≡ Some a = sym (ap (λ (o : Option Section). option_map (λ (x : Section). x.address) o) h) ∙ sym (told_of l image ds d).functions.init_array ∙ there in cc);
+  none = λ l image ds d h. (let now = (described_tables l image ds d).now in let both : None ≡ Some now.value = sym h ∙ now.there in cc);
+  late = λ l image ds f d h wrong. (let now = (described_tables l image ds d).now in wrong (subst (λ (v : ℕ). IsSet v df_bind_now) (one_value _ now.value f now.there h) now.set));
+  now = λ l image ds d h. (let now = (described_tables l image ds d).now_1 in let both : None ≡ Some now.value = sym h ∙ now.there in cc);
+  word_size = λ l image ds a n d h there wrong. wrong (one_value _ n _ there ((described_tables l image ds d).word_size a h));
+  symbol_size = λ l image ds a n d h there wrong. wrong (one_value _ n _ there ((described_tables l image ds d).symbol_size a h));
+  cut = λ l image ds n d h wrong. wrong ((described_tables l image ds d).whole n h);
+  twice = λ l image ds e n d c needed auxiliary h wrong. wrong (one_value _ n e.value h ((described_tables l image ds d).one e c needed auxiliary));
+  symbols = λ l image ds p d h some none. (let both : None ≡ Some p.address = sym none ∙ (described_tables l image ds d).tables.symbols.there p h some in cc);
+  elsewhere = λ l image ds p a d h some there wrong. wrong (one_value _ a p.address there ((described_tables l image ds d).tables.symbols.there p h some));
+  strings = λ l image ds p n d h some there wrong. wrong (one_value _ n p.size there ((described_tables l image ds d).tables.string_size p h some));
+  array = λ l image ds s a d h there wrong. wrong (one_value _ a s.address there ((described_tables l image ds d).functions.init_array ∙ ap (λ (o : Option Section). option_map (λ (x : Section). x.address) o) h));
+  array_size = λ l image ds s n d h there wrong. wrong (one_value _ n s.size there ((described_tables l image ds d).functions.init_size ∙ ap (λ (o : Option Section). option_map (λ (x : Section). x.size) o) h));
+  no_array = λ l image ds a d h there. (let both : None ≡ Some a = sym (ap (λ (o : Option Section). option_map (λ (x : Section). x.address) o) h) ∙ sym (described_tables l image ds d).functions.init_array ∙ there in cc);
   endless = λ l image ds d long. (let ended = (entries_read l image ds d).ended in omega (arith, ended, long));
-  sort = λ l image ds a n d h there wrong. wrong (one_value _ n _ there ((told_of l image ds d).stubs a h));
-  size = λ l image ds a n d h there wrong. wrong (one_value _ n _ there ((told_of l image ds d).entry_size a h));
+  sort = λ l image ds a n d h there wrong. wrong (one_value _ n _ there ((described_tables l image ds d).stubs a h));
+  size = λ l image ds a n d h there wrong. wrong (one_value _ n _ there ((described_tables l image ds d).entry_size a h));
   relative = λ l image ds t n k r d h found lt listed wrong.
-      (let at = (told_of l image ds d).relative n t h found k lt in
+      (let at = (described_tables l image ds d).relative n t h found k lt in
       let both : Some at.entry ≡ Some r = sym at.there ∙ listed in
       let same : at.entry ≡ r = cc in
       wrong (subst (λ (x : Rela). kind_of (processor_of l.machine) x.number ≡ Some kinds.Relative) same at.kind));

@@ -64,7 +64,7 @@ use Rattle.wild_meaning.proofs.EffectLemmas.{done}
 use Rattle.wild_meaning.proofs.OneReference.{effect_with, no_words}
 use Rattle.wild_meaning.proofs.PlacedLemmas.{frame_input}
 use Rattle.wild_meaning.proofs.SharedLegal.{no_library}
-use Rattle.wild_meaning.proofs.SharedRefused.{slot_formula, address_formula, pointer_formula, inner_formula, size_formula, pair_formula, own_pair_formula, thread_slot_formula, descriptor_formula, own_is, thread_is, open_is, other_is, no_code, no_string, no_address, left, distance_formula, no_near_code, near_uses}
+use Rattle.wild_meaning.proofs.SharedRefused.{slot_formula, address_formula, pointer_formula, inner_formula, size_formula, pair_formula, own_pair_formula, thread_slot_formula, descriptor_formula, own_is, thread_is, open_is, other_is, no_code, no_string, no_address, does_not_use_own, distance_formula, no_near_code, near_uses}
 use Rattle.wild_meaning.proofs.SharedCode.{described, described_template, described_demanded}
 use Rattle.wild_meaning.proofs.SharedLoaded.{shared_loaded, shared_programs, shared_dynamic, shared_entries, shared_read, shared_tags}
 use Rattle.wild_meaning.proofs.TextLemmas.{no_texts}
@@ -264,7 +264,7 @@ unfolding number
 nopen_8 = refl
 
 hopen_8 : Both shared_item ropen_8
-hopen_8 = (data_holds ropen_8 (formula SymbolAddress Full) 0x700010 address_formula (record { symbol = 0x700010; denoted = inr (no_string SymbolAddress _, inl open_value); sum = refl }) (whole_field ropen_8 (0x10 ∷ 0 ∷ 0x70 ∷ 0 ∷ 0 ∷ 0 ∷ 0 ∷ 0 ∷ []) 0x700010 refl refl nopen_8), other_alone ropen_8 _ 1 _ address_formula refl open_is left)
+hopen_8 = (data_holds ropen_8 (formula SymbolAddress Full) 0x700010 address_formula (record { symbol = 0x700010; denoted = inr (no_string SymbolAddress _, inl open_value); sum = refl }) (whole_field ropen_8 (0x10 ∷ 0 ∷ 0x70 ∷ 0 ∷ 0 ∷ 0 ∷ 0 ∷ 0 ∷ []) 0x700010 refl refl nopen_8), other_alone ropen_8 _ 1 _ address_formula refl open_is does_not_use_own)
 
 abbrev rown_16 : InputRelocation
 rown_16 = reference 16 r_x86_64_64 0 (pos 4)

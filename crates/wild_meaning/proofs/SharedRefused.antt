@@ -24,7 +24,7 @@ use Rattle.wild_meaning.specs.Worked.Builders.{reference}
 use Rattle.wild_meaning.specs.Worked.Shared.{shared_layout, shared_data, shared_item, shared_near, near_item, near_reference, shared_references, shared_world, answer_of_module, own_symbol, open_symbol, own_thread, other_thread}
 use Rattle.wild_meaning.specs.Worked.SharedRefusals.{NamesAnother, NamesElsewhere, WrongSlotsAreRefused, WrongAddressesAreRefused, WrongOffsetsAreRefused, WrongSizeIsRefused, WrongByteIsRefused, WrongOwnDistanceIsRefused, Refused, own_offset, other_offset, SlotsNeedTheirFlags}
 use Rattle.wild_meaning.specs.Worked.Refusals.{HasWrongNumber, NamesWrongWord}
-use Rattle.wild_meaning.proofs.SymbolUnique.{told_is, stub_of, own_value_of, IsPlainOwn, IsAnsweredAs, denoted, other_denoted, own_offset as own_offset_is, other_offset as other_offset_is, other_size, somewhere, told}
+use Rattle.wild_meaning.proofs.SymbolUnique.{defining_symbol_is, stub_of, own_value_of, IsPlainOwn, IsAnsweredAs, denoted, other_denoted, own_offset as own_offset_is, other_offset as other_offset_is, other_size, somewhere, defining_symbol}
 use Rattle.wild_meaning.proofs.Read.{full_of, signed_of, word_below, same_word}
 use Rattle.wild_meaning.proofs.SlotPlaces.{slot_holds}
 use Rattle.wild_meaning.proofs.Refused.{HasValueThere, value_there, no_template, not_excepted}
@@ -86,11 +86,11 @@ thread_is = record { symbol = own_thread; resolution = _; is = refl; decided = r
 
 pub open_is : IsAnsweredAs shared_layout shared_world 1 (answer_of_module 0x700010 3 0 24)
 unfolding has_flag
-open_is = record { symbol = open_symbol; resolution = _; index = 1; is = refl; decided = refl; replaced = refl; moves = refl; told_so = refl; given = refl; unstubbed = refl }
+open_is = record { symbol = open_symbol; resolution = _; index = 1; is = refl; decided = refl; replaced = refl; moves = refl; has_dynamic_index = refl; given = refl; unstubbed = refl }
 
 pub other_is : IsAnsweredAs shared_layout shared_world 3 (answer_of_module 0 4 0x20 8)
 unfolding has_flag
-other_is = record { symbol = other_thread; resolution = _; index = 2; is = refl; decided = refl; replaced = refl; moves = refl; told_so = refl; given = refl; unstubbed = refl }
+other_is = record { symbol = other_thread; resolution = _; index = 2; is = refl; decided = refl; replaced = refl; moves = refl; has_dynamic_index = refl; given = refl; unstubbed = refl }
 
 plain_open : has_flag open_symbol.flags ifunc ≡ false
 unfolding has_flag
@@ -163,7 +163,7 @@ another_slot image h x =
 own_place : (m : Memory) (g : ℕ) → IsSlot AddressSlot shared_layout shared_world m (Some 0) g → g ≡ 0x12000
 unfolding has_flag
 own_place m g h =
-    let same : h.given.symbol ≡ own_symbol = told_is shared_layout 0 h.given.definition h.given.symbol own_symbol refl h.given.defined h.given.listed in
+    let same : h.given.symbol ≡ own_symbol = defining_symbol_is shared_layout 0 h.given.definition h.given.symbol own_symbol refl h.given.defined h.given.listed in
     let decided : own_symbol.resolution ≡ Some h.given.resolution = subst (λ (s : Symbol). s.resolution ≡ Some h.given.resolution) same h.given.decided in
     let first : Some 0x2000 ≡ Some h.given.first = subst (λ (o : Option Resolution). option_and_then (λ (r : Resolution). r.got_address) o ≡ Some h.given.first) (sym decided) h.given.given in
     let at : 0x2000 ≡ h.given.first = cc in
@@ -183,9 +183,9 @@ wrong_slots = record { own = own_slot; other = other_slot; another = another_slo
 
 -- ---- flags of slots
 
-flag_missing : (sort : Slot) (i p : ℕ) (t : Symbol) → told shared_layout i ≡ Some t → has_slot_of sort t.flags ≡ false → HasSlotAddress sort shared_layout i p → ⊥
+flag_missing : (sort : Slot) (i p : ℕ) (t : Symbol) → defining_symbol shared_layout i ≡ Some t → has_slot_of sort t.flags ≡ false → HasSlotAddress sort shared_layout i p → ⊥
 flag_missing sort i p t there none h =
-    let same : h.symbol ≡ t = told_is shared_layout i h.definition h.symbol t there h.defined h.listed in
+    let same : h.symbol ≡ t = defining_symbol_is shared_layout i h.definition h.symbol t there h.defined h.listed in
     let both : true ≡ false = sym h.flagged ∙ ap (λ (s : Symbol). has_slot_of sort s.flags) same ∙ none in
     cc
 
@@ -213,15 +213,15 @@ moved_address image h x =
     x.wrong (omega (arith, is, address, v.gives.sum))
 
 -- the field is filled by a loader
-pub left : UsesOwnDefinition shared_layout shared_item 1 (formula SymbolAddress Full) → ⊥
+pub does_not_use_own : UsesOwnDefinition shared_layout shared_item 1 (formula SymbolAddress Full) → ⊥
 unfolding has_flag
-left (inl h) = h
-left (inr h) = h.1 (record { writable = refl; interposable = record { definition = 1; defined = record { symbol = open_symbol; listed = refl; defined = inr (refl, refl) }; symbol = open_symbol; listed = refl; flagged = refl }; value = refl; wide = refl })
+does_not_use_own (inl h) = h
+does_not_use_own (inr h) = h.1 (record { writable = refl; interposable = record { definition = 1; defined = record { symbol = open_symbol; listed = refl; defined = inr (refl, refl) }; symbol = open_symbol; listed = refl; flagged = refl }; value = refl; wide = refl })
 
 replaced_address : Refused (HasWrongNumber 0x11008 8 0x700010)
 replaced_address image h x =
     let r = reference 8 r_x86_64_64 1 (pos 0) in
-    let v = other_there h.memory r _ 1 _ (h.kept shared_item kept) (1, omega arith, refl) (omega arith) address_formula refl open_is left in
+    let v = other_there h.memory r _ 1 _ (h.kept shared_item kept) (1, omega arith, refl) (omega arith) address_formula refl open_is does_not_use_own in
     let is : v.value ≡ x.number = full_of shared_world h.memory shared_item r v.value x.number v.field x.there in
     let address : v.gives.symbol ≡ 0x700010 = other_denoted shared_layout shared_world h.memory 1 v.gives.symbol _ open_is (referent_stands SymbolAddress shared_layout shared_world h.memory shared_item r v.gives.symbol refl (no_string SymbolAddress r) v.gives.denoted) in
     x.wrong (omega (arith, is, address, v.gives.sum))

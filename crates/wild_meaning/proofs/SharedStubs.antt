@@ -20,7 +20,7 @@ use Rattle.wild_meaning.specs.LinkedImage.{IsLinked}
 use Rattle.wild_meaning.specs.Worked.Refusals.{HasWrongNumber}
 use Rattle.wild_meaning.specs.Worked.Shared.{shared_layout, shared_world, stubbed_function}
 use Rattle.wild_meaning.specs.Worked.SharedRefusals.{Refused, stub_by_another_word, JumpsByAnotherWord, WrongStubsAreRefused}
-use Rattle.wild_meaning.proofs.SymbolUnique.{told_is, flag_of, owner_of, raw_of, stub_is}
+use Rattle.wild_meaning.proofs.SymbolUnique.{defining_symbol_is, flag_of, owner_of, raw_of, stub_is}
 use Rattle.wild_meaning.proofs.SymbolLemmas.{referent_address}
 use Rattle.wild_meaning.proofs.SharedRefused.{no_string}
 use Rattle.wild_meaning.proofs.OneReference.{same_bytes}
@@ -36,7 +36,7 @@ stub_there image h = h.stubs (λ bare. (let off : false ≡ true = bare in cc)) 
 -- the slot that it goes by
 slot_is : (m : Memory) (a : ℕ) → (s : IsStub shared_layout shared_world m 4 a) → s.slot ≡ 0x20d8
 slot_is m a s =
-    let same : s.given.symbol ≡ stubbed_function = told_is shared_layout 4 s.given.definition s.given.symbol stubbed_function refl s.given.defined s.given.listed in
+    let same : s.given.symbol ≡ stubbed_function = defining_symbol_is shared_layout 4 s.given.definition s.given.symbol stubbed_function refl s.given.defined s.given.listed in
     let decided : stubbed_function.resolution ≡ Some s.given.resolution = subst (λ (t : Symbol). t.resolution ≡ Some s.given.resolution) same s.given.decided in
     let first : Some 0x20d8 ≡ Some s.slot = subst (λ (o : Option Resolution). option_and_then (λ (r : Resolution). r.got_address) o ≡ Some s.slot) (sym decided) s.first in
     let at : 0x20d8 ≡ s.slot = cc in

@@ -409,8 +409,8 @@ in_block s h =
 abbrev IsPlacedUnchanged : InputSection → Type 0
 IsPlacedUnchanged s = s.reversed ≡ false
 
-stands_so : (s : InputSection) → IsInput static_pie s → s.reversed ≡ false
-stands_so s h = All-contains IsPlacedUnchanged sections s (All-from_recursion IsPlacedUnchanged sections (refl, (refl, (refl, (refl, (refl, tt)))))) (listed_in s h)
+is_placed_unchanged : (s : InputSection) → IsInput static_pie s → s.reversed ≡ false
+is_placed_unchanged s h = All-contains IsPlacedUnchanged sections s (All-from_recursion IsPlacedUnchanged sections (refl, (refl, (refl, (refl, (refl, tt)))))) (listed_in s h)
 
 abbrev IsLoaded : InputSection → Type 0
 IsLoaded s = s.slot ≡ slot.Loaded
@@ -421,7 +421,7 @@ SectionHolds s = ItemHolds static_pie static_pie_world static_memory (item_with 
 items_hold : (item : Item) → IsKept static_pie item → ItemHolds static_pie static_pie_world static_memory item
 items_hold item (OfSection s kept is) =
     let there : SectionHolds s = All-contains SectionHolds sections s (All-from_recursion SectionHolds sections (branch_item_holds, (load_item_holds, (general_item_holds, (described_item_holds, (static_item_holds, tt)))))) (listed_in s kept.input) in
-    subst (λ (i : Item). ItemHolds static_pie static_pie_world static_memory i) (sym (is ∙ (stood_plain static_pie kept.input.file s (stands_so s kept.input) ∙ in_block s kept.input))) there
+    subst (λ (i : Item). ItemHolds static_pie static_pie_world static_memory i) (sym (is ∙ (stood_plain static_pie kept.input.file s (is_placed_unchanged s kept.input) ∙ in_block s kept.input))) there
 items_hold item (OfFrames s kept is) =
     let there : IsLoaded s = All-contains IsLoaded sections s (All-from_recursion IsLoaded sections (refl, (refl, (refl, (refl, (refl, tt)))))) (listed_in s (frame_input static_pie s kept)) in
     let both : slot.Loaded ≡ slot.Frame = sym there ∙ kept.frame in

@@ -38,7 +38,7 @@ use Rattle.wild_meaning.specs.Worked.Builders.{Refuses}
 use Rattle.wild_meaning.specs.Worked.AArch64.{words_static, words_world, near_function, local_data, slot_code, slot_item, slot_low_reference, call_code, call_item, call_reference, past_code, past_item, past_reference, descriptor_code, descriptor_item, descriptor_page, descriptor_load, kept_code, kept_item, page_reference, low_reference}
 use Rattle.wild_meaning.specs.Worked.StaticRefusals.{MemoryHas}
 use Rattle.wild_meaning.specs.Worked.ImageRefusalsAArch64.{HasBoth, slot_behind, call_of_thunk, far_thunk, stored_thunk, next_call_of_thunk, right_thunk, half_call, low_half, load_of_word, address_past, WrongCodeOfWordsIsRefused}
-use Rattle.wild_meaning.proofs.SymbolUnique.{denoted, value_of, told_is, own_offset, somewhere, IsPlainOwn}
+use Rattle.wild_meaning.proofs.SymbolUnique.{denoted, value_of, defining_symbol_is, own_offset, somewhere, IsPlainOwn}
 use Rattle.wild_meaning.proofs.EffectLemmas.{meant}
 use Rattle.wild_meaning.proofs.OneReference.{effect_with, value_in, ReadsNumbers, same_bytes}
 use Rattle.wild_meaning.proofs.InstructionsAArch64.{alone_only}
@@ -79,7 +79,7 @@ slot_place s d slot first e decided got place =
 
 slot_is : (m : Memory) (g : ℕ) → IsSlot AddressSlot words_static words_world m (Some 0) g → g ≡ 0x11080
 slot_is m g h =
-    let symbol = told_is words_static 0 h.given.definition h.given.symbol near_function refl h.given.defined h.given.listed in
+    let symbol = defining_symbol_is words_static 0 h.given.definition h.given.symbol near_function refl h.given.defined h.given.listed in
     let place : h.slot ≡ 0x11080 = slot_place h.given.symbol h.given.resolution h.slot h.given.first symbol h.given.decided h.given.given h.given.place in
     h.moves ∙ ap (λ (n : ℕ). (0 + n) % 2 ^ 64) place
 
@@ -262,7 +262,7 @@ wrong_low image h x =
     (holds_there h.memory descriptor_item descriptor_load 1 0x30008 (h.kept descriptor_item descriptor_kept) load_reference refl data_is)
 
 not_decided : (sort : Slot) (p : ℕ) → HasSlotAddress sort words_static 1 p → ⊥
-not_decided sort p h = by h.symbol h.resolution h.first (told_is words_static 1 h.definition h.symbol local_data refl h.defined h.listed) h.decided h.given
+not_decided sort p h = by h.symbol h.resolution h.first (defining_symbol_is words_static 1 h.definition h.symbol local_data refl h.defined h.listed) h.decided h.given
   where
     by : (s : Symbol) (d : Resolution) (first : ℕ) → s ≡ local_data → s.resolution ≡ Some d → d.got_address ≡ Some first → ⊥
     by s d first e decided got =

@@ -553,8 +553,8 @@ in_block s h =
 abbrev IsPlacedUnchanged : InputSection → Type 0
 IsPlacedUnchanged s = s.reversed ≡ false
 
-stands_so : (s : InputSection) → IsInput words_static s → s.reversed ≡ false
-stands_so s h = All-contains IsPlacedUnchanged sections s (All-from_recursion IsPlacedUnchanged sections (refl, (refl, (refl, (refl, (refl, (refl, tt))))))) (listed_in s h)
+is_placed_unchanged : (s : InputSection) → IsInput words_static s → s.reversed ≡ false
+is_placed_unchanged s h = All-contains IsPlacedUnchanged sections s (All-from_recursion IsPlacedUnchanged sections (refl, (refl, (refl, (refl, (refl, (refl, tt))))))) (listed_in s h)
 
 abbrev IsLoaded : InputSection → Type 0
 IsLoaded s = s.slot ≡ slot.Loaded
@@ -565,7 +565,7 @@ SectionHolds s = ItemHolds words_static words_world words_memory (item_with 0 s)
 items_hold : (item : Item) → IsKept words_static item → ItemHolds words_static words_world words_memory item
 items_hold item (OfSection s kept is) =
     let there : SectionHolds s = All-contains SectionHolds sections s (All-from_recursion SectionHolds sections (address_item_holds, (slot_item_holds, (call_item_holds, (past_item_holds, (descriptor_item_holds, (kept_item_holds, tt))))))) (listed_in s kept.input) in
-    subst (λ (i : Item). ItemHolds words_static words_world words_memory i) (sym (is ∙ (stood_plain words_static kept.input.file s (stands_so s kept.input) ∙ in_block s kept.input))) there
+    subst (λ (i : Item). ItemHolds words_static words_world words_memory i) (sym (is ∙ (stood_plain words_static kept.input.file s (is_placed_unchanged s kept.input) ∙ in_block s kept.input))) there
 items_hold item (OfFrames s kept is) =
     let there : IsLoaded s = All-contains IsLoaded sections s (All-from_recursion IsLoaded sections (refl, (refl, (refl, (refl, (refl, (refl, tt))))))) (listed_in s (frame_input words_static s kept)) in
     let both : slot.Loaded ≡ slot.Frame = sym there ∙ kept.frame in

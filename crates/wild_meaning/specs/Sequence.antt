@@ -14,7 +14,7 @@ use Rattle.wild_types.specs.declared.kind.Machine.TheVariants as machine
 use Rattle.wild_loader.specs.declared.instruction.Operand.TheVariants.{Number, Word}
 use Rattle.wild_loader.specs.declared.instruction.Deed.TheVariants.{Set, Add, Subtract, Compare, Call, Jump}
 use Rattle.wild_loader.specs.Instruction.{Template, field}
-use Rattle.wild_loader.specs.CodeX86_64.{Prefix, bare, rex, rex2, with_slot, branch}
+use Rattle.wild_loader.specs.CodeX86_64.{Prefix, no_prefix, rex, rex2, with_slot, branch}
 use Rattle.wild_loader.specs.ThreadCodeX86_64.{general_call, general_slot_call, far_pair_call, local_call, local_slot_call}
 use Rattle.wild_loader.specs.InstructionX86_64.{descriptor_call, does_nothing}
 use Rattle.wild_aarch64.specs.declared.template.Template as runs
@@ -227,7 +227,7 @@ runs_of_words = descriptor_call_words ∷ offset_pair_words ∷ address_pair_wor
 abbrev pub instructions_of : Machine → List Instruction
 instructions_of machine.X86_64 =
     branches
-    ++ (of_addresses bare 2 r_x86_64_gotpcrelx
+    ++ (of_addresses no_prefix 2 r_x86_64_gotpcrelx
     ++ (of_addresses rex 3 r_x86_64_rex_gotpcrelx
     ++ (of_addresses rex2 4 r_x86_64_code_4_gotpcrelx
     ++ (of_offsets rex 3 r_x86_64_gottpoff

@@ -1,6 +1,6 @@
 -- The last file alone gives the hash tables.
 use Rattle.wild_placement.specs.PlacedSections.{placed_files}
-use Rattle.wild_geometry.proofs.PlacedInputs.{laid_same}
+use Rattle.wild_geometry.proofs.PlacedInputs.{placed_files_same}
 use Rattle.std.proofs.Common.{◌≡◌, ℕ, ◌+◌, ◌≤◌, inl, inr, ◌==◌, Bool, true, false, ◌&&◌, if◌then◌else◌, List, [], ◌∷◌, ◌++◌, length, map, Some, None, flat_map, refl, ap, ◌∙◌, arith}
 use Rattle.std.proofs.lemmas.Bool.{cases_Bool, and_parts, ne_eqb}
 use Rattle.std.proofs.lemmas.List.{append-nil}
@@ -84,9 +84,9 @@ by_need l f bs needs = rw needs refl
 pub sysv_stands : (l : Layout) (h : SysvHash) → IsLaidOut l → needs_dynsym l.kind ≡ true → l.sysv_hash ≡ Some h → table_bytes l role.SysvHash ≡ sysv_table h.buckets (first_listed l) (map sysv_hash_of l.dynsyms)
 sysv_stands l h laid needs shape =
     let each : GivenByLast (file_content l role.SysvHash) (sysv_bytes l l.sysv_hash) = λ f. no_front (is_prelude f.role) (of_last l f (sysv_bytes l l.sysv_hash)) ∙ by_need l f (sysv_bytes l l.sysv_hash) needs in
-    in_groups (content l role.SysvHash) (file_content l role.SysvHash) (sysv_bytes l l.sysv_hash) true 0 l.groups each (λ g. append-nil (flat_map (file_content l role.SysvHash) (placed_files l g)) ∙ laid_same (file_content l role.SysvHash) l g (λ at f. refl)) laid.some_group laid.files ∙ ap (sysv_bytes l) shape
+    in_groups (content l role.SysvHash) (file_content l role.SysvHash) (sysv_bytes l l.sysv_hash) true 0 l.groups each (λ g. append-nil (flat_map (file_content l role.SysvHash) (placed_files l g)) ∙ placed_files_same (file_content l role.SysvHash) l g (λ at f. refl)) laid.some_group laid.files ∙ ap (sysv_bytes l) shape
 
 pub gnu_stands : (l : Layout) (h : GnuHash) → IsLaidOut l → needs_dynsym l.kind ≡ true → l.gnu_hash ≡ Some h → table_bytes l role.GnuHash ≡ gnu_table (gnu_header h) (map gnu_hash_of l.dynsyms)
 gnu_stands l h laid needs shape =
     let each : GivenByLast (file_content l role.GnuHash) (gnu_bytes l l.gnu_hash) = λ f. no_front (is_prelude f.role) (of_last l f (gnu_bytes l l.gnu_hash)) ∙ by_need l f (gnu_bytes l l.gnu_hash) needs in
-    in_groups (content l role.GnuHash) (file_content l role.GnuHash) (gnu_bytes l l.gnu_hash) true 0 l.groups each (λ g. append-nil (flat_map (file_content l role.GnuHash) (placed_files l g)) ∙ laid_same (file_content l role.GnuHash) l g (λ at f. refl)) laid.some_group laid.files ∙ ap (gnu_bytes l) shape
+    in_groups (content l role.GnuHash) (file_content l role.GnuHash) (gnu_bytes l l.gnu_hash) true 0 l.groups each (λ g. append-nil (flat_map (file_content l role.GnuHash) (placed_files l g)) ∙ placed_files_same (file_content l role.GnuHash) l g (λ at f. refl)) laid.some_group laid.files ∙ ap (gnu_bytes l) shape

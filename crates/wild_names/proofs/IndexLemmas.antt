@@ -14,7 +14,7 @@ use Rattle.wild_needs.specs.DynamicSymbols.{output_section, section_of_input}
 use Rattle.wild_placement.specs.FrameInputs.{kept_size}
 use Rattle.wild_placement.specs.ReversedWords.{reversed_section, with_word_order}
 use Rattle.wild_placement.specs.PlacedSections.{without_relocations, unread, placed_files, placed_file, placed_section, placed_sections, placed_by, address_after}
-use Rattle.wild_geometry.proofs.PlacedInputs.{laid_same}
+use Rattle.wild_geometry.proofs.PlacedInputs.{placed_files_same}
 use Rattle.std.proofs.Common.{◌≡◌, ℕ, ◌*◌, inl, inr, Bool, true, false, if◌then◌else◌, List, [], ◌∷◌, length, map, filter, find, flat_map, option_map, Some, slice_get, refl, sym, ap, ◌∙◌, arith, subst, ◌++◌, zero, suc}
 use Rattle.std.specs.List.{list_any}
 use Rattle.std.proofs.lemmas.Bool.{cases_Bool, or_left}
@@ -109,9 +109,9 @@ unread_part l s = by (is_partial_link l.kind)
     by true = refl
     by false = refl
 
-part_laid : (l : Layout) (f : File) (at : ℕ) (s : InputSection) → (placed_section l f at s).part ≡ s.part
+part_of_placed_section : (l : Layout) (f : File) (at : ℕ) (s : InputSection) → (placed_section l f at s).part ≡ s.part
 unfolding placed_section
-part_laid l f at s = by_slot s.slot
+part_of_placed_section l f at s = by_slot s.slot
   where
     by_slot : (k : Slot) → (placed_by k l f at s).part ≡ s.part
     by_slot slot.Loaded = turned_part (unread l s) ∙ unread_part l s
@@ -120,37 +120,37 @@ part_laid l f at s = by_slot s.slot
     by_slot slot.Rela = refl
     by_slot other = refl
 
-section_laid : (l : Layout) (f : File) (at : ℕ) (ss : List InputSection) (k : ℕ) → section_of_input l (slice_get (placed_sections l f at ss) k) ≡ section_of_input l (slice_get ss k)
-section_laid l f at [] k = refl
-section_laid l f at (s ∷ ss) zero = ap (section_of l) (part_laid l f at s)
-section_laid l f at (s ∷ ss) (suc k) = section_laid l f (address_after at (kept_size l f s)) ss k
+section_of_placed : (l : Layout) (f : File) (at : ℕ) (ss : List InputSection) (k : ℕ) → section_of_input l (slice_get (placed_sections l f at ss) k) ≡ section_of_input l (slice_get ss k)
+section_of_placed l f at [] k = refl
+section_of_placed l f at (s ∷ ss) zero = ap (section_of l) (part_of_placed_section l f at s)
+section_of_placed l f at (s ∷ ss) (suc k) = section_of_placed l f (address_after at (kept_size l f s)) ss k
 
-output_laid : (l : Layout) (at : ℕ) (f : File) (p : Place) → output_section l (Some (placed_file l at f)) p ≡ output_section l (Some f) p
-output_laid l at f (places.Section k) = section_laid l f at f.sections k
-output_laid l at f other = refl
+output_section_of_placed : (l : Layout) (at : ℕ) (f : File) (p : Place) → output_section l (Some (placed_file l at f)) p ≡ output_section l (Some f) p
+output_section_of_placed l at f (places.Section k) = section_of_placed l f at f.sections k
+output_section_of_placed l at f other = refl
 
-entry_laid : (l : Layout) (at : ℕ) (f : File) (x : TableSymbol) → named_entry l (placed_file l at f) x ≡ named_entry l f x
+entry_of_placed : (l : Layout) (at : ℕ) (f : File) (x : TableSymbol) → named_entry l (placed_file l at f) x ≡ named_entry l f x
 unfolding table_fields
-entry_laid l at f x = ap (λ (r : Result TableFields Fault). record { name = Some (item_name x); local = is_local x; fields = table_fields_or_null r }) (by_named x.named)
+entry_of_placed l at f x = ap (λ (r : Result TableFields Fault). record { name = Some (item_name x); local = is_local x; fields = table_fields_or_null r }) (by_named x.named)
   where
     by_named : (n : SymtabName) → fields_of l (placed_file l at f) n x.index x.symbol ≡ fields_of l f n x.index x.symbol
-    by_named named.Itself = ap (table_by l x.index f.role x.symbol) (output_laid l at f x.symbol.place)
+    by_named named.Itself = ap (table_by l x.index f.role x.symbol) (output_section_of_placed l at f x.symbol.place)
     by_named other = refl
 
-entries_laid : (l : Layout) (at : ℕ) (f : File) (xs : List TableSymbol) → map (named_entry l (placed_file l at f)) xs ≡ map (named_entry l f) xs
-entries_laid l at f [] = refl
-entries_laid l at f (x ∷ xs) = ap (λ (n : NamedEntry). n ∷ map (named_entry l (placed_file l at f)) xs) (entry_laid l at f x) ∙ ap (λ (ns : List NamedEntry). named_entry l f x ∷ ns) (entries_laid l at f xs)
+entries_of_placed : (l : Layout) (at : ℕ) (f : File) (xs : List TableSymbol) → map (named_entry l (placed_file l at f)) xs ≡ map (named_entry l f) xs
+entries_of_placed l at f [] = refl
+entries_of_placed l at f (x ∷ xs) = ap (λ (n : NamedEntry). n ∷ map (named_entry l (placed_file l at f)) xs) (entry_of_placed l at f x) ∙ ap (λ (ns : List NamedEntry). named_entry l f x ∷ ns) (entries_of_placed l at f xs)
 
-indexes_laid : (l : Layout) (local : Bool) (at : ℕ) (f : File) → spelled_of local (file_table l (placed_file l at f)) ≡ spelled_of local (file_table l f)
+indexes_of_placed : (l : Layout) (local : Bool) (at : ℕ) (f : File) → spelled_of local (file_table l (placed_file l at f)) ≡ spelled_of local (file_table l f)
 unfolding file_items
-indexes_laid l local at f = ap (λ (ns : List NamedEntry). spelled_of local (null_entries l f ++ ns)) (entries_laid l at f (file_items l f))
+indexes_of_placed l local at f = ap (λ (ns : List NamedEntry). spelled_of local (null_entries l f ++ ns)) (entries_of_placed l at f (file_items l f))
 
 group_indexes : (l : Layout) (local : Bool) (g : Group) → has_long l (index_role local) ≡ true → content l (index_role local) g ≡ spelled_of local (group_table l g)
 unfolding group_table
 group_indexes l local g has =
     by_files l local g
     ∙ flat_map-same (file_content l (index_role local)) (λ (f : File). spelled_of local (file_table l f)) (placed_files l g) (λ f. file_indexes l local f has)
-    ∙ laid_same (λ (f : File). spelled_of local (file_table l f)) l g (indexes_laid l local)
+    ∙ placed_files_same (λ (f : File). spelled_of local (file_table l f)) l g (indexes_of_placed l local)
     ∙ sym (flat_map-flat_map spelled (λ (f : File). filter (is_side local) (file_table l f)) g.files)
     ∙ ap (flat_map spelled) (sym (filter-flat_map (is_side local) (file_table l) g.files))
 

@@ -5,7 +5,7 @@ use Rattle.wild_types.specs.Kinds.{is_partial_link}
 use Rattle.wild_words.proofs.ListLemmas.{All-flat_map}
 use Rattle.std.proofs.lemmas.Bool.{cases_Bool}
 use Rattle.std.specs.Prelude.{All, Option, Some, None, is_some, option_to_list, if◌then◌else◌, ◌&&◌}
-use Rattle.wild_geometry.proofs.PlacedInputs.{laid_same}
+use Rattle.wild_geometry.proofs.PlacedInputs.{placed_files_same}
 use Rattle.wild_placement.specs.PlacedSections.{placed_files, placed_file}
 use Rattle.std.proofs.Common.{◌≡◌, ℕ, suc, ◌+◌, ◌*◌, ◌/◌, ◌%◌, ◌^◌, ◌<◌, ◌≤◌, inl, inr, Bool, not, true, false, get_or, ◌++◌, List, [], ◌∷◌, length, map, filter, flat_map, refl, sym, ap, ◌∙◌, arith, subst}
 use Rattle.std.proofs.lemmas.List.{length-append, length-map}
@@ -85,9 +85,9 @@ few_of_files l (f ∷ fs) =
     let c = few_of_files l fs in
     omega (arith, a, b, c)
 
-strings_laid : (l : Layout) (at : ℕ) (f : File) → table_strings l (placed_file l at f) ≡ table_strings l f
+strings_of_placed : (l : Layout) (at : ℕ) (f : File) → table_strings l (placed_file l at f) ≡ table_strings l f
 unfolding table_strings file_items
-strings_laid l at f = refl
+strings_of_placed l at f = refl
 
 abbrev HasName : NamedEntry → Type 0
 HasName n = is_some n.name ≡ true
@@ -127,7 +127,7 @@ few_of_group names l g whole =
     let c = named_each (group_table l g) (group_named l g whole) in
     let d = ap (λ (ss : List (List ℕ)). length ss) (names l g) in
     let e = few_of_files l (placed_files l g) in
-    let same = ap (λ (ss : List (List ℕ)). length ss) (laid_same (table_strings l) l g (strings_laid l)) in
+    let same = ap (λ (ss : List (List ℕ)). length ss) (placed_files_same (table_strings l) l g (strings_of_placed l)) in
     omega (arith, a, b, c, d, e, same)
 
 few_of_groups : NamesOfGroups → (l : Layout) (gs : List Group) → is_partial_link l.kind ≡ false → length (flat_map (λ (g : Group). map fields_of_entry (locals l g)) gs) ≤ total (group_share l role.Strtab) gs

@@ -37,22 +37,22 @@ leads : (l : Layout) (f : File) → f.role ≡ file_role.Dynamic → dynstr_pref
 leads l f h = rw h refl
 
 -- the strings behind those in front
-abbrev behind : Layout → File → List (List ℕ)
-behind l f = entry_names l f ++ version_names l f
+abbrev later_names : Layout → File → List (List ℕ)
+later_names l f = entry_names l f ++ version_names l f
 
 -- a library's strings begin with its name
-name_first : (l : Layout) (f : File) → needs_dynamic l.kind ≡ true → is_library f.role ≡ true → strings_of l f ≡ string f.lib_name ++ string_bytes (behind l f)
+name_first : (l : Layout) (f : File) → needs_dynamic l.kind ≡ true → is_library f.role ≡ true → strings_of l f ≡ string f.lib_name ++ string_bytes (later_names l f)
 unfolding file_strings
 name_first l f needs h =
     let e = leads l f (library_role f.role h) in
-    let P : Bool → Type 0 = λ b. string_bytes (if b then dynstr_prefix_strings l f ++ behind l f else []) ≡ string f.lib_name ++ string_bytes (behind l f) in
-    subst P (sym needs) (ap (λ (ss : List (List ℕ)). string_bytes (ss ++ behind l f)) e)
+    let P : Bool → Type 0 = λ b. string_bytes (if b then dynstr_prefix_strings l f ++ later_names l f else []) ≡ string f.lib_name ++ string_bytes (later_names l f) in
+    subst P (sym needs) (ap (λ (ss : List (List ℕ)). string_bytes (ss ++ later_names l f)) e)
 
 file_belongs : (l : Layout) (whole : List ℕ) → needs_dynamic l.kind ≡ true → (at : ℕ) (f : File) → HasBytesAt whole at (strings_of l f) → Belong (NamesLibrary whole) (needed_of at f) (library_of f)
 file_belongs l whole needs at f s =
     elim (cases_Bool (is_library f.role)) [
       | inl t ↦ rw t (record {
-        first = record { at = at; is = refl; stands = HasBytesAt-front whole (string f.lib_name) (string_bytes (behind l f)) at (subst (λ (bs : List ℕ). HasBytesAt whole at bs) (name_first l f needs t) s) };
+        first = record { at = at; is = refl; stands = HasBytesAt-front whole (string f.lib_name) (string_bytes (later_names l f)) at (subst (λ (bs : List ℕ). HasBytesAt whole at bs) (name_first l f needs t) s) };
         rest = tt;
       })
       | inr n ↦ rw n tt

@@ -5,7 +5,7 @@ use Rattle.std.proofs.lemmas.Bool.{ne_eqb}
 use Rattle.std.proofs.lemmas.List.{length-append}
 use Rattle.std.proofs.lemmas.Grind.{flat_map-append}
 use Rattle.wild_words.specs.Words.{HasBytesAt}
-use Rattle.wild_words.proofs.RecordLemmas.{HasBytesAt-front, HasBytesAt-behind}
+use Rattle.wild_words.proofs.RecordLemmas.{HasBytesAt-front, HasBytesAt-after}
 use Rattle.wild_records.specs.Abi.Dynamic.{dt_soname}
 use Rattle.wild_types.specs.declared.file.File.{File}
 use Rattle.wild_types.specs.declared.file.FileRole.{FileRole}
@@ -40,7 +40,7 @@ length-string_bytes (n ∷ ns) =
 -- strings behind others
 later_strings : (strings : List ℕ) (xs ys : List (List ℕ)) (at : ℕ) → HasBytesAt strings at (string_bytes (xs ++ ys)) → HasBytesAt strings (at + total text_room xs) (string_bytes ys)
 later_strings strings xs ys at s =
-    HasBytesAt-behind strings (string_bytes xs) (string_bytes ys) at (total text_room xs) (length-string_bytes xs) (subst (λ (bs : List ℕ). HasBytesAt strings at bs) (flat_map-append string xs ys) s)
+    HasBytesAt-after strings (string_bytes xs) (string_bytes ys) at (total text_room xs) (length-string_bytes xs) (subst (λ (bs : List ℕ). HasBytesAt strings at bs) (flat_map-append string xs ys) s)
 
 -- where a string stands, its offset has the field's range
 told_is : (strings : List ℕ) (n : List ℕ) (at : ℕ) → length strings < 2 ^ 32 → HasBytesAt strings at (string n) → offset_u32 at ≡ at
@@ -60,7 +60,7 @@ named_at strings [] at k d small s l = absurd (omega (arith, l))
 named_at strings (n ∷ ns) at zero d small s l = told_stands strings n at small (HasBytesAt-front strings (string n) (string_bytes ns) at s)
 named_at strings (n ∷ ns) at (suc k) d small s l =
     let b = length-append n (0 ∷ []) in
-    let later = HasBytesAt-behind strings (string n) (string_bytes ns) at (length n + 1) b s in
+    let later = HasBytesAt-after strings (string n) (string_bytes ns) at (length n + 1) b s in
     let f = later.fits in
     let e : at + (length n + 1) ≡ offset_after_string at n = omega (arith, f, small) in
     named_at strings ns (offset_after_string at n) k d small (subst (λ (i : ℕ). HasBytesAt strings i (string_bytes ns)) e later) (omega (arith, l))
@@ -120,7 +120,7 @@ needs_named l f n strings at needs has h =
     let start = offset_after_entry_names l at f in
     let s = subst (λ (ns : List (List ℕ)). HasBytesAt strings start (string_bytes ns)) (library_names l f n has) (versions_are_written l f strings at needs h) in
     let own = HasBytesAt-front strings (string f.lib_name) (string_bytes (needed_names n.versions)) start s in
-    let later = HasBytesAt-behind strings (string f.lib_name) (string_bytes (needed_names n.versions)) start (length f.lib_name + 1) (length-append f.lib_name (0 ∷ [])) s in
+    let later = HasBytesAt-after strings (string f.lib_name) (string_bytes (needed_names n.versions)) start (length f.lib_name + 1) (length-append f.lib_name (0 ∷ [])) s in
     let fits = later.fits in
     let e : start + (length f.lib_name + 1) ≡ offset_after_string start f.lib_name = omega (arith, fits, small) in
     let rest = subst (λ (i : ℕ). HasBytesAt strings i (string_bytes (needed_names n.versions))) e later in
@@ -157,7 +157,7 @@ own_stands : (strings : List ℕ) (number at : ℕ) (path : Option (List ℕ)) (
 own_stands strings number at None own rest small s = HasBytesAt-front strings (string own) (string_bytes rest) at s
 own_stands strings number at (Some text) own rest small s =
     let b = length-append text (0 ∷ []) in
-    let later = HasBytesAt-behind strings (string text) (string_bytes (own ∷ rest)) at (length text + 1) b s in
+    let later = HasBytesAt-after strings (string text) (string_bytes (own ∷ rest)) at (length text + 1) b s in
     let f = later.fits in
     let e : at + (length text + 1) ≡ offset_after_string at text = omega (arith, f, small) in
     HasBytesAt-front strings (string own) (string_bytes rest) (offset_after_string at text) (subst (λ (i : ℕ). HasBytesAt strings i (string_bytes (own ∷ rest))) e later)

@@ -17,7 +17,7 @@ use Rattle.wild_layout.specs.Notes.{build_id_note, property_note}
 use Rattle.wild_layout.specs.SearchTable.{address_of_role, layout_fdes, search_table}
 use Rattle.wild_layout.specs.TablePlaces.{table_bytes}
 use Rattle.wild_layout.specs.Geometry.{IsLaidOut, TablesStand}
-use Rattle.wild_geometry.proofs.PlacedInputs.{laid_same}
+use Rattle.wild_geometry.proofs.PlacedInputs.{placed_files_same}
 use Rattle.wild_loaded.proofs.FirstFile.{interpreter_bytes, search_bytes}
 use Rattle.wild_names.specs.NoteLaws.{HoldsJust, NotesAreWritten, SearchTablesAreWritten}
 use Rattle.wild_names.proofs.HashBytes.{GivenByLast, in_groups}
@@ -34,13 +34,13 @@ by_last l r bs laid group each = in_groups (content l r) (file_content l r) bs t
 build_id_bytes : (l : Layout) → IsLaidOut l → table_bytes l role.BuildId ≡ build_id_note l.build_id
 build_id_bytes l laid =
     by_last l role.BuildId (build_id_note l.build_id) laid
-    (λ g. append-nil (flat_map (file_content l role.BuildId) (placed_files l g)) ∙ laid_same (file_content l role.BuildId) l g (λ at f. refl))
+    (λ g. append-nil (flat_map (file_content l role.BuildId) (placed_files l g)) ∙ placed_files_same (file_content l role.BuildId) l g (λ at f. refl))
     (λ f. behind_all (is_prelude f.role) (if is_epilogue f.role then build_id_note l.build_id else []))
 
 property_bytes : (l : Layout) → IsLaidOut l → table_bytes l role.Property ≡ property_note l.properties
 property_bytes l laid =
     by_last l role.Property (property_note l.properties) laid
-    (λ g. append-nil (flat_map (file_content l role.Property) (placed_files l g)) ∙ laid_same (file_content l role.Property) l g (λ at f. refl))
+    (λ g. append-nil (flat_map (file_content l role.Property) (placed_files l g)) ∙ placed_files_same (file_content l role.Property) l g (λ at f. refl))
     (λ f. behind_all (is_prelude f.role) (if is_epilogue f.role then property_note l.properties else []))
 
 -- ---- where they stand

@@ -73,9 +73,9 @@ listed_at l (d ∷ ds) (suc k) lt fit =
     let later = listed_at l ds k (omega (arith, lt)) (All-tail (λ d. HasNoZero d.name) d ds fit) in
     record { symbol = later.symbol; is = later.is; name = later.name; fits = later.fits }
 
-pub behind : {X : Type 0} (xs ys : List X) (k : ℕ) → slice_get (xs ++ ys) (length xs + k) ≡ slice_get ys k
-behind [] ys k = (let z : 0 + k ≡ k = omega arith in ap (λ (n : ℕ). slice_get ys n) z)
-behind (x ∷ xs) ys k = (let z : suc (length xs) + k ≡ suc (length xs + k) = omega arith in ap (λ (n : ℕ). slice_get (x ∷ (xs ++ ys)) n) z ∙ behind xs ys k)
+pub slice_get-second_list : {X : Type 0} (xs ys : List X) (k : ℕ) → slice_get (xs ++ ys) (length xs + k) ≡ slice_get ys k
+slice_get-second_list [] ys k = (let z : 0 + k ≡ k = omega arith in ap (λ (n : ℕ). slice_get ys n) z)
+slice_get-second_list (x ∷ xs) ys k = (let z : suc (length xs) + k ≡ suc (length xs + k) = omega arith in ap (λ (n : ℕ). slice_get (x ∷ (xs ++ ys)) n) z ∙ slice_get-second_list xs ys k)
 
 -- ---- its entry
 
@@ -133,7 +133,7 @@ are_numbered l table strings f g all found few fit = record {
         let front = defined_elsewhere l (files_of l.groups) in
         let count = length-elsewhere l (files_of l.groups) in
         let place : length front + k + 1 ≡ first_listed l + k = omega (arith, count) in
-        let there : slice_get (table_symbols l) (length front + k) ≡ Some (listed l d.symbol) = behind front (map (listed l) l.dynsyms) k ∙ d.is in
+        let there : slice_get (table_symbols l) (length front + k) ≡ Some (listed l d.symbol) = slice_get-second_list front (map (listed l) l.dynsyms) k ∙ d.is in
         let entry = subst (λ (i : ℕ). HasEntry l table strings i (listed l d.symbol)) place (all.each (length front + k) (listed l d.symbol) there) in
         let size = all.whole in
         let a = length-append front (map (listed l) l.dynsyms) in

@@ -20,7 +20,7 @@ use Rattle.wild_table_formats.specs.SectionSymbols.{front_count}
 use Rattle.wild_layout.specs.Geometry.{IsLaidOut}
 use Rattle.wild_names.specs.IndexLaws.{side_table}
 use Rattle.wild_names.proofs.ListOrder.{InOrder, all_in_order}
-use Rattle.wild_names.proofs.PlaceLemmas.{in_front, behind, either, filtered}
+use Rattle.wild_names.proofs.PlaceLemmas.{in_front, found_in_second_list, either, filtered}
 
 -- ---- what stands in front
 
@@ -124,5 +124,5 @@ entry_at l local n x (f ∷ fs) h =
           (let r = entry_at l local (n - length xs) x fs b.1 in
           let from = b.0 in
           let long : length (own_side l local f) ≡ length xs = ap (λ (es : List NamedEntry). length es) own ∙ length-map xs (named_entry l f) in
-          record { file = r.file; filed = Contains-there r.file f fs r.filed; listed = r.listed; there = behind (own_side l local f) (flat_map (own_side l local) fs) (n - length xs) n (named_entry l r.file x) (omega (arith, from, long)) r.there })
+          record { file = r.file; filed = Contains-there r.file f fs r.filed; listed = r.listed; there = found_in_second_list (own_side l local f) (flat_map (own_side l local) fs) (n - length xs) n (named_entry l r.file x) (omega (arith, from, long)) r.there })
     ]

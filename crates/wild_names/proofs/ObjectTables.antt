@@ -10,7 +10,7 @@ use Rattle.wild_words.specs.Words.{word, HasBytesAt}
 use Rattle.wild_words.specs.Record.{spell}
 use Rattle.wild_words.proofs.ListLemmas.{All-from_list_all}
 use Rattle.wild_words.proofs.OverlayLemmas.{HasBytesAt-inner}
-use Rattle.wild_words.proofs.RecordLemmas.{HasBytesAt-front, HasBytesAt-behind}
+use Rattle.wild_words.proofs.RecordLemmas.{HasBytesAt-front, HasBytesAt-after}
 use Rattle.wild_words.proofs.WordLemmas.{length-word}
 use Rattle.wild_records.specs.Relocations.{rela_size, rela_fields}
 use Rattle.wild_records.specs.declared.relocations.Rela.{Rela}
@@ -39,8 +39,8 @@ use Rattle.wild_layout.specs.Geometry.{IsLaidOut, LayoutsAreLaidOut}
 use Rattle.wild_layout.proofs.FaultLemmas.{clause_holds, first_empty, rest_empty, laid_out}
 use Rattle.wild_layout.proofs.PartialLemmas.{section_bytes_rela, section_bytes_group}
 use Rattle.wild_geometry.specs.PlacedSections.{IsPlacedSection, Own}
-use Rattle.wild_geometry.proofs.PlacedSectionLemmas.{Laid, Laid-from_clauses}
-use Rattle.wild_geometry.proofs.PlacedInputs.{laid_of, laid_section_of}
+use Rattle.wild_geometry.proofs.PlacedSectionLemmas.{AllClausesHold, AllClausesHold-from_clauses}
+use Rattle.wild_geometry.proofs.PlacedInputs.{placed_file_of, placed_section_in}
 use Rattle.wild_loaded.specs.Laws.{OwnersAreKnown}
 use Rattle.wild_loaded.proofs.SectionBytesInMemory.{section_listed}
 use Rattle.wild_names.proofs.BesideLemmas.{HasBytesAt-record}
@@ -48,13 +48,13 @@ use Rattle.wild_names.specs.ObjectTables.{IsSectionOf, place_in, entry_of, HasTa
 
 -- ---- what the clauses say
 
-clauses_hold : (l : Layout) → errors l ≡ [] → Laid l
+clauses_hold : (l : Layout) → errors l ≡ [] → AllClausesHold l
 unfolding errors
 clauses_hold l none =
     let clauses = clause_errors (first_clause l) in
     let shares = flat_map_from (part_errors l) 0 l.parts in
     let front = first_empty (clauses ++ shares) (flat_map_from (group_errors l) 0 l.groups) none in
-    Laid-from_clauses l (clause_holds (first_clause l) (first_empty clauses shares front)) (rest_empty clauses shares front)
+    AllClausesHold-from_clauses l (clause_holds (first_clause l) (first_empty clauses shares front)) (rest_empty clauses shares front)
 
 -- what each section passes
 tested : (l : Layout) (f : File) (s : InputSection) (test : InputSection → Bool) → All (λ (g : Group). each_section test g ≡ true) l.groups → IsSectionOf l f s → test s ≡ true
@@ -75,8 +75,8 @@ table_tested l f s h k =
 -- a section as it stands
 unframed_content : (l : Layout) (f : File) (s t : InputSection) → IsSectionOf l f s → ((at : ℕ) → placed_section l f at s ≡ t) → IsPlacedSection l t
 unframed_content l f s t k is =
-    let a = laid_of l k.group f k.filed in
-    let c = laid_section_of l f a.0 f.sections s k.listed in
+    let a = placed_file_of l k.group f k.filed in
+    let c = placed_section_in l f a.0 f.sections s k.listed in
     record { group = k.group; grouped = k.grouped; file = placed_file l a.0 f; filed = a.1; owner = placed_file l a.0 f; listed = Own refl (subst (λ (x : InputSection). Contains (placed_sections l f a.0 f.sections) x) (is c.0) c.1) }
 
 both_so : (a b : Bool) → a ≡ true → b ≡ false → (a && not b) ≡ true
@@ -93,9 +93,9 @@ stood_stands l t bs law partial laid k given is =
 
 -- ---- tables of relocations
 
-laid_table : (l : Layout) (f : File) (at : ℕ) (s : InputSection) → s.slot ≡ slot.Rela → placed_section l f at s ≡ rela_with_target f s
+placed_rela_section : (l : Layout) (f : File) (at : ℕ) (s : InputSection) → s.slot ≡ slot.Rela → placed_section l f at s ≡ rela_with_target f s
 unfolding placed_section
-laid_table l f at s e = ap (λ (k : Slot). placed_by k l f at s) e
+placed_rela_section l f at s e = ap (λ (k : Slot). placed_by k l f at s) e
 
 turned_count : (s : InputSection) → length (with_word_order s).relocations ≡ length s.relocations
 unfolding with_word_order
@@ -123,7 +123,7 @@ entry_stands l f s t law partial laid k e bits target whole i r there =
     let many = turned_count t in
     let some : (s.size == 0) ≡ false = ne_eqb s.size 0 (λ z. omega (arith, z, whole, many, within)) in
     let given : has_range_bytes l (rela_with_target f s) ≡ true = rw (bits, some) refl in
-    let all : HasBytesAt (bytes l) (place_in l s) (flat_map spelled es) = stood_stands l (rela_with_target f s) (rela_bytes_of l (rela_with_target f s)) law partial laid (unframed_content l f s (rela_with_target f s) k (λ at. laid_table l f at s e)) given (λ o. section_bytes_rela l o (rela_with_target f s) refl bits) in
+    let all : HasBytesAt (bytes l) (place_in l s) (flat_map spelled es) = stood_stands l (rela_with_target f s) (rela_bytes_of l (rela_with_target f s)) law partial laid (unframed_content l f s (rela_with_target f s) k (λ at. placed_rela_section l f at s e)) given (λ o. section_bytes_rela l o (rela_with_target f s) refl bits) in
     HasBytesAt-inner (bytes l) (flat_map spelled es) (spelled (entry_of l t r)) (place_in l s) (24 * i) all (HasBytesAt-record spelled 24 length-rela es i (entry_of l t r) (entry_listed l f s t i r target there))
 
 has_symtab : OwnersAreKnown → LayoutsAreLaidOut → (l : Layout) (f : File) (s : InputSection) → is_partial_link l.kind ≡ true → errors l ≡ [] → IsSectionOf l f s → s.slot ≡ slot.Rela → HasTable l f s
@@ -141,16 +141,16 @@ has_symtab law out l f s partial none k e =
 
 -- ---- groups
 
-laid_group : (l : Layout) (f : File) (at : ℕ) (s : InputSection) → s.slot ≡ slot.Group → placed_section l f at s ≡ s
+placed_group_section : (l : Layout) (f : File) (at : ℕ) (s : InputSection) → s.slot ≡ slot.Group → placed_section l f at s ≡ s
 unfolding placed_section
-laid_group l f at s e = ap (λ (k : Slot). placed_by k l f at s) e
+placed_group_section l f at s e = ap (λ (k : Slot). placed_by k l f at s) e
 
 group_stands : (l : Layout) (f : File) (s : InputSection) → OwnersAreKnown → is_partial_link l.kind ≡ true → IsLaidOut l → IsSectionOf l f s → s.slot ≡ slot.Group → s.nobits ≡ false → length s.bytes ≡ s.size → s.size ≡ 4 + 4 * length s.members → HasBytesAt (bytes l) (place_in l s) (take 4 s.bytes ++ flat_map (word 4) s.members)
 unfolding group_words
 group_stands l f s law partial laid k e bits long whole =
     let some : (length s.bytes == 0) ≡ false = ne_eqb (length s.bytes) 0 (λ z. omega (arith, z, long, whole)) in
     let given : has_range_bytes l s ≡ true = rw (e, bits, some) refl in
-    stood_stands l s (group_words s) law partial laid (unframed_content l f s s k (λ at. laid_group l f at s e)) given (λ o. section_bytes_group l o s e bits)
+    stood_stands l s (group_words s) law partial laid (unframed_content l f s s k (λ at. placed_group_section l f at s e)) given (λ o. section_bytes_group l o s e bits)
 
 has_group : OwnersAreKnown → LayoutsAreLaidOut → (l : Layout) (f : File) (s : InputSection) → is_partial_link l.kind ≡ true → errors l ≡ [] → IsSectionOf l f s → s.slot ≡ slot.Group → HasGroup l s
 has_group law out l f s partial none k e =
@@ -164,7 +164,7 @@ has_group law out l f s partial none k e =
     let long : length s.bytes ≡ s.size = elim (or_cases (length s.bytes == s.size) false lengths) [ inl a ↦ eqb-true (length s.bytes) s.size a | inr b ↦ cc ] in
     let all = group_stands l f s law partial laid k e bits long whole in
     let four : length (take 4 s.bytes) ≡ 4 = length-take-le 4 s.bytes (omega (arith, long, whole)) in
-    let members = HasBytesAt-behind (bytes l) (take 4 s.bytes) (flat_map (word 4) s.members) (place_in l s) 4 four all in
+    let members = HasBytesAt-after (bytes l) (take 4 s.bytes) (flat_map (word 4) s.members) (place_in l s) 4 four all in
     record {
       flags = HasBytesAt-front (bytes l) (take 4 s.bytes) (flat_map (word 4) s.members) (place_in l s) all;
       whole = whole;

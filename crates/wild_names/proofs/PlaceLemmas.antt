@@ -14,10 +14,10 @@ in_front [] ys n x h = cc
 in_front (y ∷ xs) ys zero x h = h
 in_front (y ∷ xs) ys (suc n) x h = in_front xs ys n x h
 
-pub behind : {X : Type 0} (xs ys : List X) (n m : ℕ) (x : X) → m ≡ length xs + n → slice_get ys n ≡ Some x → slice_get (xs ++ ys) m ≡ Some x
-behind [] ys n m x e h = (let same : n ≡ m = omega (arith, e) in subst (λ (k : ℕ). slice_get ys k ≡ Some x) same h)
-behind (y ∷ xs) ys n zero x e h = absurd (omega (arith, e))
-behind (y ∷ xs) ys n (suc m) x e h = behind xs ys n m x (omega (arith, e)) h
+pub found_in_second_list : {X : Type 0} (xs ys : List X) (n m : ℕ) (x : X) → m ≡ length xs + n → slice_get ys n ≡ Some x → slice_get (xs ++ ys) m ≡ Some x
+found_in_second_list [] ys n m x e h = (let same : n ≡ m = omega (arith, e) in subst (λ (k : ℕ). slice_get ys k ≡ Some x) same h)
+found_in_second_list (y ∷ xs) ys n zero x e h = absurd (omega (arith, e))
+found_in_second_list (y ∷ xs) ys n (suc m) x e h = found_in_second_list xs ys n m x (omega (arith, e)) h
 
 pub either : {X : Type 0} (xs ys : List X) (n : ℕ) (x : X) → slice_get (xs ++ ys) n ≡ Some x → (slice_get xs n ≡ Some x) ⊎ ((length xs ≤ n) × (slice_get ys (n - length xs) ≡ Some x))
 either [] ys n x h = (let same : n ≡ n - 0 = omega arith in inr (omega arith, subst (λ (k : ℕ). slice_get ys k ≡ Some x) same h))

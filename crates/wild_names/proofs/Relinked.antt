@@ -34,7 +34,7 @@ use Rattle.wild_layout.specs.Geometry.{IsLaidOut}
 use Rattle.wild_names.specs.FieldLaws.{TableSymbolsHaveFields, entry_with}
 use Rattle.wild_names.specs.IndexLaws.{side_table}
 use Rattle.wild_names.specs.Links.{Link, object_symbols, entry_value, IsNumberOf, NoNumber, OfEntry, IsInObjectSection, HasValue, InSection, Absolute, Outside, IsPlain, HasTargetValue, NoSymbol, OfSection, OfSymbol, RelinkingIsFaithful}
-use Rattle.wild_names.proofs.PlaceLemmas.{in_front, behind, number_in, own_at}
+use Rattle.wild_names.proofs.PlaceLemmas.{in_front, found_in_second_list, number_in, own_at}
 use Rattle.wild_names.proofs.ObjectSymbols.{front, front_local, front_global, length-front, own_side, side_ordered, mapped, entry_at}
 use Rattle.wild_names.proofs.OwnSymbols.{own_known}
 use Rattle.wild_names.proofs.EntryValues.{in_section, section_low, symbol_in_section, own_place}
@@ -78,7 +78,7 @@ section_listed l t n partial stands told = by t.singleton refl
         let i = unwrap_or (number_from h (1 + length asked) (singleton_sections l)) 0 in
         let found = number_in h (1 + length asked) i (singleton_sections l) (some_number (number_from h (1 + length asked) (singleton_sections l)) (λ z. told (is ∙ z))) in
         let from = found.from in
-        let there = behind asked (singleton_sections l) (i - (1 + length asked)) (i - 1) h (omega (arith, from)) found.there in
+        let there = found_in_second_list asked (singleton_sections l) (i - (1 + length asked)) (i - 1) h (omega (arith, from)) found.there in
         subst Listed (sym is) (joined i (omega (arith, from)) (there ∙ ap (λ (k : ℕ). Some k) own))
     by None e =
         let m = section_of l t.part in
@@ -134,7 +134,7 @@ own_entry l i n true partial laid h =
     let rest = flat_map (own_side l true) (files_of l.groups) in
     let long = length-front l in
     let local : side_table l true ≡ front l ++ rest = side_ordered l true partial laid ∙ ap (λ (es : List NamedEntry). es ++ rest) (front_local l) in
-    let there = behind (front l) rest (n - front_count l) n e (omega (arith, from, long)) r.there in
+    let there = found_in_second_list (front l) rest (n - front_count l) n e (omega (arith, from, long)) r.there in
     let in_side = subst (λ (es : List NamedEntry). slice_get es n ≡ Some e) (sym local) there in
     record { file = r.file; filed = r.filed; item = found.item; listed = r.listed; own = found.own; entry = record { some = omega (arith, from); there = in_front (side_table l true) (side_table l false) n e in_side } }
 own_entry l i n false partial laid h =
@@ -152,7 +152,7 @@ own_entry l i n false partial laid h =
     let locals = ap (λ (es : List NamedEntry). length es) local in
     let global : side_table l false ≡ others = side_ordered l false partial laid ∙ ap (λ (es : List NamedEntry). es ++ others) (front_global l) in
     let in_side = subst (λ (es : List NamedEntry). slice_get es (n - start) ≡ Some e) (sym global) r.there in
-    let there = behind (side_table l true) (side_table l false) (n - start) n e (omega (arith, from, long, few, both, locals)) in_side in
+    let there = found_in_second_list (side_table l true) (side_table l false) (n - start) n e (omega (arith, from, long, few, both, locals)) in_side in
     record { file = r.file; filed = r.filed; item = found.item; listed = r.listed; own = found.own; entry = record { some = omega (arith, from); there = there } }
 
 -- ---- values

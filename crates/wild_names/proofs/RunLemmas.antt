@@ -1,11 +1,11 @@
 -- What files and groups give, whose strings stand one behind the other.
 use Rattle.wild_placement.specs.PlacedSections.{placed_files, placed_file}
-use Rattle.wild_geometry.proofs.PlacedInputs.{laid_same}
+use Rattle.wild_geometry.proofs.PlacedInputs.{placed_files_same}
 use Rattle.std.proofs.Common.{◌≡◌, ℕ, suc, ◌+◌, ◌^◌, ◌<◌, ◌≤◌, true, List, [], ◌∷◌, ◌++◌, length, take, Some, slice_get, flat_map, refl, sym, ap, ◌∙◌, arith, subst}
 use Rattle.std.proofs.lemmas.List.{length-append, append-nil}
 use Rattle.wild_words.specs.Words.{HasBytesAt}
 use Rattle.wild_words.proofs.ListLemmas.{flat_map-same, flat_map-flat_map}
-use Rattle.wild_words.proofs.RecordLemmas.{HasBytesAt-whole, HasBytesAt-front, HasBytesAt-behind}
+use Rattle.wild_words.proofs.RecordLemmas.{HasBytesAt-whole, HasBytesAt-front, HasBytesAt-after}
 use Rattle.wild_words.proofs.Basics.{nil_if}
 use Rattle.wild_types.specs.declared.part.Role.{Role}
 use Rattle.wild_types.specs.declared.part.Role.TheVariants as role
@@ -42,7 +42,7 @@ pub files_belong : {E N : Type 0} (R : E → N → Type 0) (give : ℕ → File 
 files_belong R give have l whole small each at [] s = tt
 files_belong R give have l whole small each at (f ∷ fs) s =
     let long = length-string_bytes (file_strings l f) in
-    let later = HasBytesAt-behind whole (strings_of l f) (flat_map (strings_of l) fs) at (length (strings_of l f)) refl s in
+    let later = HasBytesAt-after whole (strings_of l f) (flat_map (strings_of l) fs) at (length (strings_of l f)) refl s in
     let ends = later.fits in
     let is : at + length (strings_of l f) ≡ next_dynstr l at f = omega arith in
     let rest = files_belong R give have l whole small each (next_dynstr l at f) fs (subst (λ (n : ℕ). HasBytesAt whole n (flat_map (strings_of l) fs)) is later) in
@@ -57,12 +57,12 @@ file_gives l f = rw (nil_if (is_prelude f.role)) (append-nil (strings_of l f))
 stood_gives : (l : Layout) (g : Group) → content l role.Dynstr g ≡ flat_map (strings_of l) (placed_files l g)
 stood_gives l g = append-nil (flat_map (file_content l role.Dynstr) (placed_files l g)) ∙ flat_map-same (file_content l role.Dynstr) (strings_of l) (placed_files l g) (file_gives l)
 
-strings_laid : (l : Layout) (at : ℕ) (f : File) → strings_of l (placed_file l at f) ≡ strings_of l f
+strings_of_placed : (l : Layout) (at : ℕ) (f : File) → strings_of l (placed_file l at f) ≡ strings_of l f
 unfolding file_strings
-strings_laid l at f = refl
+strings_of_placed l at f = refl
 
 pub group_gives : (l : Layout) (g : Group) → content l role.Dynstr g ≡ flat_map (strings_of l) g.files
-group_gives l g = stood_gives l g ∙ laid_same (strings_of l) l g (strings_laid l)
+group_gives l g = stood_gives l g ∙ placed_files_same (strings_of l) l g (strings_of_placed l)
 
 -- what each group gives, whose bytes of a role stand where it begins, belongs to what it has; so for groups whose bytes stand one
 -- behind the other
@@ -72,7 +72,7 @@ pub groups_along : {E N : Type 0} (R : E → N → Type 0) (of : Group → List 
 groups_along R of have l r start whole each at [] starts s = tt
 groups_along R of have l r start whole each at (g ∷ gs) starts s =
     let here = HasBytesAt-front whole (content l r g) (flat_map (content l r) gs) at s in
-    let later = HasBytesAt-behind whole (content l r g) (flat_map (content l r) gs) at (length (content l r g)) refl s in
+    let later = HasBytesAt-after whole (content l r g) (flat_map (content l r) gs) at (length (content l r g)) refl s in
     let begins = starts 0 g refl in
     let is : at ≡ start g = omega arith in
     let own = each g (subst (λ (n : ℕ). HasBytesAt whole n (content l r g)) is here) in

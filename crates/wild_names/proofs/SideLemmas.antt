@@ -1,13 +1,13 @@
 -- The table of all symbols: its local ones in one part, and all others in another.
 use Rattle.wild_placement.specs.PlacedSections.{placed_files, placed_file}
-use Rattle.wild_geometry.proofs.PlacedInputs.{laid_same}
+use Rattle.wild_geometry.proofs.PlacedInputs.{placed_files_same}
 use Rattle.std.proofs.Common.{◌≡◌, ℕ, ◌+◌, ◌*◌, ◌^◌, ◌<◌, ◌≤◌, inl, inr, ◌==◌, ◌&&◌, Bool, true, false, List, [], ◌∷◌, ◌++◌, length, map, filter, replicate, Option, Some, None, option_to_list, slice_get, flat_map, refl, sym, ap, ◌∙◌, arith, subst}
 use Rattle.std.proofs.lemmas.Bool.{cases_Bool, and_parts}
 use Rattle.std.proofs.lemmas.List.{append-nil, length-append}
 use Rattle.wild_words.specs.Words.{HasBytesAt}
 use Rattle.wild_words.specs.Record.{spell}
 use Rattle.wild_words.proofs.ListLemmas.{flat_map-same, flat_map-flat_map}
-use Rattle.wild_words.proofs.RecordLemmas.{HasBytesAt-whole, HasBytesAt-front, HasBytesAt-behind}
+use Rattle.wild_words.proofs.RecordLemmas.{HasBytesAt-whole, HasBytesAt-front, HasBytesAt-after}
 use Rattle.wild_words.proofs.Basics.{nil_if}
 use Rattle.wild_records.specs.SymtabEntry.{symtab_entry_fields}
 use Rattle.wild_records.specs.declared.symtab_entry.SymtabEntry.{SymtabEntry}
@@ -73,7 +73,7 @@ side_step local whole small n ns again = λ at s. by at n.name refl s
     by at None e s = with_name at None e refl s
     by at (Some name) e s =
         let here = HasBytesAt-front whole (string name) (string_bytes (names_of ns)) at s in
-        let later = HasBytesAt-behind whole (string name) (string_bytes (names_of ns)) at (length (string name)) refl s in
+        let later = HasBytesAt-after whole (string name) (string_bytes (names_of ns)) at (length (string name)) refl s in
         let long = length-append name (0 ∷ []) in
         let ends = here.fits in
         let is : at + length (string name) ≡ offset_after_string at name = omega arith in
@@ -91,15 +91,15 @@ file_text : (l : Layout) (f : File) → file_content l role.Strtab f ≡ string_
 file_text l f = rw (nil_if (is_prelude f.role)) (append-nil (string_bytes (table_strings l f)))
 
 -- a group's strings are the names of its symbols
-text_laid : (l : Layout) (at : ℕ) (f : File) → string_bytes (table_strings l (placed_file l at f)) ≡ string_bytes (table_strings l f)
+texts_of_placed : (l : Layout) (at : ℕ) (f : File) → string_bytes (table_strings l (placed_file l at f)) ≡ string_bytes (table_strings l f)
 unfolding table_strings file_items
-text_laid l at f = refl
+texts_of_placed l at f = refl
 
 group_text : (l : Layout) (g : Group) → NamesOfGroups → content l role.Strtab g ≡ string_bytes (names_of (group_table l g))
 group_text l g names =
     append-nil (flat_map (file_content l role.Strtab) (placed_files l g))
     ∙ flat_map-same (file_content l role.Strtab) (λ (f : File). string_bytes (table_strings l f)) (placed_files l g) (file_text l)
-    ∙ laid_same (λ (f : File). string_bytes (table_strings l f)) l g (text_laid l)
+    ∙ placed_files_same (λ (f : File). string_bytes (table_strings l f)) l g (texts_of_placed l)
     ∙ sym (flat_map-flat_map string (table_strings l) g.files)
     ∙ ap string_bytes (sym (names l g))
 

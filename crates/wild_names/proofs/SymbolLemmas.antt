@@ -4,7 +4,7 @@ use Rattle.std.proofs.lemmas.Bool.{cases_Bool}
 use Rattle.std.proofs.lemmas.List.{length-append}
 use Rattle.std.proofs.lemmas.Grind.{flat_map-append}
 use Rattle.wild_words.specs.Words.{HasBytesAt}
-use Rattle.wild_words.proofs.RecordLemmas.{HasBytesAt-front, HasBytesAt-behind}
+use Rattle.wild_words.proofs.RecordLemmas.{HasBytesAt-front, HasBytesAt-after}
 use Rattle.wild_records.specs.declared.symtab_entry.SymtabEntry.{SymtabEntry}
 use Rattle.wild_types.specs.declared.part.Role.TheVariants as role
 use Rattle.wild_types.specs.declared.file.FileRole.{FileRole}
@@ -45,7 +45,7 @@ unfolding entries_at
 entries_belong whole small at [] s = tt
 entries_belong whole small at (n ∷ ns) s =
     let here = HasBytesAt-front whole (string n.name) (string_bytes (names_of ns)) at s in
-    let later = HasBytesAt-behind whole (string n.name) (string_bytes (names_of ns)) at (length (string n.name)) refl s in
+    let later = HasBytesAt-after whole (string n.name) (string_bytes (names_of ns)) at (length (string n.name)) refl s in
     let long = length-append n.name (0 ∷ []) in
     let ends = here.fits in
     let is : at + length (string n.name) ≡ offset_after_string at n.name = omega arith in
@@ -100,7 +100,7 @@ file_belongs l whole small needs at f s =
     let cut = subst (λ (bs : List ℕ). HasBytesAt whole at bs) (strings_are l f needs) s in
     let names = string_bytes (names_of (file_symbols l f)) in
     let versions = string_bytes (version_names l f) in
-    let later = HasBytesAt-behind whole (string_bytes (dynstr_prefix_strings l f)) (names ++ versions) at (length (string_bytes (dynstr_prefix_strings l f))) refl cut in
+    let later = HasBytesAt-after whole (string_bytes (dynstr_prefix_strings l f)) (names ++ versions) at (length (string_bytes (dynstr_prefix_strings l f))) refl cut in
     let long = length-string_bytes (dynstr_prefix_strings l f) in
     let ends = later.fits in
     let is : at + length (string_bytes (dynstr_prefix_strings l f)) ≡ offset_after_lead l at f = omega arith in

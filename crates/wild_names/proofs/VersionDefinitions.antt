@@ -1,6 +1,6 @@
 -- The versions that the output defines: the last file has their table, and their names stand behind those of its symbols.
 use Rattle.wild_placement.specs.PlacedSections.{placed_files, placed_file}
-use Rattle.wild_geometry.proofs.PlacedInputs.{laid_same}
+use Rattle.wild_geometry.proofs.PlacedInputs.{placed_files_same}
 use Rattle.std.proofs.Common.{◌≡◌, ℕ, ◌≤◌, true, false, List, [], ◌∷◌, ◌++◌, length, Option, Some, None, flat_map, refl, sym, ap, ◌∙◌, arith, subst}
 use Rattle.std.proofs.lemmas.List.{append-nil}
 use Rattle.std.proofs.lemmas.Option.{get_or_from_slice_get, slice_get_within}
@@ -79,12 +79,12 @@ in_order l e needs h = record {
 file_gives : (l : Layout) (f : File) → file_content l role.GnuVersionD f ≡ file_definitions l f
 file_gives l f = rw (nil_if (is_prelude f.role)) (append-nil (file_definitions l f))
 
-definitions_laid : (l : Layout) (at : ℕ) (f : File) → file_definitions l (placed_file l at f) ≡ file_definitions l f
+definitions_of_placed : (l : Layout) (at : ℕ) (f : File) → file_definitions l (placed_file l at f) ≡ file_definitions l f
 unfolding file_definitions definition_offsets
-definitions_laid l at f = refl
+definitions_of_placed l at f = refl
 
 group_gives : (l : Layout) (g : Group) → content l role.GnuVersionD g ≡ flat_map (file_definitions l) g.files
-group_gives l g = append-nil (flat_map (file_content l role.GnuVersionD) (placed_files l g)) ∙ flat_map-same (file_content l role.GnuVersionD) (file_definitions l) (placed_files l g) (file_gives l) ∙ laid_same (file_definitions l) l g (definitions_laid l)
+group_gives l g = append-nil (flat_map (file_content l role.GnuVersionD) (placed_files l g)) ∙ flat_map-same (file_content l role.GnuVersionD) (file_definitions l) (placed_files l g) (file_gives l) ∙ placed_files_same (file_definitions l) l g (definitions_of_placed l)
 
 definitions_given : (l : Layout) (e : File) → IsLaidOut l → needs_dynsym l.kind ≡ true → is_epilogue e.role ≡ true → table_bytes l role.GnuVersionD ≡ table_of l e
 unfolding in_order

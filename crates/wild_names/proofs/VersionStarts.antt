@@ -4,7 +4,7 @@ use Rattle.std.specs.List.{list_any}
 use Rattle.std.proofs.lemmas.Bool.{cases_Bool, eq-eqb}
 use Rattle.std.proofs.lemmas.Option.{same_Some, slice_get_cases}
 use Rattle.wild_words.specs.Words.{HasBytesAt}
-use Rattle.wild_words.proofs.RecordLemmas.{HasBytesAt-whole, HasBytesAt-front, HasBytesAt-behind}
+use Rattle.wild_words.proofs.RecordLemmas.{HasBytesAt-whole, HasBytesAt-front, HasBytesAt-after}
 use Rattle.wild_types.specs.declared.part.Role.{Role}
 use Rattle.wild_types.specs.declared.part.Role.TheVariants as role
 use Rattle.wild_types.specs.declared.file.File.{File}
@@ -36,7 +36,7 @@ group_stands l r whole at (x ∷ gs) zero g h s =
     subst (λ (y : Group). HasBytesAt whole (at + 0) (content l r y)) (same_Some x g h) (subst (λ (n : ℕ). HasBytesAt whole n (content l r x)) z here)
 group_stands l r whole at (x ∷ gs) (suc j) g h s =
     let before = λ (y : Group). length (content l r y) in
-    let later = HasBytesAt-behind whole (content l r x) (flat_map (content l r) gs) at (length (content l r x)) refl s in
+    let later = HasBytesAt-after whole (content l r x) (flat_map (content l r) gs) at (length (content l r x)) refl s in
     let z : at + before x + total before (take j gs) ≡ at + total before (take (suc j) (x ∷ gs)) = omega arith in
     subst (λ (n : ℕ). HasBytesAt whole n (content l r g)) z (group_stands l r whole (at + before x) gs j g h later)
 
@@ -46,7 +46,7 @@ file_stands l whole small at [] h s = cc
 file_stands l whole small at (f ∷ fs) h s =
     let long = length-string_bytes (file_strings l f) in
     let here = HasBytesAt-front whole (strings_of l f) (flat_map (strings_of l) fs) at s in
-    let later = HasBytesAt-behind whole (strings_of l f) (flat_map (strings_of l) fs) at (length (strings_of l f)) refl s in
+    let later = HasBytesAt-after whole (strings_of l f) (flat_map (strings_of l) fs) at (length (strings_of l f)) refl s in
     let ends = later.fits in
     let is : at + length (strings_of l f) ≡ next_dynstr l at f = omega arith in
     elim (cases_Bool (is_epilogue f.role)) [

@@ -1,6 +1,6 @@
 -- The table of the versions of dynamic symbols: that of the null one, those of each file, and those of the list.
 use Rattle.wild_placement.specs.PlacedSections.{placed_files}
-use Rattle.wild_geometry.proofs.PlacedInputs.{laid_same}
+use Rattle.wild_geometry.proofs.PlacedInputs.{placed_files_same}
 use Rattle.std.proofs.Common.{◌≡◌, ℕ, true, List, [], ◌∷◌, map, flat_map, refl, sym, ap, ◌∙◌}
 use Rattle.std.proofs.lemmas.List.{append-nil}
 use Rattle.wild_words.proofs.ListLemmas.{flat_map-same, flat_map-flat_map}
@@ -63,7 +63,7 @@ group_gives : (l : Layout) (g : Group) → needs_dynsym l.kind ≡ true → l.op
 group_gives l g needs asked =
     append-nil (flat_map (file_content l role.GnuVersion) (placed_files l g))
     ∙ flat_map-same (file_content l role.GnuVersion) (λ (f : File). version_bytes (file_versions l f)) (placed_files l g) (λ f. file_gives l f needs asked)
-    ∙ laid_same (λ (f : File). version_bytes (file_versions l f)) l g (λ at f. refl)
+    ∙ placed_files_same (λ (f : File). version_bytes (file_versions l f)) l g (λ at f. refl)
     ∙ sym (flat_map-flat_map spelled (file_versions l) g.files)
 
 pub version_table : (l : Layout) → IsLaidOut l → needs_dynsym l.kind ≡ true → l.options.versions ≡ true → table_bytes l role.GnuVersion ≡ version_bytes (all_versions l)

@@ -174,9 +174,9 @@ pub ruleset tallies = (tally_one, tally_section, unasked_section)
 
 -- ---- the sections of a file
 
-laid_drop : (l : Layout) (f : File) (at : ℕ) (ss : List InputSection) (i : ℕ) (s : InputSection) → i < length ss → s ≡ get_or ss i s
+placed_sections_drop : (l : Layout) (f : File) (at : ℕ) (ss : List InputSection) (i : ℕ) (s : InputSection) → i < length ss → s ≡ get_or ss i s
     → placed_sections l f at (drop i ss) ≡ placed_section l f at s ∷ placed_sections l f (address_after at (kept_size l f s)) (drop (i + 1) ss)
-laid_drop l f at ss i s low read = ap (placed_sections l f at) (drop_more ss i s low ∙ ap (λ (x : InputSection). x ∷ drop (i + 1) ss) (sym read))
+placed_sections_drop l f at ss i s low read = ap (placed_sections l f at) (drop_more ss i s low ∙ ap (λ (x : InputSection). x ∷ drop (i + 1) ss) (sym read))
 
 -- ---- where a section stands
 
@@ -244,7 +244,7 @@ pub section_next : (k : Counted) (l : Layout) (f : File) (at : ℕ) (ss : List I
     → n ≡ min (2 ^ 64 - 1) (counted_in k l (placed_section l f at s)) → next ≡ min (sum + n) (2 ^ 64 - 1) → (reads_places k l ≡ true → there ≡ address_after at (kept_size l f s))
     → min (2 ^ 64 - 1) (sum + total (counted_in k l) (placed_sections l f at (drop i ss))) ≡ all → min (2 ^ 64 - 1) (next + total (counted_in k l) (placed_sections l f there (drop (i + 1) ss))) ≡ all
 section_next k l f at ss i s sum n next there all low read is added at_next h =
-    let e : total (counted_in k l) (placed_sections l f at (drop i ss)) ≡ counted_in k l (placed_section l f at s) + total (counted_in k l) (placed_sections l f (address_after at (kept_size l f s)) (drop (i + 1) ss)) = ap (total (counted_in k l)) (laid_drop l f at ss i s low read) in
+    let e : total (counted_in k l) (placed_sections l f at (drop i ss)) ≡ counted_in k l (placed_section l f at s) + total (counted_in k l) (placed_sections l f (address_after at (kept_size l f s)) (drop (i + 1) ss)) = ap (total (counted_in k l)) (placed_sections_drop l f at ss i s low read) in
     let rest = rest_anywhere k l f at there (kept_size l f s) (drop (i + 1) ss) at_next in
     omega (arith, added, is, h, e, rest)
 

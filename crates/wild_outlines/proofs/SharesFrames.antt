@@ -19,7 +19,7 @@ use Rattle.wild_types.specs.Lookups.{is_frame, files_of, file_of}
 use Rattle.wild_types.specs.Rows.{field_bytes}
 use Rattle.wild_frames.specs.declared.frames.Target.{Target}
 use Rattle.wild_frames.specs.Frames.{Frames, frame_bytes, fdes_in}
-use Rattle.wild_placement.specs.FrameInputs.{section_target, target_in, has_symbol, home_of, target_at, symbol_target, target_by, target_of, frames_of, kept_size, fde_count}
+use Rattle.wild_placement.specs.FrameInputs.{section_target, target_in, has_symbol, defining_file_of, target_at, symbol_target, target_by, target_of, frames_of, kept_size, fde_count}
 use Rattle.wild_placement.specs.PlacedSections.{file_frames, all_fdes}
 use Rattle.wild_change.specs.Change.{is_changeable}
 use Rattle.wild_change.specs.Outline.{outline_section, outline_file, outline_group, outline}
@@ -36,12 +36,12 @@ target_in-outline : (l : Layout) (k : ℕ) (o : Option File) → target_in (outl
 target_in-outline l k None = refl
 target_in-outline l k (Some f) = ap (section_target (outline l)) (slice_get-map outline_section f.sections k) ∙ section_target-outline l (slice_get f.sections k)
 
-home_of-outline : (l : Layout) (f : File) (i : ℕ) → home_of (outline l) (outline_file f) i ≡ option_map outline_file (home_of l f i)
-home_of-outline l f i =
+defining_file_of-outline : (l : Layout) (f : File) (i : ℕ) → defining_file_of (outline l) (outline_file f) i ≡ option_map outline_file (defining_file_of l f i)
+defining_file_of-outline l f i =
     ap (λ (o : Option File). if has_symbol f i then Some (outline_file f) else o) (file_of-layout l.groups i) ∙ option_map-if (has_symbol f i) f (file_of (files_of l.groups) i)
 
 target_at-outline : (l : Layout) (f : File) (i : ℕ) (p : Place) → target_at (outline l) (outline_file f) i p ≡ target_at l f i p
-target_at-outline l f i (at.Section k) = ap (target_in (outline l) k) (home_of-outline l f i) ∙ target_in-outline l k (home_of l f i)
+target_at-outline l f i (at.Section k) = ap (target_in (outline l) k) (defining_file_of-outline l f i) ∙ target_in-outline l k (defining_file_of l f i)
 target_at-outline l f i other = refl
 
 symbol_target-outline : (l : Layout) (f : File) (i : ℕ) (o : Option Symbol) → symbol_target (outline l) (outline_file f) i o ≡ symbol_target l f i o

@@ -44,12 +44,12 @@ by_found : {X : Type 0} (h : KeptEntry → List X) (g : Found → List X) → ((
 by_found h g e [] = refl
 by_found h g e (f ∷ fs) = flat_map-append h (kept_of f) (flat_map kept_of fs) ∙ ap (λ xs. xs ++ flat_map h (flat_map kept_of fs)) (e f) ∙ ap (λ xs. g f ++ xs) (by_found h g e fs)
 
-laid_each : (s : Frames) (f : Found) → flat_map (λ k. map (moved_relocation k) (entry_relocations s k)) (kept_of f) ≡ found_placed s f
-laid_each s (finds.Kept k) = append-nil (map (moved_relocation k) (entry_relocations s k))
-laid_each s (finds.Dropped size) = refl
-laid_each s (finds.Tail from) = refl
-laid_each s (finds.Bad w at) = refl
-laid_each s finds.End = refl
+placed_relocations_each : (s : Frames) (f : Found) → flat_map (λ k. map (moved_relocation k) (entry_relocations s k)) (kept_of f) ≡ found_placed s f
+placed_relocations_each s (finds.Kept k) = append-nil (map (moved_relocation k) (entry_relocations s k))
+placed_relocations_each s (finds.Dropped size) = refl
+placed_relocations_each s (finds.Tail from) = refl
+placed_relocations_each s (finds.Bad w at) = refl
+placed_relocations_each s finds.End = refl
 
 kept_each : (s : Frames) (f : Found) → flat_map (entry_relocations s) (kept_of f) ≡ found_kept s f
 kept_each s (finds.Kept k) = append-nil (entry_relocations s k)
@@ -60,7 +60,7 @@ kept_each s finds.End = refl
 
 pub laid-found : (s : Frames) → moved_relocations s ≡ flat_map (found_placed s) (found_in s)
 unfolding moved_relocations
-laid-found s = by_found (λ k. map (moved_relocation k) (entry_relocations s k)) (found_placed s) (laid_each s) (found_in s)
+laid-found s = by_found (λ k. map (moved_relocation k) (entry_relocations s k)) (found_placed s) (placed_relocations_each s) (found_in s)
 
 pub kept-found : (s : Frames) → kept_relocations s ≡ flat_map (found_kept s) (found_in s)
 unfolding kept_relocations
@@ -155,8 +155,8 @@ found_whole s h = rw h refl
 pub found_none : (s : Frames) (e : BadFrame) → list_error s.relocations ≡ Some e → found_in s ≡ []
 found_none s e h = rw h refl
 
-pub laid_whole : (s : Frames) → list_error s.relocations ≡ None → flat_map (found_placed s) (rest_of s start) ≡ moved_relocations s
-laid_whole s h = sym (laid-found s ∙ ap (flat_map (found_placed s)) (found_whole s h))
+pub placed_relocations_whole : (s : Frames) → list_error s.relocations ≡ None → flat_map (found_placed s) (rest_of s start) ≡ moved_relocations s
+placed_relocations_whole s h = sym (laid-found s ∙ ap (flat_map (found_placed s)) (found_whole s h))
 
-pub laid_none : (s : Frames) (e : BadFrame) → list_error s.relocations ≡ Some e → moved_relocations s ≡ []
-laid_none s e h = laid-found s ∙ ap (flat_map (found_placed s)) (found_none s e h)
+pub placed_relocations_none : (s : Frames) (e : BadFrame) → list_error s.relocations ≡ Some e → moved_relocations s ≡ []
+placed_relocations_none s e h = laid-found s ∙ ap (flat_map (found_placed s)) (found_none s e h)

@@ -41,17 +41,17 @@ length_from l at [] = refl
 length_from l at (f ∷ fs) = let a = length_from l (address_after at (file_frames l f)) fs in omega arith
 
 -- the same of the files of a group
-pub laid_same : {X : Type 0} (l : Layout) (F : File → List X) (g : Group) → ReadsNoSection l F → flat_map F (placed_files l g) ≡ flat_map F g.files
+pub placed_files_same : {X : Type 0} (l : Layout) (F : File → List X) (g : Group) → ReadsNoSection l F → flat_map F (placed_files l g) ≡ flat_map F g.files
 unfolding placed_files
-laid_same l F g h = joined_from l F (frames_at l g) g.files h
+placed_files_same l F g h = joined_from l F (frames_at l g) g.files h
 
-pub laid_total : (l : Layout) (F : File → ℕ) (g : Group) → ReadsNoSection l F → total F (placed_files l g) ≡ total F g.files
+pub placed_files_total : (l : Layout) (F : File → ℕ) (g : Group) → ReadsNoSection l F → total F (placed_files l g) ≡ total F g.files
 unfolding placed_files
-laid_total l F g h = total_from l F (frames_at l g) g.files h
+placed_files_total l F g h = total_from l F (frames_at l g) g.files h
 
-pub laid_any : (l : Layout) (F : File → Bool) (g : Group) → ReadsNoSection l F → list_any F (placed_files l g) ≡ list_any F g.files
+pub placed_files_any : (l : Layout) (F : File → Bool) (g : Group) → ReadsNoSection l F → list_any F (placed_files l g) ≡ list_any F g.files
 unfolding placed_files
-laid_any l F g h = any_from l F (frames_at l g) g.files h
+placed_files_any l F g h = any_from l F (frames_at l g) g.files h
 
 pub length-placed_files : (l : Layout) (g : Group) → length (placed_files l g) ≡ length g.files
 unfolding placed_files
@@ -65,9 +65,9 @@ All-from l P at (f ∷ fs) h =
     let Q : File → Type 0 = λ x. (a : ℕ) → P (placed_file l a x) in
     All-cons P (placed_file l at f) (placed_from l (address_after at (file_frames l f)) fs) (All-head Q f fs h at) (All-from l P (address_after at (file_frames l f)) fs (All-tail Q f fs h))
 
-pub All-laid : (l : Layout) (P : File → Type 0) (g : Group) → All (λ f. (a : ℕ) → P (placed_file l a f)) g.files → All P (placed_files l g)
+pub All-placed_files : (l : Layout) (P : File → Type 0) (g : Group) → All (λ f. (a : ℕ) → P (placed_file l a f)) g.files → All P (placed_files l g)
 unfolding placed_files
-All-laid l P g h = All-from l P (frames_at l g) g.files h
+All-placed_files l P g h = All-from l P (frames_at l g) g.files h
 
 pub All-sections : (l : Layout) (f : File) (P : InputSection → Type 0) (at : ℕ) (ss : List InputSection) → All (λ s. (a : ℕ) → P (placed_section l f a s)) ss → All P (placed_sections l f at ss)
 All-sections l f P at [] h = All-nil P
@@ -90,9 +90,9 @@ joined_files {X} l F G at (f ∷ fs) h =
     let here : F f ≡ G (placed_file l at f) = All-head Q f fs h at in
     ap (λ (xs : List X). xs ++ flat_map F fs) here ∙ ap (λ (xs : List X). G (placed_file l at f) ++ xs) (joined_files l F G (address_after at (file_frames l f)) fs (All-tail Q f fs h))
 
-pub joined_laid : {X : Type 0} (l : Layout) (F G : File → List X) (g : Group) → All (λ f. (a : ℕ) → F f ≡ G (placed_file l a f)) g.files → flat_map F g.files ≡ flat_map G (placed_files l g)
+pub joined_placed_files : {X : Type 0} (l : Layout) (F G : File → List X) (g : Group) → All (λ f. (a : ℕ) → F f ≡ G (placed_file l a f)) g.files → flat_map F g.files ≡ flat_map G (placed_files l g)
 unfolding placed_files
-joined_laid l F G g h = joined_files l F G (frames_at l g) g.files h
+joined_placed_files l F G g h = joined_files l F G (frames_at l g) g.files h
 
 -- ---- frames that stand below 2^64, one behind the other
 

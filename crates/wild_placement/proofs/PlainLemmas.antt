@@ -57,13 +57,13 @@ with_sections f ss = record {
 }
 
 -- and so does a file of such
-pub plain_laid : (l : Layout) (at : ℕ) (f : File) → is_partial_link l.kind ≡ false → ArePlacedUnchanged f → placed_file l at f ≡ f
-plain_laid l at f p a = ap (with_sections f) (plain_sections l f at f.sections p a)
+pub plain_file_placed : (l : Layout) (at : ℕ) (f : File) → is_partial_link l.kind ≡ false → ArePlacedUnchanged f → placed_file l at f ≡ f
+plain_file_placed l at f p a = ap (with_sections f) (plain_sections l f at f.sections p a)
 
 plain_from : (l : Layout) (at : ℕ) (fs : List File) → is_partial_link l.kind ≡ false → All ArePlacedUnchanged fs → placed_from l at fs ≡ fs
 plain_from l at [] p a = refl
 plain_from l at (f ∷ fs) p a =
-    ap (λ (x : File). x ∷ placed_from l (address_after at (file_frames l f)) fs) (plain_laid l at f p (All-head ArePlacedUnchanged f fs a))
+    ap (λ (x : File). x ∷ placed_from l (address_after at (file_frames l f)) fs) (plain_file_placed l at f p (All-head ArePlacedUnchanged f fs a))
     ∙ ap (λ xs. f ∷ xs) (plain_from l (address_after at (file_frames l f)) fs p (All-tail ArePlacedUnchanged f fs a))
 
 -- and the files of a group

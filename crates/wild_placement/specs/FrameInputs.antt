@@ -30,11 +30,11 @@ target_in l k None = target.NoSection
 target_in l k (Some f) = section_target l (slice_get f.sections k)
 
 -- the file of symbol i: file f if it is one of its own, else the first file that contains it
-abbrev pub home_of : Layout → File → ℕ → Option File
-home_of l f i = if has_symbol f i then Some f else file_of (files_of l.groups) i
+abbrev pub defining_file_of : Layout → File → ℕ → Option File
+defining_file_of l f i = if has_symbol f i then Some f else file_of (files_of l.groups) i
 
 abbrev pub target_at : Layout → File → ℕ → Place → Target
-target_at l f i (at.Section k) = target_in l k (home_of l f i)
+target_at l f i (at.Section k) = target_in l k (defining_file_of l f i)
 target_at l f i other = target.NoSection
 
 abbrev pub symbol_target : Layout → File → ℕ → Option Symbol → Target

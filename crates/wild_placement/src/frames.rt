@@ -1,7 +1,7 @@
 //! The frames of input sections (LSB, "The .eh_frame section").
 ghost use Rattle.std.specs.Prelude.{◌≡◌, option_copied};
 ghost use Rattle.wild_types.specs.Lookups.{files_of, file_of};
-ghost use Rattle.wild_placement.specs.FrameInputs.{section_target, has_symbol, home_of, target_in, target_by, target_of, frames_of};
+ghost use Rattle.wild_placement.specs.FrameInputs.{section_target, has_symbol, defining_file_of, target_in, target_by, target_of, frames_of};
 
 use wild_frames::{FrameSource, Target};
 use wild_types::{
@@ -82,7 +82,7 @@ fn target_in_other_file(layout: &Layout, symbol: SymbolIndex, place: usize) -> T
 
 /// The target for a symbol in section number `place` of its file. If the symbol is not the file's own, all files are searched.
 fn target_of_place(layout: &Layout, file: &File, symbol: SymbolIndex, place: usize) -> Target
-    ensures { result ≡ target_in layout.now place (home_of layout.now file.now symbol) }
+    ensures { result ≡ target_in layout.now place (defining_file_of layout.now file.now symbol) }
 {
     if has_symbol(file, symbol) {
         target_in(layout, place, file)

@@ -8,7 +8,7 @@ use Rattle.wild_loader.specs.declared.instruction.Cell.TheVariants.{Is, From, Sl
 use Rattle.wild_loader.specs.declared.instruction.Operand.TheVariants.{Number, Word}
 use Rattle.wild_loader.specs.declared.instruction.Deed.TheVariants.{Set, Add, Subtract, Compare, Call, Jump}
 use Rattle.wild_loader.specs.Instruction.{fits, matches_cells, Template}
-use Rattle.wild_loader.specs.CodeX86_64.{bare, rex, rex2, branch, with_slot}
+use Rattle.wild_loader.specs.CodeX86_64.{no_prefix, rex, rex2, branch, with_slot}
 use Rattle.wild_loader.specs.ThreadCodeX86_64.{general_call, general_slot_call, far_pair_call, local_call, local_slot_call}
 use Rattle.wild_loader.specs.InstructionX86_64.{meaning_x86_64, descriptor_call}
 
@@ -110,21 +110,21 @@ local_slot = by_shape local_slot_call (λ bs h a. refl)
 slot_byte : (b : ℕ) → (bit_and b 0xc7 == 5 && true) ≡ true → (bit_and b 0xc7 == 5) ≡ true
 slot_byte b h = (and_parts (bit_and b 0xc7 == 5) true h).0
 
-pub bare_mov : IsMeant (with_slot 0x8b Word Set bare)
+pub bare_mov : IsMeant (with_slot 0x8b Word Set no_prefix)
 unfolding meaning_x86_64
-bare_mov = by_shape (with_slot 0x8b Word Set bare) (λ bs h a. rw (slot_byte (get_or bs 1 0) h) refl)
+bare_mov = by_shape (with_slot 0x8b Word Set no_prefix) (λ bs h a. rw (slot_byte (get_or bs 1 0) h) refl)
 
-pub bare_add : IsMeant (with_slot 0x03 Word Add bare)
+pub bare_add : IsMeant (with_slot 0x03 Word Add no_prefix)
 unfolding meaning_x86_64
-bare_add = by_shape (with_slot 0x03 Word Add bare) (λ bs h a. rw (slot_byte (get_or bs 1 0) h) refl)
+bare_add = by_shape (with_slot 0x03 Word Add no_prefix) (λ bs h a. rw (slot_byte (get_or bs 1 0) h) refl)
 
-pub bare_sub : IsMeant (with_slot 0x2b Word Subtract bare)
+pub bare_sub : IsMeant (with_slot 0x2b Word Subtract no_prefix)
 unfolding meaning_x86_64
-bare_sub = by_shape (with_slot 0x2b Word Subtract bare) (λ bs h a. rw (slot_byte (get_or bs 1 0) h) refl)
+bare_sub = by_shape (with_slot 0x2b Word Subtract no_prefix) (λ bs h a. rw (slot_byte (get_or bs 1 0) h) refl)
 
-pub bare_cmp : IsMeant (with_slot 0x3b Word Compare bare)
+pub bare_cmp : IsMeant (with_slot 0x3b Word Compare no_prefix)
 unfolding meaning_x86_64
-bare_cmp = by_shape (with_slot 0x3b Word Compare bare) (λ bs h a. rw (slot_byte (get_or bs 1 0) h) refl)
+bare_cmp = by_shape (with_slot 0x3b Word Compare no_prefix) (λ bs h a. rw (slot_byte (get_or bs 1 0) h) refl)
 
 pub rex_mov : IsMeant (with_slot 0x8b Word Set rex)
 unfolding meaning_x86_64

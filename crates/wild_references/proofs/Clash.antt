@@ -219,8 +219,8 @@ pub record Meet (cs : List own-cell.Cell) (ds : List Cell) (bytes : List ℕ) (a
   pub other_fixed : is_free (get_or ds other its.Any) ≡ false
   pub uncovered : IsUncovered cs ds a b
 
-behind : (cs : List own-cell.Cell) (ds : List Cell) (bytes : List ℕ) (a b s : ℕ) → b ≡ a + s → Meet cs ds bytes a b → below (length cs) (λ s. ok (drop s cs) ds) ≡ true → ⊥
-behind cs ds bytes a b s e t h =
+no_clash_at_distance : (cs : List own-cell.Cell) (ds : List Cell) (bytes : List ℕ) (a b s : ℕ) → b ≡ a + s → Meet cs ds bytes a b → below (length cs) (λ s. ok (drop s cs) ds) ≡ true → ⊥
+no_clash_at_distance cs ds bytes a b s e t h =
     let same = t.same in
     let inside = t.own_inside in
     let n = length-drop s cs in
@@ -257,6 +257,6 @@ apart_templates cs ds bytes a b h calls t =
           (let two = and_parts (below (length cs) (λ s. ok (drop s cs) ds)) (below (length ds) (λ s. ok cs (drop s ds))) k in
           elim (cases_lt b a) [
             | inl low ↦ before cs ds bytes a b (a - b) (omega arith) t two.1
-            | inr high ↦ behind cs ds bytes a b (b - a) (omega arith) t two.0
+            | inr high ↦ no_clash_at_distance cs ds bytes a b (b - a) (omega arith) t two.0
           ])
     ]

@@ -11,7 +11,7 @@ use Rattle.wild_loader.specs.declared.instruction.Action.{Action}
 use Rattle.wild_loader.specs.declared.instruction.Deed.{Deed}
 use Rattle.wild_loader.specs.declared.instruction.Deed.TheVariants.{Set, Add, Subtract, Compare, Call, Jump}
 use Rattle.wild_loader.specs.Instruction.{fits, matches_cells, Reader, Effect, effect, with_value, as_value}
-use Rattle.wild_loader.specs.CodeX86_64.{bare, rex, rex2, branch, with_slot}
+use Rattle.wild_loader.specs.CodeX86_64.{no_prefix, rex, rex2, branch, with_slot}
 use Rattle.wild_loader.specs.ThreadCodeX86_64.{general_call, general_slot_call, far_pair_call, local_call, local_slot_call}
 use Rattle.wild_loader.specs.InstructionX86_64.{descriptor_call}
 use Rattle.wild_records.specs.Abi.Relocation.{r_x86_64_pc32, r_x86_64_plt32, r_x86_64_gotpcrel, r_x86_64_gotpcrelx, r_x86_64_rex_gotpcrelx, r_x86_64_code_4_gotpcrelx, r_x86_64_gottpoff, r_x86_64_code_4_gottpoff, r_x86_64_gotpc32_tlsdesc, r_x86_64_code_4_gotpc32_tlsdesc, r_x86_64_tlsdesc_call, r_x86_64_tlsgd, r_x86_64_tlsld}
@@ -120,7 +120,7 @@ Acted deed width n v = record { deed = deed n; width = width; value = v % 2 ^ wi
 
 -- with a slot: the register stands in ModRM, and in the prefix
 bare_acts : (opcode : ℕ) (operand : ℕ → Operand) (deed : ℕ → Deed) (a v : ℕ) (old new : List ℕ) → slice_index new 1 ≡ slice_index old 1
-    → with_value ((with_slot opcode operand deed bare).action a new) v ≡ with_value ((with_slot opcode operand deed bare).action a old) v
+    → with_value ((with_slot opcode operand deed no_prefix).action a new) v ≡ with_value ((with_slot opcode operand deed no_prefix).action a old) v
 bare_acts opcode operand deed a v old new e = ap (λ (x : ℕ). Acted deed 32 (x / 8 % 8 + 0) v) e
 
 rex_acts : (opcode : ℕ) (operand : ℕ → Operand) (deed : ℕ → Deed) (a v : ℕ) (old new : List ℕ) → slice_index new 0 ≡ slice_index old 0 → slice_index new 2 ≡ slice_index old 2
@@ -146,17 +146,17 @@ through_call = known (of_field (branch (0xff ∷ 0x15 ∷ []) Word Call) 2 Targe
 through_jump : IsKnown (of_field (branch (0xff ∷ 0x25 ∷ []) Word Jump) 2 TargetInSlot (r_x86_64_gotpcrel ∷ r_x86_64_gotpcrelx ∷ []))
 through_jump = known (of_field (branch (0xff ∷ 0x25 ∷ []) Word Jump) 2 TargetInSlot (r_x86_64_gotpcrel ∷ r_x86_64_gotpcrelx ∷ [])) acts.jump_slot refl (λ old new f a v. refl)
 
-bare_address_mov : IsKnown (of_field (with_slot 0x8b Word Set bare) 2 AddressInSlot (r_x86_64_gotpcrelx ∷ []))
-bare_address_mov = known (of_field (with_slot 0x8b Word Set bare) 2 AddressInSlot (r_x86_64_gotpcrelx ∷ [])) acts.bare_mov refl (λ old new f a v. bare_acts 0x8b Word Set a v old new (own_at (of_field (with_slot 0x8b Word Set bare) 2 AddressInSlot (r_x86_64_gotpcrelx ∷ [])) 1 old new refl refl f))
+bare_address_mov : IsKnown (of_field (with_slot 0x8b Word Set no_prefix) 2 AddressInSlot (r_x86_64_gotpcrelx ∷ []))
+bare_address_mov = known (of_field (with_slot 0x8b Word Set no_prefix) 2 AddressInSlot (r_x86_64_gotpcrelx ∷ [])) acts.bare_mov refl (λ old new f a v. bare_acts 0x8b Word Set a v old new (own_at (of_field (with_slot 0x8b Word Set no_prefix) 2 AddressInSlot (r_x86_64_gotpcrelx ∷ [])) 1 old new refl refl f))
 
-bare_address_add : IsKnown (of_field (with_slot 0x03 Word Add bare) 2 AddressInSlot (r_x86_64_gotpcrelx ∷ []))
-bare_address_add = known (of_field (with_slot 0x03 Word Add bare) 2 AddressInSlot (r_x86_64_gotpcrelx ∷ [])) acts.bare_add refl (λ old new f a v. bare_acts 0x03 Word Add a v old new (own_at (of_field (with_slot 0x03 Word Add bare) 2 AddressInSlot (r_x86_64_gotpcrelx ∷ [])) 1 old new refl refl f))
+bare_address_add : IsKnown (of_field (with_slot 0x03 Word Add no_prefix) 2 AddressInSlot (r_x86_64_gotpcrelx ∷ []))
+bare_address_add = known (of_field (with_slot 0x03 Word Add no_prefix) 2 AddressInSlot (r_x86_64_gotpcrelx ∷ [])) acts.bare_add refl (λ old new f a v. bare_acts 0x03 Word Add a v old new (own_at (of_field (with_slot 0x03 Word Add no_prefix) 2 AddressInSlot (r_x86_64_gotpcrelx ∷ [])) 1 old new refl refl f))
 
-bare_address_sub : IsKnown (of_field (with_slot 0x2b Word Subtract bare) 2 AddressInSlot (r_x86_64_gotpcrelx ∷ []))
-bare_address_sub = known (of_field (with_slot 0x2b Word Subtract bare) 2 AddressInSlot (r_x86_64_gotpcrelx ∷ [])) acts.bare_sub refl (λ old new f a v. bare_acts 0x2b Word Subtract a v old new (own_at (of_field (with_slot 0x2b Word Subtract bare) 2 AddressInSlot (r_x86_64_gotpcrelx ∷ [])) 1 old new refl refl f))
+bare_address_sub : IsKnown (of_field (with_slot 0x2b Word Subtract no_prefix) 2 AddressInSlot (r_x86_64_gotpcrelx ∷ []))
+bare_address_sub = known (of_field (with_slot 0x2b Word Subtract no_prefix) 2 AddressInSlot (r_x86_64_gotpcrelx ∷ [])) acts.bare_sub refl (λ old new f a v. bare_acts 0x2b Word Subtract a v old new (own_at (of_field (with_slot 0x2b Word Subtract no_prefix) 2 AddressInSlot (r_x86_64_gotpcrelx ∷ [])) 1 old new refl refl f))
 
-bare_address_cmp : IsKnown (of_field (with_slot 0x3b Word Compare bare) 2 AddressInSlot (r_x86_64_gotpcrelx ∷ []))
-bare_address_cmp = known (of_field (with_slot 0x3b Word Compare bare) 2 AddressInSlot (r_x86_64_gotpcrelx ∷ [])) acts.bare_cmp refl (λ old new f a v. bare_acts 0x3b Word Compare a v old new (own_at (of_field (with_slot 0x3b Word Compare bare) 2 AddressInSlot (r_x86_64_gotpcrelx ∷ [])) 1 old new refl refl f))
+bare_address_cmp : IsKnown (of_field (with_slot 0x3b Word Compare no_prefix) 2 AddressInSlot (r_x86_64_gotpcrelx ∷ []))
+bare_address_cmp = known (of_field (with_slot 0x3b Word Compare no_prefix) 2 AddressInSlot (r_x86_64_gotpcrelx ∷ [])) acts.bare_cmp refl (λ old new f a v. bare_acts 0x3b Word Compare a v old new (own_at (of_field (with_slot 0x3b Word Compare no_prefix) 2 AddressInSlot (r_x86_64_gotpcrelx ∷ [])) 1 old new refl refl f))
 
 rex_address_mov : IsKnown (of_field (with_slot 0x8b Word Set rex) 3 AddressInSlot (r_x86_64_rex_gotpcrelx ∷ []))
 rex_address_mov = known (of_field (with_slot 0x8b Word Set rex) 3 AddressInSlot (r_x86_64_rex_gotpcrelx ∷ [])) acts.rex_mov refl (λ old new f a v. rex_acts 0x8b Word Set a v old new (own_at (of_field (with_slot 0x8b Word Set rex) 3 AddressInSlot (r_x86_64_rex_gotpcrelx ∷ [])) 0 old new refl refl f) (own_at (of_field (with_slot 0x8b Word Set rex) 3 AddressInSlot (r_x86_64_rex_gotpcrelx ∷ [])) 2 old new refl refl f))

@@ -168,8 +168,8 @@ in_front s n ns ms i p one number listed = record {
   listed = (let e : i ≡ i + 0 = omega arith in subst (λ (k : ℕ). slice_get s.relocations k ≡ Some p) e listed);
 }
 
-behind : (s : Item) (n : ℕ) (ns : List ℕ) (i : ℕ) (p : InputRelocation) → IsPlaced s ns (i + 1) p → IsPlaced s (n ∷ ns) i p
-behind s n ns i p h = record { word = suc h.word; type = h.type; listed = (let e : i + 1 + h.word ≡ i + suc h.word = omega arith in subst (λ (k : ℕ). slice_get s.relocations k ≡ Some p) e h.listed) }
+placed_at_next : (s : Item) (n : ℕ) (ns : List ℕ) (i : ℕ) (p : InputRelocation) → IsPlaced s ns (i + 1) p → IsPlaced s (n ∷ ns) i p
+placed_at_next s n ns i p h = record { word = suc h.word; type = h.type; listed = (let e : i + 1 + h.word ≡ i + suc h.word = omega arith in subst (λ (k : ℕ). slice_get s.relocations k ≡ Some p) e h.listed) }
 
 further : (l : Layout) (s : Item) (first : InputRelocation) (start i : ℕ) (ns : List ℕ) (ps : List Further) (rs : List InputRelocation) → Fill ns ps → HasPartners l s first start i ps rs → (r : InputRelocation) (k : ℕ) → k < length rs → get_or rs k r ≡ r → IsPlaced s ns i r
 further l s first start i ns ps [] fill h r k lt e = absurd (omega (arith, lt))
@@ -177,14 +177,14 @@ further l s first start i [] [] (q ∷ rs) fill h r k lt e = absurd h
 further l s first start i [] (p ∷ ps) (q ∷ rs) fill h r k lt e = absurd fill
 further l s first start i (n ∷ ns) [] (q ∷ rs) fill h r k lt e = absurd fill
 further l s first start i (n ∷ ns) (p ∷ ps) (q ∷ rs) fill h r zero lt e = subst (IsPlaced s (n ∷ ns) i) e (in_front s n ns p.numbers i q fill.0 h.0.number h.0.listed)
-further l s first start i (n ∷ ns) (p ∷ ps) (q ∷ rs) fill h r (suc k) lt e = behind s n ns i r (further l s first start (i + 1) ns ps rs fill.1 h.1 r k (omega (arith, lt)) e)
+further l s first start i (n ∷ ns) (p ∷ ps) (q ∷ rs) fill h r (suc k) lt e = placed_at_next s n ns i r (further l s first start (i + 1) ns ps rs fill.1 h.1 r k (omega (arith, lt)) e)
 
 in_run : (l : Layout) (s : Item) (first : InputRelocation) (rest : List InputRelocation) (start : ℕ) (o : Instruction) (n : ℕ) (ns : List ℕ) → o.numbers ≡ n ∷ [] → Fill ns o.partners → (t : IsSequence l s first rest start o) → (p : InputRelocation) → Contains (first ∷ rest) p → IsPlaced s (n ∷ ns) t.index p
 in_run l s first rest start o n ns one fill t p c = by c.0 c.1 c.2
   where
     by : (k : ℕ) → k < length (first ∷ rest) → get_or (first ∷ rest) k p ≡ p → IsPlaced s (n ∷ ns) t.index p
     by zero lt e = subst (IsPlaced s (n ∷ ns) t.index) e (in_front s n ns o.numbers t.index first one t.stands.number t.listed)
-    by (suc k) lt e = behind s n ns t.index p (further l s first start (t.index + 1) ns o.partners rest fill t.has p k (omega (arith, lt)) e)
+    by (suc k) lt e = placed_at_next s n ns t.index p (further l s first start (t.index + 1) ns o.partners rest fill t.has p k (omega (arith, lt)) e)
 
 placed : (q : Sequence) (l : Layout) (s : Item) (first : InputRelocation) (rest : List InputRelocation) (start : ℕ) (o : Instruction) → o ≡ run_of q → (t : IsSequence l s first rest start o) → (p : InputRelocation) → Contains (first ∷ rest) p → IsPlaced s (types_of q) t.index p
 placed DescriptorCall l s first rest start o e t p c =

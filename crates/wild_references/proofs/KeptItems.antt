@@ -34,7 +34,7 @@ use Rattle.wild_meaning.specs.Item.{IsInput, IsKept, OfSection, OfFrames, input_
 use Rattle.wild_meaning.proofs.BitLemmas.{alloc_bit}
 use Rattle.wild_meaning.proofs.PlacedLemmas.{frame_input}
 use Rattle.wild_geometry.proofs.PlacedInputs.{each_at}
-use Rattle.wild_geometry.proofs.KeptItems.{kept_laid}
+use Rattle.wild_geometry.proofs.KeptItems.{kept_items_placed}
 
 -- ---- where it lies
 
@@ -68,7 +68,7 @@ record LiesThere (l : Layout) (s : Item) : Type 0 where
 
 pub item_lies : (l : Layout) (s : Item) → IsLoadable l.kind → IsLaidOut l → IsKept l s → ItemLies l s
 item_lies l s kind laid k =
-    let x = kept_laid l s (not_partial l.kind kind) laid k in
+    let x = kept_items_placed l s (not_partial l.kind kind) laid k in
     let t = x.section in
     let lies = each_at (SectionLies l) l t laid.inputs x.kept.input in
     let full : t.size ≡ length t.bytes = sym (lies.bytes (read_written t x.kept.reads)) in

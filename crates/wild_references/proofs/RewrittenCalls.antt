@@ -133,9 +133,9 @@ front bs a k n h =
     rw (e, f) (take-take k n (drop a bs) h)
 
 -- a pattern with its field stands where the first cells of an instruction do
-pub stands_so : (cs : List judge-cell.Cell) (p : Pattern) (bs : List ℕ) (offset from : ℕ) → backs_all cs (writer.pattern_cells p) ≡ true → length (writer.pattern_cells p) ≤ length cs → offset ≡ from + writer.field_of p → from + length cs ≤ length bs → judge.matches_cells cs (slice_range bs from (from + length cs)) ≡ true → stands_before bs offset p ≡ true
+pub cells_match_before : (cs : List judge-cell.Cell) (p : Pattern) (bs : List ℕ) (offset from : ℕ) → backs_all cs (writer.pattern_cells p) ≡ true → length (writer.pattern_cells p) ≤ length cs → offset ≡ from + writer.field_of p → from + length cs ≤ length bs → judge.matches_cells cs (slice_range bs from (from + length cs)) ≡ true → stands_before bs offset p ≡ true
 unfolding stands_before cells_match_at
-stands_so cs p bs offset from h short place inside e =
+cells_match_before cs p bs offset from h short place inside e =
     let n = length (writer.pattern_cells p) in
     let start : offset - writer.field_of p ≡ from = omega (arith, place) in
     let low : nat_le (writer.field_of p) offset ≡ true = le-leb _ _ (omega (arith, place)) in

@@ -26,7 +26,7 @@ use Rattle.wild_loader.specs.declared.instruction.Cell.TheVariants as judge-cell
 use Rattle.wild_loader.specs.declared.instruction.Operand.TheVariants.{Number, Word}
 use Rattle.wild_loader.specs.declared.instruction.Deed.TheVariants.{Set, Add, Subtract, Compare, Call, Jump}
 use Rattle.wild_loader.specs.Instruction.{Template}
-use Rattle.wild_loader.specs.CodeX86_64.{Prefix, bare, rex, rex2, with_slot, branch}
+use Rattle.wild_loader.specs.CodeX86_64.{Prefix, no_prefix, rex, rex2, with_slot, branch}
 use Rattle.wild_loader.specs.ThreadCodeX86_64.{general_call, general_slot_call, far_pair_call, local_call, local_slot_call}
 use Rattle.wild_loader.specs.InstructionX86_64.{descriptor_call, templates_x86_64}
 use Rattle.wild_meaning.specs.Sequence.{Instruction, any_words, TargetInSlot, AddressInSlot, OffsetInSlot, SymbolPair, OwnPair, Described, DescribedCall, of_field, of_sequence, of_output, of_symbol, by_call, by_slot, by_distance, instructions_of, Sort}
@@ -118,7 +118,7 @@ slot_sort n = if n == abi.r_x86_64_gottpoff || n == abi.r_x86_64_code_4_gottpoff
 abbrev pub instruction_by : Pattern → ℕ → Instruction
 instruction_by (pattern.Wide Rex o) n = of_field (form_of o rex) 3 (slot_sort n) (n ∷ [])
 instruction_by (pattern.Wide Rex2 o) n = of_field (form_of o rex2) 4 (slot_sort n) (n ∷ [])
-instruction_by pattern.Mov n = of_field (with_slot 0x8b Word Set bare) 2 AddressInSlot (n ∷ [])
+instruction_by pattern.Mov n = of_field (with_slot 0x8b Word Set no_prefix) 2 AddressInSlot (n ∷ [])
 instruction_by pattern.Call n = of_field (branch (0xff ∷ 0x15 ∷ []) Word Call) 2 TargetInSlot (abi.r_x86_64_gotpcrel ∷ abi.r_x86_64_gotpcrelx ∷ [])
 instruction_by pattern.Jump n = of_field (branch (0xff ∷ 0x25 ∷ []) Word Jump) 2 TargetInSlot (abi.r_x86_64_gotpcrel ∷ abi.r_x86_64_gotpcrelx ∷ [])
 instruction_by (pattern.General general.Regular) n = of_sequence general_call 4 SymbolPair abi.r_x86_64_tlsgd of_symbol (by_call 12)

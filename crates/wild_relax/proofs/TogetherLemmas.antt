@@ -93,11 +93,11 @@ word_at symbol place (m ∷ ns) (r ∷ rs) (suc j) n h at =
     (rest.0, rest.1, record { number = w.number; offset = omega (arith, offset); symbol = w.symbol })
 
 -- an element behind others
-record IsBehind {X : Type 0} (xs : List X) (i : ℕ) (d x : X) : Type 0 where
+record IsAfter {X : Type 0} (xs : List X) (i : ℕ) (d x : X) : Type 0 where
   is : slice_index_or xs i d ≡ x
   inside : i < length xs
 
-at_front : {X : Type 0} (xs : List X) (j : ℕ) (d x : X) → slice_get xs j ≡ Some x → IsBehind xs j d x
+at_front : {X : Type 0} (xs : List X) (j : ℕ) (d x : X) → slice_get xs j ≡ Some x → IsAfter xs j d x
 at_front [] j d x h = cc
 at_front (y ∷ ys) zero d x h = (let same : y ≡ x = cc in record { is = same; inside = omega arith })
 at_front (y ∷ ys) (suc j) d x h =
@@ -105,8 +105,8 @@ at_front (y ∷ ys) (suc j) d x h =
     let low = rest.inside in
     record { is = rest.is; inside = omega (arith, low) }
 
-at_behind : {X : Type 0} (xs : List X) (a j i : ℕ) (d x : X) → i ≡ a + j → slice_get (drop a xs) j ≡ Some x → IsBehind xs i d x
-at_behind xs zero j i d x e h = subst (λ (n : ℕ). IsBehind xs n d x) (sym (omega (arith, e))) (at_front xs j d x h)
+at_behind : {X : Type 0} (xs : List X) (a j i : ℕ) (d x : X) → i ≡ a + j → slice_get (drop a xs) j ≡ Some x → IsAfter xs i d x
+at_behind xs zero j i d x e h = subst (λ (n : ℕ). IsAfter xs n d x) (sym (omega (arith, e))) (at_front xs j d x h)
 at_behind [] (suc a) j i d x e h = cc
 at_behind (y ∷ ys) (suc a) j zero d x e h = absurd (omega (arith, e))
 at_behind (y ∷ ys) (suc a) j (suc i) d x e h =

@@ -100,7 +100,7 @@ pub trait Relaxation {
     /// addend. All bytes that the rewrite replaces, before and after the field, are in the section; no others change.
     fn apply(&self, section_bytes: &mut [u8], offset_in_section: &mut u64, addend: &mut i64)
         requires before { (rewrite_of (Self.as_row self.now)).back ≤ offset_in_section.old }
-        requires behind { offset_in_section.old - (rewrite_of (Self.as_row self.now)).back + (rewrite_of (Self.as_row self.now)).size ≤ length section_bytes.old }
+        requires end_of_rewrite { offset_in_section.old - (rewrite_of (Self.as_row self.now)).back + (rewrite_of (Self.as_row self.now)).size ≤ length section_bytes.old }
         ensures bytes { section_bytes.new ≡ rewritten_bytes (rewrite_of (Self.as_row self.now)) offset_in_section.old section_bytes.old }
         ensures offset { offset_in_section.new ≡ offset_in_section.old - (rewrite_of (Self.as_row self.now)).back + (rewrite_of (Self.as_row self.now)).field }
         ensures addend { addend.new ≡ (rewrite_of (Self.as_row self.now)).addend addend.old }

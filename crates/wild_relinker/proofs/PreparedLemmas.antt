@@ -146,8 +146,8 @@ targets_stay l m targets same h =
       some = λ i low. ap has_targets same ∙ h.some i low;
     }
 
-files_stay : (l m : Layout) (homes : List (Option SymbolFile)) → outline m ≡ outline l → HasSymbolFiles l homes → HasSymbolFiles m homes
-files_stay l m homes same h =
+files_stay : (l m : Layout) (symbol_files : List (Option SymbolFile)) → outline m ≡ outline l → HasSymbolFiles l symbol_files → HasSymbolFiles m symbol_files
+files_stay l m symbol_files same h =
     let kind : needs_dynsym l.kind ≡ needs_dynsym m.kind = sym (ap (λ (n : Layout). needs_dynsym n.kind) same) in
     record {
       count = λ t. h.count (kind ∙ t) ∙ sym (ap (λ (n : Layout). length n.symbols) same);
@@ -211,7 +211,7 @@ prepared_stays l m p same h = record {
     named = h.symbols.named ∙ sym (ap named_sections same);
     values = values_stay l m _ same h.symbols.values;
     targets = targets_stay l m _ same h.symbols.targets;
-    homes = files_stay l m _ same h.symbols.homes;
+    symbol_files = files_stay l m _ same h.symbols.symbol_files;
     owners = defining_files_stay l m _ same h.symbols.owners;
     indexes = indexes_stay l m _ same h.symbols.indexes;
     ascend = λ t. same_by_outline all_ascend ascend-outline l m same ∙ h.symbols.ascend t;

@@ -64,19 +64,19 @@ with_bit-odd i w h =
 
 -- ---- one place more
 
-behind : (ws vs : List ℕ) (p : ℕ) → places vs ≡ places ws ++ p ∷ [] → Records ws vs p
-behind ws vs p e = record {
+records_one_place : (ws vs : List ℕ) (p : ℕ) → places vs ≡ places ws ++ p ∷ [] → Records ws vs p
+records_one_place ws vs p e = record {
   each = rw e (IsPermutation-sym _ _ (IsPermutation-to_front (places ws) p));
   last = λ a. e;
 }
 
 pub Records-address : (ws : List ℕ) (p : ℕ) → p % 2 ≡ 0 → Records ws (ws ++ p ∷ []) p
-Records-address ws p h = behind ws (ws ++ p ∷ []) p (places-push 0 ws p ∙ ap (λ (r : List ℕ). places ws ++ r) (places_of-even (next_of ws) p h))
+Records-address ws p h = records_one_place ws (ws ++ p ∷ []) p (places-push 0 ws p ∙ ap (λ (r : List ℕ). places ws ++ r) (places_of-even (next_of ws) p h))
 
 pub Records-bitmap : (ws : List ℕ) (s p i : ℕ) → next_of ws ≡ s → IsSlot s p i → Records ws (ws ++ bitmap i ∷ []) p
 Records-bitmap ws s p i n h =
     let e : places_of (next_of ws) (bitmap i) ≡ p ∷ [] = rw (n, h.is) (places_of-bitmap s i h.below) in
-    behind ws (ws ++ bitmap i ∷ []) p (places-push 0 ws (bitmap i) ∙ ap (λ (r : List ℕ). places ws ++ r) e)
+    records_one_place ws (ws ++ bitmap i ∷ []) p (places-push 0 ws (bitmap i) ∙ ap (λ (r : List ℕ). places ws ++ r) e)
 
 -- ---- one bit more
 

@@ -40,7 +40,7 @@ use Rattle.wild_layout.specs.Faults.{errors, flat_map_from, share_errors, has_sp
 use Rattle.wild_layout.specs.SearchTable.{search_table_faults}
 use Rattle.wild_layout.specs.Merged.{merged_strings, address_for}
 use Rattle.wild_placement.specs.PlacedSections.{frames_at}
-use Rattle.wild_sample_layouts.proofs.StandLemmas.{section_stands, whole_made, laid_made}
+use Rattle.wild_sample_layouts.proofs.StandLemmas.{section_stands, whole_made, placed_made_files}
 use Rattle.wild_sample_layouts.specs.PlanOfGroups.{made_section, made_object, plain_file, made_files, made_symbol, made_group, made_relocation, part_with, made_parts, plan_of_groups, callee, start_of}
 use Rattle.wild_sample_layouts.specs.Laws.{IsCount}
 use Rattle.wild_sample_layouts.proofs.ListLemmas.{made_from, nothing_from, item_at}
@@ -71,7 +71,7 @@ group_total n j w r whole own last =
     let prelude = share_made n r (plain_file file_role.Prelude) ∙ whole in
     let object = share_made n r (made_object n j) ∙ own in
     let epilogue = share_made n r (plain_file file_role.Epilogue) ∙ last in
-    and_none _ _ _ _ (ap (total (share (plan_of_groups n) r)) (laid_made n j) ∙ prelude_total (share (plan_of_groups n) r) n j w prelude object epilogue) (block_made n r (made_group n j)) (none_last n r (made_group n j))
+    and_none _ _ _ _ (ap (total (share (plan_of_groups n) r)) (placed_made_files n j) ∙ prelude_total (share (plan_of_groups n) r) n j w prelude object epilogue) (block_made n r (made_group n j)) (none_last n r (made_group n j))
   where
     and_none : (a b d c : ℕ) → a ≡ c → b ≡ 0 → d ≡ 0 → a + (b + d) ≡ c
     and_none a b d c g h k = omega (arith, g, h, k)

@@ -41,7 +41,7 @@ use Rattle.wild_sample_layouts.specs.Laws.{IsCount}
 use Rattle.wild_sample_layouts.proofs.ListLemmas.{made_from, none_fails, total_same, length_made}
 use Rattle.wild_sample_layouts.proofs.FileLemmas.{all_files, total_files}
 use Rattle.wild_sample_layouts.proofs.SlotLemmas.{slots_made, block_made, no_dynamic_symbols}
-use Rattle.wild_sample_layouts.proofs.StandLemmas.{laid_made}
+use Rattle.wild_sample_layouts.proofs.StandLemmas.{placed_made_files}
 use Rattle.wild_sample_layouts.proofs.VersionLemmas.{no_needs, no_versions}
 
 -- ---- the sections of a group
@@ -104,7 +104,7 @@ nothing_shared n r first own last =
     let prelude = share_made n r (plain_file file_role.Prelude) ∙ first in
     let epilogue = share_made n r (plain_file file_role.Epilogue) ∙ last in
     let none = total_same (group_share (plan_of_groups n) r) (made_group n) 0 0 n (λ k low high.
-    (let files = ap (total (share (plan_of_groups n) r)) (laid_made n k) ∙ total_files (share (plan_of_groups n) r) n k prelude epilogue ∙ share_made n r (made_object n k) ∙ own k in
+    (let files = ap (total (share (plan_of_groups n) r)) (placed_made_files n k) ∙ total_files (share (plan_of_groups n) r) n k prelude epilogue ∙ share_made n r (made_object n k) ∙ own k in
     all_none _ _ _ files (block_made n r (made_group n k)) (none_last n r (made_group n k)))) in
     omega (arith, none)
   where

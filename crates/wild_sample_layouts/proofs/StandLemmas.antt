@@ -35,5 +35,5 @@ files_stand n i =
     All-append ArePlacedUnchanged _ _ first (All-cons ArePlacedUnchanged (made_object n i) _ own last)
 
 -- and so do the files of a group
-pub laid_made : (n i : ℕ) → placed_files (plan_of_groups n) (made_group n i) ≡ made_files n i
-laid_made n i = plain_files (plan_of_groups n) (made_group n i) (whole_made n) (files_stand n i)
+pub placed_made_files : (n i : ℕ) → placed_files (plan_of_groups n) (made_group n i) ≡ made_files n i
+placed_made_files n i = plain_files (plan_of_groups n) (made_group n i) (whole_made n) (files_stand n i)

@@ -44,7 +44,7 @@ not_begun l g f k s os room is = record {
 }
 
 -- one more piece, behind the others
-pub record Behind (s : Item) (n next : ℕ) (ps : List Piece) : Type 0 where
+pub record IsAfter (s : Item) (n next : ℕ) (ps : List Piece) : Type 0 where
   pub apart : AreDisjoint n ps
   pub ends : All (LiesIn next) ps
 
@@ -57,16 +57,16 @@ one_behind n end_of_last_field next ps p apart ends low inside is = record {
 ends_later : (end_of_last_field next : ℕ) (ps : List Piece) → end_of_last_field ≤ next → All (LiesIn end_of_last_field) ps → All (LiesIn next) ps
 ends_later end_of_last_field next ps low ends = λ k d h. let e = ends k d h in omega (arith, e, low)
 
-write_ascending_field : (s : Item) (n end_of_last_field next : ℕ) (ps : List Piece) (p : Piece) → AreDisjoint n ps → All (LiesIn end_of_last_field) ps → end_of_last_field ≤ p.at → p.at + length p.bytes ≤ n → next ≡ p.at + length p.bytes → Behind s n next (ps ++ p ∷ [])
+write_ascending_field : (s : Item) (n end_of_last_field next : ℕ) (ps : List Piece) (p : Piece) → AreDisjoint n ps → All (LiesIn end_of_last_field) ps → end_of_last_field ≤ p.at → p.at + length p.bytes ≤ n → next ≡ p.at + length p.bytes → IsAfter s n next (ps ++ p ∷ [])
 write_ascending_field s n end_of_last_field next ps p apart ends low inside is = record {
   apart = one_behind n end_of_last_field next ps p apart ends low inside is;
   ends = All-push (LiesIn next) ps p (ends_later end_of_last_field next ps (omega (arith, low, is)) ends) (omega (arith, is));
 }
 
-pub site_behind : (s : Item) (end_of_last_field next : ℕ) (ps : List Piece) (r : InputRelocation) (d : Decision) → AreDisjoint (length s.bytes) ps → All (LiesIn end_of_last_field) ps → DecisionLies (length s.bytes) r d → end_of_decision end_of_last_field r d ≡ Some next → Behind s (length s.bytes) next (ps ++ site_of s r (Ok d))
+pub site_behind : (s : Item) (end_of_last_field next : ℕ) (ps : List Piece) (r : InputRelocation) (d : Decision) → AreDisjoint (length s.bytes) ps → All (LiesIn end_of_last_field) ps → DecisionLies (length s.bytes) r d → end_of_decision end_of_last_field r d ≡ Some next → IsAfter s (length s.bytes) next (ps ++ site_of s r (Ok d))
 site_behind s end_of_last_field next ps r d apart ends lies is = by_decision s end_of_last_field next ps r d apart ends lies is
   where
-    from_end : (s : Item) (n end_of_last_field next size : ℕ) (ps : List Piece) (p : Piece) → AreDisjoint n ps → All (LiesIn end_of_last_field) ps → length p.bytes ≡ size → p.at + size ≤ n → (if nat_lt p.at end_of_last_field then None else Some (p.at + size)) ≡ Some next → Behind s n next (ps ++ p ∷ [])
+    from_end : (s : Item) (n end_of_last_field next size : ℕ) (ps : List Piece) (p : Piece) → AreDisjoint n ps → All (LiesIn end_of_last_field) ps → length p.bytes ≡ size → p.at + size ≤ n → (if nat_lt p.at end_of_last_field then None else Some (p.at + size)) ≡ Some next → IsAfter s n next (ps ++ p ∷ [])
     from_end s n end_of_last_field next size ps p apart ends long lies is =
         elim (cases_lt p.at end_of_last_field) [
           | inl l ↦ (let t = lt-ltb p.at end_of_last_field l in cc (rw t at is))
@@ -76,13 +76,13 @@ site_behind s end_of_last_field next ps r d apart ends lies is = by_decision s e
               write_ascending_field s n end_of_last_field next ps p apart ends m (omega (arith, long, lies)) (omega (arith, long, e)))
         ]
 
-    by : (s : Item) (n end_of_last_field next : ℕ) (ps : List Piece) (r : InputRelocation) (o : Option Written) → AreDisjoint n ps → All (LiesIn end_of_last_field) ps → WrittenLies n r.offset o → end_of_written end_of_last_field r.offset o ≡ Some next → Behind s n next (ps ++ site_by s r o)
+    by : (s : Item) (n end_of_last_field next : ℕ) (ps : List Piece) (r : InputRelocation) (o : Option Written) → AreDisjoint n ps → All (LiesIn end_of_last_field) ps → WrittenLies n r.offset o → end_of_written end_of_last_field r.offset o ≡ Some next → IsAfter s n next (ps ++ site_by s r o)
     by s n end_of_last_field next ps r None apart ends lies is =
         let e : end_of_last_field ≡ next = cc in
-        subst (λ (qs : List Piece). Behind s n next qs) (sym (append-nil ps)) (record { apart = apart; ends = subst (λ (k : ℕ). All (LiesIn k) ps) e ends })
+        subst (λ (qs : List Piece). IsAfter s n next qs) (sym (append-nil ps)) (record { apart = apart; ends = subst (λ (k : ℕ). All (LiesIn k) ps) e ends })
     by s n end_of_last_field next ps r (Some w) apart ends lies is = from_end s n end_of_last_field next (size_width w.size) ps (field_site s r.offset w.size w.value) apart ends (length-field_site s r.offset w.size w.value) lies is
 
-    by_decision : (s : Item) (end_of_last_field next : ℕ) (ps : List Piece) (r : InputRelocation) (d : Decision) → AreDisjoint (length s.bytes) ps → All (LiesIn end_of_last_field) ps → DecisionLies (length s.bytes) r d → end_of_decision end_of_last_field r d ≡ Some next → Behind s (length s.bytes) next (ps ++ site_of s r (Ok d))
+    by_decision : (s : Item) (end_of_last_field next : ℕ) (ps : List Piece) (r : InputRelocation) (d : Decision) → AreDisjoint (length s.bytes) ps → All (LiesIn end_of_last_field) ps → DecisionLies (length s.bytes) r d → end_of_decision end_of_last_field r d ≡ Some next → IsAfter s (length s.bytes) next (ps ++ site_of s r (Ok d))
     by_decision s end_of_last_field next ps r Nothing apart ends lies is = by s (length s.bytes) end_of_last_field next ps r None apart ends lies is
     by_decision s end_of_last_field next ps r (Field z v) apart ends lies is = by s (length s.bytes) end_of_last_field next ps r (written_by (Field z v)) apart ends lies is
     by_decision s end_of_last_field next ps r (RelativeAddress v packed) apart ends lies is = by s (length s.bytes) end_of_last_field next ps r (written_by (RelativeAddress v packed)) apart ends lies is

@@ -32,7 +32,7 @@ use Rattle.wild_layout.proofs.FaultLemmas.{no_overlap}
 use Rattle.wild_sections.specs.WrittenDecisions.{decided_sites, written_extent, decided_extent, extent_by, extent_at, decided_extents, ascends, put_written, put_decision, DecisionLies, DecisionsLie, AreDecided}
 use Rattle.wild_sections.proofs.InstructionLemmas.{length-instruction, decision_lies}
 use Rattle.wild_sections.proofs.PieceLemmas.{overlay-append}
-use Rattle.wild_sections.proofs.FaultLemmas.{refuses_number, Refuses-front, Refuses-behind}
+use Rattle.wild_sections.proofs.FaultLemmas.{refuses_number, Refuses-front, Refuses-after}
 
 -- ---- fields in order
 
@@ -273,11 +273,11 @@ pub overlap_refused : (l : Layout) (g f k : ℕ) (s : Item) (os : List InputRelo
     → Refuses e (overlap_errors (at_section g f k) (least_extent (decided_extents s.relocations os ds))) → Refuses e (item_errors l g f k s os ending)
 overlap_refused l g f k s os ending ds e count dec lies none ended h =
     let h' : Refuses e (overlap_errors (at_section g f k) (shared_byte l s os)) = subst (λ (o : Option ℕ). Refuses e (overlap_errors (at_section g f k) o)) (shared_is l s os ds count dec lies) h in
-    Refuses-behind e (relocations_errors l g f k s os) (ending ++ overlap_errors (at_section g f k) (shared_byte l s os)) none (Refuses-behind e ending (overlap_errors (at_section g f k) (shared_byte l s os)) ended h')
+    Refuses-after e (relocations_errors l g f k s os) (ending ++ overlap_errors (at_section g f k) (shared_byte l s os)) none (Refuses-after e ending (overlap_errors (at_section g f k) (shared_byte l s os)) ended h')
 
 pub ending_refused : (l : Layout) (g f k : ℕ) (s : Item) (os : List InputRelocation) (ending : List Error) (e : Error) → relocations_errors l g f k s os ≡ [] → Refuses e ending → Refuses e (item_errors l g f k s os ending)
 ending_refused l g f k s os ending e none h =
-    Refuses-behind e (relocations_errors l g f k s os) (ending ++ overlap_errors (at_section g f k) (shared_byte l s os)) none (Refuses-front e ending (overlap_errors (at_section g f k) (shared_byte l s os)) h)
+    Refuses-after e (relocations_errors l g f k s os) (ending ++ overlap_errors (at_section g f k) (shared_byte l s os)) none (Refuses-front e ending (overlap_errors (at_section g f k) (shared_byte l s os)) h)
 
 pub relocation_refused : (l : Layout) (g f k : ℕ) (s : Item) (os : List InputRelocation) (ending : List Error) (e : Error) → Refuses e (relocations_errors l g f k s os) → Refuses e (item_errors l g f k s os ending)
 relocation_refused l g f k s os ending e h = Refuses-front e (relocations_errors l g f k s os) (ending ++ overlap_errors (at_section g f k) (shared_byte l s os)) h

@@ -81,8 +81,8 @@ pub refuses_read : {X : Type 0} (f : X → List Error) (xs : List X) (i : ℕ) (
 refuses_read {X} f xs i x e l read none h = let P : X → Type 0 = λ y. Refuses e (f y) in refuses_at f xs i x e l none (subst P read h)
 
 -- the errors behind some that are not there
-pub Refuses-behind : (e : Error) (es fs : List Error) → es ≡ [] → Refuses e fs → Refuses e (es ++ fs)
-Refuses-behind e es fs none h = rw none h
+pub Refuses-after : (e : Error) (es fs : List Error) → es ≡ [] → Refuses e fs → Refuses e (es ++ fs)
+Refuses-after e es fs none h = rw none h
 
 -- what answers the first of some errors, behind others that are not there
 pub answers_behind : {A : Type 0} (r : Result A Error) (es fs : List Error) → es ≡ [] → Answers r fs → Answers r (es ++ fs)

@@ -28,16 +28,16 @@ is_there l i s at = elim (cases_lt i (length l.symbols)) [
 ]
 
 -- the symbol has an entry
-pub home_below : (l : Layout) (homes : List (Option SymbolFile)) (i : ℕ) (s : Symbol) → HasSymbolFiles l homes → needs_dynsym l.kind ≡ true → slice_get l.symbols i ≡ Some s → i < length homes
-home_below l homes i s has table at = let n = has.count table in let m = is_there l i s at in omega (arith, n, m)
+pub symbol_file_below : (l : Layout) (symbol_files : List (Option SymbolFile)) (i : ℕ) (s : Symbol) → HasSymbolFiles l symbol_files → needs_dynsym l.kind ≡ true → slice_get l.symbols i ≡ Some s → i < length symbol_files
+symbol_file_below l symbol_files i s has table at = let n = has.count table in let m = is_there l i s at in omega (arith, n, m)
 
-entry_is : (l : Layout) (homes : List (Option SymbolFile)) (i : ℕ) (s : Symbol) (x : Option SymbolFile) → HasSymbolFiles l homes → needs_dynsym l.kind ≡ true → slice_get l.symbols i ≡ Some s → x ≡ get_or homes i x → x ≡ found (symbol_file_in l) (files_of l.groups) i
-entry_is l homes i s x has table at read =
-    let below = home_below l homes i s has table at in
-    get_or_read homes i x below read None ∙ has.all table i below
+entry_is : (l : Layout) (symbol_files : List (Option SymbolFile)) (i : ℕ) (s : Symbol) (x : Option SymbolFile) → HasSymbolFiles l symbol_files → needs_dynsym l.kind ≡ true → slice_get l.symbols i ≡ Some s → x ≡ get_or symbol_files i x → x ≡ found (symbol_file_in l) (files_of l.groups) i
+entry_is l symbol_files i s x has table at read =
+    let below = symbol_file_below l symbol_files i s has table at in
+    get_or_read symbol_files i x below read None ∙ has.all table i below
 
-pub home_there : (l : Layout) (homes : List (Option SymbolFile)) (i : ℕ) (s : Symbol) (x : Option SymbolFile) (h : SymbolFile) → HasSymbolFiles l homes → needs_dynsym l.kind ≡ true → slice_get l.symbols i ≡ Some s → x ≡ get_or homes i x → x ≡ Some h → h ≡ symbol_file_of l s.place (file_of (files_of l.groups) i)
-home_there l homes i s x h has table at read is = some_found l i (file_of (files_of l.groups) i) s h at (sym is ∙ entry_is l homes i s x has table at read)
+pub symbol_file_there : (l : Layout) (symbol_files : List (Option SymbolFile)) (i : ℕ) (s : Symbol) (x : Option SymbolFile) (h : SymbolFile) → HasSymbolFiles l symbol_files → needs_dynsym l.kind ≡ true → slice_get l.symbols i ≡ Some s → x ≡ get_or symbol_files i x → x ≡ Some h → h ≡ symbol_file_of l s.place (file_of (files_of l.groups) i)
+symbol_file_there l symbol_files i s x h has table at read is = some_found l i (file_of (files_of l.groups) i) s h at (sym is ∙ entry_is l symbol_files i s x has table at read)
 
-pub home_missing : (l : Layout) (homes : List (Option SymbolFile)) (i : ℕ) (s : Symbol) (x : Option SymbolFile) → HasSymbolFiles l homes → needs_dynsym l.kind ≡ true → slice_get l.symbols i ≡ Some s → x ≡ get_or homes i x → x ≡ None → file_of (files_of l.groups) i ≡ None
-home_missing l homes i s x has table at read is = none_found l i (file_of (files_of l.groups) i) (sym is ∙ entry_is l homes i s x has table at read)
+pub symbol_file_missing : (l : Layout) (symbol_files : List (Option SymbolFile)) (i : ℕ) (s : Symbol) (x : Option SymbolFile) → HasSymbolFiles l symbol_files → needs_dynsym l.kind ≡ true → slice_get l.symbols i ≡ Some s → x ≡ get_or symbol_files i x → x ≡ None → file_of (files_of l.groups) i ≡ None
+symbol_file_missing l symbol_files i s x has table at read is = none_found l i (file_of (files_of l.groups) i) (sym is ∙ entry_is l symbol_files i s x has table at read)

@@ -1,7 +1,7 @@
 -- The files of symbols, as the dynamic symbol table needs them.
 --   symbol_file_of l place f   the role of a symbol's file, and the header index of the section that the symbol is in
 --   symbol_file_in l i f       the same for symbol i of file f
---   HasSymbolFiles l homes    a table of these for all symbols, if the output has a dynamic symbol table
+--   HasSymbolFiles l files    a table of these for all symbols, if the output has a dynamic symbol table
 use Rattle.std.specs.Prelude.{◌≡◌, ℕ, ◌<◌, true, List, length, Option, Some, None, slice_get, slice_index_or}
 use Rattle.wild_types.specs.declared.symbol.Place.{Place}
 use Rattle.wild_types.specs.declared.symbol.Place.TheVariants as at
@@ -28,6 +28,6 @@ abbrev pub symbol_file_in : Layout → ℕ → File → SymbolFile
 symbol_file_in l i f = symbol_file_of l (place_or (slice_get l.symbols i)) (Some f)
 
 -- the table of these, if there is a dynamic symbol table
-pub record HasSymbolFiles (l : Layout) (homes : List (Option SymbolFile)) : Type 0 where
-  pub count : needs_dynsym l.kind ≡ true → length homes ≡ length l.symbols
-  pub all : needs_dynsym l.kind ≡ true → (k : ℕ) → k < length homes → slice_index_or homes k None ≡ found (symbol_file_in l) (files_of l.groups) k
+pub record HasSymbolFiles (l : Layout) (symbol_files : List (Option SymbolFile)) : Type 0 where
+  pub count : needs_dynsym l.kind ≡ true → length symbol_files ≡ length l.symbols
+  pub all : needs_dynsym l.kind ≡ true → (k : ℕ) → k < length symbol_files → slice_index_or symbol_files k None ≡ found (symbol_file_in l) (files_of l.groups) k

@@ -16,7 +16,7 @@ pub record HasSymbolTables (l : Layout) (t : SymbolTables) : Type 0 where
   pub named : t.named ≡ named_sections l
   pub values : HasValues l t.values.items
   pub targets : HasTargets l t.targets.items
-  pub homes : HasSymbolFiles l t.homes.items
+  pub symbol_files : HasSymbolFiles l t.symbol_files.items
   pub owners : HasDefiningFiles l t.owners.items
   pub indexes : HasIndexes l t.indexes.items
   pub ascend : t.ascend ≡ true → all_ascend l ≡ true

@@ -96,11 +96,11 @@ fn symbol_files_of(alloc: Global, layout: &Layout) -> Result<Vec<Option<SymbolFi
     } else {
         0
     };
-    let mut homes = vec![in alloc; None; count]?;
+    let mut symbol_files = vec![in alloc; None; count]?;
     if layout.kind.needs_dynsym() {
-        place_groups(layout, &mut homes);
+        place_groups(layout, &mut symbol_files);
     }
-    Ok(homes)
+    Ok(symbol_files)
 }
 
 /// Whether no section of the layout consists of merged strings.
@@ -158,7 +158,7 @@ pub struct SymbolTables {
     named: NamedSections,
     values: Vec<Option<u64>>,
     targets: Vec<Option<u64>>,
-    homes: Vec<Option<SymbolFile>>,
+    symbol_files: Vec<Option<SymbolFile>>,
     owners: Vec<Option<DefiningFile>>,
     indexes: Vec<Option<usize>>,
     ascend: bool,
@@ -183,14 +183,14 @@ impl SymbolTables {
     {
         let values = values_of(alloc, layout)?;
         let targets = targets_of(alloc, layout, &values, needs_owner_files)?;
-        let homes = symbol_files_of(alloc, layout)?;
+        let symbol_files = symbol_files_of(alloc, layout)?;
         let owners = defining_files_of(alloc, layout, needs_owner_files)?;
         let indexes = indexes_of(alloc, layout)?;
         Ok(SymbolTables {
             named: named_sections(layout),
             values,
             targets,
-            homes,
+            symbol_files,
             owners,
             indexes,
             ascend: needs_owner_files && all_ascend(layout),
@@ -206,7 +206,7 @@ pub struct Resolved<'a, A: Arch> {
     pub named: NamedSections,
     values: &'a [Option<u64>],
     targets: &'a [Option<u64>],
-    homes: &'a [Option<SymbolFile>],
+    symbol_files: &'a [Option<SymbolFile>],
     owners: &'a [Option<DefiningFile>],
     indexes: &'a [Option<usize>],
     ascend: bool,
@@ -215,7 +215,7 @@ pub struct Resolved<'a, A: Arch> {
     ghost named_are: { named ≡ named_sections layout.now },
     ghost values_are: { HasValues layout.now values.now },
     ghost targets_are: { HasTargets layout.now targets.now },
-    ghost homes_are: { HasSymbolFiles layout.now homes.now },
+    ghost symbol_files_are: { HasSymbolFiles layout.now symbol_files.now },
     ghost owners_are: { HasDefiningFiles layout.now owners.now },
     ghost indexes_are: { HasIndexes layout.now indexes.now },
     ghost ascend_is: { ascend ≡ true → all_ascend layout.now ≡ true },
@@ -235,7 +235,7 @@ impl<'a, A: Arch> Resolved<'a, A> {
             named: tables.named,
             values: &tables.values,
             targets: &tables.targets,
-            homes: &tables.homes,
+            symbol_files: &tables.symbol_files,
             owners: &tables.owners,
             indexes: &tables.indexes,
             ascend: tables.ascend,
@@ -353,14 +353,14 @@ impl<'a, A: Arch> Resolved<'a, A> {
     }
 
     /// The file role and output section of a symbol, in an output with a dynamic symbol table.
-    #[tactic(auto, using(crate::proofs::SymbolFileLemmas::home_below, crate::proofs::SymbolFileLemmas::home_there, crate::proofs::SymbolFileLemmas::home_missing))]
-    pub fn home(&self, index: usize, symbol: &Symbol) -> SymbolFile
+    #[tactic(auto, using(crate::proofs::SymbolFileLemmas::symbol_file_below, crate::proofs::SymbolFileLemmas::symbol_file_there, crate::proofs::SymbolFileLemmas::symbol_file_missing))]
+    pub fn symbol_file(&self, index: usize, symbol: &Symbol) -> SymbolFile
         requires table { needs_dynsym self.now.layout.now.kind ≡ true }
         requires symbol { slice_get self.now.layout.now.symbols index ≡ Some symbol.now }
         ensures { result ≡ symbol_file_of self.now.layout.now symbol.now.place (file_of (files_of self.now.layout.now.groups) index) }
     {
-        match self.homes[index] {
-            Some(home) => home,
+        match self.symbol_files[index] {
+            Some(symbol_file) => symbol_file,
             None => SymbolFile::without_file(symbol.place),
         }
     }

@@ -9,8 +9,8 @@ use Rattle.wild_types.specs.declared.symbol.Symbol.{Symbol}
 use Rattle.wild_types.specs.declared.layout.Layout.{Layout}
 use Rattle.wild_types.specs.Lists.{total}
 use Rattle.wild_slots.specs.AscendingPlaces.{LiesWithin, Ascend}
-use Rattle.wild_slots.proofs.WalkLemmas.{AllBehind}
-use Rattle.wild_slots.proofs.OrderLemmas.{StandsBehind, total-push}
+use Rattle.wild_slots.proofs.WalkLemmas.{AllAfter}
+use Rattle.wild_slots.proofs.OrderLemmas.{IsPlacedAfter, total-push}
 
 pub Ascend-none : (n low high : ℕ) → Ascend n low high []
 Ascend-none n low high = record { within = All-nil (LiesWithin n low high); ascend = AllPairs-nil (λ (p q : ℕ). p + n ≤ q) }
@@ -47,11 +47,11 @@ Ascend-slots base (suc n) =
 
 -- what each symbol has to show: that its items lie behind those of the symbols before it, and ascend
 abbrev pub AscendAt : Layout → (Symbol → Type 0) → ℕ → ℕ → ℕ → (Symbol → ℕ) → (Symbol → List ℕ) → Type 0
-AscendAt l P n base limit share places = (front : List Symbol) (s : Symbol) → P s → StandsBehind l front s → base + total share front + share s ≤ limit
+AscendAt l P n base limit share places = (front : List Symbol) (s : Symbol) → P s → IsPlacedAfter l front s → base + total share front + share s ≤ limit
     → Ascend n (base + total share front) (base + total share front + share s) (places s)
 
 pub ascend_all : (l : Layout) (P : Symbol → Type 0) (n base limit : ℕ) (share : Symbol → ℕ) (places : Symbol → List ℕ) → AscendAt l P n base limit share places
-    → (ss front : List Symbol) → All P ss → AllBehind (StandsBehind l) front ss → base + total share front + total share ss ≤ limit
+    → (ss front : List Symbol) → All P ss → AllAfter (IsPlacedAfter l) front ss → base + total share front + total share ss ≤ limit
     → Ascend n (base + total share front) (base + total share front + total share ss) (flat_map places ss)
 ascend_all l P n base limit share places each [] front a b h = Ascend-none n _ _
 ascend_all l P n base limit share places each (s ∷ ss) front a b h =

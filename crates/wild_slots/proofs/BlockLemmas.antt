@@ -30,8 +30,8 @@ use Rattle.wild_layout.specs.SlotOrder.{SlotsFollow, HasSlotsInOrder}
 use Rattle.wild_slots.specs.Order.{group_symbols, end_of}
 use Rattle.wild_slots.specs.AscendingPlaces.{place_in, word_places}
 use Rattle.wild_slots.specs.Blocks.{IsWhole}
-use Rattle.wild_slots.proofs.WalkLemmas.{AllBehind, Piece-from_contains}
-use Rattle.wild_slots.proofs.OrderLemmas.{StandsBehind, total-push, AreInOrder-from_test}
+use Rattle.wild_slots.proofs.WalkLemmas.{AllAfter, Piece-from_contains}
+use Rattle.wild_slots.proofs.OrderLemmas.{IsPlacedAfter, total-push, AreInOrder-from_test}
 use Rattle.wild_slots.proofs.TableLemmas.{block_table}
 use Rattle.wild_slots.proofs.BlockWordLemmas.{NotInBlock, FirstAlone, first_alone}
 use Rattle.wild_slots.proofs.SymbolPlaces.{All-group, IsAt-from, no_places, block_slots}
@@ -42,7 +42,7 @@ use Rattle.wild_slots.proofs.PlacesLemmas.{headless_end}
 abbrev pub block_count : Layout → Symbol → ℕ
 block_count l s = length (words_in words.RelrGot l s)
 
-blocks_follow : (l : Layout) (ss front : List Symbol) (base : ℕ) → base ≡ (first_free l).block + total (symbol_share l role.GotRelr) front → AllBehind (StandsBehind l) front ss → flat_map (word_places words.RelrGot l) ss ≡ slots base (total (block_count l) ss)
+blocks_follow : (l : Layout) (ss front : List Symbol) (base : ℕ) → base ≡ (first_free l).block + total (symbol_share l role.GotRelr) front → AllAfter (IsPlacedAfter l) front ss → flat_map (word_places words.RelrGot l) ss ≡ slots base (total (block_count l) ss)
 unfolding slots
 blocks_follow l [] front base e a = refl
 blocks_follow l (s ∷ ss) front base e a =
@@ -137,7 +137,7 @@ group_places l g = sym (flat_map-flat_map (relr_got_places l) (own_symbols l) g.
 pub whole : (l : Layout) → HasSlotsInOrder l → end_of l role.GotRelr ≤ 2 ^ 64 → (part_with role.GotRelr l.parts ≡ None → table_bytes l role.GotRelr ≡ []) → (g : Group) → Contains l.groups g → IsWhole (block_of (group_relr_got l g)) (group_relr_got l g)
 whole l h small missing g c =
     let order = AreInOrder-from_test l h.slots.placed in
-    let piece = Piece-from_contains (StandsBehind l) (group_symbols l) l.groups g c order.each in
+    let piece = Piece-from_contains (IsPlacedAfter l) (group_symbols l) l.groups g c order.each in
     let own = group_symbols l g in
     let share = symbol_share l role.GotRelr in
     let base = (first_free l).block + total share piece.before in

@@ -19,18 +19,18 @@ use Rattle.wild_slot.specs.SymbolWords.{slots_of}
 use Rattle.wild_plan_rules.specs.SlotPlaces.{first_free, has_next_places, free_after, walk, symbol_step, slot_before, unless_some, range_step, file_step, group_step, last_astray, slots_astray}
 use Rattle.wild_types.proofs.ListLemmas.{All-from_none_fails, total-append}
 use Rattle.wild_slots.specs.Order.{group_symbols, written_symbols}
-use Rattle.wild_slots.proofs.WalkLemmas.{AllBehind, Walked, Walked-none, Walked-more, through_both, same_Ok, walk_through}
+use Rattle.wild_slots.proofs.WalkLemmas.{AllAfter, Walked, Walked-none, Walked-more, through_both, same_Ok, walk_through}
 
 -- the free places behind those of the symbols so far
-pub record IsBehind (l : Layout) (front : List Symbol) (n : SlotCursor) : Type 0 where
+pub record IsAfter (l : Layout) (front : List Symbol) (n : SlotCursor) : Type 0 where
   pub got : n.got ≡ (first_free l).got + total (symbol_share l role.Got) front
   pub block : n.block ≡ (first_free l).block + total (symbol_share l role.GotRelr) front
   pub stub : n.stub ≡ (first_free l).stub + total (symbol_share l role.PltGot) front
 
 -- the symbol stands at such places
-pub record StandsBehind (l : Layout) (front : List Symbol) (s : Symbol) : Type 0 where
+pub record IsPlacedAfter (l : Layout) (front : List Symbol) (s : Symbol) : Type 0 where
   pub free : SlotCursor
-  pub behind : IsBehind l front free
+  pub behind : IsAfter l front free
   pub next : has_next_places l free s ≡ true
 
 -- ---- one symbol more
@@ -42,8 +42,8 @@ stub_more : (b : Bool) (n k : ℕ) → (if b then n + k else n) ≡ n + (if b th
 stub_more true n k = refl
 stub_more false n k = omega arith
 
-IsBehind-more : (l : Layout) (front : List Symbol) (n : SlotCursor) (s : Symbol) → IsBehind l front n → IsBehind l (front ++ s ∷ []) (free_after l n s)
-IsBehind-more l front n s h = record {
+IsAfter-more : (l : Layout) (front : List Symbol) (n : SlotCursor) (s : Symbol) → IsAfter l front n → IsAfter l (front ++ s ∷ []) (free_after l n s)
+IsAfter-more l front n s h = record {
   got = let a = h.got in let e = total-push (symbol_share l role.Got) front s in omega (arith, a, e);
   block = let a = h.block in let e = total-push (symbol_share l role.GotRelr) front s in omega (arith, a, e);
   stub = let a = h.stub in let e = total-push (symbol_share l role.PltGot) front s in let d = stub_more (slots_of l s).has_stub n.stub stub_size in omega (arith, a, e, d);
@@ -61,15 +61,15 @@ stepped l n m s h =
       | inr f ↦ cc (rw f at h)
     ]
 
-symbols_walked : (l : Layout) (ss front : List Symbol) (n m : SlotCursor) → IsBehind l front n → walk (symbol_step l) n ss ≡ Ok m → Walked (StandsBehind l) (IsBehind l) front ss m
+symbols_walked : (l : Layout) (ss front : List Symbol) (n m : SlotCursor) → IsAfter l front n → walk (symbol_step l) n ss ≡ Ok m → Walked (IsPlacedAfter l) (IsAfter l) front ss m
 unfolding walk
-symbols_walked l [] front n m b h = Walked-none (StandsBehind l) (IsBehind l) front m (subst (IsBehind l front) (same_Ok n m h) b)
+symbols_walked l [] front n m b h = Walked-none (IsPlacedAfter l) (IsAfter l) front m (subst (IsAfter l front) (same_Ok n m h) b)
 symbols_walked l (s ∷ ss) front n m b h =
     let two = through_both (symbol_step l n s) (λ t. walk (symbol_step l) t ss) m h in
     let one = stepped l n two.state s two.first in
-    let more = subst (IsBehind l (front ++ s ∷ [])) one.is (IsBehind-more l front n s b) in
-    let here : Walked (StandsBehind l) (IsBehind l) front (s ∷ []) two.state = record { each = (record { free = n; behind = b; next = one.next }, tt); kept = more } in
-    Walked-more (StandsBehind l) (IsBehind l) front (s ∷ []) ss two.state m here (symbols_walked l ss (front ++ s ∷ []) two.state m more two.rest)
+    let more = subst (IsAfter l (front ++ s ∷ [])) one.is (IsAfter-more l front n s b) in
+    let here : Walked (IsPlacedAfter l) (IsAfter l) front (s ∷ []) two.state = record { each = (record { free = n; behind = b; next = one.next }, tt); kept = more } in
+    Walked-more (IsPlacedAfter l) (IsAfter l) front (s ∷ []) ss two.state m here (symbols_walked l ss (front ++ s ∷ []) two.state m more two.rest)
 
 -- each symbol takes a number
 symbols_counted : (l : Layout) (ss : List Symbol) (n m : SlotCursor) → walk (symbol_step l) n ss ≡ Ok m → m.symbol ≡ n.symbol + length ss
@@ -112,7 +112,7 @@ none_before l n to i at s h low high e g =
 
 -- what the walk keeps: the free places, and that the symbols so far are listed
 pub record Keeps (l : Layout) (front : List Symbol) (n : SlotCursor) : Type 0 where
-  pub behind : IsBehind l front n
+  pub behind : IsAfter l front n
   pub listed : AreListed l front n.symbol
 
 AreListed-more : (l : Layout) (front : List Symbol) (f : File) (n : SlotCursor) → AreListed l front n.symbol → n.symbol ≤ f.first_symbol → slot_before l n f.first_symbol ≡ None → AreListed l (front ++ slice_range l.symbols f.first_symbol (f.first_symbol + f.symbol_count)) (f.first_symbol + length (slice_range l.symbols f.first_symbol (f.first_symbol + f.symbol_count)))
@@ -145,10 +145,10 @@ ranged l n m f h = by_order (nat_lt f.first_symbol n.symbol) refl h
         record { low = ltb-false f.first_symbol n.symbol t; none = u.0; walked = u.1 }
 
 -- a file with symbols whose slots it writes
-range_walked : (l : Layout) (front : List Symbol) (n m : SlotCursor) (f : File) → Keeps l front n → writes_slots f.role ≡ true → range_step l n f ≡ Ok m → Walked (StandsBehind l) (Keeps l) front (own_symbols l f) m
+range_walked : (l : Layout) (front : List Symbol) (n m : SlotCursor) (f : File) → Keeps l front n → writes_slots f.role ≡ true → range_step l n f ≡ Ok m → Walked (IsPlacedAfter l) (Keeps l) front (own_symbols l f) m
 range_walked l front n m f k w h =
     let r = ranged l n m f h in
-    let b : IsBehind l front (record n { symbol = f.first_symbol }) = record { got = k.behind.got; block = k.behind.block; stub = k.behind.stub } in
+    let b : IsAfter l front (record n { symbol = f.first_symbol }) = record { got = k.behind.got; block = k.behind.block; stub = k.behind.stub } in
     let s = symbols_walked l (own_symbols l f) front (record n { symbol = f.first_symbol }) m b r.walked in
     let c = symbols_counted l (own_symbols l f) (record n { symbol = f.first_symbol }) m r.walked in
     let own : own_symbols l f ≡ slice_range l.symbols f.first_symbol (f.first_symbol + f.symbol_count) = rw w refl in
@@ -170,13 +170,13 @@ none_own l f h =
       ]
     ]
 
-file_walked : (l : Layout) (front : List Symbol) (n m : SlotCursor) (f : File) → Keeps l front n → file_step l n f ≡ Ok m → Walked (StandsBehind l) (Keeps l) front (own_symbols l f) m
+file_walked : (l : Layout) (front : List Symbol) (n m : SlotCursor) (f : File) → Keeps l front n → file_step l n f ≡ Ok m → Walked (IsPlacedAfter l) (Keeps l) front (own_symbols l f) m
 file_walked l front n m f k h =
     elim (cases_Bool (writes_slots f.role && not (f.symbol_count == 0))) [
       | inl t ↦ range_walked l front n m f k (and_parts (writes_slots f.role) (not (f.symbol_count == 0)) t).0 (rw t at h)
       | inr e ↦
-          (let P : List Symbol → Type 0 = λ ss. Walked (StandsBehind l) (Keeps l) front ss m in
-          subst P (sym (none_own l f e)) (Walked-none (StandsBehind l) (Keeps l) front m (subst (Keeps l front) (same_Ok n m (rw e at h)) k)))
+          (let P : List Symbol → Type 0 = λ ss. Walked (IsPlacedAfter l) (Keeps l) front ss m in
+          subst P (sym (none_own l f e)) (Walked-none (IsPlacedAfter l) (Keeps l) front m (subst (Keeps l front) (same_Ok n m (rw e at h)) k)))
     ]
 
 -- ---- the whole
@@ -189,7 +189,7 @@ keeps_first l = record {
 
 -- each symbol stands behind those before it, and each with slots is listed
 pub record AreInOrder (l : Layout) : Type 0 where
-  pub each : AllBehind (StandsBehind l) [] (written_symbols l)
+  pub each : AllAfter (IsPlacedAfter l) [] (written_symbols l)
   pub listed : (i at : ℕ) (s : Symbol) → slice_get l.symbols i ≡ Some s → got_of s ≡ Some at → Contains (written_symbols l) s
 
 pub AreInOrder-from_test : (l : Layout) → slots_astray l ≡ None → AreInOrder l
@@ -198,8 +198,8 @@ AreInOrder-from_test l h = by_end (walk (group_step l) (first_free l) l.groups) 
     by_end : (r : Result SlotCursor ℕ) → walk (group_step l) (first_free l) l.groups ≡ r → last_astray l r ≡ None → AreInOrder l
     by_end (Err i) e none = cc
     by_end (Ok m) e none =
-        let w = walk_through (StandsBehind l) (Keeps l) (group_symbols l) (group_step l)
-        (λ front s t g k i. walk_through (StandsBehind l) (Keeps l) (own_symbols l) (file_step l) (λ a b c f j o. file_walked l a b c f j o) g.files front s t k i)
+        let w = walk_through (IsPlacedAfter l) (Keeps l) (group_symbols l) (group_step l)
+        (λ front s t g k i. walk_through (IsPlacedAfter l) (Keeps l) (own_symbols l) (file_step l) (λ a b c f j o. file_walked l a b c f j o) g.files front s t k i)
         l.groups [] (first_free l) m (keeps_first l) e in
         record {
           each = w.each;

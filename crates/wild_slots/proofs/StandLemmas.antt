@@ -35,7 +35,7 @@ use Rattle.wild_slots.specs.Order.{group_symbols, written_symbols, IsWritten}
 use Rattle.wild_slots.specs.SlotPlaces.{IsLocatedAt, WordsArePlaced, SymbolIsPlaced}
 use Rattle.wild_slots.proofs.Resolved.{has_resolution}
 use Rattle.wild_slots.proofs.WalkLemmas.{Cut, Cut-from_contains}
-use Rattle.wild_slots.proofs.OrderLemmas.{StandsBehind, AreInOrder-from_test}
+use Rattle.wild_slots.proofs.OrderLemmas.{IsPlacedAfter, AreInOrder-from_test}
 use Rattle.wild_slots.proofs.TableLemmas.{symbol_bytes, IsTable, got_table, block_table, stub_table, length-symbols, headless, headed}
 use Rattle.wild_slots.proofs.BlockWordLemmas.{first_alone, none_in_block, begins, only_word}
 use Rattle.wild_slots.proofs.PlaceLemmas.{no_block_words}
@@ -107,7 +107,7 @@ stands_behind l r head s front back at t e w a =
 pub record Found (l : Layout) (s : Symbol) (at : ℕ) : Type 0 where
   pub written : IsWritten l s
   pub some : 1 ≤ length l.groups
-  pub cut : Cut (StandsBehind l) [] (written_symbols l) s
+  pub cut : Cut (IsPlacedAfter l) [] (written_symbols l) s
   pub words : at ≡ (if begins_relr_got (slots_of l s).words then cut.here.free.block else cut.here.free.got)
   pub stub : (p : ℕ) → plt_of s ≡ Some p → p ≡ cut.here.free.stub
 
@@ -119,7 +119,7 @@ pub found : (l : Layout) → HasSlotsInOrder l → (i at : ℕ) (s : Symbol) →
 found l h i at s e g =
     let order = AreInOrder-from_test l h.slots.placed in
     let c = order.listed i at s e g in
-    let cut = Cut-from_contains (StandsBehind l) [] (written_symbols l) s c order.each in
+    let cut = Cut-from_contains (IsPlacedAfter l) [] (written_symbols l) s c order.each in
     let free = cut.here.free in
     let p = and_parts (is_free_place (if begins_relr_got (slots_of l s).words then free.block else free.got) (got_of s)) (is_free_place free.stub (plt_of s)) cut.here.next in
     record {

@@ -28,7 +28,7 @@ use Rattle.wild_types.proofs.FileLemmas.{All-own}
 use Rattle.wild_slots.specs.Order.{group_symbols, written_symbols}
 use Rattle.wild_slots.specs.AscendingPlaces.{Ascend, place_in, word_places, stub_places}
 use Rattle.wild_slots.proofs.Resolved.{has_resolution}
-use Rattle.wild_slots.proofs.OrderLemmas.{StandsBehind}
+use Rattle.wild_slots.proofs.OrderLemmas.{IsPlacedAfter}
 use Rattle.wild_slots.proofs.BlockWordLemmas.{NotInBlock, FirstAlone, first_alone, none_in_block, begins, only_word}
 use Rattle.wild_slots.proofs.PlaceLemmas.{nothing_given, no_block_words, places_follow, all_words}
 use Rattle.wild_slots.proofs.AscendLemmas.{Ascend-none, Ascend-one}
@@ -64,7 +64,7 @@ pub stood : (free at : ℕ) (o : Option ℕ) → is_free_place free o ≡ true �
 stood free at None h e = cc
 stood free at (Some a) h e = let i : a ≡ at = cc in sym i ∙ eqb-true a free h
 
-pub IsAt-from : (l : Layout) (front : List Symbol) (s : Symbol) (h : StandsBehind l front s) → IsAt l s h.free
+pub IsAt-from : (l : Layout) (front : List Symbol) (s : Symbol) (h : IsPlacedAfter l front s) → IsAt l s h.free
 IsAt-from l front s h =
     let p = and_parts (is_free_place (if begins_relr_got (slots_of l s).words then h.free.block else h.free.got) (got_of s)) (is_free_place h.free.stub (plt_of s)) h.next in
     record {

@@ -25,7 +25,7 @@ use Rattle.wild_types.specs.FileSymbols.{own_symbols}
 use Rattle.wild_slot.specs.SymbolWords.{slots_of}
 use Rattle.wild_types.specs.SymbolSlots.{slots_address}
 use Rattle.wild_placement.specs.PlacedSections.{placed_files}
-use Rattle.wild_placement.proofs.PlacedFiles.{ReadsNoSection, laid_same}
+use Rattle.wild_placement.proofs.PlacedFiles.{ReadsNoSection, placed_files_same}
 use Rattle.wild_layout.specs.SlotBytes.{stub_bytes, slot_words_of, stubs_of, slot_bytes}
 use Rattle.wild_layout.specs.Content.{file_content, group_bytes, content}
 use Rattle.wild_layout.specs.TablePlaces.{table_bytes}
@@ -110,7 +110,7 @@ files_given l r head (f ∷ fs) t a =
 
 group_given : (l : Layout) (r : Role) (head : List ℕ) (g : Group) (front : List ℕ) → IsTable l r head → flat_map (file_content l r) g.files ≡ front ++ flat_map (symbol_bytes l r) (group_symbols l g) → content l r g ≡ front ++ flat_map (symbol_bytes l r) (group_symbols l g)
 group_given l r head g front t e =
-    ap (λ (bs : List ℕ). flat_map (file_content l r) (placed_files l g) ++ bs) (t.block g) ∙ append-nil (flat_map (file_content l r) (placed_files l g)) ∙ laid_same l (file_content l r) g t.stays ∙ e
+    ap (λ (bs : List ℕ). flat_map (file_content l r) (placed_files l g) ++ bs) (t.block g) ∙ append-nil (flat_map (file_content l r) (placed_files l g)) ∙ placed_files_same l (file_content l r) g t.stays ∙ e
 
 abbrev pub FilesGiveNoHead : List ℕ → Group → Type 0
 FilesGiveNoHead head g = All (GivesNoHead head) g.files

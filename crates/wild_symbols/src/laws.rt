@@ -18,7 +18,7 @@ pub fn symbols_are_read()
 /// it.
 pub fn strings_are_at_offsets()
     ensures lengths { LengthsOfStrings }
-    ensures behind { StringsAreAppended }
+    ensures last_string { StringsAreAppended }
     ensures stand { StringsAreAtOffsets }
 {}
 
@@ -28,7 +28,7 @@ pub fn strings_are_at_offsets()
 pub fn runs_are_read()
     ensures read { RunsAreRead }
     ensures count { RunsCount }
-    ensures behind { RunsKeepEarlierContent }
+    ensures earlier_content { RunsKeepEarlierContent }
     ensures indexes { RunsKeepIndexes }
     ensures whole { RunsWithRoomAreWhole }
     ensures entries { RunsAreEntries }

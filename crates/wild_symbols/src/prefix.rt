@@ -90,7 +90,7 @@ impl SymbolTableWriter {
         ensures taken { IfOk result (λ p. room_for_prefix symbols strings self.old ≡ Ok tt) }
         ensures same_reference { IfOk result (λ p. p.writer.ghost_name ≡ self.entry.ghost_name) }
         ensures front { IfOk result (λ p. p.writer.now ≡ prefix_of symbols strings self.old) }
-        ensures behind { IfOk result (λ p. p.kept ≡ reserved_bytes symbols strings self.old) }
+        ensures reserved_room { IfOk result (λ p. p.kept ≡ reserved_bytes symbols strings self.old) }
     {
         self.check_prefix(symbols, strings)?;
         let kept = self.take_front(symbols, strings);

@@ -36,16 +36,16 @@ length-string_bytes (s ∷ ss) =
     let r = length-string_bytes ss in
     omega (arith, e, f, r)
 
-pub with_strings-behind : StringsAreAppended
-with_strings-behind [] t = sym (ap (λ (bs : List ℕ). record t { bytes = bs }) (append-nil t.bytes))
-with_strings-behind (s ∷ ss) t =
-    with_strings-behind ss (with_string s t)
+pub with_strings-after : StringsAreAppended
+with_strings-after [] t = sym (ap (λ (bs : List ℕ). record t { bytes = bs }) (append-nil t.bytes))
+with_strings-after (s ∷ ss) t =
+    with_strings-after ss (with_string s t)
     ∙ ap (λ (bs : List ℕ). record t { bytes = bs }) (append_assoc t.bytes (string s) (string_bytes ss))
 
 -- the string behind those before it
 stands_behind : (whole : List ℕ) (t : Strings) (s : List ℕ) (ss : List (List ℕ)) → HasBytesAt whole t.start (with_strings (s ∷ ss) t).bytes → HasBytesAt whole (offset_of t) (string s)
 stands_behind whole t s ss h =
-    let e : (with_strings (s ∷ ss) t).bytes ≡ t.bytes ++ (string s ++ string_bytes ss) = ap (λ (x : Strings). x.bytes) (with_strings-behind (s ∷ ss) t) in
+    let e : (with_strings (s ∷ ss) t).bytes ≡ t.bytes ++ (string s ++ string_bytes ss) = ap (λ (x : Strings). x.bytes) (with_strings-after (s ∷ ss) t) in
     let inner = HasBytesAt-right t.bytes (string s ++ string_bytes ss) (string s) 0 (HasBytesAt-left (string s) (string_bytes ss)) in
     let z : length t.bytes + 0 ≡ length t.bytes = omega arith in
     HasBytesAt-inner whole (t.bytes ++ (string s ++ string_bytes ss)) (string s) t.start (length t.bytes)

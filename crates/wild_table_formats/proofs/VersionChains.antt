@@ -16,8 +16,8 @@ use Rattle.wild_table_formats.specs.VersionNeeds.{needed_bytes}
 pub ruleset front_of = (front-place)
 
 -- bytes behind bytes
-pub behind : (xs ys : List ℕ) (t : BufferContent) → with_bytes ys (with_bytes xs t) ≡ with_bytes (xs ++ ys) t
-behind xs ys t = ap (λ (bs : List ℕ). record t { bytes = bs }) (append_assoc t.bytes xs ys)
+pub with_bytes_append : (xs ys : List ℕ) (t : BufferContent) → with_bytes ys (with_bytes xs t) ≡ with_bytes (xs ++ ys) t
+with_bytes_append xs ys t = ap (λ (bs : List ℕ). record t { bytes = bs }) (append_assoc t.bytes xs ys)
 
 -- bytes behind which nothing follows
 pub nothing : (t : BufferContent) → with_bytes [] t ≡ t
@@ -56,7 +56,7 @@ chain_next {X} f xs i x last l r e =
 chain_more : {X : Type 0} (f : ℕ → Bool → X → List ℕ) (xs : List X) (i : ℕ) (x : X) (last : Bool) (t u : BufferContent) → i < length xs → x ≡ get_or xs i x → last ≡ (i + 1 == length xs)
     → with_bytes (chain f i (drop i xs)) t ≡ u → with_bytes (chain f (i + 1) (drop (i + 1) xs)) (with_bytes (f i last x) t) ≡ u
 chain_more f xs i x last t u l r e h =
-    behind (f i last x) (chain f (i + 1) (drop (i + 1) xs)) t
+    with_bytes_append (f i last x) (chain f (i + 1) (drop (i + 1) xs)) t
     ∙ ap (λ (bs : List ℕ). with_bytes bs t) (sym (chain_next f xs i x last l r e))
     ∙ h
 
@@ -89,4 +89,4 @@ pub ruleset definition_steps = (definition_more, definition_end)
 
 pub ruleset need_steps = (needed_more, needed_end)
 
-pub ruleset name_steps = (behind, alone)
+pub ruleset name_steps = (with_bytes_append, alone)

@@ -3,7 +3,7 @@ use Rattle.std.proofs.Common.{◌≡◌, ℕ, zero, suc, ◌+◌, ◌*◌, Bool,
 use Rattle.std.specs.Prelude.{Option, Some, None}
 use Rattle.std.proofs.lemmas.List.{length-append}
 use Rattle.wild_words.specs.Record.{spell}
-use Rattle.wild_words.proofs.RecordLemmas.{length-spell, HasBytesAt-front, HasBytesAt-behind}
+use Rattle.wild_words.proofs.RecordLemmas.{length-spell, HasBytesAt-front, HasBytesAt-after}
 use Rattle.wild_records.specs.Verdefs.{verdef_fields, verdaux_fields}
 use Rattle.wild_records.specs.Verneeds.{verneed_fields, vernaux_fields}
 use Rattle.wild_records.specs.Versyms.{versym_size, versym_fields, VersymIsRead}
@@ -58,7 +58,7 @@ version_read read whole (v ∷ vs) at zero d h s l =
     rw z (ap (λ (r : Versym). r.version) (read whole at (record { version = v }) (record { version = h 0 d (omega arith) }) (HasBytesAt-front whole (spelled v) (version_bytes vs) at s)))
 version_read read whole (v ∷ vs) at (suc k) d h s l =
     let z : at + versym_size * suc k ≡ at + 2 + versym_size * k = omega arith in
-    rw z (version_read read whole vs (at + 2) k d (λ j e m. h (suc j) e (omega (arith, m))) (HasBytesAt-behind whole (spelled v) (version_bytes vs) at 2 (length-versym v) s) (omega (arith, l)))
+    rw z (version_read read whole vs (at + 2) k d (λ j e m. h (suc j) e (omega (arith, m))) (HasBytesAt-after whole (spelled v) (version_bytes vs) at 2 (length-versym v) s) (omega (arith, l)))
 
 -- ---- definitions
 

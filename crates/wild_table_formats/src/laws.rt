@@ -34,7 +34,7 @@ pub fn dynamic_sections_are_read()
     ensures lengths { LengthsOfDynamic }
     ensures stand { RecordsAreInOrder }
     ensures fit { RecordsFit }
-    ensures behind { NothingAfterNullIsRead }
+    ensures nothing_after_null { NothingAfterNullIsRead }
     ensures found { EntriesAreFound }
     ensures named { TablesAreNamed }
 {}

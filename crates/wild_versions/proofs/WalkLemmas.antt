@@ -6,7 +6,7 @@ use Rattle.std.proofs.lemmas.Bool.{ne_eqb}
 use Rattle.std.proofs.lemmas.Nat.{and_le_r}
 use Rattle.wild_words.specs.Words.{HasBytesAt}
 use Rattle.wild_words.specs.Record.{spell}
-use Rattle.wild_words.proofs.RecordLemmas.{HasBytesAt-front, HasBytesAt-behind}
+use Rattle.wild_words.proofs.RecordLemmas.{HasBytesAt-front, HasBytesAt-after}
 use Rattle.wild_records.specs.Abi.Version.{ver_flg_base}
 use Rattle.wild_records.specs.Hashes.{top_bits, sysv_fold, sysv_next, sysv_hash}
 use Rattle.wild_records.specs.Verdefs.{verdef_fields, verdef_at, VerdefFits, VerdefIsRead, verdaux_fields, VerdauxIsRead}
@@ -87,7 +87,7 @@ names_found read whole names i at (Some p) h s =
     let r : Verdaux = record { name = name_at names i; next = 8 } in
     let q : Verdaux = record { name = name_at names p; next = 0 } in
     let e = read whole at r (record { name = name_small names i h; next = omega arith }) (HasBytesAt-front whole (spell (verdaux_fields r)) (spell (verdaux_fields q) ++ []) at s) in
-    let rest = HasBytesAt-behind whole (spell (verdaux_fields r)) (spell (verdaux_fields q) ++ []) at 8 (length-verdaux r) s in
+    let rest = HasBytesAt-after whole (spell (verdaux_fields r)) (spell (verdaux_fields q) ++ []) at 8 (length-verdaux r) s in
     let f = read whole (at + 8) q (record { name = name_small names p h; next = omega arith }) (HasBytesAt-front whole (spell (verdaux_fields q)) [] (at + 8) rest) in
     rw e (rw f refl)
 
@@ -101,7 +101,7 @@ definition_found : VerdefIsRead → VerdauxIsRead → (whole names : List ℕ) (
 definition_found read read_names whole names soname i at last d h l s =
     let v = verdef_of soname i last d in
     let e = record_found read whole names soname i at last d l s in
-    let back = HasBytesAt-behind whole (spell (verdef_fields v)) (verdaux_bytes (verdauxes_of names i d)) at 20 (length-verdef v) s in
+    let back = HasBytesAt-after whole (spell (verdef_fields v)) (verdaux_bytes (verdauxes_of names i d)) at 20 (length-verdef v) s in
     ap (λ (r : Verdef). defined r (names_from whole r.count (at + r.aux))) e
     ∙ ap (λ (ns : List ℕ). defined v ns) (names_found read_names whole names i (at + 20) d.parent h back)
 
@@ -126,7 +126,7 @@ walked read read_names whole names soname (d ∷ []) i at (suc n) h few some l s
 walked read read_names whole names soname (d ∷ e ∷ es) i at (suc n) h few some l s =
     let c = subst (λ (bs : List ℕ). HasBytesAt whole at bs) (chain-cons (definition_bytes names soname) i d (e ∷ es)) s in
     let t = HasBytesAt-front whole (definition_bytes names soname i false d) (chain (definition_bytes names soname) (i + 1) (e ∷ es)) at c in
-    let back = HasBytesAt-behind whole (definition_bytes names soname i false d) (chain (definition_bytes names soname) (i + 1) (e ∷ es)) at (definition_size d) (length-definition names soname i false d) c in
+    let back = HasBytesAt-after whole (definition_bytes names soname i false d) (chain (definition_bytes names soname) (i + 1) (e ∷ es)) at (definition_size d) (length-definition names soname i false d) c in
     definitions-suc whole n at (expected_definition names soname i d) (definition_size d)
     (definition_found read read_names whole names soname i at false d h (omega (arith, few)) t)
     (ap (λ (r : Verdef). r.next) (record_found read whole names soname i at false d (omega (arith, few)) t))
@@ -164,7 +164,7 @@ versions_found read whole names (v ∷ []) i at h small s =
 versions_found read whole names (v ∷ w ∷ ws) i at h small s =
     let c = subst (λ (bs : List ℕ). HasBytesAt whole at bs) (chain-cons (needed_bytes names) i v (w ∷ ws)) s in
     let t = HasBytesAt-front whole (needed_bytes names i false v) (chain (needed_bytes names) (i + 1) (w ∷ ws)) at c in
-    let back = HasBytesAt-behind whole (needed_bytes names i false v) (chain (needed_bytes names) (i + 1) (w ∷ ws)) at 16 (length-vernaux (vernaux_of names i false v)) c in
+    let back = HasBytesAt-after whole (needed_bytes names i false v) (chain (needed_bytes names) (i + 1) (w ∷ ws)) at 16 (length-vernaux (vernaux_of names i false v)) c in
     needed-suc whole (suc (length ws)) at (vernaux_of names i false v) (read whole at (vernaux_of names i false v) (vernaux_fits names i false v h (small 0 v (omega arith))) t)
     ∙ ap (λ (xs : List FoundNeed). expected_need names i v ∷ xs) (versions_found read whole names (w ∷ ws) (i + 1) (at + 16) h (λ k d l. small (suc k) d (omega (arith, l))) back)
 
@@ -186,7 +186,7 @@ verneed_found read whole n at f s =
 library_found : VerneedIsRead → VernauxIsRead → (whole : List ℕ) (n : Need) (at : ℕ) → NeedFits n → HasBytesAt whole at (need_bytes n.file n.names n.needs) → library_at whole at ≡ library_of n
 library_found read read_versions whole n at f s =
     let v = verneed_of n.file n.needs in
-    let back = HasBytesAt-behind whole (spell (verneed_fields v)) (chain (needed_bytes n.names) 0 n.needs.versions) at 16 (length-verneed v) s in
+    let back = HasBytesAt-after whole (spell (verneed_fields v)) (chain (needed_bytes n.names) 0 n.needs.versions) at 16 (length-verneed v) s in
     ap (λ (r : Verneed). record { file = r.file; versions = needed_from whole r.count (at + r.aux) }) (verneed_found read whole n at f s)
     ∙ ap (λ (vs : List FoundNeed). record { file = n.file; versions = vs }) (versions_found read_versions whole n.names n.needs.versions 0 (at + 16) f.names f.indexes back)
 
@@ -207,7 +207,7 @@ needs_read read read_versions whole (x ∷ []) at (suc n) h ends some l s =
 needs_read read read_versions whole (x ∷ y ∷ ys) at (suc n) h ends some l s =
     let f = h 0 x (omega arith) in
     let t = HasBytesAt-front whole (need_bytes x.file x.names x.needs) (needs_bytes (y ∷ ys)) at s in
-    let back = HasBytesAt-behind whole (need_bytes x.file x.names x.needs) (needs_bytes (y ∷ ys)) at (need_size x.needs) (length-need_bytes x.file x.names x.needs) s in
+    let back = HasBytesAt-after whole (need_bytes x.file x.names x.needs) (needs_bytes (y ∷ ys)) at (need_size x.needs) (length-need_bytes x.file x.names x.needs) s in
     needs-suc whole n at (library_of x) (need_size x.needs) (library_found read read_versions whole x at f t)
     (ap (λ (r : Verneed). r.next) (verneed_found read whole x at f t) ∙ ap (λ (b : Bool). next_of b (need_size x.needs)) ends.0)
     ∙ ap (λ (zs : List Library). library_of x ∷ zs) (go_on (need_size x.needs == 0) [] (needs_from whole n (at + need_size x.needs)) (ne_eqb (need_size x.needs) 0 (λ e. omega (arith, e)))

@@ -107,7 +107,7 @@ fn push_names(table: &mut FilledRoom, names: &[u32], i: usize, definition: &Vers
 }
 
 /// Appends version i with its names.
-#[tactic(auto, using(wild_table_formats::proofs::VersionChains::behind))]
+#[tactic(auto, using(wild_table_formats::proofs::VersionChains::with_bytes_append))]
 fn push_definition(
     table: &mut FilledRoom,
     names: &[u32],

@@ -76,7 +76,7 @@ fn push_versions(table: &mut FilledRoom, names: &[u32], versions: &[NeededVersio
 }
 
 /// Appends the record of a library and those of the versions that are needed of it.
-#[tactic(auto, using(wild_table_formats::proofs::VersionChains::behind))]
+#[tactic(auto, using(wild_table_formats::proofs::VersionChains::with_bytes_append))]
 pub(crate) fn push_need(table: &mut FilledRoom, file: u32, names: &[u32], needs: &VersionNeeds)
     requires few { length needs.now.versions < 2 ^ 16 }
     requires room { length table.old.bytes + need_size needs.now ≤ table.old.room }

@@ -20,7 +20,7 @@ use Rattle.wild_types.specs.Kinds.{is_partial_link}
 use Rattle.wild_plan_rules.specs.WellFormed.{first_clause}
 use Rattle.wild_layout.specs.Faults.{flat_map_from, clause_errors, part_errors, group_errors, errors}
 use Rattle.wild_layout.proofs.FaultLemmas.{clause_holds, first_empty, rest_empty, laid_out}
-use Rattle.wild_geometry.proofs.PlacedSectionLemmas.{Laid, Laid-from_clauses}
+use Rattle.wild_geometry.proofs.PlacedSectionLemmas.{AllClausesHold, AllClausesHold-from_clauses}
 use Rattle.wild_worlds.specs.Worlds.{KnowsModule, AreAddresses, OtherModule, AreNumbers, IsConsistent, ZeroIsLegal, MovedIsLegal, HasWorld, WorldsAreThere, other_module}
 use Rattle.wild_worlds.specs.Symbols.{OffsetsCount}
 use Rattle.wild_worlds.proofs.Premises.{apart_kinds}
@@ -33,13 +33,13 @@ use Rattle.wild_references.specs.Laws.{ThreadPlacesAreKnown}
 zero_divides : (base page : ℕ) → base ≡ 0 → base % page ≡ 0
 zero_divides base page z = ap (λ (b : ℕ). b % page) z ∙ zero-mod page
 
-clauses_hold : (l : Layout) → errors l ≡ [] → Laid l
+clauses_hold : (l : Layout) → errors l ≡ [] → AllClausesHold l
 unfolding errors
 clauses_hold l none =
     let clauses = clause_errors (first_clause l) in
     let shares = flat_map_from (part_errors l) 0 l.parts in
     let front = first_empty (clauses ++ shares) (flat_map_from (group_errors l) 0 l.groups) none in
-    Laid-from_clauses l (clause_holds (first_clause l) (first_empty clauses shares front)) (rest_empty clauses shares front)
+    AllClausesHold-from_clauses l (clause_holds (first_clause l) (first_empty clauses shares front)) (rest_empty clauses shares front)
 
 -- each segment stands low; a relocatable object has none
 segment_low : (l : Layout) → IsLaidOut l → errors l ≡ [] → (k : ℕ) (d : Segment) → k < length l.segments → (get_or l.segments k d).address + (get_or l.segments k d).mem_size ≤ 2 ^ 62

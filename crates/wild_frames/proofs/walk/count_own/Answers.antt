@@ -8,4 +8,4 @@ pub returns : goal.returns
 returns g c =
     own_of (g.F.FrameSource.frames c.args.frames.now) (spot_state c.args.spot.now) c.args.spot.now.relocation c.args.end c.count_before.result _
     (take_rest c.relocations.result.now c.args.spot.now.relocation ∙ ap (drop c.args.spot.now.relocation) c.relocations.ensures)
-    c.requires.fits c.requires.end c.count_before.ensures.within c.count_before.ensures.own c.count_before.ensures.behind
+    c.requires.fits c.requires.end c.count_before.ensures.within c.count_before.ensures.own c.count_before.ensures.later

@@ -3,10 +3,10 @@ use Rattle.std.specs.List.{flat_map}
 use Rattle.wild_words.specs.Overlay.{overlay}
 use Rattle.wild_image.specs.Owners.{sorted_pieces}
 use Rattle.wild_image.specs.Pieces.{sorted_owned}
-use Rattle.wild_image.proofs.AppendLemmas.{StandsBehind}
+use Rattle.wild_image.proofs.AppendLemmas.{IsPlacedAfter}
 use Rattle.wild_image.proofs.append.append_sorted.Given as goal
 
 abbrev pub invariant-loop-entry : goal.invariant-loop-entry
 invariant-loop-entry l =
     (l.out ≡ overlay (flat_map (sorted_pieces l.layout) (take l.entry-index l.layout.sorted)) l.initial.out)
-    × StandsBehind (sorted_owned l.layout) l.layout.sorted l.bytes l.rest l.entry-index
+    × IsPlacedAfter (sorted_owned l.layout) l.layout.sorted l.bytes l.rest l.entry-index

@@ -5,7 +5,7 @@ use Rattle.wild_image.specs.Append.{CanBeReversed}
 use Rattle.wild_image.specs.Pieces.{section_owned}
 use Rattle.wild_contents.proofs.PlacedLemmas.{reach_more, reach_done, behind_small}
 use Rattle.wild_image.proofs.PlacedLemmas.{faults_more, faults_refuse, lies_head, lies_tail, given_more}
-use Rattle.wild_image.proofs.UnchangedLemmas.{unchanged_parts, so_laid, so_refuses, Adds, so_adds}
+use Rattle.wild_image.proofs.UnchangedLemmas.{unchanged_parts, unchanged_section_placed, so_refuses, Adds, so_adds}
 use Rattle.wild_image.specs.declared.buffer.GroupBytes.{GroupBytes}
 use Rattle.wild_layout.specs.SectionPlaces.{SectionLies}
 use Rattle.wild_image.proofs.buffer.add_file_sections.Goals as goal
@@ -26,7 +26,7 @@ add_unchanged-requires-clause-lies g c =
     let f = c.args.file.now in
     let s = c.section-item.result in
     let here = lies_head l f c.as_slice-section-items.result.now c.loop-i.i c.loop-i.next s c.loop-i-test.true c.section-item.is c.loop-i.invariant.lies in
-    subst (SectionLies l) (so_laid l f c.loop-i.next s (unchanged_parts l s (sym c.is_written_unchanged.ensures ∙ c.if-is_written_unchanged.true))) here
+    subst (SectionLies l) (unchanged_section_placed l f c.loop-i.next s (unchanged_parts l s (sym c.is_written_unchanged.ensures ∙ c.if-is_written_unchanged.true))) here
 
 pub returns-in_err-add_unchanged-clause-faults : goal.returns-in_err-add_unchanged-clause-faults
 returns-in_err-add_unchanged-clause-faults g c =

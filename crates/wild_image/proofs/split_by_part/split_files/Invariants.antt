@@ -1,10 +1,10 @@
 use Rattle.std.proofs.Common.{◌≡◌, [], ◌++◌, ℕ, ◌<◌, length, get_or, take}
 use Rattle.std.specs.List.{flat_map}
 use Rattle.wild_image.specs.Pieces.{file_bytes, file_owned}
-use Rattle.wild_image.proofs.AppendLemmas.{StandsBehind}
+use Rattle.wild_image.proofs.AppendLemmas.{IsPlacedAfter}
 use Rattle.wild_image.proofs.split_by_part.split_files.Given as goal
 
 abbrev pub invariant-loop-file : goal.invariant-loop-file
 invariant-loop-file l =
     ((k : ℕ) → k < length l.parts → get_or l.parts k [] ≡ get_or l.initial.parts k [] ++ flat_map (file_owned l.layout k) (take l.file-index l.group.files))
-    × StandsBehind (file_bytes l.layout) l.group.files l.bytes l.rest l.file-index
+    × IsPlacedAfter (file_bytes l.layout) l.group.files l.bytes l.rest l.file-index

@@ -1,9 +1,9 @@
 use Rattle.std.proofs.Common.{◌≡◌, map, take}
 use Rattle.wild_image.specs.Pieces.{table_given}
-use Rattle.wild_image.proofs.AppendLemmas.{StandsBehind}
+use Rattle.wild_image.proofs.AppendLemmas.{IsPlacedAfter}
 use Rattle.wild_image.proofs.split_by_part.split_tables.Given as goal
 
 abbrev pub invariant-loop-i : goal.invariant-loop-i
 invariant-loop-i l =
     (l.parts.items ≡ map (table_given l.layout l.group) (take l.i l.layout.parts))
-    × StandsBehind (table_given l.layout l.group) l.layout.parts l.bytes l.rest l.i
+    × IsPlacedAfter (table_given l.layout l.group) l.layout.parts l.bytes l.rest l.i

@@ -10,8 +10,8 @@ returns-clause-read c = λ cs w local k table strings at d. run_read c.symtab_en
 pub returns-clause-count : goal.returns-clause-count
 returns-clause-count c = run_counted
 
-pub returns-clause-behind : goal.returns-clause-behind
-returns-clause-behind c = stand_behind
+pub returns-clause-earlier_content : goal.returns-clause-earlier_content
+returns-clause-earlier_content c = stand_behind
 
 pub returns-clause-indexes : goal.returns-clause-indexes
 returns-clause-indexes c = run_indexes

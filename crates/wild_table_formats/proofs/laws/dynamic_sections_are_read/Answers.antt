@@ -17,8 +17,8 @@ returns-clause-stand c = records_at
 pub returns-clause-fit : goal.returns-clause-fit
 returns-clause-fit c = records_fit
 
-pub returns-clause-behind : goal.returns-clause-behind
-returns-clause-behind c = behind_null
+pub returns-clause-nothing_after_null : goal.returns-clause-nothing_after_null
+returns-clause-nothing_after_null c = behind_null
 
 pub returns-clause-found : goal.returns-clause-found
 returns-clause-found c = found

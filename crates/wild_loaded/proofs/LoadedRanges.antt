@@ -14,28 +14,28 @@ use Rattle.wild_layout.specs.Geometry.{IsLaidOut}
 use Rattle.wild_meaning.specs.World.{IsPastFileBytes, IsLoadable}
 use Rattle.wild_loaded.proofs.Fillings.{Filling, Misses, DoNotOverlap}
 
--- ---- homes
+-- ---- ranges of bytes that segments carry
 
--- where a run of bytes stands in memory and in the file
-pub record Home : Type 0 where
+-- where a range of bytes is in memory and in the file
+pub record LoadedRange : Type 0 where
   pub address : ℕ
   pub offset : ℕ
   pub size : ℕ
 
 -- each of its bytes is carried
-abbrev pub HasHome : Layout → Home → Type 0
-HasHome l h = (k : ℕ) → k < h.size → (g : Segment) × CarriesByte l g (h.offset + k) (h.address + k)
+abbrev pub IsCarriedRange : Layout → LoadedRange → Type 0
+IsCarriedRange l h = (k : ℕ) → k < h.size → (g : Segment) × CarriesByte l g (h.offset + k) (h.address + k)
 
 -- the runs share no byte of the file
-abbrev pub HomesApart : Home → Home → Type 0
-HomesApart h i = (h.offset + h.size ≤ i.offset) ⊎ (i.offset + i.size ≤ h.offset)
+abbrev pub AreDisjointRanges : LoadedRange → LoadedRange → Type 0
+AreDisjointRanges h i = (h.offset + h.size ≤ i.offset) ⊎ (i.offset + i.size ≤ h.offset)
 
-pub homes_back : (h i : Home) → HomesApart h i → HomesApart i h
-homes_back h i (inl le) = inr le
-homes_back h i (inr le) = inl le
+pub disjoint_ranges_flip : (h i : LoadedRange) → AreDisjointRanges h i → AreDisjointRanges i h
+disjoint_ranges_flip h i (inl le) = inr le
+disjoint_ranges_flip h i (inr le) = inl le
 
 -- the bytes of a filling lie in the run
-pub record LiesIn (h : Home) (x : Filling) : Type 0 where
+pub record LiesIn (h : LoadedRange) (x : Filling) : Type 0 where
   pub from : h.address ≤ x.entry.offset
   pub to : x.entry.offset + x.width ≤ h.address + h.size
 
@@ -69,36 +69,36 @@ one_offset l g h o p a kind laid x y =
     x.distance ∙ ap (λ (s : Segment). s.offset + (a - s.address)) same ∙ sym y.distance
 
 -- bytes of two runs have different addresses
-pub addresses_differ : (l : Layout) (h i : Home) (k j : ℕ) → IsLoadable l.kind → IsLaidOut l → HasHome l h → HasHome l i → HomesApart h i → k < h.size → j < i.size → h.address + k ≡ i.address + j → ⊥
+pub addresses_differ : (l : Layout) (h i : LoadedRange) (k j : ℕ) → IsLoadable l.kind → IsLaidOut l → IsCarriedRange l h → IsCarriedRange l i → AreDisjointRanges h i → k < h.size → j < i.size → h.address + k ≡ i.address + j → ⊥
 addresses_differ l h i k j kind laid a b apart below under e =
     let g = a k below in
     let f = b j under in
     let there = subst (λ (x : ℕ). CarriesByte l f.0 (i.offset + j) x) (sym e) f.1 in
     no_byte apart (one_offset l g.0 f.0 (h.offset + k) (i.offset + j) (h.address + k) kind laid g.1 there)
   where
-    no_byte : HomesApart h i → h.offset + k ≡ i.offset + j → ⊥
+    no_byte : AreDisjointRanges h i → h.offset + k ≡ i.offset + j → ⊥
     no_byte (inl le) e = omega (arith, below, under, e, le)
     no_byte (inr le) e = omega (arith, below, under, e, le)
 
 -- ---- fillings
 
 -- a byte of one run and a filling in the other
-pub misses_across : (l : Layout) (h i : Home) (k : ℕ) (x : Filling) → IsLoadable l.kind → IsLaidOut l → HasHome l h → HasHome l i → HomesApart h i → k < h.size → LiesIn i x → Misses (h.address + k) x
+pub misses_across : (l : Layout) (h i : LoadedRange) (k : ℕ) (x : Filling) → IsLoadable l.kind → IsLaidOut l → IsCarriedRange l h → IsCarriedRange l i → AreDisjointRanges h i → k < h.size → LiesIn i x → Misses (h.address + k) x
 misses_across l h i k x kind laid sh si apart below lies = λ j lt e. (
     let from = lies.from in
     let to = lies.to in
     addresses_differ l h i k (x.entry.offset + j - i.address) kind laid sh si apart below (omega (arith, from, to, lt)) (omega (arith, from, e)))
 
 -- fillings in two runs
-pub beside_across : (l : Layout) (h i : Home) (x y : Filling) → IsLoadable l.kind → IsLaidOut l → HasHome l h → HasHome l i → HomesApart h i → LiesIn h x → LiesIn i y → DoNotOverlap x y
-beside_across l h i x y kind laid sh si apart lx ly = λ k lt j less e. (
+pub fillings_disjoint : (l : Layout) (h i : LoadedRange) (x y : Filling) → IsLoadable l.kind → IsLaidOut l → IsCarriedRange l h → IsCarriedRange l i → AreDisjointRanges h i → LiesIn h x → LiesIn i y → DoNotOverlap x y
+fillings_disjoint l h i x y kind laid sh si apart lx ly = λ k lt j less e. (
     let from = lx.from in
     let to = lx.to in
     misses_across l h i (x.entry.offset + k - h.address) y kind laid sh si apart (omega (arith, from, to, lt)) ly j less (omega (arith, from, e)))
 
 -- an address behind the file bytes of a segment is that of no byte of a filling in a run
-pub behind_misses : (l : Layout) (h : Home) (a : ℕ) (x : Filling) → IsLoadable l.kind → IsLaidOut l → HasHome l h → LiesIn h x → IsPastFileBytes l a → Misses a x
-behind_misses l h a x kind laid there lies b = λ j lt e. (
+pub misses_past_file_bytes : (l : Layout) (h : LoadedRange) (a : ℕ) (x : Filling) → IsLoadable l.kind → IsLaidOut l → IsCarriedRange l h → LiesIn h x → IsPastFileBytes l a → Misses a x
+misses_past_file_bytes l h a x kind laid there lies b = λ j lt e. (
     let from = lies.from in
     let to = lies.to in
     shared (there (a - h.address) (omega (arith, from, to, lt, e))) (omega (arith, from, e)))

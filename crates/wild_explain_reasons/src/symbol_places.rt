@@ -1,4 +1,4 @@
-//! Why a symbol has no address, slot or stub: its home, and other symbols of its name.
+//! Why a symbol has no address, slot or stub: its file and section, and other symbols of its name.
 
 use crate::hints::{LIKELY, push_hint};
 use crate::items::{Item, SectionPlace, section_at};
@@ -7,7 +7,7 @@ use std::fmt::Write;
 use wild_types::{Fault, Layout, Missing, Place, Slot};
 
 /// The input section that a symbol is in.
-pub(crate) fn home_of(layout: &Layout, symbol: usize) -> Option<SectionPlace> {
+pub(crate) fn place_of_symbol(layout: &Layout, symbol: usize) -> Option<SectionPlace> {
     let Place::Section(section) = layout.symbols.as_slice().get(symbol)?.place else {
         return None;
     };
@@ -51,8 +51,12 @@ fn push_namesake(out: &mut String, layout: &Layout, symbol: usize) -> Result<(),
 }
 
 /// Adds that the input section of a symbol has no place in the output for it.
-fn push_homeless(out: &mut String, layout: &Layout, symbol: usize) -> Result<(), AllocError> {
-    if let Some(at) = home_of(layout, symbol)
+fn push_symbol_without_place(
+    out: &mut String,
+    layout: &Layout,
+    symbol: usize,
+) -> Result<(), AllocError> {
+    if let Some(at) = place_of_symbol(layout, symbol)
         && let Some(section) = section_at(layout, at)
     {
         let item = Item::Input(at);
@@ -84,7 +88,7 @@ pub(crate) fn push_lacking(
     };
     push_namesake(out, layout, symbol)?;
     if let Missing::Address = what {
-        push_homeless(out, layout, symbol)?;
+        push_symbol_without_place(out, layout, symbol)?;
     }
     if matches!(what, Missing::Stub | Missing::Slot) && !layout.options.relax {
         let text =
