@@ -31,7 +31,7 @@ use Rattle.wild_checker.specs.Outline.{end_by, index_by, index_end, greatest_end
 -- ---- answers
 
 -- an index below the greatest end is at most one that a symbol has
-record Told (ss : List Symbol) (i : ℕ) : Type 0 where
+record HasSymbolIndex (ss : List Symbol) (i : ℕ) : Type 0 where
   symbol : Symbol
   listed : Contains ss symbol
   resolution : Resolution
@@ -40,18 +40,18 @@ record Told (ss : List Symbol) (i : ℕ) : Type 0 where
   given : resolution.dynamic_symbol_index ≡ Some index
   below : i ≤ index
 
-told_by : (s : Symbol) (ss : List Symbol) (i : ℕ) → i < index_end s → Told (s ∷ ss) i
+told_by : (s : Symbol) (ss : List Symbol) (i : ℕ) → i < index_end s → HasSymbolIndex (s ∷ ss) i
 told_by s ss i l = by_resolution s.resolution refl l
   where
-    by_index : (r : Resolution) → s.resolution ≡ Some r → (x : Option ℕ) → r.dynamic_symbol_index ≡ x → i < end_by x → Told (s ∷ ss) i
+    by_index : (r : Resolution) → s.resolution ≡ Some r → (x : Option ℕ) → r.dynamic_symbol_index ≡ x → i < end_by x → HasSymbolIndex (s ∷ ss) i
     by_index r e None f l = absurd (omega (arith, l))
     by_index r e (Some n) f l = record { symbol = s; listed = Contains-here s ss; resolution = r; decided = e; index = n; given = f; below = omega (arith, l) }
 
-    by_resolution : (x : Option Resolution) → s.resolution ≡ x → i < index_by x → Told (s ∷ ss) i
+    by_resolution : (x : Option Resolution) → s.resolution ≡ x → i < index_by x → HasSymbolIndex (s ∷ ss) i
     by_resolution None e l = absurd (omega (arith, l))
     by_resolution (Some r) e l = by_index r e r.dynamic_symbol_index refl l
 
-told : (ss : List Symbol) (i : ℕ) → i < greatest_end ss → Told ss i
+told : (ss : List Symbol) (i : ℕ) → i < greatest_end ss → HasSymbolIndex ss i
 told [] i l = absurd (omega (arith, l))
 told (s ∷ ss) i l = elim (leb_tells (suc i) (index_end s)) [
   | inl t ↦ (let u = t.1 in told_by s ss i (omega (arith, u)))

@@ -4,7 +4,7 @@ ghost use Rattle.std.specs.List.{flat_map};
 ghost use Rattle.wild_types.specs.Faults.{Answers};
 ghost use Rattle.wild_types.specs.FileThunks.{thunks_of};
 ghost use Rattle.wild_layout.specs.Faults.{at_file, thunk_error, thunk_errors};
-ghost use Rattle.wild_layout.specs.Image.{unless_hollow};
+ghost use Rattle.wild_layout.specs.Image.{unless_omitted};
 ghost use Rattle.wild_layout.specs.Thunks.{thunk_target, thunk_bytes, thunk_fault, file_thunks};
 
 use crate::part_bytes::PartBytes;
@@ -85,7 +85,7 @@ pub fn add_thunks<A: Arch>(
     bytes: &mut PartBytes,
 ) -> Result<(), Error>
     ensures faults { Answers result (thunk_errors resolved.now.layout.now place.group place.file file.now) }
-    ensures bytes { OnOk result (bytes.new ≡ bytes.old ++ unless_hollow resolved.now.layout.now resolved.now.layout.now.primary_part (file_thunks resolved.now.layout.now file.now)) }
+    ensures bytes { OnOk result (bytes.new ≡ bytes.old ++ unless_omitted resolved.now.layout.now resolved.now.layout.now.primary_part (file_thunks resolved.now.layout.now file.now)) }
 {
     let layout = resolved.layout;
     if layout.is_header_only_part(layout.primary_part) {

@@ -115,17 +115,17 @@ put_hdr header eh_frame count z room rest r none d =
     ap (λ (bs : List ℕ). take 12 (bs ++ rest)) e ∙ take-append-le 12 (hdr_bytes h) rest (omega (arith, n)) ∙ take_all 12 (hdr_bytes h) (omega (arith, n))
 
 -- both distances of an FDE's entry are told
-record IsToldOf (header : ℕ) (f : Fde) : Type 0 where
+record HasNearDistances (header : ℕ) (f : Fde) : Type 0 where
   pub code : Near header f.code
   pub address : Near header f.address
 
-told : (header : ℕ) (f : Fde) → far_fde header f ≡ [] → IsToldOf header f
+told : (header : ℕ) (f : Fde) → far_fde header f ≡ [] → HasNearDistances header f
 told header f h = let p = nil_parts (far header f.code) (far header f.address) h in record { code = none_far header f.code p.0; address = none_far header f.address p.1 }
 
-all_told : (header eh_frame : ℕ) (fdes : List Fde) → table_errors header eh_frame fdes ≡ [] → All (IsToldOf header) fdes
-all_told header eh_frame fdes h = All-from_nothing (IsToldOf header) (far_fde header) fdes (told header) (nil_parts (far (header + 4) eh_frame) (flat_map (far_fde header) fdes) h).1
+all_told : (header eh_frame : ℕ) (fdes : List Fde) → table_errors header eh_frame fdes ≡ [] → All (HasNearDistances header) fdes
+all_told header eh_frame fdes h = All-from_nothing (HasNearDistances header) (far_fde header) fdes (told header) (nil_parts (far (header + 4) eh_frame) (flat_map (far_fde header) fdes) h).1
 
-entry_fits : (header : ℕ) (f : Fde) → IsToldOf header f → EhFrameHdrEntryFits (entry_of header f)
+entry_fits : (header : ℕ) (f : Fde) → HasNearDistances header f → EhFrameHdrEntryFits (entry_of header f)
 entry_fits header f t = record { frame_ptr = fits_z (distance header f.code) header f.code (back header f.code) t.code; frame_info_ptr = fits_z (distance header f.address) header f.address (back header f.address) t.address }
 
 -- ---- the entries of a table, as they are read
@@ -214,11 +214,11 @@ one_place extent fdes i j f x c l m a b e =
 
 last_is : (header x : ℕ) (fdes : List Fde) (bytes : List ℕ) (entries : List EhFrameHdrEntry) (extent : Fde → ℕ) (f : Fde) (j : ℕ) (found : Option EhFrameHdrEntry)
     → (count_in bytes ≡ length entries) → ((k : ℕ) → k < length entries → nth_entry bytes k ≡ get_or entries k (entry_of header f)) → IsNonDecreasingBy rank_of entries
-    → All (IsEntryOf header fdes) entries → All (IsToldOf header) fdes → CoverApart extent fdes → Near header x
+    → All (IsEntryOf header fdes) entries → All (HasNearDistances header) fdes → CoverApart extent fdes → Near header x
     → (i : ℕ) → i < length fdes → get_or fdes i f ≡ f → f.code ≤ x → x < f.code + extent f → j < length entries → get_or entries j (entry_of header f) ≡ entry_of header f
     → IsLastBefore (rank (distance header x)) bytes found → found ≡ Some (entry_of header f)
 last_is header x fdes bytes entries extent f j None c read sorted from all apart n i l is a b m e h =
-    let t : IsToldOf header f = subst (IsToldOf header) is (all i f l) in
+    let t : HasNearDistances header f = subst (HasNearDistances header) is (all i f l) in
     let r = rank_z (distance header f.code) header f.code (back header f.code) t.code in
     let s = rank_z (distance header x) header x (back header x) n in
     let z = h j (omega (arith, c, m)) in
@@ -226,7 +226,7 @@ last_is header x fdes bytes entries extent f j None c read sorted from all apart
     absurd (omega (arith, r, s, z, q, a))
 last_is header x fdes bytes entries extent f j (Some y) c read sorted from all apart n i l is a b m e h =
     let d = entry_of header f in
-    let t : IsToldOf header f = subst (IsToldOf header) is (all i f l) in
+    let t : HasNearDistances header f = subst (HasNearDistances header) is (all i f l) in
     let r = rank_z (distance header f.code) header f.code (back header f.code) t.code in
     let s = rank_z (distance header x) header x (back header x) n in
     let w = h.within in

@@ -25,7 +25,7 @@ use Rattle.wild_plan_rules.specs.Indexes.{part_index_fits}
 use Rattle.wild_layout.specs.Loadable.{CarriesByte, IsMapped, IsPartMapped}
 use Rattle.wild_geometry.specs.Carried.{EachPartIsLoaded}
 use Rattle.wild_geometry.proofs.PlacedSectionLemmas.{AllClausesHold}
-use Rattle.wild_geometry.proofs.SectionLemmas.{Holds, Stood}
+use Rattle.wild_geometry.proofs.SectionLemmas.{Holds, IsInRawPart}
 use Rattle.wild_geometry.proofs.PieceLemmas.{place_is}
 
 -- ---- a section with data
@@ -155,7 +155,7 @@ room_of_loaded slot.Loaded h = refl
 room_of_loaded other h = cc
 
 -- the output section of an input section that is allocated
-output_of : (l : Layout) → AllClausesHold l → is_partial_link l.kind ≡ false → (s : InputSection) → Holds l s → is_loaded s.slot ≡ true → allocated s.flags ≡ true → (st : Stood l s) → Filled l st.part.section
+output_of : (l : Layout) → AllClausesHold l → is_partial_link l.kind ≡ false → (s : InputSection) → Holds l s → is_loaded s.slot ≡ true → allocated s.flags ≡ true → (st : IsInRawPart l s) → Filled l st.part.section
 output_of l h kind s holds loaded alloc st =
     let room = room_of_loaded s.slot loaded in
     let asked : (is_partial_link l.kind || not (has_room s.slot)) ≡ false = rw (kind, room) refl in
@@ -165,7 +165,7 @@ output_of l h kind s holds loaded alloc st =
     let named = ltb-true _ _ (holds_at (λ p. part_index_fits l p ≡ true) l.parts s.part st.part st.is h.indexes.parts) in
     Filled-from_tests l st.part.section named place st.takes
 
-pub IsMapped-from_stood : (l : Layout) → AllClausesHold l → is_partial_link l.kind ≡ false → (s : InputSection) → Holds l s → (is_filled l s ≡ true → Stood l s) → IsMapped l s
+pub IsMapped-from_stood : (l : Layout) → AllClausesHold l → is_partial_link l.kind ≡ false → (s : InputSection) → Holds l s → (is_filled l s ≡ true → IsInRawPart l s) → IsMapped l s
 IsMapped-from_stood l h kind s holds stood loaded filled alloc =
     let st = stood filled in
     let o = output_of l h kind s holds loaded alloc st in

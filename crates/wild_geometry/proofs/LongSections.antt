@@ -69,15 +69,15 @@ long_group l s h e f =
 -- ---- tables of relocations
 
 -- the table has an entry for each relocation of its target, which name symbols of the layout
-pub record IsTabled (l : Layout) (f : File) (s : InputSection) : Type 0 where
+pub record HasAllEntries (l : Layout) (f : File) (s : InputSection) : Type 0 where
   pub entries : s.size ≡ 24 * length (target_relocations f s)
   pub named : All (NamesSymbol l) (target_relocations f s)
 
 -- if the section is one
-abbrev pub IsTabledTable : Layout → File → InputSection → Type 0
-IsTabledTable l f s = is_rela s.slot ≡ true → IsTabled l f s
+abbrev pub TableHasAllEntries : Layout → File → InputSection → Type 0
+TableHasAllEntries l f s = is_rela s.slot ≡ true → HasAllEntries l f s
 
-pub long_tabled : (l : Layout) (f : File) (s : InputSection) → Known l s → is_rela s.slot ≡ true → IsTabled l f s → IsLong l (rela_with_target f s)
+pub long_tabled : (l : Layout) (f : File) (s : InputSection) → Known l s → is_rela s.slot ≡ true → HasAllEntries l f s → IsLong l (rela_with_target f s)
 long_tabled l f s h e t g =
     let n = with_data s h.filled (rw e refl) in
     ap length (section_bytes_rela l g (rela_with_target f s) refl n) ∙ length-rela_bytes_of l (rela_with_target f s) ∙ sym t.entries
@@ -112,7 +112,7 @@ target_entries l ss k size h (Some s) is t =
     let long = length-map (with_word_order s).relocations (counted_from (base_of s)) in
     record { many = omega arith; named = All-map (NamesSymbol l) (counted_from (base_of s)) (with_word_order s).relocations (turned_named l s known.holds.symbols) }
 
-pub each_tabled : (l : Layout) → AllClausesHold l → EachIn l (IsTabledTable l)
+pub each_tabled : (l : Layout) → AllClausesHold l → EachIn l (TableHasAllEntries l)
 each_tabled l h = λ i g m j f n k s o rela.
     let x = get_or (get_or l.groups i g).files j f in
     let y = get_or x.sections k s in

@@ -26,17 +26,17 @@ use Rattle.wild_geometry.proofs.PlacedSectionLemmas.{AllClausesHold}
 use Rattle.wild_geometry.proofs.OrderLemmas.{Follows}
 use Rattle.wild_geometry.proofs.RunLemmas.{sections_in}
 use Rattle.wild_geometry.proofs.StandingLemmas.{all_sections}
-use Rattle.wild_geometry.proofs.SectionLemmas.{Stood, filled_given}
+use Rattle.wild_geometry.proofs.SectionLemmas.{IsInRawPart, filled_given}
 use Rattle.wild_geometry.proofs.Rooms.{room_of, length-room, section_room, rooms_in, others_in, file_rooms, all_at, apart_at}
 use Rattle.wild_geometry.proofs.ThunkRuns.{thunks_in, all_thunks, SectionThunkApart}
 use Rattle.wild_geometry.proofs.PieceLemmas.{owners_apart, stood_room, section_rooms, InImage}
 use Rattle.wild_geometry.proofs.FrontLemmas.{Front, fronts, FrontStands, FrontsStand, front_at, front_is, each_front, fronts_apart, fronts_within, sections_behind, no_thunks_there}
-use Rattle.wild_geometry.proofs.ThunkLemmas.{ThunkStood, ThunksStand, SectionsStand, pieces_of_thunks, thunk_at, thunk_room, each_thunk, thunks_apart, thunk_in_image}
+use Rattle.wild_geometry.proofs.ThunkLemmas.{ThunkIsInPart, ThunksStand, SectionsStand, pieces_of_thunks, thunk_at, thunk_room, each_thunk, thunks_apart, thunk_in_image}
 
 -- ---- input sections and thunks
 
 -- a thunk and an input section
-section_and_thunk : (l : Layout) → AllPairs (Follows l) l.parts → (s : InputSection) (t : Thunk) → is_filled l s ≡ true → Stood l s → ThunkStood l t → SectionThunkApart l l.primary_part s t → Disjoint (room_of l s) (thunk_at l t)
+section_and_thunk : (l : Layout) → AllPairs (Follows l) l.parts → (s : InputSection) (t : Thunk) → is_filled l s ≡ true → IsInRawPart l s → ThunkIsInPart l t → SectionThunkApart l l.primary_part s t → Disjoint (room_of l s) (thunk_at l t)
 section_and_thunk l f s t filled a b beside =
     owners_apart l f s.part l.primary_part s.address t.address (room_of l s).bytes (thunk_bytes l t) a.part b.part (stood_room l s a) (thunk_room l t b) (λ e.
     let n = length-room l s in
@@ -53,7 +53,7 @@ sections_and_thunks l f stood h =
 -- ---- what stands at fronts
 
 -- an input section stands apart from it
-section_and_front : (l : Layout) → AllClausesHold l → AllPairs (Follows l) l.parts → (i : ℕ) (d : InputSection) → i < length (all_sections l) → is_filled l (get_or (all_sections l) i d) ≡ true → Stood l (get_or (all_sections l) i d) → (x : Front) → FrontStands l x
+section_and_front : (l : Layout) → AllClausesHold l → AllPairs (Follows l) l.parts → (i : ℕ) (d : InputSection) → i < length (all_sections l) → is_filled l (get_or (all_sections l) i d) ≡ true → IsInRawPart l (get_or (all_sections l) i d) → (x : Front) → FrontStands l x
     → Disjoint (room_of l (get_or (all_sections l) i d)) (front_at l x)
 section_and_front l h f i d low filled a x st =
     let s = get_or (all_sections l) i d in

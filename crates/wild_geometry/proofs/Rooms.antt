@@ -24,7 +24,7 @@ use Rattle.wild_layout.specs.Sites.{section_bytes, extent_of}
 use Rattle.wild_geometry.proofs.StandingLemmas.{EachIn}
 use Rattle.wild_geometry.proofs.SectionLemmas.{Known, is_whole}
 use Rattle.wild_geometry.proofs.StayLemmas.{IsAt, Turns, turns, turns_unread, is_turned}
-use Rattle.wild_geometry.proofs.LongSections.{IsLong, IsTabledTable, long_turned, long_group, long_tabled}
+use Rattle.wild_geometry.proofs.LongSections.{IsLong, TableHasAllEntries, long_turned, long_group, long_tabled}
 
 -- ---- pieces at the same places
 
@@ -115,7 +115,7 @@ as_it_is l s = record { filled = refl; part = refl; address = refl; size = refl 
 abbrev pub HasPlace : Layout → File → InputSection → Type 0
 HasPlace l f s = (g : File) (at : ℕ) → map extent_of (section_room l s) ≡ map extent_of (section_piece l g (placed_section l f at s))
 
-pub place_of_known : (l : Layout) (f : File) (s : InputSection) → Known l s → IsTabledTable l f s → HasPlace l f s
+pub place_of_known : (l : Layout) (f : File) (s : InputSection) → Known l s → TableHasAllEntries l f s → HasPlace l f s
 unfolding placed_section
 place_of_known l f s h tables g at = by s.slot refl
   where

@@ -24,7 +24,7 @@ use Rattle.wild_plan_rules.specs.Indexes.{part_index_fits}
 use Rattle.wild_plan_rules.specs.Places.{part_lies}
 use Rattle.wild_plan_rules.specs.Thunks.{is_used, has_thunks, misplaced_from, misplaced_in, owns, is_owned, block_lost, machine_takes}
 use Rattle.wild_layout.specs.Thunks.{thunk_bytes}
-use Rattle.wild_layout.specs.Image.{thunk_offset, thunk_piece, unless_hollow}
+use Rattle.wild_layout.specs.Image.{thunk_offset, thunk_piece, unless_omitted}
 use Rattle.wild_layout.specs.SectionPlaces.{HasRoom}
 use Rattle.wild_layout.specs.ThunkPlaces.{ThunkLies, IsOwned}
 use Rattle.wild_layout.proofs.ThunkLemmas.{length-thunk_bytes}
@@ -33,7 +33,7 @@ use Rattle.wild_geometry.proofs.OrderLemmas.{Follows, EndsBy-image}
 use Rattle.wild_geometry.proofs.ShareLemmas.{size_from_shares}
 use Rattle.wild_geometry.proofs.RunLemmas.{get_or-map_address, length-map_address}
 use Rattle.wild_geometry.proofs.StandingLemmas.{all_sections}
-use Rattle.wild_geometry.proofs.SectionLemmas.{Stood, raw_role}
+use Rattle.wild_geometry.proofs.SectionLemmas.{IsInRawPart, raw_role}
 use Rattle.wild_geometry.proofs.ThunkRuns.{thunks_in, all_thunks, LiesFrom, Ahead, SectionThunkApart, unused, Spread-from_groups, Thunks-after}
 use Rattle.wild_geometry.proofs.PieceLemmas.{All-written, AllPairs-written, offset_is, owners_apart, owner_ends}
 use Rattle.wild_geometry.proofs.CarriedLemmas.{Filled-from_tests, byte_of_part}
@@ -59,25 +59,25 @@ flat_map-none f (x ∷ xs) h = rw (h x) (flat_map-none f xs h)
 -- ---- where they stand
 
 -- in the primary part, which is allocated
-pub record ThunkStood (l : Layout) (t : Thunk) : Type 0 where
+pub record ThunkIsInPart (l : Layout) (t : Thunk) : Type 0 where
   pub part : Part
   pub room : HasRoom l l.primary_part t.address thunk_size part
   pub allocated : is_allocated_section l part.section ≡ true
 
 pub record ThunksStand (l : Layout) : Type 0 where
-  pub stood : is_header_only_part l l.primary_part ≡ false → All (ThunkStood l) (all_thunks l)
+  pub stood : is_header_only_part l l.primary_part ≡ false → All (ThunkIsInPart l) (all_thunks l)
   pub ascend : AllPairs Ahead (all_thunks l)
   pub beside : All (λ s. All (SectionThunkApart l l.primary_part s) (all_thunks l)) (all_sections l)
   pub behind : (g : Group) (gs : List Group) (p : Part) → l.groups ≡ g ∷ gs → slice_get l.parts l.primary_part ≡ Some p → All (λ (t : Thunk). p.address + given l.primary_part g ≤ t.address) (flat_map (thunks_in l) gs)
 
 abbrev pub SectionsStand : Layout → Type 0
-SectionsStand l = All (λ s. is_filled l s ≡ true → Stood l s) (all_sections l)
+SectionsStand l = All (λ s. is_filled l s ≡ true → IsInRawPart l s) (all_sections l)
 
 none_stand : (l : Layout) → has_thunks l ≡ false → ThunksStand l
 none_stand l none =
     let e = flat_map-none (thunks_in l) l.groups (λ g. flat_map-none (thunks_of l) g.files (no_thunks l none)) in
     record {
-      stood = λ written. subst (All (ThunkStood l)) (sym e) (All-nil (ThunkStood l));
+      stood = λ written. subst (All (ThunkIsInPart l)) (sym e) (All-nil (ThunkIsInPart l));
       ascend = subst (AllPairs Ahead) (sym e) (AllPairs-nil Ahead);
       beside = λ i s m. subst (All (SectionThunkApart l l.primary_part (get_or (all_sections l) i s))) (sym e) (All-nil (SectionThunkApart l l.primary_part (get_or (all_sections l) i s)));
       behind = λ g gs p is there. (let later = flat_map-none (thunks_in l) gs (λ h. flat_map-none (thunks_of l) h.files (no_thunks l none)) in
@@ -101,7 +101,7 @@ some_stand l h p is fits placed =
       stood = λ written. (
           let here : is_header_only_at l p.section ≡ false = sym (ap (λ (o : Option Part). is_header_only_at l (section_of_part o)) is) ∙ written in
           let takes = and_from (has_data l p.section) (not (is_header_only_at l p.section)) b.0 (rw here refl) in
-          All-weaker (LiesFrom p.address (p.address + p.size)) (ThunkStood l) (λ t f. record { part = p; room = record { listed = is; raw = raw_role p p.role refl a.0; takes = takes; from = f.from; to = f.to }; allocated = b.1 }) (all_thunks l) r.within
+          All-weaker (LiesFrom p.address (p.address + p.size)) (ThunkIsInPart l) (λ t f. record { part = p; room = record { listed = is; raw = raw_role p p.role refl a.0; takes = takes; from = f.from; to = f.to }; allocated = b.1 }) (all_thunks l) r.within
           );
       ascend = r.ascend;
       beside = r.beside;
@@ -124,12 +124,12 @@ ThunksStand-from_clauses l h =
 -- ---- their pieces, unless nothing of their part is written
 
 abbrev pub pieces_of_thunks : Layout → List Piece
-pieces_of_thunks l = unless_hollow l l.primary_part (flat_map (thunk_piece l) (all_thunks l))
+pieces_of_thunks l = unless_omitted l l.primary_part (flat_map (thunk_piece l) (all_thunks l))
 
 abbrev pub thunk_at : Layout → Thunk → Piece
 thunk_at l t = record { at = thunk_offset l t; bytes = thunk_bytes l t }
 
-pub thunk_room : (l : Layout) (t : Thunk) (st : ThunkStood l t) → HasRoom l l.primary_part t.address (length (thunk_bytes l t)) st.part
+pub thunk_room : (l : Layout) (t : Thunk) (st : ThunkIsInPart l t) → HasRoom l l.primary_part t.address (length (thunk_bytes l t)) st.part
 thunk_room l t st = subst (λ (n : ℕ). HasRoom l l.primary_part t.address n st.part) (sym (length-thunk_bytes l t)) st.room
 
 pub each_thunk : (l : Layout) (P : Piece → Type 0) → (is_header_only_part l l.primary_part ≡ false → All (λ t. P (thunk_at l t)) (all_thunks l)) → All P (pieces_of_thunks l)
@@ -152,12 +152,12 @@ thunks_apart l f h =
         let b = h.stood written j t m in
         owners_apart l f l.primary_part l.primary_part x.address y.address (thunk_bytes l x) (thunk_bytes l y) a.part b.part (thunk_room l x a) (thunk_room l y b) (λ e. inl (let n = length-thunk_bytes l x in let o = h.ascend i j t lt m in omega arith))
 
-pub thunk_in_image : (l : Layout) (t : Thunk) → ThunkStood l t → thunk_offset l t + thunk_size ≤ image_size l
+pub thunk_in_image : (l : Layout) (t : Thunk) → ThunkIsInPart l t → thunk_offset l t + thunk_size ≤ image_size l
 thunk_in_image l t st = owner_ends l (EndsBy-image l) l.primary_part t.address thunk_size st.part st.room (omega arith)
 
 -- ---- thunks of a layout that is laid out
 
-thunk_lies : (l : Layout) → AllClausesHold l → is_partial_link l.kind ≡ false → (t : Thunk) → ThunkStood l t → ThunkLies l t
+thunk_lies : (l : Layout) → AllClausesHold l → is_partial_link l.kind ≡ false → (t : Thunk) → ThunkIsInPart l t → ThunkLies l t
 thunk_lies l h kind t st =
     let p = st.part in
     let from = st.room.from in
@@ -190,7 +190,7 @@ pub thunks_lie : (l : Layout) → AllClausesHold l → ThunksStand l → is_head
 thunks_lie l h st written =
     elim (cases_Bool (is_partial_link l.kind)) [
       | inl partial ↦ (λ i g m j f n. subst (λ (ts : List Thunk). All (ThunkLies l) ts) (sym (no_thunks l (none_in_partial l h partial) (get_or (get_or l.groups i g).files j f))) (All-nil (ThunkLies l)))
-      | inr kind ↦ (λ i g m. All-from_flat_map (ThunkLies l) (thunks_of l) (get_or l.groups i g).files (All-from_flat_map (ThunkLies l) (thunks_in l) l.groups (All-weaker (ThunkStood l) (ThunkLies l) (thunk_lies l h kind) (all_thunks l) (st.stood written)) i g m))
+      | inr kind ↦ (λ i g m. All-from_flat_map (ThunkLies l) (thunks_of l) (get_or l.groups i g).files (All-from_flat_map (ThunkLies l) (thunks_in l) l.groups (All-weaker (ThunkIsInPart l) (ThunkLies l) (thunk_lies l h kind) (all_thunks l) (st.stood written)) i g m))
     ]
 
 -- ---- blocks

@@ -18,7 +18,7 @@ use Rattle.wild_placement.specs.ReversedWords.{with_word_order}
 use Rattle.wild_placement.specs.PlacedSections.{as_loaded, unread, sorted_input}
 use Rattle.wild_layout.specs.Sites.{section_bytes}
 use Rattle.wild_layout.specs.Thunks.{thunk_bytes, file_thunks}
-use Rattle.wild_layout.specs.Image.{offset_in, unless_hollow, section_piece, thunk_offset, thunk_piece}
+use Rattle.wild_layout.specs.Image.{offset_in, unless_omitted, section_piece, thunk_offset, thunk_piece}
 use Rattle.std.proofs.lemmas.Bool.{cases_Bool}
 use Rattle.wild_image.specs.Pieces.{placed_in_range, has_room, ranged_room, place_in, section_owned, ranged_owned, sorted_owned, in_part, owned_in, ranged_in, sorted_in}
 use Rattle.wild_image.specs.Owners.{ranged_piece, sorted_pieces}
@@ -194,12 +194,12 @@ thunk_appended l t at own out next is bytes e = e ∙ ap (λ (n : ℕ). place n 
 
 -- the thunks of a file that are written
 abbrev pub thunks_written : Layout → File → List ℕ
-thunks_written l f = unless_hollow l l.primary_part (file_thunks l f)
+thunks_written l f = unless_omitted l l.primary_part (file_thunks l f)
 
-pub none_written : {X : Type 0} (l : Layout) (part : ℕ) (xs : List X) → is_header_only_part l part ≡ true → unless_hollow l part xs ≡ []
+pub none_written : {X : Type 0} (l : Layout) (part : ℕ) (xs : List X) → is_header_only_part l part ≡ true → unless_omitted l part xs ≡ []
 none_written l part xs header_only = ap (λ (b : Bool). if b then [] else xs) header_only
 
-pub all_written : {X : Type 0} (l : Layout) (part : ℕ) (xs : List X) → is_header_only_part l part ≡ false → unless_hollow l part xs ≡ xs
+pub all_written : {X : Type 0} (l : Layout) (part : ℕ) (xs : List X) → is_header_only_part l part ≡ false → unless_omitted l part xs ≡ xs
 all_written l part xs written = ap (λ (b : Bool). if b then [] else xs) written
 
 -- ---- what stands one behind the other

@@ -28,7 +28,7 @@ use Rattle.wild_placement.specs.ReversedWords.{with_word_order, reversed_section
 use Rattle.wild_placement.specs.FrameInputs.{frames_of, kept_size}
 use Rattle.wild_placement.specs.PlacedSections.{Input, as_loaded, without_relocations, unread, rela_with_target, origins_of, placed_by, placed_section, placed_sections, placed_file, placed_from, placed_files, address_after, file_frames, frames_at, sorted_input, of_last_file}
 use Rattle.wild_placement.specs.PlacedInputs.{PlacedContent, placed_content, sorted_content, frame_faults}
-use Rattle.wild_layout.specs.Image.{unless_hollow}
+use Rattle.wild_layout.specs.Image.{unless_omitted}
 use Rattle.wild_layout.specs.Sites.{item_bytes, section_bytes, MovesApart}
 use Rattle.wild_layout.proofs.PartialLemmas.{section_bytes_zeros}
 use Rattle.wild_layout.specs.Content.{frame_bytes_of, frames_bytes, end_of_frames}
@@ -339,7 +339,7 @@ file_owned_by l at f old one two a b =
     b ∙ ap (λ (ys : List ℕ). ys ++ behind) (a ∙ ap (λ (ys : List ℕ). old ++ ys) (owned_ranged l at f)) ∙ append_assoc old (file_sections l f) behind
   where
     behind : List ℕ
-    behind = trailer_bytes l f ++ unless_hollow l l.primary_part (file_thunks l f)
+    behind = trailer_bytes l f ++ unless_omitted l l.primary_part (file_thunks l f)
 
 pub file_frames_by : (l : Layout) (at : ℕ) (f : File) (old one two : List ℕ) → one ≡ old ++ flat_map (frame_bytes_of l f) (placed_sections l f at f.sections) → two ≡ one ++ of_last_file f (end_of_frames l) → two ≡ old ++ frames_bytes l (placed_file l at f)
 unfolding frames_bytes frame_bytes_of

@@ -31,7 +31,7 @@ use Rattle.wild_placement.specs.ReversedWords.{with_word_order}
 use Rattle.wild_placement.specs.PlacedSections.{Input, placed_section, sorted_input, of_last_file}
 use Rattle.wild_layout.specs.Sites.{section_bytes}
 use Rattle.wild_layout.specs.Content.{content}
-use Rattle.wild_layout.specs.Image.{offset_in, unless_hollow, merged_bytes, of_first_file}
+use Rattle.wild_layout.specs.Image.{offset_in, unless_omitted, merged_bytes, of_first_file}
 use Rattle.wild_layout.specs.Thunks.{thunk_bytes, file_thunks}
 
 -- the role of a part; raw if there is no such part
@@ -41,7 +41,7 @@ role_of (Some p) = p.role
 
 -- what a group contributes to a part
 abbrev pub group_given : Layout → ℕ → Group → List ℕ
-group_given l part g = unless_hollow l part (content l (role_of (slice_get l.parts part)) g)
+group_given l part g = unless_omitted l part (content l (role_of (slice_get l.parts part)) g)
 
 -- ---- bytes of files, consecutively
 
@@ -103,7 +103,7 @@ trailer_bytes l f = of_last_file f (all_sorted l) ++ of_first_file f (merged_and
 
 -- the bytes of a file: its input sections, then what only the last or the first file has, then its thunks
 abbrev pub file_bytes : Layout → File → List ℕ
-file_bytes l f = file_sections l f ++ (trailer_bytes l f ++ unless_hollow l l.primary_part (file_thunks l f))
+file_bytes l f = file_sections l f ++ (trailer_bytes l f ++ unless_omitted l l.primary_part (file_thunks l f))
 
 -- the bytes of a group's files, in the order of processing
 unfoldable pub group_files : Layout → Group → List ℕ
@@ -148,7 +148,7 @@ all_sorted_in l part = flat_map (sorted_in l part) l.sorted
 
 -- bytes at the front of a part
 abbrev pub front_in : Layout → ℕ → ℕ → List ℕ → List ℕ
-front_in l part k bs = unless_hollow l k (in_part part k bs)
+front_in l part k bs = unless_omitted l k (in_part part k bs)
 
 -- merged strings, and the identity
 abbrev pub merged_in : Layout → ℕ → Merged → List ℕ
@@ -162,7 +162,7 @@ abbrev pub thunk_in : Layout → ℕ → Thunk → List ℕ
 thunk_in l part t = if l.primary_part == part then thunk_bytes l t else []
 
 abbrev pub thunks_in : Layout → ℕ → File → List ℕ
-thunks_in l part f = unless_hollow l l.primary_part (flat_map (thunk_in l part) (thunks_of l f))
+thunks_in l part f = unless_omitted l l.primary_part (flat_map (thunk_in l part) (thunks_of l f))
 
 -- what only the last or only the first file has
 abbrev pub trailer_in : Layout → ℕ → File → List ℕ

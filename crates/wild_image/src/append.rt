@@ -11,7 +11,7 @@ ghost use Rattle.wild_placement.specs.PlacedSections.{of_last_file};
 ghost use Rattle.wild_types.specs.Lookups.{image_size, is_header_only_at, is_header_only_part};
 ghost use Rattle.wild_types.specs.FilePlaces.{given};
 ghost use Rattle.wild_types.specs.FileThunks.{thunks_of};
-ghost use Rattle.wild_layout.specs.Image.{unless_hollow, merged_bytes, front_piece, merged_and_identity_pieces, thunk_piece, thunk_pieces, of_first_file, shares_before, table_piece, table_pieces, group_pieces};
+ghost use Rattle.wild_layout.specs.Image.{unless_omitted, merged_bytes, front_piece, merged_and_identity_pieces, thunk_piece, thunk_pieces, of_first_file, shares_before, table_piece, table_pieces, group_pieces};
 ghost use Rattle.wild_layout.specs.SectionPlaces.{FrontLies};
 ghost use Rattle.wild_layout.specs.ThunkPlaces.{ThunkLies};
 ghost use Rattle.wild_layout.specs.Thunks.{thunk_bytes, file_thunks};
@@ -309,9 +309,9 @@ fn append_all_thunks<'b>(layout: &Layout, file: &File, bytes: &'b [u8], out: &mu
 fn append_thunks<'b>(layout: &Layout, file: &File, bytes: &'b [u8], out: &mut [u8]) -> &'b [u8]
     requires lies { is_header_only_part layout.now layout.now.primary_part ≡ false → All (ThunkLies layout.now) (thunks_of layout.now file.now) }
     requires room { (length out.old ≡ image_size layout.now) × (image_size layout.now ≤ 2 ^ 62) }
-    requires own { BeginsWith (unless_hollow layout.now layout.now.primary_part (file_thunks layout.now file.now)) bytes.now }
+    requires own { BeginsWith (unless_omitted layout.now layout.now.primary_part (file_thunks layout.now file.now)) bytes.now }
     ensures image { out.new ≡ overlay (thunk_pieces layout.now file.now) out.old }
-    ensures rest { HasRest (unless_hollow layout.now layout.now.primary_part (file_thunks layout.now file.now)) bytes.now result.now }
+    ensures rest { HasRest (unless_omitted layout.now layout.now.primary_part (file_thunks layout.now file.now)) bytes.now result.now }
 {
     if layout.is_header_only_part(layout.primary_part) {
         return bytes;

@@ -9,7 +9,7 @@ ghost use Rattle.wild_layout.specs.Thunks.{thunk_bytes, file_thunks};
 ghost use Rattle.std.specs.List.{flat_map};
 ghost use Rattle.wild_types.specs.FileRoles.{is_prelude, is_epilogue};
 ghost use Rattle.wild_placement.specs.PlacedSections.{of_last_file};
-ghost use Rattle.wild_layout.specs.Image.{unless_hollow, merged_bytes, of_first_file};
+ghost use Rattle.wild_layout.specs.Image.{unless_omitted, merged_bytes, of_first_file};
 ghost use Rattle.wild_image.specs.Append.{BeginsWith, HasRest, GivesItsShares, RangedLies, SortedLies, SomeLies, MergedLies, FileLies};
 ghost use Rattle.wild_image.specs.Pieces.{table_given, front_in, file_sections, sorted_owned, all_sorted, merged_and_identity_bytes, trailer_bytes, file_bytes, group_tables, group_files, in_part, sections_owned, sorted_in, all_sorted_in, merged_in, merged_and_identity_in, trailer_in, thunk_in, thunks_in, file_owned, group_owned, group_parts};
 
@@ -333,9 +333,9 @@ fn split_thunks<'b>(
 ) -> Result<&'b [u8], AllocError>
     requires lies { is_header_only_part layout.now layout.now.primary_part ≡ false → All (ThunkLies layout.now) (thunks_of layout.now file.now) }
     requires room { length parts.old ≡ length layout.now.parts }
-    requires own { BeginsWith (unless_hollow layout.now layout.now.primary_part (file_thunks layout.now file.now)) bytes.now }
+    requires own { BeginsWith (unless_omitted layout.now layout.now.primary_part (file_thunks layout.now file.now)) bytes.now }
     ensures owned { OnOk result ((k : ℕ) → k < length parts.old → slice_index_or parts.new k [] ≡ slice_index_or parts.old k [] ++ thunks_in layout.now k file.now) }
-    ensures rest { IfOk result (λ r. HasRest (unless_hollow layout.now layout.now.primary_part (file_thunks layout.now file.now)) bytes.now r.now) }
+    ensures rest { IfOk result (λ r. HasRest (unless_omitted layout.now layout.now.primary_part (file_thunks layout.now file.now)) bytes.now r.now) }
 {
     if layout.is_header_only_part(layout.primary_part) {
         return Ok(bytes);

@@ -246,13 +246,13 @@ rewritten_is_narrow l s i r row v (inr w) wide =
     other_width (row_width (aarch64_row row.number)) narrow (on_aarch64 l.machine row.number w.chosen.machine (width_on l.machine r.number row.number w.chosen.number wide))
 
 -- a word of n bytes, counted from the end
-record IsTurned (n : ℕ) (m : MovedPiece) : Type 0 where
+record IsReversedWord (n : ℕ) (m : MovedPiece) : Type 0 where
   long : length m.piece.bytes ≡ 8
   here : m.piece.at ≡ m.to
   to : m.to ≡ n - m.from - 8
   within : m.from + 8 ≤ n
 
-turned_both : (n : ℕ) (x y : MovedPiece) → IsTurned n x → IsTurned n y → SharesNothing (there x) (there y) → SharesNothing (here x) (here y)
+turned_both : (n : ℕ) (x y : MovedPiece) → IsReversedWord n x → IsReversedWord n y → SharesNothing (there x) (there y) → SharesNothing (here x) (here y)
 turned_both n x y p q nothing =
     let a = p.long in
     let b = p.here in
@@ -267,7 +267,7 @@ turned_both n x y p q nothing =
       | inr t ↦ beside-nothing (here x) (here y) (inl (omega (arith, a, b, c, d, e, f, g, h, t)))
     ]
 
-turned_back : (n : ℕ) (x y : MovedPiece) → IsTurned n x → IsTurned n y → SharesNothing (here x) (here y) → SharesNothing (there x) (there y)
+turned_back : (n : ℕ) (x y : MovedPiece) → IsReversedWord n x → IsReversedWord n y → SharesNothing (here x) (here y) → SharesNothing (there x) (there y)
 turned_back n x y p q nothing =
     let a = p.long in
     let b = p.here in
@@ -295,7 +295,7 @@ origin_of n origins i r h = by_origin (slice_get origins i) refl (sym (slice_get
     by_origin (Some o) e h = let is : r ≡ reversed_offset n o = cc in record { origin = o; listed = e; is = is }
 
 words_apart : (l : Layout) (s : Item) (n : ℕ) (origins : List InputRelocation) → s.relocations ≡ map (reversed_offset n) origins → All (IsWord l.machine n) origins → MovesApart l s origins
-words_apart l s n origins moved words = moves_by l s origins (IsTurned n) count (each_moved l s origins (IsTurned n) plain each) (turned_both n) (turned_back n)
+words_apart l s n origins moved words = moves_by l s origins (IsReversedWord n) count (each_moved l s origins (IsReversedWord n) plain each) (turned_both n) (turned_back n)
   where
     count : length origins ≡ length s.relocations
     count = sym (length-map origins (reversed_offset n)) ∙ ap length (sym moved)
@@ -308,7 +308,7 @@ words_apart l s n origins moved words = moves_by l s origins (IsTurned n) count 
         let o = from i x.relocation x.listed in
         rewritten_is_narrow l s i x.relocation x.row x.value x.rewritten (ap (λ (r : InputRelocation). field_bytes l.machine r.number) o.is ∙ (holds_at (IsWord l.machine n) origins i o.origin o.listed words).wide)
 
-    each : (i : ℕ) (r : InputRelocation) → slice_get s.relocations i ≡ Some r → (o : InputRelocation) × (slice_get origins i ≡ Some o) × (r.number ≡ o.number) × ((m : MovedPiece) → m.to ≡ r.offset → IsMovedField l o m → IsTurned n m)
+    each : (i : ℕ) (r : InputRelocation) → slice_get s.relocations i ≡ Some r → (o : InputRelocation) × (slice_get origins i ≡ Some o) × (r.number ≡ o.number) × ((m : MovedPiece) → m.to ≡ r.offset → IsMovedField l o m → IsReversedWord n m)
     each i r listed =
         let o = from i r listed in
         let w = holds_at (IsWord l.machine n) origins i o.origin o.listed words in (

@@ -158,12 +158,12 @@ own_entry l i n false partial laid h =
 -- ---- values
 
 -- a number's value, and what it has to be
-record IsTold (k : Link) (l : Layout) (n v : ℕ) : Type 0 where
+record IsLinkedNumber (k : Link) (l : Layout) (n v : ℕ) : Type 0 where
   told : ℕ
   number : IsNumberOf k l n told
   same : told % 2 ^ 64 ≡ v % 2 ^ 64
 
-entry_told : (k : Link) (l : Layout) (n v : ℕ) (e : NamedEntry) → IsEntry l n e → entry_value k e % 2 ^ 64 ≡ v % 2 ^ 64 → IsTold k l n v
+entry_told : (k : Link) (l : Layout) (n v : ℕ) (e : NamedEntry) → IsEntry l n e → entry_value k e % 2 ^ 64 ≡ v % 2 ^ 64 → IsLinkedNumber k l n v
 entry_told k l n v e h same = record { told = entry_value k e; number = OfEntry e h.some h.there refl; same = same }
 
 fields_told : (l : Layout) (f : File) (x : TableSymbol) (i : ℕ) (s : Symbol) (fields : TableFields) → x.named ≡ named.Itself → x.index ≡ i → x.symbol ≡ s → table_fields l f x ≡ Ok fields → table_by l i f.role s (output_section l (Some f) s.place) ≡ Ok fields
@@ -193,7 +193,7 @@ value_told k l f i v s x fields partial laid plain listed filed itself symbol to
     ap (λ (g : TableFields). entry_value k (entry_with x g) % 2 ^ 64) (sym made) ∙ ap (λ (bs : List ℕ). k.outside bs % 2 ^ 64) name ∙ ap (λ (n : ℕ). n % 2 ^ 64) (sym is)
 
 -- the own entry of a symbol of the input has its value
-symbol_told : (k : Link) (l : Layout) (i n v : ℕ) (s : Symbol) → TableSymbolsHaveFields → errors l ≡ [] → is_partial_link l.kind ≡ true → IsLaidOut l → slice_get l.symbols i ≡ Some s → ((f : File) → file_of (files_of l.groups) i ≡ Some f → is_library f.role ≡ false) → HasValue k l i s v → IsOwnEntry l i n → IsTold k l n v
+symbol_told : (k : Link) (l : Layout) (i n v : ℕ) (s : Symbol) → TableSymbolsHaveFields → errors l ≡ [] → is_partial_link l.kind ≡ true → IsLaidOut l → slice_get l.symbols i ≡ Some s → ((f : File) → file_of (files_of l.groups) i ≡ Some f → is_library f.role ≡ false) → HasValue k l i s v → IsOwnEntry l i n → IsLinkedNumber k l n v
 symbol_told k l i n v s law none partial laid listed plain has e =
     let known = own_known l e.file e.item e.listed i e.own in
     let group = Contains-from_flat_map (λ (g : Group). g.files) l.groups e.file e.filed in

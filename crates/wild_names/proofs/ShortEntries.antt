@@ -34,7 +34,7 @@ abbrev IsShort : TableFields → Type 0
 IsShort t = (t.fields.section ≡ shn_xindex → ⊥) → t.long ≡ 0
 
 -- so it is of what is told of a symbol, and of one that lacks something
-pub record IsTold (r : Result TableFields Fault) : Type 0 where
+pub record HasShortIndex (r : Result TableFields Fault) : Type 0 where
   pub short : IsShort (table_fields_or_null r)
 
 abbrev split_by : ℕ → Bool → ℕ × ℕ
@@ -44,38 +44,38 @@ short_split : (k : ℕ) (b : Bool) → ((split_by k b).0 ≡ shn_xindex → ⊥)
 short_split k true n = refl
 short_split k false n = absurd (n refl)
 
-told_if : (b : Bool) (x y : Result TableFields Fault) → IsTold x → IsTold y → IsTold (if b then x else y)
+told_if : (b : Bool) (x y : Result TableFields Fault) → HasShortIndex x → HasShortIndex y → HasShortIndex (if b then x else y)
 told_if true x y h k = h
 told_if false x y h k = k
 
-section_of_entry : (i : ℕ) (section : Option ℕ) (value : ℕ) (a : SymbolAttributes) → IsTold (in_table_section i section value a)
+section_of_entry : (i : ℕ) (section : Option ℕ) (value : ℕ) (a : SymbolAttributes) → HasShortIndex (in_table_section i section value a)
 section_of_entry i None value a = record { short = λ n. refl }
 section_of_entry i (Some k) value a = record { short = short_split k (nat_lt k shn_loreserve) }
 
-told_address : (l : Layout) (i : ℕ) (s : Symbol) (section value : Option ℕ) (a : SymbolAttributes) → IsTold (at_address l i s section value a)
+told_address : (l : Layout) (i : ℕ) (s : Symbol) (section value : Option ℕ) (a : SymbolAttributes) → HasShortIndex (at_address l i s section value a)
 told_address l i s section None a = record { short = λ n. refl }
 told_address l i s section (Some v) a = section_of_entry i section (counted_from l s v) a
 
-told_placed : (l : Layout) (i : ℕ) (r : FileRole) (s : Symbol) (section : Option ℕ) → IsTold (table_placed l i r s section)
+told_placed : (l : Layout) (i : ℕ) (r : FileRole) (s : Symbol) (section : Option ℕ) → HasShortIndex (table_placed l i r s section)
 told_placed l i r s section =
     let stubs = part_section (part_with role.PltGot l.parts) in
     let function = with_function (table_attributes r s) in
     let own = table_attributes r s in
     told_if (has_stub_address l s) (in_table_section i stubs (stub_or_zero s) function) (at_address l i s section (table_value l i s) own) (section_of_entry i stubs (stub_or_zero s) function) (told_address l i s section (table_value l i s) own)
 
-told_at : (l : Layout) (i : ℕ) (r : FileRole) (s : Symbol) (section : ℕ) (p : Place) → IsTold (table_at l i r s section p)
+told_at : (l : Layout) (i : ℕ) (r : FileRole) (s : Symbol) (section : ℕ) (p : Place) → HasShortIndex (table_at l i r s section p)
 told_at l i r s section at.Undefined = record { short = λ n. refl }
 told_at l i r s section at.Absolute = record { short = λ n. refl }
 told_at l i r s section at.Common = told_placed l i r s (common_section l s)
 told_at l i r s section (at.Output k) = told_placed l i r s (Some (first_or k))
 told_at l i r s section (at.Section k) = told_placed l i r s (some_section section)
 
-told_canonical : (i : ℕ) (r : FileRole) (s : Symbol) (p : Place) (stub : Option ℕ) → IsTold (table_canonical i r s p stub)
+told_canonical : (i : ℕ) (r : FileRole) (s : Symbol) (p : Place) (stub : Option ℕ) → HasShortIndex (table_canonical i r s p stub)
 told_canonical i r s at.Undefined stub = record { short = λ n. refl }
 told_canonical i r s other None = record { short = λ n. refl }
 told_canonical i r s other (Some stub) = record { short = λ n. refl }
 
-told_by : (l : Layout) (i : ℕ) (r : FileRole) (s : Symbol) (section : ℕ) → IsTold (table_by l i r s section)
+told_by : (l : Layout) (i : ℕ) (r : FileRole) (s : Symbol) (section : ℕ) → HasShortIndex (table_by l i r s section)
 told_by l i r s section =
     let stub = table_canonical i r s s.place (plt_of s) in
     let copied = at_address l i s (section_named l (codes ".bss")) (raw_value l i) (table_attributes r s) in
@@ -84,13 +84,13 @@ told_by l i r s section =
     let other = told_if (is_library r && has_flag s.flags copy_relocation) copied placed copy (told_at l i r s section s.place) in
     told_if (is_library r && has_flag s.flags canonical_plt) stub (if is_library r && has_flag s.flags copy_relocation then copied else placed) (told_canonical i r s s.place (plt_of s)) other
 
-told_of : (l : Layout) (f : File) (x : SymtabName) (i : ℕ) (s : Symbol) → IsTold (fields_of l f x i s)
+told_of : (l : Layout) (f : File) (x : SymtabName) (i : ℕ) (s : Symbol) → HasShortIndex (fields_of l f x i s)
 told_of l f named.Itself i s = told_by l i f.role s (output_section l (Some f) s.place)
 told_of l f named.Slot i s = section_of_entry i (part_section (part_with (slot_role l s) l.parts)) (unwrap_or (got_of s) 0) no_attributes
 told_of l f named.Stub i s = section_of_entry i (part_section (part_with role.PltGot l.parts)) (unwrap_or (plt_of s) 0) no_attributes
 told_of l f (named.Thunk a) i s = section_of_entry i (part_section (slice_get l.parts l.primary_part)) a thunk_attributes
 
-told : (l : Layout) (f : File) (x : TableSymbol) → IsTold (table_fields l f x)
+told : (l : Layout) (f : File) (x : TableSymbol) → HasShortIndex (table_fields l f x)
 unfolding table_fields
 told l f x = told_of l f x.named x.index x.symbol
 

@@ -28,7 +28,7 @@ use Rattle.wild_relax.specs.declared.row.ValueTest.{ValueTest}
 use Rattle.wild_relax.specs.declared.row.ValueTest.TheVariants as value
 use Rattle.wild_relax.specs.declared.table.TheConstants.{PLT}
 use Rattle.wild_relax.specs.FirstRow.{first_standing, row_or_fault}
-use Rattle.wild_relax.specs.Pattern.{stands_before, cells_match_at}
+use Rattle.wild_relax.specs.Pattern.{pattern_matches_before, cells_match_at}
 use Rattle.wild_relax.specs.Question.{Question, relocation_of, minus_four}
 use Rattle.wild_relax.specs.Relaxation.{chosen_row_of}
 use Rattle.wild_relax.specs.RowSequences.{has_its_sequence}
@@ -75,8 +75,8 @@ or_true : (b : Bool) → (b || true) ≡ true
 or_true true = refl
 or_true false = refl
 
-nothing_stands : (bs : List ℕ) (o : ℕ) → o ≤ length bs → stands_before bs o pattern.Nothing ≡ true
-unfolding stands_before cells_match_at
+nothing_stands : (bs : List ℕ) (o : ℕ) → o ≤ length bs → pattern_matches_before bs o pattern.Nothing ≡ true
+unfolding pattern_matches_before cells_match_at
 nothing_stands bs o h = and_from _ _ (le-leb 0 o (omega arith)) (and_from _ _ (le-leb _ _ (omega (arith, h))) refl)
 
 asked_on : (q : Question) → (q.relax ≡ true) ⊎ (is_static_executable q.kind ≡ true) → (q.relax || is_mandatory duty.Static q) ≡ true
@@ -108,8 +108,8 @@ plain_applies q row n p a = and_from _ _ (and_from _ _ (and_from _ _ (and_from _
     addend : (not row.ends || minus_four (relocation_of q).addend) ≡ true
     addend = subst (λ (b : Bool). (not b || minus_four (relocation_of q).addend) ≡ true) (sym p.ends) refl
 
-    bytes : (row.ignores_bytes || stands_before q.bytes (relocation_of q).offset row.required_bytes) ≡ true
-    bytes = subst (λ (t : Pattern). (row.ignores_bytes || stands_before q.bytes (relocation_of q).offset t) ≡ true) (sym p.required_bytes) (subst (λ (b : Bool). (row.ignores_bytes || b) ≡ true) (sym (nothing_stands q.bytes (relocation_of q).offset a.room)) (or_true row.ignores_bytes))
+    bytes : (row.ignores_bytes || pattern_matches_before q.bytes (relocation_of q).offset row.required_bytes) ≡ true
+    bytes = subst (λ (t : Pattern). (row.ignores_bytes || pattern_matches_before q.bytes (relocation_of q).offset t) ≡ true) (sym p.required_bytes) (subst (λ (b : Bool). (row.ignores_bytes || b) ≡ true) (sym (nothing_stands q.bytes (relocation_of q).offset a.room)) (or_true row.ignores_bytes))
 
 words_apply : (q : Question) (row : Row) (n : ℕ) → IsPlainRow row n → IsPlain q n → applies_aarch64 q row ≡ true
 words_apply q row n p a = and_from _ _ (plain_applies q row n p a) (subst (λ (t : Pattern). has_around q t ≡ true) (sym p.required_bytes) refl)

@@ -168,7 +168,7 @@ pair_sort other h = cc
 abbrev NamesOperand : Instruction → Type 0
 NamesOperand o = (a : ℕ) (bs : List ℕ) → (o.template.action a bs).operand ≡ operand_by o.sort (named_by o a bs)
 
-pub record IsTold (o : Instruction) : Type 0 where
+pub record IsReadInstruction (o : Instruction) : Type 0 where
   pub operand : NamesOperand o
   pub numbers : (n : ℕ) → Contains o.numbers n → HasFormula o.sort n
   pub width : WidthIs o.sort o.width
@@ -192,7 +192,7 @@ is_told o =
 each_told : list_all is_told (instructions_of machine.X86_64) ≡ true
 each_told = refl
 
-pub told_of : (o : Instruction) → Contains (instructions_of machine.X86_64) o → IsTold o
+pub told_of : (o : Instruction) → Contains (instructions_of machine.X86_64) o → IsReadInstruction o
 told_of o listed =
     let a = and_parts _ _ (listed_passes is_told (instructions_of machine.X86_64) o each_told listed) in
     let b = and_parts _ _ a.1 in

@@ -243,8 +243,8 @@ front_short [] (d ∷ ds) h = cc
 front_short (c ∷ cs) (d ∷ ds) h = let r = front_short cs ds (and_parts (same_cell c d) (same_front cs ds) h).1 in omega (arith, r)
 
 -- it stands before the field
-pub asked_before : (n : ℕ) (p : Pattern) (o : Instruction) (bytes : List ℕ) (start offset : ℕ) → IsAskedFor n p o → offset ≡ start + o.field → start + size_of o ≤ length bytes → matches_cells o.template.cells (slice_range bytes start (start + size_of o)) ≡ true → pattern_fits.stands_before bytes offset p ≡ true
-unfolding pattern_fits.stands_before pattern_fits.cells_match_at
+pub asked_before : (n : ℕ) (p : Pattern) (o : Instruction) (bytes : List ℕ) (start offset : ℕ) → IsAskedFor n p o → offset ≡ start + o.field → start + size_of o ≤ length bytes → matches_cells o.template.cells (slice_range bytes start (start + size_of o)) ≡ true → pattern_fits.pattern_matches_before bytes offset p ≡ true
+unfolding pattern_fits.pattern_matches_before pattern_fits.cells_match_at
 asked_before n p o bytes start offset asked at inside h =
     let field = asked.field in
     let from : offset - field_of p ≡ start = omega (arith, at, field) in

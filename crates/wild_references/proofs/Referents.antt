@@ -39,7 +39,7 @@ use Rattle.wild_geometry.proofs.JudgedLemmas.{flag_is}
 use Rattle.wild_references.specs.Terms.{IsPlaced, page_mask, is_mask, is_table, is_expressed, value_by_row, IsDirect, HasTerm, IsFollowed}
 use Rattle.wild_references.proofs.StubCode.{StubLaws}
 use Rattle.wild_references.proofs.Symbols.{flag_at}
-use Rattle.wild_references.proofs.Targets.{Follows, Stands, addressed, one_addressed, linked}
+use Rattle.wild_references.proofs.Targets.{Follows, StubIsWritten, addressed, one_addressed, linked}
 use Rattle.wild_references.proofs.MergedStrings.{names_none, plain_address, string_found, string_named, strings_move, absent_none, replaceable_none, IsFor, OfStrings, OfSymbol, address_is_for}
 use Rattle.wild_layout.specs.Merged.{merged_strings, address_for}
 use Rattle.wild_meaning.specs.Strings.{NamesStrings}
@@ -260,7 +260,7 @@ refers law l w m s r info x h symbol takes f = by_own (weak_resolves_to_place l.
     v : Value
     v = value_by_row info
 
-    stands : (i : ℕ) → r.symbol ≡ Some i → Stands l i
+    stands : (i : ℕ) → r.symbol ≡ Some i → StubIsWritten l i
     stands i named = elim h.present [ inl all ↦ inl all | inr direct ↦ inr (subst (λ (t : Term). IsDirect l r info t) symbol direct takes i named) ]
 
     by_for : weak_resolves_to_place l.machine l r info ≡ false → address_for l r ≡ Ok h.term → IsFor l r h.term → Refers v l w m s r h.term

@@ -30,7 +30,7 @@ use Rattle.wild_references.specs.EffectLaws.{IsLocatedAt}
 use Rattle.wild_references.proofs.OmittedSequences.{beside_slot}
 use Rattle.wild_references.proofs.OmittedReferences.{all_or_bare, keeps_all}
 use Rattle.wild_references.proofs.SequencesAArch64.{part_of}
-use Rattle.wild_references.proofs.Targets.{Stands}
+use Rattle.wild_references.proofs.Targets.{StubIsWritten}
 use Rattle.wild_references.proofs.WordWindows.{word_here}
 use Rattle.wild_references.proofs.RewrittenRuns.{run_of, IsRewrittenWord, IsRunThere, run_there}
 use Rattle.wild_references.proofs.RewrittenSequences.{StandsAlone, run_size, IsJudgedRun, of_run, judged_run}
@@ -86,7 +86,7 @@ word_holds laws l w m s g i r row v has present = by t.word.sequence refl t.ther
     all c j = keeps_all l (λ bare. present (bare, inr (inl (inr (beside_slot l s r c.start descriptor_call_words j.first g.on (of_run l s r DescriptorCall c.start c.index j) (inl refl))))))
 
     -- and so is an address that is a stub's
-    stands : (c : IsRunThere l s i r row Address t.word.word) → IsJudgedRun l s r Address c.start c.index → Stands l t.word.symbol
+    stands : (c : IsRunThere l s i r row Address t.word.word) → IsJudgedRun l s r Address c.start c.index → StubIsWritten l t.word.symbol
     stands c j =
         let part = part_of l s r c.start j.first (of_run l s r Address c.start c.index j) in
         elim (all_or_bare l) [

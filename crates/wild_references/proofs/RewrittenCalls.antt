@@ -22,7 +22,7 @@ use Rattle.wild_relax.specs.declared.pattern.Pattern.{Pattern}
 use Rattle.wild_relax.specs.declared.pattern.Pattern.TheVariants as pattern
 use Rattle.wild_relax.specs.declared.table.TheConstants.{GENERAL_NO_PLT, GENERAL_NO_PLT_SLOT, LOCAL_NO_PLT}
 use Rattle.wild_relax.specs.Pattern as writer
-use Rattle.wild_relax.specs.Pattern.{stands_before, cells_match_at}
+use Rattle.wild_relax.specs.Pattern.{pattern_matches_before, cells_match_at}
 use Rattle.wild_relax.specs.Rows.{applies}
 use Rattle.wild_layout.specs.Choice.{question_of}
 use Rattle.wild_loader.specs.Instruction as judge
@@ -133,9 +133,9 @@ front bs a k n h =
     rw (e, f) (take-take k n (drop a bs) h)
 
 -- a pattern with its field stands where the first cells of an instruction do
-pub cells_match_before : (cs : List judge-cell.Cell) (p : Pattern) (bs : List ℕ) (offset from : ℕ) → backs_all cs (writer.pattern_cells p) ≡ true → length (writer.pattern_cells p) ≤ length cs → offset ≡ from + writer.field_of p → from + length cs ≤ length bs → judge.matches_cells cs (slice_range bs from (from + length cs)) ≡ true → stands_before bs offset p ≡ true
-unfolding stands_before cells_match_at
-cells_match_before cs p bs offset from h short place inside e =
+pub cells_match_pattern : (cs : List judge-cell.Cell) (p : Pattern) (bs : List ℕ) (offset from : ℕ) → backs_all cs (writer.pattern_cells p) ≡ true → length (writer.pattern_cells p) ≤ length cs → offset ≡ from + writer.field_of p → from + length cs ≤ length bs → judge.matches_cells cs (slice_range bs from (from + length cs)) ≡ true → pattern_matches_before bs offset p ≡ true
+unfolding pattern_matches_before cells_match_at
+cells_match_pattern cs p bs offset from h short place inside e =
     let n = length (writer.pattern_cells p) in
     let start : offset - writer.field_of p ≡ from = omega (arith, place) in
     let low : nat_le (writer.field_of p) offset ≡ true = le-leb _ _ (omega (arith, place)) in
@@ -158,14 +158,14 @@ pub record IsAskedFor (l : Layout) (s : Item) (k : ℕ) : Type 0 where
   pub plain : has_flag (flags_at l k) ifunc ≡ false
   pub program : is_executable l.kind ≡ true
 
-pub local_applies : (l : Layout) (s : Item) (r : InputRelocation) (k : ℕ) (next : Option InputRelocation) → IsAskedFor l s k → r.number ≡ abi.r_x86_64_tlsld → stands_before s.bytes r.offset (pattern.LocalStart local.NoPlt) ≡ true → applies (question_of l s r k next) LOCAL_NO_PLT ≡ true
+pub local_applies : (l : Layout) (s : Item) (r : InputRelocation) (k : ℕ) (next : Option InputRelocation) → IsAskedFor l s k → r.number ≡ abi.r_x86_64_tlsld → pattern_matches_before s.bytes r.offset (pattern.LocalStart local.NoPlt) ≡ true → applies (question_of l s r k next) LOCAL_NO_PLT ≡ true
 unfolding applies
 local_applies l s r k next h number stands = rw (eq-eqb r.number abi.r_x86_64_tlsld number, h.on, h.code, h.plain, h.program, stands) refl
 
-pub own_applies : (l : Layout) (s : Item) (r : InputRelocation) (k : ℕ) (next : Option InputRelocation) → IsAskedFor l s k → interposable (flags_at l k) ≡ false → r.number ≡ abi.r_x86_64_tlsgd → stands_before s.bytes r.offset (pattern.General general.NoPlt) ≡ true → applies (question_of l s r k next) GENERAL_NO_PLT ≡ true
+pub own_applies : (l : Layout) (s : Item) (r : InputRelocation) (k : ℕ) (next : Option InputRelocation) → IsAskedFor l s k → interposable (flags_at l k) ≡ false → r.number ≡ abi.r_x86_64_tlsgd → pattern_matches_before s.bytes r.offset (pattern.General general.NoPlt) ≡ true → applies (question_of l s r k next) GENERAL_NO_PLT ≡ true
 unfolding applies
 own_applies l s r k next h own number stands = rw (eq-eqb r.number abi.r_x86_64_tlsgd number, h.on, h.code, h.plain, h.program, own, stands) refl
 
-pub open_applies : (l : Layout) (s : Item) (r : InputRelocation) (k : ℕ) (next : Option InputRelocation) → IsAskedFor l s k → l.options.relax ≡ true → interposable (flags_at l k) ≡ true → r.number ≡ abi.r_x86_64_tlsgd → stands_before s.bytes r.offset (pattern.General general.NoPlt) ≡ true → applies (question_of l s r k next) GENERAL_NO_PLT_SLOT ≡ true
+pub open_applies : (l : Layout) (s : Item) (r : InputRelocation) (k : ℕ) (next : Option InputRelocation) → IsAskedFor l s k → l.options.relax ≡ true → interposable (flags_at l k) ≡ true → r.number ≡ abi.r_x86_64_tlsgd → pattern_matches_before s.bytes r.offset (pattern.General general.NoPlt) ≡ true → applies (question_of l s r k next) GENERAL_NO_PLT_SLOT ≡ true
 unfolding applies
 open_applies l s r k next h on open_one number stands = rw (eq-eqb r.number abi.r_x86_64_tlsgd number, on, h.code, h.plain, h.program, open_one, stands) refl

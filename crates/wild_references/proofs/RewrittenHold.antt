@@ -41,7 +41,7 @@ use Rattle.wild_references.proofs.RewrittenDescriptors.{IsWrittenPart, call_rows
 use Rattle.wild_references.proofs.RewrittenSlots.{call_rows as slot_call_rows, call_to_slot}
 use Rattle.wild_references.proofs.RewrittenWords.{WordsAreWritten, asked_there}
 use Rattle.wild_references.proofs.StubCode.{StubLaws}
-use Rattle.wild_references.proofs.Targets.{Stands}
+use Rattle.wild_references.proofs.Targets.{StubIsWritten}
 
 -- ---- words of a run
 
@@ -110,7 +110,7 @@ address_whole t (suc (suc zero), low, is) e = (let both : OffsetSlot ≡ Address
 address_whole t (suc (suc (suc zero)), low, is) e = sym is
 address_whole t (suc (suc (suc (suc k))), low, is) e = absurd (omega (arith, low))
 
-pub near_holds : StubLaws → RowsApplyTogether → RowsOfAArch64Keep → (l : Layout) (w : World) (m : Memory) (s : Item) (i : ℕ) (r : InputRelocation) (row : Row) → IsLoadedItem machine.AArch64 l w m s → (t : IsRewrittenWord l s i r row) → Stands l t.symbol → t.sequence ≡ Address → (c : IsRunThere l s i r row Address t.word) → IsJudgedRun l s r Address c.start c.index
+pub near_holds : StubLaws → RowsApplyTogether → RowsOfAArch64Keep → (l : Layout) (w : World) (m : Memory) (s : Item) (i : ℕ) (r : InputRelocation) (row : Row) → IsLoadedItem machine.AArch64 l w m s → (t : IsRewrittenWord l s i r row) → StubIsWritten l t.symbol → t.sequence ≡ Address → (c : IsRunThere l s i r row Address t.word) → IsJudgedRun l s r Address c.start c.index
     → WordsAreWritten l s t.symbol → HoldsRewritten l w m s r
 near_holds stubs together keeps l w m s i r row g t stands same c j written =
     let o = together (question_around l s i r t.symbol) row t.sequence t.word t.chosen t.among in

@@ -51,7 +51,7 @@ use Rattle.wild_meaning.specs.Reference.{HasStubAddress}
 use Rattle.wild_references.specs.Laws.{IsLoadedItem}
 use Rattle.wild_references.proofs.KeptItems.{item_lies}
 use Rattle.wild_references.proofs.StubCode.{StubLaws}
-use Rattle.wild_references.proofs.Targets.{Stands, addressed, one_addressed}
+use Rattle.wild_references.proofs.Targets.{StubIsWritten, addressed, one_addressed}
 use Rattle.wild_references.proofs.RewrittenSymbols.{definition, own_one}
 use Rattle.wild_references.proofs.WholeSections.{placed}
 use Rattle.wild_references.proofs.RunsAArch64.{RunDoes}
@@ -125,10 +125,10 @@ present : (l : Layout) (o : Option ℕ) (k : ℕ) → o ≡ Some k → has_flag 
 present l o k named weak = rw (named, weak) refl
 
 -- its address is more by the base
-stands_moved : StubLaws → (l : Layout) (w : World) (m : Memory) (s : Item) (k term : ℕ) → IsLoadedItem machine.AArch64 l w m s → Stands l k → IsReplaceable l k false → has_flag (flags_at l k) absolute ≡ false → address_of l (Some k) ≡ Ok term → IsOneAddress l w m k ((w.base + term) % 2 ^ 64)
+stands_moved : StubLaws → (l : Layout) (w : World) (m : Memory) (s : Item) (k term : ℕ) → IsLoadedItem machine.AArch64 l w m s → StubIsWritten l k → IsReplaceable l k false → has_flag (flags_at l k) absolute ≡ false → address_of l (Some k) ≡ Ok term → IsOneAddress l w m k ((w.base + term) % 2 ^ 64)
 stands_moved stubs l w m s k term g stands own moves given =
     let p = placed machine.AArch64 l w m s g in
-    let t = addressed stubs l w m (Some k) term p (λ i e. (let same : k ≡ i = cc in subst (λ (x : ℕ). Stands l x) same stands)) (λ i e. (let same : k ≡ i = cc in subst (λ (x : ℕ). IsReplaceable l x false ⊎ HasStubAddress l x) same (inl own))) given in
+    let t = addressed stubs l w m (Some k) term p (λ i e. (let same : k ≡ i = cc in subst (λ (x : ℕ). StubIsWritten l x) same stands)) (λ i e. (let same : k ≡ i = cc in subst (λ (x : ℕ). IsReplaceable l x false ⊎ HasStubAddress l x) same (inl own))) given in
     let still : t.still ≡ false = sym (t.flag k refl) ∙ moves in
     let one = one_addressed l w m k term t.still p (inl own) given (t.flag k refl) t.denoted in
     subst (λ (b : Bool). IsOneAddress l w m k (with_base b w.base term)) still one
@@ -145,7 +145,7 @@ sum_of l w m s first k v on named none there plain one small =
 
 -- ---- the pair
 
-pub address_pair_to_near : StubLaws → RowsOfAArch64Keep → (l : Layout) (w : World) (m : Memory) (s : Item) (first : InputRelocation) (start k : ℕ) → IsLoadedItem machine.AArch64 l w m s → Stands l k → start + 8 ≤ length s.bytes → words_match Address (words_at s.bytes start 2) ≡ true
+pub address_pair_to_near : StubLaws → RowsOfAArch64Keep → (l : Layout) (w : World) (m : Memory) (s : Item) (first : InputRelocation) (start k : ℕ) → IsLoadedItem machine.AArch64 l w m s → StubIsWritten l k → start + 8 ≤ length s.bytes → words_match Address (words_at s.bytes start 2) ≡ true
     → first.symbol ≡ Some k → interposable (flags_at l k) ≡ false → has_flag (flags_at l k) absolute ≡ false → has_flag (flags_at l k) undefined_weak ≡ false → IsWrittenPair l s first start ADDRESS_FIRST ADDRESS_SECOND → IsDone machine.AArch64 l w m s first start address_pair_words
 address_pair_to_near stubs keeps l w m s first start k g addressed_so inside stands named own moves weak t =
     let here : start + 4 ≤ length s.bytes = omega (arith, inside) in

@@ -43,7 +43,7 @@ use Rattle.wild_references.proofs.RewrittenPlaces.{IsPlacedRow, mandatory_static
 use Rattle.wild_references.proofs.RewrittenSingles.{has_number}
 use Rattle.wild_relax.proofs.RoomLemmas.{applied}
 use Rattle.wild_references.proofs.TableRows.{general_there, general_slot_there, local_there}
-use Rattle.wild_references.proofs.RewrittenCalls.{general_slot, local_slot, direct_numbers, only_number, calls_of, cells_match_before, general_backed, local_backed, IsAskedFor, local_applies, own_applies, open_applies}
+use Rattle.wild_references.proofs.RewrittenCalls.{general_slot, local_slot, direct_numbers, only_number, calls_of, cells_match_pattern, general_backed, local_backed, IsAskedFor, local_applies, own_applies, open_applies}
 use Rattle.wild_references.proofs.KeptModes.{other_flag}
 use Rattle.wild_references.proofs.RewrittenFree.{is_first, takes_it, each_takes, takes_call}
 
@@ -77,7 +77,7 @@ asked_for l s i r first second row v from o p q = record { on = is_on l s i r ro
 general_taken : (l : Layout) (s : Item) (i : ℕ) (r first second : InputRelocation) (row : Row) (v from : ℕ) → l.machine ≡ machine.X86_64 → IsDecided l s → IsPlacedRow l s i r row v → (q : IsGetterCall l s first second from general_slot) → HoldsWithSequence l s q.has.index first second
 general_taken l s i r first second row v from x86 decided p q =
     let number = only_number abi.r_x86_64_tlsgd first.number q.stands.number in
-    let stands = cells_match_before general_slot.template.cells (pattern.General general.NoPlt) s.bytes first.offset from general_backed (omega arith) q.stands.field q.stands.inside q.stands.stands in
+    let stands = cells_match_pattern general_slot.template.cells (pattern.General general.NoPlt) s.bytes first.offset from general_backed (omega arith) q.stands.field q.stands.inside q.stands.stands in
     let asked = asked_for l s i r first second row v from general_slot p q in
     let next = slice_get s.relocations (q.has.index + 1) in
     record {
@@ -98,7 +98,7 @@ general_taken l s i r first second row v from x86 decided p q =
 local_taken : (l : Layout) (s : Item) (i : ℕ) (r first second : InputRelocation) (row : Row) (v from : ℕ) → l.machine ≡ machine.X86_64 → IsDecided l s → IsPlacedRow l s i r row v → (q : IsGetterCall l s first second from local_slot) → HoldsWithSequence l s q.has.index first second
 local_taken l s i r first second row v from x86 decided p q =
     let number = only_number abi.r_x86_64_tlsld first.number q.stands.number in
-    let stands = cells_match_before local_slot.template.cells (pattern.LocalStart local.NoPlt) s.bytes first.offset from local_backed (omega arith) q.stands.field q.stands.inside q.stands.stands in
+    let stands = cells_match_pattern local_slot.template.cells (pattern.LocalStart local.NoPlt) s.bytes first.offset from local_backed (omega arith) q.stands.field q.stands.inside q.stands.stands in
     let asked = asked_for l s i r first second row v from local_slot p q in
     let next = slice_get s.relocations (q.has.index + 1) in
     record {

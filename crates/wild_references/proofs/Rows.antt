@@ -13,7 +13,7 @@ use Rattle.wild_relax.specs.declared.pattern.Pattern.TheVariants as pattern
 use Rattle.wild_relax.specs.declared.reference.UnknownSequence.{UnknownSequence}
 use Rattle.wild_relax.specs.declared.row.Row.{Row}
 use Rattle.wild_relax.specs.FirstRow.{first_standing, row_or_fault}
-use Rattle.wild_relax.specs.Pattern.{stands_before, cells_match_at}
+use Rattle.wild_relax.specs.Pattern.{pattern_matches_before, cells_match_at}
 use Rattle.wild_relax.specs.Question.{Question, relocation_of, minus_four}
 use Rattle.wild_relax.specs.RowSymbols.{takes_symbol, takes_value}
 use Rattle.wild_relax.specs.RowSequences.{has_its_sequence}
@@ -58,13 +58,13 @@ all_of : (a b c d e f g h : Bool) → a ≡ true → b ≡ true → c ≡ true �
 all_of a b c d e f g h ea eb ec ed ee ef eg eh = rw (ea, eb, ec, ed, ee, ef, eg, eh) refl
 
 pub row_applies : (q : Question) (row : Row) → ((relocation_of q).number == row.number) ≡ true → (q.relax || is_mandatory row.duty q) ≡ true → (not row.in_code || executable q.section_flags) ≡ true → takes_symbol row.symbol q ≡ true → (not row.thread_local || is_executable q.kind) ≡ true → takes_value row.value q ≡ true
-    → (not row.ends || minus_four (relocation_of q).addend) ≡ true → (row.ignores_bytes || stands_before q.bytes (relocation_of q).offset row.required_bytes) ≡ true → applies q row ≡ true
+    → (not row.ends || minus_four (relocation_of q).addend) ≡ true → (row.ignores_bytes || pattern_matches_before q.bytes (relocation_of q).offset row.required_bytes) ≡ true → applies q row ≡ true
 unfolding applies
 row_applies q row number duty section symbol thread value addend bytes = all_of _ _ _ _ _ _ _ _ number duty section symbol thread value addend bytes
 
 -- no bytes stand wherever there are some behind them, or none
-pub nothing_stands : (bs : List ℕ) (o : ℕ) → o ≤ length bs → stands_before bs o pattern.Nothing ≡ true
-unfolding stands_before cells_match_at
+pub nothing_stands : (bs : List ℕ) (o : ℕ) → o ≤ length bs → pattern_matches_before bs o pattern.Nothing ≡ true
+unfolding pattern_matches_before cells_match_at
 nothing_stands bs o h = grind (arith, nat_tests, h)
 
 -- ---- the choice of a relocation

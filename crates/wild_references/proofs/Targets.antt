@@ -40,8 +40,8 @@ abbrev pub Follows : Layout → ℕ → Type 0
 Follows l i = IsReplaceable l i false ⊎ HasStubAddress l i
 
 -- its stub is written, or the address is no stub's
-abbrev pub Stands : Layout → ℕ → Type 0
-Stands l i = KeepsAll l ⊎ (HasStubAddress l i → ⊥)
+abbrev pub StubIsWritten : Layout → ℕ → Type 0
+StubIsWritten l i = KeepsAll l ⊎ (HasStubAddress l i → ⊥)
 
 -- the own symbol's value
 pub record IsOwnAddressed (l : Layout) (w : World) (i a : ℕ) : Type 0 where
@@ -129,14 +129,14 @@ stubbed_address l i a plain h st = by_case st.stands
         let stubs = raw_is l i st.stub t.definition t.symbol t.resolution raw t.defined t.listed t.decided in
         stub_given l i st.stub t ∙ ap (λ (n : ℕ). Some n) (stubs ∙ sym mine)
 
-followed_by : StubLaws → (l : Layout) (w : World) (m : Memory) (i a : ℕ) → IsPlaced l w m → Stands l i → Follows l i → address_of l (Some i) ≡ Ok a → IsAddressed l w m (Some i) a
+followed_by : StubLaws → (l : Layout) (w : World) (m : Memory) (i a : ℕ) → IsPlaced l w m → StubIsWritten l i → Follows l i → address_of l (Some i) ≡ Ok a → IsAddressed l w m (Some i) a
 followed_by law l w m i a p stands f h =
     elim (cases_Bool (symbol_is_ifunc l i)) [
       | inl t ↦ (let there = given_some missing.Stub i (stub_of l i) a (rw t at h) in by_stub stands (chosen_moves l w m i a p t there).1 there (chosen_stubbed l w m i a p t there))
       | inr n ↦ plain n f (rw n at h)
     ]
   where
-    by_stub : Stands l i → has_flag (flags_at l i) absolute ≡ false → stub_of l i ≡ Some a → HasStubAddress l i → IsAddressed l w m (Some i) a
+    by_stub : StubIsWritten l i → has_flag (flags_at l i) absolute ≡ false → stub_of l i ≡ Some a → HasStubAddress l i → IsAddressed l w m (Some i) a
     by_stub (inl all) moves there st = stub_moves law l w m i a p all moves there st
     by_stub (inr none) moves there st = absurd (none st)
 
@@ -174,7 +174,7 @@ one_addressed l w m i a still p f h flag denoted = by_stub (stubbed_or_not l i)
         inl (st.stub, record { stub = st.there; stands = st.stands; moves = st.moves }, at ∙ ap (λ (n : ℕ). (w.base + n) % 2 ^ 64) same, address_denotes l w m i (with_base still w.base a) denoted)
     by_stub (inr none) = inr (λ q s. none (record { stub = q; there = s.stub; stands = s.stands; moves = s.moves }), value none f)
 
-pub addressed : StubLaws → (l : Layout) (w : World) (m : Memory) (symbol : Option ℕ) (a : ℕ) → IsPlaced l w m → ((i : ℕ) → symbol ≡ Some i → Stands l i) → ((i : ℕ) → symbol ≡ Some i → Follows l i) → address_of l symbol ≡ Ok a → IsAddressed l w m symbol a
+pub addressed : StubLaws → (l : Layout) (w : World) (m : Memory) (symbol : Option ℕ) (a : ℕ) → IsPlaced l w m → ((i : ℕ) → symbol ≡ Some i → StubIsWritten l i) → ((i : ℕ) → symbol ≡ Some i → Follows l i) → address_of l symbol ≡ Ok a → IsAddressed l w m symbol a
 addressed law l w m None a p stands f h = record { still = true; denoted = address_given l None a h; flag = λ i e. cc; absolute = λ i e t. cc }
 addressed law l w m (Some i) a p stands f h = followed_by law l w m i a p (stands i refl) (f i refl) h
 

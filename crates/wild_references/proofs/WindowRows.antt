@@ -11,7 +11,7 @@ use Rattle.wild_relax.specs.declared.pattern.GeneralForm.{GeneralForm}
 use Rattle.wild_relax.specs.declared.pattern.GeneralForm.TheVariants as general
 use Rattle.wild_relax.specs.declared.row.Row.{Row}
 use Rattle.wild_relax.specs.Question.{Question, relocation_of, minus_four}
-use Rattle.wild_relax.specs.Pattern.{field_of, stands_before}
+use Rattle.wild_relax.specs.Pattern.{field_of, pattern_matches_before}
 use Rattle.wild_relax.specs.RowSymbols.{takes_value, takes_symbol}
 use Rattle.wild_relax.specs.RowSequences.{partner_distance, call_form, is_call_number, has_its_sequence}
 use Rattle.wild_relax.specs.Rows.{rows_x86_64, applies, chosen_row_x86_64}
@@ -37,7 +37,7 @@ pub record Applied (q : Question) (row : Row) : Type 0 where
   pub thread : (not row.thread_local || is_executable q.kind) ≡ true
   pub value : takes_value row.value q ≡ true
   pub counts : (not row.ends || minus_four (relocation_of q).addend) ≡ true
-  pub stands : (row.ignores_bytes || stands_before q.bytes (relocation_of q).offset row.required_bytes) ≡ true
+  pub stands : (row.ignores_bytes || pattern_matches_before q.bytes (relocation_of q).offset row.required_bytes) ≡ true
 
 pub applied : (q : Question) (row : Row) → applies q row ≡ true → Applied q row
 unfolding applies

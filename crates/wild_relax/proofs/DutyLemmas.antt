@@ -28,7 +28,7 @@ use Rattle.wild_relax.specs.declared.row.Written.{Written}
 use Rattle.wild_relax.specs.declared.row.Written.TheVariants as written
 use Rattle.wild_relax.specs.FirstRow.{first_standing, row_or_fault}
 use Rattle.wild_relax.specs.LinkedPattern.{keeps_bytes}
-use Rattle.wild_relax.specs.Pattern.{stands_before}
+use Rattle.wild_relax.specs.Pattern.{pattern_matches_before}
 use Rattle.wild_relax.specs.Question.{Question, relocation_of, next_of, is_known, is_own, minus_four}
 use Rattle.wild_relax.specs.Relaxation.{chosen_row_of}
 use Rattle.wild_relax.specs.Rows.{rows_x86_64, applies, unknown_sequence, first_row_x86_64, chosen_row_x86_64}
@@ -89,7 +89,7 @@ record Rest (q : Question) (row : Row) : Type 0 where
   thread : (not row.thread_local || is_executable q.kind) ≡ true
   value : takes_value row.value q ≡ true
   addend : (not row.ends || minus_four (relocation_of q).addend) ≡ true
-  bytes : (row.ignores_bytes || stands_before q.bytes (relocation_of q).offset row.required_bytes) ≡ true
+  bytes : (row.ignores_bytes || pattern_matches_before q.bytes (relocation_of q).offset row.required_bytes) ≡ true
 
 rest_of : (q : Question) (row : Row) → applies q row ≡ true → Rest q row
 unfolding applies

@@ -11,7 +11,7 @@ use Rattle.wild_relax.specs.declared.reference.UnknownSequence.{UnknownSequence}
 use Rattle.wild_relax.specs.declared.pattern.Pattern.{Pattern}
 use Rattle.wild_relax.specs.declared.row.Row.{Row}
 use Rattle.wild_relax.specs.Question.{Question, relocation_of, minus_four}
-use Rattle.wild_relax.specs.Pattern.{pattern_cells, field_of, stands_before, cells_match_at}
+use Rattle.wild_relax.specs.Pattern.{pattern_cells, field_of, pattern_matches_before, cells_match_at}
 use Rattle.wild_relax.specs.FirstRow.{first_standing, row_or_fault}
 use Rattle.wild_relax.specs.RowSymbols.{takes_symbol, takes_value, is_mandatory}
 use Rattle.wild_relax.specs.RowSequences.{has_its_sequence, has_partner}
@@ -67,19 +67,19 @@ each_word_lies : list_all lies_in_its_own rows_aarch64 ≡ true
 unfolding rows_aarch64
 each_word_lies = refl
 
-room_in : (bs : List ℕ) (offset : ℕ) (p : Pattern) (w : Rewrite) → stands_before bs offset p ≡ true → lies_in w p ≡ true → HasRoom w offset (length bs)
-unfolding stands_before cells_match_at
+room_in : (bs : List ℕ) (offset : ℕ) (p : Pattern) (w : Rewrite) → pattern_matches_before bs offset p ≡ true → lies_in w p ≡ true → HasRoom w offset (length bs)
+unfolding pattern_matches_before cells_match_at
 room_in bs offset p w s l = record { before = grind (arith, nat_tests); behind = grind (arith, nat_tests) }
 
 by_bytes : (a b : Bool) → (a || b) ≡ true → not a ≡ true → b ≡ true
 by_bytes true b h n = cc
 by_bytes false b h n = h
 
-pub always_stands : (q : Question) (row : Row) → applies q row ≡ true → not row.ignores_bytes ≡ true → stands_before q.bytes (relocation_of q).offset row.required_bytes ≡ true
+pub always_stands : (q : Question) (row : Row) → applies q row ≡ true → not row.ignores_bytes ≡ true → pattern_matches_before q.bytes (relocation_of q).offset row.required_bytes ≡ true
 unfolding applies
 always_stands q row h n = by_bytes _ _ (and_parts _ _ h).1 n
 
-pub needed_stands : (q : Question) (row : Row) → has_its_sequence q row ≡ true → stands_before q.bytes (relocation_of q).offset row.needed ≡ true
+pub needed_stands : (q : Question) (row : Row) → has_its_sequence q row ≡ true → pattern_matches_before q.bytes (relocation_of q).offset row.needed ≡ true
 unfolding has_its_sequence
 needed_stands q row h = (and_parts _ _ (and_parts _ _ h).0).0
 

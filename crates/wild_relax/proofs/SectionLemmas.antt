@@ -17,7 +17,7 @@ use Rattle.wild_relax.specs.declared.row.Row.{Row}
 use Rattle.wild_reloc.specs.TableX86_64.{x86_64_row}
 use Rattle.wild_reloc.specs.declared.info.RelocationKindInfo.{RelocationKindInfo}
 use Rattle.wild_relax.specs.Question.{Question, relocation_of, minus_four}
-use Rattle.wild_relax.specs.Pattern.{pattern_cells, field_of, stands_before, cells_match_at}
+use Rattle.wild_relax.specs.Pattern.{pattern_cells, field_of, pattern_matches_before, cells_match_at}
 use Rattle.wild_relax.specs.RowSequences.{has_partner, has_its_sequence}
 use Rattle.wild_relax.specs.Rows.{rows_x86_64, chosen_row_x86_64}
 use Rattle.wild_relax.specs.Rewrite.{rewritten_bytes}
@@ -37,8 +37,8 @@ pub record IsAt (bs : List ℕ) (offset : ℕ) (p : Pattern) : Type 0 where
   pub inside : offset - field_of p + length (pattern_cells p) ≤ length bs
   pub whole : IsWhole (pattern_cells p) (slice_range bs (offset - field_of p) (offset - field_of p + length (pattern_cells p)))
 
-pub at_place : (bs : List ℕ) (offset : ℕ) (p : Pattern) → stands_before bs offset p ≡ true → IsAt bs offset p
-unfolding stands_before cells_match_at
+pub at_place : (bs : List ℕ) (offset : ℕ) (p : Pattern) → pattern_matches_before bs offset p ≡ true → IsAt bs offset p
+unfolding pattern_matches_before cells_match_at
 at_place bs offset p h =
     let inside : offset - field_of p + length (pattern_cells p) ≤ length bs = grind (arith, nat_tests) in
     record {

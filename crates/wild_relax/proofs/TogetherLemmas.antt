@@ -22,7 +22,7 @@ use Rattle.wild_aarch64.specs.Row as judged
 use Rattle.wild_relax.specs.FirstRow.{first_standing}
 use Rattle.wild_relax.specs.KeepAArch64.{Rewriting, rewriting}
 use Rattle.wild_relax.specs.LinkedPattern.{either_pattern, pattern_of, pattern_size, keeps_bytes, fits_in}
-use Rattle.wild_relax.specs.Pattern.{field_of, matches_cells, field, cells_match_at, stands_before}
+use Rattle.wild_relax.specs.Pattern.{field_of, matches_cells, field, cells_match_at, pattern_matches_before}
 use Rattle.wild_relax.specs.Question.{Question, relocation_of, minus_four, no_relocation, zero as none_added}
 use Rattle.wild_relax.specs.RowSequences.{has_its_sequence, has_partner}
 use Rattle.wild_relax.specs.RowSymbols.{is_in_reach, takes_symbol, takes_value, is_mandatory}
@@ -155,12 +155,12 @@ any_word (a ∷ b ∷ []) h = absurd (omega (arith, h))
 any_word (a ∷ b ∷ c ∷ []) h = absurd (omega (arith, h))
 any_word (a ∷ b ∷ c ∷ d ∷ xs) h = refl
 
-word_stands : (bs : List ℕ) (o : ℕ) (s : Sequence) (j : ℕ) → o + 4 ≤ length bs → stands_before bs o (pattern.Among s j) ≡ true
-unfolding stands_before cells_match_at
+word_stands : (bs : List ℕ) (o : ℕ) (s : Sequence) (j : ℕ) → o + 4 ≤ length bs → pattern_matches_before bs o (pattern.Among s j) ≡ true
+unfolding pattern_matches_before cells_match_at
 word_stands bs o s j h = and_from _ _ (le-leb 0 o (omega arith)) (and_from _ _ (le-leb _ _ (omega (arith, h))) (any_word (slice_range bs (o - 0) (o - 0 + 4)) (length-range bs (o - 0) 4 (omega (arith, h)))))
 
-nothing_stands : (bs : List ℕ) (o : ℕ) → o ≤ length bs → stands_before bs o pattern.Nothing ≡ true
-unfolding stands_before cells_match_at
+nothing_stands : (bs : List ℕ) (o : ℕ) → o ≤ length bs → pattern_matches_before bs o pattern.Nothing ≡ true
+unfolding pattern_matches_before cells_match_at
 nothing_stands bs o h = and_from _ _ (le-leb 0 o (omega arith)) (and_from _ _ (le-leb _ _ (omega (arith, h))) refl)
 
 -- what a row asks that stands
@@ -172,7 +172,7 @@ record Asks (q : Question) (row : Row) : Type 0 where
   thread : (not row.thread_local || is_executable q.kind) ≡ true
   value : takes_value row.value q ≡ true
   addend : (not row.ends || minus_four (relocation_of q).addend) ≡ true
-  bytes : (row.ignores_bytes || stands_before q.bytes (relocation_of q).offset row.required_bytes) ≡ true
+  bytes : (row.ignores_bytes || pattern_matches_before q.bytes (relocation_of q).offset row.required_bytes) ≡ true
   around : has_around q row.required_bytes ≡ true
 
 stands_then : (q : Question) (row : Row) → Asks q row → applies_aarch64 q row ≡ true
@@ -181,7 +181,7 @@ stands_then q row a = and_from _ _ (and_from _ _ (and_from _ _ (and_from _ _ (an
 
 -- what it needs besides
 record Has (q : Question) (row : Row) : Type 0 where
-  bytes : stands_before q.bytes (relocation_of q).offset row.needed ≡ true
+  bytes : pattern_matches_before q.bytes (relocation_of q).offset row.needed ≡ true
   addend : (not row.needs_end || minus_four (relocation_of q).addend) ≡ true
   partner : has_partner row q ≡ true
   around : has_around q row.needed ≡ true
@@ -226,7 +226,7 @@ own_falls q row none =
 
 has_word : (q : Question) (row : Row) (s : Sequence) (j : ℕ) → row.needed ≡ pattern.Among s j → row.needs_end ≡ false → row.partner ≡ None → (relocation_of q).offset + 4 ≤ length q.bytes → is_among q s j ≡ true → Has q row
 has_word q row s j needed ends alone room among = record {
-  bytes = subst (λ (p : Pattern). stands_before q.bytes (relocation_of q).offset p ≡ true) (sym needed) (word_stands q.bytes (relocation_of q).offset s j room);
+  bytes = subst (λ (p : Pattern). pattern_matches_before q.bytes (relocation_of q).offset p ≡ true) (sym needed) (word_stands q.bytes (relocation_of q).offset s j room);
   addend = rw ends refl;
   partner = rw alone refl;
   around = subst (λ (p : Pattern). has_around q p ≡ true) (sym needed) among;
@@ -234,7 +234,7 @@ has_word q row s j needed ends alone room among = record {
 
 has_nothing : (q : Question) (row : Row) → row.needed ≡ pattern.Nothing → row.needs_end ≡ false → row.partner ≡ None → (relocation_of q).offset ≤ length q.bytes → Has q row
 has_nothing q row needed ends alone room = record {
-  bytes = subst (λ (p : Pattern). stands_before q.bytes (relocation_of q).offset p ≡ true) (sym needed) (nothing_stands q.bytes (relocation_of q).offset room);
+  bytes = subst (λ (p : Pattern). pattern_matches_before q.bytes (relocation_of q).offset p ≡ true) (sym needed) (nothing_stands q.bytes (relocation_of q).offset room);
   addend = rw ends refl;
   partner = rw alone refl;
   around = subst (λ (p : Pattern). has_around q p ≡ true) (sym needed) refl;

@@ -2,7 +2,7 @@
 -- Thread-Local Storage", "Linker Relaxations"), and the position of AArch64's words.
 --   pattern_cells p               the values that each byte of a pattern may have
 --   field_of p               the offset of the relocation's field in the pattern
---   stands_before bs o p     the whole pattern is in the bytes, with its field at o
+--   pattern_matches_before bs o p     the whole pattern is in the bytes, with its field at o
 use Rattle.std.specs.Prelude.{ℕ, ◌+◌, ◌-◌, ◌==◌, Bool, true, false, ◌&&◌, ◌||◌, nat_le, List, [], ◌∷◌, ◌++◌, length, slice_range}
 use Rattle.std.specs.Int.RustNames.{bit_and}
 use Rattle.wild_relax.specs.declared.pattern.Prefix.{Prefix}
@@ -101,5 +101,5 @@ field_of (Among s k) = 0
 unfoldable pub cells_match_at : List ℕ → ℕ → List Cell → Bool
 cells_match_at bytes start cells = nat_le (start + length cells) (length bytes) && matches_cells cells (slice_range bytes start (start + length cells))
 
-unfoldable pub stands_before : List ℕ → ℕ → Pattern → Bool
-stands_before bytes offset p = nat_le (field_of p) offset && cells_match_at bytes (offset - field_of p) (pattern_cells p)
+unfoldable pub pattern_matches_before : List ℕ → ℕ → Pattern → Bool
+pattern_matches_before bytes offset p = nat_le (field_of p) offset && cells_match_at bytes (offset - field_of p) (pattern_cells p)

@@ -9,7 +9,7 @@ use Rattle.wild_relax.specs.declared.pattern.GeneralForm.TheVariants as general
 use Rattle.wild_relax.specs.declared.row.Row.{Row}
 use Rattle.wild_relax.specs.declared.row.Partner.{Partner}
 use Rattle.wild_relax.specs.Question.{Question, relocation_of, next_of, minus_four, zero}
-use Rattle.wild_relax.specs.Pattern.{stands_before}
+use Rattle.wild_relax.specs.Pattern.{pattern_matches_before}
 
 -- the distance from the row's field to the call's field
 abbrev pub partner_distance : Row → Option ℕ
@@ -46,4 +46,4 @@ abbrev pub has_partner : Row → Question → Bool
 has_partner row q = is_partner_at (relocation_of q) row.partner (next_of q)
 
 unfoldable pub has_its_sequence : Question → Row → Bool
-has_its_sequence q row = stands_before q.bytes (relocation_of q).offset row.needed && (not row.needs_end || minus_four (relocation_of q).addend) && has_partner row q
+has_its_sequence q row = pattern_matches_before q.bytes (relocation_of q).offset row.needed && (not row.needs_end || minus_four (relocation_of q).addend) && has_partner row q

@@ -10,7 +10,7 @@ use Rattle.wild_relax.specs.declared.reference.UnknownSequence.{UnknownSequence}
 use Rattle.wild_relax.specs.declared.row.Row.{Row}
 use Rattle.wild_relax.specs.declared.table.TheConstants.{WITH_PC32, WITH_REX_GOTPCRELX, WITH_CODE_4_GOTPCRELX, WITH_GOTPCRELX, WITH_GOTPCREL, WITH_GOTTPOFF, WITH_CODE_4_GOTTPOFF, WITH_PLT32, WITH_PLTOFF64, WITH_TLSGD, WITH_TLSLD, WITH_GOTPC32_TLSDESC, WITH_CODE_4_GOTPC32_TLSDESC, WITH_TLSDESC_CALL}
 use Rattle.wild_relax.specs.Question.{Question, relocation_of, minus_four}
-use Rattle.wild_relax.specs.Pattern.{stands_before}
+use Rattle.wild_relax.specs.Pattern.{pattern_matches_before}
 use Rattle.wild_relax.specs.RewriteX86_64.{info_written}
 use Rattle.wild_relax.specs.FirstRow.{first_standing, row_or_fault}
 use Rattle.wild_relax.specs.RowSymbols.{takes_value, takes_symbol, is_mandatory}
@@ -28,7 +28,7 @@ rows_x86_64 =
 unfoldable pub applies : Question → Row → Bool
 applies q row = (relocation_of q).number == row.number && (q.relax || is_mandatory row.duty q) && (not row.in_code || executable q.section_flags) && takes_symbol row.symbol q
     && (not row.thread_local || is_executable q.kind) && takes_value row.value q
-    && (not row.ends || minus_four (relocation_of q).addend) && (row.ignores_bytes || stands_before q.bytes (relocation_of q).offset row.required_bytes)
+    && (not row.ends || minus_four (relocation_of q).addend) && (row.ignores_bytes || pattern_matches_before q.bytes (relocation_of q).offset row.required_bytes)
 
 -- ---- the choice
 

@@ -1,7 +1,7 @@
 //! The bytes that rows match in the input: those of x86-64 (Intel SDM; x86-64 psABI, "Linker Optimization"; "ELF Handling For
 //! Thread-Local Storage", "Linker Relaxations"), and the position of AArch64's words.
 ghost use Rattle.std.specs.Prelude.{◌≡◌, ◌≤◌, length};
-ghost use Rattle.wild_relax.specs.Pattern.{fits, matches_cells, pattern_cells, field_of, stands_before};
+ghost use Rattle.wild_relax.specs.Pattern.{fits, matches_cells, pattern_cells, field_of, pattern_matches_before};
 
 /// The prefix of a 64-bit instruction.
 #[derive(Clone, Copy)]
@@ -337,9 +337,9 @@ fn is_match(cells: &[Cell], bytes: &[u8]) -> bool
 }
 
 /// Whether the whole pattern is in the bytes with its field at the offset.
-#[tactic(auto, unfolding(crate::specs::Pattern::stands_before, crate::specs::Pattern::cells_match_at))]
+#[tactic(auto, unfolding(crate::specs::Pattern::pattern_matches_before, crate::specs::Pattern::cells_match_at))]
 pub(crate) fn is_pattern_at(bytes: &[u8], offset: u64, pattern: Pattern) -> bool
-    ensures { result ≡ stands_before bytes.now offset pattern }
+    ensures { result ≡ pattern_matches_before bytes.now offset pattern }
 {
     let field = field(pattern);
     if offset < field {

@@ -35,7 +35,7 @@ use Rattle.wild_table_formats.specs.TableEntries.{table_fields}
 use Rattle.wild_relax.specs.RowSequences.{is_partner, has_its_sequence}
 use Rattle.wild_relax.specs.RowsOfType.{rows_with}
 use Rattle.wild_relax.specs.Question.{minus_four, zero}
-use Rattle.wild_relax.specs.Pattern.{cells_match_at, stands_before}
+use Rattle.wild_relax.specs.Pattern.{cells_match_at, pattern_matches_before}
 use Rattle.wild_relax.specs.Rows.{rows_x86_64, applies, first_row_x86_64, chosen_row_x86_64}
 use Rattle.wild_relax.specs.RowsAArch64.{rows_aarch64, rows_with_aarch64, first_row_aarch64, chosen_row_aarch64}
 use Rattle.wild_relax.specs.SequenceAArch64.{is_among}
@@ -48,5 +48,5 @@ clauses_on_literals = tt
 
 -- and to compute its faults
 unfoldable pub errors_on_literals : ⊤
-unfolding clauses_on_literals merged_strings address_for layout_fdes search_table_faults site section_bytes choice_by choice_around_by field_or_thunk decided decide relocation_errors section_errors slot_errors thunk_errors file_errors exported_errors table_errors group_errors errors table_fields is_partner has_its_sequence rows_with minus_four zero cells_match_at stands_before applies rows_x86_64 first_row_x86_64 chosen_row_x86_64 rows_aarch64 rows_with_aarch64 first_row_aarch64 chosen_row_aarch64 is_among
+unfolding clauses_on_literals merged_strings address_for layout_fdes search_table_faults site section_bytes choice_by choice_around_by field_or_thunk decided decide relocation_errors section_errors slot_errors thunk_errors file_errors exported_errors table_errors group_errors errors table_fields is_partner has_its_sequence rows_with minus_four zero cells_match_at pattern_matches_before applies rows_x86_64 first_row_x86_64 chosen_row_x86_64 rows_aarch64 rows_with_aarch64 first_row_aarch64 chosen_row_aarch64 is_among
 errors_on_literals = tt

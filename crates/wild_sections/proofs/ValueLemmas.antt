@@ -14,7 +14,7 @@ use Rattle.wild_types.specs.Lookups.{file_of, files_of}
 use Rattle.wild_types.specs.Addresses.{raw_value, resolved_or, placed_value, address_at}
 use Rattle.wild_sections.specs.Values.{HasValues}
 use Rattle.wild_symbols.specs.SymbolNumbers.{found}
-use Rattle.wild_sections.specs.SymbolAddresses.{stands_in, address_in, decided}
+use Rattle.wild_sections.specs.SymbolAddresses.{file_symbol_address, address_in, decided}
 
 -- an entry of the table
 pub table_at : (l : Layout) (values : List (Option ℕ)) (i : ℕ) (d : Option ℕ) → HasValues l values → i < length values → get_or values i d ≡ raw_value l i
@@ -34,7 +34,7 @@ table_past l values i h m =
 
 pub ruleset table_values = (table_at, table_past)
 
-place_is : (l : Layout) (p : Place) (v i : ℕ) (o : Option File) → file_of (files_of l.groups) i ≡ o → address_at l i v p ≡ option_flatten (option_map (stands_in l p v) o)
+place_is : (l : Layout) (p : Place) (v i : ℕ) (o : Option File) → file_of (files_of l.groups) i ≡ o → address_at l i v p ≡ option_flatten (option_map (file_symbol_address l p v) o)
 place_is l (at.Section k) v i None e = rw e refl
 place_is l (at.Section k) v i (Some f) e = rw e refl
 place_is l at.Undefined v i None e = refl
@@ -46,12 +46,12 @@ place_is l at.Common v i (Some f) e = refl
 place_is l (at.Output k) v i None e = refl
 place_is l (at.Output k) v i (Some f) e = refl
 
-placed_none : (l : Layout) (o : Option File) → None ≡ option_flatten (option_map (λ (f : File). option_and_then (λ (s : Symbol). stands_in l s.place s.value f) None) o)
+placed_none : (l : Layout) (o : Option File) → None ≡ option_flatten (option_map (λ (f : File). option_and_then (λ (s : Symbol). file_symbol_address l s.place s.value f) None) o)
 placed_none l None = refl
 placed_none l (Some f) = refl
 
 placed_is : (l : Layout) (i : ℕ) (o : Option Symbol)
-    → option_and_then (λ (s : Symbol). address_at l i s.value s.place) o ≡ option_flatten (option_map (λ (f : File). option_and_then (λ (s : Symbol). stands_in l s.place s.value f) o) (file_of (files_of l.groups) i))
+    → option_and_then (λ (s : Symbol). address_at l i s.value s.place) o ≡ option_flatten (option_map (λ (f : File). option_and_then (λ (s : Symbol). file_symbol_address l s.place s.value f) o) (file_of (files_of l.groups) i))
 placed_is l i None = placed_none l (file_of (files_of l.groups) i)
 placed_is l i (Some s) = place_is l s.place s.value i (file_of (files_of l.groups) i) refl
 

@@ -4,7 +4,7 @@ ghost use Rattle.std.specs.Prelude.{◌≡◌, ℕ, ◌<◌, [], ◌∷◌, leng
 ghost use Rattle.std.specs.Option.{option_or};
 ghost use Rattle.wild_types.specs.Lookups.{files_of};
 ghost use Rattle.wild_symbols.specs.SymbolNumbers.{found};
-ghost use Rattle.wild_sections.specs.SymbolAddresses.{stands_in};
+ghost use Rattle.wild_sections.specs.SymbolAddresses.{file_symbol_address};
 
 use wild_types::{File, Layout, Place, Symbol};
 
@@ -23,8 +23,8 @@ pub(crate) trait PerSymbol: Copy {
 }
 
 /// The address of a symbol of a file.
-fn stands_in(layout: &Layout, file: &File, symbol: &Symbol) -> Option<u64>
-    ensures { result ≡ stands_in layout.now symbol.now.place symbol.now.value file.now }
+fn file_symbol_address(layout: &Layout, file: &File, symbol: &Symbol) -> Option<u64>
+    ensures { result ≡ file_symbol_address layout.now symbol.now.place symbol.now.value file.now }
 {
     let Place::Section(index) = symbol.place else {
         return None;
@@ -46,7 +46,7 @@ impl PerSymbol for Option<u64> {
     #[inline]
     fn record_symbol(layout: &Layout, index: usize, file: &File) -> Option<u64> {
         match layout.symbols.as_slice().get(index) {
-            Some(symbol) => stands_in(layout, file, symbol),
+            Some(symbol) => file_symbol_address(layout, file, symbol),
             None => None,
         }
     }
