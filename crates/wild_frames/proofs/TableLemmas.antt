@@ -119,11 +119,11 @@ record HasNearDistances (header : ℕ) (f : Fde) : Type 0 where
   pub code : Near header f.code
   pub address : Near header f.address
 
-told : (header : ℕ) (f : Fde) → far_fde header f ≡ [] → HasNearDistances header f
-told header f h = let p = nil_parts (far header f.code) (far header f.address) h in record { code = none_far header f.code p.0; address = none_far header f.address p.1 }
+distances_are_near : (header : ℕ) (f : Fde) → far_fde header f ≡ [] → HasNearDistances header f
+distances_are_near header f h = let p = nil_parts (far header f.code) (far header f.address) h in record { code = none_far header f.code p.0; address = none_far header f.address p.1 }
 
 all_told : (header eh_frame : ℕ) (fdes : List Fde) → table_errors header eh_frame fdes ≡ [] → All (HasNearDistances header) fdes
-all_told header eh_frame fdes h = All-from_nothing (HasNearDistances header) (far_fde header) fdes (told header) (nil_parts (far (header + 4) eh_frame) (flat_map (far_fde header) fdes) h).1
+all_told header eh_frame fdes h = All-from_nothing (HasNearDistances header) (far_fde header) fdes (distances_are_near header) (nil_parts (far (header + 4) eh_frame) (flat_map (far_fde header) fdes) h).1
 
 entry_fits : (header : ℕ) (f : Fde) → HasNearDistances header f → EhFrameHdrEntryFits (entry_of header f)
 entry_fits header f t = record { frame_ptr = fits_z (distance header f.code) header f.code (back header f.code) t.code; frame_info_ptr = fits_z (distance header f.address) header f.address (back header f.address) t.address }

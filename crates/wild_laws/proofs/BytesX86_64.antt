@@ -163,8 +163,8 @@ stable (Some c) b h =
       | inr f ↦ h (λ e. (let same : c ≡ b = cc in eqb-false c b f same))
     ]
 
-beside : (k start n : ℕ) → (start ≤ k → k < start + n → ⊥) → (k < start) ⊎ (start + n ≤ k)
-beside k start n never =
+outside_instruction : (k start n : ℕ) → (start ≤ k → k < start + n → ⊥) → (k < start) ⊎ (start + n ≤ k)
+outside_instruction k start n never =
     elim (cases_Bool (nat_lt k start)) [
       | inl t ↦ inl (ltb-true k start t)
       | inr f ↦
@@ -183,7 +183,7 @@ pub other_byte : (l : Layout) (w : World) (m : Memory) (s : Item) (k : ℕ) → 
 other_byte l w m s k x types asked holds lt out =
     stable (byte_in m (place_at w s k)) (slice_index s.bytes k) (λ never. holds.others k lt (record {
       fields = out;
-      templates = λ r start o one ref t. beside k start (size_of o) (λ from to.
+      templates = λ r start o one ref t. outside_instruction k start (size_of o) (λ from to.
           (let f = of_section l s r types ref in
           let told = asked r (record { listed = ref.listed; refers = ref.refers }) in
           let d = template_direct l s r start o one x f t in

@@ -13,8 +13,8 @@ pub record IsFieldIn (n : ℕ) (p : Piece) : Type 0 where
   pub ends : p.at + length p.bytes ≤ n
   pub some : 0 < length p.bytes
 
-beside : (p q : Piece) → 0 < length p.bytes → 0 < length q.bytes → SharesNothing (extent_of p) (extent_of q) → Disjoint p q
-beside p q some more nothing = apart-beside (extent_of p) (extent_of q) nothing (omega arith) (omega arith)
+pieces_are_apart : (p q : Piece) → 0 < length p.bytes → 0 < length q.bytes → SharesNothing (extent_of p) (extent_of q) → Disjoint p q
+pieces_are_apart p q some more nothing = apart-beside (extent_of p) (extent_of q) nothing (omega arith) (omega arith)
 
 pub fields_apart : (ps : List Piece) (n : ℕ) → All (IsFieldIn n) ps → least_extent (map extent_of ps) ≡ None → AreDisjoint n ps
 fields_apart ps n each none =
@@ -25,5 +25,5 @@ fields_apart ps n each none =
       apart = λ i j d l m.
           (let nothing = pairs i j (extent_of d) l (omega (arith, len, m)) in
           let both : SharesNothing (extent_of (get_or ps i d)) (extent_of (get_or ps j d)) = subst (λ (e : Extent). SharesNothing e (extent_of (get_or ps j d))) (get_or-map extent_of ps i d (extent_of d) (omega arith)) (subst (λ (e : Extent). SharesNothing (get_or (map extent_of ps) i (extent_of d)) e) (get_or-map extent_of ps j d (extent_of d) m) nothing) in
-          beside (get_or ps i d) (get_or ps j d) (each i d (omega arith)).some (each j d m).some both);
+          pieces_are_apart (get_or ps i d) (get_or ps j d) (each i d (omega arith)).some (each j d m).some both);
     }

@@ -86,28 +86,28 @@ is_read l laws w =
 abbrev pub entries_read : Layout → ℕ → List DynamicEntry
 entries_read l room = entries_before_null (all_needed l ++ dynamic_records l room)
 
-told : (l : Layout) (room : ℕ) (tag : DynamicTag) → ImageLaws → needs_dynamic l.kind ≡ true → tag ≢ tags.Null → value_of_tag (dynamic_number tag) (entries_read l room) ≡ dynamic_entry l tag
-told l room tag laws needs other = laws.found l (all_needed l) (replicate (room / 16 - dynamic_count l) null_entry) tag (laws.needed.names l l.groups) needs other
+tag_has_value : (l : Layout) (room : ℕ) (tag : DynamicTag) → ImageLaws → needs_dynamic l.kind ≡ true → tag ≢ tags.Null → value_of_tag (dynamic_number tag) (entries_read l room) ≡ dynamic_entry l tag
+tag_has_value l room tag laws needs other = laws.found l (all_needed l) (replicate (room / 16 - dynamic_count l) null_entry) tag (laws.needed.names l l.groups) needs other
 
 pub sysv_told : (l : Layout) (room : ℕ) → ImageLaws → needs_dynamic l.kind ≡ true → value_of_tag dt_hash (entries_read l room) ≡ part_address (filled_part l role.SysvHash)
 unfolding dynamic_number dynamic_entry
-sysv_told l room laws needs = told l room tags.SysvHash laws needs (λ e. cc)
+sysv_told l room laws needs = tag_has_value l room tags.SysvHash laws needs (λ e. cc)
 
 pub gnu_told : (l : Layout) (room : ℕ) → ImageLaws → needs_dynamic l.kind ≡ true → value_of_tag dt_gnu_hash (entries_read l room) ≡ part_address (filled_part l role.GnuHash)
 unfolding dynamic_number dynamic_entry
-gnu_told l room laws needs = told l room tags.GnuHash laws needs (λ e. cc)
+gnu_told l room laws needs = tag_has_value l room tags.GnuHash laws needs (λ e. cc)
 
 pub symbols_told : (l : Layout) (room : ℕ) → ImageLaws → needs_dynamic l.kind ≡ true → value_of_tag dt_symtab (entries_read l room) ≡ part_address (part_with role.Dynsym l.parts)
 unfolding dynamic_number dynamic_entry
-symbols_told l room laws needs = told l room tags.SymbolTable laws needs (λ e. cc)
+symbols_told l room laws needs = tag_has_value l room tags.SymbolTable laws needs (λ e. cc)
 
 pub strings_told : (l : Layout) (room : ℕ) → ImageLaws → needs_dynamic l.kind ≡ true → value_of_tag dt_strtab (entries_read l room) ≡ part_address (part_with role.Dynstr l.parts)
 unfolding dynamic_number dynamic_entry
-strings_told l room laws needs = told l room tags.StringTable laws needs (λ e. cc)
+strings_told l room laws needs = tag_has_value l room tags.StringTable laws needs (λ e. cc)
 
 size_told : (l : Layout) (room : ℕ) → ImageLaws → needs_dynamic l.kind ≡ true → value_of_tag dt_strsz (entries_read l room) ≡ part_size (part_with role.Dynstr l.parts)
 unfolding dynamic_number dynamic_entry
-size_told l room laws needs = told l room tags.StringSize laws needs (λ e. cc)
+size_told l room laws needs = tag_has_value l room tags.StringSize laws needs (λ e. cc)
 
 -- the parts of a look-up in the table of a tag
 pub parts_read : (l : Layout) (tag : ℕ) → ImageLaws → (r : IsRead l) → tables_of (bytes l) tag ≡ parts_by (bytes l) (headers_of l) (entries_read l r.entries.room) (value_of_tag tag (entries_read l r.entries.room))

@@ -38,12 +38,12 @@ middles give bs (f ∷ fs) each h =
     rw (by_place give bs false false f each a.0) (middles give bs fs each a.1)
 
 -- a file and those behind it, the last of which is the last of all
-ends : (give : File → List ℕ) (bs : List ℕ) (first : Bool) (f : File) (fs : List File) → GivenByLast give bs → file_position_fits first (length fs == 0) f ≡ true → later_positions_fit true fs ≡ true → flat_map give (f ∷ fs) ≡ bs
-ends give bs first f [] each h rest = append-nil (give f) ∙ by_place give bs first true f each h
-ends give bs first f (g ∷ gs) each h rest =
+files_end_with : (give : File → List ℕ) (bs : List ℕ) (first : Bool) (f : File) (fs : List File) → GivenByLast give bs → file_position_fits first (length fs == 0) f ≡ true → later_positions_fit true fs ≡ true → flat_map give (f ∷ fs) ≡ bs
+files_end_with give bs first f [] each h rest = append-nil (give f) ∙ by_place give bs first true f each h
+files_end_with give bs first f (g ∷ gs) each h rest =
     let n = ne_eqb (length (g ∷ gs)) 0 (λ z. omega arith) in
     let a = and_parts (file_position_fits false (true && length gs == 0) g) (later_positions_fit true gs) rest in
-    rw (by_place give bs first false f each (rw n at h)) (ends give bs false g gs each a.0 a.1)
+    rw (by_place give bs first false f each (rw n at h)) (files_end_with give bs false g gs each a.0 a.1)
 
 -- the files of a group
 in_group : (give : File → List ℕ) (bs : List ℕ) (first last : Bool) (fs : List File) → GivenByLast give bs → group_positions_fit first last fs ≡ true → flat_map give fs ≡ (if last then bs else [])
@@ -52,7 +52,7 @@ in_group give bs false true [] each h = cc
 in_group give bs false false [] each h = refl
 in_group give bs first true (f ∷ fs) each h =
     let a = and_parts (file_position_fits first (true && length fs == 0) f) (later_positions_fit true fs) h in
-    ends give bs first f fs each a.0 a.1
+    files_end_with give bs first f fs each a.0 a.1
 in_group give bs first false (f ∷ fs) each h =
     let a = and_parts (file_position_fits first (false && length fs == 0) f) (later_positions_fit false fs) h in
     rw (by_place give bs first false f each a.0) (middles give bs fs each a.1)

@@ -59,9 +59,9 @@ found_any t (y ∷ ys) x h =
 asked : (l : Layout) (r : Role) (p : Part) → part_with r l.parts ≡ Some p → has_long l r ≡ true
 asked l r p found = or_left (list_any (has_role r) l.parts) (has_many_sections l) (found_any (has_role r) l.parts p found)
 
-given : (b : Bool) (xs : List ℕ) → b ≡ true → (if b then xs else []) ≡ xs
-given true xs h = refl
-given false xs h = cc
+list_if_true : (b : Bool) (xs : List ℕ) → b ≡ true → (if b then xs else []) ≡ xs
+list_if_true true xs h = refl
+list_if_true false xs h = cc
 
 -- ---- their bytes
 
@@ -83,10 +83,10 @@ by_entry ns = flat_map-map (word 4) long_of ns
 file_indexes : (l : Layout) (local : Bool) (f : File) → has_long l (index_role local) ≡ true → file_content l (index_role local) f ≡ spelled_of local (file_table l f)
 file_indexes l true f has =
     let all = index_bytes (long_indexes true (file_table l f)) in
-    rw (nil_if (is_prelude f.role)) (append-nil (indexes_of l role.SymtabShndxLocal true f) ∙ given (has_long l role.SymtabShndxLocal) all has ∙ by_entry (filter (is_side true) (file_table l f)))
+    rw (nil_if (is_prelude f.role)) (append-nil (indexes_of l role.SymtabShndxLocal true f) ∙ list_if_true (has_long l role.SymtabShndxLocal) all has ∙ by_entry (filter (is_side true) (file_table l f)))
 file_indexes l false f has =
     let all = index_bytes (long_indexes false (file_table l f)) in
-    rw (nil_if (is_prelude f.role)) (append-nil (indexes_of l role.SymtabShndxGlobal false f) ∙ given (has_long l role.SymtabShndxGlobal) all has ∙ by_entry (filter (is_side false) (file_table l f)))
+    rw (nil_if (is_prelude f.role)) (append-nil (indexes_of l role.SymtabShndxGlobal false f) ∙ list_if_true (has_long l role.SymtabShndxGlobal) all has ∙ by_entry (filter (is_side false) (file_table l f)))
 
 -- a group gives what its files give
 by_files : (l : Layout) (local : Bool) (g : Group) → content l (index_role local) g ≡ flat_map (file_content l (index_role local)) (placed_files l g)

@@ -70,16 +70,16 @@ middles o (f ∷ fs) h =
     let p = placed false false f a.0 in
     in_front o f fs (o.own f) (flat_map o.own fs) (o.middle f p.prelude p.epilogue) (middles o fs a.1)
 
-ends : {Y : Type 0} (o : InOrder Y) (f : File) (fs : List File) → later_positions_fit true (f ∷ fs) ≡ true → Ends o (f ∷ fs)
-ends {Y} o f [] h =
+later_files_end : {Y : Type 0} (o : InOrder Y) (f : File) (fs : List File) → later_positions_fit true (f ∷ fs) ≡ true → Ends o (f ∷ fs)
+later_files_end {Y} o f [] h =
     let a = and_parts (file_position_fits false true f) (later_positions_fit true []) h in
     let p = placed false true f a.0 in
     append-nil (o.items f) ∙ o.last f p.prelude p.epilogue ∙ ap (λ (xs : List Y). xs ++ o.behind) (sym (append-nil (o.own f)))
-ends o f (g ∷ gs) h =
+later_files_end o f (g ∷ gs) h =
     let a = and_parts (file_position_fits false (true && length (g ∷ gs) == 0) f) (later_positions_fit true (g ∷ gs)) h in
     let n = ne_eqb (length (g ∷ gs)) 0 (λ z. omega arith) in
     let p : IsPlaced false false f = placed false false f (rw n at a.0) in
-    in_front o f (g ∷ gs) (o.own f) (flat_map o.own (g ∷ gs) ++ o.behind) (o.middle f p.prelude p.epilogue) (ends o g gs a.1)
+    in_front o f (g ∷ gs) (o.own f) (flat_map o.own (g ∷ gs) ++ o.behind) (o.middle f p.prelude p.epilogue) (later_files_end o g gs a.1)
     ∙ sym (append_assoc (o.own f) (flat_map o.own (g ∷ gs)) o.behind)
 
 -- ---- groups
@@ -98,7 +98,7 @@ not_last o (f ∷ fs) t = middles o (f ∷ fs) t
 
 last_alone : {Y : Type 0} (o : InOrder Y) (fs : List File) → group_positions_fit false true fs ≡ true → Ends o fs
 last_alone o [] t = cc
-last_alone o (f ∷ fs) t = ends o f fs t
+last_alone o (f ∷ fs) t = later_files_end o f fs t
 
 -- where the groups are not the first
 later_groups : {Y : Type 0} (o : InOrder Y) (i : ℕ) (g : Group) (gs : List Group) → first_misplaced_file false i (g ∷ gs) ≡ None → Ends o (files_of (g ∷ gs))
@@ -125,7 +125,7 @@ all_but_first o i f [] [] t later =
     cc
 all_but_first o i f (g ∷ gs) [] t later =
     let a = and_parts (file_position_fits true (true && length (g ∷ gs) == 0) f) (later_positions_fit true (g ∷ gs)) t in
-    subst (Ends o) (sym (append-nil (g ∷ gs))) (ends o g gs a.1)
+    subst (Ends o) (sym (append-nil (g ∷ gs))) (later_files_end o g gs a.1)
 all_but_first o i f fs (x ∷ xs) t later =
     let n = ne_eqb (length (x ∷ xs)) 0 (λ z. omega arith) in
     let placed_there : group_positions_fit true false (f ∷ fs) ≡ true = rw n at t in

@@ -4,13 +4,13 @@ use Rattle.std.specs.Prelude.{MatchOption}
 use Rattle.wild_program.specs.declared.command.Command.{Command}
 use Rattle.wild_program.specs.Program.{IsLink, IsRelink, IsSpace, IsMakeCommand, IsCommand, Asks}
 
-none : (words : List (String Global)) → (IsSpace words → ⊥) → ((n : ℕ) → IsLink words n → ⊥) → ((n : ℕ) → IsRelink words n → ⊥) → (IsMakeCommand words → ⊥) → IsCommand words → ⊥
-none words space link relink make (inl (inl k)) = link k.0 k.1
-none words space link relink make (inl (inr (inl k))) = relink k.0 k.1
-none words space link relink make (inl (inr (inr k))) = space k
-none words space link relink make (inr k) = make k
+is_no_command : (words : List (String Global)) → (IsSpace words → ⊥) → ((n : ℕ) → IsLink words n → ⊥) → ((n : ℕ) → IsRelink words n → ⊥) → (IsMakeCommand words → ⊥) → IsCommand words → ⊥
+is_no_command words space link relink make (inl (inl k)) = link k.0 k.1
+is_no_command words space link relink make (inl (inr (inl k))) = relink k.0 k.1
+is_no_command words space link relink make (inl (inr (inr k))) = space k
+is_no_command words space link relink make (inr k) = make k
 
 -- words that are none of the others are the command that makes a layout, or no command
 pub last_command : (words : List (String Global)) (o : Option Command) → (IsSpace words → ⊥) → ((n : ℕ) → IsLink words n → ⊥) → ((n : ℕ) → IsRelink words n → ⊥) → MatchOption o (IsMakeCommand words → ⊥) (Asks words) → MatchOption o (IsCommand words → ⊥) (Asks words)
-last_command words None space link relink make = none words space link relink make
+last_command words None space link relink make = is_no_command words space link relink make
 last_command words (Some c) space link relink make = make

@@ -22,23 +22,23 @@ use Rattle.wild_references.proofs.Acts.{IsMeant}
 
 -- ---- own bytes
 
-abbrev beside : ℕ → List Partner → Bool
-beside k [] = true
-beside k (p ∷ ps) = (nat_lt k p.field || nat_le (p.field + p.width) k) && beside k ps
+abbrev outside_partners : ℕ → List Partner → Bool
+outside_partners k [] = true
+outside_partners k (p ∷ ps) = (nat_lt k p.field || nat_le (p.field + p.width) k) && outside_partners k ps
 
 abbrev is_own : Instruction → ℕ → Bool
-is_own o k = (nat_lt k o.field || nat_le (o.field + o.width) k) && beside k o.partners
+is_own o k = (nat_lt k o.field || nat_le (o.field + o.width) k) && outside_partners k o.partners
 
 outside : (k a b : ℕ) → (nat_lt k a || nat_le b k) ≡ true → (k < a) ⊎ (b ≤ k)
 outside k a b h = elim (or_cases (nat_lt k a) (nat_le b k) h) [ inl x ↦ inl (ltb-true k a x) | inr x ↦ inr (leb-true b k x) ]
 
-beside_is : (k : ℕ) (ps : List Partner) → beside k ps ≡ true → IsOutsidePartners k ps
+beside_is : (k : ℕ) (ps : List Partner) → outside_partners k ps ≡ true → IsOutsidePartners k ps
 beside_is k [] h = tt
-beside_is k (p ∷ ps) h = let two = and_parts (nat_lt k p.field || nat_le (p.field + p.width) k) (beside k ps) h in (outside k p.field (p.field + p.width) two.0, beside_is k ps two.1)
+beside_is k (p ∷ ps) h = let two = and_parts (nat_lt k p.field || nat_le (p.field + p.width) k) (outside_partners k ps) h in (outside k p.field (p.field + p.width) two.0, beside_is k ps two.1)
 
 own_is : (o : Instruction) (k : ℕ) → k < size_of o → is_own o k ≡ true → IsOwnByte o k
 own_is o k lt h =
-    let two = and_parts (nat_lt k o.field || nat_le (o.field + o.width) k) (beside k o.partners) h in
+    let two = and_parts (nat_lt k o.field || nat_le (o.field + o.width) k) (outside_partners k o.partners) h in
     record { inside = lt; beside = outside k o.field (o.field + o.width) two.0; apart = beside_is k o.partners two.1 }
 
 -- ---- cells that are no field's are own bytes

@@ -67,11 +67,11 @@ deed_is deed q y v h =
 -- what comes to that in the terms of one, comes to it in the other's
 by_reading : (read : Reader) (q v : ℕ) (deed : run-deed.Deed) (x : run-operand.Operand) (y : Operand) (o : Option ℕ) → action_of (does (runs.Sets q) x) ≡ Some (set_to q y) → read y ≡ o → option_map (as_effect deed) o ≡ Some (as_effect (runs.Sets q) v)
     → option_and_then (effect read) (action_of (does deed x)) ≡ Some (sets_to q v)
-by_reading read q v deed x y None told reads h = cc
-by_reading read q v deed x y (Some n) told reads h =
+by_reading read q v deed x y None known_effect reads h = cc
+by_reading read q v deed x y (Some n) known_effect reads h =
     let is = deed_is deed q n v h in
     subst (λ (d : run-deed.Deed). option_and_then (effect read) (action_of (does d x)) ≡ Some (sets_to q v)) (sym is.0)
-    (ap (λ o. option_and_then (effect read) o) told ∙ (rw reads (ap (λ (i : ℕ). Some (sets_to q i)) is.1)))
+    (ap (λ o. option_and_then (effect read) o) known_effect ∙ (rw reads (ap (λ (i : ℕ). Some (sets_to q i)) is.1)))
 
 performs : (read : Reader) (q v : ℕ) (deed : run-deed.Deed) (x : run-operand.Operand) → option_map (as_effect deed) (lower read x) ≡ Some (as_effect (runs.Sets q) v) → option_and_then (effect read) (action_of (does deed x)) ≡ Some (sets_to q v)
 performs read q v deed (has.Number n) h = by_reading read q v deed (has.Number n) (Number n) (read (Number n)) refl refl h
@@ -80,9 +80,9 @@ performs read q v deed (has.Offset n) h = by_reading read q v deed (has.Offset n
 performs read q v deed (has.Register r k) h = cc
 performs read q v deed (has.WordOf r k) h = cc
 
-told : (read : Reader) (q v : ℕ) (o : Option run-action.Action) → option_and_then (effect_of_action (lower read)) o ≡ Some (as_effect (runs.Sets q) v) → option_and_then (effect read) (option_and_then action_of o) ≡ Some (sets_to q v)
-told read q v None h = cc
-told read q v (Some act) h = performs read q v act.deed act.operand h
+known_effect : (read : Reader) (q v : ℕ) (o : Option run-action.Action) → option_and_then (effect_of_action (lower read)) o ≡ Some (as_effect (runs.Sets q) v) → option_and_then (effect read) (option_and_then action_of o) ≡ Some (sets_to q v)
+known_effect read q v None h = cc
+known_effect read q v (Some act) h = performs read q v act.deed act.operand h
 
 -- ---- what the words of a run set
 
@@ -170,7 +170,7 @@ demand_is ws a v t = ap (λ o. option_and_then (effect_of_action (judged.as_valu
 pub row_sets : RowsOfAArch64Keep → (t : Rewriting) → Contains rewritings t → (ws : List ℕ) (read : Reader) → ((x : ℕ) → read (Number x) ≡ Some x) → (base a x v : ℕ) → AreWords ws → words_match t.sequence ws ≡ true → IsValueOf t.run.target (lower read) base a x v → (s : IsSet ws (base + a))
     → option_and_then (effect read) (option_and_then action_of (meaning (base + a) (words_of (templates_at t.rows a x ws)))) ≡ Some (sets_to s.register v)
 row_sets law t known ws read numbers base a x v small stands comes s =
-    told read s.register v (meaning (base + a) (words_of (templates_at t.rows a x ws))) (law t known ws (lower read) numbers base a x v small stands comes ∙ demand_is ws (base + a) v s)
+    known_effect read s.register v (meaning (base + a) (words_of (templates_at t.rows a x ws))) (law t known ws (lower read) numbers base a x v small stands comes ∙ demand_is ws (base + a) v s)
 
 pub run_done : RowsOfAArch64Keep → (t : Rewriting) → Contains rewritings t → (ws : List ℕ) (read : Reader) → ((x : ℕ) → read (Number x) ≡ Some x) → (base a x v : ℕ) → AreWords ws → words_match t.sequence ws ≡ true → IsValueOf t.run.target (lower read) base a x v → RunDoes read (base + a) v ws (words_of (templates_at t.rows a x ws))
 run_done law t known ws read numbers base a x v small stands comes =

@@ -72,9 +72,9 @@ pub field_is : (l : Layout) (s : Item) (i : ℕ) (r : InputRelocation) (row : Ro
 field_is l s i r row v p = start_field r.offset (field_of (pattern_of row)) (template_start row r) (instruction_of row).field p.stands.before refl p.fits.field
 
 -- a byte is beside a field of the instruction, of another's width
-beside : (k start field width offset w : ℕ) → offset ≡ start + field → w ≡ width → (k < field) ⊎ (field + width ≤ k) → (start + k < offset) ⊎ (offset + w ≤ start + k)
-beside k start field width offset w e f (inl h) = inl (omega (arith, e, h))
-beside k start field width offset w e f (inr h) = inr (omega (arith, e, f, h))
+outside_field : (k start field width offset w : ℕ) → offset ≡ start + field → w ≡ width → (k < field) ⊎ (field + width ≤ k) → (start + k < offset) ⊎ (offset + w ≤ start + k)
+outside_field k start field width offset w e f (inl h) = inl (omega (arith, e, h))
+outside_field k start field width offset w e f (inr h) = inr (omega (arith, e, f, h))
 
 formula_here : (m : Machine) (n : ℕ) (f : Formula) → m ≡ machine.X86_64 → formula_of m n ≡ Some f → x86_64_formula n ≡ Some f
 formula_here m n f e h = subst (λ (x : Machine). formula_of x n ≡ Some f) e h
@@ -82,7 +82,7 @@ formula_here m n f e h = subst (λ (x : Machine). formula_of x n ≡ Some f) e h
 own_beside : (l : Layout) (s : Item) (i : ℕ) (r : InputRelocation) (row : Row) (v k : ℕ) → l.machine ≡ machine.X86_64 → IsPlacedRow l s i r row v → IsOwnByte (instruction_of row) k → IsOutsideField l r (template_start row r + k)
 own_beside l s i r row v k x86 p own = λ f known.
     let here = subst (λ (n : ℕ). x86_64_formula n ≡ Some f) p.chosen.number (formula_here l.machine r.number f x86 known) in
-    beside k (template_start row r) (instruction_of row).field (instruction_of row).width r.offset (form_width f.form) (field_is l s i r row v p) (own_width row f (chosen_listed l s r (slice_get s.relocations (i + 1)) row p.chosen has_its_width each_has_width) p.made.changes here) own.beside
+    outside_field k (template_start row r) (instruction_of row).field (instruction_of row).width r.offset (form_width f.form) (field_is l s i r row v p) (own_width row f (chosen_listed l s r (slice_get s.relocations (i + 1)) row p.chosen has_its_width each_has_width) p.made.changes here) own.beside
 
 by_partner : (k : ℕ) (cs : List Call) (c : Call) → cs ≡ c ∷ [] → IsOutsidePartners k cs → (k < c.field) ⊎ (c.field + c.width ≤ k)
 by_partner k cs c e h = (subst (λ (xs : List Call). IsOutsidePartners k xs) e h).0
@@ -124,7 +124,7 @@ taken_beside : (l : Layout) (s : Item) (i : ℕ) (r next : InputRelocation) (row
 taken_beside l s i r next row v k x86 p own h =
     let t = taken_call l s i r next row v p (skips_next l s i r next row v p h) h.listed in
     let c = partner_for (call_form row) t.pair.at in
-    λ f known. beside k (template_start row r) c.field c.width next.offset (form_width f.form) (call_place l s i r next row v p t) (t.pair.width next.number f t.call.number (formula_here l.machine next.number f x86 known)) (by_partner k (instruction_of row).partners c t.pair.is own.apart)
+    λ f known. outside_field k (template_start row r) c.field c.width next.offset (form_width f.form) (call_place l s i r next row v p t) (t.pair.width next.number f t.call.number (formula_here l.machine next.number f x86 known)) (by_partner k (instruction_of row).partners c t.pair.is own.apart)
 
 -- ---- every other relocation's
 

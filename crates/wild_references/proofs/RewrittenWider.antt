@@ -102,8 +102,8 @@ uncovered laws l s i j r q v from w row x86 decided t h other k lt any =
     field_out laws l s i j r q v from (from + k) w row x86 decided t h other (omega (arith, low)) (omega (arith, lt))
 
 -- another row's window leaves the prefix out
-apart : LawsBelow → (l : Layout) (s : Item) (i j : ℕ) (r q : InputRelocation) (v from w : ℕ) (row : Row) → l.machine ≡ machine.X86_64 → IsDecided l s → IsWider l s i r v from → HasDecision l s j q (Rewritten row w) → (j ≡ i → ⊥) → template_start row q ≤ from → from < template_start row q + pattern_size row → ⊥
-apart laws l s i j r q v from w row x86 decided t h other low high = by_cell (is_free (get_or (pattern_cells (pattern_of row)) (from - template_start row q) cells.Any)) refl
+fields_are_apart : LawsBelow → (l : Layout) (s : Item) (i j : ℕ) (r q : InputRelocation) (v from w : ℕ) (row : Row) → l.machine ≡ machine.X86_64 → IsDecided l s → IsWider l s i r v from → HasDecision l s j q (Rewritten row w) → (j ≡ i → ⊥) → template_start row q ≤ from → from < template_start row q + pattern_size row → ⊥
+fields_are_apart laws l s i j r q v from w row x86 decided t h other low high = by_cell (is_free (get_or (pattern_cells (pattern_of row)) (from - template_start row q) cells.Any)) refl
   where
     there : Window l s j q row w
     there = window l s j q row w x86 h
@@ -139,7 +139,7 @@ out_of_windows laws l s i r v from x86 decided t j q row w h =
         | inl before ↦ inl before
         | inr above ↦ elim (cases_lt from (template_start row q + pattern_size row)) [
           | inr behind ↦ inr behind
-          | inl inside ↦ absurd (apart laws l s i j r q v from w row x86 decided t h other above inside)
+          | inl inside ↦ absurd (fields_are_apart laws l s i j r q v from w row x86 decided t h other above inside)
         ]
       ]
     ]

@@ -256,9 +256,9 @@ gives_from_table law info kind = λ l w m s r x h f.
 -- ---- the same with the own symbol
 
 -- such an expression takes no offset
-bare : (v : Value) (l : Layout) (i : ℕ) → (TakesOffset v → ⊥) → (HasStubAddress l i → ⊥) ⊎ TakesOffset v → HasStubAddress l i → ⊥
-bare v l i none (inl alone) = alone
-bare v l i none (inr offset) = absurd (none offset)
+no_stub_needed : (v : Value) (l : Layout) (i : ℕ) → (TakesOffset v → ⊥) → (HasStubAddress l i → ⊥) ⊎ TakesOffset v → HasStubAddress l i → ⊥
+no_stub_needed v l i none (inl alone) = alone
+no_stub_needed v l i none (inr offset) = absurd (none offset)
 
 no_offset : (z : RelocationSize) → TakesOffset (shape.sized z SymbolAddress) → ⊥
 no_offset (ByteSize n) h = h
@@ -266,7 +266,7 @@ no_offset (BitMasking bits) h = h
 
 -- what the own symbol's address is of a row of S + A
 own_of_address : (info : RelocationKindInfo) (l : Layout) (w : World) (m : Memory) (s : Item) (r : InputRelocation) (x i : ℕ) → (symbol : (expression_of info.kind).term ≡ term.Symbol) → (h : HasTerm l w m s r info x) → IsAddressRow l w m s r info x h.term → r.symbol ≡ Some i → IsReplaceable l i true → (HasStubAddress l i → ⊥) ⊎ TakesOffset (value_by_row info) → OwnRefers (value_by_row info) l w s r h.term
-own_of_address info l w m s r x i symbol h a named whose alone = own_refers l w m s r info x i h symbol named whose (bare (value_by_row info) l i (λ o. no_offset info.size (subst TakesOffset a.value o)) alone)
+own_of_address info l w m s r x i symbol h a named whose alone = own_refers l w m s r info x i h symbol named whose (no_stub_needed (value_by_row info) l i (λ o. no_offset info.size (subst TakesOffset a.value o)) alone)
 
 pub links_sum : (info : RelocationKindInfo) → info.kind ≡ kinds.Absolute → RowGivesLinked info
 links_sum info kind = λ l w m s r x i h named whose alone.
@@ -291,13 +291,13 @@ links_distance info kind = λ l w m s r x i h named whose alone. by_row info kin
   where
     by_row : (info : RelocationKindInfo) → info.kind ≡ kinds.Relative → (l : Layout) (w : World) (m : Memory) (s : Item) (r : InputRelocation) (x i : ℕ) → (h : HasTerm l w m s r info x) → r.symbol ≡ Some i → IsReplaceable l i true → (HasStubAddress l i → ⊥) ⊎ TakesOffset (value_by_row info) → IsDistanceRow l w m s r info x h.term ⊎ IsPageRow l w m s r info x h.term → GivesLinked (value_by_row info) l w s r x
     by_row info kind l w m s r x i h named whose alone (inl d) =
-        let t = own_refers l w m s r info x i h (ap (λ (k : RelocationKind). (expression_of k).term) kind) named whose (bare (value_by_row info) l i (λ o. subst TakesOffset d.value o) alone) in
+        let t = own_refers l w m s r info x i h (ap (λ (k : RelocationKind). (expression_of k).term) kind) named whose (no_stub_needed (value_by_row info) l i (λ o. subst TakesOffset d.value o) alone) in
         let e = distance_is t.still w.base h.term (more r) (place_of s.address r) (right_relative l w m s r info x t.still h (inl kind) (subst IsPlaceRelative (sym d.value) tt) t.absolute) h.ends in
         let n = (with_base t.still w.base h.term + more r) % 2 ^ 64 in
         let at = ap (λ (p : ℕ). (n + (2 ^ 64 - p)) % 2 ^ 64) (sym h.place) in
         subst (λ (v : Value). GivesLinked v l w s r x) (sym d.value) (n, subst (λ (v : Value). IsOwnSum v l w s r n) d.value (own_sum (value_by_row info) l w s r h.term t), sym d.distance ∙ e ∙ at)
     by_row info kind l w m s r x i h named whose alone (inr d) =
-        let t = own_refers l w m s r info x i h (ap (λ (k : RelocationKind). (expression_of k).term) kind) named whose (bare (value_by_row info) l i (λ o. subst TakesOffset d.value o) alone) in
+        let t = own_refers l w m s r info x i h (ap (λ (k : RelocationKind). (expression_of k).term) kind) named whose (no_stub_needed (value_by_row info) l i (λ o. subst TakesOffset d.value o) alone) in
         let pages = (paged_on l w h.placed.paged d.on).pages in
         let e = page_distance_is t.still w.base h.term (more r) (place_of s.address r) pages (right_relative l w m s r info x t.still h (inl kind) (subst IsPlaceRelative (sym d.value) tt) t.absolute) h.ends in
         let n = (with_base t.still w.base h.term + more r) % 2 ^ 64 in
@@ -307,7 +307,7 @@ links_distance info kind = λ l w m s r x i h named whose alone. by_row info kin
 pub links_from_table : (info : RelocationKindInfo) → info.kind ≡ kinds.SymRelGotBase → RowGivesLinked info
 links_from_table info kind = λ l w m s r x i h named whose alone.
     let d = table_row l w m s r info x h kind in
-    let t = own_refers l w m s r info x i h (ap (λ (k : RelocationKind). (expression_of k).term) kind) named whose (bare (value_by_row info) l i (λ o. subst TakesOffset d.value o) alone) in
+    let t = own_refers l w m s r info x i h (ap (λ (k : RelocationKind). (expression_of k).term) kind) named whose (no_stub_needed (value_by_row info) l i (λ o. subst TakesOffset d.value o) alone) in
     let e = table_is t.still w.base h.term (more r) l.got_base (right_relative l w m s r info x t.still h (inr kind) (subst IsPlaceRelative (sym d.value) tt) t.absolute) h.placed.got in
     let n = (with_base t.still w.base h.term + more r) % 2 ^ 64 in
     subst (λ (v : Value). GivesLinked v l w s r x) (sym d.value) (n, subst (λ (v : Value). IsOwnSum v l w s r n) d.value (own_sum (value_by_row info) l w s r h.term t), sym d.distance ∙ e)

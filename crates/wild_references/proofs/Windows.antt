@@ -26,9 +26,9 @@ use Rattle.wild_references.proofs.WordWindows.{HasPiece, word_here, own_piece}
 pub formula_width : (l : Layout) (n : ℕ) (f : Formula) → l.machine ≡ machine.X86_64 → formula_of l.machine n ≡ Some f → form_width f.form ≡ width_of n
 formula_width l n f x86 h = sym (ap width_by (rw x86 at h))
 
-pub beside : (l : Layout) (q : InputRelocation) (k : ℕ) → l.machine ≡ machine.X86_64 → (k < q.offset) ⊎ (q.offset + width_of q.number ≤ k) → IsOutsideField l q k
-beside l q k x86 (inl low) f known = inl low
-beside l q k x86 (inr high) f known = let w = formula_width l q.number f x86 known in inr (omega (arith, w, high))
+pub outside_window : (l : Layout) (q : InputRelocation) (k : ℕ) → l.machine ≡ machine.X86_64 → (k < q.offset) ⊎ (q.offset + width_of q.number ≤ k) → IsOutsideField l q k
+outside_window l q k x86 (inl low) f known = inl low
+outside_window l q k x86 (inr high) f known = let w = formula_width l q.number f x86 known in inr (omega (arith, w, high))
 
 -- a byte lies before a number or not
 pub order : (k n : ℕ) → (k < n) ⊎ (n + 0 ≤ k)
@@ -47,11 +47,11 @@ instructions_alone l s x86 whole i j r q row v d hi hj other no_call k low high 
     not_own h (inr e) same = no_call (e.0 ∙ ap (λ (n : ℕ). n + 1) (sym same)) e.1
 
     by : (width_of q.number ≡ 0) ⊎ HasSite l s j q d → IsOutsideField l q k
-    by (inl none) = beside l q k x86 (subst (λ (n : ℕ). (k < q.offset) ⊎ (q.offset + n ≤ k)) (sym none) (order k q.offset))
+    by (inl none) = outside_window l q k x86 (subst (λ (n : ℕ). (k < q.offset) ⊎ (q.offset + n ≤ k)) (sym none) (order k q.offset))
     by (inr h) =
         let w = window_is l s i r row v x86 hi in
         let a = sites_apart l s whole i h.index r h.owner (Rewritten row v) h.decision (template_site s r row v) h.piece hi h.has (not_own h h.own) refl h.only in
-        beside l q k x86 (apart_from k (template_start row r) (pattern_size row) q.offset (width_of q.number) (template_site s r row v) h.piece refl w.long low high h.from h.to a)
+        outside_window l q k x86 (apart_from k (template_start row r) (pattern_size row) q.offset (width_of q.number) (template_site s r row v) h.piece refl w.long low high h.from h.to a)
 
 -- on AArch64 each word has its own relocation
 words_alone : (l : Layout) (s : Item) → l.machine ≡ machine.AArch64 → IsDecided l s → (i j : ℕ) (r q : InputRelocation) (row : Row) (v : ℕ) (d : Decision) → HasDecision l s i r (Rewritten row v) → HasDecision l s j q d → (i ≡ j → ⊥)

@@ -76,19 +76,19 @@ code_high distances.TstBr14 = omega arith
 code_high distances.Plt32 = omega arith
 
 -- no relocation type is of both machines but that which does nothing
-apart : (w : Written) → is_aarch64 w ≡ true → x86_64_row (number_written w) ≡ None
+no_x86_64_row : (w : Written) → is_aarch64 w ≡ true → x86_64_row (number_written w) ≡ None
 unfolding x86_64_row
-apart (written.Code distances.Jump26 goal) h = refl
-apart (written.Code distances.Call26 goal) h = refl
-apart (written.Code distances.CondBr19 goal) h = refl
-apart (written.Code distances.TstBr14 goal) h = refl
-apart (written.Code distances.Plt32 goal) h = refl
-apart written.TlsLeMovwTprelG1 h = refl
-apart written.TlsLeMovwTprelG0Nc h = refl
-apart written.TlsIeAdrGotTprelPage21 h = refl
-apart written.TlsIeLd64GotTprelLo12Nc h = refl
-apart written.AdrPrelLo21 h = refl
-apart other h = cc
+no_x86_64_row (written.Code distances.Jump26 goal) h = refl
+no_x86_64_row (written.Code distances.Call26 goal) h = refl
+no_x86_64_row (written.Code distances.CondBr19 goal) h = refl
+no_x86_64_row (written.Code distances.TstBr14 goal) h = refl
+no_x86_64_row (written.Code distances.Plt32 goal) h = refl
+no_x86_64_row written.TlsLeMovwTprelG1 h = refl
+no_x86_64_row written.TlsLeMovwTprelG0Nc h = refl
+no_x86_64_row written.TlsIeAdrGotTprelPage21 h = refl
+no_x86_64_row written.TlsIeLd64GotTprelLo12Nc h = refl
+no_x86_64_row written.AdrPrelLo21 h = refl
+no_x86_64_row other h = cc
 
 plain_going : (w : Written) (i : RelocationKindInfo) → is_aarch64 w ≡ false → going w i ≡ i
 plain_going (written.Code d goal) i h = cc
@@ -104,7 +104,7 @@ pub of_x86_64 : (w : Written) (info : RelocationKindInfo) → Some info ≡ x86_
 of_x86_64 w info e =
     elim (cases_Bool (is_aarch64 w)) [
       | inr f ↦ f
-      | inl t ↦ (let none : Some info ≡ None = e ∙ apart w t in cc)
+      | inl t ↦ (let none : Some info ≡ None = e ∙ no_x86_64_row w t in cc)
     ]
 
 pub info_is : (row : Row) (info : RelocationKindInfo) → Some info ≡ x86_64_row (rewrite_of row).number → info ≡ info_written row

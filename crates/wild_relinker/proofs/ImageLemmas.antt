@@ -103,12 +103,12 @@ corrected-changed l c s ks = ap (counts_if l c s ks) (is_omitted-changed l c (ch
 
 -- ---- the image
 
-apart : (l : Layout) → IsLaidOut l → AreDisjoint (length (padding l)) (pieces l)
-apart l laid = subst (λ (n : ℕ). AreDisjoint n (pieces l)) (sym (length-padding l)) laid.owners
+pieces_are_disjoint : (l : Layout) → IsLaidOut l → AreDisjoint (length (padding l)) (pieces l)
+pieces_are_disjoint l laid = subst (λ (n : ℕ). AreDisjoint n (pieces l)) (sym (length-padding l)) laid.owners
 
 pub length-bytes : (l : Layout) → IsLaidOut l → length (bytes l) ≡ image_size l
 unfolding bytes
-length-bytes l laid = length-overlay (pieces l) (padding l) (apart l laid) ∙ length-padding l
+length-bytes l laid = length-overlay (pieces l) (padding l) (pieces_are_disjoint l laid) ∙ length-padding l
 
 pub laid_out : LayoutsAreLaidOut → (l : Layout) → errors l ≡ [] → IsLaidOut l
 laid_out law l none = let b = none_before l none in law l b.0 b.1

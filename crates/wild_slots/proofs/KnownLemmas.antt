@@ -140,13 +140,13 @@ given_first {X} f at w ws low (Some x) e =
     let P : ℕ → Type 0 = λ (p : ℕ). f p w ≡ Some x in
     All-cons (IsGiven f at (w ∷ ws)) x [] (record { number = 0; word = w; there = refl; is = subst P z e }) (All-nil (IsGiven f at (w ∷ ws)))
 
-given : {X : Type 0} (f : ℕ → SlotWord → Option X) (at : ℕ) (ws : List SlotWord) → at < 2 ^ 64 → All (IsGiven f at ws) (at_places f at ws)
-given f at [] low = All-nil (IsGiven f at [])
-given f at (w ∷ ws) low =
+place_of_word : {X : Type 0} (f : ℕ → SlotWord → Option X) (at : ℕ) (ws : List SlotWord) → at < 2 ^ 64 → All (IsGiven f at ws) (at_places f at ws)
+place_of_word f at [] low = All-nil (IsGiven f at [])
+place_of_word f at (w ∷ ws) low =
     let below : next at < 2 ^ 64 = omega arith in
     All-append (IsGiven f at (w ∷ ws)) (option_to_list (f at w)) (at_places f (next at) ws)
     (given_first f at w ws low (f at w) refl)
-    (All-weaker (IsGiven f (next at) ws) (IsGiven f at (w ∷ ws)) (λ x g. given_later f at w ws x g) (at_places f (next at) ws) (given f (next at) ws below))
+    (All-weaker (IsGiven f (next at) ws) (IsGiven f at (w ∷ ws)) (λ x g. given_later f at w ws x g) (at_places f (next at) ws) (place_of_word f (next at) ws below))
 
 low_place : (o : Option ℕ) → ((at : ℕ) → o ≡ Some at → at < 2 ^ 64) → unwrap_or o 0 < 2 ^ 64
 low_place None h = omega arith
@@ -165,4 +165,4 @@ entries_of_words l f part low =
     one s c h =
         All-weaker (IsGiven (entry_of part l.machine l.options.relr) (slots_address s) (slots_of l s).words) (IsOfWord l f part)
         (λ e g. record { symbol = s; own = c; number = g.number; word = g.word; there = g.there; is = g.is })
-        (symbol_entries part l s) (given (entry_of part l.machine l.options.relr) (slots_address s) (slots_of l s).words (low_place (got_of s) h))
+        (symbol_entries part l s) (place_of_word (entry_of part l.machine l.options.relr) (slots_address s) (slots_of l s).words (low_place (got_of s) h))

@@ -39,7 +39,7 @@ use Rattle.wild_slots.proofs.OrderLemmas.{IsPlacedAfter, AreInOrder-from_test}
 use Rattle.wild_slots.proofs.TableLemmas.{symbol_bytes, IsTable, got_table, block_table, stub_table, length-symbols, headless, headed}
 use Rattle.wild_slots.proofs.BlockWordLemmas.{first_alone, none_in_block, begins, only_word}
 use Rattle.wild_slots.proofs.PlaceLemmas.{no_block_words}
-use Rattle.wild_slots.proofs.SymbolPlaces.{stood}
+use Rattle.wild_slots.proofs.SymbolPlaces.{free_place_is}
 
 -- ---- which file writes a symbol
 
@@ -126,8 +126,8 @@ found l h i at s e g =
       written = written l s c;
       some = groups_there (group_symbols l) l.groups s c;
       cut = cut;
-      words = stood _ at (got_of s) p.0 g;
-      stub = λ q k. stood free.stub q (plt_of s) p.1 k;
+      words = free_place_is _ at (got_of s) p.0 g;
+      stub = λ q k. free_place_is free.stub q (plt_of s) p.1 k;
     }
 
 -- the only word of a symbol, one of the block

@@ -60,16 +60,16 @@ pub record IsAt (l : Layout) (s : Symbol) (free : SlotCursor) : Type 0 where
   pub words : (at : ℕ) → got_of s ≡ Some at → slots_address s ≡ (if begins_relr_got (slots_of l s).words then free.block else free.got)
   pub stub : (p : ℕ) → plt_of s ≡ Some p → p ≡ free.stub
 
-pub stood : (free at : ℕ) (o : Option ℕ) → is_free_place free o ≡ true → o ≡ Some at → at ≡ free
-stood free at None h e = cc
-stood free at (Some a) h e = let i : a ≡ at = cc in sym i ∙ eqb-true a free h
+pub free_place_is : (free at : ℕ) (o : Option ℕ) → is_free_place free o ≡ true → o ≡ Some at → at ≡ free
+free_place_is free at None h e = cc
+free_place_is free at (Some a) h e = let i : a ≡ at = cc in sym i ∙ eqb-true a free h
 
 pub IsAt-from : (l : Layout) (front : List Symbol) (s : Symbol) (h : IsPlacedAfter l front s) → IsAt l s h.free
 IsAt-from l front s h =
     let p = and_parts (is_free_place (if begins_relr_got (slots_of l s).words then h.free.block else h.free.got) (got_of s)) (is_free_place h.free.stub (plt_of s)) h.next in
     record {
-      words = λ at g. ap (λ (o : Option ℕ). unwrap_or o 0) g ∙ stood _ at (got_of s) p.0 g;
-      stub = λ q e. stood h.free.stub q (plt_of s) p.1 e;
+      words = λ at g. ap (λ (o : Option ℕ). unwrap_or o 0) g ∙ free_place_is _ at (got_of s) p.0 g;
+      stub = λ q e. free_place_is h.free.stub q (plt_of s) p.1 e;
     }
 
 -- ---- the words of blocks

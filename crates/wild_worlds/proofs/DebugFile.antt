@@ -178,9 +178,9 @@ flags = All-from_recursion HasItsFlags (function ∷ []) (own, tt)
 
 -- ---- the world
 
-told : IsConsistent debug_file
+debug_file_is_consistent : IsConsistent debug_file
 unfolding debug_file
-told = record {
+debug_file_is_consistent = record {
   faultless = faultless;
   numbers = numbers;
   sizes = All-from_recursion (λ (s : Symbol). s.size < 2 ^ 64) (function ∷ []) (omega arith, tt);
@@ -200,7 +200,7 @@ roomy = record { aligned = refl; ends = All-from_recursion (λ (g : Segment). 0x
 
 world : LayoutsAreLaidOut → HasWorld debug_file 0x10000 (λ a. 0) others
 unfolding debug_file
-world laws = (worlds_there laws).elsewhere debug_file 0x10000 (λ a. 0) others (λ a. omega arith) numbers_of tt roomy told
+world laws = (worlds_there laws).elsewhere debug_file 0x10000 (λ a. 0) others (λ a. omega arith) numbers_of tt roomy debug_file_is_consistent
 
 -- ---- the function
 

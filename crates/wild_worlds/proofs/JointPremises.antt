@@ -106,8 +106,8 @@ word_call stub k e n m f own plain =
 
 -- ---- the world
 
-told : (c : Code) (k : OutputKind) (e : Role) (n m : ℕ) (f : Symbol) → f.size < 2 ^ 64 → errors (calling_layout c k e n m f) ≡ [] → NumbersFit (calling_layout c k e n m f) → IsConsistent (calling_layout c k e n m f)
-told c k e n m f small none numbers = record {
+joint_layout_is_consistent : (c : Code) (k : OutputKind) (e : Role) (n m : ℕ) (f : Symbol) → f.size < 2 ^ 64 → errors (calling_layout c k e n m f) ≡ [] → NumbersFit (calling_layout c k e n m f) → IsConsistent (calling_layout c k e n m f)
+joint_layout_is_consistent c k e n m f small none numbers = record {
   faultless = none;
   numbers = numbers;
   sizes = All-from_recursion (λ (s : Symbol). s.size < 2 ^ 64) (f ∷ []) (small, tt);
@@ -132,7 +132,7 @@ world c k e n m f short laws movable t = (worlds_there laws).elsewhere (calling_
 pub joined : (c : Code) (k : OutputKind) (e : Role) (n m : ℕ) (f : Symbol) → c.stub < 2 ^ 32 → LayoutsAreLaidOut → IsSound (calling_layout c k e n m f) (bytes (calling_layout c k e n m f)) → IsMovable k → f.size < 2 ^ 64 → HasCall (calling_layout c k e n m f) → errors (calling_layout c k e n m f) ≡ [] → NumbersFit (calling_layout c k e n m f) → IsJoined (calling_layout c k e n m f)
 joined c k e n m f short laws sound movable small call none numbers =
     let l = calling_layout c k e n m f in
-    let w = world c k e n m f short laws movable (told c k e n m f small none numbers) in
+    let w = world c k e n m f short laws movable (joint_layout_is_consistent c k e n m f small none numbers) in
     let right = sound (inr movable) in
     let linked = right.1 w.world w.legal in
     record {
