@@ -40,6 +40,7 @@ mod CopyLoaded
 mod CopyLinked
 mod SegmentsRefused
 mod TermsRefused
+mod SequencesRefused
 mod WordsRefused
 pub mod InstructionsAArch64
 mod WordsLegal

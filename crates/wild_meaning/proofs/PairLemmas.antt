@@ -18,7 +18,7 @@ use Rattle.wild_meaning.specs.World.{IsExecutable}
 use Rattle.wild_meaning.specs.Value.{HasFlag}
 use Rattle.wild_types.specs.Item.{Item}
 use Rattle.wild_meaning.specs.Sequence.{Sort, Target, TargetInSlot, AddressInSlot, OffsetInSlot, SymbolPair, OwnPair, Described, DescribedCall, Address, FieldBits, Named, Getter, Partner, Condition, Instruction, of_output, of_symbol, by_call, by_slot, by_distance, instructions_of}
-use Rattle.wild_meaning.specs.Partners.{NamesGetter, NamesRequiredSymbol, HasPartner, HasPartners, AreMet}
+use Rattle.wild_meaning.specs.Partners.{NamesGetter, HasCallAddend, NamesRequiredSymbol, HasPartner, HasPartners, AreMet}
 use Rattle.wild_meaning.specs.Template.{IsInstruction, IsSequence, IsOfSequence, field_origin}
 use Rattle.wild_meaning.specs.Reference.{CountsFromPlace}
 use Rattle.wild_meaning.proofs.AmongLemmas.{Among, pick}
@@ -121,6 +121,7 @@ pub record HasCall (l : Layout) (item : Item) (first second : InputRelocation) (
   pub field : second.offset ≡ start + p.field
   pub number : Contains p.numbers second.number
   pub getter : NamesGetter l second
+  pub addend : HasCallAddend p.width second
 
 pub record IsGetterCall (l : Layout) (item : Item) (first second : InputRelocation) (start : ℕ) (o : Instruction) : Type 0 where
   pub executable : IsExecutable l.kind
@@ -177,6 +178,7 @@ as_pair l item first rest start o x q =
     let t = one_call l o x q.stands.known q.several in
     let h = only l item first start (q.index + 1) t.call rest (subst (λ (ps : List Partner). HasPartners l item first start (q.index + 1) ps rest) t.calls q.has) in
     let on = is_on l q.symbol first.number o t.met q.stands.number q.met in
+    let names = subst (λ (n : Named). NamesRequiredSymbol l first h.second t.call.width n) t.getter h.has.names in
     record {
       second = h.second;
       is = h.is;
@@ -185,7 +187,7 @@ as_pair l item first rest start o x q =
         stands = q.stands;
         partner = t.call;
         calls = t.calls;
-        has = record { index = q.index; listed = q.listed; next = h.has.listed; field = h.has.field; number = h.has.number; getter = subst (λ (n : Named). NamesRequiredSymbol l first h.second n) t.getter h.has.names };
+        has = record { index = q.index; listed = q.listed; next = h.has.listed; field = h.has.field; number = h.has.number; getter = names.0; addend = names.1 };
         symbol = q.symbol;
         named = q.named;
         plain = on.plain;
@@ -204,7 +206,7 @@ sequence_of l item first second start o x q =
       several = several;
       index = q.has.index;
       listed = q.has.listed;
-      has = subst (λ (ps : List Partner). HasPartners l item first start (q.has.index + 1) ps (second ∷ [])) (sym q.calls) (record { listed = q.has.next; field = q.has.field; number = q.has.number; names = subst (λ (n : Named). NamesRequiredSymbol l first second n) (sym names) q.has.getter }, tt);
+      has = subst (λ (ps : List Partner). HasPartners l item first start (q.has.index + 1) ps (second ∷ [])) (sym q.calls) (record { listed = q.has.next; field = q.has.field; number = q.has.number; names = subst (λ (n : Named). NamesRequiredSymbol l first second q.partner.width n) (sym names) (q.has.getter, q.has.addend) }, tt);
       symbol = q.symbol;
       named = q.named;
       met = are_met l q.symbol first.number o t.met q.stands.number (record { executable = q.executable; plain = q.plain; rewritten = q.rewritten });

@@ -81,7 +81,7 @@ general_sequence = record {
   several = omega arith;
   index = 0;
   listed = refl;
-  has = (record { listed = refl; field = refl; number = (1, omega arith, refl); names = record { index = 3; named = refl; symbol = getter_symbol; listed = refl; getter = refl } }, tt);
+  has = (record { listed = refl; field = refl; number = (1, omega arith, refl); names = (record { index = 3; named = refl; symbol = getter_symbol; listed = refl; getter = refl }, refl) }, tt);
   symbol = 2;
   named = refl;
   met = (tt, (plain_thread, ((λ other. refl), tt)));

@@ -1,14 +1,16 @@
 -- Fields of data that hold another number than their type's expression are refused.
 use Rattle.std.proofs.Common.{◌≡◌, ℕ, ◌+◌, ◌-◌, ◌/◌, ◌%◌, ◌^◌, ◌≤◌, inl, inr, List, [], ◌∷◌, length, refl, sym, ap, ◌∙◌, subst, arith}
-use Rattle.std.specs.Prelude.{Option, Some, None, slice_range}
+use Rattle.std.specs.Prelude.{◌≢◌, if◌then◌else◌, Option, Some, None, slice_range}
 use Rattle.std.specs.Int.{w64, cast_unsigned}
 use Rattle.wild_words.specs.Words.{number}
-use Rattle.wild_records.specs.Abi.Relocation.{r_x86_64_32, r_x86_64_gotoff64, r_x86_64_gotpc64, r_x86_64_pltoff64, r_aarch64_ldst32_abs_lo12_nc}
-use Rattle.wild_reloc.specs.Formula.{Formula, formula, Value, SymbolAddress, SymbolPart, FromTable, StubFromTable, TableDistance, Plain, Unsigned, Full, Imm12Field, NoCheck, Bits}
+use Rattle.wild_records.specs.Abi.Relocation.{r_x86_64_32, r_x86_64_got64, r_x86_64_gotoff64, r_x86_64_gotpc64, r_x86_64_pltoff64, r_x86_64_dtpoff64, r_aarch64_adr_prel_pg_hi21, r_aarch64_adr_got_page, r_aarch64_ld64_gotpage_lo15, r_aarch64_ldst32_abs_lo12_nc}
+use Rattle.wild_reloc.specs.Formula.{Formula, formula, Value, SymbolAddress, SymbolPart, PageDistance, FromTable, StubFromTable, TableDistance, SlotPageDistance, SlotFromTable, SlotFromTablePage, AddressSlot, ModuleOffset, Plain, Unsigned, Full, Field, AdrField, Imm12Field, Check, NoCheck, BelowPower, WithinPower, Bits, ReadsBits, immediate}
 use Rattle.wild_reloc.specs.FormulaX86_64.{x86_64_formula}
 use Rattle.wild_reloc.specs.FormulaAArch64.{aarch64_formula}
 use Rattle.wild_types.specs.declared.kind.Machine.{Machine}
 use Rattle.wild_types.specs.declared.kind.Machine.TheVariants as machine
+use Rattle.wild_types.specs.declared.kind.OutputKind.{OutputKind}
+use Rattle.wild_types.specs.declared.kind.OutputKind.TheVariants as output
 use Rattle.wild_types.specs.declared.input.InputRelocation.{InputRelocation}
 use Rattle.wild_types.specs.declared.layout.Layout.{Layout}
 use Rattle.wild_types.specs.Item.{Item}
@@ -17,8 +19,15 @@ use Rattle.wild_loader.specs.declared.world.World.{World}
 use Rattle.wild_loader.specs.Memory.{number_in}
 use Rattle.wild_meaning.specs.Item.{place_at}
 use Rattle.wild_meaning.specs.Field.{formula_of, FieldReads}
-use Rattle.wild_meaning.specs.Formula.{table_at, IsReferent, IsReferentOnX86_64, IsReferentOnMachine, IsSum}
-use Rattle.wild_meaning.specs.Worked.TermRefusals.{HoldsInData, HasNumber, WrongTermsAreRefused, CutNumbersAreRefused, OtherBitsAreRefused}
+use Rattle.wild_reloc.specs.BarredTypes.{is_listed}
+use Rattle.wild_meaning.specs.World.{IsExecutable}
+use Rattle.wild_meaning.specs.Value.{HasValue}
+use Rattle.wild_meaning.specs.Denotes.{IsAddressStub}
+use Rattle.wild_meaning.specs.Thread.{HasThreadOffset, IsOffsetBase}
+use Rattle.wild_meaning.specs.Slot.{IsSlotOf, IsSlot}
+use Rattle.wild_meaning.specs.ReferentAArch64.{IsUndefinedWeak, branch_types, own_place, IsOneAddress}
+use Rattle.wild_meaning.specs.Formula.{table_at, page_of, IsOffset, IsReferent, IsReferentOnX86_64, IsReferentOnAArch64, IsReferentOnMachine, IsSum}
+use Rattle.wild_meaning.specs.Worked.TermRefusals.{HoldsInData, HasNumber, HasImmediate, HoldsPage, page_bits, WrongTermsAreRefused, WrongPagesAreRefused, CutNumbersAreRefused, OtherBitsAreRefused}
 use Rattle.wild_meaning.proofs.Read.{full_of, number_of}
 use Rattle.wild_meaning.proofs.Refused.{HasValueThere, data_there}
 use Rattle.wild_meaning.proofs.StringLemmas.{nameless, referent_by}
@@ -62,6 +71,28 @@ word_formula : aarch64_formula r_aarch64_ldst32_abs_lo12_nc ≡ Some (formula Sy
 unfolding aarch64_formula
 word_formula = refl
 
+slot_formula : x86_64_formula r_x86_64_got64 ≡ Some (formula SlotFromTable Full)
+unfolding x86_64_formula
+slot_formula = refl
+
+inside_formula : x86_64_formula r_x86_64_dtpoff64 ≡ Some (formula ModuleOffset Full)
+unfolding x86_64_formula
+inside_formula = refl
+
+-- the slot of a reference's symbol
+slot_of : (l : Layout) (w : World) (m : Memory) (o : Option ℕ) (i g : ℕ) → o ≡ Some i → IsSlot AddressSlot l w m o g → IsSlotOf AddressSlot l w m i g
+slot_of l w m o i g named h = subst (λ (x : Option ℕ). IsSlot AddressSlot l w m x g) named h
+
+-- in an executable offsets count from the thread pointer
+program_base : (k : OutputKind) (w : World) (b : ℕ) → IsExecutable k → IsOffsetBase machine.X86_64 k w b → b ≡ 0
+program_base (output.StaticExecutable any) w b h e = e
+program_base (output.DynamicExecutable any) w b h e = e
+program_base output.SharedObject w b h e = absurd h
+program_base output.PartialObject w b h e = absurd h
+
+pub base_is : (l : Layout) (w : World) (b : ℕ) → l.machine ≡ machine.X86_64 → IsExecutable l.kind → IsOffsetBase l.machine l.kind w b → b ≡ 0
+base_is l w b x program h = program_base l.kind w b program (subst (λ (k : Machine). IsOffsetBase k l.kind w b) x h)
+
 pub wrong_terms : WrongTermsAreRefused
 wrong_terms = record {
   table = λ l w m item r n h there wrong.
@@ -75,6 +106,101 @@ wrong_terms = record {
       (let v = value_in_data machine.X86_64 r_x86_64_pltoff64 l w m item r (formula StubFromTable Full) stub_formula h in
       let zero = nothing_is l StubFromTable w m item r v.gives.0 h.machine none (λ b e. e) v.gives.1 in
       wrong (sym (full_of w m item r v.value n v.field there) ∙ (v.gives.2 ∙ ap (λ (a : ℕ). (a + cast_unsigned w64 r.addend + (2 ^ 64 - table_at l w)) % 2 ^ 64) zero ∙ ap (λ (a : ℕ). (a + (2 ^ 64 - table_at l w)) % 2 ^ 64) (none_added (cast_unsigned w64 r.addend)))));
+  slot = λ l w m item r i n h named there wrong.
+      (let v = value_in_data machine.X86_64 r_x86_64_got64 l w m item r (formula SlotFromTable Full) slot_formula h in
+      let s = slot_of l w m r.symbol i v.gives.0 named v.gives.1 in
+      wrong s.slot s.given (sym (full_of w m item r v.value n v.field there) ∙ (v.gives.2 ∙ ap (λ (g : ℕ). (g + cast_unsigned w64 r.addend + (2 ^ 64 - table_at l w)) % 2 ^ 64) s.moves)));
+  inside = λ l w m item r i n h named program there wrong.
+      (let v = value_in_data machine.X86_64 r_x86_64_dtpoff64 l w m item r (formula ModuleOffset Full) inside_formula h in
+      let t : HasThreadOffset l w i v.gives.0 = subst (λ (o : Option ℕ). IsOffset l w o v.gives.0) named v.gives.2 in
+      let base : v.gives.1 ≡ 0 = base_is l w v.gives.1 h.machine program v.gives.3 in
+      let is : v.value ≡ (v.gives.0 + cast_unsigned w64 r.addend + (2 ^ 64 - v.gives.1)) % 2 ^ 64 = v.gives.4 in
+      let same : v.value ≡ n = full_of w m item r v.value n v.field there in
+      wrong v.gives.0 t (omega (arith, base, is, same)));
+}
+
+-- ---- pages
+
+bits_are : (w : World) (m : Memory) (item : Item) (r : InputRelocation) (field : Field) (high low : ℕ) (check : Check) (unit x n : ℕ) → FieldReads w m item r (Bits field high low check unit) x → HasImmediate w m item r field n → n ≡ x / 2 ^ low % 2 ^ (high + 1 - low)
+bits_are w m item r field high low check unit x n f h =
+    let word : number f.bytes ≡ h.word = number_of m (place_at w item r.offset) 4 h.word f.bytes f.wide f.held h.there in
+    let reads : ReadsBits field high low check unit (number f.bytes) x = f.reads in
+    sym h.is ∙ (ap (immediate field) (sym word) ∙ reads.bits)
+
+page_formula : aarch64_formula r_aarch64_adr_prel_pg_hi21 ≡ Some (formula PageDistance (Bits AdrField 32 12 (WithinPower 33) 4096))
+unfolding aarch64_formula
+page_formula = refl
+
+slot_page_formula : aarch64_formula r_aarch64_adr_got_page ≡ Some (formula (SlotPageDistance AddressSlot) (Bits AdrField 32 12 (WithinPower 33) 4096))
+unfolding aarch64_formula
+slot_page_formula = refl
+
+slot_offset_formula : aarch64_formula r_aarch64_ld64_gotpage_lo15 ≡ Some (formula SlotFromTablePage (Bits Imm12Field 14 3 (BelowPower 15) 8))
+unfolding aarch64_formula
+slot_offset_formula = refl
+
+-- what the page is of
+record IsPage (l : Layout) (w : World) (m : Memory) (item : Item) (r : InputRelocation) (i n : ℕ) : Type 0 where
+  symbol : ℕ
+  represents : IsReferentOnAArch64 PageDistance l w m item r (Some i) symbol
+  bits : n ≡ page_bits ((symbol + cast_unsigned w64 r.addend) % 2 ^ 64) (place_at w item r.offset)
+
+page_there : (l : Layout) (w : World) (m : Memory) (item : Item) (r : InputRelocation) (i n : ℕ) → HoldsPage l w m item r i n → IsPage l w m item r i n
+page_there l w m item r i n h =
+    let v = value_in_data machine.AArch64 r_aarch64_adr_prel_pg_hi21 l w m item r (formula PageDistance (Bits AdrField 32 12 (WithinPower 33) 4096)) page_formula h.reference in
+    let s = v.gives.1 in
+    let there : IsReferent machine.AArch64 PageDistance l w m item r s.symbol = subst (λ (k : Machine). IsReferent k PageDistance l w m item r s.symbol) h.reference.machine s.denoted in
+    let on : IsReferentOnAArch64 PageDistance l w m item r r.symbol s.symbol = referent_by machine.AArch64 PageDistance l w m item r s.symbol (λ t. h.plain t.1) there in
+    let bits : n ≡ v.value / 2 ^ 12 % 2 ^ 21 = bits_are w m item r AdrField 32 12 (WithinPower 33) 4096 v.value n v.field h.bits in
+    record {
+      symbol = s.symbol;
+      represents = subst (λ (o : Option ℕ). IsReferentOnAArch64 PageDistance l w m item r o s.symbol) h.named on;
+      bits = bits ∙ (ap (λ (x : ℕ). x / 2 ^ 12 % 2 ^ 21) v.gives.2 ∙ ap (λ (t : ℕ). page_bits t (place_at w item r.offset)) s.sum);
+    }
+
+weak_place : (l : Layout) (w : World) (m : Memory) (item : Item) (r : InputRelocation) (i a : ℕ) → IsUndefinedWeak l i → IsReferentOnAArch64 PageDistance l w m item r (Some i) a → a ≡ own_place w item r
+weak_place l w m item r i a weak (inl h) = h.1
+weak_place l w m item r i a weak (inr h) = absurd (h.0 (tt, weak))
+
+other_place : (l : Layout) (w : World) (m : Memory) (item : Item) (r : InputRelocation) (i a : ℕ) → (IsUndefinedWeak l i → ⊥) → IsReferentOnAArch64 PageDistance l w m item r (Some i) a → IsOneAddress l w m i a
+other_place l w m item r i a other (inl h) = absurd (other h.0.1)
+other_place l w m item r i a other (inr h) = h.1
+
+-- no branch
+place_of : (w : World) (item : Item) (r : InputRelocation) → r.number ≡ r_aarch64_adr_prel_pg_hi21 → own_place w item r ≡ (place_at w item r.offset + 0) % 2 ^ 64
+place_of w item r e = subst (λ (n : ℕ). (place_at w item r.offset + (if is_listed n branch_types then 4 else 0)) % 2 ^ 64 ≡ (place_at w item r.offset + 0) % 2 ^ 64) (sym e) refl
+
+stub_wrong : (l : Layout) (w : World) (m : Memory) (item : Item) (r : InputRelocation) (i n q a : ℕ) → IsAddressStub l i q → ((p : ℕ) → IsAddressStub l i p → n ≢ page_bits (((w.base + p) % 2 ^ 64 + cast_unsigned w64 r.addend) % 2 ^ 64) (place_at w item r.offset)) → n ≡ page_bits ((a + cast_unsigned w64 r.addend) % 2 ^ 64) (place_at w item r.offset) → IsOneAddress l w m i a → ⊥
+stub_wrong l w m item r i n q a stub wrong bits (inl o) = wrong o.0 o.1 (bits ∙ ap (λ (s : ℕ). page_bits ((s + cast_unsigned w64 r.addend) % 2 ^ 64) (place_at w item r.offset)) o.2)
+stub_wrong l w m item r i n q a stub wrong bits (inr o) = o.0 q stub
+
+value_wrong : (l : Layout) (w : World) (m : Memory) (item : Item) (r : InputRelocation) (i n a : ℕ) → ((p : ℕ) → IsAddressStub l i p → ⊥) → ((s : ℕ) → HasValue l w i s → n ≢ page_bits ((s + cast_unsigned w64 r.addend) % 2 ^ 64) (place_at w item r.offset)) → n ≡ page_bits ((a + cast_unsigned w64 r.addend) % 2 ^ 64) (place_at w item r.offset) → IsOneAddress l w m i a → ⊥
+value_wrong l w m item r i n a none wrong bits (inl o) = none o.0 o.1
+value_wrong l w m item r i n a none wrong bits (inr o) = wrong a o.1 bits
+
+pub wrong_pages : WrongPagesAreRefused
+wrong_pages = record {
+  slot = λ l w m item r i n h named bits wrong.
+      (let v = value_in_data machine.AArch64 r_aarch64_adr_got_page l w m item r (formula (SlotPageDistance AddressSlot) (Bits AdrField 32 12 (WithinPower 33) 4096)) slot_page_formula h in
+      let s = slot_of l w m r.symbol i v.gives.0 named v.gives.1.0 in
+      let same : n ≡ v.value / 2 ^ 12 % 2 ^ 21 = bits_are w m item r AdrField 32 12 (WithinPower 33) 4096 v.value n v.field bits in
+      wrong s.slot s.given (same ∙ (ap (λ (x : ℕ). x / 2 ^ 12 % 2 ^ 21) v.gives.2 ∙ ap (λ (g : ℕ). page_bits g (place_at w item r.offset)) s.moves)));
+  from_table = λ l w m item r i n h named bits wrong.
+      (let v = value_in_data machine.AArch64 r_aarch64_ld64_gotpage_lo15 l w m item r (formula SlotFromTablePage (Bits Imm12Field 14 3 (BelowPower 15) 8)) slot_offset_formula h in
+      let s = slot_of l w m r.symbol i v.gives.0 named v.gives.1.0 in
+      let same : n ≡ v.value / 2 ^ 3 % 2 ^ 12 = bits_are w m item r Imm12Field 14 3 (BelowPower 15) 8 v.value n v.field bits in
+      wrong s.slot s.given (same ∙ (ap (λ (x : ℕ). x / 2 ^ 3 % 2 ^ 12) v.gives.2 ∙ ap (λ (g : ℕ). (g + (2 ^ 64 - page_of (table_at l w))) % 2 ^ 64 / 2 ^ 3 % 2 ^ 12) s.moves)));
+  weak = λ l w m item r i n h weak wrong.
+      (let p = page_there l w m item r i n h in
+      let at : p.symbol ≡ (place_at w item r.offset + 0) % 2 ^ 64 = weak_place l w m item r i p.symbol weak p.represents ∙ place_of w item r h.reference.number in
+      let sum : (p.symbol + cast_unsigned w64 r.addend) % 2 ^ 64 ≡ (place_at w item r.offset + cast_unsigned w64 r.addend) % 2 ^ 64 = omega (arith, at) in
+      wrong (p.bits ∙ ap (λ (a : ℕ). page_bits a (place_at w item r.offset)) sum));
+  stub = λ l w m item r i n q h other stub wrong.
+      (let p = page_there l w m item r i n h in
+      stub_wrong l w m item r i n q p.symbol stub wrong p.bits (other_place l w m item r i p.symbol other p.represents));
+  value = λ l w m item r i n h other none wrong.
+      (let p = page_there l w m item r i n h in
+      value_wrong l w m item r i n p.symbol none wrong p.bits (other_place l w m item r i p.symbol other p.represents));
 }
 
 pub cut_numbers : CutNumbersAreRefused

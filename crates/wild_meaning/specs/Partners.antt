@@ -1,9 +1,11 @@
 -- The further relocations of a sequence, and when instructions form one.
 --   NamesGetter ..    the relocation's symbol is the function that returns thread-local addresses
+--   HasCallAddend ..  its addend is that of a call
 --   HasPartner ..     a relocation fills a further field of a sequence
 --   HasPartners ..    the relocations from an index on fill all of them
 --   IsMet, AreMet ..  a condition is met; all conditions are met
-use Rattle.std.specs.Prelude.{◌≡◌, ℕ, ◌+◌, ⊤, true, false, List, [], ◌∷◌, slice_get, Some, Contains}
+use Rattle.std.specs.Prelude.{◌≡◌, ℕ, ◌+◌, ◌%◌, ◌^◌, ◌==◌, if◌then◌else◌, ⊤, true, false, List, [], ◌∷◌, slice_get, Some, Contains}
+use Rattle.std.specs.Int.{w64, cast_unsigned}
 use Rattle.wild_types.specs.declared.input.InputRelocation.{InputRelocation}
 use Rattle.wild_types.specs.declared.symbol.Symbol.{Symbol}
 use Rattle.wild_types.specs.declared.layout.Layout.{Layout}
@@ -26,17 +28,23 @@ pub record NamesGetter (l : Layout) (r : InputRelocation) : Type 0 where
   pub listed : IsSymbol l index symbol
   pub getter : symbol.name ≡ tls_get_addr
 
--- it has the symbol that the relocation of a further field must have
-abbrev pub NamesRequiredSymbol : Layout → InputRelocation → InputRelocation → Named → Type 0
-NamesRequiredSymbol l first r Getter = NamesGetter l r
-NamesRequiredSymbol l first r SameSymbol = (r.symbol ≡ first.symbol) × (r.addend ≡ first.addend)
+-- The addend of a call, whose field has that many bytes, only compensates for the origin of its distance. A distance of 4 bytes is
+-- relative to the field's end (Intel SDM, "RIP-Relative Addressing"), one of 8 bytes to the global offset table (x86-64 psABI,
+-- "Relocation Types": R_X86_64_PLTOFF64).
+abbrev pub HasCallAddend : ℕ → InputRelocation → Type 0
+HasCallAddend width r = (cast_unsigned w64 r.addend + (if width == 8 then 0 else 4)) % 2 ^ 64 ≡ 0
+
+-- it has the symbol, and the addend, that the relocation of a further field with that many bytes must have
+abbrev pub NamesRequiredSymbol : Layout → InputRelocation → InputRelocation → ℕ → Named → Type 0
+NamesRequiredSymbol l first r width Getter = NamesGetter l r × HasCallAddend width r
+NamesRequiredSymbol l first r width SameSymbol = (r.symbol ≡ first.symbol) × (r.addend ≡ first.addend)
 
 -- the relocation at an index fills a further field of a sequence
 pub record HasPartner (l : Layout) (item : Item) (first r : InputRelocation) (start index : ℕ) (p : Partner) : Type 0 where
   pub listed : slice_get item.relocations index ≡ Some r
   pub field : r.offset ≡ start + p.field
   pub number : Contains p.numbers r.number
-  pub names : NamesRequiredSymbol l first r p.names
+  pub names : NamesRequiredSymbol l first r p.width p.names
 
 -- the relocations from an index on fill the further fields, in their order
 abbrev pub HasPartners : Layout → Item → InputRelocation → ℕ → ℕ → List Partner → List InputRelocation → Type 0

@@ -145,12 +145,16 @@ of_loads =
     ∷ of_field (with_slot 0x8b Word Set rex2) 4 AddressInSlot (r_x86_64_gotpcrel ∷ [])
     ∷ []
 
--- `lea` of a descriptor, and the call through one, which has no field
+-- the call through a descriptor, which has no field
+abbrev pub described_call : Instruction
+described_call = record { template = descriptor_call; words = any_words; field = 0; width = 0; sort = DescribedCall; numbers = r_x86_64_tlsdesc_call ∷ []; partners = []; conditions = [] }
+
+-- `lea` of a descriptor, and the call
 abbrev pub of_descriptors : List Instruction
 of_descriptors =
     of_field (with_slot 0x8d Number Set rex) 3 Described (r_x86_64_gotpc32_tlsdesc ∷ [])
     ∷ of_field (with_slot 0x8d Number Set rex2) 4 Described (r_x86_64_code_4_gotpc32_tlsdesc ∷ [])
-    ∷ record { template = descriptor_call; words = any_words; field = 0; width = 0; sort = DescribedCall; numbers = r_x86_64_tlsdesc_call ∷ []; partners = []; conditions = [] }
+    ∷ described_call
     ∷ []
 
 -- the calls of sequences (x86-64 psABI, "Thread-Local Storage"), to the function that returns thread-local addresses

@@ -20,3 +20,4 @@ pub mod AArch64Image
 pub mod ImageRefusalsAArch64
 pub mod ReplaceableSymbols
 pub mod TermRefusals
+pub mod SequenceRefusals

@@ -6,7 +6,8 @@ ghost use Rattle.wild_meaning.specs.Worked.ReplaceableSymbols.{DynamicIsReplacea
 ghost use Rattle.wild_meaning.specs.Worked.SegmentRefusals.{WrongSegmentsAreRefused, WrongStacksAreRefused, OtherPlacesAreRefused, WrongFieldsAreRefused, WrongSectionsAreRefused, NoDynamicIsRefused, WrongEntriesAreRefused, OwnSectionsAreJudged};
 ghost use Rattle.wild_meaning.specs.Worked.SharedRefusals.{SharedWorldIsLegal, WrongSlotsAreRefused, WrongAddressesAreRefused, WrongOffsetsAreRefused, WrongModulesAreRefused, WrongDescriptorsAreRefused, WrongSizeIsRefused, WrongByteIsRefused, WrongOwnDistanceIsRefused, ChangedTableIsRefused, WrongCodeOfLibraryIsRefused, SharedImageIsLinked, SlotsNeedTheirFlags, WrongStubsAreRefused};
 ghost use Rattle.wild_meaning.specs.Worked.StringRefusals.{StringsWorldIsLegal, StringsAreJudged, ReversedWordsAreJudged, TextsAreJudged, StringsImageIsLinked};
-ghost use Rattle.wild_meaning.specs.Worked.TermRefusals.{WrongTermsAreRefused, CutNumbersAreRefused, OtherBitsAreRefused};
+ghost use Rattle.wild_meaning.specs.Worked.TermRefusals.{WrongTermsAreRefused, WrongPagesAreRefused, CutNumbersAreRefused, OtherBitsAreRefused};
+ghost use Rattle.wild_meaning.specs.Worked.SequenceRefusals.{RemovedCallsAreRefused, OtherBasesAreRefused, KeptCallsAreRefused, OtherAddendsAreNoCalls};
 ghost use Rattle.wild_meaning.specs.Worked.StaticRefusals.{StaticPieWorldIsLegal, WrongDataAreRefused, WrongCodeIsRefused, WrongBlankIsRefused, StaticImageIsLinked, PaddedImageIsLinked};
 
 use wild_records::file_header_is_read;
@@ -145,11 +146,26 @@ pub fn wrong_programs_of_words_are_refused()
 {}
 
 /// In no layout does a reference in data hold if its field has:
-/// - another number than the distance of the global offset table, or, without a symbol, than the distance from it;
+/// - another number than the distance of the global offset table, or from it;
+/// - in an executable, another offset in the output's own thread-local data;
+/// - another page than the symbol's, or its slot's;
 /// - the low 32 bits of a longer number;
 /// - in an AArch64 instruction, another bit outside the field.
 pub fn wrong_numbers_are_refused()
     ensures terms { WrongTermsAreRefused }
+    ensures pages { WrongPagesAreRefused }
     ensures cut { CutNumbersAreRefused }
     ensures others { OtherBitsAreRefused }
+{}
+
+/// In no layout of x86-64 does thread-local code hold if:
+/// - a library lacks the call through a descriptor;
+/// - an executable's own thread-local data start elsewhere than at the thread pointer;
+/// - a call remains in its sequence, and has another distance.
+/// A call with another addend belongs to no sequence.
+pub fn wrong_sequences_are_refused()
+    ensures calls { RemovedCallsAreRefused }
+    ensures bases { OtherBasesAreRefused }
+    ensures kept { KeptCallsAreRefused }
+    ensures addends { OtherAddendsAreNoCalls }
 {}

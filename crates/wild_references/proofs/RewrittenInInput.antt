@@ -1,6 +1,8 @@
 -- An instruction that is rewritten stands in the input, and no relocation fills its own bytes.
-use Rattle.std.proofs.Common.{◌≡◌, ℕ, ◌+◌, ◌-◌, ◌<◌, ◌≤◌, ◌⊎◌, inl, inr, true, List, [], ◌∷◌, get_or, refl, sym, ◌∙◌, arith, subst}
+use Rattle.std.proofs.Common.{◌≡◌, ℕ, ℤ, ◌+◌, ◌-◌, ◌%◌, ◌^◌, ◌<◌, ◌≤◌, ◌⊎◌, inl, inr, true, List, [], ◌∷◌, get_or, refl, sym, ◌∙◌, arith, subst}
 use Rattle.std.specs.Prelude.{option_map, ◌&&◌, Option, Some, None, Ok, slice_get}
+use Rattle.std.specs.Int.{w64, cast_unsigned}
+use lib.IntN.{pos, negsuc}
 use Rattle.std.proofs.lemmas.Bool.{eqb-true, and_parts, cases_eq}
 use Rattle.std.proofs.lemmas.List.Elements.{All-from_get_or}
 use Rattle.std.proofs.lemmas.Option.{slice_get-get_or}
@@ -10,10 +12,12 @@ use Rattle.wild_types.specs.declared.input.InputRelocation.{InputRelocation}
 use Rattle.wild_types.specs.declared.layout.Layout.{Layout}
 use Rattle.wild_reloc.specs.Formula.{Formula}
 use Rattle.wild_reloc.specs.FormulaX86_64.{x86_64_formula}
+use Rattle.wild_relax.specs.declared.pattern.GeneralForm.{GeneralForm}
+use Rattle.wild_relax.specs.declared.pattern.GeneralForm.TheVariants as general
 use Rattle.wild_relax.specs.declared.row.Row.{Row}
-use Rattle.wild_relax.specs.Question.{minus_four}
+use Rattle.wild_relax.specs.Question.{minus_four, zero}
 use Rattle.wild_relax.specs.Pattern.{field_of}
-use Rattle.wild_relax.specs.RowSequences.{partner_distance, call_form, is_call_number, is_partner, is_partner_at, has_partner}
+use Rattle.wild_relax.specs.RowSequences.{partner_distance, call_form, is_call_number, is_call_addend, is_partner, is_partner_at, has_partner}
 use Rattle.wild_relax.specs.declared.row.Partner as writer
 use Rattle.wild_relax.specs.Rewrite.{is_skip}
 use Rattle.wild_relax.specs.RewriteX86_64.{rewrite_of}
@@ -28,10 +32,11 @@ use Rattle.wild_geometry.specs.Loaded.{IsDecided, HasDecision}
 use Rattle.wild_types.specs.Item.{Item}
 use Rattle.wild_meaning.specs.Field.{formula_of, form_width, InNoField}
 use Rattle.wild_meaning.specs.Sequence.{Partner as Call, IsOutsidePartners, IsOwnByte}
+use Rattle.wild_meaning.specs.Partners.{HasCallAddend}
 use Rattle.wild_references.specs.EffectLaws.{IsOutsideField, WindowsHaveNoOtherField}
 use Rattle.wild_references.proofs.RewrittenForms.{instruction_of}
 use Rattle.wild_references.proofs.RewrittenPairs.{own_width, has_its_width, each_has_width, partner_for, IsPaired, paired}
-use Rattle.wild_references.proofs.RewrittenPlaces.{IsPlacedRow, size_is}
+use Rattle.wild_references.proofs.RewrittenPlaces.{IsPlacedRow, ended, size_is}
 
 -- ---- the call of a sequence
 
@@ -40,6 +45,7 @@ pub record IsCalled (l : Layout) (row : Row) (r next : InputRelocation) (distanc
   pub place : next.offset ≡ r.offset + distance
   pub getter : is_getter l next.symbol ≡ true
   pub number : is_call_number (call_form row) next.number ≡ true
+  pub addend : is_call_addend (call_form row) next.addend ≡ true
   pub ends : minus_four r.addend ≡ true
 
 called_as : (l : Layout) (row : Row) (p : writer.Partner) (r next : InputRelocation) → row.partner ≡ Some p → (minus_four r.addend && is_partner p.form (r.offset + p.distance) (info_of l next)) ≡ true → IsCalled l row r next p.distance
@@ -49,7 +55,7 @@ called_as l row p r next e h =
     let a = and_parts _ _ t.1 in
     let b = and_parts _ _ a.0 in
     let c = and_parts _ _ b.0 in
-    record { place = eqb-true next.offset (r.offset + p.distance) c.0; getter = c.1; number = rw e b.1; ends = t.0 }
+    record { place = eqb-true next.offset (r.offset + p.distance) c.0; getter = c.1; number = rw e b.1; addend = rw e a.1; ends = t.0 }
 
 called_by : (l : Layout) (row : Row) (r : InputRelocation) (n : ℕ) (o : Option writer.Partner) (next : Option InputRelocation) → row.partner ≡ o → option_map (λ (p : writer.Partner). p.distance) o ≡ Some n → is_partner_at (info_of l r) o (option_map (info_of l) next) ≡ true → (c : InputRelocation) × (next ≡ Some c) × IsCalled l row r c n
 called_by l row r n None next is e h = cc
@@ -62,6 +68,23 @@ called_by l row r n (Some p) (Some c) is e h =
 pub called : (l : Layout) (s : Item) (row : Row) (r : InputRelocation) (k n : ℕ) (next : Option InputRelocation) → partner_distance row ≡ Some n → has_partner row (question_of l s r k next) ≡ true → (c : InputRelocation) × (next ≡ Some c) × IsCalled l row r c n
 called l s row r k n None e h = called_by l row r n row.partner None refl e h
 called l s row r k n (Some c) e h = called_by l row r n row.partner (Some c) refl e h
+
+-- the call's addend
+four_back : (r : InputRelocation) → minus_four r.addend ≡ true → (cast_unsigned w64 r.addend + 4) % 2 ^ 64 ≡ 0
+four_back r h = (let e = ended r.addend h in omega (arith, e))
+
+none_there : (a : ℤ) → zero a ≡ true → cast_unsigned w64 a ≡ 0
+unfolding zero
+none_there (pos n) h = subst (λ (k : ℕ). cast_unsigned w64 (pos k) ≡ 0) (sym (eqb-true n 0 h)) refl
+none_there (negsuc n) h = cc
+
+none_back : (r : InputRelocation) → zero r.addend ≡ true → (cast_unsigned w64 r.addend + 0) % 2 ^ 64 ≡ 0
+none_back r h = (let e = none_there r.addend h in omega (arith, e))
+
+pub call_addend : (g : GeneralForm) (at : ℕ) (r : InputRelocation) → is_call_addend g r.addend ≡ true → HasCallAddend (partner_for g at).width r
+call_addend general.Regular at r h = four_back r h
+call_addend general.NoPlt at r h = four_back r h
+call_addend general.Large at r h = none_back r h
 
 -- ---- fields beside an own byte
 

@@ -43,7 +43,7 @@ use Rattle.wild_references.specs.Laws.{IsLoadedItem}
 use Rattle.wild_references.proofs.RewrittenForms.{instruction_of}
 use Rattle.wild_references.proofs.RewrittenPairs.{partner_for, single}
 use Rattle.wild_references.proofs.RewrittenPlaces.{LawsBelow, IsPlacedRow}
-use Rattle.wild_references.proofs.RewrittenInInput.{taken_call, call_place}
+use Rattle.wild_references.proofs.RewrittenInInput.{taken_call, call_place, call_addend}
 use Rattle.wild_references.proofs.RewrittenSingles.{is_told, is_longest, each_longest, longest, no_longer, stands_there}
 use Rattle.wild_references.proofs.RewrittenSymbols.{definition, flag_of}
 use Rattle.wild_references.proofs.RewrittenTerms.{symbol_there}
@@ -156,7 +156,7 @@ sequence_there laws l w m s i r next row v h p skips listed =
       stands = stands_there laws.alone l s i r row v h.on h.decided p;
       partner = partner_for (call_form row) t.pair.at;
       calls = t.pair.is;
-      has = record { index = i; listed = p.has.listed; next = listed; field = call_place l s i r next row v p t; number = t.pair.numbers next.number t.call.number; getter = names_getter l next t.call.getter };
+      has = record { index = i; listed = p.has.listed; next = listed; field = call_place l s i r next row v p t; number = t.pair.numbers next.number t.call.number; getter = names_getter l next t.call.getter; addend = call_addend (call_form row) t.pair.at next t.call.addend };
       symbol = k;
       named = p.chosen.named;
       plain = flag_of l k ifunc false d takes.plain;

@@ -173,7 +173,7 @@ general_sequence l address h = record {
   several = omega arith;
   index = 0;
   listed = refl;
-  has = (record { listed = refl; field = refl; number = (1, omega arith, refl); names = h.getter }, tt);
+  has = (record { listed = refl; field = refl; number = (1, omega arith, refl); names = (h.getter, refl) }, tt);
   symbol = 0;
   named = refl;
   met = (h.executable, (h.plain, ((λ other. absurd (not_both l 0 non_interposable h.own other)), tt)));
