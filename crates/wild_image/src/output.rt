@@ -172,7 +172,7 @@ fn write_laid_out<A: Arch, G: Gate, E: GroupWriter<A, G>>(
     write_resolved(executor, alloc, &resolved, facts, workers, gate)
 }
 
-/// Writes the image of a layout, or returns its first fault. `workers` threads share the work; each enters the gate before each batch
+/// Writes the image of a layout, or returns its first fault. `workers` workers share the work; each enters the gate before each batch
 /// of groups.
 pub fn write_gated<A: Arch, G: Gate, E: GroupWriter<A, G>>(
     executor: &E,
@@ -210,7 +210,7 @@ pub fn write_gated<A: Arch, G: Gate, E: GroupWriter<A, G>>(
     )
 }
 
-/// Writes the image of a layout, or returns its first fault. `workers` threads share the work.
+/// Writes the image of a layout, or returns its first fault. `workers` workers share the work.
 pub fn write<A: Arch, E: GroupWriter<A, OpenGate>>(
     executor: &E,
     alloc: Global,
@@ -228,7 +228,7 @@ pub fn write<A: Arch, E: GroupWriter<A, OpenGate>>(
     write_gated::<A, OpenGate, E>(executor, alloc, layout, workers, &OpenGate)
 }
 
-/// Writes the image of a layout for the machine that it names, or returns its first fault. `workers` threads share the work.
+/// Writes the image of a layout for the machine that it names, or returns its first fault. `workers` workers share the work.
 pub fn write_layout<E: ImageWriter>(
     executor: &E,
     alloc: Global,

@@ -30,7 +30,7 @@ fn load_fault(fault: LoadFault) -> PlaceFault
     }
 }
 
-/// The memory of a layout in a world: what the loader makes of the layout's image. `workers` threads share the work. The image is made and
+/// The memory of a layout in a world: what the loader makes of the layout's image. `workers` workers share the work. The image is made and
 /// freed again.
 #[tactic(auto, using(crate::proofs::PlaceLemmas::not_written, crate::proofs::PlaceLemmas::is_placed, crate::proofs::PlaceLemmas::not_loaded))]
 pub fn place_code<A: Arch, E: GroupWriter<A, OpenGate>>(

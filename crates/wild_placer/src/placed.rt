@@ -69,7 +69,7 @@ impl Placed {
     }
 
     /// Places a layout in a world, and returns the number of the placement: they count from 0, and none is used again. A call that is refused
-    /// changes nothing. `workers` threads share the work.
+    /// changes nothing. `workers` workers share the work.
     #[tactic(auto, using(crate::proofs::RefusalLemmas::code_fails, crate::proofs::RefusalLemmas::add_fails))]
     pub fn place<A: Arch, E: GroupWriter<A, OpenGate>>(
         &mut self,

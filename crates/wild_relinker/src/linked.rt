@@ -47,7 +47,7 @@ impl Model for Linked {
 }
 
 impl Linked {
-    /// Writes the image of a layout, or returns its first fault. `workers` threads share the work.
+    /// Writes the image of a layout, or returns its first fault. `workers` workers share the work.
     pub fn link<A: Arch, E: GroupWriter<A, OpenGate>>(
         executor: &E,
         alloc: Global,
