@@ -18,7 +18,6 @@ LIBRARIES = ('atomic_table', 'bitflags', 'hex', 'rayon', 'serde_json')
 
 # (file, its text, what replaces it)
 MENDS = [
-    ('wild_debug/apply.rs', 'pub trait ShardedArch: Arch {', 'pub trait ShardedArch: Arch + Sized {'),
     ('wild_symbols/prefix.rs', 'fn drop(self)', 'fn drop(&mut self)'),
     ('wild_symbols/prefix.rs', 'let SymbolTablePrefix { writer, kept } = self;\n        writer.join(kept);',
      'self.writer.join(self.kept);'),
@@ -61,6 +60,7 @@ def rust(source, crate, names):
     text = re.sub(r'\b(vec!\[|format!\()in ', r'crate::shim::\1', text)
     text = re.sub(r'crate::shim::(vec|format)!', r'crate::shim::\1_in!', text)
     text = re.sub(r'\.(to_vec|to_string|replace)\((?=(?:rt\.)?alloc\b)', r'.try_\1(', text)
+    text = re.sub(r'\.sort_by_key\((?=\s*alloc\b)', '.try_sort_by_key(', text)
     text = re.sub(r'(?<![:\w])prove!', 'debug_assert!', text)
     text = re.sub(r'\bfn fmt<W: (?:fmt::)?Write>', 'fn fmt', text)
     text = text.replace('Formatter<W>', "Formatter<'_>")

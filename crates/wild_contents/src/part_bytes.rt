@@ -13,8 +13,7 @@ ghost use Rattle.wild_layout.specs.SectionPlaces.{FieldLies};
 
 use std::alloc::{AllocError, Global};
 use std::marker::Model;
-use std::thread::Threads;
-use wild_debug::{ShardedArch, Workers};
+use wild_debug::{DebugWriter, Workers};
 use wild_frames::write_eh_frame_terminator;
 use wild_relax::Arch;
 use wild_sections::{Origin, Resolved, write_data, write_group_section, write_rela_section};
@@ -93,14 +92,15 @@ impl PartBytes {
     }
 
     /// Appends the bytes of a placed debug section with its relocations applied, or returns its first fault, with its place in the input.
-    /// The threads of `by` share a large section.
-    pub fn add_debug<A: ShardedArch, R: Threads + Sync>(
+    /// The workers of `by` share a large section.
+    pub fn add_debug<A: Arch, E: DebugWriter<A>>(
         &mut self,
-        by: &Workers<R>,
+        by: &Workers<E>,
         resolved: &Resolved<A>,
         origin: &Origin,
         section: &InputSection,
     ) -> Result<(), Error>
+        requires ready { E.ready by.now.executor.now }
         requires lies { All (FieldLies resolved.now.layout.now.machine (length section.now.bytes)) section.now.relocations }
         requires origins { length origin.now.relocations.now ≡ length section.now.relocations }
         ensures faults { Answers result (debug_errors resolved.now.layout.now origin.now.place.group origin.now.place.file origin.now.place.section section.now origin.now.relocations.now) }
@@ -108,7 +108,7 @@ impl PartBytes {
     {
         let from = self.entries.len();
         self.entries.extend_from_slice(section.bytes.as_slice())?;
-        A::apply_by_workers(
+        E::apply_by_workers(
             by,
             resolved,
             origin.place,

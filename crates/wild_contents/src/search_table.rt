@@ -13,9 +13,9 @@ ghost use Rattle.wild_contents.specs.SearchTable.{found_fdes, IsSearchTable};
 
 use crate::part_bytes::PartBytes;
 use std::alloc::{AllocError, Global};
-use std::marker::Sync;
-use std::thread::Threads;
-use wild_frames::{Fde, Found, FrameSource, TableError, Walk, walk_continues, write_search_table};
+use wild_frames::{
+    Fde, Found, FrameSource, Sorter, TableError, Walk, walk_continues, write_search_table,
+};
 use wild_placement::{FileFrames, frames_at, kept_size};
 use wild_records::{EhFrameHdr, EhFrameHdrEntry};
 use wild_relax::Arch;
@@ -190,12 +190,13 @@ fn address_of(role: Role, parts: &[Part]) -> u64
 }
 
 /// The table of these FDEs, fewer than its 32-bit count can hold.
-fn table_of<A: Arch>(
-    rt: &(impl Threads + Sync),
+fn table_of<A: Arch, S: Sorter>(
+    sorter: &S,
     alloc: Global,
     resolved: &Resolved<A>,
     fdes: &[Fde],
 ) -> Result<SearchTable, AllocError>
+    requires ready { S.ready sorter.now }
     requires asked { (resolved.now.layout.now.options.eh_frame_hdr && not (is_header_only_role resolved.now.layout.now role.EhFrameHdr)) ≡ true }
     requires fdes { fdes.now ≡ layout_fdes resolved.now.layout.now }
     requires few { length fdes.now < 2 ^ 32 }
@@ -207,7 +208,7 @@ fn table_of<A: Arch>(
     let eh_frame = address_of(Role::EhFrame, parts);
     let size = EhFrameHdr::SIZE + EhFrameHdrEntry::SIZE * fdes.len();
     let mut room = vec![in alloc; 0u8; size]?;
-    match write_search_table(rt, alloc, header, eh_frame, fdes, &mut room) {
+    match write_search_table(sorter, alloc, header, eh_frame, fdes, &mut room) {
         Ok(()) => Ok(SearchTable {
             bytes: PartBytes::from_vec(room),
             fault: None,
@@ -228,13 +229,13 @@ fn is_asked(layout: &Layout) -> bool
 }
 
 /// The search table of all frames, if the option requires one and it is written; or the fault of a frame too far from it. One pass over
-/// all frames, and a parallel sort of their FDEs with one thread for each processor. More FDEs than the table can count, 2^32, do
-/// not fit in memory.
-pub fn make_search_table<A: Arch>(
-    rt: &(impl Threads + Sync),
+/// all frames, and a sort of their FDEs. More FDEs than the table can count, 2^32, do not fit in memory.
+pub fn make_search_table<A: Arch, S: Sorter>(
+    sorter: &S,
     alloc: Global,
     resolved: &Resolved<A>,
 ) -> Result<SearchTable, AllocError>
+    requires ready { S.ready sorter.now }
     requires place { address_of_role resolved.now.layout.now role.EhFrameHdr + 4 < 2 ^ 64 }
     ensures { IfOk result (IsSearchTable resolved.now.layout.now) }
 {
@@ -245,5 +246,5 @@ pub fn make_search_table<A: Arch>(
     if fdes.len() >= 1 << 32 {
         return Err(AllocError);
     }
-    table_of(rt, alloc, resolved, fdes.as_slice())
+    table_of(sorter, alloc, resolved, fdes.as_slice())
 }

@@ -13,6 +13,7 @@ use crate::pass::apply_in_order;
 use crate::sharded::run_shards;
 use std::alloc::Global;
 use std::thread::Threads;
+use wild_executor::{Alone, Executor, Threaded};
 use wild_relax::{Arch, ElfAArch64, ElfX86_64};
 use wild_sections::{InputPlace, Resolved};
 use wild_shards::ranges_of;
@@ -93,33 +94,32 @@ where
     }
 }
 
-/// The threads that share the work of one section, their number, and their allocator.
+/// Who relocates one section, the number of its workers, and their allocator.
 #[derive(Drop)]
-pub struct Workers<'r, R> {
-    pub rt: &'r R,
+pub struct Workers<'r, E> {
+    pub executor: &'r E,
     pub alloc: Global,
     pub count: usize,
 }
 
-/// A machine whose debug sections several threads may write together: what they share of it is `Sync`.
-pub trait ShardedArch: Arch {
+/// An executor that relocates the debug sections of a machine.
+pub trait DebugWriter<A: Arch>: Executor + Sized {
     ghost use Rattle.std.specs.Prelude.{◌≡◌, length, All, OnOk};
-    ghost use Rattle.std.specs.Thread.{IsSync};
     ghost use Rattle.wild_types.specs.Faults.{Answers};
     ghost use Rattle.wild_layout.specs.Debug.{debug_bytes};
     ghost use Rattle.wild_layout.specs.Faults.{debug_errors};
     ghost use Rattle.wild_layout.specs.SectionPlaces.{FieldLies};
 
-    /// `apply_debug_rela_relocations`, for callers that are generic over the machine.
-    fn apply_by_workers<R: Threads + Sync>(
-        by: &Workers<R>,
-        resolved: &Resolved<Self>,
+    /// Applies the relocations of a debug section to its bytes; or returns the first fault, with its place in the input.
+    fn apply_by_workers(
+        by: &Workers<Self>,
+        resolved: &Resolved<A>,
         place: InputPlace,
         origins: &[InputRelocation],
         section: &InputSection,
         out: &mut [u8],
     ) -> Result<(), Error>
-        requires sync { IsSync R.row }
+        requires ready { Self.ready by.now.executor.now }
         requires bytes { out.old ≡ section.now.bytes }
         requires lie { All (FieldLies resolved.now.layout.now.machine (length out.old)) section.now.relocations }
         requires origins { length origins.now ≡ length section.now.relocations }
@@ -127,9 +127,24 @@ pub trait ShardedArch: Arch {
         ensures bytes { OnOk result (out.new ≡ debug_bytes resolved.now.layout.now section.now) };
 }
 
-impl ShardedArch for ElfX86_64 {
-    fn apply_by_workers<R: Threads + Sync>(
-        by: &Workers<R>,
+/// One relocation after another.
+impl<A: Arch> DebugWriter<A> for Alone {
+    fn apply_by_workers(
+        _by: &Workers<Alone>,
+        resolved: &Resolved<A>,
+        place: InputPlace,
+        origins: &[InputRelocation],
+        section: &InputSection,
+        out: &mut [u8],
+    ) -> Result<(), Error> {
+        apply_debug_relocations(resolved, place, origins, section, out)
+    }
+}
+
+/// In shards, if the section is large.
+impl<'t, R: Threads + Sync> DebugWriter<ElfX86_64> for Threaded<'t, R> {
+    fn apply_by_workers(
+        by: &Workers<Threaded<'t, R>>,
         resolved: &Resolved<ElfX86_64>,
         place: InputPlace,
         origins: &[InputRelocation],
@@ -137,14 +152,22 @@ impl ShardedArch for ElfX86_64 {
         out: &mut [u8],
     ) -> Result<(), Error> {
         apply_debug_rela_relocations(
-            by.rt, by.alloc, resolved, place, origins, section, out, by.count,
+            by.executor.0,
+            by.alloc,
+            resolved,
+            place,
+            origins,
+            section,
+            out,
+            by.count,
         )
     }
 }
 
-impl ShardedArch for ElfAArch64 {
-    fn apply_by_workers<R: Threads + Sync>(
-        by: &Workers<R>,
+/// In shards, if the section is large.
+impl<'t, R: Threads + Sync> DebugWriter<ElfAArch64> for Threaded<'t, R> {
+    fn apply_by_workers(
+        by: &Workers<Threaded<'t, R>>,
         resolved: &Resolved<ElfAArch64>,
         place: InputPlace,
         origins: &[InputRelocation],
@@ -152,7 +175,14 @@ impl ShardedArch for ElfAArch64 {
         out: &mut [u8],
     ) -> Result<(), Error> {
         apply_debug_rela_relocations(
-            by.rt, by.alloc, resolved, place, origins, section, out, by.count,
+            by.executor.0,
+            by.alloc,
+            resolved,
+            place,
+            origins,
+            section,
+            out,
+            by.count,
         )
     }
 }

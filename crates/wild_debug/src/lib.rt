@@ -8,5 +8,5 @@ mod pass;
 mod sharded;
 mod step;
 
-pub use apply::{ShardedArch, Workers, apply_debug_rela_relocations, apply_debug_relocations};
+pub use apply::{DebugWriter, Workers, apply_debug_rela_relocations, apply_debug_relocations};
 pub use decide::DebugStep;

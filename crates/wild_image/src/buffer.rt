@@ -30,12 +30,11 @@ use crate::append::written_size;
 use crate::batch::Batch;
 use crate::layout_facts::LayoutFacts;
 use std::alloc::{AllocError, Global};
-use std::thread::Threads;
 use wild_contents::{
     FrameTables, PartBytes, SearchTable, add_content, add_thunks, address_after_frames,
     check_entries, check_symbol_tables,
 };
-use wild_debug::{ShardedArch, Workers};
+use wild_debug::{DebugWriter, Workers};
 use wild_placement::{PlacedInput, place_input, place_sorted, sorted_input};
 use wild_relax::Arch;
 use wild_sections::{InputPlace, Origin, Resolved, write_data};
@@ -198,13 +197,14 @@ fn add_read<A: Arch>(
 
 /// Appends a placed debug section to `bytes`, or returns its first fault.
 #[tactic(auto, using(crate::proofs::RelaOrGroupLemmas::debug_answers, crate::proofs::RelaOrGroupLemmas::debug_added))]
-fn add_debug<A: ShardedArch, R: Threads + Sync>(
-    by: &Workers<R>,
+fn add_debug<A: Arch, E: DebugWriter<A>>(
+    by: &Workers<E>,
     resolved: &Resolved<A>,
     place: InputPlace,
     placed_input: &PlacedInput<'_>,
     bytes: &mut PartBytes,
 ) -> Result<(), Error>
+    requires ready { E.ready by.now.executor.now }
     requires debug { is_debug placed_input.now.section.slot ≡ true }
     requires written { is_omitted resolved.now.layout.now placed_input.now.section ≡ false }
     requires whole { placed_input.now.section.nobits ≡ false }
@@ -251,14 +251,15 @@ fn add_rela_or_group<A: Arch>(
 /// Appends a placed section that is not loaded to `bytes`, or returns its first fault: a debug section, a relocation table or a
 /// section group.
 #[tactic(auto, using(crate::proofs::RelaOrGroupLemmas::no_faults, crate::proofs::RelaOrGroupLemmas::nothing_added))]
-fn add_unread<A: ShardedArch, R: Threads + Sync>(
-    by: &Workers<R>,
+fn add_unread<A: Arch, E: DebugWriter<A>>(
+    by: &Workers<E>,
     resolved: &Resolved<A>,
     place: InputPlace,
     file: &File,
     placed_input: &PlacedInput<'_>,
     bytes: &mut PartBytes,
 ) -> Result<(), Error>
+    requires ready { E.ready by.now.executor.now }
     requires unread { is_read placed_input.now.section ≡ false }
     requires written { is_omitted resolved.now.layout.now placed_input.now.section ≡ false }
     requires whole { placed_input.now.section.nobits ≡ false }
@@ -280,14 +281,15 @@ fn add_unread<A: ShardedArch, R: Threads + Sync>(
 
 /// Appends the bytes of a placed section of the file, or returns its first fault; appends nothing if it is omitted.
 #[tactic(auto, using(crate::proofs::PlacedLemmas::zeros_owned), unfolding(crate::specs::Placed::kept_section_faults, crate::specs::Placed::placed_section_faults))]
-fn add_placed<A: ShardedArch, R: Threads + Sync>(
-    by: &Workers<R>,
+fn add_placed<A: Arch, E: DebugWriter<A>>(
+    by: &Workers<E>,
     resolved: &Resolved<A>,
     place: InputPlace,
     file: &File,
     placed_input: &PlacedInput<'_>,
     bytes: &mut GroupBytes,
 ) -> Result<(), Error>
+    requires ready { E.ready by.now.executor.now }
     requires whole { IsWhole placed_input.now.section }
     requires moves { is_read placed_input.now.section ≡ true → PlacedApart resolved.now.layout.now file.now placed_input.now }
     requires kind { IsOfKind resolved.now.layout.now placed_input.now.section }
@@ -357,8 +359,8 @@ fn add_unchanged<A: Arch>(
 /// returns the address after this section's frames.
 #[inline(never)]
 #[tactic(auto, using(crate::proofs::PlacedLemmas::section_placed, crate::proofs::PlacedLemmas::placed_section_whole, crate::proofs::PlacedLemmas::placed_content_apart, wild_contents::proofs::PlacedLemmas::room_of_placed))]
-fn add_section<A: ShardedArch, R: Threads + Sync>(
-    by: &Workers<R>,
+fn add_section<A: Arch, E: DebugWriter<A>>(
+    by: &Workers<E>,
     resolved: &Resolved<A>,
     place: InputPlace,
     file: &File,
@@ -366,6 +368,7 @@ fn add_section<A: ShardedArch, R: Threads + Sync>(
     section: &InputSection,
     bytes: &mut GroupBytes,
 ) -> Result<u64, Error>
+    requires ready { E.ready by.now.executor.now }
     requires lies { SectionLies resolved.now.layout.now (placed_section resolved.now.layout.now file.now at section.now) }
     requires reversed_section { CanBeReversed resolved.now.layout.now section.now }
     requires kind { IsOfKind resolved.now.layout.now section.now }
@@ -383,14 +386,15 @@ fn add_section<A: ShardedArch, R: Threads + Sync>(
 /// Appends the sections of a file, whose frames begin at address `at`, or returns their first fault. Returns the address after its
 /// frames. A section that only has its relocations applied needs no placing.
 #[tactic(auto, using(crate::proofs::PlacedLemmas::faults_refuse, crate::proofs::PlacedLemmas::faults_done, crate::proofs::PlacedLemmas::given_done, wild_contents::proofs::PlacedLemmas::reach_done))]
-fn add_file_sections<A: ShardedArch, R: Threads + Sync>(
-    by: &Workers<R>,
+fn add_file_sections<A: Arch, E: DebugWriter<A>>(
+    by: &Workers<E>,
     resolved: &Resolved<A>,
     place: InputPlace,
     file: &File,
     at: u64,
     bytes: &mut GroupBytes,
 ) -> Result<u64, Error>
+    requires ready { E.ready by.now.executor.now }
     requires lies { All (SectionLies resolved.now.layout.now) (placed_sections resolved.now.layout.now file.now at file.now.sections) }
     requires reversed_section { All (CanBeReversed resolved.now.layout.now) file.now.sections }
     requires kinds { All (IsOfKind resolved.now.layout.now) file.now.sections }
@@ -418,12 +422,13 @@ fn add_file_sections<A: ShardedArch, R: Threads + Sync>(
 /// Appends the input section that an entry of the sort order names, or returns its first fault, which names the section's own place in
 /// the input. An entry that names no section adds nothing.
 #[tactic(auto, using(crate::proofs::PlacedLemmas::sorted_stood, crate::proofs::StandingLemmas::one_owned))]
-fn add_sorted_section<A: ShardedArch, R: Threads + Sync>(
-    by: &Workers<R>,
+fn add_sorted_section<A: Arch, E: DebugWriter<A>>(
+    by: &Workers<E>,
     resolved: &Resolved<A>,
     entry: &SortedSection,
     bytes: &mut GroupBytes,
 ) -> Result<(), Error>
+    requires ready { E.ready by.now.executor.now }
     requires stands { SortedStands resolved.now.layout.now entry.now }
     ensures faults { Answers result (sorted_errors resolved.now.layout.now entry.now) }
     ensures files { OnOk result (bytes.new.files ≡ bytes.old.files ++ sorted_owned resolved.now.layout.now entry.now) }
@@ -446,11 +451,12 @@ fn add_sorted_section<A: ShardedArch, R: Threads + Sync>(
 
 /// Appends the sorted input sections, or returns their first fault.
 #[tactic(auto, using(wild_sections::proofs::FaultLemmas::first_faults))]
-fn add_sorted<A: ShardedArch, R: Threads + Sync>(
-    by: &Workers<R>,
+fn add_sorted<A: Arch, E: DebugWriter<A>>(
+    by: &Workers<E>,
     resolved: &Resolved<A>,
     bytes: &mut GroupBytes,
 ) -> Result<(), Error>
+    requires ready { E.ready by.now.executor.now }
     requires stands { All (SortedStands resolved.now.layout.now) resolved.now.layout.now.sorted }
     ensures faults { Answers result (flat_map (sorted_errors resolved.now.layout.now) resolved.now.layout.now.sorted) }
     ensures files { OnOk result (bytes.new.files ≡ bytes.old.files ++ all_sorted resolved.now.layout.now) }
@@ -474,12 +480,13 @@ fn add_end(layout: &Layout, frames: &mut PartBytes) -> Result<(), AllocError>
 }
 
 /// Appends what only the last file writes: the sorted input sections, and the terminator of the frames.
-fn add_last<A: ShardedArch, R: Threads + Sync>(
-    by: &Workers<R>,
+fn add_last<A: Arch, E: DebugWriter<A>>(
+    by: &Workers<E>,
     resolved: &Resolved<A>,
     file: &File,
     bytes: &mut GroupBytes,
 ) -> Result<(), Error>
+    requires ready { E.ready by.now.executor.now }
     requires stands { is_epilogue file.now.role ≡ true → All (SortedStands resolved.now.layout.now) resolved.now.layout.now.sorted }
     ensures faults { Answers result (of_last_file file.now (flat_map (sorted_errors resolved.now.layout.now) resolved.now.layout.now.sorted)) }
     ensures files { OnOk result (bytes.new.files ≡ bytes.old.files ++ of_last_file file.now (all_sorted resolved.now.layout.now)) }
@@ -546,14 +553,15 @@ fn check_search_table(
 /// first fault of these, of the file's copied symbols and GOT and PLT entries, and of the search table.
 #[inline(never)]
 #[tactic(auto, using(wild_sections::proofs::FaultLemmas::first_of_both), unfolding(crate::specs::Placed::file_trailer_errors, crate::specs::Placed::file_trailer_bytes))]
-fn add_file_trailer<A: ShardedArch, R: Threads + Sync>(
-    by: &Workers<R>,
+fn add_file_trailer<A: Arch, E: DebugWriter<A>>(
+    by: &Workers<E>,
     resolved: &Resolved<A>,
     place: InputPlace,
     file: &File,
     table: &SearchTable,
     bytes: &mut GroupBytes,
 ) -> Result<(), Error>
+    requires ready { E.ready by.now.executor.now }
     requires stands { is_epilogue file.now.role ≡ true → All (SortedStands resolved.now.layout.now) resolved.now.layout.now.sorted }
     requires table { IsTableFor resolved.now.layout.now table.now file.now }
     ensures faults { Answers result (file_trailer_errors resolved.now.layout.now place.group place.file file.now) }
@@ -578,8 +586,8 @@ fn has_no_trailer(facts: LayoutFacts, file: &File) -> bool
 /// Appends the sections of a file, whose frames begin at address `at`, and what follows them; or returns its first fault. Returns the
 /// address at which the frames of the next file begin.
 #[tactic(auto, using(wild_sections::proofs::FaultLemmas::first_of_both, crate::proofs::PlacedLemmas::file_faults_by, crate::proofs::PlacedLemmas::file_owned_by, crate::proofs::PlacedLemmas::file_frames_by))]
-fn add_file<A: ShardedArch, R: Threads + Sync>(
-    by: &Workers<R>,
+fn add_file<A: Arch, E: DebugWriter<A>>(
+    by: &Workers<E>,
     resolved: &Resolved<A>,
     place: InputPlace,
     file: &File,
@@ -588,6 +596,7 @@ fn add_file<A: ShardedArch, R: Threads + Sync>(
     table: &SearchTable,
     bytes: &mut GroupBytes,
 ) -> Result<u64, Error>
+    requires ready { E.ready by.now.executor.now }
     requires facts { AreFactsOf resolved.now.layout.now facts }
     requires stands { FileStands resolved.now.layout.now at file.now }
     requires table { IsTableFor resolved.now.layout.now table.now file.now }
@@ -607,8 +616,8 @@ fn add_file<A: ShardedArch, R: Threads + Sync>(
 
 /// Appends the bytes of a group's files, or returns their first fault.
 #[tactic(auto, using(crate::proofs::PlacedLemmas::files_refuse, crate::proofs::PlacedLemmas::files_done, crate::proofs::PlacedLemmas::framed_done), unfolding(crate::specs::Append::GroupStands, crate::specs::Pieces::group_files, wild_contents::specs::PlacedSections::group_frames, wild_placement::specs::PlacedSections::placed_files))]
-fn add_files<A: ShardedArch, R: Threads + Sync>(
-    by: &Workers<R>,
+fn add_files<A: Arch, E: DebugWriter<A>>(
+    by: &Workers<E>,
     resolved: &Resolved<A>,
     index: usize,
     group: &Group,
@@ -616,6 +625,7 @@ fn add_files<A: ShardedArch, R: Threads + Sync>(
     table: &SearchTable,
     bytes: &mut GroupBytes,
 ) -> Result<(), Error>
+    requires ready { E.ready by.now.executor.now }
     requires facts { AreFactsOf resolved.now.layout.now facts }
     requires stands { GroupStands resolved.now.layout.now group.now }
     requires table { All (IsTableFor resolved.now.layout.now table.now) group.now.files }
@@ -639,8 +649,8 @@ fn add_files<A: ShardedArch, R: Threads + Sync>(
 /// Appends the bytes of a group's files. Fails with the first fault of the files, or else of the group's dynamic symbols. An output
 /// without dynamic tables has no symbol table to check.
 #[tactic(auto, using(wild_sections::proofs::FaultLemmas::first_of_both), unfolding(wild_layout::specs::Faults::group_errors))]
-fn add_group_files<A: ShardedArch, R: Threads + Sync>(
-    by: &Workers<R>,
+fn add_group_files<A: Arch, E: DebugWriter<A>>(
+    by: &Workers<E>,
     resolved: &Resolved<A>,
     index: usize,
     group: &Group,
@@ -648,6 +658,7 @@ fn add_group_files<A: ShardedArch, R: Threads + Sync>(
     table: &SearchTable,
     bytes: &mut GroupBytes,
 ) -> Result<(), Error>
+    requires ready { E.ready by.now.executor.now }
     requires facts { AreFactsOf resolved.now.layout.now facts }
     requires stands { GroupStands resolved.now.layout.now group.now }
     requires table { All (IsTableFor resolved.now.layout.now table.now) group.now.files }
@@ -730,8 +741,8 @@ impl GroupBytes {
 
 /// Appends all bytes of a group, or returns its first fault.
 #[inline(never)]
-pub(crate) fn add_group<A: ShardedArch, R: Threads + Sync>(
-    by: &Workers<R>,
+pub(crate) fn add_group<A: Arch, E: DebugWriter<A>>(
+    by: &Workers<E>,
     resolved: &Resolved<A>,
     index: usize,
     group: &Group,
@@ -739,6 +750,7 @@ pub(crate) fn add_group<A: ShardedArch, R: Threads + Sync>(
     table: &SearchTable,
     bytes: &mut GroupBytes,
 ) -> Result<(), Error>
+    requires ready { E.ready by.now.executor.now }
     requires facts { AreFactsOf resolved.now.layout.now facts }
     requires stands { GroupStands resolved.now.layout.now group.now }
     requires gives { GivesItsShares resolved.now.layout.now group.now }
@@ -760,8 +772,8 @@ pub(crate) fn add_group<A: ShardedArch, R: Threads + Sync>(
 }
 
 /// Appends all bytes of a group, or returns its first fault. `has_tables` may be false only if the group has no bytes of tables.
-fn add_batch_group<A: ShardedArch, R: Threads + Sync>(
-    by: &Workers<R>,
+fn add_batch_group<A: Arch, E: DebugWriter<A>>(
+    by: &Workers<E>,
     resolved: &Resolved<A>,
     index: usize,
     group: &Group,
@@ -770,6 +782,7 @@ fn add_batch_group<A: ShardedArch, R: Threads + Sync>(
     has_tables: bool,
     bytes: &mut GroupBytes,
 ) -> Result<(), Error>
+    requires ready { E.ready by.now.executor.now }
     requires facts { AreFactsOf resolved.now.layout.now facts }
     requires stands { GroupStands resolved.now.layout.now group.now }
     requires gives { GivesItsShares resolved.now.layout.now group.now }
@@ -788,13 +801,14 @@ fn add_batch_group<A: ShardedArch, R: Threads + Sync>(
 }
 
 /// All bytes of a batch, or its first fault.
-pub(crate) fn bytes_of_batch<A: ShardedArch, R: Threads + Sync>(
-    by: &Workers<R>,
+pub(crate) fn bytes_of_batch<A: Arch, E: DebugWriter<A>>(
+    by: &Workers<E>,
     resolved: &Resolved<A>,
     batch: &Batch,
     facts: LayoutFacts,
     table: &SearchTable,
 ) -> Result<GroupBytes, Error>
+    requires ready { E.ready by.now.executor.now }
     requires facts { AreFactsOf resolved.now.layout.now facts }
     requires stands { All (GroupStands resolved.now.layout.now) batch.now.groups.now }
     requires gives { All (GivesItsShares resolved.now.layout.now) batch.now.groups.now }

@@ -11,10 +11,9 @@ use crate::buffer::{GroupBytes, bytes_of_batch};
 use crate::layout_facts::LayoutFacts;
 use crate::relocation_counts::relocation_counts_of_groups;
 use std::alloc::AllocError;
-use std::thread::Threads;
 use wild_contents::SearchTable;
 use wild_crew::{Counted, Job};
-use wild_debug::{ShardedArch, Workers};
+use wild_debug::{DebugWriter, Workers};
 use wild_geometry::layouts_are_laid_out;
 use wild_relax::Arch;
 use wild_sections::Resolved;
@@ -22,7 +21,7 @@ use wild_types::Error;
 
 /// The result of a batch: all its bytes or its first fault, and its relocation counts.
 #[derive(Drop)]
-pub(crate) struct Outcome {
+pub struct Outcome {
     pub(crate) bytes: Result<GroupBytes, Error>,
     pub(crate) counts: Vec<(u32, u64)>,
 }
@@ -37,8 +36,8 @@ impl Counted for Outcome {
 
 /// The batches of a layout whose clauses hold and whose shares are correct.
 #[derive(Drop)]
-pub(crate) struct GroupJob<'r, 'a, 'l, 'b, 't, A: Arch, R> {
-    pub(crate) by: Workers<'r, R>,
+pub struct GroupJob<'r, 'a, 'l, 'b, 't, A: Arch, E> {
+    pub(crate) by: Workers<'r, E>,
     pub(crate) resolved: &'a Resolved<'l, A>,
     pub(crate) batches: &'b [Batch<'b>],
     pub(crate) facts: LayoutFacts,
@@ -51,10 +50,9 @@ pub(crate) struct GroupJob<'r, 'a, 'l, 'b, 't, A: Arch, R> {
     ghost table_is: { HasTableOrFault resolved.now.layout.now table.now },
 }
 
-impl<'r, 'a, 'l, 'b, 't, A: ShardedArch, R: Threads + Sync> Job<Outcome>
-    for GroupJob<'r, 'a, 'l, 'b, 't, A, R> {
+impl<'r, 'a, 'l, 'b, 't, A: Arch, E: DebugWriter<A>> Job<Outcome>
+    for GroupJob<'r, 'a, 'l, 'b, 't, A, E> {
     ghost use Rattle.std.specs.Prelude.{length};
-    ghost use Rattle.std.specs.Thread.{IsSync};
     ghost use Rattle.wild_image.specs.Batches.{GivesBatch, pairs_at};
 
     ghost number = { λ j. length j.batches.now };
@@ -63,7 +61,7 @@ impl<'r, 'a, 'l, 'b, 't, A: ShardedArch, R: Threads + Sync> Job<Outcome>
 
     ghost counts_of = { λ j i. pairs_at j.resolved.now.layout.now j.batches.now i };
 
-    ghost ready = { λ _. IsSync R.row };
+    ghost ready = { λ j. E.ready j.by.executor.now };
 
     fn groups(&self) -> u32 {
         self.batches.len() as u32

@@ -15,16 +15,16 @@ ghost use Rattle.wild_image.specs.declared.job.Outcome.{Outcome};
 
 use crate::append::append_all;
 use crate::batch::{Batch, batch_size, batches_of};
+use crate::group_writer::{GroupWriter, ImageWriter};
 use crate::job::{GroupJob, Outcome};
 use crate::layout_facts::LayoutFacts;
 use crate::padding::padded_image;
 use crate::shares::{check_shares_in, first_has_all};
 use std::alloc::{AllocError, Global};
-use std::thread::Threads;
 use wild_clauses::{LayoutSurvey, well_formed_with};
 use wild_contents::make_search_table;
-use wild_crew::{Gate, OpenGate, gather};
-use wild_debug::{ShardedArch, Workers};
+use wild_crew::{Gate, OpenGate};
+use wild_debug::Workers;
 use wild_geometry::layouts_are_laid_out;
 use wild_needs::elf_entry_address;
 use wild_relax::{Arch, ElfAArch64, ElfX86_64};
@@ -91,16 +91,15 @@ fn write_bytes<A: Arch>(
 
 /// Writes the image of a layout whose clauses hold and whose shares are correct, or returns its first fault. `facts` have
 /// been computed by the caller.
-fn write_resolved<A: ShardedArch + Sync, G: Gate + Sync, R: Threads + Sync>(
-    rt: &R,
+fn write_resolved<A: Arch, G: Gate, E: GroupWriter<A, G>>(
+    executor: &E,
     alloc: Global,
     resolved: &Resolved<A>,
     facts: LayoutFacts,
     workers: u8,
     gate: &G,
 ) -> Result<SizedOutput, Error>
-where
-    A::Relaxation: Sync,
+    requires ready { E.ready executor.now }
     requires facts { AreFactsOf resolved.now.layout.now facts }
     requires workers { (1 ≤ workers) × (workers ≤ 64) }
     requires clauses { first_clause resolved.now.layout.now ≡ Ok tt }
@@ -113,12 +112,12 @@ where
     ensures counts { IfOk result (λ o. o.counts ≡ counts resolved.now.layout.now) }
 {
     let layout = resolved.layout;
-    let table = make_search_table(rt, alloc, resolved)?;
+    let table = make_search_table(executor, alloc, resolved)?;
     let groups = layout.groups.as_slice();
     let cut = batches_of(alloc, groups, batch_size(groups.len()))?;
     let batches = cut.as_slice();
     let by = Workers {
-        rt,
+        executor,
         alloc,
         count: usize::from(workers),
     };
@@ -130,7 +129,7 @@ where
         table: &table,
     };
     let sections = layout.sections.len() as u32;
-    let gathered = gather(rt, alloc, &job, sections, u32::from(workers), gate)?;
+    let gathered = executor.gather_batches(alloc, &job, sections, u32::from(workers), gate)?;
     let mut starts = vec![in alloc; 0u64; layout.parts.len()]?;
     let mut out = padded_image(alloc, layout)?;
     let pieces = gathered.pieces.as_slice();
@@ -145,8 +144,8 @@ where
 
 /// Writes the image of a layout whose clauses hold and whose shares are correct, or returns its first fault. `facts`
 /// have been computed by the caller; `needs_owner_files` is set if relocations depend on the file that defines a symbol.
-fn write_laid_out<A: ShardedArch + Sync, G: Gate + Sync, R: Threads + Sync>(
-    rt: &R,
+fn write_laid_out<A: Arch, G: Gate, E: GroupWriter<A, G>>(
+    executor: &E,
     alloc: Global,
     layout: &Layout,
     facts: LayoutFacts,
@@ -154,8 +153,7 @@ fn write_laid_out<A: ShardedArch + Sync, G: Gate + Sync, R: Threads + Sync>(
     workers: u8,
     gate: &G,
 ) -> Result<SizedOutput, Error>
-where
-    A::Relaxation: Sync,
+    requires ready { E.ready executor.now }
     requires facts { AreFactsOf layout.now facts }
     requires needs_owner_files { needs_owner_files ≡ layout_needs_owner_files layout.now }
     requires machine { layout.now.machine ≡ A.machine }
@@ -171,20 +169,19 @@ where
 {
     let symbols = SymbolTables::with_survey(alloc, layout, needs_owner_files)?;
     let resolved = Resolved::<A>::new(layout, &symbols);
-    write_resolved(rt, alloc, &resolved, facts, workers, gate)
+    write_resolved(executor, alloc, &resolved, facts, workers, gate)
 }
 
-/// Writes the image of a layout, or returns its first fault. `workers` threads share the work; each enters the gate before each batch
+/// Writes the image of a layout, or returns its first fault. `workers` workers share the work; each enters the gate before each batch
 /// of groups.
-pub fn write_gated<A: ShardedArch + Sync>(
-    rt: &(impl Threads + Sync),
+pub fn write_gated<A: Arch, G: Gate, E: GroupWriter<A, G>>(
+    executor: &E,
     alloc: Global,
     layout: &Layout,
     workers: u8,
-    gate: &(impl Gate + Sync),
+    gate: &G,
 ) -> Result<SizedOutput, Error>
-where
-    A::Relaxation: Sync,
+    requires ready { E.ready executor.now }
     requires machine { layout.now.machine ≡ A.machine }
     requires workers { (1 ≤ workers) × (workers ≤ 64) }
     ensures faults { Answers result (errors layout.now) }
@@ -202,18 +199,25 @@ where
     check_shares_in(layout, facts)?;
     layouts_are_laid_out();
     let needs_owner_files = layout.kind.is_partial_link() || !seen.unmerged;
-    write_laid_out::<A, _, _>(rt, alloc, layout, facts, needs_owner_files, workers, gate)
+    write_laid_out::<A, G, E>(
+        executor,
+        alloc,
+        layout,
+        facts,
+        needs_owner_files,
+        workers,
+        gate,
+    )
 }
 
-/// Writes the image of a layout, or returns its first fault. `workers` threads share the work.
-pub fn write<A: ShardedArch + Sync>(
-    rt: &(impl Threads + Sync),
+/// Writes the image of a layout, or returns its first fault. `workers` workers share the work.
+pub fn write<A: Arch, E: GroupWriter<A, OpenGate>>(
+    executor: &E,
     alloc: Global,
     layout: &Layout,
     workers: u8,
 ) -> Result<SizedOutput, Error>
-where
-    A::Relaxation: Sync,
+    requires ready { E.ready executor.now }
     requires machine { layout.now.machine ≡ A.machine }
     requires workers { (1 ≤ workers) × (workers ≤ 64) }
     ensures faults { Answers result (errors layout.now) }
@@ -221,24 +225,25 @@ where
     ensures warnings { IfOk result (λ o. o.warnings ≡ warnings layout.now) }
     ensures counts { IfOk result (λ o. o.counts ≡ counts layout.now) }
 {
-    write_gated::<A>(rt, alloc, layout, workers, &OpenGate)
+    write_gated::<A, OpenGate, E>(executor, alloc, layout, workers, &OpenGate)
 }
 
-/// Writes the image of a layout for the machine that it names, or returns its first fault. `workers` threads share the work.
-pub fn write_layout(
-    rt: &(impl Threads + Sync),
+/// Writes the image of a layout for the machine that it names, or returns its first fault. `workers` workers share the work.
+pub fn write_layout<E: ImageWriter>(
+    executor: &E,
     alloc: Global,
     layout: &Layout,
     workers: u8,
 ) -> Result<SizedOutput, Error>
-    requires { (1 ≤ workers) × (workers ≤ 64) }
+    requires ready { E.ready executor.now }
+    requires workers { (1 ≤ workers) × (workers ≤ 64) }
     ensures faults { Answers result (errors layout.now) }
     ensures image { IfOk result (λ o. o.out ≡ bytes layout.now) }
     ensures warnings { IfOk result (λ o. o.warnings ≡ warnings layout.now) }
     ensures counts { IfOk result (λ o. o.counts ≡ counts layout.now) }
 {
     match layout.machine {
-        Machine::X86_64 => write::<ElfX86_64>(rt, alloc, layout, workers),
-        Machine::AArch64 => write::<ElfAArch64>(rt, alloc, layout, workers),
+        Machine::X86_64 => write::<ElfX86_64, E>(executor, alloc, layout, workers),
+        Machine::AArch64 => write::<ElfAArch64, E>(executor, alloc, layout, workers),
     }
 }

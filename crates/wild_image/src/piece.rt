@@ -25,11 +25,10 @@ use crate::relocation_counts::relocation_counts;
 use crate::split_by_part::split_by_part;
 use crate::step_count::Steps;
 use std::alloc::{AllocError, Global};
-use std::marker::Sync;
 use std::sync::ledger::Ledger;
-use std::thread::Threads;
 use wild_contents::{PartBytes, SearchTable, make_search_table};
-use wild_debug::{ShardedArch, Workers};
+use wild_debug::{DebugWriter, Workers};
+use wild_frames::Sorter;
 use wild_geometry::layouts_are_laid_out;
 use wild_relax::Arch;
 use wild_sections::{Resolved, SymbolTables};
@@ -45,8 +44,8 @@ pub struct GroupPiece {
 }
 
 /// All bytes of a group, or its first fault. This is the step that `Steps` counts.
-fn group_bytes<A: ShardedArch, R: Threads + Sync, L: Ledger>(
-    by: &Workers<R>,
+fn group_bytes<A: Arch, E: DebugWriter<A>, L: Ledger>(
+    by: &Workers<E>,
     resolved: &Resolved<A>,
     index: usize,
     group: &Group,
@@ -54,6 +53,7 @@ fn group_bytes<A: ShardedArch, R: Threads + Sync, L: Ledger>(
     table: &SearchTable,
     steps: &mut Steps<L>,
 ) -> Result<GroupBytes, Error>
+    requires ready { E.ready by.now.executor.now }
     requires facts { AreFactsOf resolved.now.layout.now facts }
     requires clauses { first_clause resolved.now.layout.now ≡ Ok tt }
     requires shares { flat_map_from (part_errors resolved.now.layout.now) 0 resolved.now.layout.now.parts ≡ [] }
@@ -72,8 +72,8 @@ fn group_bytes<A: ShardedArch, R: Threads + Sync, L: Ledger>(
 }
 
 /// The bytes of a group by part and its counts, or its first fault.
-fn piece_of<A: ShardedArch, R: Threads + Sync, L: Ledger>(
-    by: &Workers<R>,
+fn piece_of<A: Arch, E: DebugWriter<A>, L: Ledger>(
+    by: &Workers<E>,
     resolved: &Resolved<A>,
     index: usize,
     group: &Group,
@@ -81,6 +81,7 @@ fn piece_of<A: ShardedArch, R: Threads + Sync, L: Ledger>(
     table: &SearchTable,
     steps: &mut Steps<L>,
 ) -> Result<GroupPiece, Error>
+    requires ready { E.ready by.now.executor.now }
     requires facts { AreFactsOf resolved.now.layout.now facts }
     requires clauses { first_clause resolved.now.layout.now ≡ Ok tt }
     requires shares { flat_map_from (part_errors resolved.now.layout.now) 0 resolved.now.layout.now.parts ≡ [] }
@@ -111,31 +112,33 @@ fn has_first(group: &Group) -> bool
 
 /// The `.eh_frame_hdr` search table, if the group has the first file, which writes it.
 #[tactic(auto, using(crate::proofs::PlacedLemmas::table_of_all, crate::proofs::PlacedLemmas::table_of_none))]
-fn table_for<A: Arch>(
-    rt: &(impl Threads + Sync),
+fn table_for<A: Arch, S: Sorter>(
+    sorter: &S,
     alloc: Global,
     resolved: &Resolved<A>,
     group: &Group,
 ) -> Result<SearchTable, AllocError>
+    requires ready { S.ready sorter.now }
     requires place { address_of_role resolved.now.layout.now role.EhFrameHdr + 4 < 2 ^ 64 }
     ensures { IfOk result (λ t. All (IsTableFor resolved.now.layout.now t) group.now.files) }
 {
     if !has_first(group) {
         return Ok(SearchTable::none(alloc));
     }
-    let table = make_search_table(rt, alloc, resolved)?;
+    let table = make_search_table(sorter, alloc, resolved)?;
     Ok(table)
 }
 
 /// The bytes and counts of the group with that number, or its first fault. `well_formed` checks that the clauses hold,
 /// `check_shares` that the shares are correct. It counts one step.
-pub fn write_group<A: ShardedArch, L: Ledger, R: Threads + Sync>(
-    rt: &R,
+pub fn write_group<A: Arch, L: Ledger, E: Sorter + DebugWriter<A>>(
+    executor: &E,
     alloc: Global,
     layout: &Layout,
     group: usize,
     steps: &mut Steps<L>,
 ) -> Result<GroupPiece, Error>
+    requires ready { E.ready executor.now }
     requires machine { layout.now.machine ≡ A.machine }
     requires clauses { first_clause layout.now ≡ Ok tt }
     requires shares { flat_map_from (part_errors layout.now) 0 layout.now.parts ≡ [] }
@@ -148,9 +151,9 @@ pub fn write_group<A: ShardedArch, L: Ledger, R: Threads + Sync>(
     let symbols = SymbolTables::new(alloc, layout)?;
     let resolved = Resolved::<A>::new(layout, &symbols);
     let found = &layout.groups.as_slice()[group];
-    let table = table_for(rt, alloc, &resolved, found)?;
+    let table = table_for(executor, alloc, &resolved, found)?;
     let by = Workers {
-        rt,
+        executor,
         alloc,
         count: 1,
     };
@@ -159,8 +162,8 @@ pub fn write_group<A: ShardedArch, L: Ledger, R: Threads + Sync>(
 }
 
 /// Copies the bytes of a group into an image, or returns the group's first fault and leaves the image as it is.
-fn put_group<A: ShardedArch, R: Threads + Sync, L: Ledger>(
-    by: &Workers<R>,
+fn put_group<A: Arch, E: DebugWriter<A>, L: Ledger>(
+    by: &Workers<E>,
     resolved: &Resolved<A>,
     prepared: &Prepared,
     index: usize,
@@ -168,6 +171,7 @@ fn put_group<A: ShardedArch, R: Threads + Sync, L: Ledger>(
     out: &mut [u8],
     steps: &mut Steps<L>,
 ) -> Result<(), Error>
+    requires ready { E.ready by.now.executor.now }
     requires clauses { first_clause resolved.now.layout.now ≡ Ok tt }
     requires shares { flat_map_from (part_errors resolved.now.layout.now) 0 resolved.now.layout.now.parts ≡ [] }
     requires prepared { IsPrepared resolved.now.layout.now prepared.now }
@@ -188,14 +192,15 @@ fn put_group<A: ShardedArch, R: Threads + Sync, L: Ledger>(
 
 /// Writes the bytes of the group with that number over an image, or returns the group's first fault and leaves the image as it is. What is
 /// the same for each group was prepared. It counts one step.
-pub fn write_group_over<A: ShardedArch, R: Threads + Sync, L: Ledger>(
-    by: &Workers<R>,
+pub fn write_group_over<A: Arch, E: DebugWriter<A>, L: Ledger>(
+    by: &Workers<E>,
     layout: &Layout,
     prepared: &Prepared,
     group: usize,
     out: &mut [u8],
     steps: &mut Steps<L>,
 ) -> Result<(), Error>
+    requires ready { E.ready by.now.executor.now }
     requires machine { layout.now.machine ≡ A.machine }
     requires clauses { first_clause layout.now ≡ Ok tt }
     requires shares { flat_map_from (part_errors layout.now) 0 layout.now.parts ≡ [] }

@@ -10,9 +10,9 @@ use crate::append::written_size;
 use crate::layout_facts::LayoutFacts;
 use crate::shares::first_has_all;
 use std::alloc::{AllocError, Global};
-use std::thread::Threads;
 use wild_clauses::LayoutSurvey;
 use wild_contents::{SearchTable, make_search_table};
+use wild_frames::Sorter;
 use wild_geometry::layouts_are_laid_out;
 use wild_relax::Arch;
 use wild_sections::{Resolved, SymbolTables};
@@ -71,11 +71,12 @@ fn group_starts(alloc: Global, layout: &Layout) -> Result<Items<Items<u64>>, All
 
 impl Prepared {
     /// Computes all of it.
-    pub fn of<A: Arch>(
-        rt: &(impl Threads + Sync),
+    pub fn of<A: Arch, S: Sorter>(
+        sorter: &S,
         alloc: Global,
         layout: &Layout,
     ) -> Result<Self, AllocError>
+        requires ready { S.ready sorter.now }
         requires machine { layout.now.machine ≡ A.machine }
         requires clauses { first_clause layout.now ≡ Ok tt }
         requires shares { flat_map_from (part_errors layout.now) 0 layout.now.parts ≡ [] }
@@ -89,7 +90,7 @@ impl Prepared {
             layout.kind.is_partial_link() || !seen.unmerged,
         )?;
         let resolved = Resolved::<A>::new(layout, &symbols);
-        let table = make_search_table(rt, alloc, &resolved)?;
+        let table = make_search_table(sorter, alloc, &resolved)?;
         let starts = group_starts(alloc, layout)?;
         let inside = seen.inner_groups_need_no_tables;
         let facts = LayoutFacts::of(layout, inside, first_has_all(layout));

@@ -6,8 +6,7 @@ ghost use Rattle.wild_placer.specs.Place.{layout_memory, Gives, write_fault, loa
 use crate::fault::PlaceFault;
 use crate::laws::placed_runs_are_separate;
 use std::alloc::Global;
-use std::thread::Threads;
-use wild_image::{ShardedArch, write};
+use wild_image::{Arch, GroupWriter, OpenGate, write};
 use wild_loader::{LoadFault, Memory, World, load_image};
 use wild_types::{Error, Fault, Layout};
 
@@ -31,25 +30,24 @@ fn load_fault(fault: LoadFault) -> PlaceFault
     }
 }
 
-/// The memory of a layout in a world: what the loader makes of the layout's image. `workers` threads share the work. The image is made and
+/// The memory of a layout in a world: what the loader makes of the layout's image. `workers` workers share the work. The image is made and
 /// freed again.
 #[tactic(auto, using(crate::proofs::PlaceLemmas::not_written, crate::proofs::PlaceLemmas::is_placed, crate::proofs::PlaceLemmas::not_loaded))]
-pub fn place_code<A: ShardedArch + Sync>(
-    rt: &(impl Threads + Sync),
+pub fn place_code<A: Arch, E: GroupWriter<A, OpenGate>>(
+    executor: &E,
     alloc: Global,
     layout: &Layout,
     world: &World,
     workers: u8,
 ) -> Result<Memory, PlaceFault>
-where
-    A::Relaxation: Sync,
+    requires ready { E.ready executor.now }
     requires machine { layout.now.machine ≡ A.machine }
     requires workers { (1 ≤ workers) × (workers ≤ 64) }
     ensures memory { Gives result (layout_memory layout.now world.now) }
     ensures separate { IfOk result (λ m. least_shared m.runs ≡ None) }
 {
     placed_runs_are_separate();
-    let output = match write::<A>(rt, alloc, layout, workers) {
+    let output = match write::<A, E>(executor, alloc, layout, workers) {
         Ok(output) => output,
         Err(error) => return Err(write_fault(error)),
     };

@@ -12,8 +12,7 @@ use crate::live::{add_memory, read_byte, remove_memory};
 use std::alloc::Global;
 use std::collections::BTreeMap;
 use std::marker::Model;
-use std::thread::Threads;
-use wild_image::ShardedArch;
+use wild_image::{Arch, GroupWriter, OpenGate};
 use wild_loader::{Memory, World};
 use wild_types::Layout;
 
@@ -70,18 +69,17 @@ impl Placed {
     }
 
     /// Places a layout in a world, and returns the number of the placement: they count from 0, and none is used again. A call that is refused
-    /// changes nothing. `workers` threads share the work.
+    /// changes nothing. `workers` workers share the work.
     #[tactic(auto, using(crate::proofs::RefusalLemmas::code_fails, crate::proofs::RefusalLemmas::add_fails))]
-    pub fn place<A: ShardedArch + Sync>(
+    pub fn place<A: Arch, E: GroupWriter<A, OpenGate>>(
         &mut self,
-        rt: &(impl Threads + Sync),
+        executor: &E,
         alloc: Global,
         layout: &Layout,
         world: &World,
         workers: u8,
     ) -> Result<u32, PlaceFault>
-    where
-        A::Relaxation: Sync,
+        requires ready { E.ready executor.now }
         requires machine { layout.now.machine ≡ A.machine }
         requires workers { (1 ≤ workers) × (workers ≤ 64) }
         ensures full { self.old.next ≡ 2 ^ 32 - 1 → result ≡ Err Full }
@@ -92,7 +90,7 @@ impl Placed {
         if self.next == u32::MAX {
             return Err(PlaceFault::Full);
         }
-        let memory = place_code::<A>(rt, alloc, layout, world, workers)?;
+        let memory = place_code::<A, E>(executor, alloc, layout, world, workers)?;
         self.add(memory)
     }
 

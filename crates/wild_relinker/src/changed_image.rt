@@ -18,8 +18,7 @@ use crate::changed_faults::check_changed;
 use crate::find::NamedSection;
 use crate::linked::WrittenImage;
 use std::sync::ledger::Ledger;
-use std::thread::Threads;
-use wild_image::{Prepared, ShardedArch, Steps, Workers, write_group_over};
+use wild_image::{Arch, DebugWriter, Prepared, Steps, Workers, write_group_over};
 use wild_types::{Error, InputSection, Layout};
 
 /// A layout has fewer relocations than this.
@@ -66,8 +65,8 @@ fn correct_counts(layout: &Layout, section: &InputSection, before: u64, counts: 
 
 /// Checks the clauses and the shares that the change of a section of group `index` can break, and writes the group over the image. Refused
 /// with the layout's first fault; then the image is unchanged. `count_fits`: the layout has fewer than 2^32 - 1 relocations.
-fn write_checked<A: ShardedArch, R: Threads + Sync, L: Ledger>(
-    by: &Workers<R>,
+fn write_checked<A: Arch, E: DebugWriter<A>, L: Ledger>(
+    by: &Workers<E>,
     layout: &Layout,
     prepared: &Prepared,
     index: usize,
@@ -76,6 +75,7 @@ fn write_checked<A: ShardedArch, R: Threads + Sync, L: Ledger>(
     out: &mut [u8],
     steps: &mut Steps<L>,
 ) -> Result<(), Error>
+    requires ready { E.ready by.now.executor.now }
     requires machine { layout.now.machine ≡ A.machine }
     requires prepared { IsPrepared layout.now prepared.now }
     requires group { slice_get layout.now.groups index ≡ Some found.group.now }
@@ -89,13 +89,13 @@ fn write_checked<A: ShardedArch, R: Threads + Sync, L: Ledger>(
     ensures most { steps.new ≤ steps.old + 1 }
 {
     check_changed(layout, index, found, count_fits)?;
-    write_group_over::<A, R, L>(by, layout, prepared, index, out, steps)
+    write_group_over::<A, E, L>(by, layout, prepared, index, out, steps)
 }
 
 /// Writes the image of a layout, of which section `found` of group `index` was changed, over the image of the layout before the change.
 /// Then the section had `before` relocations. Refused with the layout's first fault; then nothing is written.
-pub(crate) fn write_changed<A: ShardedArch, R: Threads + Sync, L: Ledger>(
-    by: &Workers<R>,
+pub(crate) fn write_changed<A: Arch, E: DebugWriter<A>, L: Ledger>(
+    by: &Workers<E>,
     layout: &Layout,
     prepared: &Prepared,
     index: usize,
@@ -104,6 +104,7 @@ pub(crate) fn write_changed<A: ShardedArch, R: Threads + Sync, L: Ledger>(
     written: &mut WrittenImage,
     steps: &mut Steps<L>,
 ) -> Result<(), Error>
+    requires ready { E.ready by.now.executor.now }
     requires machine { layout.now.machine ≡ A.machine }
     requires prepared { IsPrepared layout.now prepared.now }
     requires group { slice_get layout.now.groups index ≡ Some found.group.now }
@@ -118,7 +119,7 @@ pub(crate) fn write_changed<A: ShardedArch, R: Threads + Sync, L: Ledger>(
     let relocations = (written.relocations - before).saturating_add(after);
     let count_fits = relocations < RELOCATION_LIMIT;
     let out = &mut written.out;
-    write_checked::<A, R, L>(by, layout, prepared, index, found, count_fits, out, steps)?;
+    write_checked::<A, E, L>(by, layout, prepared, index, found, count_fits, out, steps)?;
     written.relocations = relocations;
     correct_counts(layout, found.section, before, &mut written.counts);
     Ok(())

@@ -7,9 +7,8 @@ ghost use Rattle.wild_layout.specs.Warnings.{warnings};
 
 use std::alloc::Global;
 use std::marker::Model;
-use std::thread::Threads;
 use wild_clauses::LayoutSurvey;
-use wild_image::{Prepared, ShardedArch, write};
+use wild_image::{Arch, GroupWriter, OpenGate, Prepared, write};
 use wild_types::{EntryWarning, Error, Layout};
 use wild_words::Items;
 
@@ -48,22 +47,21 @@ impl Model for Linked {
 }
 
 impl Linked {
-    /// Writes the image of a layout, or returns its first fault. `workers` threads share the work.
-    pub fn link<A: ShardedArch + Sync>(
-        rt: &(impl Threads + Sync),
+    /// Writes the image of a layout, or returns its first fault. `workers` workers share the work.
+    pub fn link<A: Arch, E: GroupWriter<A, OpenGate>>(
+        executor: &E,
         alloc: Global,
         layout: Layout,
         workers: u8,
     ) -> Result<Linked, Error>
-    where
-        A::Relaxation: Sync,
+        requires ready { E.ready executor.now }
         requires machine { layout.machine ≡ A.machine }
         requires workers { (1 ≤ workers) × (workers ≤ 64) }
         ensures faults { Answers result (errors layout) }
         ensures layout { IfOk result (λ k. k.layout ≡ layout) }
     {
-        let output = write::<A>(rt, alloc, &layout, workers)?;
-        let prepared = Prepared::of::<A>(rt, alloc, &layout)?;
+        let output = write::<A, E>(executor, alloc, &layout, workers)?;
+        let prepared = Prepared::of::<A, E>(executor, alloc, &layout)?;
         let relocations = LayoutSurvey::of(&layout).relocations;
         Ok(Linked {
             image: Image {

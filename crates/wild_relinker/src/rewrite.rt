@@ -17,10 +17,9 @@ use crate::linked::{Image, Linked};
 use crate::swap::swap_contents;
 use std::alloc::Global;
 use std::sync::ledger::Ledger;
-use std::thread::Threads;
 use wild_change::Change;
 use wild_geometry::layouts_are_laid_out;
-use wild_image::{ShardedArch, Steps, Workers};
+use wild_image::{Arch, DebugWriter, Steps, Workers};
 use wild_outlines::{
     changed_bytes, changed_counts, changed_total, refusals_by_group, values_by_outline,
 };
@@ -29,12 +28,13 @@ use wild_types::{Error, Fault};
 /// Replaces a section that may be changed by one with as many bytes, and exchanges its contents with those of the change. Refused with the
 /// first fault of the changed layout; then the layout is as before. The image is that of the layout in any case,
 /// and the warnings stay.
-fn change_section<A: ShardedArch, R: Threads + Sync, L: Ledger>(
-    by: &Workers<R>,
+fn change_section<A: Arch, E: DebugWriter<A>, L: Ledger>(
+    by: &Workers<E>,
     image: &mut Image,
     change: &mut Change,
     steps: &mut Steps<L>,
 ) -> Result<(), Error>
+    requires ready { E.ready by.now.executor.now }
     requires machine { image.old.layout.machine ≡ A.machine }
     requires image { IsImage image.old }
     requires found { KeepsLength image.old.layout change.old }
@@ -58,7 +58,7 @@ fn change_section<A: ShardedArch, R: Threads + Sync, L: Ledger>(
         .len() as u64;
     swap_contents(by.alloc, &mut image.layout, change);
     let found = named_section(&image.layout, change);
-    match write_changed::<A, R, L>(
+    match write_changed::<A, E, L>(
         by,
         &image.layout,
         &image.prepared,
@@ -89,12 +89,13 @@ fn refusal(error: Error) -> RelinkFault
 
 /// Replaces the bytes and the relocations of an input section, and writes its group again. If the change is refused, the layout is as
 /// before. The image is that of the layout in any case, and the warnings stay.
-fn relink_image<A: ShardedArch, R: Threads + Sync, L: Ledger>(
-    by: &Workers<R>,
+fn relink_image<A: Arch, E: DebugWriter<A>, L: Ledger>(
+    by: &Workers<E>,
     image: &mut Image,
     change: Change,
     steps: &mut Steps<L>,
 ) -> Result<(), RelinkFault>
+    requires ready { E.ready by.now.executor.now }
     requires machine { image.old.layout.machine ≡ A.machine }
     requires image { IsImage image.old }
     ensures answered { Relinks result image.old.layout change }
@@ -115,20 +116,21 @@ fn relink_image<A: ShardedArch, R: Threads + Sync, L: Ledger>(
         return Err(RelinkFault::Length { given, needed });
     }
     let mut change = change;
-    match change_section::<A, R, L>(by, image, &mut change, steps) {
+    match change_section::<A, E, L>(by, image, &mut change, steps) {
         Ok(()) => Ok(()),
         Err(error) => Err(refusal(error)),
     }
 }
 
 /// Replaces the bytes and the relocations of an input section, and writes its group again. If the change is refused, nothing changes.
-pub fn relink<A: ShardedArch, R: Threads + Sync, L: Ledger>(
-    rt: &R,
+pub fn relink<A: Arch, E: DebugWriter<A>, L: Ledger>(
+    executor: &E,
     alloc: Global,
     linked: &mut Linked,
     change: Change,
     steps: &mut Steps<L>,
 ) -> Result<(), RelinkFault>
+    requires ready { E.ready executor.now }
     requires machine { linked.old.layout.machine ≡ A.machine }
     ensures answered { Relinks result linked.old.layout change }
     ensures changed { OnOk result (linked.new.layout ≡ changed_layout linked.old.layout change) }
@@ -138,9 +140,9 @@ pub fn relink<A: ShardedArch, R: Threads + Sync, L: Ledger>(
     ensures no_step { CountsNone result steps.new steps.old }
 {
     let by = Workers {
-        rt,
+        executor,
         alloc,
         count: 1,
     };
-    relink_image::<A, R, L>(&by, &mut linked.image, change, steps)
+    relink_image::<A, E, L>(&by, &mut linked.image, change, steps)
 }

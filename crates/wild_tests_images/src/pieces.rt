@@ -1,17 +1,18 @@
 //! The pieces of an image that each group writes, and the workers.
-ghost use Rattle.std.specs.Prelude.{◌≡◌, ◌<◌};
+ghost use Rattle.std.specs.Prelude.{◌≡◌, ◌<◌, ◌≤◌};
 ghost use Rattle.wild_types.specs.declared.kind.Machine.TheVariants as machine;
 
 use crate::plans::layout_of;
-use std::alloc::Global;
+use std::alloc::{AllocError, Global};
 use std::marker::Brand;
 use std::sync::atomic::{AtomicU64, Ordering};
 use std::sync::ledger::{Blank, Ledger};
 use std::test::*;
 use std::thread::Threads;
-use wild_crew::Gate;
+use wild_crew::{Gate, JobResults, gather};
 use wild_image::{
-    ElfX86_64, GroupPiece, SizedOutput, Steps, check_shares, write, write_gated, write_group,
+    Alone, ElfX86_64, GroupJob, GroupPiece, GroupWriter, Outcome, SizedOutput, Steps, Threaded,
+    check_shares, write, write_gated, write_group,
 };
 use wild_plan::{Error, Layout, Part, well_formed};
 use wild_sample_layouts::make_plan;
@@ -34,7 +35,13 @@ fn counted_pieces<L: Ledger, R: Threads + Sync>(
     match (well_formed(layout), check_shares(layout)) {
         (Ok(()), Ok(())) => {
             for index in 0..layout.groups.len() {
-                let piece = write_group::<ElfX86_64, L, R>(rt, alloc, layout, index, &mut steps)?;
+                let piece = write_group::<ElfX86_64, L, _>(
+                    &Threaded(rt),
+                    alloc,
+                    layout,
+                    index,
+                    &mut steps,
+                )?;
                 pieces.push(piece)?;
             }
             Ok(pieces)
@@ -125,7 +132,7 @@ fn image_by_one_worker(
 ) -> Result<SizedOutput, Error>
     requires { layout.now.machine ≡ machine.X86_64 }
 {
-    write::<ElfX86_64>(rt, alloc, layout, 1)
+    write::<ElfX86_64, _>(&Threaded(rt), alloc, layout, 1)
 }
 
 #[test]
@@ -159,6 +166,20 @@ impl Gate for MeetingGate {
     }
 }
 
+impl<'t, R: Threads + Sync> GroupWriter<ElfX86_64, MeetingGate> for Threaded<'t, R> {
+    fn gather_batches(
+        &self,
+        alloc: Global,
+        job: &GroupJob<ElfX86_64, Threaded<'t, R>>,
+        sections: u32,
+        workers: u32,
+        gate: &MeetingGate,
+    ) -> Result<JobResults<Outcome>, AllocError> {
+        gather(self.0, alloc, job, sections, workers, gate)
+    }
+}
+
+/// Two threads are in the gate at the same time.
 #[test]
 fn two_workers_meet(rt: HostRuntime) -> Result<(), Fail> {
     let layout = make_plan(rt.alloc(), 2)?;
@@ -166,7 +187,36 @@ fn two_workers_meet(rt: HostRuntime) -> Result<(), Fail> {
         entered: AtomicU64::new(0),
         met: AtomicU64::new(0),
     };
-    let image = write_gated::<ElfX86_64>(&rt, rt.alloc(), &layout, 2, &gate)?;
+    let image = write_gated::<ElfX86_64, _, _>(&Threaded(&rt), rt.alloc(), &layout, 2, &gate)?;
     assert!(rt; image.out.len() == 472 && gate.met.load(Ordering::SeqCst) == 1);
+    Ok(())
+}
+
+/// Whether the calling thread alone writes the image, with that number of workers.
+fn is_written_alone(
+    alloc: Global,
+    layout: &Layout,
+    workers: u8,
+    image: &SizedOutput,
+) -> Result<bool, Fail>
+    requires machine { layout.now.machine ≡ machine.X86_64 }
+    requires workers { (1 ≤ workers) × (workers ≤ 64) }
+{
+    let output = write::<ElfX86_64, _>(&Alone, alloc, layout, workers)?;
+    Ok(
+        output.out.as_slice() == image.out.as_slice()
+            && output.counts.as_slice() == image.counts.as_slice(),
+    )
+}
+
+/// Threads and the calling thread alone write the same image.
+#[test]
+fn images_of_executors(rt: HostRuntime) -> Result<(), Fail> {
+    for plan in [SMALLEST, THREE, SLOTTED, LINKED] {
+        let layout = layout_of(rt.alloc(), plan)?;
+        let image = write::<ElfX86_64, _>(&Threaded(&rt), rt.alloc(), &layout, 2)?;
+        assert!(rt; is_written_alone(rt.alloc(), &layout, 1, &image)?);
+        assert!(rt; is_written_alone(rt.alloc(), &layout, 3, &image)?);
+    }
     Ok(())
 }

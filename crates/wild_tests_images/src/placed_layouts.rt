@@ -4,7 +4,7 @@ use crate::plans::{changed_layout, image_of};
 use std::alloc::Global;
 use std::test::*;
 use std::thread::Threads;
-use wild_image::ElfX86_64;
+use wild_image::{ElfX86_64, Threaded};
 use wild_loader::{LoadFault, Memory, load_image};
 use wild_placer::{PlaceFault, Placed, place_code};
 use wild_tests_plans::{PACKED, RELOCATABLE, SLOTTED, WIDE};
@@ -45,7 +45,7 @@ fn memory_of_a_layout(rt: HostRuntime) -> Result<(), Fail> {
         let loaded = load_image(alloc, image.as_slice(), &world)
             .ok()
             .ok_or("loaded")?;
-        let placed = place_code::<ElfX86_64>(&rt, alloc, &layout, &world, 1);
+        let placed = place_code::<ElfX86_64, _>(&Threaded(&rt), alloc, &layout, &world, 1);
         assert!(rt;
             has_same_runs(&placed.ok().ok_or("placed")?, &loaded),
             "{base}"
@@ -64,7 +64,7 @@ fn fault_of(
 ) -> Result<Option<PlaceFault>, Fail> {
     let layout = changed_layout(alloc, plan, changes)?;
     let world = world(alloc, base, &[])?;
-    Ok(place_code::<ElfX86_64>(rt, alloc, &layout, &world, 1).err())
+    Ok(place_code::<ElfX86_64, _>(&Threaded(rt), alloc, &layout, &world, 1).err())
 }
 
 /// A fault of the layout comes before one of the loader.
@@ -101,15 +101,15 @@ fn two_placements(rt: HostRuntime) -> Result<(), Fail> {
     let world = world(alloc, 0, &[])?;
     let mut placed = Placed::new(alloc);
     assert!(rt; placed.byte(0x40_0080).is_none());
-    let first = placed.place::<ElfX86_64>(&rt, alloc, &layout, &world, 1);
+    let first = placed.place::<ElfX86_64, _>(&Threaded(&rt), alloc, &layout, &world, 1);
     assert!(rt; matches!(first, Ok(0)));
     assert!(rt; placed.byte(0x40_0080) == Some(0xe8));
-    let second = placed.place::<ElfX86_64>(&rt, alloc, &layout, &world, 1);
+    let second = placed.place::<ElfX86_64, _>(&Threaded(&rt), alloc, &layout, &world, 1);
     assert!(rt; matches!(second, Err(PlaceFault::Taken { address: 0x40_0000 })));
     assert!(rt; placed.remove(0).is_ok());
     assert!(rt; placed.byte(0x40_0080).is_none());
     assert!(rt; matches!(placed.remove(0), Err(PlaceFault::NoSuch { number: 0 })));
-    let third = placed.place::<ElfX86_64>(&rt, alloc, &layout, &world, 1);
+    let third = placed.place::<ElfX86_64, _>(&Threaded(&rt), alloc, &layout, &world, 1);
     assert!(rt; matches!(third, Ok(1)));
     Ok(())
 }
@@ -122,7 +122,7 @@ fn placements_side_by_side(rt: HostRuntime) -> Result<(), Fail> {
     let mut placed = Placed::new(alloc);
     for number in 0..8u32 {
         let world = world(alloc, u64::from(number) * 0x1000, &[])?;
-        let answer = placed.place::<ElfX86_64>(&rt, alloc, &layout, &world, 1);
+        let answer = placed.place::<ElfX86_64, _>(&Threaded(&rt), alloc, &layout, &world, 1);
         assert!(rt; matches!(answer, Ok(found) if found == number), "{number}");
     }
     assert!(rt; placed.remove(3).is_ok());

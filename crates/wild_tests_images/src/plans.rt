@@ -6,7 +6,7 @@ use serde_json::Value;
 use std::alloc::Global;
 use std::test::Fail;
 use std::thread::Threads;
-use wild_image::{ElfX86_64, write};
+use wild_image::{ElfX86_64, Threaded, write};
 use wild_plan::{Layout, Machine};
 use wild_text::read_plan;
 
@@ -54,6 +54,6 @@ pub(crate) fn image_of(
     changes: &[(&str, &str)],
 ) -> Result<Vec<u8>, Fail> {
     let layout = changed_layout(alloc, plan, changes)?;
-    let image = write::<ElfX86_64>(rt, alloc, &layout, 1)?;
+    let image = write::<ElfX86_64, _>(&Threaded(rt), alloc, &layout, 1)?;
     Ok(image.out.as_slice().to_vec(alloc)?)
 }

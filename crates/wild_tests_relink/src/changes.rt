@@ -7,7 +7,7 @@ use std::marker::Brand;
 use std::sync::ledger::{Blank, Ledger};
 use std::test::*;
 use std::thread::Threads;
-use wild_image::{ElfX86_64, Steps, write};
+use wild_image::{ElfX86_64, Steps, Threaded, write};
 use wild_plan::{At, Error, Fault, InputRelocation, Machine, SymbolIndex};
 use wild_relinker::{Change, Linked, RelinkFault, relink};
 use wild_sample_layouts::make_plan;
@@ -217,7 +217,7 @@ fn change_of(alloc: Global, row: &Row) -> Result<Change, Fail> {
 fn is_as_written(rt: &(impl Threads + Sync), alloc: Global, linked: &Linked) -> Result<bool, Fail>
     requires { linked.now.layout.machine ≡ machine.X86_64 }
 {
-    let image = write::<ElfX86_64>(rt, alloc, linked.layout(), 1)?;
+    let image = write::<ElfX86_64, _>(&Threaded(rt), alloc, linked.layout(), 1)?;
     Ok(
         linked.out() == image.out.as_slice()
             && linked.warnings() == image.warnings.as_slice()
@@ -259,7 +259,7 @@ fn relinked<L: Ledger, R: Threads + Sync>(
     ensures { linked.new.layout.machine ≡ machine.X86_64 }
 {
     let mut steps = Steps::<L>::new(blank);
-    relink::<ElfX86_64, R, L>(rt, alloc, linked, change, &mut steps)
+    relink::<ElfX86_64, _, L>(&Threaded(rt), alloc, linked, change, &mut steps)
 }
 
 /// Whether the row has its answer, and the image is that of the layout after it.
@@ -288,7 +288,7 @@ fn row_holds<R: Threads + Sync>(
 #[test]
 fn changes_of_a_layout(rt: HostRuntime) -> Result<(), Fail> {
     let layout = make_plan(rt.alloc(), 4)?;
-    let mut linked = Linked::link::<ElfX86_64>(&rt, rt.alloc(), layout, 2)?;
+    let mut linked = Linked::link::<ElfX86_64, _>(&Threaded(&rt), rt.alloc(), layout, 2)?;
     for (index, row) in ROWS.iter().enumerate() {
         assert!(rt; row_holds(&rt, rt.alloc(), &mut linked, row)?, "{index}");
     }

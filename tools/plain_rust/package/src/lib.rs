@@ -15,6 +15,7 @@ pub mod shim;
 use shim::alloc::{AllocError, Global};
 use shim::thread::Process;
 use std::fmt;
+use wild_executor::Threaded;
 use wild_words::{Bytes, Items};
 
 pub use wild_image::SizedOutput;
@@ -22,7 +23,7 @@ pub use wild_types::{Error, Fault, Layout};
 
 /// The image of a layout, or the layout's first fault. 1 to 64 threads share the work; a number outside is taken as the next inside.
 pub fn write(layout: &Layout, threads: u8) -> Result<SizedOutput, Error> {
-    wild_image::write_layout(&Process, Global, layout, threads.clamp(1, 64))
+    wild_image::write_layout(&Threaded(&Process), Global, layout, threads.clamp(1, 64))
 }
 
 /// Why bytes are not a plan.

@@ -12,10 +12,10 @@ use Rattle.wild_image.proofs.buffer.add_file_sections.Goals as goal
 use Rattle.wild_image.proofs.buffer.add_file_sections.Goals.{then-is_written_unchanged+in_ok-add_unchanged, else-is_written_unchanged+in_ok-next}
 
 pub add_section-requires-clause-lies : goal.add_section-requires-clause-lies
-add_section-requires-clause-lies g c κs within = lies_head c.args.resolved.now.layout.now c.args.file.now c.as_slice-section-items.result.now c.loop-i.i c.loop-i.next c.section-item.result c.loop-i-test.true c.section-item.is c.loop-i.invariant.lies
+add_section-requires-clause-lies g c = lies_head c.args.resolved.now.layout.now c.args.file.now c.as_slice-section-items.result.now c.loop-i.i c.loop-i.next c.section-item.result c.loop-i-test.true c.section-item.is c.loop-i.invariant.lies
 
 pub add_section-requires-clause-reversed_section : goal.add_section-requires-clause-reversed_section
-add_section-requires-clause-reversed_section g c κs within =
+add_section-requires-clause-reversed_section g c =
     let h = rw c.as_slice-section-items.ensures at c.loop-i-test.true in
     let read = rw c.as_slice-section-items.ensures at c.section-item.is in
     subst (CanBeReversed c.args.resolved.now.layout.now) (sym read) (c.requires.reversed_section c.loop-i.i c.section-item.result h)

@@ -71,7 +71,7 @@ returns-then-section-clause-plain g c = λ other. refl
 -- ---- any other
 
 pub add_unread-requires-clause-written : goal.add_unread-requires-clause-written
-add_unread-requires-clause-written g c κs within =
+add_unread-requires-clause-written g c =
     let l = c.args.resolved.now.layout.now in
     subst (λ (s : InputSection). is_omitted l s ≡ false) c.section-section.ensures (sym c.is_omitted.ensures ∙ c.if-is_omitted.false)
 

@@ -13,10 +13,10 @@ use Rattle.wild_image.proofs.PlacedLemmas.{table_of_all}
 use Rattle.wild_image.proofs.buffer.bytes_of_batch.Goals as goal
 
 pub add_batch_group-requires-clause-table : goal.add_batch_group-requires-clause-table
-add_batch_group-requires-clause-table g c κs within = table_of_all c.args.resolved.now.layout.now c.args.table.now c.group-item.result.files c.requires.table
+add_batch_group-requires-clause-table g c = table_of_all c.args.resolved.now.layout.now c.args.table.now c.group-item.result.files c.requires.table
 
 pub add_batch_group-requires-clause-none : goal.add_batch_group-requires-clause-none
-add_batch_group-requires-clause-none g c κs within = λ none.
+add_batch_group-requires-clause-none g c = λ none.
     let l = c.args.resolved.now.layout.now in
     let gs = c.args.batch.now.groups.now in
     let nothing = c.room_of_tables-tables.ensures (none_told c.room_of_tables-tables.result none) in

@@ -1,4 +1,4 @@
-use Rattle.std.proofs.Common.{◌≡◌, ℕ, List, [], ◌<◌, ◌^◌, length, ap, arith, rules, subst, sym}
+use Rattle.std.proofs.Common.{◌≡◌, ℕ, List, [], ◌<◌, ◌^◌, length, ap, arith, subst, sym}
 use Rattle.wild_crew.specs.FinalCore.{AreTotals}
 use Rattle.wild_types.specs.declared.part.Role.TheVariants as role
 use Rattle.wild_types.specs.declared.file.Group.{Group}
@@ -32,13 +32,13 @@ invariant_of-job-clause-few g c =
     let two = ap length c.as_slice-groups.ensures in
     omega (arith, few, least, one, two)
 
-pub gather-requires-clause-sections : goal.gather-requires-clause-sections
-gather-requires-clause-sections g c κs within = λ j low k d m.
+pub gather_batches-requires-clause-sections : goal.gather_batches-requires-clause-sections
+gather_batches-requires-clause-sections g c = λ j low k d m.
     let below = pairs_below c.args.resolved.now.layout.now c.requires.laid_out c.as_slice-batches.result.now j k d m in
     omega (arith, below, c.len-sections.ensures)
 
-pub gather-requires-clause-fit : goal.gather-requires-clause-fit
-gather-requires-clause-fit g c κs within = λ k low.
+pub gather_batches-requires-clause-fit : goal.gather_batches-requires-clause-fit
+gather_batches-requires-clause-fit g c = λ k low.
     let bs = c.as_slice-batches.result.now in
     let cut = subst (λ (xs : List Batch). AreBatches c.as_slice-groups.result.now xs) (sym c.as_slice-batches.ensures.value) c.in_ok-cut.ensures.batches in
     let all = subst (λ (gs : List Group). AreBatches gs bs) c.as_slice-groups.ensures cut in
@@ -53,7 +53,7 @@ write_bytes-requires-clause-batches g c =
     subst (λ (gs : List Group). AreBatches gs c.as_slice-batches.result.now) c.as_slice-groups.ensures cut
 
 pub write_bytes-requires-clause-each : goal.write_bytes-requires-clause-each
-write_bytes-requires-clause-each g c = λ j o at. (c.in_ok-gathered.ensures.pieces.1 j o (rw c.as_slice-pieces.ensures at at))
+write_bytes-requires-clause-each g c = λ j o at. (c.in_ok-gathered.ensures.outcomes.1 j o (rw c.as_slice-pieces.ensures at at))
 
 pub returns-clause-counts : goal.returns-clause-counts
 returns-clause-counts g c =
@@ -64,8 +64,8 @@ returns-clause-counts g c =
     let totals = c.in_ok-gathered.ensures.totals in
     totals_are l bs c.in_ok-gathered.gathered.totals all (subst (λ (n : ℕ). AreTotals (pairs_at l bs) (length bs) n c.in_ok-gathered.gathered.totals) c.len-sections.ensures totals)
 
-pub make_search_table-requires : goal.make_search_table-requires
-make_search_table-requires g c = (search rules, role_address c.args.resolved.now.layout.now c.requires.laid_out role.EhFrameHdr)
+pub make_search_table-requires-clause-place : goal.make_search_table-requires-clause-place
+make_search_table-requires-clause-place g c = role_address c.args.resolved.now.layout.now c.requires.laid_out role.EhFrameHdr
 
 pub invariant_of-job-clause-table_is : goal.invariant_of-job-clause-table_is
 invariant_of-job-clause-table_is g c = made c.args.resolved.now.layout.now c.in_ok-table.table c.in_ok-table.ensures

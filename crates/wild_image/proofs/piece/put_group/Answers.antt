@@ -9,7 +9,7 @@ use Rattle.wild_image.proofs.StandingLemmas.{each_file_lies}
 use Rattle.wild_image.proofs.piece.put_group.Goals as goal
 
 pub group_bytes-requires-clause-table : goal.group_bytes-requires-clause-table
-group_bytes-requires-clause-table g c κs within = table_of_all c.args.resolved.now.layout.now c.args.prepared.now.table c.args.group.now.files c.requires.prepared.table
+group_bytes-requires-clause-table g c = table_of_all c.args.resolved.now.layout.now c.args.prepared.now.table c.args.group.now.files c.requires.prepared.table
 
 pub starts_of-requires : goal.starts_of-requires
 starts_of-requires g c =

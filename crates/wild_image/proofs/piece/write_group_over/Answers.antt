@@ -13,13 +13,13 @@ pub new-resolved-requires-clause-fits : goal.new-resolved-requires-clause-fits
 new-resolved-requires-clause-fits g c = FieldsFit-IsLaidOut c.args.layout.now (c.layouts_are_laid_out.ensures c.args.layout.now c.requires.clauses c.requires.shares)
 
 pub put_group-requires-clause-shares : goal.put_group-requires-clause-shares
-put_group-requires-clause-shares g c κs within = subst (λ (l : Layout). flat_map_from (part_errors l) 0 l.parts ≡ []) (sym c.new-resolved.ensures) c.requires.shares
+put_group-requires-clause-shares g c = subst (λ (l : Layout). flat_map_from (part_errors l) 0 l.parts ≡ []) (sym c.new-resolved.ensures) c.requires.shares
 
 pub put_group-requires-clause-prepared : goal.put_group-requires-clause-prepared
-put_group-requires-clause-prepared g c κs within = subst (λ (l : Layout). IsPrepared l c.args.prepared.now) (sym c.new-resolved.ensures) c.requires.prepared
+put_group-requires-clause-prepared g c = subst (λ (l : Layout). IsPrepared l c.args.prepared.now) (sym c.new-resolved.ensures) c.requires.prepared
 
 pub put_group-requires-clause-group : goal.put_group-requires-clause-group
-put_group-requires-clause-group g c κs within =
+put_group-requires-clause-group g c =
     let l = c.args.layout.now in
     let found = c.index-as_slice-group.result in
     let at : slice_get l.groups c.args.group ≡ Some found = slice_get_read l.groups (length l.groups) c.args.group found (search rules) c.requires.group (search rules) in

@@ -9,12 +9,12 @@ use Rattle.wild_relinker.proofs.ImageLemmas.{few_by_number, few_of_section, relo
 use Rattle.wild_relinker.proofs.changed_image.write_changed.Goals as goal
 
 pub write_checked-requires-clause-count : goal.write_checked-requires-clause-count
-write_checked-requires-clause-count g c κs within =
+write_checked-requires-clause-count g c =
     let x = c.args.found in
     few_by_number c.args.layout.now c.args.index x.group.now x.file.now x.section.now c.args.before c.args.written.now _ c.requires.awaits (search rules)
 
 pub write_checked-requires-clause-faults : goal.write_checked-requires-clause-faults
-write_checked-requires-clause-faults g c κs within = c.requires.awaits.faults
+write_checked-requires-clause-faults g c = c.requires.awaits.faults
 
 pub correct_counts-requires-clause-after : goal.correct_counts-requires-clause-after
 correct_counts-requires-clause-after g c =

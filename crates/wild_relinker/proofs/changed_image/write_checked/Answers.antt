@@ -12,12 +12,12 @@ returns-in_err-check_changed-clause-faults g c =
     rw (p.1, p.2) (check_refused c.args.layout.now c.args.index x.group.now x.file.now x.section.now _ c.requires.faults c.in_err-check_changed.ensures)
 
 pub write_group_over-requires-clause-clauses : goal.write_group_over-requires-clause-clauses
-write_group_over-requires-clause-clauses g c κs within =
+write_group_over-requires-clause-clauses g c =
     let x = c.args.found in
     clauses_hold c.args.layout.now c.args.index x.group.now x.file.now x.section.now c.requires.faults c.in_ok-check_changed.ensures
 
 pub write_group_over-requires-clause-shares : goal.write_group_over-requires-clause-shares
-write_group_over-requires-clause-shares g c κs within =
+write_group_over-requires-clause-shares g c =
     let x = c.args.found in
     shares_hold c.args.layout.now c.args.index x.group.now x.file.now x.section.now c.requires.faults c.in_ok-check_changed.ensures
 

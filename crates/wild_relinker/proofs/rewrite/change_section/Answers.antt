@@ -28,10 +28,10 @@ named_section-found-requires g c =
     is_there_again l d s c.swap_contents.new.layout c.swap_contents.new.change can c.swap_contents.ensures.layout (c.swap_contents.ensures.change s (section_at-found l d s can.place))
 
 pub write_changed-requires-clause-machine : goal.write_changed-requires-clause-machine
-write_changed-requires-clause-machine g c κs within = subst (λ (m : Layout). m.machine ≡ _) (sym c.swap_contents.ensures.layout) c.requires.machine
+write_changed-requires-clause-machine g c = subst (λ (m : Layout). m.machine ≡ _) (sym c.swap_contents.ensures.layout) c.requires.machine
 
 pub write_changed-requires-clause-prepared : goal.write_changed-requires-clause-prepared
-write_changed-requires-clause-prepared g c κs within =
+write_changed-requires-clause-prepared g c =
     let l = c.args.image.now.layout in
     let d = c.args.change.now in
     let s = c.named_section.result.section.now in
@@ -40,7 +40,7 @@ write_changed-requires-clause-prepared g c κs within =
     subst (λ (m : Layout). IsPrepared m c.args.image.now.prepared) (sym c.swap_contents.ensures.layout) stays
 
 pub write_changed-requires-clause-awaits : goal.write_changed-requires-clause-awaits
-write_changed-requires-clause-awaits g c κs within =
+write_changed-requires-clause-awaits g c =
     let l = c.args.image.now.layout in
     let d = c.args.change.now in
     let s = c.named_section.result.section.now in

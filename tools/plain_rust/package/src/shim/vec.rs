@@ -172,3 +172,15 @@ impl<T: Clone> TryToVec<T> for [T] {
         Vec::from_slice(alloc, self)
     }
 }
+
+/// A stable sort. It may allocate, and ends the process if there is no memory.
+pub trait TrySortByKey<T> {
+    fn try_sort_by_key<K: Ord>(&mut self, alloc: Global, key: impl FnMut(&T) -> K) -> Result<(), AllocError>;
+}
+
+impl<T> TrySortByKey<T> for [T] {
+    fn try_sort_by_key<K: Ord>(&mut self, _: Global, key: impl FnMut(&T) -> K) -> Result<(), AllocError> {
+        self.sort_by_key(key);
+        Ok(())
+    }
+}

@@ -12,7 +12,7 @@ use Rattle.wild_image.proofs.BatchLemmas.{cut_of, batches_within, batches_end, h
 use Rattle.wild_image.proofs.job.GroupJobJobOutcome.run.Goals as goal
 
 pub bytes_of_batch-bytes-requires-clause-stands : goal.bytes_of_batch-bytes-requires-clause-stands
-bytes_of_batch-bytes-requires-clause-stands g c κs within =
+bytes_of_batch-bytes-requires-clause-stands g c =
     let l = c.args.self.now.resolved.now.layout.now in
     let bs = c.args.self.now.batches.now in
     let found = get_or bs c.args.group c.index-self-group.result in
@@ -21,7 +21,7 @@ bytes_of_batch-bytes-requires-clause-stands g c κs within =
     holds_within (GroupStands l) l.groups found within (each_stands l c.args.self.now.clauses (c.layouts_are_laid_out.ensures l c.args.self.now.clauses c.args.self.now.shares))
 
 pub bytes_of_batch-bytes-requires-clause-gives : goal.bytes_of_batch-bytes-requires-clause-gives
-bytes_of_batch-bytes-requires-clause-gives g c κs within =
+bytes_of_batch-bytes-requires-clause-gives g c =
     let l = c.args.self.now.resolved.now.layout.now in
     let bs = c.args.self.now.batches.now in
     let found = get_or bs c.args.group c.index-self-group.result in
@@ -30,7 +30,7 @@ bytes_of_batch-bytes-requires-clause-gives g c κs within =
     holds_within (GivesItsShares l) l.groups found within (all_give l (c.layouts_are_laid_out.ensures l c.args.self.now.clauses c.args.self.now.shares).parts)
 
 pub bytes_of_batch-bytes-requires-clause-few : goal.bytes_of_batch-bytes-requires-clause-few
-bytes_of_batch-bytes-requires-clause-few g c κs within =
+bytes_of_batch-bytes-requires-clause-few g c =
     let l = c.args.self.now.resolved.now.layout.now in
     let bs = c.args.self.now.batches.now in
     let found = get_or bs c.args.group c.index-self-group.result in
@@ -39,10 +39,10 @@ bytes_of_batch-bytes-requires-clause-few g c κs within =
     holds_within NeedsFit l.groups found within (needs_fit l (c.layouts_are_laid_out.ensures l c.args.self.now.clauses c.args.self.now.shares))
 
 pub bytes_of_batch-bytes-requires-clause-once : goal.bytes_of_batch-bytes-requires-clause-once
-bytes_of_batch-bytes-requires-clause-once g c κs within = (c.layouts_are_laid_out.ensures c.args.self.now.resolved.now.layout.now c.args.self.now.clauses c.args.self.now.shares).once
+bytes_of_batch-bytes-requires-clause-once g c = (c.layouts_are_laid_out.ensures c.args.self.now.resolved.now.layout.now c.args.self.now.clauses c.args.self.now.shares).once
 
 pub bytes_of_batch-bytes-requires-clause-small : goal.bytes_of_batch-bytes-requires-clause-small
-bytes_of_batch-bytes-requires-clause-small g c κs within =
+bytes_of_batch-bytes-requires-clause-small g c =
     let l = c.args.self.now.resolved.now.layout.now in
     let bs = c.args.self.now.batches.now in
     let found = get_or bs c.args.group c.index-self-group.result in
@@ -52,7 +52,7 @@ bytes_of_batch-bytes-requires-clause-small g c κs within =
     omega (arith, ends, few)
 
 pub bytes_of_batch-bytes-requires-clause-within : goal.bytes_of_batch-bytes-requires-clause-within
-bytes_of_batch-bytes-requires-clause-within g c κs within =
+bytes_of_batch-bytes-requires-clause-within g c =
     let l = c.args.self.now.resolved.now.layout.now in
     let bs = c.args.self.now.batches.now in
     let found = get_or bs c.args.group c.index-self-group.result in
@@ -68,4 +68,4 @@ returns g c =
     (gives_found l bs c.args.group found _ at c.bytes_of_batch-bytes.ensures.faults c.bytes_of_batch-bytes.ensures.bytes, pairs_found l bs c.args.group found _ at c.in_ok-counts.ensures)
 
 pub bytes_of_batch-bytes-requires-clause-table : goal.bytes_of_batch-bytes-requires-clause-table
-bytes_of_batch-bytes-requires-clause-table g c κs within = is_made c.args.self.now.resolved.now.layout.now c.args.self.now.table.now c.args.self.now.table_is
+bytes_of_batch-bytes-requires-clause-table g c = is_made c.args.self.now.resolved.now.layout.now c.args.self.now.table.now c.args.self.now.table_is

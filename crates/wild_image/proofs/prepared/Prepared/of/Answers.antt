@@ -1,4 +1,4 @@
-use Rattle.std.proofs.Common.{rules, subst, sym}
+use Rattle.std.proofs.Common.{subst, sym}
 use Rattle.wild_types.specs.declared.part.Role.TheVariants as role
 use Rattle.wild_types.specs.declared.layout.Layout.{Layout}
 use Rattle.wild_layout.specs.Geometry.{IsLaidOut}
@@ -9,8 +9,8 @@ use Rattle.wild_image.proofs.prepared.Prepared.of.Goals as goal
 pub new-resolved-requires-clause-fits : goal.new-resolved-requires-clause-fits
 new-resolved-requires-clause-fits g c = FieldsFit-IsLaidOut c.args.layout.now (c.layouts_are_laid_out.ensures c.args.layout.now c.requires.clauses c.requires.shares)
 
-pub make_search_table-requires : goal.make_search_table-requires
-make_search_table-requires g c = (search rules, role_address c.new-resolved.result.layout.now (subst IsLaidOut (sym c.new-resolved.ensures) (c.layouts_are_laid_out.ensures c.args.layout.now c.requires.clauses c.requires.shares)) role.EhFrameHdr)
+pub make_search_table-requires-clause-place : goal.make_search_table-requires-clause-place
+make_search_table-requires-clause-place g c = role_address c.new-resolved.result.layout.now (subst IsLaidOut (sym c.new-resolved.ensures) (c.layouts_are_laid_out.ensures c.args.layout.now c.requires.clauses c.requires.shares)) role.EhFrameHdr
 
 pub group_starts-requires : goal.group_starts-requires
 group_starts-requires g c = (c.layouts_are_laid_out.ensures c.args.layout.now c.requires.clauses c.requires.shares).parts

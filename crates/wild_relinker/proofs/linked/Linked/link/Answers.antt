@@ -4,10 +4,10 @@ use Rattle.wild_relinker.proofs.ImageLemmas.{few_relocations}
 use Rattle.wild_relinker.proofs.linked.Linked.link.Goals as goal
 
 pub of-requires-clause-clauses : goal.of-requires-clause-clauses
-of-requires-clause-clauses g c κs within = (none_before c.args.layout c.in_ok-output.ensures.faults).0
+of-requires-clause-clauses g c = (none_before c.args.layout c.in_ok-output.ensures.faults).0
 
 pub of-requires-clause-shares : goal.of-requires-clause-shares
-of-requires-clause-shares g c κs within = (none_before c.args.layout c.in_ok-output.ensures.faults).1
+of-requires-clause-shares g c = (none_before c.args.layout c.in_ok-output.ensures.faults).1
 
 pub invariant_of-result : goal.invariant_of-result
 invariant_of-result g c =
