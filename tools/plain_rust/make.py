@@ -13,7 +13,7 @@ from erase import erase
 HERE = Path(__file__).resolve().parent
 TOP = HERE.parent.parent
 PROGRAMS = ('wild_main', 'wild_explain_main')
-TESTS = ('wild_tests', 'wild_tests_low', 'wild_tests_tables', 'wild_tests_images', 'wild_tests_relink', 'wild_tests_plans', 'wild_tests_answers')
+TESTS = ('wild_tests', 'wild_tests_low', 'wild_tests_tables', 'wild_tests_images', 'wild_tests_plans', 'wild_tests_answers')
 LIBRARIES = ('atomic_table', 'bitflags', 'hex', 'rayon', 'serde_json')
 
 # (file, its text, what replaces it)

@@ -2,6 +2,8 @@
 #![tactic(auto)]
 
 #[cfg(test)]
+mod changes;
+#[cfg(test)]
 mod linked_outputs;
 #[cfg(test)]
 mod loaded_images;

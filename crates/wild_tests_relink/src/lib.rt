@@ -1,5 +1,0 @@
-//! Tests of linked layouts that are changed.
-#![tactic(auto)]
-
-#[cfg(test)]
-mod changes;
