@@ -8,6 +8,8 @@ use Rattle.wild_types.specs.declared.input.InputSection.{InputSection}
 use Rattle.wild_types.specs.declared.layout.SortedSection.{SortedSection}
 use Rattle.wild_types.specs.declared.layout.Layout.{Layout}
 use Rattle.wild_types.specs.declared.file.File.{File}
+use Rattle.wild_types.specs.declared.file.Group.{Group}
+use Rattle.wild_types.specs.declared.part.Part.{Part}
 use Rattle.wild_types.specs.FileRoles.{is_epilogue}
 use Rattle.wild_types.specs.Lists.{through}
 use Rattle.wild_types.specs.Kinds.{is_partial_link}
@@ -15,7 +17,7 @@ use Rattle.wild_types.specs.Lookups.{has_bytes, has_range_bytes}
 use Rattle.wild_placement.specs.PlacedSections.{Input, sorted_input, of_last_file}
 use Rattle.wild_plan_rules.specs.SlotPlaces.{and_then, walk}
 use Rattle.wild_plan_rules.specs.Thunks.{bytes_step, section_step, sections_in_ranges}
-use Rattle.wild_plan_rules.specs.MisplacedSections.{all_placed, bytes_placed, file_all_placed}
+use Rattle.wild_plan_rules.specs.MisplacedSections.{all_placed, bytes_placed, file_all_placed, entry_group, owner_in_part, owner_in_parts}
 use Rattle.wild_clauses.specs.SortedOrder.{sorted_as_loaded, sections_of, sections_by_order}
 use Rattle.wild_plan_rules.proofs.BlockLemmas.{filled}
 
@@ -52,6 +54,20 @@ ordered_next step s t l i xs d lt h = rw (ordered_more l i xs d lt, through_appe
 
 pub ordered_out : {S : Type 0} (step : S → InputSection → Option S) (s : S) (l : Layout) (i : ℕ) (xs : List SortedSection) (d : SortedSection) → i < length xs → through step s (sections_of (sorted_input l (get_or xs i d))) ≡ None → through step s (sections_by_order l (drop i xs)) ≡ None
 ordered_out step s l i xs d lt h = rw (ordered_more l i xs d lt, through_append step s (sections_of (sorted_input l (get_or xs i d))) (sections_by_order l (drop (i + 1) xs)), h)
+
+-- ---- whose section is misplaced
+
+pub entry_out : (l : Layout) (part : ℕ) (ends cursors : List ℕ) (i : ℕ) (xs : List SortedSection) (d : SortedSection) → i < length xs → through (all_placed l part ends) cursors (sections_of (sorted_input l (get_or xs i d))) ≡ None → entry_group l part ends cursors (drop i xs) ≡ Some (get_or xs i d).group
+entry_out l part ends cursors i xs d lt h = rw (drop_more xs i d lt, h)
+
+pub entry_next : (l : Layout) (part : ℕ) (ends cursors next : List ℕ) (i : ℕ) (xs : List SortedSection) (d : SortedSection) → i < length xs → through (all_placed l part ends) cursors (sections_of (sorted_input l (get_or xs i d))) ≡ Some next → entry_group l part ends cursors (drop i xs) ≡ entry_group l part ends next (drop (i + 1) xs)
+entry_next l part ends cursors next i xs d lt h = rw (drop_more xs i d lt, h)
+
+pub owner-found : (l : Layout) (i : ℕ) (g : Group) (k : ℕ) (ps : List Part) (p : Part) (owner : ℕ) → k < length ps → p ≡ get_or ps k p → owner_in_part l i g k p ≡ Some owner → owner_in_parts l i g k (drop k ps) ≡ owner
+owner-found l i g k ps p owner lt is h = rw (drop_more ps k p lt, ← is, h)
+
+pub owner-next : (l : Layout) (i : ℕ) (g : Group) (k : ℕ) (ps : List Part) (p : Part) → k < length ps → p ≡ get_or ps k p → owner_in_part l i g k p ≡ None → owner_in_parts l i g k (drop k ps) ≡ owner_in_parts l i g (k + 1) (drop (k + 1) ps)
+owner-next l i g k ps p lt is h = rw (drop_more ps k p lt, ← is, h)
 
 -- ---- the sections of a file, and those of the order
 

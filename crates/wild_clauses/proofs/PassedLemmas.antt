@@ -11,7 +11,8 @@ use Rattle.wild_types.specs.declared.layout.Layout.{Layout}
 use Rattle.wild_types.specs.Lists.{first_failing}
 use Rattle.wild_types.specs.Lookups.{is_frame}
 use Rattle.wild_plan_rules.specs.Places.{ends_low, group_fits}
-use Rattle.wild_plan_rules.specs.Contents.{each_in, each_section, addresses, has_share_for_each_part, section_misplaced, sorted_named_once, names_sorted, length_fits, frames_part_fits, discarded_is_empty, part_is_raw, merged_is_raw, identity_is_raw, primary_fits, front_is_free, allocation_agrees, bytes_take_room, field_lies, fields_lie, is_read_well, relocations_are_read}
+use Rattle.wild_plan_rules.specs.Contents.{each_in, each_section, has_share_for_each_part, sorted_named_once, names_sorted, length_fits, frames_part_fits, discarded_is_empty, part_is_raw, merged_is_raw, identity_is_raw, primary_fits, front_is_free, allocation_agrees, bytes_take_room, field_lies, fields_lie, is_read_well, relocations_are_read}
+use Rattle.wild_plan_rules.specs.MisplacedSections.{misplaced_place}
 use Rattle.wild_plan_rules.specs.Indexes.{index_fits, header_is_there, relocation_index_fits, section_indexes_fit, symbol_is_there, block_is_there, file_indexes_fit, group_indexes_fit}
 use Rattle.wild_plan_rules.specs.ZeroFree.{input_name_fits, file_names_fit, group_names_fit}
 use Rattle.wild_plan_rules.specs.Fronts.{reversed_fits}
@@ -139,7 +140,7 @@ PassesEach-from_test l s h =
     let d = and_parts (allocation_agrees l s) (bytes_take_room l s) c.1 in
     record { length = a.0; frames = f.0; discarded = b.0; raw = c.0; allocation = d.0; room = d.1 }
 
-pub inputs_pass : (l : Layout) → fails 8 (section_misplaced l (addresses l.parts) 0 l.groups) ≡ Ok tt → fails 8 (sorted_named_once l 0 l.groups) ≡ Ok tt → fails 8 (first_failing (names_sorted l) 0 l.sorted) ≡ Ok tt → groups_pass l ≡ true → parts_fit l ≡ true → check_inputs l ≡ Ok tt
+pub inputs_pass : (l : Layout) → fails 8 (misplaced_place l) ≡ Ok tt → fails 8 (sorted_named_once l 0 l.groups) ≡ Ok tt → fails 8 (first_failing (names_sorted l) 0 l.sorted) ≡ Ok tt → groups_pass l ≡ true → parts_fit l ≡ true → check_inputs l ≡ Ok tt
 unfolding check_inputs
 inputs_pass l first once named h fit =
     let each = λ (s : InputSection) (p : SectionPasses l s). PassesEach-from_test l s p.inputs in

@@ -53,6 +53,21 @@ room_in l part end sizes shares from to k lt =
 pub room_in_block : (l : Layout) (parts : List Part) (part end : ℕ) → parts ≡ l.parts → check_sizes l ≡ Ok tt → check_shares l ≡ Ok tt → part ≤ end → end ≤ length parts → (k : ℕ) → k < end - part → get_or (addresses (slice_range parts part end)) k 0 + total (given (part + k)) l.groups < 2 ^ 64
 room_in_block l parts part end same sizes shares from to k lt = rw same (room_in l part end sizes shares from (rw same at to) k lt)
 
+-- a part ends low
+low_at : (j : ℕ) (ps : List Part) (k : ℕ) (p : Part) → first_failing part_fits j ps ≡ None → k < length ps → p ≡ get_or ps k p → p.address + p.size ≤ 2 ^ 62
+low_at j [] k p s lt is = absurd (omega arith)
+low_at j (q ∷ ps) zero p s lt is =
+    let b = and_parts (is_power_of_two q.align && ends_low q.address q.size) (ends_low q.offset q.size) (fits_next j q ps s).0 in
+    rw is (leb-true _ _ (and_parts (is_power_of_two q.align) (ends_low q.address q.size) b.0).1)
+low_at j (q ∷ ps) (suc k) p s lt is = low_at (j + 1) ps k p (fits_next j q ps s).1 (omega arith) is
+
+pub part_ends_low : (l : Layout) (ps : List Part) (k : ℕ) (p : Part) → ps ≡ l.parts → check_sizes l ≡ Ok tt → k < length ps → p ≡ get_or ps k p → p.address + p.size < 2 ^ 64
+unfolding check_sizes
+part_ends_low l ps k p same sizes lt is =
+    let s : first_failing part_fits 0 l.parts ≡ None = None-from_fails 1 _ (first_holds _ _ (rest_holds _ _ sizes)) in
+    let low : p.address + p.size ≤ 2 ^ 62 = low_at 0 ps k p (ap (first_failing part_fits 0) same ∙ s) lt is in
+    omega (arith, low)
+
 -- ---- one group further
 
 room_next : (gs : List Group) (i n start : ℕ) (g : Group) → i < length gs → g ≡ get_or gs i g → start + total (given n) (drop i gs) < 2 ^ 64 → start + given n g + total (given n) (drop (i + 1) gs) < 2 ^ 64

@@ -9,7 +9,7 @@ ghost use Rattle.wild_plan_rules.specs.ClauseTests.{merged_and_identity_fit, che
 use crate::each_section::failing_group;
 use crate::front::front_is_free;
 use crate::fronts::has_size;
-use crate::places::section_misplaced;
+use crate::places::misplaced_place;
 use crate::sorted_sections::{NamesSorted, sorted_named_once};
 use crate::thunks::has_thunks;
 use crate::verdict::{fails, unless};
@@ -265,7 +265,7 @@ pub(crate) fn check_inputs(
     ensures { result ≡ check_inputs layout.now }
 {
     let groups = layout.groups.as_slice();
-    fails(8, section_misplaced(layout))?;
+    fails(8, misplaced_place(layout))?;
     fails(
         8,
         sorted_named_once(layout, has_no_copies_versions_or_sorting),

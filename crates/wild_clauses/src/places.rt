@@ -5,7 +5,7 @@ ghost use Rattle.wild_plan_rules.specs.Contents.{addresses, ends_of, section_mis
 ghost use Rattle.wild_types.specs.FilePlaces.{given};
 ghost use Rattle.wild_types.specs.Lists.{through, total};
 ghost use Rattle.wild_plan_rules.specs.ClauseTests.{check_sizes, check_shares};
-ghost use Rattle.wild_plan_rules.specs.MisplacedSections.{earlier, misplaced, all_placed, bytes_placed, file_all_placed};
+ghost use Rattle.wild_plan_rules.specs.MisplacedSections.{earlier, misplaced, all_placed, bytes_placed, file_all_placed, entry_group, own_all_placed, owner_in_part, owner_in_parts, misplaced_owner, misplaced_place};
 ghost use Rattle.wild_clauses.specs.SortedOrder.{sorted_as_loaded, sections_of, sections_by_order};
 
 use crate::sorted_sections::has_ordered_bytes;
@@ -221,9 +221,9 @@ fn block_misplaced(layout: &Layout, part: usize, block: &[Part]) -> Option<usize
     misplaced_from(layout, part, starts, cursors)
 }
 
-/// The place of the first group with a misplaced input section. Requires that parts end below 2^62, and that shares add up to their
+/// The first group in whose ranges an input section is misplaced. Requires that parts end below 2^62, and that shares add up to their
 /// sizes.
-pub(crate) fn section_misplaced(layout: &Layout) -> Option<usize>
+fn section_misplaced(layout: &Layout) -> Option<usize>
     requires sizes { check_sizes layout.now ≡ Ok tt }
     requires shares { check_shares layout.now ≡ Ok tt }
     ensures { result ≡ section_misplaced layout.now (addresses layout.now.parts) 0 layout.now.groups }
@@ -237,4 +237,88 @@ pub(crate) fn section_misplaced(layout: &Layout) -> Option<usize>
         part = end;
     }
     first
+}
+
+/// The group of the first entry of the order whose section is misplaced.
+fn entry_group(
+    layout: &Layout,
+    part: usize,
+    ends: &[u64],
+    cursors: &mut [u64],
+    order: &[SortedSection],
+) -> Option<usize>
+    requires { length ends.now ≡ length cursors.old }
+    ensures { result ≡ entry_group layout.now part ends.now cursors.old order.now }
+{
+    for entry in order {
+        if !pass_entry(layout, part, ends, cursors, *entry) {
+            return Some(entry.group);
+        }
+    }
+    None
+}
+
+/// Moves the cursors after the files' own sections; false if one of these is misplaced.
+fn pass_own(layout: &Layout, part: usize, ends: &[u64], cursors: &mut [u64], files: &[File]) -> bool
+    requires { length ends.now ≡ length cursors.old }
+    ensures { through (own_all_placed layout.now part ends.now) cursors.old files.now ≡ (if result then Some cursors.new else None) }
+{
+    for file in files {
+        if !pass_sections(layout, part, ends, cursors, file.sections.as_slice()) {
+            return false;
+        }
+    }
+    true
+}
+
+/// The group of a section that is misplaced in the range of the last group, number `i`, in part number `k`.
+fn owner_in_part(layout: &Layout, i: usize, group: &Group, k: usize, part: &Part) -> Option<usize>
+    requires low { part.now.address + part.now.size < 2 ^ 64 }
+    ensures { result ≡ owner_in_part layout.now i group.now k part.now }
+{
+    let end = part.address + part.size;
+    let ends = [end];
+    let mut cursors = [end.saturating_sub(group.given(k))];
+    if !pass_own(layout, k, &ends, &mut cursors, group.files.as_slice()) {
+        return Some(i);
+    }
+    entry_group(layout, k, &ends, &mut cursors, layout.sorted.as_slice())
+}
+
+/// The same in the first part that has one; else `i`. Time parts times sections of the last group.
+fn owner_in_parts(layout: &Layout, i: usize, group: &Group) -> usize
+    requires sizes { check_sizes layout.now ≡ Ok tt }
+    ensures { result ≡ owner_in_parts layout.now i group.now 0 layout.now.parts }
+{
+    for (k, part) in layout.parts.as_slice().iter().enumerate() {
+        if let Some(owner) = owner_in_part(layout, i, group, k, part) {
+            return owner;
+        }
+    }
+    i
+}
+
+/// The group of the misplaced section, if group `i` is the first in whose ranges one lies.
+fn misplaced_owner(layout: &Layout, i: usize) -> usize
+    requires sizes { check_sizes layout.now ≡ Ok tt }
+    ensures { result ≡ misplaced_owner layout.now i }
+{
+    let groups = layout.groups.as_slice();
+    match groups.get(i) {
+        Some(group) if i + 1 == groups.len() => owner_in_parts(layout, i, group),
+        _ => i,
+    }
+}
+
+/// The group of the first misplaced input section: of a sorted section, its own group. Requires that parts end below 2^62, and that
+/// shares add up to their sizes.
+pub(crate) fn misplaced_place(layout: &Layout) -> Option<usize>
+    requires sizes { check_sizes layout.now ≡ Ok tt }
+    requires shares { check_shares layout.now ≡ Ok tt }
+    ensures { result ≡ misplaced_place layout.now }
+{
+    match section_misplaced(layout) {
+        Some(i) => Some(misplaced_owner(layout, i)),
+        None => None,
+    }
 }

@@ -9,6 +9,7 @@ use Rattle.wild_types.specs.Lists.{first_failing, unless}
 use Rattle.wild_types.specs.Lookups.{files_of}
 use Rattle.wild_plan_rules.specs.Places.{part_out_of_order}
 use Rattle.wild_plan_rules.specs.Contents.{addresses, each_section, section_misplaced, sorted_named_once, length_fits, part_is_raw, merged_is_raw, identity_is_raw, primary_fits, front_is_free, allocation_agrees, bytes_take_room, fields_lie, tlsld_fits, tls_fits}
+use Rattle.wild_plan_rules.specs.MisplacedSections.{misplaced_owner, misplaced_place}
 use Rattle.wild_plan_rules.specs.GroupStarts.{start_places, no_starts, start_astray}
 use Rattle.wild_plan_rules.specs.Indexes.{part_index_fits, primary_is_there, thunks_are_there, symbol_misfit, group_indexes_fit, listed_misfit, sorted_is_there, merged_is_there, identity_is_there, entry_is_there, definition_is_own, range_out_of_order}
 use Rattle.wild_types.specs.FileSymbols.{first_double_copy}
@@ -19,7 +20,7 @@ use Rattle.wild_plan_rules.specs.Thunks.{ascends, thunks_misplaced, block_lost, 
 use Rattle.wild_plan_rules.specs.Partial.{has_no_segments, has_no_slot, has_no_pair, has_no_thunks, lists_no_symbols, has_no_index, is_no_debug, is_of_kind, tables_fit, group_fits_members, table_has_data}
 use Rattle.wild_plan_rules.specs.WellFormed.{first_clause}
 use Rattle.wild_types.proofs.ListLemmas.{All-from_none_fails}
-use Rattle.wild_plan_rules.proofs.ClauseLemmas.{None-from_fails}
+use Rattle.wild_plan_rules.proofs.ClauseLemmas.{None-from_fails, None-from_map}
 use Rattle.wild_layout.specs.Faults.{flat_map_from, part_errors}
 use Rattle.wild_layout.specs.Geometry.{DefinitionsAreFinal}
 use Rattle.wild_layout.specs.SlotOrder.{SlotsFollow, EachAgrees}
@@ -62,7 +63,7 @@ InputsHold-from_check l h =
     let u = Both-from_first_error _ _ t.rest in
     let e = Both-from_first_error _ _ u.rest in
     record {
-      order = None-from_fails 8 _ a.first;
+      order = None-from_map (misplaced_owner l) (section_misplaced l (addresses l.parts) 0 l.groups) (None-from_fails 8 (misplaced_place l) a.first);
       named = None-from_fails 8 _ n.first;
       lengths = All-from_none_fails (each_section length_fits) 0 l.groups (None-from_fails 8 _ b.first);
       raw = All-from_none_fails (each_section (part_is_raw l)) 0 l.groups (None-from_fails 8 _ d.first);

@@ -23,7 +23,7 @@ use Rattle.wild_plan_rules.specs.ZeroFree.{input_name_fits, file_names_fit, grou
 use Rattle.wild_needs.specs.Versions.{need_count}
 use Rattle.wild_outlines.proofs.ChangedItems.{length-outline}
 use Rattle.wild_outlines.proofs.ClausesTests.{failing-same, image_size-outline, part_out_of_order-outline, part_lies-outline, headers_are_kept-outline, dynamic_astray-outline, table_is_loaded-outline, merged_is_raw-outline, identity_is_raw-outline, holds_thunks-outline, first_tested_failing-outline, pair_follows_by-outline}
-use Rattle.wild_outlines.proofs.ClausesGroups.{list_all-mapped, failing-mapped, failing_sections-outline, names_sorted-outline, share_mismatch-outline, first_misplaced_file-outline, section_misplaced-outline, sorted_named_once-outline, front_is_free-outline, undefined_entries-outline, first_listed-outline, first_misplaced_listed-outline, start_astray-outline, need_count-outline, mark_astray-outline, given_by-outline}
+use Rattle.wild_outlines.proofs.ClausesGroups.{list_all-mapped, failing-mapped, failing_sections-outline, names_sorted-outline, share_mismatch-outline, first_misplaced_file-outline, misplaced_place-outline, sorted_named_once-outline, front_is_free-outline, undefined_entries-outline, first_listed-outline, first_misplaced_listed-outline, start_astray-outline, need_count-outline, mark_astray-outline, given_by-outline}
 use Rattle.wild_outlines.proofs.ClausesSlots.{slots_astray-outline, thunks_misplaced-outline, block_lost-outline}
 
 pub check_sizes-outline : (l : Layout) → check_sizes (outline l) ≡ check_sizes l
@@ -61,7 +61,7 @@ pub check_inputs-outline : (l : Layout) → check_inputs (outline l) ≡ check_i
 unfolding check_inputs
 check_inputs-outline l =
     rw (
-      section_misplaced-outline l (addresses l.parts) 0 l.groups,
+      misplaced_place-outline l,
       sorted_named_once-outline l 0 l.groups,
       failing-same (names_sorted (outline l)) (names_sorted l) (names_sorted-outline l) 0 l.sorted,
       failing_sections-outline length_fits length_fits length_fits-outline 0 l.groups,

@@ -25,7 +25,8 @@ use Rattle.wild_needs.specs.DynamicSymbols.{undefined_entries, undefined_in, dyn
 use Rattle.wild_needs.specs.Versions.{has_needs, file_versions}
 use Rattle.wild_change.specs.Change.{is_changeable}
 use Rattle.wild_change.specs.Outline.{outline_section, outline_file, outline_group, outline}
-use Rattle.wild_plan_rules.specs.Contents.{each_section, share_mismatch, ends_of, placed_in, file_placed_in, part_placed, parts_placed, section_misplaced, sections_named_once, files_named_once, sorted_named_once, names_sorted, leaves_front, file_leaves_front, group_leaves_front, front_is_free}
+use Rattle.wild_plan_rules.specs.MisplacedSections.{all_placed, group_or, entry_group, own_all_placed, owner_in_part, owner_in_parts, misplaced_owner, misplaced_place}
+use Rattle.wild_plan_rules.specs.Contents.{addresses, each_section, share_mismatch, ends_of, placed_in, file_placed_in, part_placed, parts_placed, section_misplaced, sections_named_once, files_named_once, sorted_named_once, names_sorted, leaves_front, file_leaves_front, group_leaves_front, front_is_free}
 use Rattle.wild_plan_rules.specs.Thunks.{sections_in_ranges}
 use Rattle.wild_plan_rules.specs.Indexes.{section_count, symbol_misfit, section_is_there, file_is_there, sorted_is_there, range_follows, or_place, range_out_of_order}
 use Rattle.wild_plan_rules.specs.GroupStarts.{group_share_at, starts_after_group, start_astray}
@@ -213,10 +214,58 @@ ends_of-outline : (g : Group) (part : ℕ) (starts : List ℕ) → ends_of (outl
 ends_of-outline g part [] = refl
 ends_of-outline g part (start ∷ starts) = ap (λ ends. (start + given part g) ∷ ends) (ends_of-outline g (part + 1) starts)
 
-pub section_misplaced-outline : (l : Layout) (starts : List ℕ) (i : ℕ) (gs : List Group) → section_misplaced (outline l) starts i (map outline_group gs) ≡ section_misplaced l starts i gs
+section_misplaced-outline : (l : Layout) (starts : List ℕ) (i : ℕ) (gs : List Group) → section_misplaced (outline l) starts i (map outline_group gs) ≡ section_misplaced l starts i gs
 section_misplaced-outline l starts i [] = refl
 section_misplaced-outline l starts i (g ∷ gs) =
     rw (parts_placed-outline l g 0 starts, ends_of-outline g 0 starts, section_misplaced-outline l (ends_of g 0 starts) (i + 1) gs) refl
+
+all_placed-outline : (l : Layout) (part : ℕ) (ends cursors : List ℕ) (s : InputSection) → all_placed (outline l) part ends cursors (outline_section s) ≡ all_placed l part ends cursors s
+all_placed-outline l part [] cs s = refl
+all_placed-outline l part (e ∷ es) [] s = refl
+all_placed-outline l part (e ∷ es) (c ∷ cs) s = rw (placed_in-outline l part e c s, all_placed-outline l (part + 1) es cs s) refl
+
+all_placed-same : (l : Layout) (part : ℕ) (ends cursors : List ℕ) (s : InputSection) → all_placed (outline l) part ends cursors s ≡ all_placed l part ends cursors s
+all_placed-same l part [] cs s = refl
+all_placed-same l part (e ∷ es) [] s = refl
+all_placed-same l part (e ∷ es) (c ∷ cs) s = rw (all_placed-same l (part + 1) es cs s) refl
+
+group_or-same : (g : ℕ) (f h : List ℕ → Option ℕ) → ((cs : List ℕ) → f cs ≡ h cs) → (o : Option (List ℕ)) → group_or g f o ≡ group_or g h o
+group_or-same g f h e None = refl
+group_or-same g f h e (Some cs) = e cs
+
+entry_group-outline : (l : Layout) (part : ℕ) (ends cursors : List ℕ) (xs : List SortedSection) → entry_group (outline l) part ends cursors xs ≡ entry_group l part ends cursors xs
+entry_group-outline l part ends cursors [] = refl
+entry_group-outline l part ends cursors (x ∷ xs) =
+    ap (λ ss. group_or x.group (λ next. entry_group (outline l) part ends next xs) (through (all_placed (outline l) part ends) cursors ss)) (sorted_input-outline l x)
+    ∙ (ap (group_or x.group (λ next. entry_group (outline l) part ends next xs)) (through-same (all_placed (outline l) part ends) (all_placed l part ends) (all_placed-same l part ends) cursors (sections_of_inputs (sorted_input l x)))
+    ∙ group_or-same x.group (λ next. entry_group (outline l) part ends next xs) (λ next. entry_group l part ends next xs) (λ next. entry_group-outline l part ends next xs) (through (all_placed l part ends) cursors (sections_of_inputs (sorted_input l x))))
+
+own_placed-outline : (l : Layout) (part : ℕ) (ends cursors : List ℕ) (f : File) → own_all_placed (outline l) part ends cursors (outline_file f) ≡ own_all_placed l part ends cursors f
+own_placed-outline l part ends cursors f = through-mapped (all_placed (outline l) part ends) (all_placed l part ends) outline_section (all_placed-outline l part ends) cursors f.sections
+
+owner_in_part-outline : (l : Layout) (i : ℕ) (g : Group) (k : ℕ) (p : Part) → owner_in_part (outline l) i (outline_group g) k p ≡ owner_in_part l i g k p
+owner_in_part-outline l i g k p =
+    let ends : List ℕ = (p.address + p.size) ∷ [] in
+    ap (group_or i (λ cs. entry_group (outline l) k ends cs l.sorted)) (through-mapped (own_all_placed (outline l) k ends) (own_all_placed l k ends) outline_file (own_placed-outline l k ends) ((p.address + p.size - given k g) ∷ []) g.files)
+    ∙ group_or-same i (λ cs. entry_group (outline l) k ends cs l.sorted) (λ cs. entry_group l k ends cs l.sorted) (λ cs. entry_group-outline l k ends cs l.sorted) (through (own_all_placed l k ends) ((p.address + p.size - given k g) ∷ []) g.files)
+
+owner_in_parts-outline : (l : Layout) (i : ℕ) (g : Group) (k : ℕ) (ps : List Part) → owner_in_parts (outline l) i (outline_group g) k ps ≡ owner_in_parts l i g k ps
+owner_in_parts-outline l i g k [] = refl
+owner_in_parts-outline l i g k (p ∷ ps) = rw (owner_in_part-outline l i g k p, owner_in_parts-outline l i g (k + 1) ps) refl
+
+misplaced_owner-outline : (l : Layout) (i : ℕ) → misplaced_owner (outline l) i ≡ misplaced_owner l i
+misplaced_owner-outline l i = rw (length-map l.groups outline_group, slice_get-map outline_group l.groups i) (by (slice_get l.groups i))
+  where
+    by : (o : Option Group) → (if i + 1 == length l.groups then misplaced_owner.owner (outline l) i (option_map outline_group o) else i) ≡ (if i + 1 == length l.groups then misplaced_owner.owner l i o else i)
+    by None = refl
+    by (Some g) = rw (owner_in_parts-outline l i g 0 l.parts) refl
+
+pub misplaced_place-outline : (l : Layout) → misplaced_place (outline l) ≡ misplaced_place l
+misplaced_place-outline l = rw (section_misplaced-outline l (addresses l.parts) 0 l.groups) (by (section_misplaced l (addresses l.parts) 0 l.groups))
+  where
+    by : (o : Option ℕ) → option_map (misplaced_owner (outline l)) o ≡ option_map (misplaced_owner l) o
+    by None = refl
+    by (Some i) = ap Some (misplaced_owner-outline l i)
 
 sections_named_once-outline : (l : Layout) (group file k : ℕ) (ss : List InputSection) → sections_named_once (outline l) group file k (map outline_section ss) ≡ sections_named_once l group file k ss
 sections_named_once-outline l group file k [] = refl

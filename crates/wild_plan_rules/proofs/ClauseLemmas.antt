@@ -1,6 +1,6 @@
 -- What an answer of the clauses says of their tests.
 use Rattle.std.proofs.Common.{◌≡◌, ℕ, Option, Some, None, Ok, refl, Bool, true, false, Result, Err, inl, inr}
-use Rattle.std.specs.Prelude.{not, ◌&&◌, is_some}
+use Rattle.std.specs.Prelude.{not, ◌&&◌, is_some, option_map}
 use Rattle.std.proofs.lemmas.Bool.{and_parts, or_cases, not-true}
 use Rattle.wild_types.specs.Lists.{unless}
 use Rattle.wild_types.specs.declared.fault.Clause.{Clause}
@@ -14,6 +14,10 @@ use Rattle.wild_plan_rules.specs.SlotFlags.{thread_slot_alone}
 pub None-from_fails : (n : ℕ) (o : Option ℕ) → fails n o ≡ Ok tt → o ≡ None
 None-from_fails n None h = refl
 None-from_fails n (Some i) h = cc
+
+pub None-from_map : {A B : Type 0} (f : A → B) (o : Option A) → option_map f o ≡ None → o ≡ None
+None-from_map f None h = refl
+None-from_map f (Some a) h = cc
 
 pub test_holds : (b : Bool) → fails 2 (unless b) ≡ Ok tt → b ≡ true
 test_holds true h = refl

@@ -25,7 +25,8 @@ use Rattle.wild_types.specs.FileSymbols.{first_double_copy}
 use Rattle.wild_plan_rules.specs.SlotPlaces.{slots_astray, slot_is_even, block_needs_relr, block_has_base, pair_follows}
 use Rattle.wild_needs.specs.DynamicSymbols.{dynamic_symbols, misplaced, first_misplaced_listed, first_listed}
 use Rattle.wild_plan_rules.specs.SlotFlags.{first_tested_failing, dynamic_is_interposable, stub_is_value, stub_has_slot, one_slot_for_address, thread_slot_alone, resolver_is_own, slot_agrees, resolver_moves, second_slot_fits}
-use Rattle.wild_plan_rules.specs.Contents.{addresses, each_section, share_mismatch, has_share_for_each_part, section_misplaced, sorted_named_once, names_sorted, length_fits, frames_part_fits, discarded_is_empty, part_is_raw, merged_is_raw, identity_is_raw, primary_fits, front_is_free, allocation_agrees, bytes_take_room, fields_lie, relocations_are_read, tls_fits}
+use Rattle.wild_plan_rules.specs.Contents.{addresses, each_section, share_mismatch, has_share_for_each_part, sorted_named_once, names_sorted, length_fits, frames_part_fits, discarded_is_empty, part_is_raw, merged_is_raw, identity_is_raw, primary_fits, front_is_free, allocation_agrees, bytes_take_room, fields_lie, relocations_are_read, tls_fits}
+use Rattle.wild_plan_rules.specs.MisplacedSections.{misplaced_place}
 use Rattle.wild_plan_rules.specs.Fronts.{reversed_fits, merged_fill, identity_fills, front_shared, identity_is_alone, properties_differ, keeps_tables, dynamic_is_dropped, headers_are_kept}
 use Rattle.wild_plan_rules.specs.Partial.{has_no_segments, has_no_slot, has_no_pair, has_no_thunks, lists_no_symbols, has_no_index, is_no_debug, is_of_kind, tables_fit, group_fits_members, table_has_data}
 use Rattle.wild_types.specs.FilePlaces.{first_misplaced_file}
@@ -114,7 +115,7 @@ merged_and_identity_fit l = first_error (fails 8 (first_failing (merged_is_raw l
 -- clause 8: input sections in their parts
 unfoldable pub check_inputs : Layout → Result (Unit {0}) Clause
 check_inputs l =
-    first_error (fails 8 (section_misplaced l (addresses l.parts) 0 l.groups))
+    first_error (fails 8 (misplaced_place l))
     (first_error (fails 8 (sorted_named_once l 0 l.groups))
     (first_error (fails 8 (first_failing (names_sorted l) 0 l.sorted))
     (first_error (fails 8 (first_failing (each_section length_fits) 0 l.groups))

@@ -5,13 +5,17 @@
 --   all_placed l part ends cursors s  the cursors of those parts after an input section; none if the section is
 --                                     misplaced
 --   bytes_placed part ends cursors s  the same for an input section that has bytes
-use Rattle.std.specs.Prelude.{ℕ, ◌+◌, ◌==◌, ◌&&◌, min, nat_le, if◌then◌else◌, List, [], ◌∷◌, Option, Some, None}
+--   misplaced_place l                 the group of the first misplaced input section: of a sorted one, its own group
+use Rattle.std.specs.Prelude.{ℕ, ◌+◌, ◌-◌, ◌==◌, ◌&&◌, min, nat_le, if◌then◌else◌, List, [], ◌∷◌, length, map, Option, Some, None, option_map, slice_get}
+use Rattle.wild_types.specs.declared.part.Part.{Part}
 use Rattle.wild_types.specs.declared.input.InputSection.{InputSection}
 use Rattle.wild_types.specs.declared.file.File.{File}
 use Rattle.wild_types.specs.declared.file.Group.{Group}
+use Rattle.wild_types.specs.declared.layout.SortedSection.{SortedSection}
 use Rattle.wild_types.specs.declared.layout.Layout.{Layout}
 use Rattle.wild_types.specs.FilePlaces.{given}
-use Rattle.wild_plan_rules.specs.Contents.{ends_of, part_placed, parts_placed, placed_in}
+use Rattle.wild_placement.specs.PlacedSections.{Input, sorted_input}
+use Rattle.wild_plan_rules.specs.Contents.{addresses, ends_of, part_placed, parts_placed, placed_in, section_misplaced}
 use Rattle.wild_plan_rules.specs.Thunks.{sections_in_ranges}
 use Rattle.wild_types.specs.Lists.{through}
 
@@ -56,3 +60,44 @@ bytes_placed part ends cursors s = Some []
 -- the same after a file
 abbrev pub file_all_placed : Layout → ℕ → List ℕ → List ℕ → File → Option (List ℕ)
 file_all_placed l part ends cursors f = through (all_placed l part ends) cursors (sections_in_ranges l f)
+
+-- ---- the group of a misplaced section. The last group's ranges hold the sorted sections of all groups
+
+-- group g where the sections before are misplaced, otherwise the answer for their cursors
+abbrev pub group_or : ℕ → (List ℕ → Option ℕ) → Option (List ℕ) → Option ℕ
+group_or g rest None = Some g
+group_or g rest (Some cursors) = rest cursors
+
+-- the group of the first entry of the order whose section is misplaced
+abbrev pub entry_group : Layout → ℕ → List ℕ → List ℕ → List SortedSection → Option ℕ
+entry_group l part ends cursors [] = None
+entry_group l part ends cursors (x ∷ xs) = group_or x.group (λ next. entry_group l part ends next xs) (through (all_placed l part ends) cursors (map (λ (i : Input). i.section) (sorted_input l x)))
+
+-- the cursors after a file's own sections
+abbrev pub own_all_placed : Layout → ℕ → List ℕ → List ℕ → File → Option (List ℕ)
+own_all_placed l part ends cursors f = through (all_placed l part ends) cursors f.sections
+
+-- the group of a section that is misplaced in a part's range of group g, number i, which ends the part: own sections come first
+abbrev pub owner_in_part : Layout → ℕ → Group → ℕ → Part → Option ℕ
+owner_in_part l i g k p =
+    group_or i (λ cursors. entry_group l k ((p.address + p.size) ∷ []) cursors l.sorted) (through (own_all_placed l k ((p.address + p.size) ∷ [])) ((p.address + p.size - given k g) ∷ []) g.files)
+
+abbrev pub or_group : Option ℕ → ℕ → ℕ
+or_group None other = other
+or_group (Some g) other = g
+
+-- the same in the first part, from number k on, that has one
+abbrev pub owner_in_parts : Layout → ℕ → Group → ℕ → List Part → ℕ
+owner_in_parts l i g k [] = i
+owner_in_parts l i g k (p ∷ ps) = or_group (owner_in_part l i g k p) (owner_in_parts l i g (k + 1) ps)
+
+-- the group of the misplaced section, if group i is the first in whose ranges one lies
+abbrev pub misplaced_owner : Layout → ℕ → ℕ
+misplaced_owner l i = if i + 1 == length l.groups then owner (slice_get l.groups i) else i
+  where
+    owner : Option Group → ℕ
+    owner None = i
+    owner (Some g) = owner_in_parts l i g 0 l.parts
+
+abbrev pub misplaced_place : Layout → Option ℕ
+misplaced_place l = option_map (misplaced_owner l) (section_misplaced l (addresses l.parts) 0 l.groups)
