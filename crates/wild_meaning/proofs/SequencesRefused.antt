@@ -28,13 +28,13 @@ use Rattle.wild_meaning.specs.Field.{form_width, formula_of, InNoField}
 use Rattle.wild_meaning.specs.Formula.{KnowsOffsets, HasOffsetMode}
 use Rattle.wild_meaning.specs.Sequence.{Instruction, SymbolPair, OwnPair, DescribedCall, size_of, described_call, of_sequence, of_symbol, of_output, by_call, by_slot, by_distance, instructions_of}
 use Rattle.wild_meaning.specs.Partners.{HasCallAddend}
-use Rattle.wild_meaning.specs.Template.{IsInstruction, IsSequence, IsSingle, IsTemplate, IsDemanded, demand_of, effect_of, reads, reads_without_calls, DoesDemanded}
-use Rattle.wild_meaning.specs.Reference.{HoldsWithSequence, DoesWithOwn, HoldsLinked, LinkedHolds, ReferenceHolds}
+use Rattle.wild_meaning.specs.Template.{IsInstruction, IsSequence, IsTemplate, IsDemanded, demand_of, effect_of, reads, reads_without_calls, DoesDemanded}
+use Rattle.wild_meaning.specs.Reference.{HoldsWithSequence}
 use Rattle.wild_meaning.specs.Worked.SequenceRefusals.{call_reference, call_item, RemovedCallsAreRefused, far_code, far_reference, far_getter, far_item, far_sequence, another_base, OtherBasesAreRefused, near_code, near_reference, near_getter, near_item, near_sequence, KeptCallsAreRefused, OtherAddendsAreNoCalls}
 use Rattle.wild_meaning.proofs.EffectLemmas.{meant}
 use Rattle.wild_meaning.proofs.AmongLemmas.{Among, pick}
 use Rattle.wild_meaning.proofs.PairLemmas.{as_pair, as_its_call}
-use Rattle.wild_meaning.proofs.OneReference.{has, has_is, fills, fills_is, effect_with, value_in, ReadsNumbers, IsNotDone, same_bytes, single_refused, template_there}
+use Rattle.wild_meaning.proofs.OneReference.{has, has_is, fills, fills_is, effect_with, value_in, ReadsNumbers, same_bytes, single_refused, template_there}
 use Rattle.wild_meaning.proofs.TermsRefused.{base_is}
 
 -- ---- a call through a descriptor

@@ -26,8 +26,8 @@ use Rattle.wild_meaning.specs.Denotes.{IsAddressStub}
 use Rattle.wild_meaning.specs.Thread.{HasThreadOffset, IsOffsetBase}
 use Rattle.wild_meaning.specs.Slot.{IsSlotOf, IsSlot}
 use Rattle.wild_meaning.specs.ReferentAArch64.{IsUndefinedWeak, branch_types, own_place, IsOneAddress}
-use Rattle.wild_meaning.specs.Formula.{table_at, page_of, IsOffset, IsReferent, IsReferentOnX86_64, IsReferentOnAArch64, IsReferentOnMachine, IsSum}
-use Rattle.wild_meaning.specs.Worked.TermRefusals.{HoldsInData, HasNumber, HasImmediate, HoldsPage, page_bits, WrongTermsAreRefused, WrongPagesAreRefused, CutNumbersAreRefused, OtherBitsAreRefused}
+use Rattle.wild_meaning.specs.Formula.{table_at, page_of, IsOffset, IsReferent, IsReferentOnX86_64, IsReferentOnAArch64, IsSum}
+use Rattle.wild_meaning.specs.Worked.TermRefusals.{HoldsInData, HasImmediate, HoldsPage, page_bits, WrongTermsAreRefused, WrongPagesAreRefused, CutNumbersAreRefused, OtherBitsAreRefused}
 use Rattle.wild_meaning.proofs.Read.{full_of, number_of}
 use Rattle.wild_meaning.proofs.Refused.{HasValueThere, data_there}
 use Rattle.wild_meaning.proofs.StringLemmas.{nameless, referent_by}
