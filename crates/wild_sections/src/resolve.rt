@@ -266,7 +266,7 @@ fn subtract(layout: &Layout, subtrahend: Subtrahend, term: u64, addend: i64, pla
     }
 }
 
-/// The value that a row writes, for a term, an addend and a place.
+/// The value that a row writes: term + addend, less what the row subtracts (nothing, P, GOT or GOT's page).
 #[inline]
 pub(crate) fn value_in(
     layout: &Layout,
@@ -331,7 +331,8 @@ fn undefined_weak_target(number: u32, place: u64) -> u64
     place.wrapping_add(if is_branch(number) { 4 } else { 0 })
 }
 
-/// The term of a row's formula at that place. Fails if the symbol lacks it.
+/// The term of a row's expression, such as S or the address of a GOT entry; for an undefined weak symbol that takes none the
+/// address that stands in for it at that place. Fails if the symbol lacks the address.
 #[inline]
 pub(crate) fn term_at<A: Arch>(
     resolved: &Resolved<A>,
