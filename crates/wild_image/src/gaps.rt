@@ -102,7 +102,7 @@ fn fronts_of_sections(alloc: Global, layout: &Layout, parts: &[u64]) -> Result<V
     Ok(fronts)
 }
 
-/// Whether each byte of each output section with data is known to have an owner: the covered front, `fronts[i]` bytes, is all of it.
+/// Whether each byte of each output section with data is known to have an owner: its covered front of `fronts[i]` bytes is all.
 fn are_whole(layout: &Layout, fronts: &[u64]) -> bool
     requires { SectionFronts layout.now fronts.now }
     ensures { result ≡ true → (k : ℕ) → list_any (has_offset layout.now k) layout.now.sections ≡ true → is_owned layout.now k ≡ true }
