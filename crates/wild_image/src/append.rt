@@ -40,7 +40,7 @@ pub(crate) fn writes_front(layout: &Layout, part: usize, own: &[u8]) -> bool
     own.len() != 0 && !layout.is_header_only_part(part)
 }
 
-/// Whether a section that is loaded, sorted or read by debuggers has bytes in the image, as placed.
+/// Whether a loaded, sorted or debug section has a size, and bytes of its own or an output section with data.
 fn has_some(layout: &Layout, section: &InputSection) -> bool
     ensures { result ≡ has_some layout.now section.now }
 {

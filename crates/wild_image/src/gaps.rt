@@ -53,8 +53,8 @@ fn fronts_of_parts(alloc: Global, layout: &Layout) -> Result<Vec<u64>, AllocErro
     Ok(fronts)
 }
 
-/// Whether a part is covered completely: it is a table with bytes in the file, or input sections cover its first `front` bytes,
-/// which are all of it.
+/// Whether each byte of a part is known to have an owner: the part is a table with bytes in the file, or input sections cover its
+/// first `front` bytes, and these are all.
 fn is_whole(layout: &Layout, part: &Part, front: u64) -> bool
     requires owned { (k : ℕ) → part_owns layout.now k part.now ≡ true → is_owned layout.now k ≡ true }
     requires front { Covers (is_owned layout.now) part.now.offset front }
@@ -102,7 +102,7 @@ fn fronts_of_sections(alloc: Global, layout: &Layout, parts: &[u64]) -> Result<V
     Ok(fronts)
 }
 
-/// Whether each section is covered completely.
+/// Whether each byte of each output section with data is known to have an owner: its covered front of `fronts[i]` bytes is all.
 fn are_whole(layout: &Layout, fronts: &[u64]) -> bool
     requires { SectionFronts layout.now fronts.now }
     ensures { result ≡ true → (k : ℕ) → list_any (has_offset layout.now k) layout.now.sections ≡ true → is_owned layout.now k ≡ true }

@@ -99,7 +99,7 @@ fn piece_of<A: Arch, E: DebugWriter<A>, L: Ledger>(
     Ok(GroupPiece { parts, counts })
 }
 
-/// Whether the group has the first file.
+/// Whether the group has the prelude, the first file of the layout.
 fn has_first(group: &Group) -> bool
     ensures { result ≡ list_any (λ (f : File). is_prelude f.role) group.now.files }
 {

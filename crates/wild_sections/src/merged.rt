@@ -149,7 +149,7 @@ fn find_by_walk(strings: &[MergedString], byte: u64) -> Option<MergedString>
     last
 }
 
-/// The same for strings that are sorted by offset. Time log n.
+/// The last of the strings, which are sorted by offset, that begins at `byte` or before it. Time log n.
 fn find_by_halving(strings: &[MergedString], byte: u64) -> Option<MergedString>
     requires { offsets_ascend 0 strings.now ≡ true }
     ensures { result ≡ string_before strings.now byte }

@@ -13,7 +13,7 @@ pub struct InputPlace {
 }
 
 impl InputPlace {
-    /// The file.
+    /// The place of the section's file, for a message that names no section.
     pub fn file(self) -> At
         ensures { result ≡ at_file self.group self.file }
     {
@@ -25,7 +25,7 @@ impl InputPlace {
         }
     }
 
-    /// The section.
+    /// The place of the section, for a message that names no offset.
     pub fn section(self) -> At
         ensures { result ≡ at_section self.group self.file self.section }
     {
@@ -35,7 +35,7 @@ impl InputPlace {
         }
     }
 
-    /// An offset in the section.
+    /// The place of an offset in the section.
     pub fn offset(self, offset: u64) -> At
         ensures { result ≡ at_offset self.group self.file self.section offset }
     {

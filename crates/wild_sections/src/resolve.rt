@@ -266,7 +266,8 @@ fn subtract(layout: &Layout, subtrahend: Subtrahend, term: u64, addend: i64, pla
     }
 }
 
-/// The value that a row writes, for a term, an addend and a place.
+/// The value that a row writes: term + addend, from which P, GOT or GOT's page is subtracted if the row says so; or the distance
+/// between the page of that sum and the page of P.
 #[inline]
 pub(crate) fn value_in(
     layout: &Layout,
@@ -331,7 +332,8 @@ fn undefined_weak_target(number: u32, place: u64) -> u64
     place.wrapping_add(if is_branch(number) { 4 } else { 0 })
 }
 
-/// The term of a row's formula at that place. Fails if the symbol lacks it.
+/// The term of a row's expression, such as S or the address of a GOT entry. An undefined weak symbol that resolves to the place
+/// (AArch64) has the place, of a branch the next instruction. Fails if the symbol lacks what the term needs.
 #[inline]
 pub(crate) fn term_at<A: Arch>(
     resolved: &Resolved<A>,

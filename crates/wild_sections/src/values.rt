@@ -273,7 +273,7 @@ impl<'a, A: Arch> Resolved<'a, A> {
         self.owners.len() != 0
     }
 
-    /// The file of a symbol.
+    /// The file whose range of symbols has a symbol, by one table access.
     #[tactic(auto, using(crate::proofs::DefiningFileLemmas::owner_there, crate::proofs::DefiningFileLemmas::owner_missing))]
     pub(crate) fn file(&self, symbol: SymbolIndex) -> Option<&'a File>
         requires { symbol < length self.now.owners.now }
