@@ -40,6 +40,7 @@ use Rattle.wild_worlds.specs.Worlds.{HasRoomAbove, OtherModule, AreNumbers, IsCo
 use Rattle.wild_worlds.specs.Joined.{HasCall, IsJoined, IsMet, PremisesAreJoined}
 use Rattle.wild_worlds.proofs.DebugFile.{debuggers_joined}
 use Rattle.wild_worlds.proofs.MixedFile.{mixed_linked}
+use Rattle.wild_worlds.proofs.CopyFile.{copy_linked}
 use Rattle.wild_worlds.proofs.Premises.{few_alone}
 use Rattle.wild_worlds.proofs.Worked.{branches_asked}
 use Rattle.wild_worlds.proofs.Worlds.{worlds_there}
@@ -191,4 +192,5 @@ premises_joined laws sound faults numbers = record {
   words_shared = words_shared_joined laws sound faults numbers;
   for_debuggers = debuggers_joined laws sound;
   mixed = mixed_linked laws sound;
+  copying = copy_linked sound;
 }

@@ -8,4 +8,5 @@ mod Answers
 mod Worlds
 mod DebugFile
 mod MixedFile
+mod CopyFile
 mod JointPremises

@@ -6,8 +6,9 @@
 --   IsJoinedForDebuggers l   the same for such a layout, and for a reference in a note, whose field has only one right value
 --   HasManySorts l           sections, symbols and slots of several sorts
 --   IsLinkedElsewhere l      the image is linked in a legal world at a base other than 0
+--   IsLinkedWithCopy l       the same, in a world where the loader copies bytes into the output
 --   PremisesAreJoined    this is so for a layout of each kind that can be loaded at any base, and for one only for debuggers
-use Rattle.std.specs.Prelude.{◌≡◌, ◌≢◌, ℕ, ◌≤◌, false, true, [], Some, Contains, slice_get}
+use Rattle.std.specs.Prelude.{◌≡◌, ◌≢◌, ℕ, ◌+◌, ◌≤◌, false, true, List, [], ◌∷◌, Some, Contains, slice_get}
 use Rattle.wild_records.specs.Abi.Relocation.{r_x86_64_none}
 use Rattle.wild_records.specs.Abi.Section.{sht_note, shf_alloc}
 use Rattle.wild_types.specs.declared.kind.Machine.{Machine}
@@ -26,9 +27,10 @@ use Rattle.wild_types.specs.Flags.{ifunc, got_tls_offset}
 use Rattle.wild_layout.specs.Faults.{errors}
 use Rattle.wild_layout.specs.Image.{bytes}
 use Rattle.wild_loader.specs.declared.world.World.{World}
-use Rattle.wild_loader.specs.Memory.{number_in}
+use Rattle.wild_loader.specs.declared.world.Answer.{Answer}
+use Rattle.wild_loader.specs.Memory.{Holds, number_in}
 use Rattle.wild_meaning.specs.Section.{IsSet, IsForDebuggers, IsHeaderOnly}
-use Rattle.wild_meaning.specs.World.{IsLegal}
+use Rattle.wild_meaning.specs.World.{HasCopy, IsLegal}
 use Rattle.wild_meaning.specs.Value.{HasFlag}
 use Rattle.wild_meaning.specs.Frames.{kept_bytes}
 use Rattle.wild_types.specs.Item.{Item}
@@ -160,7 +162,24 @@ pub record IsLinkedElsewhere (l : Layout) : Type 0 where
   pub described : DescribesOutput l (bytes l)
   pub linked : IsLinked l world (bytes l)
 
+-- Also, in that world the loader copies a library's bytes to the address of a symbol. The first one is not 0. Memory has them.
+pub record IsLinkedWithCopy (l : Layout) : Type 0 where
+  pub elsewhere : IsLinkedElsewhere l
+  pub symbol : ℕ
+  pub address : ℕ
+  pub answer : Answer
+  pub copied : HasCopy l elsewhere.world symbol address answer
+  pub first : ℕ
+  pub rest : List ℕ
+  pub bytes : answer.bytes ≡ first ∷ rest
+  pub data : first ≢ 0
+  pub held : Holds elsewhere.linked.memory (elsewhere.world.base + address) answer.bytes
+
 -- ---- the layouts
+
+-- a layout with a copied symbol, of a kind, for a machine
+abbrev pub IsMetWithCopy : Machine → OutputKind → Type 0
+IsMetWithCopy machine kind = (l : Layout) × (l.machine ≡ machine) × (l.kind ≡ kind) × IsLinkedWithCopy l
 
 -- a layout with much in it, of a kind, for a machine
 abbrev pub IsMetWithMany : Machine → OutputKind → Type 0
@@ -175,7 +194,7 @@ abbrev pub IsMetForDebuggers : Machine → OutputKind → Type 0
 IsMetForDebuggers machine kind = (l : Layout) × (l.machine ≡ machine) × (l.kind ≡ kind) × IsJoinedForDebuggers l
 
 -- a program without a dynamic linker, one with it, and a shared object, for either machine; the debuggers' image of a program without
--- a dynamic linker; and such a program with much in it
+-- a dynamic linker; such a program with much in it; and one with a dynamic linker and a copied symbol
 pub record PremisesAreJoined : Type 0 where
   pub static_pie : IsMet machine.X86_64 (output.StaticExecutable model.Relocatable)
   pub dynamic_pie : IsMet machine.X86_64 (output.DynamicExecutable model.Relocatable)
@@ -185,3 +204,4 @@ pub record PremisesAreJoined : Type 0 where
   pub words_shared : IsMet machine.AArch64 output.SharedObject
   pub for_debuggers : IsMetForDebuggers machine.X86_64 (output.StaticExecutable model.Relocatable)
   pub mixed : IsMetWithMany machine.X86_64 (output.StaticExecutable model.Relocatable)
+  pub copying : IsMetWithCopy machine.X86_64 (output.DynamicExecutable model.Relocatable)

@@ -4,4 +4,5 @@ pub mod Symbols
 pub mod Worked
 pub mod DebugFile
 pub mod MixedFile
+pub mod CopyFile
 pub mod Joined

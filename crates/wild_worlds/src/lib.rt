@@ -58,7 +58,8 @@ pub fn premises_are_met()
 /// The same is true of an x86-64 image only for debuggers, with a note. One of its references is checked and holds, another one
 /// is left out, and a section of code is not written. No image is linked there if the field of the first one is another number.
 /// And there is a program without a dynamic linker that has a function chosen by a resolver, thread-local data with a slot, a merged
-/// string, a section placed in a given order, and a frame. Its image is linked in a legal world.
+/// string, a section placed in a given order, and a frame. Its image is linked in a legal world. So is that of a program with a
+/// copied symbol, in a world where the loader copies bytes to it.
 pub fn premises_are_joined()
     ensures { PremisesAreJoined }
 {
