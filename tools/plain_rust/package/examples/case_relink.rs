@@ -1,8 +1,7 @@
 use wild_image_writer::shim::alloc::Global;
 use wild_image_writer::shim::ledger::{Blank, Brand};
-use wild_image_writer::shim::thread::Process;
 use wild_image_writer::wild_change::Change;
-use wild_image_writer::wild_image::{ElfAArch64, ElfX86_64, Steps};
+use wild_image_writer::wild_image::{Alone, ElfAArch64, ElfX86_64, Steps};
 use wild_image_writer::wild_relinker::{Linked, RelinkFault, relink};
 use wild_image_writer::wild_types::*;
 
@@ -19,9 +18,9 @@ fn main() {
     let c = Change { group: n(2), file: n(3), section: n(4), bytes: bytes.into(), relocations: relocations.into() };
     let mut steps = Steps::<Brand>::new(Blank::new(1));
     let x86 = matches!(l.machine, Machine::X86_64);
-    let k = if x86 { Linked::link::<ElfX86_64>(&Process, Global, l, 1) } else { Linked::link::<ElfAArch64>(&Process, Global, l, 1) };
+    let k = if x86 { Linked::link::<ElfX86_64, _>(&Alone, Global, l, 1) } else { Linked::link::<ElfAArch64, _>(&Alone, Global, l, 1) };
     let mut k = match k { Ok(k) => k, Err(e) => { println!("refused {e:?}"); return } };
-    let r = if x86 { relink::<ElfX86_64, Process, Brand>(&Process, Global, &mut k, c, &mut steps) } else { relink::<ElfAArch64, Process, Brand>(&Process, Global, &mut k, c, &mut steps) };
+    let r = if x86 { relink::<ElfX86_64, _, Brand>(&Alone, Global, &mut k, c, &mut steps) } else { relink::<ElfAArch64, _, Brand>(&Alone, Global, &mut k, c, &mut steps) };
     match r {
         Ok(()) => {
             println!("rewritten 1\nimage {}", k.out().len());

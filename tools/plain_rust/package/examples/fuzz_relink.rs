@@ -1,9 +1,8 @@
 //! Changes of each section of plans, compared with `write_layout` of the changed layout.
 use wild_image_writer::shim::alloc::Global;
 use wild_image_writer::shim::ledger::{Blank, Brand};
-use wild_image_writer::shim::thread::Process;
 use wild_image_writer::wild_change::Change;
-use wild_image_writer::wild_image::{ElfAArch64, ElfX86_64, Steps, write_layout};
+use wild_image_writer::wild_image::{Alone, ElfAArch64, ElfX86_64, Steps, write_layout};
 use wild_image_writer::wild_relinker::{Linked, RelinkFault, relink};
 use wild_image_writer::wild_types::*;
 
@@ -17,14 +16,14 @@ fn changeable(s: Slot) -> bool { matches!(s, Slot::Loaded | Slot::Debug) }
 
 fn link(l: Layout) -> Result<Linked, Error> {
     match l.machine {
-        Machine::X86_64 => Linked::link::<ElfX86_64>(&Process, Global, l, 1),
-        Machine::AArch64 => Linked::link::<ElfAArch64>(&Process, Global, l, 1),
+        Machine::X86_64 => Linked::link::<ElfX86_64, _>(&Alone, Global, l, 1),
+        Machine::AArch64 => Linked::link::<ElfAArch64, _>(&Alone, Global, l, 1),
     }
 }
 fn change(k: &mut Linked, c: Change, steps: &mut Steps<Brand>) -> Result<(), RelinkFault> {
     match k.layout().machine {
-        Machine::X86_64 => relink::<ElfX86_64, Process, Brand>(&Process, Global, k, c, steps),
-        Machine::AArch64 => relink::<ElfAArch64, Process, Brand>(&Process, Global, k, c, steps),
+        Machine::X86_64 => relink::<ElfX86_64, _, Brand>(&Alone, Global, k, c, steps),
+        Machine::AArch64 => relink::<ElfAArch64, _, Brand>(&Alone, Global, k, c, steps),
     }
 }
 
@@ -86,7 +85,7 @@ fn main() {
                 m.groups = wild_image_writer::wild_words::Items::from_vec(groups);
             };
             put(&mut mirror, &bytes, &relocations);
-            let expected = write_layout(&Process, Global, &mirror, 1);
+            let expected = write_layout(&Alone, Global, &mirror, 1);
             let r = change(&mut linked, Change { group: g, file: f, section: s, bytes: bytes.clone().into(), relocations: relocations.clone().into() }, &mut steps);
             let ok = match (&r, &expected) {
                 (Err(RelinkFault::NoSection), _) => { done[2] += 1; !slot_ok }

@@ -5,8 +5,7 @@ use std::sync::atomic::{AtomicI64, Ordering::Relaxed};
 use std::time::Instant;
 use wild_image_writer::shim::alloc::Global;
 use wild_image_writer::shim::ledger::{Blank, Brand};
-use wild_image_writer::shim::thread::Process;
-use wild_image_writer::wild_image::{ElfX86_64, Steps, write};
+use wild_image_writer::wild_image::{Alone, ElfX86_64, Steps, write};
 use wild_image_writer::wild_relinker::{Change, Linked, RelinkFault, relink};
 use wild_image_writer::wild_sample_layouts::make_plan;
 use wild_image_writer::wild_types::{InputRelocation, SymbolIndex};
@@ -75,7 +74,7 @@ fn mean(linked: &mut Linked, count: usize, kind: Kind, group_of: impl Fn(usize) 
     for round in 0..count {
         let change = change(linked, group_of(round), round, kind);
         let start = Instant::now();
-        let answer = relink::<ElfX86_64, Process, Brand>(&Process, Global, linked, change, &mut steps);
+        let answer = relink::<ElfX86_64, _, Brand>(&Alone, Global, linked, change, &mut steps);
         spent += start.elapsed().as_secs_f64();
         let is_right = match kind {
             Kind::Accepted => answer == Ok(()),
@@ -93,12 +92,12 @@ fn main() {
     let layout = make_plan(Global, groups as u32).ok().unwrap();
     let start = Instant::now();
     for _ in 0..3 {
-        write::<ElfX86_64>(&Process, Global, &layout, 1).ok().unwrap();
+        write::<ElfX86_64, _>(&Alone, Global, &layout, 1).ok().unwrap();
     }
     println!("write {:.0}", start.elapsed().as_secs_f64() * 1e9 / 3.0);
     let before = LIVE.load(Relaxed);
     let start = Instant::now();
-    let mut linked = Linked::link::<ElfX86_64>(&Process, Global, layout, 1).ok().unwrap();
+    let mut linked = Linked::link::<ElfX86_64, _>(&Alone, Global, layout, 1).ok().unwrap();
     println!("link {:.0}", start.elapsed().as_secs_f64() * 1e9);
     let image = linked.out().len() as i64;
     println!("image {image}");
@@ -113,7 +112,7 @@ fn main() {
     println!("by_length {:.0}", mean(&mut linked, count, Kind::WrongLength, spread));
     println!("by_group {:.0}", mean(&mut linked, count, Kind::WrongType, spread));
     println!("by_clause {:.0}", mean(&mut linked, 20, Kind::FieldPastEnd, spread));
-    let again = write::<ElfX86_64>(&Process, Global, linked.layout(), 1).ok().unwrap();
+    let again = write::<ElfX86_64, _>(&Alone, Global, linked.layout(), 1).ok().unwrap();
     let is_same = again.out.as_slice() == linked.out() && again.counts.as_slice() == linked.counts();
     println!("same {}", is_same as u8);
 }

@@ -5,8 +5,7 @@ use std::ptr::null_mut;
 use std::sync::atomic::{AtomicI64, Ordering::Relaxed};
 use wild_image_writer::shim::alloc::Global;
 use wild_image_writer::shim::ledger::{Blank, Brand};
-use wild_image_writer::shim::thread::Process;
-use wild_image_writer::wild_image::{ElfX86_64, Steps, write};
+use wild_image_writer::wild_image::{Alone, ElfX86_64, Steps, write};
 use wild_image_writer::wild_relinker::{Change, Linked, RelinkFault, relink};
 use wild_image_writer::wild_sample_layouts::make_plan;
 
@@ -55,11 +54,11 @@ fn change(linked: &Linked, group: usize, byte: u8) -> Change {
 
 fn relinked(linked: &mut Linked, change: Change) -> Result<(), RelinkFault> {
     let mut steps = Steps::<Brand>::new(Blank::new(1));
-    relink::<ElfX86_64, Process, Brand>(&Process, Global, linked, change, &mut steps)
+    relink::<ElfX86_64, _, Brand>(&Alone, Global, linked, change, &mut steps)
 }
 
 fn is_as_written(linked: &Linked) -> bool {
-    let image = write::<ElfX86_64>(&Process, Global, linked.layout(), 1).ok().unwrap();
+    let image = write::<ElfX86_64, _>(&Alone, Global, linked.layout(), 1).ok().unwrap();
     image.out.as_slice() == linked.out() && image.counts.as_slice() == linked.counts() && image.warnings.as_slice() == linked.warnings()
 }
 
@@ -69,7 +68,7 @@ fn main() {
         let mut call = 0;
         loop {
             let layout = make_plan(Global, 4).ok().unwrap();
-            let mut linked = Linked::link::<ElfX86_64>(&Process, Global, layout, 1).ok().unwrap();
+            let mut linked = Linked::link::<ElfX86_64, _>(&Alone, Global, layout, 1).ok().unwrap();
             let (image, counts) = (linked.out().to_vec(), linked.counts().to_vec());
             let first = change(&linked, group, 0x91);
             LEFT.store(call, Relaxed);
