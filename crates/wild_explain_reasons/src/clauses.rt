@@ -165,10 +165,16 @@ fn find_input(layout: &Layout, group: usize, test: &InputTest) -> Option<Finding
         _ => false,
     };
     if is_of_range {
+        // The ranges of the last group hold the sorted sections of all groups.
+        let last = layout.groups.len().saturating_sub(1);
         for part in 0..layout.parts.len() {
-            let found = first_astray(layout, group, part, test);
-            if found.is_some() {
-                return found;
+            for ranges in [group, last] {
+                if let Some(found) = first_astray(layout, ranges, part, test)
+                    && let Item::Input(at) = found.item
+                    && at.group == group
+                {
+                    return Some(found);
+                }
             }
         }
         return None;

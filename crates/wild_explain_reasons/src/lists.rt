@@ -169,7 +169,7 @@ pub(crate) fn wrong_relocation(
     None
 }
 
-/// The first input section of a group that begins before the end of the one before it, or ends past the group's range of the part.
+/// The first input section in a group's range of a part that begins before the end of the one before it, or ends past the range.
 pub(crate) fn first_astray(
     layout: &Layout,
     group: usize,
