@@ -7,7 +7,7 @@ use std::thread::Threads;
 use wild_image::{ElfX86_64, Threaded, write_prefix};
 use wild_loader::{Answer, LoadFault, Memory, World, load_image};
 use wild_placer::{PlaceFault, Placed, place_code};
-use wild_tests_plans::{PACKED, PROGRAM, RELOCATABLE, SLOTTED, WIDE};
+use wild_tests_plans::{DEBUGGED, PACKED, PROGRAM, RELOCATABLE, SLOTTED, WIDE};
 use wild_types::Fault;
 use wild_words::Bytes;
 
@@ -28,7 +28,8 @@ fn has_same_runs(left: &Memory, right: &Memory) -> bool {
 }
 
 /// Plans with bases.
-const PLACES: [(&'static str, u64); 4] = [
+const PLACES: [(&'static str, u64); 5] = [
+    (DEBUGGED, 0),
     (WIDE, 0),
     (WIDE, 0x10_0000),
     (PACKED, 0),
@@ -62,7 +63,7 @@ fn first_bytes(rt: HostRuntime) -> Result<(), Fail> {
     let layout = changed_layout(alloc, PROGRAM, &[])?;
     let image = image_of(&rt, alloc, PROGRAM, &[])?;
     let all = image.len();
-    for size in [0, 1, 63, 0x158, all - 1, all, all + 1] {
+    for size in [0, 1, 63, 0x158, all.saturating_sub(1), all, usize::MAX] {
         let executor = Threaded(&rt);
         let output = write_prefix::<ElfX86_64, _>(&executor, alloc, &layout, 1, size as u64)
             .ok()
