@@ -4,9 +4,9 @@ use Rattle.std.specs.Prelude.{All, Some, slice_get}
 use Rattle.std.specs.List.{flat_map}
 use Rattle.std.proofs.lemmas.List.{append_assoc, get_or_default, drop_more, drop_at, take_at, length-append, append-nil, drop_all}
 use Rattle.std.proofs.lemmas.Option.{slice_get-get_or}
-use Rattle.wild_words.specs.Words.{place}
-use Rattle.wild_words.specs.Overlay.{Piece, overlay}
-use Rattle.wild_sections.proofs.PieceLemmas.{overlay-more}
+use Rattle.wild_words.specs.Overlay.{Piece}
+use Rattle.wild_image.specs.Prefix.{place_in_prefix, overlay_prefix}
+use Rattle.wild_image.proofs.PrefixLemmas.{overlay_prefix-more}
 use Rattle.wild_types.specs.declared.input.InputSection.{InputSection}
 use Rattle.wild_types.specs.declared.file.File.{File}
 use Rattle.wild_types.specs.declared.file.Group.{Group}
@@ -148,7 +148,7 @@ pub record Taken (l : Layout) (s : InputSection) (owns : Bool) (own bytes : List
   pub within : owns ≡ true → s.size ≤ length bytes
   pub ends : owns ≡ true → place_in l s + s.size ≤ image_size l
   pub there : owns ≡ true → s.part < length l.parts
-  pub put : (out : List ℕ) → (if owns then place (place_in l s) (take s.size bytes) out else out) ≡ overlay ps out
+  pub put : (out : List ℕ) → (if owns then place_in_prefix (place_in l s) (take s.size bytes) out else out) ≡ overlay_prefix ps out
   pub rest : HasRest own bytes (if owns then drop s.size bytes else bytes)
   pub part : (k : ℕ) → (if owns then in_part k s.part (take s.size bytes) else []) ≡ inside k
 
@@ -159,7 +159,7 @@ taken l s true own bytes ps inside h begins =
       within = λ e. cut.within;
       ends = h.ends;
       there = h.there;
-      put = λ out. ap (λ (bs : List ℕ). place (place_in l s) bs out) cut.front ∙ sym (ap (λ (qs : List Piece). overlay qs out) h.piece);
+      put = λ out. ap (λ (bs : List ℕ). place_in_prefix (place_in l s) bs out) cut.front ∙ sym (ap (λ (qs : List Piece). overlay_prefix qs out) h.piece);
       rest = cut.back;
       part = λ k. ap (in_part k s.part) cut.front ∙ sym (h.part k);
     }
@@ -167,7 +167,7 @@ taken l s false own bytes ps inside h begins = record {
   within = λ e. cc;
   ends = h.ends;
   there = h.there;
-  put = λ out. sym (ap (λ (qs : List Piece). overlay qs out) h.piece);
+  put = λ out. sym (ap (λ (qs : List Piece). overlay_prefix qs out) h.piece);
   rest = λ rest e. e ∙ ap (λ (bs : List ℕ). bs ++ rest) (h.none refl);
   part = λ k. sym (h.part k);
 }
@@ -187,8 +187,8 @@ sorted_taken l x f s owns bytes found lies is begins =
     (taken l s (has_room l s) (sorted_owned l x) bytes (sorted_pieces l x) (λ k. sorted_in l k x) (takes_sorted l x f s found lies) begins)
 
 -- the bytes of the thunk, put
-pub thunk_appended : (l : Layout) (t : Thunk) (at : ℕ) (own out next : List ℕ) → at ≡ thunk_offset l t → own ≡ thunk_bytes l t → next ≡ place at own out → next ≡ overlay (thunk_piece l t) out
-thunk_appended l t at own out next is bytes e = e ∙ ap (λ (n : ℕ). place n own out) is ∙ ap (λ (r : List ℕ). place (thunk_offset l t) r out) bytes
+pub thunk_appended : (l : Layout) (t : Thunk) (at : ℕ) (own out next : List ℕ) → at ≡ thunk_offset l t → own ≡ thunk_bytes l t → next ≡ place_in_prefix at own out → next ≡ overlay_prefix (thunk_piece l t) out
+thunk_appended l t at own out next is bytes e = e ∙ ap (λ (n : ℕ). place_in_prefix n own out) is ∙ ap (λ (r : List ℕ). place_in_prefix (thunk_offset l t) r out) bytes
 
 -- ---- what is written unless a section is hollow
 
@@ -241,7 +241,7 @@ stands_at {X} f xs items i d base now next same h stands goes =
     let Q : List X → Type 0 = λ ys. i < length ys → HasRest (f (get_or ys i d)) now next → IsPlacedAfter f xs base next (i + 1) in
     subst Q (sym same) (λ low on. stands_more f xs i (get_or xs i d) base now next low (get_or_default xs i d (get_or xs i d) low) stands on) h goes
 
-pub overlay_at : {X : Type 0} (f : X → List Piece) (xs items : List X) (i : ℕ) (d : X) (base now next : List ℕ) → items ≡ xs → i < length items → now ≡ overlay (flat_map f (take i xs)) base → next ≡ overlay (f (get_or items i d)) now → next ≡ overlay (flat_map f (take (i + 1) xs)) base
-overlay_at {X} f xs items i d base now next same h before more =
-    let Q : List X → Type 0 = λ ys. i < length ys → next ≡ overlay (f (get_or ys i d)) now → next ≡ overlay (flat_map f (take (i + 1) xs)) base in
-    subst Q (sym same) (λ low step. overlay-more f xs i d base now next low before step) h more
+pub overlay_prefix_at : {X : Type 0} (f : X → List Piece) (xs items : List X) (i : ℕ) (d : X) (base now next : List ℕ) → items ≡ xs → i < length items → now ≡ overlay_prefix (flat_map f (take i xs)) base → next ≡ overlay_prefix (f (get_or items i d)) now → next ≡ overlay_prefix (flat_map f (take (i + 1) xs)) base
+overlay_prefix_at {X} f xs items i d base now next same h before more =
+    let Q : List X → Type 0 = λ ys. i < length ys → next ≡ overlay_prefix (f (get_or ys i d)) now → next ≡ overlay_prefix (flat_map f (take (i + 1) xs)) base in
+    subst Q (sym same) (λ low step. overlay_prefix-more f xs i d base now next low before step) h more

@@ -4,7 +4,8 @@ use Rattle.std.specs.Prelude.{Some, slice_get}
 use Rattle.std.specs.List.{flat_map}
 use Rattle.std.proofs.lemmas.List.{append_assoc, append-nil, drop-drop, drop_at, drop_more, length-append, take_more, length-take-le}
 use Rattle.std.proofs.lemmas.Option.{slice_get-get_or}
-use Rattle.wild_words.specs.Overlay.{Piece, overlay}
+use Rattle.wild_words.specs.Overlay.{Piece}
+use Rattle.wild_image.specs.Prefix.{overlay_prefix}
 use Rattle.wild_types.specs.declared.fault.Error.{Error}
 use Rattle.wild_types.specs.declared.file.Group.{Group}
 use Rattle.wild_types.specs.declared.layout.Layout.{Layout}
@@ -17,12 +18,12 @@ use Rattle.wild_image.specs.Batches.{firsts, AreBatches, IsWithin}
 use Rattle.wild_image.specs.declared.batch.Batch.{Batch}
 use Rattle.wild_sections.proofs.FaultLemmas.{flat_map_from-append, one_from}
 use Rattle.wild_types.proofs.ListLemmas.{total-append}
-use Rattle.wild_sections.proofs.PieceLemmas.{overlay-append}
+use Rattle.wild_image.proofs.PrefixLemmas.{overlay_prefix-append}
 
 -- one more item's pieces
-pub overlay_behind : {X : Type 0} (f : ℕ → X → List Piece) (n i : ℕ) (xs : List X) (x : X) (base now next : List ℕ) → i < length xs → x ≡ get_or xs i x → now ≡ overlay (flat_map_from f n (take i xs)) base → next ≡ overlay (f (n + i) x) now → next ≡ overlay (flat_map_from f n (take (i + 1) xs)) base
-overlay_behind f n i xs x base now next h read e s =
-    s ∙ ap (overlay (f (n + i) x)) e ∙ sym (overlay-append (flat_map_from f n (take i xs)) (f (n + i) x) base) ∙ ap (λ (ps : List Piece). overlay ps base) (sym (one_from f n i xs x h read))
+pub overlay_prefix_behind : {X : Type 0} (f : ℕ → X → List Piece) (n i : ℕ) (xs : List X) (x : X) (base now next : List ℕ) → i < length xs → x ≡ get_or xs i x → now ≡ overlay_prefix (flat_map_from f n (take i xs)) base → next ≡ overlay_prefix (f (n + i) x) now → next ≡ overlay_prefix (flat_map_from f n (take (i + 1) xs)) base
+overlay_prefix_behind f n i xs x base now next h read e s =
+    s ∙ ap (overlay_prefix (f (n + i) x)) e ∙ sym (overlay_prefix-append (flat_map_from f n (take i xs)) (f (n + i) x) base) ∙ ap (λ (ps : List Piece). overlay_prefix ps base) (sym (one_from f n i xs x h read))
 
 -- ---- groups that are cut, seen from the front
 

@@ -3,8 +3,8 @@ use Rattle.std.proofs.Common.{◌≡◌, ℕ, ◌+◌, ◌<◌, ◌≤◌, ◌==
 use Rattle.std.proofs.lemmas.Bool.{cases_Bool, eqb-true, and_parts}
 use Rattle.std.proofs.lemmas.Option.{get_or_from_slice_get, slice_get_within}
 use Rattle.std.specs.Prelude.{Option, Some, slice_get}
-use Rattle.wild_words.specs.Words.{place}
-use Rattle.wild_words.specs.Overlay.{Piece, overlay}
+use Rattle.wild_words.specs.Overlay.{Piece}
+use Rattle.wild_image.specs.Prefix.{place_in_prefix, overlay_prefix}
 use Rattle.wild_types.specs.declared.part.Part.{Part}
 use Rattle.wild_types.specs.declared.layout.Layout.{Layout}
 use Rattle.wild_types.specs.Lookups.{section_of_part, is_header_only_at, is_header_only_part, image_size}
@@ -12,7 +12,7 @@ use Rattle.wild_layout.specs.Image.{some_piece, offset_of_part, front_piece}
 use Rattle.wild_layout.specs.SectionPlaces.{FrontLies}
 use Rattle.wild_image.specs.Append.{SomeLies}
 
-put_some : (k : ℕ) (bs out next : List ℕ) → 1 ≤ length bs → next ≡ place k bs out → next ≡ overlay (some_piece k bs) out
+put_some : (k : ℕ) (bs out next : List ℕ) → 1 ≤ length bs → next ≡ place_in_prefix k bs out → next ≡ overlay_prefix (some_piece k bs) out
 put_some k bs out next some e =
     elim (cases_Bool (length bs == 0)) [
       | inl t ↦ absurd (let z = eqb-true (length bs) 0 t in omega (arith, z, some))
@@ -29,34 +29,23 @@ h_offset l k = offset_of_part (slice_get l.parts k)
 front_offset : (l : Layout) (k : ℕ) (bs : List ℕ) (d : Part) → FrontLies l k bs → (get_or l.parts k d).offset ≡ h_offset l k
 front_offset l k bs d h = ap (λ (p : Part). p.offset) (get_or_from_slice_get l.parts k h.part d h.listed) ∙ sym (ap offset_of_part h.listed)
 
--- what lies in the part is written where its section is
-front_written : (l : Layout) (k : ℕ) (bs : List ℕ) (h : FrontLies l k bs) → is_header_only_part l k ≡ false → is_header_only_at l h.part.section ≡ false
-front_written l k bs h e = sym (ap (λ (o : Option Part). is_header_only_at l (section_of_part o)) h.listed) ∙ e
-
--- the bytes lie in the image
-pub front_ends : (l : Layout) (k : ℕ) (bs : List ℕ) (d : Part) → FrontLies l k bs → is_header_only_part l k ≡ false → 1 ≤ length bs → (get_or l.parts k d).offset + length bs ≤ image_size l
-front_ends l k bs d h written some =
-    let e = ap (λ (p : Part). p.offset) (get_or_from_slice_get l.parts k h.part d h.listed) in
-    let f = h.ends some (front_written l k bs h written) in
-    omega (arith, e, f)
-
 -- of a part that is written they are one piece
-front_is : (l : Layout) (k : ℕ) (bs out : List ℕ) → is_header_only_part l k ≡ false → overlay (some_piece (h_offset l k) bs) out ≡ overlay (front_piece l k bs) out
-front_is l k bs out written = sym (ap (λ (b : Bool). overlay (if b then [] else some_piece (h_offset l k) bs) out) written)
+front_is : (l : Layout) (k : ℕ) (bs out : List ℕ) → is_header_only_part l k ≡ false → overlay_prefix (some_piece (h_offset l k) bs) out ≡ overlay_prefix (front_piece l k bs) out
+front_is l k bs out written = sym (ap (λ (b : Bool). overlay_prefix (if b then [] else some_piece (h_offset l k) bs) out) written)
 
 -- the bytes, put
-pub front_put : (l : Layout) (k : ℕ) (bs out next : List ℕ) (d : Part) → FrontLies l k bs → is_header_only_part l k ≡ false → 1 ≤ length bs → next ≡ place (get_or l.parts k d).offset bs out → next ≡ overlay (front_piece l k bs) out
-front_put l k bs out next d h written some e = put_some (h_offset l k) bs out next some (e ∙ ap (λ (n : ℕ). place n bs out) (front_offset l k bs d h)) ∙ front_is l k bs out written
+pub front_put : (l : Layout) (k : ℕ) (bs out next : List ℕ) (d : Part) → FrontLies l k bs → is_header_only_part l k ≡ false → 1 ≤ length bs → next ≡ place_in_prefix (get_or l.parts k d).offset bs out → next ≡ overlay_prefix (front_piece l k bs) out
+front_put l k bs out next d h written some e = put_some (h_offset l k) bs out next some (e ∙ ap (λ (n : ℕ). place_in_prefix n bs out) (front_offset l k bs d h)) ∙ front_is l k bs out written
 
 -- ---- where there is nothing to put
 
-not_written : (header_only none : Bool) (ps : List Piece) (out : List ℕ) → (not none && not header_only) ≡ false → out ≡ overlay (if header_only then [] else if none then [] else ps) out
+not_written : (header_only none : Bool) (ps : List Piece) (out : List ℕ) → (not none && not header_only) ≡ false → out ≡ overlay_prefix (if header_only then [] else if none then [] else ps) out
 not_written true none ps out h = refl
 not_written false true ps out h = refl
 not_written false false ps out h = cc
 
 -- there is nothing, or nothing of the part is written
-pub front_not_put : (l : Layout) (k : ℕ) (bs out : List ℕ) → (not (length bs == 0) && not (is_header_only_part l k)) ≡ false → out ≡ overlay (front_piece l k bs) out
+pub front_not_put : (l : Layout) (k : ℕ) (bs out : List ℕ) → (not (length bs == 0) && not (is_header_only_part l k)) ≡ false → out ≡ overlay_prefix (front_piece l k bs) out
 front_not_put l k bs out h = not_written (is_header_only_part l k) (length bs == 0) (record { at = h_offset l k; bytes = bs } ∷ []) out h
 
 some_bytes : (bs : List ℕ) → not (length bs == 0) ≡ true → 1 ≤ length bs

@@ -19,3 +19,4 @@ pub mod PlacedLemmas
 pub mod UnchangedLemmas
 pub mod BareLemmas
 pub mod PreparedLemmas
+pub mod PrefixLemmas

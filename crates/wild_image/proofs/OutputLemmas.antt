@@ -1,8 +1,18 @@
 -- Laws of the whole image, and of all faults.
-use Rattle.std.proofs.Common.{◌≡◌, ℕ, ◌+◌, ◌^◌, ◌<◌, ◌≤◌, ◌-◌, inl, inr, All, nat_le, List, [], ◌∷◌, ◌++◌, length, Result, Ok, Err, refl, ap, ◌∙◌, arith, nat_lt}
-use Rattle.std.specs.Prelude.{OnOk}
+use Rattle.std.proofs.Common.{◌≡◌, ℕ, ◌+◌, ◌^◌, ◌<◌, ◌≤◌, ◌-◌, inl, inr, All, nat_le, List, [], ◌∷◌, ◌++◌, length, take, Result, Ok, Err, refl, sym, ap, ◌∙◌, arith, subst, nat_lt}
+use Rattle.std.specs.Prelude.{Contains, IfOk, Some, slice_get}
+use Rattle.std.proofs.lemmas.List.{take_all}
+use Rattle.std.proofs.lemmas.Option.{get_or_from_slice_get, slice_get_within}
 use Rattle.std.proofs.lemmas.Bool.{cases_Bool, and_parts, ltb-true}
-use Rattle.wild_words.specs.Overlay.{overlay}
+use Rattle.wild_words.specs.Overlay.{Piece, overlay, AreDisjoint}
+use Rattle.wild_words.proofs.Basics.{All-each}
+use Rattle.wild_words.proofs.OverlayLemmas.{length-overlay}
+use Rattle.wild_types.specs.declared.file.Group.{Group}
+use Rattle.wild_types.specs.Lookups.{image_size}
+use Rattle.wild_geometry.proofs.InterleaveLemmas.{Contains-flat_map_from}
+use Rattle.wild_image.specs.Prefix.{overlay_prefix}
+use Rattle.wild_image.proofs.PrefixLemmas.{overlay_taken, overlay_whole}
+use Rattle.wild_image.specs.declared.output.SizedOutput.{SizedOutput}
 use Rattle.wild_types.specs.declared.fault.Error.{Error}
 use Rattle.wild_types.specs.declared.layout.Layout.{Layout}
 use Rattle.wild_plan_rules.specs.Places.{relocation_count}
@@ -22,12 +32,12 @@ use Rattle.wild_types.specs.declared.part.Role.{Role}
 use Rattle.wild_types.specs.Parts.{has_role, part_with}
 use Rattle.wild_placement.specs.PlacedSections.{part_address}
 use Rattle.wild_layout.specs.SearchTable.{address_of_role}
-use Rattle.std.proofs.lemmas.List.Elements.{All-head, All-tail}
+use Rattle.std.proofs.lemmas.List.Elements.{All-head, All-tail, All-contains}
 use Rattle.wild_types.specs.declared.part.Role.TheVariants as role
 use Rattle.wild_types.specs.Faults.{Refuses}
 use Rattle.wild_plan_rules.proofs.ClauseLemmas.{test_holds, first_holds, rest_holds}
 use Rattle.wild_table_formats.proofs.HeaderLengths.{role_below}
-use Rattle.wild_layout.proofs.LayoutLemmas.{definitions_fit}
+use Rattle.wild_layout.proofs.LayoutLemmas.{definitions_fit, length-padding}
 use Rattle.wild_sections.proofs.FaultLemmas.{Refuses-front, Refuses-after}
 use Rattle.wild_contents.proofs.HashLemmas.{sysv_stands, gnu_stands}
 
@@ -63,11 +73,50 @@ address_by r (p ∷ ps) h =
 pub role_address : (l : Layout) → IsLaidOut l → (r : Role) → address_of_role l r + 4 < 2 ^ 64
 role_address l laid r = address_by r l.parts (λ i d low. (laid.parts i d low).address)
 
--- the padding and the groups make the image
-pub image_is : (result : Result (Unit {0}) Error) (l : Layout) (one two : List ℕ) → one ≡ padding l → OnOk result (two ≡ overlay (flat_map_from (group_pieces l) 0 l.groups) one) → OnOk result (two ≡ bytes l)
+-- ---- pieces within the image
+
+abbrev IsWithin : ℕ → Piece → Type 0
+IsWithin n p = p.at + length p.bytes ≤ n
+
+pieces_within : (l : Layout) → IsLaidOut l → All (IsWithin (length (padding l))) (flat_map_from (group_pieces l) 0 l.groups)
+unfolding pieces
+pieces_within l laid = subst (λ (n : ℕ). All (IsWithin n) (pieces l)) (sym (length-padding l)) laid.owners.within
+
+-- those of one group
+group_within : (l : Layout) (i n : ℕ) (g : Group) → IsLaidOut l → slice_get l.groups i ≡ Some g → n ≡ image_size l → All (IsWithin n) (group_pieces l i g)
+unfolding pieces
+group_within l i n g laid at same =
+    let low = slice_get_within l.groups i g at in
+    let read = get_or_from_slice_get l.groups i g g at in
+    All-each (IsWithin n) (group_pieces l i g) (λ p listed.
+    (let here = subst (λ (x : Group). Contains (group_pieces l i x) p) (sym read) listed in
+    let e = All-contains (IsWithin (image_size l)) (pieces l) p laid.owners.within (Contains-flat_map_from (group_pieces l) 0 l.groups i i g p (omega arith) low here) in
+    omega (arith, e, same)))
+
+-- so these are written whole over the whole image
+pub group_written : (l : Layout) (i : ℕ) (g : Group) (old new : List ℕ) → IsLaidOut l → slice_get l.groups i ≡ Some g → length old ≡ image_size l → new ≡ overlay_prefix (group_pieces l i g) old → new ≡ overlay (group_pieces l i g) old
+group_written l i g old new laid at long e = e ∙ overlay_whole (group_pieces l i g) old (group_within l i (length old) g laid at long)
+
+-- the first bytes of the padding and of the groups are those of the image
+pub prefix_is : (l : Layout) (n : ℕ) (out : List ℕ) → IsLaidOut l → out ≡ overlay_prefix (flat_map_from (group_pieces l) 0 l.groups) (take n (padding l)) → out ≡ take n (bytes l)
 unfolding bytes pieces
-image_is (Ok x) l one two a b = b ∙ ap (overlay (flat_map_from (group_pieces l) 0 l.groups)) a
-image_is (Err x) l one two a b = b
+prefix_is l n out laid e = e ∙ overlay_taken n (flat_map_from (group_pieces l) 0 l.groups) (padding l) (pieces_within l laid)
+
+-- an image is short
+pub bytes_fit : {X : Type 0} (r : Result X Error) (l : Layout) → IsLaidOut l → IfOk r (λ x. length (bytes l) ≤ 2 ^ 62)
+unfolding bytes
+bytes_fit (Err e) l laid = tt
+bytes_fit (Ok x) l laid =
+    let apart : AreDisjoint (length (padding l)) (pieces l) = subst (λ (n : ℕ). AreDisjoint n (pieces l)) (sym (length-padding l)) laid.owners in
+    let long = length-overlay (pieces l) (padding l) apart in
+    let size = length-padding l in
+    let least = laid.size in
+    omega (arith, long, size, least)
+
+-- so that its first bytes may be all
+pub whole_image : (r : Result SizedOutput Error) (l : Layout) → IfOk r (λ o. length (bytes l) ≤ 2 ^ 62) → IfOk r (λ o. o.out ≡ take (2 ^ 64 - 1) (bytes l)) → IfOk r (λ o. o.out ≡ bytes l)
+whole_image (Ok o) l fits image = image ∙ take_all (2 ^ 64 - 1) (bytes l) (omega (arith, fits))
+whole_image (Err e) l fits image = tt
 
 -- without faults of clauses and shares, those of the groups are all
 pub file_trailer_errors : (l : Layout) → clause_errors (first_clause l) ≡ [] → flat_map_from (part_errors l) 0 l.parts ≡ [] → flat_map_from (group_errors l) 0 l.groups ≡ errors l

@@ -10,3 +10,4 @@ pub mod Placed
 pub mod Owners
 pub mod LayoutFacts
 pub mod Prepared
+pub mod Prefix

@@ -1,8 +1,6 @@
-//! Copies the bytes of the groups from their buffers to their places in the image.
+//! Copies the bytes of the groups from their buffers to their places in the image, of which `out` has the first bytes.
 ghost use Rattle.std.specs.Prelude.{◌≡◌, ◌==◌, ◌&&◌, not, ◌+◌, ◌<◌, ◌≤◌, ◌^◌, ℕ, true, false, Some, if◌then◌else◌, length, take, drop, replicate, slice_get, OnOk, All};
 ghost use Rattle.std.specs.List.{flat_map};
-ghost use Rattle.wild_words.specs.Words.{place};
-ghost use Rattle.wild_words.specs.Overlay.{overlay};
 ghost use Rattle.wild_types.specs.declared.file.File.{File};
 ghost use Rattle.wild_types.specs.declared.file.Group.{Group};
 ghost use Rattle.wild_types.specs.FileRoles.{is_prelude, is_epilogue};
@@ -16,6 +14,7 @@ ghost use Rattle.wild_layout.specs.SectionPlaces.{FrontLies};
 ghost use Rattle.wild_layout.specs.ThunkPlaces.{ThunkLies};
 ghost use Rattle.wild_layout.specs.Thunks.{thunk_bytes, file_thunks};
 ghost use Rattle.wild_image.specs.Pieces.{has_some, has_room, some_by, ranged_room, table_given, written, place_in, file_sections, sorted_owned, all_sorted, merged_and_identity_bytes, trailer_bytes, file_bytes, group_tables, group_files};
+ghost use Rattle.wild_image.specs.Prefix.{place_in_prefix, overlay_prefix};
 ghost use Rattle.wild_image.specs.Owners.{ranged_pieces, sorted_pieces, all_sorted_pieces, merged_piece, trailer_pieces, file_pieces_in_order};
 ghost use Rattle.wild_image.specs.Append.{BeginsWith, HasRest, HasStarts, EachPartLies, RangedLies, SortedLies, SomeLies, MergedLies, FileLies, EachFileLies};
 ghost use Rattle.wild_image.specs.Batches.{AreBatches, IsWithin, GivesBatch, HasBatch, batch_errors, batch_pieces};
@@ -25,13 +24,13 @@ use crate::batch::Batch;
 use crate::buffer::GroupBytes;
 use crate::job::Outcome;
 use crate::marks::strings_size;
+use crate::prefix::put_in_prefix;
 use wild_placement::sorted_input;
 use wild_sections::offset_of;
 use wild_types::{
     Error, File, Group, InputSection, Layout, Merged, Part, Role, Slot, SortedSection, THUNK_SIZE,
     Thunk, has_role,
 };
-use wild_words::put;
 
 /// Whether there are bytes to write at the front of a part.
 pub(crate) fn writes_front(layout: &Layout, part: usize, own: &[u8]) -> bool
@@ -82,8 +81,8 @@ fn append_own<'b>(
     out: &mut [u8],
 ) -> &'b [u8]
     requires own { owns ≡ true → section.now.size ≤ length bytes.now }
-    requires ends { owns ≡ true → place_in layout.now section.now + section.now.size ≤ length out.old }
-    ensures image { out.new ≡ (if owns then place (place_in layout.now section.now) (take section.now.size bytes.now) out.old else out.old) }
+    requires offset { owns ≡ true → place_in layout.now section.now < 2 ^ 64 }
+    ensures image { out.new ≡ (if owns then place_in_prefix (place_in layout.now section.now) (take section.now.size bytes.now) out.old else out.old) }
     ensures rest { result.now ≡ (if owns then drop section.now.size bytes.now else bytes.now) }
 {
     if !owns {
@@ -91,16 +90,16 @@ fn append_own<'b>(
     }
     let start = offset_of(layout.parts.as_slice(), section.part, section.address) as usize;
     let (own, rest) = bytes.split_at(section.size as usize);
-    put(out, start, own);
+    put_in_prefix(out, start, own);
     rest
 }
 
 /// Copies the bytes of the sections of a file to their places; returns the rest.
 fn append_sections<'b>(layout: &Layout, file: &File, bytes: &'b [u8], out: &mut [u8]) -> &'b [u8]
     requires lies { All (RangedLies layout.now file.now) file.now.sections }
-    requires room { length out.old ≡ image_size layout.now }
+    requires fits { image_size layout.now ≤ 2 ^ 62 }
     requires own { BeginsWith (file_sections layout.now file.now) bytes.now }
-    ensures image { out.new ≡ overlay (ranged_pieces layout.now file.now) out.old }
+    ensures image { out.new ≡ overlay_prefix (ranged_pieces layout.now file.now) out.old }
     ensures rest { HasRest (file_sections layout.now file.now) bytes.now result.now }
 {
     let mut rest = bytes;
@@ -118,9 +117,9 @@ fn append_sorted_section<'b>(
     out: &mut [u8],
 ) -> &'b [u8]
     requires lies { SortedLies layout.now entry.now }
-    requires room { length out.old ≡ image_size layout.now }
+    requires fits { image_size layout.now ≤ 2 ^ 62 }
     requires own { BeginsWith (sorted_owned layout.now entry.now) bytes.now }
-    ensures image { out.new ≡ overlay (sorted_pieces layout.now entry.now) out.old }
+    ensures image { out.new ≡ overlay_prefix (sorted_pieces layout.now entry.now) out.old }
     ensures rest { HasRest (sorted_owned layout.now entry.now) bytes.now result.now }
 {
     match sorted_input(layout, *entry) {
@@ -135,9 +134,9 @@ fn append_sorted_section<'b>(
 /// Copies the bytes of the sorted input sections to their places; returns the rest.
 fn append_sorted<'b>(layout: &Layout, bytes: &'b [u8], out: &mut [u8]) -> &'b [u8]
     requires lies { All (SortedLies layout.now) layout.now.sorted }
-    requires room { length out.old ≡ image_size layout.now }
+    requires fits { image_size layout.now ≤ 2 ^ 62 }
     requires own { BeginsWith (all_sorted layout.now) bytes.now }
-    ensures image { out.new ≡ overlay (all_sorted_pieces layout.now) out.old }
+    ensures image { out.new ≡ overlay_prefix (all_sorted_pieces layout.now) out.old }
     ensures rest { HasRest (all_sorted layout.now) bytes.now result.now }
 {
     let mut rest = bytes;
@@ -148,23 +147,21 @@ fn append_sorted<'b>(layout: &Layout, bytes: &'b [u8], out: &mut [u8]) -> &'b [u
 }
 
 /// Copies bytes to the front of a part.
-#[tactic(auto, using(crate::proofs::FrontLemmas::front_part, crate::proofs::FrontLemmas::front_ends, crate::proofs::FrontLemmas::front_put))]
+#[tactic(auto, using(crate::proofs::FrontLemmas::front_part, crate::proofs::FrontLemmas::front_put))]
 fn put_some(layout: &Layout, part: usize, own: &[u8], out: &mut [u8])
     requires some { 1 ≤ length own.now }
     requires written { is_header_only_part layout.now part ≡ false }
     requires lies { FrontLies layout.now part own.now }
-    requires room { length out.old ≡ image_size layout.now }
-    ensures { out.new ≡ overlay (front_piece layout.now part own.now) out.old }
+    ensures { out.new ≡ overlay_prefix (front_piece layout.now part own.now) out.old }
 {
     let front = layout.parts.as_slice()[part].offset as usize;
-    put(out, front, own);
+    put_in_prefix(out, front, own);
 }
 
 /// Copies bytes to the front of a part, if there are some and the part is written.
 fn put_front(layout: &Layout, part: usize, own: &[u8], out: &mut [u8])
     requires lies { SomeLies layout.now part own.now }
-    requires room { length out.old ≡ image_size layout.now }
-    ensures { out.new ≡ overlay (front_piece layout.now part own.now) out.old }
+    ensures { out.new ≡ overlay_prefix (front_piece layout.now part own.now) out.old }
 {
     if !writes_front(layout, part, own) {
         return;
@@ -183,9 +180,8 @@ pub(crate) fn merged_size(merged: &Merged) -> usize
 /// Copies the first of `bytes`, merged strings, to the front of their part; returns the rest.
 fn append_merged<'b>(layout: &Layout, merged: &Merged, bytes: &'b [u8], out: &mut [u8]) -> &'b [u8]
     requires lies { MergedLies layout.now merged.now }
-    requires room { length out.old ≡ image_size layout.now }
     requires own { BeginsWith (merged_bytes merged.now) bytes.now }
-    ensures image { out.new ≡ overlay (front_piece layout.now merged.now.part (merged_bytes merged.now)) out.old }
+    ensures image { out.new ≡ overlay_prefix (front_piece layout.now merged.now.part (merged_bytes merged.now)) out.old }
     ensures rest { HasRest (merged_bytes merged.now) bytes.now result.now }
 {
     let (own, rest) = bytes.split_at(merged_size(merged));
@@ -196,9 +192,8 @@ fn append_merged<'b>(layout: &Layout, merged: &Merged, bytes: &'b [u8], out: &mu
 /// Copies all merged strings to their parts; returns the rest.
 fn append_strings<'b>(layout: &Layout, bytes: &'b [u8], out: &mut [u8]) -> &'b [u8]
     requires lies { All (MergedLies layout.now) layout.now.merged }
-    requires room { length out.old ≡ image_size layout.now }
     requires own { BeginsWith (flat_map merged_bytes layout.now.merged) bytes.now }
-    ensures image { out.new ≡ overlay (flat_map (merged_piece layout.now) layout.now.merged) out.old }
+    ensures image { out.new ≡ overlay_prefix (flat_map (merged_piece layout.now) layout.now.merged) out.old }
     ensures rest { HasRest (flat_map merged_bytes layout.now.merged) bytes.now result.now }
 {
     let mut rest = bytes;
@@ -211,9 +206,8 @@ fn append_strings<'b>(layout: &Layout, bytes: &'b [u8], out: &mut [u8]) -> &'b [
 /// Copies the output's identity, the first of `bytes`, to its part; returns the rest.
 fn append_identity<'b>(layout: &Layout, bytes: &'b [u8], out: &mut [u8]) -> &'b [u8]
     requires lies { SomeLies layout.now layout.now.identity.part layout.now.identity.bytes }
-    requires room { length out.old ≡ image_size layout.now }
     requires own { BeginsWith layout.now.identity.bytes bytes.now }
-    ensures image { out.new ≡ overlay (front_piece layout.now layout.now.identity.part layout.now.identity.bytes) out.old }
+    ensures image { out.new ≡ overlay_prefix (front_piece layout.now layout.now.identity.part layout.now.identity.bytes) out.old }
     ensures rest { HasRest layout.now.identity.bytes bytes.now result.now }
 {
     let (own, rest) = bytes.split_at(layout.identity.bytes.len());
@@ -226,9 +220,8 @@ fn append_identity<'b>(layout: &Layout, bytes: &'b [u8], out: &mut [u8]) -> &'b 
 fn append_merged_and_identity<'b>(layout: &Layout, bytes: &'b [u8], out: &mut [u8]) -> &'b [u8]
     requires merged { All (MergedLies layout.now) layout.now.merged }
     requires identity { SomeLies layout.now layout.now.identity.part layout.now.identity.bytes }
-    requires room { length out.old ≡ image_size layout.now }
     requires own { BeginsWith (merged_and_identity_bytes layout.now) bytes.now }
-    ensures image { out.new ≡ overlay (merged_and_identity_pieces layout.now) out.old }
+    ensures image { out.new ≡ overlay_prefix (merged_and_identity_pieces layout.now) out.old }
     ensures rest { HasRest (merged_and_identity_bytes layout.now) bytes.now result.now }
 {
     let rest = append_strings(layout, bytes, out);
@@ -238,9 +231,9 @@ fn append_merged_and_identity<'b>(layout: &Layout, bytes: &'b [u8], out: &mut [u
 /// Copies the sorted input sections to their places, if this is the last file, which writes them; returns the rest.
 fn append_last<'b>(layout: &Layout, file: &File, bytes: &'b [u8], out: &mut [u8]) -> &'b [u8]
     requires lies { is_epilogue file.now.role ≡ true → All (SortedLies layout.now) layout.now.sorted }
-    requires room { length out.old ≡ image_size layout.now }
+    requires fits { image_size layout.now ≤ 2 ^ 62 }
     requires own { BeginsWith (of_last_file file.now (all_sorted layout.now)) bytes.now }
-    ensures image { out.new ≡ overlay (of_last_file file.now (all_sorted_pieces layout.now)) out.old }
+    ensures image { out.new ≡ overlay_prefix (of_last_file file.now (all_sorted_pieces layout.now)) out.old }
     ensures rest { HasRest (of_last_file file.now (all_sorted layout.now)) bytes.now result.now }
 {
     if file.role.is_epilogue() {
@@ -253,9 +246,8 @@ fn append_last<'b>(layout: &Layout, file: &File, bytes: &'b [u8], out: &mut [u8]
 fn append_first<'b>(layout: &Layout, file: &File, bytes: &'b [u8], out: &mut [u8]) -> &'b [u8]
     requires merged { is_prelude file.now.role ≡ true → All (MergedLies layout.now) layout.now.merged }
     requires identity { is_prelude file.now.role ≡ true → SomeLies layout.now layout.now.identity.part layout.now.identity.bytes }
-    requires room { length out.old ≡ image_size layout.now }
     requires own { BeginsWith (of_first_file file.now (merged_and_identity_bytes layout.now)) bytes.now }
-    ensures image { out.new ≡ overlay (of_first_file file.now (merged_and_identity_pieces layout.now)) out.old }
+    ensures image { out.new ≡ overlay_prefix (of_first_file file.now (merged_and_identity_pieces layout.now)) out.old }
     ensures rest { HasRest (of_first_file file.now (merged_and_identity_bytes layout.now)) bytes.now result.now }
 {
     if file.role.is_prelude() {
@@ -267,9 +259,9 @@ fn append_first<'b>(layout: &Layout, file: &File, bytes: &'b [u8], out: &mut [u8
 /// Copies what only the last or only the first file writes; returns the rest.
 fn append_trailer<'b>(layout: &Layout, file: &File, bytes: &'b [u8], out: &mut [u8]) -> &'b [u8]
     requires lies { FileLies layout.now file.now }
-    requires room { length out.old ≡ image_size layout.now }
+    requires fits { image_size layout.now ≤ 2 ^ 62 }
     requires own { BeginsWith (trailer_bytes layout.now file.now) bytes.now }
-    ensures image { out.new ≡ overlay (trailer_pieces layout.now file.now) out.old }
+    ensures image { out.new ≡ overlay_prefix (trailer_pieces layout.now file.now) out.old }
     ensures rest { HasRest (trailer_bytes layout.now file.now) bytes.now result.now }
 {
     let rest = append_last(layout, file, bytes, out);
@@ -279,23 +271,23 @@ fn append_trailer<'b>(layout: &Layout, file: &File, bytes: &'b [u8], out: &mut [
 /// Copies a thunk, the first of `bytes`, to its place; returns the rest.
 fn append_thunk<'b>(layout: &Layout, thunk: &Thunk, bytes: &'b [u8], out: &mut [u8]) -> &'b [u8]
     requires lies { ThunkLies layout.now thunk.now }
-    requires room { (length out.old ≡ image_size layout.now) × (image_size layout.now ≤ 2 ^ 62) }
+    requires fits { image_size layout.now ≤ 2 ^ 62 }
     requires own { BeginsWith (thunk_bytes layout.now thunk.now) bytes.now }
-    ensures image { out.new ≡ overlay (thunk_piece layout.now thunk.now) out.old }
+    ensures image { out.new ≡ overlay_prefix (thunk_piece layout.now thunk.now) out.old }
     ensures rest { HasRest (thunk_bytes layout.now thunk.now) bytes.now result.now }
 {
     let at = offset_of(layout.parts.as_slice(), layout.primary_part, thunk.address);
     let (own, rest) = bytes.split_at(THUNK_SIZE as usize);
-    put(out, at as usize, own);
+    put_in_prefix(out, at as usize, own);
     rest
 }
 
 /// Copies the thunks of a file to their places; returns the rest.
 fn append_all_thunks<'b>(layout: &Layout, file: &File, bytes: &'b [u8], out: &mut [u8]) -> &'b [u8]
     requires lies { All (ThunkLies layout.now) (thunks_of layout.now file.now) }
-    requires room { (length out.old ≡ image_size layout.now) × (image_size layout.now ≤ 2 ^ 62) }
+    requires fits { image_size layout.now ≤ 2 ^ 62 }
     requires own { BeginsWith (file_thunks layout.now file.now) bytes.now }
-    ensures image { out.new ≡ overlay (flat_map (thunk_piece layout.now) (thunks_of layout.now file.now)) out.old }
+    ensures image { out.new ≡ overlay_prefix (flat_map (thunk_piece layout.now) (thunks_of layout.now file.now)) out.old }
     ensures rest { HasRest (file_thunks layout.now file.now) bytes.now result.now }
 {
     let mut rest = bytes;
@@ -308,9 +300,9 @@ fn append_all_thunks<'b>(layout: &Layout, file: &File, bytes: &'b [u8], out: &mu
 /// Copies the thunks of a file to their places, unless their output section is omitted; returns the rest.
 fn append_thunks<'b>(layout: &Layout, file: &File, bytes: &'b [u8], out: &mut [u8]) -> &'b [u8]
     requires lies { is_header_only_part layout.now layout.now.primary_part ≡ false → All (ThunkLies layout.now) (thunks_of layout.now file.now) }
-    requires room { (length out.old ≡ image_size layout.now) × (image_size layout.now ≤ 2 ^ 62) }
+    requires fits { image_size layout.now ≤ 2 ^ 62 }
     requires own { BeginsWith (unless_omitted layout.now layout.now.primary_part (file_thunks layout.now file.now)) bytes.now }
-    ensures image { out.new ≡ overlay (thunk_pieces layout.now file.now) out.old }
+    ensures image { out.new ≡ overlay_prefix (thunk_pieces layout.now file.now) out.old }
     ensures rest { HasRest (unless_omitted layout.now layout.now.primary_part (file_thunks layout.now file.now)) bytes.now result.now }
 {
     if layout.is_header_only_part(layout.primary_part) {
@@ -322,9 +314,9 @@ fn append_thunks<'b>(layout: &Layout, file: &File, bytes: &'b [u8], out: &mut [u
 /// Copies the sections of a file and its thunks to their places; returns the rest.
 fn append_file<'b>(layout: &Layout, file: &File, bytes: &'b [u8], out: &mut [u8]) -> &'b [u8]
     requires lies { FileLies layout.now file.now }
-    requires room { (length out.old ≡ image_size layout.now) × (image_size layout.now ≤ 2 ^ 62) }
+    requires fits { image_size layout.now ≤ 2 ^ 62 }
     requires own { BeginsWith (file_bytes layout.now file.now) bytes.now }
-    ensures image { out.new ≡ overlay (file_pieces_in_order layout.now file.now) out.old }
+    ensures image { out.new ≡ overlay_prefix (file_pieces_in_order layout.now file.now) out.old }
     ensures rest { HasRest (file_bytes layout.now file.now) bytes.now result.now }
 {
     let behind = append_sections(layout, file, bytes, out);
@@ -336,9 +328,9 @@ fn append_file<'b>(layout: &Layout, file: &File, bytes: &'b [u8], out: &mut [u8]
 #[tactic(auto, unfolding(crate::specs::Pieces::group_files))]
 fn append_files<'b>(layout: &Layout, group: &Group, bytes: &'b [u8], out: &mut [u8]) -> &'b [u8]
     requires lies { All (FileLies layout.now) group.now.files }
-    requires room { (length out.old ≡ image_size layout.now) × (image_size layout.now ≤ 2 ^ 62) }
+    requires fits { image_size layout.now ≤ 2 ^ 62 }
     requires own { BeginsWith (group_files layout.now group.now) bytes.now }
-    ensures image { out.new ≡ overlay (flat_map (file_pieces_in_order layout.now) group.now.files) out.old }
+    ensures image { out.new ≡ overlay_prefix (flat_map (file_pieces_in_order layout.now) group.now.files) out.old }
     ensures rest { HasRest (group_files layout.now group.now) bytes.now result.now }
 {
     let mut rest = bytes;
@@ -380,15 +372,15 @@ fn append_table<'b>(
     requires size { size ≡ written layout.now part.now (given i group.now) }
     requires start { start ≡ written layout.now part.now (shares_before layout.now i index) }
     requires own { BeginsWith (table_given layout.now group.now part.now) bytes.now }
-    requires room { (length out.old ≡ image_size layout.now) × (image_size layout.now ≤ 2 ^ 62) }
-    ensures image { out.new ≡ overlay (table_piece layout.now index group.now i part.now) out.old }
+    requires fits { image_size layout.now ≤ 2 ^ 62 }
+    ensures image { out.new ≡ overlay_prefix (table_piece layout.now index group.now i part.now) out.old }
     ensures rest { HasRest (table_given layout.now group.now part.now) bytes.now result.now }
 {
     if size == 0 {
         return bytes;
     }
     let (own, rest) = bytes.split_at(size as usize);
-    put(out, (part.offset + start) as usize, own);
+    put_in_prefix(out, (part.offset + start) as usize, own);
     rest
 }
 
@@ -406,8 +398,8 @@ fn append_tables<'b>(
     requires group { slice_get layout.now.groups index ≡ Some group.now }
     requires own { BeginsWith (group_tables layout.now group.now) bytes.now }
     requires starts { HasStarts layout.now index starts.old }
-    requires room { (length out.old ≡ image_size layout.now) × (image_size layout.now ≤ 2 ^ 62) }
-    ensures image { out.new ≡ overlay (table_pieces layout.now index group.now) out.old }
+    requires fits { image_size layout.now ≤ 2 ^ 62 }
+    ensures image { out.new ≡ overlay_prefix (table_pieces layout.now index group.now) out.old }
     ensures rest { HasRest (group_tables layout.now group.now) bytes.now result.now }
     ensures starts { HasStarts layout.now (index + 1) starts.new }
 {
@@ -439,8 +431,8 @@ pub(crate) fn append_group(
     requires tables { bytes.now.tables ≡ group_tables layout.now group.now }
     requires files { bytes.now.files ≡ group_files layout.now group.now }
     requires starts { HasStarts layout.now index starts.old }
-    requires room { (length out.old ≡ image_size layout.now) × (image_size layout.now ≤ 2 ^ 62) }
-    ensures { out.new ≡ overlay (group_pieces layout.now index group.now) out.old }
+    requires fits { image_size layout.now ≤ 2 ^ 62 }
+    ensures { out.new ≡ overlay_prefix (group_pieces layout.now index group.now) out.old }
 {
     append_tables(layout, index, group, bytes.tables.as_slice(), starts, out);
     append_files(layout, group, bytes.files.as_slice(), out);
@@ -460,8 +452,8 @@ fn append_batch(
     requires small { batch.now.first + length batch.now.groups.now < 2 ^ 64 }
     requires bytes { HasBatch layout.now batch.now bytes.now }
     requires starts { HasStarts layout.now batch.now.first starts.old }
-    requires room { (length out.old ≡ image_size layout.now) × (image_size layout.now ≤ 2 ^ 62) }
-    ensures image { out.new ≡ overlay (batch_pieces layout.now batch.now) out.old }
+    requires fits { image_size layout.now ≤ 2 ^ 62 }
+    ensures image { out.new ≡ overlay_prefix (batch_pieces layout.now batch.now) out.old }
     ensures starts { HasStarts layout.now (batch.now.first + length batch.now.groups.now) starts.new }
 {
     let mut tables = bytes.tables.as_slice();
@@ -488,9 +480,9 @@ pub(crate) fn append_all(
     requires starts { starts.old ≡ replicate (length layout.now.parts) 0 }
     requires count { length outcomes.now ≡ length batches.now }
     requires each { (i : ℕ) (o : Outcome) → slice_get outcomes.now i ≡ Some o → GivesBatch layout.now batches.now i o.bytes }
-    requires room { (length out.old ≡ image_size layout.now) × (image_size layout.now ≤ 2 ^ 62) }
+    requires fits { image_size layout.now ≤ 2 ^ 62 }
     ensures faults { Answers result (flat_map (batch_errors layout.now) batches.now) }
-    ensures image { OnOk result (out.new ≡ overlay (flat_map (batch_pieces layout.now) batches.now) out.old) }
+    ensures image { OnOk result (out.new ≡ overlay_prefix (flat_map (batch_pieces layout.now) batches.now) out.old) }
 {
     for (i, batch) in batches.iter().enumerate() {
         match &outcomes[i].bytes {

@@ -12,6 +12,7 @@ mod marks;
 mod output;
 mod padding;
 mod piece;
+mod prefix;
 mod prepared;
 mod relocation_counts;
 mod shares;
@@ -20,7 +21,7 @@ mod step_count;
 
 pub use group_writer::{GroupWriter, ImageWriter};
 pub use job::{GroupJob, Outcome};
-pub use output::{SizedOutput, write, write_gated, write_layout};
+pub use output::{SizedOutput, write, write_gated, write_layout, write_prefix};
 pub use padding::fill_padding_for_sections;
 pub use piece::{GroupPiece, write_group, write_group_over};
 pub use prepared::Prepared;

@@ -1,11 +1,11 @@
 //! Writes the image of a layout.
-ghost use Rattle.std.specs.Prelude.{◌≡◌, ◌<◌, ◌≤◌, ◌^◌, ℕ, [], length, Ok, Some, slice_get, replicate, OnOk, IfOk};
+ghost use Rattle.std.specs.Prelude.{◌≡◌, ◌<◌, ◌≤◌, ◌^◌, ℕ, [], length, take, Ok, Some, slice_get, IfOk};
 ghost use Rattle.wild_types.specs.Faults.{Answers};
 ghost use Rattle.wild_plan_rules.specs.Places.{relocation_count};
 ghost use Rattle.wild_plan_rules.specs.WellFormed.{first_clause};
 ghost use Rattle.wild_clauses.specs.LayoutSurvey.{IsLayoutSurvey};
 ghost use Rattle.wild_sections.specs.DefiningFiles.{layout_needs_owner_files};
-ghost use Rattle.wild_layout.specs.Image.{padding, bytes, counts};
+ghost use Rattle.wild_layout.specs.Image.{bytes, counts};
 ghost use Rattle.wild_layout.specs.Warnings.{warnings};
 ghost use Rattle.wild_layout.specs.Faults.{clause_errors, flat_map_from, part_errors, group_errors, errors};
 ghost use Rattle.wild_layout.specs.Geometry.{IsLaidOut};
@@ -18,7 +18,7 @@ use crate::batch::{Batch, batch_size, batches_of};
 use crate::group_writer::{GroupWriter, ImageWriter};
 use crate::job::{GroupJob, Outcome};
 use crate::layout_facts::LayoutFacts;
-use crate::padding::padded_image;
+use crate::padding::padded_prefix;
 use crate::shares::{check_shares_in, first_has_all};
 use std::alloc::{AllocError, Global};
 use wild_clauses::{LayoutSurvey, well_formed_with};
@@ -32,7 +32,7 @@ use wild_sections::{Resolved, SymbolTables};
 use wild_types::{At, EntryWarning, Error, Fault, Layout, Machine};
 use wild_words::{Bytes, Items};
 
-/// An image, its warnings, and the number of relocations read for each section.
+/// An image or its first bytes, its warnings, and the number of relocations read for each section.
 #[derive(Drop)]
 pub struct SizedOutput {
     pub out: Bytes,
@@ -67,36 +67,38 @@ fn warnings_of(alloc: Global, layout: &Layout) -> Result<Items<EntryWarning>, Al
     }
 }
 
-/// Writes all bytes of an image, or returns the first fault of the groups.
+/// The first `size` bytes of the image, or the first fault of the groups.
 fn write_bytes<A: Arch>(
+    alloc: Global,
     layout: &Layout,
     batches: &[Batch],
     outcomes: &[Outcome],
-    starts: &mut [u64],
-    out: &mut [u8],
-) -> Result<(), Error>
+    size: u64,
+) -> Result<Vec<u8>, Error>
     requires machine { layout.now.machine ≡ A.machine }
     requires laid_out { IsLaidOut layout.now }
-    requires starts { starts.old ≡ replicate (length layout.now.parts) 0 }
     requires few { length layout.now.groups < 2 ^ 32 }
     requires batches { AreBatches layout.now.groups batches.now }
     requires count { length outcomes.now ≡ length batches.now }
     requires each { (i : ℕ) (o : Outcome) → slice_get outcomes.now i ≡ Some o → GivesBatch layout.now batches.now i o.bytes }
-    requires padding { out.old ≡ padding layout.now }
     ensures faults { Answers result (flat_map_from (group_errors layout.now) 0 layout.now.groups) }
-    ensures image { OnOk result (out.new ≡ bytes layout.now) }
+    ensures image { IfOk result (λ v. v.items ≡ take size (bytes layout.now)) }
 {
-    append_all(layout, batches, outcomes, starts, out)
+    let mut starts = vec![in alloc; 0u64; layout.parts.len()]?;
+    let mut out = padded_prefix(alloc, layout, size)?;
+    append_all(layout, batches, outcomes, &mut starts, &mut out)?;
+    Ok(out)
 }
 
-/// Writes the image of a layout whose clauses hold and whose shares are correct, or returns its first fault. `facts` have
-/// been computed by the caller.
+/// Writes the first `size` bytes of the image of a layout whose clauses hold and whose shares are correct, or returns its first fault.
+/// `facts` have been computed by the caller.
 fn write_resolved<A: Arch, G: Gate, E: GroupWriter<A, G>>(
     executor: &E,
     alloc: Global,
     resolved: &Resolved<A>,
     facts: LayoutFacts,
     workers: u8,
+    size: u64,
     gate: &G,
 ) -> Result<SizedOutput, Error>
     requires ready { E.ready executor.now }
@@ -107,7 +109,7 @@ fn write_resolved<A: Arch, G: Gate, E: GroupWriter<A, G>>(
     requires laid_out { IsLaidOut resolved.now.layout.now }
     requires few { relocation_count resolved.now.layout.now < 2 ^ 64 }
     ensures faults { Answers result (flat_map_from (group_errors resolved.now.layout.now) 0 resolved.now.layout.now.groups) }
-    ensures image { IfOk result (λ o. o.out ≡ bytes resolved.now.layout.now) }
+    ensures image { IfOk result (λ o. o.out ≡ take size (bytes resolved.now.layout.now)) }
     ensures warnings { IfOk result (λ o. o.warnings ≡ warnings resolved.now.layout.now) }
     ensures counts { IfOk result (λ o. o.counts ≡ counts resolved.now.layout.now) }
 {
@@ -130,10 +132,8 @@ fn write_resolved<A: Arch, G: Gate, E: GroupWriter<A, G>>(
     };
     let sections = layout.sections.len() as u32;
     let gathered = executor.gather_batches(alloc, &job, sections, u32::from(workers), gate)?;
-    let mut starts = vec![in alloc; 0u64; layout.parts.len()]?;
-    let mut out = padded_image(alloc, layout)?;
     let pieces = gathered.pieces.as_slice();
-    write_bytes::<A>(layout, batches, pieces, &mut starts, &mut out)?;
+    let out = write_bytes::<A>(alloc, layout, batches, pieces, size)?;
     let warnings = warnings_of(alloc, layout)?;
     Ok(SizedOutput {
         out: Bytes::from_vec(out),
@@ -142,8 +142,8 @@ fn write_resolved<A: Arch, G: Gate, E: GroupWriter<A, G>>(
     })
 }
 
-/// Writes the image of a layout whose clauses hold and whose shares are correct, or returns its first fault. `facts`
-/// have been computed by the caller; `needs_owner_files` is set if relocations depend on the file that defines a symbol.
+/// Writes the first `size` bytes of the image of a layout whose clauses hold and whose shares are correct, or returns its first fault.
+/// `facts` have been computed by the caller; `needs_owner_files` is set if relocations depend on the file that defines a symbol.
 fn write_laid_out<A: Arch, G: Gate, E: GroupWriter<A, G>>(
     executor: &E,
     alloc: Global,
@@ -151,6 +151,7 @@ fn write_laid_out<A: Arch, G: Gate, E: GroupWriter<A, G>>(
     facts: LayoutFacts,
     needs_owner_files: bool,
     workers: u8,
+    size: u64,
     gate: &G,
 ) -> Result<SizedOutput, Error>
     requires ready { E.ready executor.now }
@@ -163,13 +164,54 @@ fn write_laid_out<A: Arch, G: Gate, E: GroupWriter<A, G>>(
     requires laid_out { IsLaidOut layout.now }
     requires few { relocation_count layout.now < 2 ^ 64 }
     ensures faults { Answers result (flat_map_from (group_errors layout.now) 0 layout.now.groups) }
-    ensures image { IfOk result (λ o. o.out ≡ bytes layout.now) }
+    ensures image { IfOk result (λ o. o.out ≡ take size (bytes layout.now)) }
     ensures warnings { IfOk result (λ o. o.warnings ≡ warnings layout.now) }
     ensures counts { IfOk result (λ o. o.counts ≡ counts layout.now) }
 {
     let symbols = SymbolTables::with_survey(alloc, layout, needs_owner_files)?;
     let resolved = Resolved::<A>::new(layout, &symbols);
-    write_resolved(executor, alloc, &resolved, facts, workers, gate)
+    write_resolved(executor, alloc, &resolved, facts, workers, size, gate)
+}
+
+/// Writes the first `size` bytes of the image of a layout, or returns its first fault. `workers` workers share the work; each enters the
+/// gate before each batch of groups.
+fn write_prefix_gated<A: Arch, G: Gate, E: GroupWriter<A, G>>(
+    executor: &E,
+    alloc: Global,
+    layout: &Layout,
+    workers: u8,
+    size: u64,
+    gate: &G,
+) -> Result<SizedOutput, Error>
+    requires ready { E.ready executor.now }
+    requires machine { layout.now.machine ≡ A.machine }
+    requires workers { (1 ≤ workers) × (workers ≤ 64) }
+    ensures faults { Answers result (errors layout.now) }
+    ensures image { IfOk result (λ o. o.out ≡ take size (bytes layout.now)) }
+    ensures warnings { IfOk result (λ o. o.warnings ≡ warnings layout.now) }
+    ensures counts { IfOk result (λ o. o.counts ≡ counts layout.now) }
+    ensures fits { IfOk result (λ _. length (bytes layout.now) ≤ 2 ^ 62) }
+{
+    let seen = LayoutSurvey::of(layout);
+    check_clauses(layout, seen)?;
+    let facts = LayoutFacts::of(
+        layout,
+        seen.inner_groups_need_no_tables,
+        first_has_all(layout),
+    );
+    check_shares_in(layout, facts)?;
+    layouts_are_laid_out();
+    let needs_owner_files = layout.kind.is_partial_link() || !seen.unmerged;
+    write_laid_out::<A, G, E>(
+        executor,
+        alloc,
+        layout,
+        facts,
+        needs_owner_files,
+        workers,
+        size,
+        gate,
+    )
 }
 
 /// Writes the image of a layout, or returns its first fault. `workers` workers share the work; each enters the gate before each batch
@@ -189,25 +231,26 @@ pub fn write_gated<A: Arch, G: Gate, E: GroupWriter<A, G>>(
     ensures warnings { IfOk result (λ o. o.warnings ≡ warnings layout.now) }
     ensures counts { IfOk result (λ o. o.counts ≡ counts layout.now) }
 {
-    let seen = LayoutSurvey::of(layout);
-    check_clauses(layout, seen)?;
-    let facts = LayoutFacts::of(
-        layout,
-        seen.inner_groups_need_no_tables,
-        first_has_all(layout),
-    );
-    check_shares_in(layout, facts)?;
-    layouts_are_laid_out();
-    let needs_owner_files = layout.kind.is_partial_link() || !seen.unmerged;
-    write_laid_out::<A, G, E>(
-        executor,
-        alloc,
-        layout,
-        facts,
-        needs_owner_files,
-        workers,
-        gate,
-    )
+    write_prefix_gated::<A, G, E>(executor, alloc, layout, workers, u64::MAX, gate)
+}
+
+/// Writes the first `size` bytes of the image of a layout, or returns its first fault. `workers` workers share the work.
+pub fn write_prefix<A: Arch, E: GroupWriter<A, OpenGate>>(
+    executor: &E,
+    alloc: Global,
+    layout: &Layout,
+    workers: u8,
+    size: u64,
+) -> Result<SizedOutput, Error>
+    requires ready { E.ready executor.now }
+    requires machine { layout.now.machine ≡ A.machine }
+    requires workers { (1 ≤ workers) × (workers ≤ 64) }
+    ensures faults { Answers result (errors layout.now) }
+    ensures image { IfOk result (λ o. o.out ≡ take size (bytes layout.now)) }
+    ensures warnings { IfOk result (λ o. o.warnings ≡ warnings layout.now) }
+    ensures counts { IfOk result (λ o. o.counts ≡ counts layout.now) }
+{
+    write_prefix_gated::<A, OpenGate, E>(executor, alloc, layout, workers, size, &OpenGate)
 }
 
 /// Writes the image of a layout, or returns its first fault. `workers` workers share the work.

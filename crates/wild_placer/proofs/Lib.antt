@@ -6,3 +6,6 @@ pub mod PlacedLemmas
 pub mod PlaceLemmas
 pub mod LawLemmas
 pub mod RefusalLemmas
+pub mod PrefixLemmas
+pub mod PlainLemmas
+pub mod PlainLayoutLemmas

@@ -1,6 +1,6 @@
 -- What a call of the placer answers, by the answers of the writer and of the loader.
-use Rattle.std.proofs.Common.{◌≡◌, List, [], ◌∷◌, refl, sym, ap, subst, ◌∙◌}
-use Rattle.std.specs.Prelude.{Result, Ok, Err}
+use Rattle.std.proofs.Common.{◌≡◌, ℕ, ◌≤◌, Bool, true, false, List, [], ◌∷◌, take, refl, sym, ap, subst, ◌∙◌}
+use Rattle.std.specs.Prelude.{Option, Some, None, Result, Ok, Err}
 use Rattle.wild_types.specs.declared.fault.Error.{Error}
 use Rattle.wild_types.specs.declared.fault.Fault.{Fault}
 use Rattle.wild_types.specs.declared.fault.Fault.TheVariants as write_faults
@@ -14,8 +14,12 @@ use Rattle.wild_loader.specs.declared.memory.Memory.{Memory}
 use Rattle.wild_loader.specs.declared.world.World.{World}
 use Rattle.wild_loader.specs.Load.{load}
 use Rattle.wild_loader.specs.Outcome.{Fails as LoaderFails}
+use Rattle.wild_placer.specs.declared.fault.PlaceFault.{PlaceFault}
 use Rattle.wild_placer.specs.declared.fault.PlaceFault.TheVariants as faults
-use Rattle.wild_placer.specs.Place.{first_fault_or, layout_memory, Fails, write_fault_by, write_fault, load_fault}
+use Rattle.wild_placer.specs.Place.{first_fault_or, layout_memory, Fails, write_fault_by, write_fault, load_fault, fault_of_prefix}
+use Rattle.wild_placer.specs.Plain.{load_plain, load_by}
+use Rattle.wild_placer.proofs.PrefixLemmas.{Agrees, load_agrees, loaded_by}
+use Rattle.wild_placer.proofs.PlainLemmas.{plain_agrees}
 
 value_of : {A E : Type 0} → A → Result A E → A
 value_of d (Ok x) = x
@@ -84,6 +88,51 @@ not_loaded_by (load_faults.Overlap a) r h = ap (λ (x : Result Memory LoadFault)
 pub not_loaded : (l : Layout) (w : World) (f : LoadFault) → errors l ≡ [] → LoaderFails f (load w (bytes l)) → Fails (load_fault f) (layout_memory l w)
 unfolding layout_memory
 not_loaded l w f none h = subst (λ (es : List Error). Fails (load_fault f) (first_fault_or es (load w (bytes l)))) (sym none) (not_loaded_by f (load w (bytes l)) h)
+
+-- ---- by the first bytes of the image
+
+-- the loading of a plain layout's image, or of any image
+IsLoadedBy : Layout → World → Bool → Type 0
+IsLoadedBy l w plain = plain ≡ true → load w (bytes l) ≡ load_plain w (bytes l)
+
+abbrev Front : Layout → World → Bool → ℕ → Result Memory LoadFault
+Front l w plain n = load_by plain w (take n (bytes l))
+
+front_agrees : (l : Layout) (w : World) (plain : Bool) (n : ℕ) → 64 ≤ n → IsLoadedBy l w plain → Agrees (Front l w plain n) (load w (bytes l))
+unfolding IsLoadedBy
+front_agrees l w true n least by_segments = subst (λ (r : Result Memory LoadFault). Agrees (load_plain w (take n (bytes l))) r) (sym (by_segments refl)) (plain_agrees w n (bytes l) least)
+front_agrees l w false n least by_segments = load_agrees w n (bytes l) least
+
+-- what these bytes give is the memory
+pub prefix_placed : (l : Layout) (w : World) (plain : Bool) (n : ℕ) (m : Memory) → errors l ≡ [] → 64 ≤ n → (plain ≡ true → load w (bytes l) ≡ load_plain w (bytes l)) → load_by plain w (take n (bytes l)) ≡ Ok m → layout_memory l w ≡ Ok m
+unfolding IsLoadedBy
+prefix_placed l w plain n m none least by_segments is = is_placed l w m none (loaded_by (Front l w plain n) (load w (bytes l)) (Ok m) (front_agrees l w plain n least by_segments) is (λ o e. no_error (load_faults.Cut o) m (sym e)))
+
+some_same : {X : Type 0} (x y : X) → ◌≡◌ {A = Option X} (Some x) (Some y) → x ≡ y
+some_same x y e = cc
+
+-- or the fault, unless they end too early
+pub prefix_not_loaded : (l : Layout) (w : World) (plain : Bool) (n : ℕ) (f : LoadFault) (g : PlaceFault) → errors l ≡ [] → 64 ≤ n → (plain ≡ true → load w (bytes l) ≡ load_plain w (bytes l)) → LoaderFails f (load_by plain w (take n (bytes l))) → fault_of_prefix f ≡ Some g → Fails g (layout_memory l w)
+unfolding layout_memory IsLoadedBy
+prefix_not_loaded l w plain n f g none least by_segments h is = by f h is
+  where
+    other : (f : LoadFault) → Front l w plain n ≡ Err f → ((o : ℕ) → ◌≡◌ {A = Result Memory LoadFault} (Err f) (Err (load_faults.Cut o)) → ⊥) → ◌≡◌ {A = Option PlaceFault} (Some (faults.Load f)) (Some g) → Fails g (layout_memory l w)
+    other f h not_cut is =
+        let same = loaded_by (Front l w plain n) (load w (bytes l)) (Err f) (front_agrees l w plain n least by_segments) h not_cut in
+        let answer : layout_memory l w ≡ Err (faults.Load f) = ap (λ (es : List Error). first_fault_or es (load w (bytes l))) none ∙ ap (λ (r : Result Memory LoadFault). first_fault_or [] r) same in
+        subst (λ (x : PlaceFault). Fails x (layout_memory l w)) (some_same (faults.Load f) g is) answer
+
+    by : (f : LoadFault) → LoaderFails f (Front l w plain n) → fault_of_prefix f ≡ Some g → Fails g (layout_memory l w)
+    by load_faults.OutOfMemory h is = subst (λ (x : PlaceFault). Fails x (layout_memory l w)) (some_same faults.OutOfMemory g is) tt
+    by load_faults.NotElf h is = other load_faults.NotElf h (λ o e. cc) is
+    by (load_faults.Cut o) h is = cc
+    by (load_faults.NoTable t) h is = other (load_faults.NoTable t) h (λ o e. cc) is
+    by (load_faults.UnknownDynamic k) h is = other (load_faults.UnknownDynamic k) h (λ o e. cc) is
+    by (load_faults.UnknownSymbol i) h is = other (load_faults.UnknownSymbol i) h (λ o e. cc) is
+    by (load_faults.NoAnswer v) h is = other (load_faults.NoAnswer v) h (λ o e. cc) is
+    by (load_faults.Unloaded a) h is = other (load_faults.Unloaded a) h (λ o e. cc) is
+    by (load_faults.Wraps a) h is = other (load_faults.Wraps a) h (λ o e. cc) is
+    by (load_faults.Overlap a) h is = other (load_faults.Overlap a) h (λ o e. cc) is
 
 -- the other way round
 pub record HasMemory (l : Layout) (w : World) (m : Memory) : Type 0 where

@@ -1,16 +1,20 @@
 -- What placed memories have.
 --   PlacementsAreSound   the memory of a layout in a legal world is linked
 --   PlacedRunsAreSeparate  no two runs of it share an address
-use Rattle.std.specs.Prelude.{◌≡◌, Ok, None}
+--   PlainLayoutsAreLoaded  the memory of a plain layout is that of its segments
+use Rattle.std.specs.Prelude.{◌≡◌, true, [], Ok, None}
 use Rattle.wild_types.specs.declared.layout.Layout.{Layout}
 use Rattle.wild_types.specs.ResolvedFlags.{HaveTheirFlags}
+use Rattle.wild_layout.specs.Faults.{errors}
 use Rattle.wild_layout.specs.Image.{bytes}
 use Rattle.wild_layout.specs.Numbers.{NumbersFit}
 use Rattle.wild_loader.specs.declared.memory.Memory.{Memory}
 use Rattle.wild_loader.specs.declared.world.World.{World}
+use Rattle.wild_loader.specs.Load.{load}
 use Rattle.wild_loader.specs.Runs.{least_shared}
 use Rattle.wild_meaning.specs.World.{IsLoadable, IsLegal}
 use Rattle.wild_meaning.specs.LinkedImage.{IsLinked}
+use Rattle.wild_placer.specs.Plain.{load_plain, is_plain}
 use Rattle.wild_placer.specs.Place.{layout_memory}
 
 -- memory has what the output requires: each reference of a kept item holds, and every other byte is as it should be
@@ -25,3 +29,7 @@ PlacementsAreSound = (l : Layout) (w : World) (m : Memory) → NumbersFit l → 
 -- no two runs of a placed memory share an address, in any world
 abbrev pub PlacedRunsAreSeparate : Type 0
 PlacedRunsAreSeparate = (l : Layout) (w : World) (m : Memory) → layout_memory l w ≡ Ok m → least_shared m.runs ≡ None
+
+-- the memory that the loader makes of the image of a plain layout is that of its segments, in any world
+abbrev pub PlainLayoutsAreLoaded : Type 0
+PlainLayoutsAreLoaded = (l : Layout) (w : World) → NumbersFit l → errors l ≡ [] → is_plain l ≡ true → load w (bytes l) ≡ load_plain w (bytes l)

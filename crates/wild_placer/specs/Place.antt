@@ -1,7 +1,7 @@
 -- The memory of a layout in a world.
 --   layout_memory l w          the memory that the loader makes of the layout's image, or the first fault
 --   Gives result read   the call answers that, unless it runs out of memory
-use Rattle.std.specs.Prelude.{◌≡◌, List, [], ◌∷◌, Result, Ok, Err}
+use Rattle.std.specs.Prelude.{◌≡◌, List, [], ◌∷◌, Option, Some, None, Result, Ok, Err}
 use Rattle.wild_types.specs.declared.fault.Error.{Error}
 use Rattle.wild_types.specs.declared.fault.Fault.{Fault}
 use Rattle.wild_types.specs.declared.fault.Fault.TheVariants as write_faults
@@ -48,3 +48,8 @@ write_fault e = write_fault_by e.fault e
 abbrev pub load_fault : LoadFault → PlaceFault
 load_fault load_faults.OutOfMemory = faults.OutOfMemory
 load_fault fault = faults.Load fault
+
+-- the loader's fault in the first bytes of an image, as one of the placer, unless it says that these bytes end too early
+abbrev pub fault_of_prefix : LoadFault → Option PlaceFault
+fault_of_prefix (load_faults.Cut o) = None
+fault_of_prefix fault = Some (load_fault fault)

@@ -4,11 +4,12 @@ use crate::plans::{changed_layout, image_of};
 use std::alloc::Global;
 use std::test::*;
 use std::thread::Threads;
-use wild_image::{ElfX86_64, Threaded};
-use wild_loader::{LoadFault, Memory, load_image};
+use wild_image::{ElfX86_64, Threaded, write_prefix};
+use wild_loader::{Answer, LoadFault, Memory, World, load_image};
 use wild_placer::{PlaceFault, Placed, place_code};
-use wild_tests_plans::{PACKED, RELOCATABLE, SLOTTED, WIDE};
+use wild_tests_plans::{DEBUGGED, PACKED, PROGRAM, RELOCATABLE, SLOTTED, WIDE};
 use wild_types::Fault;
+use wild_words::Bytes;
 
 /// Whether two memories have the same runs.
 fn has_same_runs(left: &Memory, right: &Memory) -> bool {
@@ -27,7 +28,8 @@ fn has_same_runs(left: &Memory, right: &Memory) -> bool {
 }
 
 /// Plans with bases.
-const PLACES: [(&'static str, u64); 4] = [
+const PLACES: [(&'static str, u64); 5] = [
+    (DEBUGGED, 0),
     (WIDE, 0),
     (WIDE, 0x10_0000),
     (PACKED, 0),
@@ -54,7 +56,39 @@ fn memory_of_a_layout(rt: HostRuntime) -> Result<(), Fail> {
     Ok(())
 }
 
+/// The first bytes of an image, fewer than it has and more.
+#[test]
+fn first_bytes(rt: HostRuntime) -> Result<(), Fail> {
+    let alloc = rt.alloc();
+    let layout = changed_layout(alloc, PROGRAM, &[])?;
+    let image = image_of(&rt, alloc, PROGRAM, &[])?;
+    let all = image.len();
+    for size in [0, 1, 63, 0x158, all.saturating_sub(1), all, usize::MAX] {
+        let executor = Threaded(&rt);
+        let output = write_prefix::<ElfX86_64, _>(&executor, alloc, &layout, 1, size as u64)
+            .ok()
+            .ok_or("written")?;
+        assert!(rt;
+            output.out.as_slice() == &image.as_slice()[..size.min(all)],
+            "{size}"
+        );
+    }
+    Ok(())
+}
+
 /// The fault of a plan with changes in a world.
+fn fault_in(
+    rt: &(impl Threads + Sync),
+    alloc: Global,
+    plan: &str,
+    changes: &[(&str, &str)],
+    world: &World,
+) -> Result<Option<PlaceFault>, Fail> {
+    let layout = changed_layout(alloc, plan, changes)?;
+    Ok(place_code::<ElfX86_64, _>(&Threaded(rt), alloc, &layout, world, 1).err())
+}
+
+/// The same in a world with a base alone.
 fn fault_of(
     rt: &(impl Threads + Sync),
     alloc: Global,
@@ -62,9 +96,7 @@ fn fault_of(
     changes: &[(&str, &str)],
     base: u64,
 ) -> Result<Option<PlaceFault>, Fail> {
-    let layout = changed_layout(alloc, plan, changes)?;
-    let world = world(alloc, base, &[])?;
-    Ok(place_code::<ElfX86_64, _>(&Threaded(rt), alloc, &layout, &world, 1).err())
+    fault_in(rt, alloc, plan, changes, &world(alloc, base, &[])?)
 }
 
 /// A fault of the layout comes before one of the loader.
@@ -90,6 +122,43 @@ fn faults_in_order(rt: HostRuntime) -> Result<(), Fail> {
     assert!(rt; matches!(fault, Some(PlaceFault::Load(LoadFault::NotElf))));
     let fault = fault_of(&rt, alloc, SLOTTED, &[], 0)?;
     assert!(rt; matches!(fault, Some(PlaceFault::Load(LoadFault::NoAnswer { .. }))));
+    Ok(())
+}
+
+/// A world with so many bytes of a copied symbol.
+fn with_copied(alloc: Global, size: usize) -> Result<World, Fail> {
+    let mut world = world(alloc, 0, &[])?;
+    let bytes = vec![in alloc; 0u8; size]?;
+    world.symbols.push(Answer {
+        address: 0x2158,
+        module: 2,
+        offset: 0,
+        size: 8,
+        bytes: Bytes::from_vec(bytes),
+    })?;
+    Ok(world)
+}
+
+/// A world without an answer for symbol 2, which is copied; and worlds that have 8 bytes for it, and more than there is room for.
+#[test]
+fn answers_for_a_copy(rt: HostRuntime) -> Result<(), Fail> {
+    let alloc = rt.alloc();
+    let fault = fault_of(&rt, alloc, PROGRAM, &[], 0)?;
+    assert!(rt;
+        matches!(
+            fault,
+            Some(PlaceFault::Load(LoadFault::UnknownSymbol { index: 2 }))
+        )
+    );
+    let fault = fault_in(&rt, alloc, PROGRAM, &[], &with_copied(alloc, 8)?)?;
+    assert!(rt; fault.is_none());
+    let fault = fault_in(&rt, alloc, PROGRAM, &[], &with_copied(alloc, 0x2000)?)?;
+    assert!(rt;
+        matches!(
+            fault,
+            Some(PlaceFault::Load(LoadFault::Unloaded { address: 0x2160 }))
+        )
+    );
     Ok(())
 }
 

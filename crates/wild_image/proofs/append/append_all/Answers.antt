@@ -5,7 +5,7 @@ use Rattle.wild_types.specs.declared.file.Group.{Group}
 use Rattle.wild_image.specs.declared.job.Outcome.{Outcome}
 use Rattle.wild_image.specs.Append.{FileLies}
 use Rattle.wild_image.specs.Batches.{batch_errors, batch_pieces}
-use Rattle.wild_sections.proofs.PieceLemmas.{overlay_read}
+use Rattle.wild_image.proofs.PrefixLemmas.{overlay_prefix_read}
 use Rattle.wild_sections.proofs.FaultLemmas.{none_more, refuses_read}
 use Rattle.wild_image.proofs.JobLemmas.{bytes_given, fault_given}
 use Rattle.wild_image.proofs.TableLemmas.{starts_at_first}
@@ -75,6 +75,6 @@ loop-i-preserved c =
     let given = c.requires.each i c.index-outcomes-i.result (slice_get_read c.args.outcomes.now (length c.args.outcomes.now) i c.index-outcomes-i.result (search rules) (omega arith) c.index-outcomes-i.is) in
     let p = bytes_given l bs i b c.index-outcomes-i.result.bytes c.in-Ok.bytes given at (ap (λ (o : Outcome). o.bytes) c.index-outcomes-i.is ∙ c.in-Ok.is) in (
       none_more (batch_errors l) bs i b c.loop-i-test.true c.loop-i.invariant.0 (ap (batch_errors l) (sym c.index-batches-i.is) ∙ p.0),
-      overlay_read (batch_pieces l) bs i b c.args.out.now c.loop-i.out c.append_batch.new.out c.loop-i-test.true c.index-batches-i.is c.loop-i.invariant.1 c.append_batch.ensures.image,
+      overlay_prefix_read (batch_pieces l) bs i b c.args.out.now c.loop-i.out c.append_batch.new.out c.loop-i-test.true c.index-batches-i.is c.loop-i.invariant.1 c.append_batch.ensures.image,
       next_more l bs i b c.loop-i.starts c.append_batch.new.starts c.loop-i-test.true c.index-batches-i.is c.loop-i.invariant.2 c.append_batch.ensures.starts,
     )

@@ -1,6 +1,6 @@
 use Rattle.std.proofs.Common.{◌≡◌, [], take}
 use Rattle.std.specs.List.{flat_map}
-use Rattle.wild_words.specs.Overlay.{overlay}
+use Rattle.wild_image.specs.Prefix.{overlay_prefix}
 use Rattle.wild_image.specs.Batches.{batch_errors, batch_pieces}
 use Rattle.wild_image.proofs.BatchLemmas.{IsNext}
 use Rattle.wild_image.proofs.append.append_all.Given as goal
@@ -8,5 +8,5 @@ use Rattle.wild_image.proofs.append.append_all.Given as goal
 abbrev pub invariant-loop-i : goal.invariant-loop-i
 invariant-loop-i l =
     (flat_map (batch_errors l.layout) (take l.i l.batches) ≡ [])
-    × (l.out ≡ overlay (flat_map (batch_pieces l.layout) (take l.i l.batches)) l.initial.out)
+    × (l.out ≡ overlay_prefix (flat_map (batch_pieces l.layout) (take l.i l.batches)) l.initial.out)
     × IsNext l.layout l.batches l.i l.starts

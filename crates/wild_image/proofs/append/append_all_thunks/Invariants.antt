@@ -1,6 +1,6 @@
 use Rattle.std.proofs.Common.{◌≡◌, take}
 use Rattle.std.specs.List.{flat_map}
-use Rattle.wild_words.specs.Overlay.{overlay}
+use Rattle.wild_image.specs.Prefix.{overlay_prefix}
 use Rattle.wild_layout.specs.Thunks.{thunk_bytes}
 use Rattle.wild_layout.specs.Image.{thunk_piece}
 use Rattle.wild_image.proofs.AppendLemmas.{IsPlacedAfter}
@@ -8,5 +8,5 @@ use Rattle.wild_image.proofs.append.append_all_thunks.Given as goal
 
 abbrev pub invariant-loop-thunk : goal.invariant-loop-thunk
 invariant-loop-thunk l =
-    (l.out ≡ overlay (flat_map (thunk_piece l.layout) (take l.thunk-index l.thunk-items)) l.initial.out)
+    (l.out ≡ overlay_prefix (flat_map (thunk_piece l.layout) (take l.thunk-index l.thunk-items)) l.initial.out)
     × IsPlacedAfter (thunk_bytes l.layout) l.thunk-items l.bytes l.rest l.thunk-index

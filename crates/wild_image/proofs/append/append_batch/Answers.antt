@@ -1,14 +1,15 @@
 use Rattle.std.proofs.Common.{◌≡◌, ◌+◌, List, length, arith, rules, sym, ap, ◌∙◌, subst}
 use Rattle.std.specs.Prelude.{All, slice_get, Some, ℕ}
 use Rattle.std.proofs.lemmas.Option.{slice_get_read}
-use Rattle.wild_words.specs.Overlay.{Piece, overlay}
+use Rattle.wild_words.specs.Overlay.{Piece}
+use Rattle.wild_image.specs.Prefix.{overlay_prefix}
 use Rattle.wild_types.specs.declared.file.Group.{Group}
 use Rattle.wild_layout.specs.Image.{table_pieces, owned_pieces, group_pieces}
 use Rattle.wild_image.specs.Append.{HasStarts, FileLies}
 use Rattle.wild_image.specs.Pieces.{group_tables, group_files}
-use Rattle.wild_sections.proofs.PieceLemmas.{overlay-append}
+use Rattle.wild_image.proofs.PrefixLemmas.{overlay_prefix-append}
 use Rattle.wild_image.proofs.AppendLemmas.{begins_all, next_begins, stands_more}
-use Rattle.wild_image.proofs.BatchLemmas.{overlay_behind}
+use Rattle.wild_image.proofs.BatchLemmas.{overlay_prefix_behind}
 use Rattle.wild_image.proofs.StandingLemmas.{pieces_of_group}
 use Rattle.wild_image.proofs.append.append_batch.Goals as goal
 
@@ -39,13 +40,13 @@ loop-i-preserved c =
     let g = c.group-item.result in
     let tables = table_pieces l (n + i) g in
     let next : n + i + 1 ≡ n + (i + 1) = omega arith in
-    let image : c.append_files-files.new.out ≡ overlay (group_pieces l (n + i) g) c.loop-i.out =
+    let image : c.append_files-files.new.out ≡ overlay_prefix (group_pieces l (n + i) g) c.loop-i.out =
     c.append_files-files.ensures.image
-    ∙ ap (λ (ps : List Piece). overlay ps c.append_tables-tables.new.out) (sym (pieces_of_group l g))
-    ∙ ap (overlay (owned_pieces l g)) c.append_tables-tables.ensures.image
-    ∙ sym (overlay-append tables (owned_pieces l g) c.loop-i.out) in
+    ∙ ap (λ (ps : List Piece). overlay_prefix ps c.append_tables-tables.new.out) (sym (pieces_of_group l g))
+    ∙ ap (overlay_prefix (owned_pieces l g)) c.append_tables-tables.ensures.image
+    ∙ sym (overlay_prefix-append tables (owned_pieces l g) c.loop-i.out) in
     record {
-      image = overlay_behind (group_pieces l) n i gs g c.args.out.now c.loop-i.out c.append_files-files.new.out c.loop-i-test.true c.group-item.is c.loop-i.invariant.image image;
+      image = overlay_prefix_behind (group_pieces l) n i gs g c.args.out.now c.loop-i.out c.append_files-files.new.out c.loop-i-test.true c.group-item.is c.loop-i.invariant.image image;
       tables = stands_more (group_tables l) gs i g c.args.bytes.now.tables c.loop-i.tables.now c.append_tables-tables.result.now c.loop-i-test.true c.group-item.is c.loop-i.invariant.tables c.append_tables-tables.ensures.rest;
       files = stands_more (group_files l) gs i g c.args.bytes.now.files c.loop-i.files.now c.append_files-files.result.now c.loop-i-test.true c.group-item.is c.loop-i.invariant.files c.append_files-files.ensures.rest;
       starts = subst (λ (k : ℕ). HasStarts l k c.append_tables-tables.new.starts) next c.append_tables-tables.ensures.starts;

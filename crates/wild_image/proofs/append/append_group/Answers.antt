@@ -1,7 +1,8 @@
 use Rattle.std.proofs.Common.{List, sym, ap, ◌∙◌}
-use Rattle.wild_words.specs.Overlay.{Piece, overlay}
+use Rattle.wild_words.specs.Overlay.{Piece}
+use Rattle.wild_image.specs.Prefix.{overlay_prefix}
 use Rattle.wild_layout.specs.Image.{table_pieces, owned_pieces}
-use Rattle.wild_sections.proofs.PieceLemmas.{overlay-append}
+use Rattle.wild_image.proofs.PrefixLemmas.{overlay_prefix-append}
 use Rattle.wild_image.proofs.AppendLemmas.{begins_all}
 use Rattle.wild_image.proofs.StandingLemmas.{pieces_of_group}
 use Rattle.wild_image.proofs.append.append_group.Goals as goal
@@ -17,6 +18,6 @@ returns c =
     let l = c.args.layout.now in
     let g = c.args.group.now in
     c.append_files.ensures.image
-    ∙ ap (λ (ps : List Piece). overlay ps c.append_tables.new.out) (sym (pieces_of_group l g))
-    ∙ ap (overlay (owned_pieces l g)) c.append_tables.ensures.image
-    ∙ sym (overlay-append (table_pieces l c.args.index g) (owned_pieces l g) c.args.out.now)
+    ∙ ap (λ (ps : List Piece). overlay_prefix ps c.append_tables.new.out) (sym (pieces_of_group l g))
+    ∙ ap (overlay_prefix (owned_pieces l g)) c.append_tables.ensures.image
+    ∙ sym (overlay_prefix-append (table_pieces l c.args.index g) (owned_pieces l g) c.args.out.now)

@@ -1,5 +1,6 @@
 use Rattle.std.proofs.Common.{◌∙◌, List, ℕ, ap, sym, subst}
-use Rattle.wild_words.specs.Overlay.{Piece, overlay}
+use Rattle.wild_words.specs.Overlay.{Piece}
+use Rattle.wild_image.specs.Prefix.{overlay_prefix}
 use Rattle.wild_layout.specs.Image.{front_piece}
 use Rattle.wild_image.specs.Append.{SomeLies}
 use Rattle.wild_image.proofs.AppendLemmas.{cut_off}
@@ -16,7 +17,7 @@ put_front-requires-clause-lies c =
 pub returns-clause-image : goal.returns-clause-image
 returns-clause-image c =
     let cut = cut_off c.args.layout.now.identity.bytes c.args.bytes.now _ (sym c.len.ensures) c.requires.own in
-    c.put_front.ensures ∙ ap (λ (own : List ℕ). overlay (front_piece c.args.layout.now c.args.layout.now.identity.part own) c.args.out.now) (c.split_at.ensures.front ∙ cut.front)
+    c.put_front.ensures ∙ ap (λ (own : List ℕ). overlay_prefix (front_piece c.args.layout.now c.args.layout.now.identity.part own) c.args.out.now) (c.split_at.ensures.front ∙ cut.front)
 
 pub returns-clause-rest : goal.returns-clause-rest
 returns-clause-rest c =

@@ -1,10 +1,10 @@
 use Rattle.std.proofs.Common.{◌∙◌, sym, ap}
 use Rattle.std.specs.List.{flat_map}
-use Rattle.wild_words.specs.Overlay.{overlay}
+use Rattle.wild_image.specs.Prefix.{overlay_prefix}
 use Rattle.wild_layout.specs.Image.{merged_bytes, front_piece}
 use Rattle.wild_image.specs.Owners.{merged_piece}
 use Rattle.wild_image.proofs.AppendLemmas.{both_begin, both_go_on, both_end}
-use Rattle.wild_sections.proofs.PieceLemmas.{overlay-append}
+use Rattle.wild_image.proofs.PrefixLemmas.{overlay_prefix-append}
 use Rattle.wild_image.proofs.append.append_merged_and_identity.Goals as goal
 
 pub append_strings-rest-requires-clause-own : goal.append_strings-rest-requires-clause-own
@@ -15,6 +15,6 @@ append_identity-requires-clause-own c = both_go_on (flat_map merged_bytes c.args
 
 pub returns : goal.returns
 returns c = record {
-  image = c.append_identity.ensures.image ∙ ap (overlay (front_piece c.args.layout.now c.args.layout.now.identity.part c.args.layout.now.identity.bytes)) c.append_strings-rest.ensures.image ∙ sym (overlay-append (flat_map (merged_piece c.args.layout.now) c.args.layout.now.merged) (front_piece c.args.layout.now c.args.layout.now.identity.part c.args.layout.now.identity.bytes) c.args.out.now);
+  image = c.append_identity.ensures.image ∙ ap (overlay_prefix (front_piece c.args.layout.now c.args.layout.now.identity.part c.args.layout.now.identity.bytes)) c.append_strings-rest.ensures.image ∙ sym (overlay_prefix-append (flat_map (merged_piece c.args.layout.now) c.args.layout.now.merged) (front_piece c.args.layout.now c.args.layout.now.identity.part c.args.layout.now.identity.bytes) c.args.out.now);
   rest = both_end (flat_map merged_bytes c.args.layout.now.merged) (c.args.layout.now.identity.bytes) c.args.bytes.now c.append_strings-rest.result.now c.append_identity.result.now c.append_strings-rest.ensures.rest c.append_identity.ensures.rest;
 }

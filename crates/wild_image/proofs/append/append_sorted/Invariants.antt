@@ -1,6 +1,6 @@
 use Rattle.std.proofs.Common.{◌≡◌, take}
 use Rattle.std.specs.List.{flat_map}
-use Rattle.wild_words.specs.Overlay.{overlay}
+use Rattle.wild_image.specs.Prefix.{overlay_prefix}
 use Rattle.wild_image.specs.Owners.{sorted_pieces}
 use Rattle.wild_image.specs.Pieces.{sorted_owned}
 use Rattle.wild_image.proofs.AppendLemmas.{IsPlacedAfter}
@@ -8,5 +8,5 @@ use Rattle.wild_image.proofs.append.append_sorted.Given as goal
 
 abbrev pub invariant-loop-entry : goal.invariant-loop-entry
 invariant-loop-entry l =
-    (l.out ≡ overlay (flat_map (sorted_pieces l.layout) (take l.entry-index l.layout.sorted)) l.initial.out)
+    (l.out ≡ overlay_prefix (flat_map (sorted_pieces l.layout) (take l.entry-index l.layout.sorted)) l.initial.out)
     × IsPlacedAfter (sorted_owned l.layout) l.layout.sorted l.bytes l.rest l.entry-index

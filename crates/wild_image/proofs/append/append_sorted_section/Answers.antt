@@ -12,14 +12,14 @@ append_own-requires-clause-own c =
     let taken = sorted_taken l c.args.entry.now f s c.owns_room-owns.result c.args.bytes.now is c.requires.lies c.owns_room-owns.ensures c.requires.own in
     λ e. taken.within e
 
-pub append_own-requires-clause-ends : goal.append_own-requires-clause-ends
-append_own-requires-clause-ends c =
+pub append_own-requires-clause-offset : goal.append_own-requires-clause-offset
+append_own-requires-clause-offset c =
     let l = c.args.layout.now in
     let f = c.in-Some.input.file.now in
     let s = c.in-Some.input.section.now in
     let is = sym c.sorted_input.ensures ∙ ap (inputs l) c.in-Some.is in
     let taken = sorted_taken l c.args.entry.now f s c.owns_room-owns.result c.args.bytes.now is c.requires.lies c.owns_room-owns.ensures c.requires.own in
-    λ e. (let n = taken.ends e in let z = c.requires.room in omega (arith, n, z))
+    λ e. (let n = taken.ends e in let z = c.requires.fits in omega (arith, n, z))
 
 pub returns-in-Some : goal.returns-in-Some
 returns-in-Some c =

@@ -2,7 +2,7 @@ use Rattle.wild_image.specs.Owners.{merged_piece}
 use Rattle.wild_layout.specs.Image.{merged_bytes}
 use Rattle.std.proofs.Common.{sym, subst}
 use Rattle.wild_image.specs.Append.{MergedLies}
-use Rattle.wild_sections.proofs.PieceLemmas.{overlay_read}
+use Rattle.wild_image.proofs.PrefixLemmas.{overlay_prefix_read}
 use Rattle.wild_image.proofs.AppendLemmas.{next_begins, stands_more}
 use Rattle.wild_image.proofs.append.append_strings.Goals as goal
 
@@ -22,6 +22,6 @@ pub loop-merged-preserved : goal.loop-merged-preserved
 loop-merged-preserved c =
     let h = rw c.as_slice-merged-items.ensures at c.loop-merged-test.true in
     let read = rw c.as_slice-merged-items.ensures at c.merged-item.is in (
-      overlay_read (merged_piece c.args.layout.now) c.args.layout.now.merged c.loop-merged.merged-index c.merged-item.result c.args.out.now c.loop-merged.out c.append_merged-rest.new.out h read c.loop-merged.invariant.0 c.append_merged-rest.ensures.image,
+      overlay_prefix_read (merged_piece c.args.layout.now) c.args.layout.now.merged c.loop-merged.merged-index c.merged-item.result c.args.out.now c.loop-merged.out c.append_merged-rest.new.out h read c.loop-merged.invariant.0 c.append_merged-rest.ensures.image,
       stands_more (merged_bytes) c.args.layout.now.merged c.loop-merged.merged-index c.merged-item.result c.args.bytes.now c.loop-merged.rest.now c.append_merged-rest.result.now h read c.loop-merged.invariant.1 c.append_merged-rest.ensures.rest,
     )

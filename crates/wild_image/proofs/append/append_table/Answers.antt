@@ -17,15 +17,7 @@ overflow_add-part c =
     let some : 1 ≤ c.args.size = omega (arith, c.if-size-eq0.false) in
     let start = start_given c.args.layout.now c.args.part.now (given c.args.i c.args.group.now) (shares_before c.args.layout.now c.args.i c.args.index) c.args.size c.args.start c.requires.size some c.requires.start in
     let fits = h.fits some in
-    omega (arith, fits, start, c.requires.room.1)
-
-pub put-requires : goal.put-requires
-put-requires c =
-    let h = in_part c.args.layout.now c.args.i c.args.index c.args.size c.args.part.now c.args.group.now c.requires.parts c.requires.part c.requires.group c.requires.size in
-    let some : 1 ≤ c.args.size = omega (arith, c.if-size-eq0.false) in
-    let start = start_given c.args.layout.now c.args.part.now (given c.args.i c.args.group.now) (shares_before c.args.layout.now c.args.i c.args.index) c.args.size c.args.start c.requires.size some c.requires.start in
-    let fits = h.fits some in
-    omega (arith, fits, start, c.requires.room.0, c.split_at.ensures.front_len)
+    omega (arith, fits, start, c.requires.fits)
 
 pub returns-clause-image : goal.returns-clause-image
 returns-clause-image c =
@@ -33,7 +25,7 @@ returns-clause-image c =
     let some : 1 ≤ c.args.size = omega (arith, c.if-size-eq0.false) in
     let start = start_given c.args.layout.now c.args.part.now (given c.args.i c.args.group.now) (shares_before c.args.layout.now c.args.i c.args.index) c.args.size c.args.start c.requires.size some c.requires.start in
     let cut = cut_off (table_given c.args.layout.now c.args.group.now c.args.part.now) c.args.bytes.now c.args.size h.size c.requires.own in
-    table_put c.args.layout.now c.args.i c.args.index _ c.args.size c.args.part.now c.args.group.now _ c.args.out.now c.put.new.out h some (ap (λ (n : ℕ). c.args.part.now.offset + n) start) (c.split_at.ensures.front ∙ cut.front) c.put.ensures
+    table_put c.args.layout.now c.args.i c.args.index _ c.args.size c.args.part.now c.args.group.now _ c.args.out.now c.put_in_prefix.new.out h some (ap (λ (n : ℕ). c.args.part.now.offset + n) start) (c.split_at.ensures.front ∙ cut.front) c.put_in_prefix.ensures
 
 pub returns-clause-rest : goal.returns-clause-rest
 returns-clause-rest c =

@@ -3,7 +3,7 @@ use Rattle.std.proofs.lemmas.Bool.{eqb-true}
 use Rattle.wild_image.specs.Pieces.{table_given, group_tables}
 use Rattle.wild_layout.specs.Image.{table_piece}
 use Rattle.wild_image.proofs.AppendLemmas.{next_begins_at, stands_more_at, read_at}
-use Rattle.wild_image.proofs.TableLemmas.{overlay_from, none_left, tables_stay, stays_behind, starts_stay, start_fits, start_more, start_read, starts_more, starts_moved}
+use Rattle.wild_image.proofs.TableLemmas.{overlay_prefix_from, none_left, tables_stay, stays_behind, starts_stay, start_fits, start_more, start_read, starts_more, starts_moved}
 use Rattle.wild_image.proofs.append.append_tables.Goals as goal
 
 -- ---- where nothing is left
@@ -65,7 +65,7 @@ loop-i-preserved c =
     let size = c.written_size-size.ensures in
     let more = start_more l c.loop-i.i c.args.index _ c.args.group.now at c.requires.group in
     record {
-      image = overlay_from (table_piece l c.args.index c.args.group.now) l.parts c.loop-i.i _ c.args.out.now c.loop-i.out c.append_table-rest.new.out at c.loop-i.invariant.image c.append_table-rest.ensures.image;
+      image = overlay_prefix_from (table_piece l c.args.index c.args.group.now) l.parts c.loop-i.i _ c.args.out.now c.loop-i.out c.append_table-rest.new.out at c.loop-i.invariant.image c.append_table-rest.ensures.image;
       rest = stands_more_at (table_given l c.args.group.now) l.parts items c.loop-i.i _ c.args.bytes.now c.loop-i.rest.now c.append_table-rest.result.now same h c.part-item.is c.loop-i.invariant.rest c.append_table-rest.ensures.rest;
       starts = starts_more l c.args.index c.loop-i.i _ c.args.starts.now c.loop-i.starts _ at c.requires.starts c.loop-i.invariant.starts (omega (arith, start, size, more));
     }

@@ -1,5 +1,5 @@
 use Rattle.std.proofs.Common.{◌≡◌, take}
-use Rattle.wild_words.specs.Overlay.{overlay}
+use Rattle.wild_image.specs.Prefix.{overlay_prefix}
 use Rattle.wild_image.specs.Pieces.{table_given}
 use Rattle.wild_layout.specs.Image.{table_piece}
 use Rattle.wild_layout.specs.Faults.{flat_map_from}
@@ -9,7 +9,7 @@ use Rattle.wild_image.proofs.append.append_tables.Given as goal
 
 abbrev pub invariant-loop-i : goal.invariant-loop-i
 invariant-loop-i l = record {
-  image : l.out ≡ overlay (flat_map_from (table_piece l.layout l.index l.group) 0 (take l.i l.layout.parts)) l.initial.out;
+  image : l.out ≡ overlay_prefix (flat_map_from (table_piece l.layout l.index l.group) 0 (take l.i l.layout.parts)) l.initial.out;
   rest : IsPlacedAfter (table_given l.layout l.group) l.layout.parts l.bytes l.rest l.i;
   starts : AreMoved l.layout l.index l.initial.starts l.i l.starts;
 }

@@ -15,7 +15,7 @@ returns-clause-image c =
     let l = c.args.layout.now in
     let t = c.args.thunk.now in
     let cut = cut_off (thunk_bytes l t) c.args.bytes.now _ (length-thunk_bytes l t) c.requires.own in
-    thunk_appended l t c.offset_of-at.result _ c.args.out.now c.put.new.out (rw c.as_slice.ensures at c.offset_of-at.ensures) (c.split_at.ensures.front ∙ cut.front) c.put.ensures
+    thunk_appended l t c.offset_of-at.result _ c.args.out.now c.put_in_prefix.new.out (rw c.as_slice.ensures at c.offset_of-at.ensures) (c.split_at.ensures.front ∙ cut.front) c.put_in_prefix.ensures
 
 pub returns-clause-rest : goal.returns-clause-rest
 returns-clause-rest c =

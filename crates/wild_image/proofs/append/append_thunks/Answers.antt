@@ -1,6 +1,7 @@
 use Rattle.std.proofs.Common.{◌≡◌, true, false, List, ℕ, sym, ap, ◌∙◌, subst}
 use Rattle.std.specs.List.{flat_map}
-use Rattle.wild_words.specs.Overlay.{Piece, overlay}
+use Rattle.wild_words.specs.Overlay.{Piece}
+use Rattle.wild_image.specs.Prefix.{overlay_prefix}
 use Rattle.wild_types.specs.FileThunks.{thunks_of}
 use Rattle.wild_types.specs.Lookups.{is_header_only_part}
 use Rattle.wild_layout.specs.Image.{thunk_piece}
@@ -13,7 +14,7 @@ pub returns-then-is_header_only_part-clause-image : goal.returns-then-is_header_
 returns-then-is_header_only_part-clause-image c =
     let l = c.args.layout.now in
     let header_only : is_header_only_part l l.primary_part ≡ true = sym c.is_header_only_part.ensures ∙ c.if-is_header_only_part.true in
-    sym (ap (λ (ps : List Piece). overlay ps c.args.out.now) (none_written l l.primary_part (flat_map (thunk_piece l) (thunks_of l c.args.file.now)) header_only))
+    sym (ap (λ (ps : List Piece). overlay_prefix ps c.args.out.now) (none_written l l.primary_part (flat_map (thunk_piece l) (thunks_of l c.args.file.now)) header_only))
 
 pub returns-then-is_header_only_part-clause-rest : goal.returns-then-is_header_only_part-clause-rest
 returns-then-is_header_only_part-clause-rest c =
@@ -37,7 +38,7 @@ pub returns-clause-image : goal.returns-clause-image
 returns-clause-image c =
     let l = c.args.layout.now in
     let written : is_header_only_part l l.primary_part ≡ false = sym c.is_header_only_part.ensures ∙ c.if-is_header_only_part.false in
-    c.append_all_thunks.ensures.image ∙ sym (ap (λ (ps : List Piece). overlay ps c.args.out.now) (all_written l l.primary_part (flat_map (thunk_piece l) (thunks_of l c.args.file.now)) written))
+    c.append_all_thunks.ensures.image ∙ sym (ap (λ (ps : List Piece). overlay_prefix ps c.args.out.now) (all_written l l.primary_part (flat_map (thunk_piece l) (thunks_of l c.args.file.now)) written))
 
 pub returns-clause-rest : goal.returns-clause-rest
 returns-clause-rest c =

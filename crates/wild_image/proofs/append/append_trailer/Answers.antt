@@ -1,12 +1,12 @@
 use Rattle.std.proofs.Common.{◌∙◌, sym, ap}
 use Rattle.std.specs.List.{flat_map}
-use Rattle.wild_words.specs.Overlay.{overlay}
+use Rattle.wild_image.specs.Prefix.{overlay_prefix}
 use Rattle.wild_placement.specs.PlacedSections.{of_last_file}
 use Rattle.wild_layout.specs.Image.{merged_and_identity_pieces, of_first_file}
 use Rattle.wild_image.specs.Pieces.{all_sorted, merged_and_identity_bytes}
 use Rattle.wild_image.specs.Owners.{all_sorted_pieces}
 use Rattle.wild_image.proofs.AppendLemmas.{both_begin, both_go_on, both_end}
-use Rattle.wild_sections.proofs.PieceLemmas.{overlay-append}
+use Rattle.wild_image.proofs.PrefixLemmas.{overlay_prefix-append}
 use Rattle.wild_image.proofs.append.append_trailer.Goals as goal
 
 pub append_last-rest-requires-clause-own : goal.append_last-rest-requires-clause-own
@@ -17,6 +17,6 @@ append_first-requires-clause-own c = both_go_on (of_last_file c.args.file.now (a
 
 pub returns : goal.returns
 returns c = record {
-  image = c.append_first.ensures.image ∙ ap (overlay (of_first_file c.args.file.now (merged_and_identity_pieces c.args.layout.now))) c.append_last-rest.ensures.image ∙ sym (overlay-append (of_last_file c.args.file.now (all_sorted_pieces c.args.layout.now)) (of_first_file c.args.file.now (merged_and_identity_pieces c.args.layout.now)) c.args.out.now);
+  image = c.append_first.ensures.image ∙ ap (overlay_prefix (of_first_file c.args.file.now (merged_and_identity_pieces c.args.layout.now))) c.append_last-rest.ensures.image ∙ sym (overlay_prefix-append (of_last_file c.args.file.now (all_sorted_pieces c.args.layout.now)) (of_first_file c.args.file.now (merged_and_identity_pieces c.args.layout.now)) c.args.out.now);
   rest = both_end (of_last_file c.args.file.now (all_sorted c.args.layout.now)) (of_first_file c.args.file.now (merged_and_identity_bytes c.args.layout.now)) c.args.bytes.now c.append_last-rest.result.now c.append_first.result.now c.append_last-rest.ensures.rest c.append_first.ensures.rest;
 }

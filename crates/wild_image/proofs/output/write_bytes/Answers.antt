@@ -1,31 +1,37 @@
 use Rattle.std.proofs.Common.{◌≡◌, List, length, sym, ap, ◌∙◌, arith, subst}
-use Rattle.std.specs.Prelude.{OnOk}
-use Rattle.wild_words.specs.Overlay.{Piece, overlay}
+use Rattle.std.proofs.lemmas.Result.{err_from_is_err_and}
+use Rattle.wild_words.specs.Overlay.{Piece}
 use Rattle.wild_types.specs.declared.fault.Error.{Error}
-use Rattle.wild_types.specs.Faults.{Answers}
-use Rattle.wild_layout.specs.Image.{group_pieces}
+use Rattle.wild_types.specs.Faults.{Refuses}
+use Rattle.wild_layout.specs.Image.{padding, group_pieces}
 use Rattle.wild_layout.specs.Faults.{group_errors}
-use Rattle.wild_layout.proofs.LayoutLemmas.{length-padding}
+use Rattle.wild_image.specs.Prefix.{overlay_prefix}
 use Rattle.wild_image.proofs.StandingLemmas.{each_file_lies}
 use Rattle.wild_image.proofs.BatchLemmas.{cut_of, joined}
-use Rattle.wild_image.proofs.OutputLemmas.{image_is}
+use Rattle.wild_image.proofs.OutputLemmas.{prefix_is}
 use Rattle.wild_image.proofs.output.write_bytes.Goals as goal
 
 pub append_all-requires-clause-inputs : goal.append_all-requires-clause-inputs
 append_all-requires-clause-inputs g c = each_file_lies c.args.layout.now c.requires.laid_out
 
-pub append_all-requires-clause-room : goal.append_all-requires-clause-room
-append_all-requires-clause-room g c = let size = c.requires.laid_out.size in (ap length c.requires.padding ∙ length-padding c.args.layout.now, omega (arith, size))
+pub append_all-requires-clause-fits : goal.append_all-requires-clause-fits
+append_all-requires-clause-fits g c = let size = c.requires.laid_out.size in omega (arith, size)
+
+pub returns-in_err-append_all-clause-faults : goal.returns-in_err-append_all-clause-faults
+returns-in_err-append_all-clause-faults g c =
+    let l = c.args.layout.now in
+    let r = c.from_residual-in_err-append_all in
+    let p = err_from_is_err_and r.result r.ensures.1 in
+    rw (p.1, p.2) (subst (λ (es : List Error). Refuses _ es) (sym (joined (group_errors l) 0 l.groups c.args.batches.now (cut_of l.groups c.args.batches.now c.requires.batches))) c.in_err-append_all.ensures.faults)
 
 pub returns-clause-faults : goal.returns-clause-faults
 returns-clause-faults g c =
     let l = c.args.layout.now in
-    let P : List Error → Type 0 = λ es. Answers c.append_all.result es in
-    subst P (sym (joined (group_errors l) 0 l.groups c.args.batches.now (cut_of l.groups c.args.batches.now c.requires.batches))) c.append_all.ensures.faults
+    joined (group_errors l) 0 l.groups c.args.batches.now (cut_of l.groups c.args.batches.now c.requires.batches) ∙ c.in_ok-append_all.ensures.faults
 
 pub returns-clause-image : goal.returns-clause-image
 returns-clause-image g c =
     let l = c.args.layout.now in
-    let P : List Piece → Type 0 = λ ps. OnOk c.append_all.result (c.append_all.new.out ≡ overlay ps c.args.out.now) in
-    let whole = subst P (sym (joined (group_pieces l) 0 l.groups c.args.batches.now (cut_of l.groups c.args.batches.now c.requires.batches))) c.append_all.ensures.image in
-    image_is _ l c.args.out.now c.append_all.new.out c.requires.padding whole
+    let padded = c.in_ok-out.ensures in
+    let all = joined (group_pieces l) 0 l.groups c.args.batches.now (cut_of l.groups c.args.batches.now c.requires.batches) in
+    prefix_is l c.args.size _ c.requires.laid_out (c.in_ok-append_all.ensures.image ∙ ap (λ (ps : List Piece). overlay_prefix ps _) (sym all) ∙ ap (overlay_prefix _) padded)

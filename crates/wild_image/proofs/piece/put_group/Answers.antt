@@ -4,6 +4,7 @@ use Rattle.std.proofs.lemmas.Option.{slice_get_within}
 use Rattle.wild_types.specs.declared.file.Group.{Group}
 use Rattle.wild_image.specs.Append.{FileLies, HasStarts}
 use Rattle.wild_words.proofs.ListLemmas.{holds_at}
+use Rattle.wild_image.proofs.OutputLemmas.{group_written}
 use Rattle.wild_image.proofs.PlacedLemmas.{table_of_all}
 use Rattle.wild_image.proofs.StandingLemmas.{each_file_lies}
 use Rattle.wild_image.proofs.piece.put_group.Goals as goal
@@ -34,7 +35,13 @@ append_group-requires-clause-starts g c =
     let is : c.deref_mut.result.now ≡ get_or c.args.prepared.now.starts c.args.index [] = search rules in
     subst (HasStarts l c.args.index) (sym is) (c.requires.prepared.starts.each c.args.index (omega (arith, low, count)))
 
-pub append_group-requires-clause-room : goal.append_group-requires-clause-room
-append_group-requires-clause-room g c =
+pub append_group-requires-clause-fits : goal.append_group-requires-clause-fits
+append_group-requires-clause-fits g c =
     let size = (c.layouts_are_laid_out.ensures c.args.resolved.now.layout.now c.requires.clauses c.requires.shares).size in
-    (c.requires.room, omega (arith, size))
+    omega (arith, size)
+
+pub returns-clause-image : goal.returns-clause-image
+returns-clause-image g c =
+    let l = c.args.resolved.now.layout.now in
+    let laid = c.layouts_are_laid_out.ensures l c.requires.clauses c.requires.shares in
+    group_written l c.args.index c.args.group.now c.args.out.now c.append_group.new.out laid c.requires.group c.requires.room c.append_group.ensures

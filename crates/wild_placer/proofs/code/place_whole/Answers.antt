@@ -1,8 +1,8 @@
 use Rattle.std.proofs.Common.{◌∙◌, sym, ap}
 use Rattle.wild_loader.specs.Load.{load}
 use Rattle.wild_placer.proofs.PlaceLemmas.{is_placed}
-use Rattle.wild_placer.proofs.code.place_code.Goals as goal
+use Rattle.wild_placer.proofs.code.place_whole.Goals as goal
 
-pub returns-in-Ok-load_image-clause-memory : goal.returns-in-Ok-load_image-clause-memory
-returns-in-Ok-load_image-clause-memory g c =
+pub returns-in-Ok-load_image : goal.returns-in-Ok-load_image
+returns-in-Ok-load_image g c =
     is_placed c.args.layout.now c.args.world.now c.in-Ok-load_image.memory c.in-Ok.ensures.faults (sym (ap (load c.args.world.now) (c.as_slice.ensures ∙ c.in-Ok.ensures.image)) ∙ c.in-Ok-load_image.ensures.memory)

@@ -1,0 +1,32 @@
+use Rattle.std.proofs.Common.{subst, List}
+use Rattle.std.proofs.lemmas.Result.{err_from_is_err_and}
+use Rattle.wild_types.specs.declared.fault.Error.{Error}
+use Rattle.wild_types.specs.Faults.{Answers}
+use Rattle.wild_plan_rules.specs.WellFormed.{first_clause}
+use Rattle.wild_layout.proofs.FaultLemmas.{clause_holds}
+use Rattle.wild_image.proofs.OutputLemmas.{file_trailer_errors, few_relocations, clause_refused, share_refused, bytes_fit}
+use Rattle.wild_image.proofs.output.write_prefix_gated.Goals as goal
+
+pub returns-in_err-check_clauses-clause-faults : goal.returns-in_err-check_clauses-clause-faults
+returns-in_err-check_clauses-clause-faults g c =
+    let p = err_from_is_err_and c.from_residual.result c.from_residual.ensures.1 in
+    rw (p.1, p.2) (clause_refused c.args.layout.now _ c.in_err-check_clauses.ensures)
+
+pub returns-in_err-check_shares_in-clause-faults : goal.returns-in_err-check_shares_in-clause-faults
+returns-in_err-check_shares_in-clause-faults g c =
+    let r = c.from_residual-in_err-check_shares_in in
+    let p = err_from_is_err_and r.result r.ensures.1 in
+    rw (p.1, p.2) (share_refused c.args.layout.now _ c.in_ok-check_clauses.ensures c.in_err-check_shares_in.ensures)
+
+pub write_laid_out-requires-clause-few : goal.write_laid_out-requires-clause-few
+write_laid_out-requires-clause-few g c = few_relocations c.args.layout.now c.in_ok-check_clauses.ensures
+
+pub returns-clause-faults : goal.returns-clause-faults
+returns-clause-faults g c =
+    let P : List Error → Type 0 = λ es. Answers c.write_laid_out.result es in
+    subst P (file_trailer_errors c.args.layout.now c.in_ok-check_clauses.ensures c.in_ok-check_shares_in.ensures) c.write_laid_out.ensures.faults
+
+pub returns-clause-fits : goal.returns-clause-fits
+returns-clause-fits g c =
+    let l = c.args.layout.now in
+    bytes_fit c.write_laid_out.result l (c.layouts_are_laid_out.ensures l (clause_holds (first_clause l) c.in_ok-check_clauses.ensures) c.in_ok-check_shares_in.ensures)

@@ -1,0 +1,157 @@
+-- Images without tables to apply: their memory is that of their segments.
+use Rattle.std.proofs.Common.{◌≡◌, ℕ, zero, suc, ◌+◌, ◌*◌, ◌<◌, ◌≤◌, ◌==◌, ◌&&◌, inl, inr, Bool, true, false, if◌then◌else◌, List, [], ◌∷◌, length, take, refl, sym, ap, ◌∙◌, arith, subst}
+use Rattle.std.specs.Prelude.{All, None, Result, Ok, Err}
+use Rattle.std.specs.List.{flat_map}
+use Rattle.std.proofs.lemmas.Bool.{cases_Bool, cases_lt, le-leb, ne_eqb}
+use Rattle.std.proofs.lemmas.List.{take_all}
+use Rattle.std.proofs.lemmas.List.Elements.{All-head, All-tail}
+use Rattle.wild_words.specs.Words.{HasBytesAt}
+use Rattle.wild_words.proofs.Basics.{length-flat_map_each}
+use Rattle.wild_records.specs.Abi.Section.{shn_undef, sht_rela}
+use Rattle.wild_records.specs.FileHeader.{file_header_at, FileHeaderIsRead}
+use Rattle.wild_records.specs.ProgramHeader.{ProgramHeaderIsRead}
+use Rattle.wild_records.specs.SectionHeader.{section_header_at, SectionHeaderFits, SectionHeaderIsRead}
+use Rattle.wild_records.specs.declared.file_header.FileHeader.{FileHeader}
+use Rattle.wild_records.specs.declared.program_header.ProgramHeader.{ProgramHeader}
+use Rattle.wild_records.specs.declared.section_header.SectionHeader.{SectionHeader}
+use Rattle.wild_records.specs.declared.relocations.Rela.{Rela}
+use Rattle.wild_records.proofs.FileHeaderLemmas.{length-file_header}
+use Rattle.wild_loader.specs.declared.fault.LoadFault.{LoadFault}
+use Rattle.wild_loader.specs.declared.memory.Machine.{Machine}
+use Rattle.wild_loader.specs.declared.memory.Memory.{Memory}
+use Rattle.wild_loader.specs.declared.memory.Run.{Run}
+use Rattle.wild_loader.specs.declared.tables.Tables.{Tables}
+use Rattle.wild_loader.specs.declared.world.World.{World}
+use Rattle.wild_loader.specs.Outcome.{◌>>=◌}
+use Rattle.wild_loader.specs.Headers.{header, is_loadable_header, machine_of, program_headers, section_count, sections}
+use Rattle.wild_loader.specs.Memory.{memory_of}
+use Rattle.wild_loader.specs.Places.{places_from}
+use Rattle.wild_loader.specs.Relocate.{relocate, add_all, apart, notes}
+use Rattle.wild_loader.specs.Runs.{overlay_runs}
+use Rattle.wild_words.specs.Extents.{least_extent}
+use Rattle.wild_loader.specs.Segments.{segments}
+use Rattle.wild_loader.specs.SegmentLaws.{HasHeaders, first_size, section_bytes}
+use Rattle.wild_loader.specs.Tables.{has_entries, section_entries, section_tables, first_dynamic, tables}
+use Rattle.wild_loader.specs.Load.{image_with, image_at, load}
+use Rattle.wild_loader.proofs.RecordLists.{programs-read, sections-read, section-first, length-program, length-section}
+use Rattle.wild_loader.proofs.TableLemmas.{lies-table}
+use Rattle.wild_placer.specs.Plain.{plain_with, load_plain}
+use Rattle.wild_placer.proofs.PrefixLemmas.{IsFront, Agrees, then_agrees, front_long, header_agrees, header_bound, program_headers_taken, segments_agree}
+
+-- ---- by the first bytes of the image
+
+plain_front_agrees : (w : World) (n : ℕ) (im : List ℕ) → IsFront n im → Agrees (load_plain w (take n im)) (load_plain w im)
+unfolding load_plain
+plain_front_agrees w n im f =
+    then_agrees (header (take n im)) (header im) _ _ (header_agrees n im f) (λ e is.
+    (let ends = header_bound (take n im) e is in
+    let long = front_long n im f in
+    let same = program_headers_taken n e.program_count e.program_offset im (omega (arith, ends, long)) in
+    let hs = program_headers im e.program_count e.program_offset in
+    subst (λ (gs : List ProgramHeader). Agrees (segments w.base (take n im) gs >>= λ runs. Ok (memory_of (machine_of e) runs)) (segments w.base im hs >>= λ runs. Ok (memory_of (machine_of e) runs))) (sym same)
+    (then_agrees (segments w.base (take n im) hs) (segments w.base im hs) _ _ (segments_agree n w.base im hs f) (λ runs e. inl refl))))
+
+pub plain_agrees : (w : World) (n : ℕ) (im : List ℕ) → 64 ≤ n → Agrees (load_plain w (take n im)) (load_plain w im)
+plain_agrees w n im least =
+    elim (cases_lt n (length im)) [
+      | inl more ↦ plain_front_agrees w n im (record { least = least; more = omega (arith, more) })
+      | inr less ↦ inl (ap (load_plain w) (sym (take_all n im less)))
+    ]
+
+-- ---- an image whose tables are empty
+
+abbrev no_tables : Tables
+no_tables = record { words = []; entries = []; jumps = [] }
+
+nothing_relocated : (w : World) (machine : Machine) (runs : List Run) → relocate w (memory_of machine runs) no_tables ≡ Ok (memory_of machine runs)
+unfolding relocate places_from add_all apart least_extent overlay_runs notes
+nothing_relocated w machine runs = refl
+
+plain_is_load : (w : World) (im : List ℕ) (e : FileHeader) → header im ≡ Ok e → tables im e (program_headers im e.program_count e.program_offset) ≡ Ok no_tables → load w im ≡ load_plain w im
+unfolding load image_at image_with load_plain
+plain_is_load w im e head none = rw (head, none) (by (segments w.base im (program_headers im e.program_count e.program_offset)))
+  where
+    by : (r : Result (List Run) LoadFault) → ((r >>= λ runs. Ok (record { machine = machine_of e; runs = runs; tables = no_tables })) >>= λ i. relocate w (memory_of i.machine i.runs) i.tables) ≡ (r >>= λ runs. Ok (memory_of (machine_of e) runs))
+    by (Ok runs) = nothing_relocated w (machine_of e) runs
+    by (Err f) = refl
+
+-- no section has entries
+abbrev pub IsNoRela : SectionHeader → Type 0
+IsNoRela s = (s.kind ≡ sht_rela) → ⊥
+
+no_entries : (im : List ℕ) (ss : List SectionHeader) → All IsNoRela ss → section_entries im ss [] ≡ Ok []
+unfolding section_entries
+no_entries im [] none = refl
+no_entries im (s ∷ ss) none =
+    let other = ne_eqb s.kind sht_rela (All-head IsNoRela s ss none) in
+    rw other (no_entries im ss (All-tail IsNoRela s ss none))
+
+tables_none : (im : List ℕ) (e : FileHeader) (hs : List ProgramHeader) (ss : List SectionHeader) → first_dynamic hs ≡ None → sections im e ≡ Ok ss → All IsNoRela ss → tables im e hs ≡ Ok no_tables
+unfolding tables section_tables
+tables_none im e hs ss static listed none = let entries = no_entries im ss none in rw (static, listed, entries) refl
+
+-- ---- an image that has its headers
+
+header_read : FileHeaderIsRead → (im : List ℕ) (e : FileHeader) (hs : List ProgramHeader) (ss : List SectionHeader) → HasHeaders im e hs ss → is_loadable_header e ≡ true → header im ≡ Ok e
+unfolding header
+header_read read im e hs ss has loadable =
+    let front = length-file_header e in
+    let room = has.file_header.fits in
+    let long = le-leb 64 (length im) (omega (arith, front, room)) in
+    let is : file_header_at im 0 ≡ e = read im 0 e has.fits has.file_header in
+    let programs = has.programs.fits in
+    let wide = length-flat_map_each _ 56 length-program hs in
+    let count = has.program_count in
+    let table = lies-table im e.program_offset e.program_count 56 (omega (arith, wide, count, programs)) in
+    rw (long, is, loadable, table) refl
+
+first_is : SectionHeaderIsRead → (im : List ℕ) (ss : List SectionHeader) (at : ℕ) → 0 < length ss → All SectionHeaderFits ss → HasBytesAt im at (flat_map section_bytes ss) → (section_header_at im at).size ≡ first_size ss
+first_is read im [] at some fits there = absurd (omega (arith, some))
+first_is read im (s ∷ ss) at some fits there = ap (λ (h : SectionHeader). h.size) (section-first read im at s ss fits there)
+
+counted : SectionHeaderIsRead → (im : List ℕ) (e : FileHeader) (hs : List ProgramHeader) (ss : List SectionHeader) → HasHeaders im e hs ss → section_count im e ≡ Ok (length ss)
+counted read im e hs ss has =
+    let told = has.section_count in
+    let some = has.some_section in
+    let room = has.sections.fits in
+    let long = length-flat_map_each section_bytes 64 length-section ss in
+    elim (cases_Bool (e.section_count == 0)) [
+      | inl t ↦
+          (let first = first_is read im ss e.section_offset some has.sections_fit has.sections in
+          let one = lies-table im e.section_offset 1 64 (omega (arith, some, room, long)) in
+          let count : first_size ss ≡ length ss = rw t at told in
+          rw (t, one, first, count) refl)
+      | inr f ↦ (let count : e.section_count ≡ length ss = rw f at told in rw (f, count) refl)
+    ]
+
+sections_read : SectionHeaderIsRead → (im : List ℕ) (e : FileHeader) (hs : List ProgramHeader) (ss : List SectionHeader) → HasHeaders im e hs ss → 0 < e.section_offset → sections im e ≡ Ok ss
+unfolding sections
+sections_read read im e hs ss has some =
+    let room = has.sections.fits in
+    let long = length-flat_map_each section_bytes 64 length-section ss in
+    let count = counted read im e hs ss has in
+    let table = lies-table im e.section_offset (length ss) 64 (omega (arith, room, long)) in
+    let there : (e.section_offset == 0) ≡ false = ne_eqb e.section_offset 0 (λ z. omega (arith, some, z)) in
+    let all = sections-read read im ss e.section_offset has.sections_fit has.sections in
+    rw (there, count, table, all) refl
+
+no_sections : (im : List ℕ) (e : FileHeader) → (e.section_offset == 0) ≡ true → sections im e ≡ Ok []
+unfolding sections
+no_sections im e none = rw none refl
+
+-- the image of an output without a dynamic section and without relocation tables
+pub has_no_tables : FileHeaderIsRead → ProgramHeaderIsRead → SectionHeaderIsRead → (w : World) (im : List ℕ) (e : FileHeader) (hs : List ProgramHeader) (ss : List SectionHeader) → HasHeaders im e hs ss → is_loadable_header e ≡ true → first_dynamic hs ≡ None → All IsNoRela ss → load w im ≡ load_plain w im
+has_no_tables file program section w im e hs ss has loadable static none =
+    let head = header_read file im e hs ss has loadable in
+    let count = has.program_count in
+    let programs : program_headers im e.program_count e.program_offset ≡ hs = ap (λ (n : ℕ). program_headers im n e.program_offset) count ∙ programs-read program im hs e.program_offset has.programs_fit has.programs in
+    let found : tables im e hs ≡ Ok no_tables =
+    elim (cases_Bool (e.section_offset == 0)) [
+      | inl t ↦ tables_none im e hs [] static (no_sections im e t) (λ k d low. absurd (omega (arith, low)))
+      | inr f ↦ tables_none im e hs ss static (sections_read section im e hs ss has (some_offset e.section_offset f)) none
+    ] in
+    plain_is_load w im e head (ap (tables im e) programs ∙ found)
+  where
+    some_offset : (n : ℕ) → (n == 0) ≡ false → 0 < n
+    some_offset zero f = cc
+    some_offset (suc n) f = omega arith

@@ -1,0 +1,6 @@
+use Rattle.std.proofs.Common.{◌≡◌, drop, []}
+use Rattle.wild_loader.specs.Segments.{load_segments}
+use Rattle.wild_placer.proofs.plain.add_segments.Given as goal
+
+abbrev pub invariant-loop-segment : goal.invariant-loop-segment
+invariant-loop-segment l = load_segments l.base l.image (drop l.segment-index l.headers) l.runs ≡ load_segments l.base l.image l.headers []
