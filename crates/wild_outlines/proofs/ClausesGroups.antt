@@ -254,11 +254,11 @@ owner_in_parts-outline l i g k [] = refl
 owner_in_parts-outline l i g k (p ∷ ps) = rw (owner_in_part-outline l i g k p, owner_in_parts-outline l i g (k + 1) ps) refl
 
 misplaced_owner-outline : (l : Layout) (i : ℕ) → misplaced_owner (outline l) i ≡ misplaced_owner l i
-misplaced_owner-outline l i = rw (length-map l.groups outline_group, slice_get-map outline_group l.groups i) (by (slice_get l.groups i))
+misplaced_owner-outline l i = by (slice_get l.groups i) refl
   where
-    by : (o : Option Group) → (if i + 1 == length l.groups then misplaced_owner.owner (outline l) i (option_map outline_group o) else i) ≡ (if i + 1 == length l.groups then misplaced_owner.owner l i o else i)
-    by None = refl
-    by (Some g) = rw (owner_in_parts-outline l i g 0 l.parts) refl
+    by : (o : Option Group) → slice_get l.groups i ≡ o → misplaced_owner (outline l) i ≡ misplaced_owner l i
+    by None e = rw (length-map l.groups outline_group, slice_get-map outline_group l.groups i, e) refl
+    by (Some g) e = rw (length-map l.groups outline_group, slice_get-map outline_group l.groups i, e, owner_in_parts-outline l i g 0 l.parts) refl
 
 pub misplaced_place-outline : (l : Layout) → misplaced_place (outline l) ≡ misplaced_place l
 misplaced_place-outline l = rw (section_misplaced-outline l (addresses l.parts) 0 l.groups) (by (section_misplaced l (addresses l.parts) 0 l.groups))
