@@ -26,7 +26,7 @@ use Rattle.wild_terms.specs.declared.outline.Outline.{Outline}
 use Rattle.wild_terms.specs.declared.term.Atom.{Atom}
 use Rattle.wild_terms.specs.declared.term.Atom.TheVariants as atoms
 use Rattle.wild_terms.specs.declared.term.Term.{Term}
-use Rattle.wild_terms.specs.Terms.{number_term, sum, difference}
+use Rattle.wild_terms.specs.Terms.{number_term, sum, same_atom, difference}
 use Rattle.wild_terms.specs.Outline.{based}
 use Rattle.wild_terms.specs.Values.{atom_value, value_of, IsWorldOf}
 use Rattle.wild_terms.proofs.ValueLemmas.{based_is, sums_are, differences_are}
@@ -119,13 +119,52 @@ page_distance_is l w x y z pages low-x low-y h = by_first (page_term l x) refl h
     by_first None e h = cc
     by_first (Some a) e h = by_second a e (page_term l y) refl h
 
+-- ---- numbers of terms are numbers of the machine
+
+distance_below : (x y z : Term) → distance_term x y ≡ Some z → z.plus < 2 ^ 64
+distance_below x y z h = by (same_atom x.atom y.atom) h
+  where
+    by : (b : Bool) → option_map number_term (if b then Some ((x.plus + (2 ^ 64 - y.plus)) % 2 ^ 64) else None) ≡ Some z → z.plus < 2 ^ 64
+    by false h = cc
+    by true h = subst (λ (t : Term). t.plus < 2 ^ 64) (some_is (number_term ((x.plus + (2 ^ 64 - y.plus)) % 2 ^ 64)) z h) (reduced (x.plus + (2 ^ 64 - y.plus)))
+      where
+        reduced : (n : ℕ) → n % 2 ^ 64 < 2 ^ 64
+        reduced n = omega arith
+
+page_distance_below : (l : Layout) (x y z : Term) → page_distance l x y ≡ Some z → z.plus < 2 ^ 64
+page_distance_below l x y z h = by_first (page_term l x) h
+  where
+    by_second : (a : Term) (o : Option Term) → option_and_then (λ b. distance_term a b) o ≡ Some z → z.plus < 2 ^ 64
+    by_second a None h = cc
+    by_second a (Some b) h = distance_below a b z h
+
+    by_first : (o : Option Term) → option_and_then (λ a. option_and_then (λ b. distance_term a b) (page_term l y)) o ≡ Some z → z.plus < 2 ^ 64
+    by_first None h = cc
+    by_first (Some a) h = by_second a (page_term l y) h
+
+less_below : (k : Loaded) (s : InputSection) (r : InputRelocation) (u : Subtrahend) (x z : Term) → x.plus < 2 ^ 64 → less k s r u x ≡ Some z → z.plus < 2 ^ 64
+less_below k s r subtrahend.Nothing x z low h = subst (λ (t : Term). t.plus < 2 ^ 64) (some_is x z h) low
+less_below k s r subtrahend.Place x z low h = distance_below x (place_term k s r) z h
+less_below k s r subtrahend.GotBase x z low h = distance_below x (table_term k) z h
+less_below k s r subtrahend.PageOfPlace x z low h = page_distance_below k.layout x (place_term k s r) z h
+less_below k s r subtrahend.PageOfGot x z low h = cc
+
+pub parts_below : (k : Loaded) (f : File) (s : InputSection) (r : InputRelocation) (z : Term) (t : expression.Term) (u : Subtrahend) → value_by_parts k f s r t u ≡ Some z → z.plus < 2 ^ 64
+parts_below k f s r z t u h = by (term_less k f r t u) h
+  where
+    by : (o : Option Term) → option_and_then (λ (x : Term). less k s r u (sum x (addend_of r))) o ≡ Some z → z.plus < 2 ^ 64
+    by None h = cc
+    by (Some x) h = less_below k s r u (sum x (addend_of r)) z (reduced (x.plus + addend_of r)) h
+      where
+        reduced : (n : ℕ) → n % 2 ^ 64 < 2 ^ 64
+        reduced n = omega arith
+
 -- ---- the value
 
 -- the value of the formula; where the formula has the symbol's address, no other module may define the symbol
 pub record IsDecided (k : Loaded) (w : World) (m : Memory) (item : Item) (r : InputRelocation) (v : Value) (x : Term) : Type 0 where
   pub gives : Gives v k.layout w m item r (value_of w x)
   pub own : (i : ℕ) → r.symbol ≡ Some i → TakesOffset v ⊎ TakesAddress v → IsReplaceable k.layout i true → ⊥
-  pub below : x.plus < 2 ^ 64
 
 module _ (k : Loaded) (f : File) (w : World) (m : Memory) (item : Item) (s : InputSection) (r : InputRelocation) (known : Known k f w) (placed : IsPlaced k w item s r) where
   sum_is : (v : Value) (t : Term) → HasReferent k f r t → IsSum v k.layout w m item r (value_of w (sum t (addend_of r)))
@@ -160,32 +199,32 @@ module _ (k : Loaded) (f : File) (w : World) (m : Memory) (item : Item) (s : Inp
   stub_number t x n h = added (value_of w t) (addend_of r) n (value_of w x) (h.is ∙ ap (λ (y : ℕ). (y + n) % 2 ^ 64) (sums_are w t (addend_of r)))
 
   address_by : (z : RelocationSize) (t : Term) → HasReferent k f r t → IsDecided k w m item r (sized z SymbolAddress) (sum t (addend_of r))
-  address_by (ByteSize n) t h = record { gives = sum_is SymbolAddress t h; own = none_own SymbolAddress t h; below = sum_below t }
-  address_by (BitMasking b) t h = record { gives = sum_is SymbolPart t h; own = none_own SymbolPart t h; below = sum_below t }
+  address_by (ByteSize n) t h = record { gives = sum_is SymbolAddress t h; own = none_own SymbolAddress t h }
+  address_by (BitMasking b) t h = record { gives = sum_is SymbolPart t h; own = none_own SymbolPart t h }
 
   distance_by : (z : RelocationSize) (t x : Term) → HasReferent k f r t → distance_term (sum t (addend_of r)) (place_term k s r) ≡ Some x → IsDecided k w m item r (sized z Distance) x
-  distance_by (ByteSize n) t x h e = (let b = by_place t x e in record { gives = (value_of w (sum t (addend_of r)), sum_is Distance t h, b.is); own = none_own Distance t h; below = b.below })
-  distance_by (BitMasking n) t x h e = (let b = by_place t x e in record { gives = (value_of w (sum t (addend_of r)), sum_is Distance t h, b.is); own = none_own Distance t h; below = b.below })
+  distance_by (ByteSize n) t x h e = (let b = by_place t x e in record { gives = (value_of w (sum t (addend_of r)), sum_is Distance t h, b.is); own = none_own Distance t h })
+  distance_by (BitMasking n) t x h e = (let b = by_place t x e in record { gives = (value_of w (sum t (addend_of r)), sum_is Distance t h, b.is); own = none_own Distance t h })
 
   table_by : (z : RelocationSize) (t x : Term) → HasReferent k f r t → distance_term (sum t (addend_of r)) (table_term k) ≡ Some x → IsDecided k w m item r (sized z FromTable) x
-  table_by (ByteSize n) t x h e = (let b = by_table t x e in record { gives = (value_of w (sum t (addend_of r)), sum_is FromTable t h, b.is); own = none_own FromTable t h; below = b.below })
-  table_by (BitMasking n) t x h e = (let b = by_table t x e in record { gives = (value_of w (sum t (addend_of r)), sum_is FromTable t h, b.is); own = none_own FromTable t h; below = b.below })
+  table_by (ByteSize n) t x h e = (let b = by_table t x e in record { gives = (value_of w (sum t (addend_of r)), sum_is FromTable t h, b.is); own = none_own FromTable t h })
+  table_by (BitMasking n) t x h e = (let b = by_table t x e in record { gives = (value_of w (sum t (addend_of r)), sum_is FromTable t h, b.is); own = none_own FromTable t h })
 
   page_by_size : (z : RelocationSize) (t x : Term) → HasReferent k f r t → page_distance k.layout (sum t (addend_of r)) (place_term k s r) ≡ Some x → IsDecided k w m item r (sized z PageDistance) x
-  page_by_size (ByteSize n) t x h e = (let b = by_page t x e in record { gives = (value_of w (sum t (addend_of r)), sum_is PageDistance t h, b.is); own = none_own PageDistance t h; below = b.below })
-  page_by_size (BitMasking n) t x h e = (let b = by_page t x e in record { gives = (value_of w (sum t (addend_of r)), sum_is PageDistance t h, b.is); own = none_own PageDistance t h; below = b.below })
+  page_by_size (ByteSize n) t x h e = (let b = by_page t x e in record { gives = (value_of w (sum t (addend_of r)), sum_is PageDistance t h, b.is); own = none_own PageDistance t h })
+  page_by_size (BitMasking n) t x h e = (let b = by_page t x e in record { gives = (value_of w (sum t (addend_of r)), sum_is PageDistance t h, b.is); own = none_own PageDistance t h })
 
   no_address : (v : Value) → (TakesOffset v → ⊥) → (TakesAddress v → ⊥) → (i : ℕ) → r.symbol ≡ Some i → TakesOffset v ⊎ TakesAddress v → IsReplaceable k.layout i true → ⊥
   no_address v none-offset none-address i named (inl x) y = none-offset x
   no_address v none-offset none-address i named (inr x) y = none-address x
 
   stub_by : (z : RelocationSize) (t x : Term) → HasReferent k f r t → distance_term (sum t (addend_of r)) (place_term k s r) ≡ Some x → IsDecided k w m item r (sized z StubDistance) x
-  stub_by (ByteSize n) t x h e = (let b = by_place t x e in record { gives = (value_of w t, referent k f StubDistance w m item r t known h, stub_number t x (2 ^ 64 - place_at w item r.offset) b); own = no_address StubDistance (λ q. q) (λ q. q); below = b.below })
-  stub_by (BitMasking n) t x h e = (let b = by_place t x e in record { gives = (value_of w t, referent k f StubDistance w m item r t known h, stub_number t x (2 ^ 64 - place_at w item r.offset) b); own = no_address StubDistance (λ q. q) (λ q. q); below = b.below })
+  stub_by (ByteSize n) t x h e = (let b = by_place t x e in record { gives = (value_of w t, referent k f StubDistance w m item r t known h, stub_number t x (2 ^ 64 - place_at w item r.offset) b); own = no_address StubDistance (λ q. q) (λ q. q) })
+  stub_by (BitMasking n) t x h e = (let b = by_place t x e in record { gives = (value_of w t, referent k f StubDistance w m item r t known h, stub_number t x (2 ^ 64 - place_at w item r.offset) b); own = no_address StubDistance (λ q. q) (λ q. q) })
 
   stub_table_by : (z : RelocationSize) (t x : Term) → HasReferent k f r t → distance_term (sum t (addend_of r)) (table_term k) ≡ Some x → IsDecided k w m item r (sized z StubFromTable) x
-  stub_table_by (ByteSize n) t x h e = (let b = by_table t x e in record { gives = (value_of w t, referent k f StubFromTable w m item r t known h, stub_number t x (2 ^ 64 - table_at k.layout w) b); own = no_address StubFromTable (λ q. q) (λ q. q); below = b.below })
-  stub_table_by (BitMasking n) t x h e = (let b = by_table t x e in record { gives = (value_of w t, referent k f StubFromTable w m item r t known h, stub_number t x (2 ^ 64 - table_at k.layout w) b); own = no_address StubFromTable (λ q. q) (λ q. q); below = b.below })
+  stub_table_by (ByteSize n) t x h e = (let b = by_table t x e in record { gives = (value_of w t, referent k f StubFromTable w m item r t known h, stub_number t x (2 ^ 64 - table_at k.layout w) b); own = no_address StubFromTable (λ q. q) (λ q. q) })
+  stub_table_by (BitMasking n) t x h e = (let b = by_table t x e in record { gives = (value_of w t, referent k f StubFromTable w m item r t known h, stub_number t x (2 ^ 64 - table_at k.layout w) b); own = no_address StubFromTable (λ q. q) (λ q. q) })
 
   -- GOT + A - P
   got_by : (z : RelocationSize) (x : Term) → distance_term (sum (table_term k) (addend_of r)) (place_term k s r) ≡ Some x → IsDecided k w m item r (sized z TableDistance) x
@@ -198,8 +237,8 @@ module _ (k : Loaded) (f : File) (w : World) (m : Memory) (item : Item) (s : Inp
       number = stub_number (table_term k) x (2 ^ 64 - place_at w item r.offset) b ∙ ap (λ (n : ℕ). (n + addend_of r + (2 ^ 64 - place_at w item r.offset)) % 2 ^ 64) (table_is k w known.world)
 
       by_size : (z : RelocationSize) → IsDecided k w m item r (sized z TableDistance) x
-      by_size (ByteSize n) = record { gives = number; own = no_address TableDistance (λ q. q) (λ q. q); below = b.below }
-      by_size (BitMasking n) = record { gives = number; own = no_address TableDistance (λ q. q) (λ q. q); below = b.below }
+      by_size (ByteSize n) = record { gives = number; own = no_address TableDistance (λ q. q) (λ q. q) }
+      by_size (BitMasking n) = record { gives = number; own = no_address TableDistance (λ q. q) (λ q. q) }
 
   -- the term that is known, and what is made of it
   record HasParts (x : Term) (t : expression.Term) (u : Subtrahend) : Type 0 where

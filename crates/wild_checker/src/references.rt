@@ -1,13 +1,13 @@
 //! Whether the field of a reference has the value of its formula in every world.
-ghost use Rattle.std.specs.Prelude.{◌≡◌, ◌+◌, ◌≤◌, ◌<◌, ◌^◌, true, length};
-ghost use Rattle.wild_reloc.specs.Field.{field_width};
+ghost use Rattle.std.specs.Prelude.{◌≡◌, true, length, take};
+ghost use Rattle.wild_reloc.specs.Field.{field_width, written};
 ghost use Rattle.wild_checker.specs.Loaded.{loaded_now};
 ghost use Rattle.wild_checker.specs.References.{referent_term, addend_of, place_term, table_term, distance_term, page_term, page_distance, less, term_less, value_by_parts, value_term, is_eight, is_whole, number_holds, is_term, value_holds, is_inside, field_holds, reference_holds};
 
 use crate::bytes::first_changed;
 use crate::loaded::LoadedRef;
 use crate::symbols::{names_no_strings, symbol_term};
-use wild_reloc::{RelocationKindInfo, RelocationSize, Subtrahend, Width};
+use wild_reloc::{RelocationKindInfo, RelocationSize, Subtrahend, Width, widths_of_fields};
 use wild_terms::{Atom, Term, TermMemory};
 use wild_types::{File, InputRelocation, InputSection, Layout, SymbolIndex, row_of};
 use wild_words::put;
@@ -177,6 +177,20 @@ fn is_whole(row: &RelocationKindInfo) -> bool
         && row.range.above == 1 << 63
 }
 
+/// The bytes of a field after a number is written over the input's, and zeros.
+fn written_field(row: &RelocationKindInfo, value: u64, old: &[u8]) -> [u8; 8]
+    requires whole { length old.now ≡ field_width row.now }
+    ensures written { take (field_width row.now) result ≡ written row.now value old.now }
+    ensures long { length result ≡ 8 }
+{
+    widths_of_fields();
+    let _width = row.width();
+    let mut field = [0; 8];
+    put(&mut field, 0, old);
+    row.size.write(value, &mut field);
+    field
+}
+
 /// Whether the field has a number.
 fn number_holds(
     memory: &TermMemory,
@@ -191,16 +205,9 @@ fn number_holds(
     let width = row.width();
     let start = relocation.offset as usize;
     let place = section.address + relocation.offset;
-    let mut field = [0; 8];
-    put(
-        &mut field,
-        0,
-        &section.bytes.as_slice()[start..start + width],
-    );
-    match row.write_to_buffer(value, &mut field) {
-        Ok(()) => first_changed(memory, place, 0, &field[..width]).is_none(),
-        Err(_) => false,
-    }
+    let old = &section.bytes.as_slice()[start..start + width];
+    let field = written_field(row, value, old);
+    row.allows(value) && first_changed(memory, place, 0, &field[..width]).is_none()
 }
 
 /// Whether a term is known and is that one.
