@@ -45,10 +45,13 @@ pub record IsPlaced (k : Loaded) (w : World) (item : Item) (s : InputSection) (r
   pub low : place_at w item r.offset < 2 ^ 64
   pub pages : k.layout.page_size % 4096 ≡ 0 → w.base % 4096 ≡ 0
 
+abbrev plus_of : Term → ℕ
+plus_of t = t.plus
+
 based_below : (o : Outline) (n : ℕ) → n < 2 ^ 64 → (based o n).plus < 2 ^ 64
 based_below o n low = by o.movable
   where
-    by : (b : Bool) → (if b then (let t : Term = record { atom = atoms.Base; plus = n } in t) else number_term n).plus < 2 ^ 64
+    by : (b : Bool) → plus_of (if b then record { atom = atoms.Base; plus = n } else number_term n) < 2 ^ 64
     by true = low
     by false = low
 
@@ -67,9 +70,6 @@ record IsNumber (w : World) (x : Term) (n : ℕ) : Type 0 where
   is : value_of w x ≡ n
   below : x.plus < 2 ^ 64
 
-number_below : (d n : ℕ) → d ≡ n % 2 ^ 64 → d < 2 ^ 64
-number_below d n e = omega (arith, e)
-
 distance_is : (w : World) (x y z : Term) → y.plus < 2 ^ 64 → distance_term x y ≡ Some z → IsNumber w z ((value_of w x + (2 ^ 64 - value_of w y)) % 2 ^ 64)
 distance_is w x y z low h = by (difference x y) refl h
   where
@@ -86,20 +86,20 @@ distance_is w x y z low h = by (difference x y) refl h
 page_sum : (b n : ℕ) → b % 4096 ≡ 0 → (b + (n - n % 4096)) % 2 ^ 64 ≡ page_of ((b + n) % 2 ^ 64)
 page_sum b n e = omega (arith, e)
 
+abbrev base_page : ℕ → Term
+base_page n = record { atom = atoms.Base; plus = n - n % 4096 }
+
 page_value : (l : Layout) (w : World) (a : Atom) (n : ℕ) (y : Term) → (l.page_size % 4096 ≡ 0 → w.base % 4096 ≡ 0) → n < 2 ^ 64 → page_by l a n ≡ Some y → IsNumber w y (page_of ((atom_value w a + n) % 2 ^ 64))
 page_value l w atoms.Zero n y pages low h =
     let below : n - n % 4096 < 2 ^ 64 = omega (arith, low) in
     subst (λ (t : Term). IsNumber w t (page_of ((0 + n) % 2 ^ 64))) (some_is (number_term (n - n % 4096)) y h) (record { is = page_sum 0 n refl; below = below })
 page_value l w atoms.Base n y pages low h = by (l.page_size % 4096 == 0) refl h
   where
-    here : Term
-    here = record { atom = atoms.Base; plus = n - n % 4096 }
-
-    by : (b : Bool) → (l.page_size % 4096 == 0) ≡ b → (if b then Some here else None) ≡ Some y → IsNumber w y (page_of ((w.base + n) % 2 ^ 64))
+    by : (b : Bool) → (l.page_size % 4096 == 0) ≡ b → (if b then Some (base_page n) else None) ≡ Some y → IsNumber w y (page_of ((w.base + n) % 2 ^ 64))
     by false e h = cc
     by true e h =
         let below : n - n % 4096 < 2 ^ 64 = omega (arith, low) in
-        subst (λ (t : Term). IsNumber w t (page_of ((w.base + n) % 2 ^ 64))) (some_is here y h) (record { is = page_sum w.base n (pages (eqb-true (l.page_size % 4096) 0 e)); below = below })
+        subst (λ (t : Term). IsNumber w t (page_of ((w.base + n) % 2 ^ 64))) (some_is (base_page n) y h) (record { is = page_sum w.base n (pages (eqb-true (l.page_size % 4096) 0 e)); below = below })
 page_value l w other n y pages low h = cc
 
 page_is : (l : Layout) (w : World) (x y : Term) → (l.page_size % 4096 ≡ 0 → w.base % 4096 ≡ 0) → x.plus < 2 ^ 64 → page_term l x ≡ Some y → IsNumber w y (page_of (value_of w x))

@@ -5,13 +5,11 @@ use Rattle.std.proofs.lemmas.Bool.{eq-eqb, and_parts, or_cases, not-true}
 use Rattle.std.proofs.lemmas.List.Elements.{All-contains}
 use Rattle.wild_words.proofs.ListLemmas.{holds_at}
 use Rattle.wild_records.specs.Abi.Symbol.{stt_section}
-use Rattle.wild_reloc.specs.Formula.{Value, Slot, NoValue, SymbolAddress, SymbolPart, Distance, PageDistance, FromTable, StubDistance, StubFromTable}
+use Rattle.wild_reloc.specs.Formula.{Value, SymbolPart, Distance, PageDistance, StubDistance}
 use Rattle.wild_types.specs.declared.file.File.{File}
 use Rattle.wild_types.specs.declared.file.Group.{Group}
 use Rattle.wild_types.specs.declared.input.InputRelocation.{InputRelocation}
 use Rattle.wild_types.specs.declared.input.InputSection.{InputSection}
-use Rattle.wild_types.specs.declared.input.Slot.{Slot as SlotSort}
-use Rattle.wild_types.specs.declared.input.Slot.TheVariants as slot
 use Rattle.wild_types.specs.declared.kind.Machine.{Machine}
 use Rattle.wild_types.specs.declared.kind.Machine.TheVariants as machine
 use Rattle.wild_types.specs.declared.layout.Layout.{Layout}
@@ -31,7 +29,7 @@ use Rattle.wild_meaning.specs.Value.{HasValue, HasRaw, IsReplaceable, HasFlag, m
 use Rattle.wild_meaning.specs.Denotes.{IsAddressStub}
 use Rattle.wild_meaning.specs.Strings.{NamesStrings}
 use Rattle.wild_meaning.specs.ReferentAArch64.{RepresentsOnAArch64, IsUndefinedWeak}
-use Rattle.wild_meaning.specs.Formula.{IsReferent, IsReferentOnMachine, IsReferentOnAArch64, IsSymbolAddress, UsesOwnPlace}
+use Rattle.wild_meaning.specs.Formula.{IsReferent, IsReferentOnAArch64, IsSymbolAddress, UsesOwnPlace}
 use Rattle.wild_meaning.proofs.SymbolLemmas.{canonical_is, own_definition, referent_is}
 use Rattle.wild_terms.specs.declared.outline.Outline.{Outline}
 use Rattle.wild_terms.specs.declared.term.Term.{Term}
@@ -161,13 +159,13 @@ has_term k f i t h = by (slice_get k.layout.symbols (canonical k.layout i)) refl
 record PlainParts (l : Layout) (d : Symbol) : Type 0 where
   own : may_be_replaced l.kind d.flags ≡ false
   direct : has_flag d.flags ifunc ≡ false
-  represents : represents l.machine d ≡ true
+  alone : represents l.machine d ≡ true
 
 plain_parts : (l : Layout) (d : Symbol) → is_plain l d ≡ true → PlainParts l d
 plain_parts l d h =
     let a = and_parts (not (may_be_replaced l.kind d.flags)) (not (has_flag d.flags ifunc) && represents l.machine d) h in
     let b = and_parts (not (has_flag d.flags ifunc)) (represents l.machine d) a.1 in
-    record { own = not-true (may_be_replaced l.kind d.flags) a.0; direct = not-true (has_flag d.flags ifunc) b.0; represents = b.1 }
+    record { own = not-true (may_be_replaced l.kind d.flags) a.0; direct = not-true (has_flag d.flags ifunc) b.0; alone = b.1 }
 
 -- the term has the symbol's value
 pub has_value : (k : Loaded) (f : File) (w : World) (i : ℕ) (t : Term) → Known k f w → HasTerm k f i t → HasValue k.layout w i (value_of w t)
@@ -293,7 +291,7 @@ on_aarch64 k f v w m item r t n on (Nameless e z) =
 on_aarch64 k f v w m item r t n on (Named i e strings h) =
     let d = h.of.definition in
     let p = plain_parts k.layout d h.of.plain in
-    let q = defined_on_aarch64 d (subst (λ (x : Machine). represents x d ≡ true) on p.represents) in
+    let q = defined_on_aarch64 d (subst (λ (x : Machine). represents x d ≡ true) on p.alone) in
     let other : UsesOwnPlace v k.layout i → ⊥ = λ u. not_weak u.1.weak q.strong in
     subst (λ (o : Option ℕ). IsReferentOnAArch64 v k.layout w m item r o (value_of w t)) (sym e)
     (inr (other, represents_by v k.layout w m r i (value_of w t) (λ s is. no_stub k.layout i s d h.of.there q.stubless is) (has_value k f w i t n h)))
