@@ -1,5 +1,11 @@
 pub mod WorldLemmas
+pub mod FileLemmas
 pub mod SiteLemmas
+pub mod ValueLemmas
+pub mod WrittenLemmas
+pub mod FormulaLemmas
+pub mod FieldLemmas
+pub mod ItemLemmas
 pub mod SegmentLemmas
 pub mod VerdictLemmas
 pub mod Soundness

@@ -1,16 +1,19 @@
 -- Where no answer is found, no section has one.
-use Rattle.std.proofs.Common.{◌≡◌, ℕ, zero, suc, ◌+◌, ◌<◌, Bool, true, false, List, [], ◌∷◌, length, refl, ap, ◌∙◌, arith}
-use Rattle.std.specs.Prelude.{Option, Some, None, All, Contains, if◌then◌else◌, ◌==◌, slice_index}
+use Rattle.std.proofs.Common.{◌≡◌, ℕ, zero, suc, ◌+◌, ◌-◌, ◌<◌, ◌≤◌, ◌⊎◌, inl, inr, Bool, true, false, List, [], ◌∷◌, length, min, refl, sym, ap, ◌∙◌, arith, subst}
+use Rattle.std.specs.Prelude.{Option, Some, None, All, Contains, if◌then◌else◌, ◌==◌, slice_index, slice_range}
 use Rattle.std.proofs.lemmas.Bool.{eqb-true}
-use Rattle.std.proofs.lemmas.List.Elements.{All-nil, All-cons, All-contains}
-use Rattle.wild_records.specs.Abi.Relocation.{r_x86_64_none}
+use Rattle.std.proofs.lemmas.List.Elements.{All-nil, All-cons, All-head, All-tail, All-contains}
+use Rattle.wild_words.proofs.Basics.{length-range, range_byte}
 use Rattle.wild_types.specs.declared.file.File.{File}
 use Rattle.wild_types.specs.declared.file.Group.{Group}
 use Rattle.wild_types.specs.declared.input.InputRelocation.{InputRelocation}
 use Rattle.wild_types.specs.declared.input.InputSection.{InputSection}
+use Rattle.wild_types.specs.declared.kind.Machine.{Machine}
 use Rattle.wild_terms.specs.Symbolic.{Symbolic, known_byte}
+use Rattle.wild_checker.specs.Loaded.{Loaded}
+use Rattle.wild_checker.specs.Bytes.{is_same, is_byte, first_changed, field_end, changed_between, changed_gap}
 use Rattle.wild_checker.specs.Search.{or_else, site_at, in_sections, in_files, in_groups}
-use Rattle.wild_checker.specs.Sections.{first_reference, is_same, is_byte, first_changed}
+use Rattle.wild_checker.specs.Sections.{is_settled, first_doubt}
 
 both_none : {X : Type 0} (a b : Option X) → or_else a b ≡ None → (a ≡ None) × (b ≡ None)
 both_none None b h = (refl, h)
@@ -27,40 +30,40 @@ none_in_sections asks g f n (s ∷ ss) h =
     All-cons (λ s. asks s ≡ None) s ss (no_answer g f n (asks s) two.0) (none_in_sections asks g f (n + 1) ss two.1)
 
 -- no section of the file has an answer
-abbrev pub NoneInFile : (InputSection → Option ℕ) → File → Type 0
-NoneInFile asks f = All (λ s. asks s ≡ None) f.sections
+abbrev pub NoneInFile : (File → InputSection → Option ℕ) → File → Type 0
+NoneInFile asks f = All (λ s. asks f s ≡ None) f.sections
 
-none_in_files : (asks : InputSection → Option ℕ) (g n : ℕ) (fs : List File) → in_files asks g n fs ≡ None → All (NoneInFile asks) fs
+none_in_files : (asks : File → InputSection → Option ℕ) (g n : ℕ) (fs : List File) → in_files asks g n fs ≡ None → All (NoneInFile asks) fs
 none_in_files asks g n [] h = All-nil (NoneInFile asks)
 none_in_files asks g n (f ∷ fs) h =
-    let two = both_none (in_sections asks g n 0 f.sections) (in_files asks g (n + 1) fs) h in
-    All-cons (NoneInFile asks) f fs (none_in_sections asks g n 0 f.sections two.0) (none_in_files asks g (n + 1) fs two.1)
+    let two = both_none (in_sections (asks f) g n 0 f.sections) (in_files asks g (n + 1) fs) h in
+    All-cons (NoneInFile asks) f fs (none_in_sections (asks f) g n 0 f.sections two.0) (none_in_files asks g (n + 1) fs two.1)
 
-abbrev pub NoneInGroup : (InputSection → Option ℕ) → Group → Type 0
+abbrev pub NoneInGroup : (File → InputSection → Option ℕ) → Group → Type 0
 NoneInGroup asks g = All (NoneInFile asks) g.files
 
-none_in_groups : (asks : InputSection → Option ℕ) (n : ℕ) (gs : List Group) → in_groups asks n gs ≡ None → All (NoneInGroup asks) gs
+none_in_groups : (asks : File → InputSection → Option ℕ) (n : ℕ) (gs : List Group) → in_groups asks n gs ≡ None → All (NoneInGroup asks) gs
 none_in_groups asks n [] h = All-nil (NoneInGroup asks)
 none_in_groups asks n (g ∷ gs) h =
     let two = both_none (in_files asks n 0 g.files) (in_groups asks (n + 1) gs) h in
     All-cons (NoneInGroup asks) g gs (none_in_files asks n 0 g.files two.0) (none_in_groups asks (n + 1) gs two.1)
 
 -- a section of the layout has no answer
-pub none_at : (asks : InputSection → Option ℕ) (gs : List Group) (g : Group) (f : File) (s : InputSection) → in_groups asks 0 gs ≡ None → Contains gs g → Contains g.files f → Contains f.sections s → asks s ≡ None
+pub none_at : (asks : File → InputSection → Option ℕ) (gs : List Group) (g : Group) (f : File) (s : InputSection) → in_groups asks 0 gs ≡ None → Contains gs g → Contains g.files f → Contains f.sections s → asks f s ≡ None
 none_at asks gs g f s none in-groups in-files in-sections =
     let group = All-contains (NoneInGroup asks) gs g (none_in_groups asks 0 gs none) in-groups in
     let file = All-contains (NoneInFile asks) g.files f group in-files in
-    All-contains (λ s. asks s ≡ None) f.sections s file in-sections
+    All-contains (λ s. asks f s ≡ None) f.sections s file in-sections
 
 -- ---- references and bytes
 
--- where none refers to something, all are of type NONE
-pub no_reference : (i : ℕ) (rs : List InputRelocation) → first_reference i rs ≡ None → All (λ (r : InputRelocation). r.number ≡ r_x86_64_none) rs
-no_reference i [] h = All-nil (λ (r : InputRelocation). r.number ≡ r_x86_64_none)
-no_reference i (r ∷ rs) h = by_test (no_reference (i + 1) rs) (r.number == r_x86_64_none) refl h
+-- where none is doubted, all refer to nothing or hold
+pub no_doubt : (k : Loaded) (f : File) (s : InputSection) (i : ℕ) (rs : List InputRelocation) → first_doubt k f s i rs ≡ None → All (λ (r : InputRelocation). is_settled k f s r ≡ true) rs
+no_doubt k f s i [] h = All-nil (λ (r : InputRelocation). is_settled k f s r ≡ true)
+no_doubt k f s i (r ∷ rs) h = by_test (no_doubt k f s (i + 1) rs) (is_settled k f s r) refl h
   where
-    by_test : (first_reference (i + 1) rs ≡ None → All (λ (r : InputRelocation). r.number ≡ r_x86_64_none) rs) → (b : Bool) → (r.number == r_x86_64_none) ≡ b → (if b then first_reference (i + 1) rs else Some i) ≡ None → All (λ (r : InputRelocation). r.number ≡ r_x86_64_none) (r ∷ rs)
-    by_test rest true e h = All-cons (λ (r : InputRelocation). r.number ≡ r_x86_64_none) r rs (eqb-true r.number r_x86_64_none e) (rest h)
+    by_test : (first_doubt k f s (i + 1) rs ≡ None → All (λ (r : InputRelocation). is_settled k f s r ≡ true) rs) → (b : Bool) → is_settled k f s r ≡ b → (if b then first_doubt k f s (i + 1) rs else Some i) ≡ None → All (λ (r : InputRelocation). is_settled k f s r ≡ true) (r ∷ rs)
+    by_test rest true e h = All-cons (λ (r : InputRelocation). is_settled k f s r ≡ true) r rs e (rest h)
     by_test rest false e h = cc
 
 same_byte : (x : Option ℕ) (b : ℕ) → is_same x b ≡ true → x ≡ Some b
@@ -80,3 +83,42 @@ no_change t a k (b ∷ bs) h j l = by_test (no_change t a (k + 1) bs) (is_byte t
     by_test rest true e h (suc j) l =
         let n : a + (k + suc j) ≡ a + (k + 1 + j) = omega arith in
         ap (known_byte t) n ∙ rest h j (omega (arith, l))
+
+-- ---- bytes in no field
+
+-- the bytes between two offsets
+between_known : (t : Symbolic) (s : InputSection) (n to k : ℕ) → changed_between t s n to ≡ None → n ≤ k → k < to → k < length s.bytes → known_byte t (s.address + k) ≡ Some (slice_index s.bytes k)
+between_known t s n to k h low high within =
+    let end = min to (length s.bytes) in
+    let above : k < end = least k to (length s.bytes) high within in
+    let below : end ≤ length s.bytes = min_right to (length s.bytes) in
+    let size = end - n in
+    let whole : n + size ≡ end = omega (arith, low, above) in
+    let parts : slice_range s.bytes n end ≡ slice_range s.bytes n (n + size) = ap (slice_range s.bytes n) (sym whole) in
+    let long : length (slice_range s.bytes n (n + size)) ≡ size = length-range s.bytes n size (omega (arith, whole, below)) in
+    let h2 : first_changed t s.address n (slice_range s.bytes n (n + size)) ≡ None = ap (first_changed t s.address n) (sym parts) ∙ h in
+    let known = no_change t s.address n (slice_range s.bytes n (n + size)) h2 (k - n) (omega (arith, long, low, above)) in
+    let there : n + (k - n) ≡ k = omega (arith, low) in
+    let byte : slice_index (slice_range s.bytes n (n + size)) (k - n) ≡ slice_index s.bytes (n + (k - n)) = range_byte s.bytes n size (k - n) (omega (arith, low, above)) in
+    let P : ℕ → Type 0 = λ j. known_byte t (s.address + j) ≡ Some (slice_index s.bytes j) in
+    subst P there (known ∙ ap Some byte)
+  where
+    least : (k a b : ℕ) → k < a → k < b → k < min a b
+    least k a b h l = grind (arith, h, l)
+
+    min_right : (a b : ℕ) → min a b ≤ b
+    min_right a b = grind arith
+
+-- the byte is in no field
+abbrev pub IsBeside : Machine → ℕ → InputRelocation → Type 0
+IsBeside m k r = (k < r.offset) ⊎ (field_end m r ≤ k)
+
+pub gap_known : (m : Machine) (t : Symbolic) (s : InputSection) (n : ℕ) (rs : List InputRelocation) (k : ℕ) → changed_gap m t s n rs ≡ None → n ≤ k → k < length s.bytes → All (IsBeside m k) rs → known_byte t (s.address + k) ≡ Some (slice_index s.bytes k)
+gap_known m t s n [] k h low within all = between_known t s n (length s.bytes) k h low within within
+gap_known m t s n (r ∷ rs) k h low within all =
+    let two = both_none (changed_between t s n r.offset) (changed_gap m t s (field_end m r) rs) h in
+    by two.0 (gap_known m t s (field_end m r) rs k two.1) (All-head (IsBeside m k) r rs all)
+  where
+    by : changed_between t s n r.offset ≡ None → (field_end m r ≤ k → k < length s.bytes → All (IsBeside m k) rs → known_byte t (s.address + k) ≡ Some (slice_index s.bytes k)) → IsBeside m k r → known_byte t (s.address + k) ≡ Some (slice_index s.bytes k)
+    by between rest (inl before) = between_known t s n r.offset k between low before within
+    by between rest (inr behind) = rest behind within (All-tail (IsBeside m k) r rs all)

@@ -19,18 +19,18 @@ partial l image e = rw e refl
 pub not_partial : (l : Layout) (image : List ℕ) (v : Verdict) → is_partial_link l.kind ≡ false → IsOutlined l image v → IsAnswer l image v
 not_partial l image v e h = rw e h
 
-pub loaded : (l : Layout) (image : List ℕ) (o : Outline) (t : Symbolic) (v : Verdict) → IsOutlineOf l o → IsLoadedBy (terms_of o image) (Ok t) → IsSegmentVerdict l image t v → IsOutlined l image v
+pub loaded : (l : Layout) (image : List ℕ) (o : Outline) (t : Symbolic) (v : Verdict) → IsOutlineOf l o → IsLoadedBy (terms_of o image) (Ok t) → IsSegmentVerdict l o image t v → IsOutlined l image v
 loaded l image o t v is h said =
-    let P : Result Symbolic LoadFault → Type 0 = λ r. IsReadVerdict l image r v in
+    let P : Result Symbolic LoadFault → Type 0 = λ r. IsReadVerdict l o image r v in
     record { outline = o; is = is; said = subst P (sym h.1) (record { sorted = t; order = h.2; verdict = said }) }
 
 pub refused : (l : Layout) (image : List ℕ) (o : Outline) (f : LoadFault) (v : Verdict) → IsOutlineOf l o → IsLoadedBy (terms_of o image) (Err f) → IsRefusal f v → IsOutlined l image v
 refused l image o f v is h said = record { outline = o; is = is; said = by_fault f h said }
   where
-    here : (f : LoadFault) → terms_of o image ≡ Err f → IsRefusal f v → IsReadVerdict l image (terms_of o image) v
-    here f e h = let P : Result Symbolic LoadFault → Type 0 = λ r. IsReadVerdict l image r v in subst P (sym e) h
+    here : (f : LoadFault) → terms_of o image ≡ Err f → IsRefusal f v → IsReadVerdict l o image (terms_of o image) v
+    here f e h = let P : Result Symbolic LoadFault → Type 0 = λ r. IsReadVerdict l o image r v in subst P (sym e) h
 
-    by_fault : (f : LoadFault) → IsLoadedBy (terms_of o image) (Err f) → IsRefusal f v → IsReadVerdict l image (terms_of o image) v
+    by_fault : (f : LoadFault) → IsLoadedBy (terms_of o image) (Err f) → IsRefusal f v → IsReadVerdict l o image (terms_of o image) v
     by_fault faults.OutOfMemory h said = absurd said
     by_fault faults.NotElf h said = here faults.NotElf h said
     by_fault (faults.Cut n) h said = here (faults.Cut n) h said

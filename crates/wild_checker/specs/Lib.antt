@@ -1,4 +1,8 @@
 pub mod Search
+pub mod Loaded
+pub mod Bytes
+pub mod Symbols
+pub mod References
 pub mod Sections
 pub mod Outline
 pub mod Segments

@@ -19,10 +19,10 @@ abbrev pub in_sections : (InputSection → Option ℕ) → ℕ → ℕ → ℕ �
 in_sections asks g f n [] = None
 in_sections asks g f n (s ∷ ss) = or_else (site_at g f n (asks s)) (in_sections asks g f (n + 1) ss)
 
-abbrev pub in_files : (InputSection → Option ℕ) → ℕ → ℕ → List File → Option Site
+abbrev pub in_files : (File → InputSection → Option ℕ) → ℕ → ℕ → List File → Option Site
 in_files asks g n [] = None
-in_files asks g n (f ∷ fs) = or_else (in_sections asks g n 0 f.sections) (in_files asks g (n + 1) fs)
+in_files asks g n (f ∷ fs) = or_else (in_sections (asks f) g n 0 f.sections) (in_files asks g (n + 1) fs)
 
-abbrev pub in_groups : (InputSection → Option ℕ) → ℕ → List Group → Option Site
+abbrev pub in_groups : (File → InputSection → Option ℕ) → ℕ → List Group → Option Site
 in_groups asks n [] = None
 in_groups asks n (g ∷ gs) = or_else (in_files asks n 0 g.files) (in_groups asks (n + 1) gs)

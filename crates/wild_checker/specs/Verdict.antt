@@ -7,6 +7,7 @@ use Rattle.std.specs.Prelude.{◌≡◌, ℕ, ◌<◌, Bool, true, false, List, 
 use Rattle.wild_types.specs.declared.layout.Layout.{Layout}
 use Rattle.wild_types.specs.Item.{Item}
 use Rattle.wild_types.specs.Kinds.{is_partial_link}
+use Rattle.wild_layout.specs.Numbers.{NumbersFit}
 use Rattle.wild_loader.specs.declared.memory.Memory.{Memory}
 use Rattle.wild_loader.specs.declared.world.World.{World}
 use Rattle.wild_loader.specs.declared.fault.LoadFault.{LoadFault}
@@ -17,12 +18,14 @@ use Rattle.wild_meaning.specs.Item.{IsKept}
 use Rattle.wild_meaning.specs.Reference.{ItemHolds}
 use Rattle.wild_terms.specs.declared.outline.Outline.{Outline}
 use Rattle.wild_terms.specs.Symbolic.{Symbolic, IsSorted, terms_of}
+use Rattle.wild_checker.specs.Loaded.{Loaded}
 use Rattle.wild_checker.specs.declared.question.Site.{Site}
 use Rattle.wild_checker.specs.declared.verdict.Doubt.TheVariants as doubts
 use Rattle.wild_checker.specs.declared.verdict.Verdict.{Verdict}
 use Rattle.wild_checker.specs.declared.verdict.Verdict.TheVariants.{Yes, No}
 use Rattle.wild_checker.specs.Outline.{IsOutlineOf}
 use Rattle.wild_checker.specs.Search.{in_groups}
+use Rattle.wild_checker.specs.Symbols.{are_ordered}
 use Rattle.wild_checker.specs.Sections.{changed_byte, doubtful_reference}
 use Rattle.wild_checker.specs.Segments.{segment_doubt}
 
@@ -44,26 +47,26 @@ abbrev pub by_reference : Option Site → Verdict
 by_reference None = Yes
 by_reference (Some site) = No (doubts.Reference site)
 
-abbrev pub by_byte : Layout → Option Site → Verdict
-by_byte l None = by_reference (in_groups doubtful_reference 0 l.groups)
-by_byte l (Some site) = No (doubts.Byte site)
+abbrev pub by_byte : Loaded → Option Site → Verdict
+by_byte k None = by_reference (in_groups (doubtful_reference k) 0 k.layout.groups)
+by_byte k (Some site) = No (doubts.Byte site)
 
 abbrev pub whole : Site
 whole = record { group = 0; file = 0; section = 0; index = 0 }
 
 -- the verdict on an image whose segments to load are the layout's: the first changed byte, else the first reference
-abbrev pub sections_verdict : Layout → Symbolic → Verdict
-sections_verdict l t = if l.options.only_keep_debug then No (doubts.Reference whole) else by_byte l (in_groups (changed_byte t) 0 l.groups)
+abbrev pub sections_verdict : Layout → Outline → Symbolic → Verdict
+sections_verdict l o t = if l.options.only_keep_debug then No (doubts.Reference whole) else by_byte (record { layout = l; outline = o; memory = t; ordered = are_ordered l }) (in_groups (λ f. changed_byte l.machine t) 0 l.groups)
 
-abbrev pub by_segment : Layout → Symbolic → Option ℕ → Verdict
-by_segment l t None = sections_verdict l t
-by_segment l t (Some index) = No (doubts.Segment index)
+abbrev pub by_segment : Layout → Outline → Symbolic → Option ℕ → Verdict
+by_segment l o t None = sections_verdict l o t
+by_segment l o t (Some index) = No (doubts.Segment index)
 
 -- v is the verdict on an image that is read as terms
-pub record IsSegmentVerdict (l : Layout) (image : List ℕ) (t : Symbolic) (v : Verdict) : Type 0 where
+pub record IsSegmentVerdict (l : Layout) (o : Outline) (image : List ℕ) (t : Symbolic) (v : Verdict) : Type 0 where
   pub doubt : Option ℕ
   pub is : segment_doubt l image ≡ Ok doubt
-  pub said : v ≡ by_segment l t doubt
+  pub said : v ≡ by_segment l o t doubt
 
 -- v is the verdict on an image that is refused with a fault
 abbrev pub IsRefusal : LoadFault → Verdict → Type 0
@@ -71,20 +74,20 @@ IsRefusal faults.OutOfMemory v = ⊥
 IsRefusal fault v = v ≡ No (doubts.Load fault)
 
 -- the same, for an image that is read as terms or refused
-pub record IsLoadedVerdict (l : Layout) (image : List ℕ) (s : Symbolic) (v : Verdict) : Type 0 where
+pub record IsLoadedVerdict (l : Layout) (o : Outline) (image : List ℕ) (s : Symbolic) (v : Verdict) : Type 0 where
   pub sorted : Symbolic
   pub order : IsSorted s sorted
-  pub verdict : IsSegmentVerdict l image sorted v
+  pub verdict : IsSegmentVerdict l o image sorted v
 
-abbrev pub IsReadVerdict : Layout → List ℕ → Result Symbolic LoadFault → Verdict → Type 0
-IsReadVerdict l image (Err fault) v = IsRefusal fault v
-IsReadVerdict l image (Ok s) v = IsLoadedVerdict l image s v
+abbrev pub IsReadVerdict : Layout → Outline → List ℕ → Result Symbolic LoadFault → Verdict → Type 0
+IsReadVerdict l o image (Err fault) v = IsRefusal fault v
+IsReadVerdict l o image (Ok s) v = IsLoadedVerdict l o image s v
 
 -- v is the verdict, by an outline of the layout
 pub record IsOutlined (l : Layout) (image : List ℕ) (v : Verdict) : Type 0 where
   pub outline : Outline
   pub is : IsOutlineOf l outline
-  pub said : IsReadVerdict l image (terms_of outline image) v
+  pub said : IsReadVerdict l outline image (terms_of outline image) v
 
 -- the same; a relocatable object is not loaded
 abbrev pub IsVerdict : (partial : Bool) → Layout → List ℕ → Verdict → Type 0
@@ -95,6 +98,6 @@ IsVerdict false l image v = IsOutlined l image v
 abbrev pub IsAnswer : Layout → List ℕ → Verdict → Type 0
 IsAnswer l image v = IsVerdict (is_partial_link l.kind) l image v
 
--- after Yes the image holds everywhere
+-- after Yes the image of a layout whose numbers fit their types holds everywhere
 abbrev pub YesIsFounded : Type 0
-YesIsFounded = (l : Layout) (image : List ℕ) → All (λ b. b < 256) image → IsAnswer l image Yes → HoldsEverywhere l image
+YesIsFounded = (l : Layout) (image : List ℕ) → NumbersFit l → All (λ b. b < 256) image → IsAnswer l image Yes → HoldsEverywhere l image

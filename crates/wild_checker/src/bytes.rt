@@ -1,11 +1,9 @@
-//! Bytes of input sections without references.
-ghost use Rattle.std.specs.Prelude.{◌≡◌};
-ghost use Rattle.wild_checker.specs.Sections.{is_byte, first_changed};
+//! Bytes of input sections that are in no field.
+ghost use Rattle.std.specs.Prelude.{◌≡◌, ◌+◌, ◌^◌, ◌<◌, length};
+ghost use Rattle.wild_checker.specs.Bytes.{is_byte, first_changed, field_end, are_in_order, changed_between, changed_gap};
 
-use crate::question::Question;
-use crate::references::{first_reference, is_in_memory};
 use wild_terms::TermMemory;
-use wild_types::InputSection;
+use wild_types::{InputRelocation, InputSection, Machine, field_bytes};
 
 /// Whether memory has a byte at an address in every world.
 fn is_byte(memory: &TermMemory, address: u128, byte: u8) -> bool
@@ -17,39 +15,78 @@ fn is_byte(memory: &TermMemory, address: u128, byte: u8) -> bool
     }
 }
 
-/// The first of bytes from an address on that memory does not have in every world.
-fn first_changed(memory: &TermMemory, address: u64, bytes: &[u8]) -> Option<usize>
-    ensures { result ≡ first_changed memory.now address 0 bytes.now }
+/// The first of bytes from an address on that memory does not have in every world; offsets count from `start`.
+pub(crate) fn first_changed(
+    memory: &TermMemory,
+    address: u64,
+    start: usize,
+    bytes: &[u8],
+) -> Option<usize>
+    requires { start + length bytes.now < 2 ^ 64 }
+    ensures { result ≡ first_changed memory.now address start bytes.now }
 {
     for (k, byte) in bytes.iter().enumerate() {
-        if !is_byte(memory, address as u128 + k as u128, *byte) {
-            return Some(k);
+        if !is_byte(memory, address as u128 + (start + k) as u128, *byte) {
+            return Some(start + k);
         }
     }
     None
 }
 
-/// Which byte of a section is not the input's. Sections with references are not looked at.
-#[derive(Clone, Copy)]
-pub(crate) struct ChangedByte<'a> {
-    pub(crate) memory: &'a TermMemory,
+/// The end of a relocation's field.
+fn field_end(machine: Machine, relocation: &InputRelocation) -> u128
+    ensures end { result ≡ field_end machine relocation.now }
+    ensures fits { result < 2 ^ 65 }
+{
+    relocation.offset as u128 + field_bytes(machine, relocation.number) as u128
 }
 
-impl Question for ChangedByte<'_> {
-    ghost use Rattle.wild_checker.specs.Sections.{changed_byte};
-
-    ghost asks = { λ q. changed_byte q.memory.now };
-
-    fn ask(&self, section: &InputSection) -> Option<usize> {
-        if !is_in_memory(section) {
-            return None;
+/// Whether each field starts at or after the end of the one before it.
+pub(crate) fn are_in_order(machine: Machine, relocations: &[InputRelocation]) -> bool
+    ensures { result ≡ are_in_order machine 0 relocations.now }
+{
+    let mut end = 0;
+    for relocation in relocations {
+        if (relocation.offset as u128) < end {
+            return false;
         }
-        if section.reversed {
-            return None;
-        }
-        if first_reference(section.relocations.as_slice()).is_some() {
-            return None;
-        }
-        first_changed(self.memory, section.address, section.bytes.as_slice())
+        end = field_end(machine, relocation);
     }
+    true
+}
+
+/// The first changed byte of a section between two offsets.
+fn changed_between(
+    memory: &TermMemory,
+    section: &InputSection,
+    from: u128,
+    to: u128,
+) -> Option<usize>
+    ensures { result ≡ changed_between memory.now section.now from to }
+{
+    let bytes = section.bytes.as_slice();
+    let end = to.min(bytes.len() as u128) as usize;
+    if from >= end as u128 {
+        return None;
+    }
+    let start = from as usize;
+    first_changed(memory, section.address, start, &bytes[start..end])
+}
+
+/// The first changed byte of a section that is in no field.
+pub(crate) fn changed_gap(
+    machine: Machine,
+    memory: &TermMemory,
+    section: &InputSection,
+) -> Option<usize>
+    ensures { result ≡ changed_gap machine memory.now section.now 0 section.now.relocations }
+{
+    let mut end = 0;
+    for relocation in section.relocations.as_slice() {
+        if let Some(k) = changed_between(memory, section, end, relocation.offset as u128) {
+            return Some(k);
+        }
+        end = field_end(machine, relocation);
+    }
+    changed_between(memory, section, end, section.bytes.len() as u128)
 }

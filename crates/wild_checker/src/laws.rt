@@ -2,6 +2,8 @@
 ghost use Rattle.wild_checker.specs.Outline.{WorldsAreOutlined};
 ghost use Rattle.wild_checker.specs.Verdict.{YesIsFounded};
 
+use wild_references::plain_items_are_read;
+use wild_reloc::widths_of_fields;
 use wild_terms::terms_are_loaded;
 
 /// A legal world of a layout is one of its outline.
@@ -15,4 +17,6 @@ pub fn yes_is_founded()
 {
     terms_are_loaded();
     worlds_are_outlined();
+    plain_items_are_read();
+    widths_of_fields();
 }

@@ -3,10 +3,13 @@
 
 mod bytes;
 mod laws;
+mod loaded;
 mod outline;
 mod question;
 mod references;
+mod sections;
 mod segments;
+mod symbols;
 mod verdict;
 
 pub use laws::{worlds_are_outlined, yes_is_founded};

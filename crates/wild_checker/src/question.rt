@@ -14,31 +14,32 @@ pub struct Site {
     pub index: usize,
 }
 
-/// A question about an input section; the answer is a number.
+/// A question about an input section of a file; the answer is a number.
 pub(crate) trait Question {
     ghost use Rattle.std.specs.Prelude.{◌≡◌, ℕ, Option};
+    ghost use Rattle.wild_types.specs.declared.file.File.{File};
     ghost use Rattle.wild_types.specs.declared.input.InputSection.{InputSection};
 
-    ghost asks: { Self → InputSection → Option ℕ };
+    ghost asks: { Self → File → InputSection → Option ℕ };
 
-    fn ask(&self, section: &InputSection) -> Option<usize>
-        ensures { result ≡ asks self.now section.now };
+    fn ask(&self, file: &File, section: &InputSection) -> Option<usize>
+        ensures { result ≡ asks self.now file.now section.now };
 }
 
 /// The first answer among the sections of a file.
 fn ask_sections<Q: Question>(
     question: &Q,
     group: usize,
-    file: usize,
-    sections: &[InputSection],
+    position: usize,
+    file: &File,
 ) -> Option<Site>
-    ensures { result ≡ in_sections (Q.asks question.now) group file 0 sections.now }
+    ensures { result ≡ in_sections (Q.asks question.now file.now) group position 0 file.now.sections }
 {
-    for (n, section) in sections.iter().enumerate() {
-        if let Some(index) = question.ask(section) {
+    for (n, section) in file.sections.as_slice().iter().enumerate() {
+        if let Some(index) = question.ask(file, section) {
             return Some(Site {
                 group,
-                file,
+                file: position,
                 section: n,
                 index,
             });
@@ -52,7 +53,7 @@ fn ask_files<Q: Question>(question: &Q, group: usize, files: &[File]) -> Option<
     ensures { result ≡ in_files (Q.asks question.now) group 0 files.now }
 {
     for (n, file) in files.iter().enumerate() {
-        if let Some(site) = ask_sections(question, group, n, file.sections.as_slice()) {
+        if let Some(site) = ask_sections(question, group, n, file) {
             return Some(site);
         }
     }

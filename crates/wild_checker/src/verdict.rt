@@ -3,16 +3,18 @@ ghost use Rattle.std.specs.Prelude.{◌≡◌, IfOk};
 ghost use Rattle.wild_checker.specs.declared.verdict.Verdict.TheVariants.{Yes};
 ghost use Rattle.wild_checker.specs.Verdict.{sections_verdict, IsSegmentVerdict, IsRefusal, IsOutlined, IsAnswer, HoldsEverywhere};
 
-use crate::bytes::ChangedByte;
 use crate::laws::yes_is_founded;
+use crate::loaded::LoadedRef;
 use crate::outline::outline_of;
 pub use crate::question::Site;
 use crate::question::ask_groups;
-use crate::references::DoubtfulReference;
+use crate::sections::{ChangedByte, DoubtfulReference};
 use crate::segments::segment_doubt;
+use crate::symbols::are_ordered;
 use std::alloc::{AllocError, Global};
 use wild_loader::LoadFault;
-use wild_terms::{TermMemory, load_terms};
+use wild_layout::numbers_fit;
+use wild_terms::{Outline, TermMemory, load_terms};
 use wild_types::Layout;
 
 /// Why an image is doubted.
@@ -48,17 +50,25 @@ const WHOLE: Site = Site {
 };
 
 /// The verdict on an image whose segments to load are the layout's.
-fn sections_verdict(layout: &Layout, memory: &TermMemory) -> Verdict
-    ensures { result ≡ sections_verdict layout.now memory.now }
+fn sections_verdict(layout: &Layout, outline: &Outline, memory: &TermMemory) -> Verdict
+    ensures { result ≡ sections_verdict layout.now outline.now memory.now }
 {
     if layout.options.only_keep_debug {
         return Verdict::No(Doubt::Reference(WHOLE));
     }
     let groups = layout.groups.as_slice();
-    if let Some(site) = ask_groups(&ChangedByte { memory }, groups) {
+    let machine = layout.machine;
+    if let Some(site) = ask_groups(&ChangedByte { machine, memory }, groups) {
         return Verdict::No(Doubt::Byte(site));
     }
-    match ask_groups(&DoubtfulReference, groups) {
+    let ordered = are_ordered(layout);
+    let loaded = LoadedRef {
+        layout,
+        outline,
+        memory,
+        ordered,
+    };
+    match ask_groups(&DoubtfulReference { loaded }, groups) {
         Some(site) => Verdict::No(Doubt::Reference(site)),
         None => Verdict::Yes,
     }
@@ -68,14 +78,15 @@ fn sections_verdict(layout: &Layout, memory: &TermMemory) -> Verdict
 fn loaded_verdict(
     alloc: Global,
     layout: &Layout,
+    outline: &Outline,
     image: &[u8],
     memory: &TermMemory,
 ) -> Result<Verdict, LoadFault>
-    ensures { IfOk result (λ v. IsSegmentVerdict layout.now image.now memory.now v) }
+    ensures { IfOk result (λ v. IsSegmentVerdict layout.now outline.now image.now memory.now v) }
 {
     match segment_doubt(alloc, layout, image)? {
         Some(index) => Ok(Verdict::No(Doubt::Segment { index })),
-        None => Ok(sections_verdict(layout, memory)),
+        None => Ok(sections_verdict(layout, outline, memory)),
     }
 }
 
@@ -95,7 +106,7 @@ fn outlined_verdict(alloc: Global, layout: &Layout, image: &[u8]) -> Result<Verd
 {
     let outline = outline_of(alloc, layout)?;
     match load_terms(alloc, &outline, image) {
-        Ok(memory) => loaded_verdict(alloc, layout, image, &memory),
+        Ok(memory) => loaded_verdict(alloc, layout, &outline, image, &memory),
         Err(fault) => refused_verdict(fault),
     }
 }
@@ -110,13 +121,14 @@ fn find_verdict(alloc: Global, layout: &Layout, image: &[u8]) -> Result<Verdict,
     outlined_verdict(alloc, layout, image)
 }
 
-/// Whether an image, whoever wrote it, is right in every legal world. Only images without references in memory are decided; others
-/// are doubted at their first reference.
+/// Whether an image, whoever wrote it, is right in every legal world. References whose value is the address of one of the output's own
+/// symbols, or a distance from it, are decided. An image with another one in memory is doubted there.
 pub fn verify_image(alloc: Global, layout: &Layout, image: &[u8]) -> Result<Verdict, AllocError>
     ensures answer { IfOk result (λ v. IsAnswer layout.now image.now v) }
     ensures sound { IfOk result (λ v. v ≡ Yes → HoldsEverywhere layout.now image.now) }
 {
     yes_is_founded();
+    numbers_fit(layout);
     match find_verdict(alloc, layout, image) {
         Ok(found) => Ok(found),
         Err(_) => Err(AllocError),

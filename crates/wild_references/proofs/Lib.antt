@@ -110,3 +110,4 @@ mod WordRuns
 mod RewrittenLaws
 mod KeptDo
 mod Items
+mod PlainItems

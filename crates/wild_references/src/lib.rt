@@ -3,6 +3,7 @@
 
 ghost use Rattle.wild_reloc.specs.declared.expression.Term.TheVariants as term;
 ghost use Rattle.wild_references.specs.Laws.{AddressesGive, AddressesGiveLinked, EntriesGive, ItemFieldsHold, ItemsHaveBytes, OutputsMoveByPages, PartsGive, PartsGiveLinked, SlotsGive, StubsRepresentSymbols, TermGives, TermGivesLinked, ThreadPlacesAreKnown};
+ghost use Rattle.wild_references.specs.PlainLaws.{PlainInstructionsDo, RawValuesAreAddresses, RowsHaveFormulas};
 ghost use Rattle.wild_references.specs.Stubs.{StubsJumpToSlots, StubsAreOfSymbols};
 ghost use Rattle.wild_references.specs.Thunks.{ThunksGive, ThunksJumpToTargets};
 ghost use Rattle.wild_references.specs.FilledX86_64.{FilledInstructionsDo};
@@ -222,4 +223,13 @@ pub fn items_hold()
     rewritten_instructions_are_followed();
     other_bytes_are_kept();
     kept_instructions_do();
+}
+
+/// The same for the memory of any image, whoever wrote it, by what memory has at the fields and beside them.
+pub fn plain_items_are_read()
+    ensures rows { RowsHaveFormulas }
+    ensures values { RawValuesAreAddresses }
+    ensures instructions { PlainInstructionsDo }
+{
+    machines_have_their_facts();
 }

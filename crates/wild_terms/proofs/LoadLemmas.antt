@@ -1,14 +1,12 @@
 -- In a world, the loader makes the changes of symbolic loading.
-use Rattle.std.proofs.Common.{◌≡◌, ℕ, zero, suc, ◌+◌, ◌-◌, ◌*◌, ◌%◌, ◌^◌, ◌<◌, ◌≤◌, inl, inr, ◌⊎◌, Bool, true, false, List, [], ◌∷◌, ◌++◌, length, get_or, map, refl, sym, ap, ◌∙◌, arith, subst}
-use Rattle.std.specs.Prelude.{Option, Some, None, Result, Ok, Err, All, AllPairs, if◌then◌else◌, ◌==◌, option_map, option_and_then, is_some}
+use Rattle.std.proofs.Common.{◌≡◌, ℕ, zero, suc, ◌+◌, ◌-◌, ◌*◌, ◌/◌, ◌%◌, ◌^◌, ◌<◌, ◌≤◌, inl, inr, ◌⊎◌, Bool, true, false, List, [], ◌∷◌, ◌++◌, length, get_or, map, refl, sym, ap, ◌∙◌, arith, subst}
+use Rattle.std.specs.Prelude.{Option, Some, None, Result, Ok, Err, All, AllPairs, if◌then◌else◌, ◌==◌, option_map, option_and_then, is_some, slice_index}
 use Rattle.std.specs.List.Sorted.{IsPermutation}
 use Rattle.std.proofs.lemmas.Bool.{eqb-true, eq-eqb, ne_eqb}
-use Rattle.std.proofs.lemmas.Nat.{mod-mul-add}
 use Rattle.std.proofs.lemmas.List.{append_assoc, append-nil, map-append, length-map, get_or-map}
 use Rattle.std.proofs.lemmas.List.Elements.{All-head, All-tail, All-nil, All-cons, All-append, All-map, All-contains}
 use Rattle.std.proofs.lemmas.List.Sorted.{All-permutation, IsPermutation-sym, Contains-permutation}
 use Rattle.wild_words.specs.Words.{word, number}
-use Rattle.wild_words.proofs.WordLemmas.{length-word, number-word}
 use Rattle.wild_words.proofs.ListLemmas.{AllPairs-tail}
 use Rattle.wild_words.specs.Extents.{least_extent}
 use Rattle.wild_records.specs.declared.relocations.Rela.{Rela}
@@ -27,14 +25,13 @@ use Rattle.wild_loader.specs.Changes.{first_value, kind_of, size_of, bytes_after
 use Rattle.wild_loader.specs.EntryLaws.{HasMade, patches_of}
 use Rattle.wild_loader.specs.Headers.{header, program_headers}
 use Rattle.wild_loader.specs.Load.{image_at, load}
-use Rattle.wild_loader.specs.Memory.{memory_of, byte_in, number_in, Holds}
+use Rattle.wild_loader.specs.Memory.{memory_of, byte_in, Holds}
 use Rattle.wild_loader.specs.MovedLaws.{shifted_run, moved, EndsBelow}
 use Rattle.wild_loader.specs.Places.{places}
 use Rattle.wild_loader.specs.Relocate.{add_all, rela_patch, place_patch, relocate, loaded_at, runs_of_patches, notes, memory_with_patches}
 use Rattle.wild_loader.specs.Runs.{read_bytes, check_no_overlap}
 use Rattle.wild_loader.specs.SegmentLaws.{DoesNotOverlap, IsOutsideRun}
 use Rattle.wild_loader.proofs.EntryLemmas.{stepped, same-ok, read-bytes, length-after, place-moved, entry-changed, tables-applied}
-use Rattle.wild_loader.proofs.HeldBytes.{number-held, number-first}
 use Rattle.wild_loader.proofs.MovedLemmas.{images-moved}
 use Rattle.wild_loader.proofs.SegmentLemmas.{beside-apart}
 use Rattle.wild_terms.specs.declared.term.Term.{Term}
@@ -309,29 +306,49 @@ cut_number t a n x h = first (known_byte t a) refl h
     first None e h = cc
     first (Some y) e h = second y e (known_number t (a + 1) n) refl h
 
--- the number in bytes that memory has
-number_known : (t : Symbolic) (m : Memory) (base : ℕ) → ((a b : ℕ) → known_byte t a ≡ Some b → (byte_in m (base + a) ≡ Some b) × (b < 256)) → (n a x : ℕ) → known_number t a n ≡ Some x → (number_in m (base + a) n ≡ Some x) × (x < 256 ^ n)
-number_known t m base each zero a x h = let e : 0 ≡ x = cc in (ap Some e, omega (arith, e))
+held_more : (m : Memory) (a b : ℕ) (bs : List ℕ) → byte_in m a ≡ Some b → Holds m (a + 1) bs → Holds m a (b ∷ bs)
+held_more m a b bs first rest = λ k l. at k l
+  where
+    at : (k : ℕ) → k < length (b ∷ bs) → byte_in m (a + k) ≡ Some (slice_index (b ∷ bs) k)
+    at zero l = let e : a + 0 ≡ a = omega arith in ap (byte_in m) e ∙ first
+    at (suc k) l = let e : a + suc k ≡ a + 1 + k = omega arith in ap (byte_in m) e ∙ rest k (omega (arith, l))
+
+word_more : (n b r x : ℕ) → b < 256 → x ≡ b + 256 * r → b ∷ word n r ≡ word (suc n) x
+unfolding word
+word_more n b r x l e =
+    let low : x % 256 ≡ b = omega (arith, l, e) in
+    let high : x / 256 ≡ r = omega (arith, l, e) in
+    rw (low, high) refl
+
+no_word : (m : Memory) (a x : ℕ) → Holds m a (word 0 x)
+unfolding word
+no_word m a x = λ k l. absurd (omega (arith, l))
+
+-- memory has the number in known bytes
+number_known : (t : Symbolic) (m : Memory) (base : ℕ) → ((a b : ℕ) → known_byte t a ≡ Some b → (byte_in m (base + a) ≡ Some b) × (b < 256)) → (n a x : ℕ) → known_number t a n ≡ Some x → Holds m (base + a) (word n x) × (x < 256 ^ n)
+number_known t m base each zero a x h = let e : 0 ≡ x = cc in (no_word m (base + a) x, omega (arith, e))
 number_known t m base each (suc n) a x h =
     let c = cut_number t a n x h in
     let low = each a c.0 c.2 in
     let high = number_known t m base each n (a + 1) c.1 c.3 in
     let e : base + (a + 1) ≡ base + a + 1 = omega arith in
-    let P : ℕ → Type 0 = λ k. number_in m k n ≡ Some c.1 in
-    let whole = number-first (byte_in m (base + a)) c.0 c.1 (number_in m (base + a + 1) n) low.0 (subst P e high.0) in
+    let P : ℕ → Type 0 = λ k. Holds m k (word n c.1) in
+    let Q : List ℕ → Type 0 = λ bs. Holds m (base + a) bs in
+    let whole = subst Q (word_more n c.0 c.1 x low.1 c.4) (held_more m (base + a) c.0 (word n c.1) low.0 (subst P e high.0)) in
     let less : suc n - 1 ≡ n = omega arith in
     let bound = number_bound c.0 c.1 (suc n) low.1 (omega arith) (rw less high.1) in
-    let Q : ℕ → Type 0 = λ v. (number_in m (base + a) (suc n) ≡ Some v) × (v < 256 ^ suc n) in
-    subst Q (sym c.4) (whole, bound)
+    let R : ℕ → Type 0 = λ v. v < 256 ^ suc n in
+    (whole, subst R (sym c.4) bound)
 
--- the number of a word
-word_held : (m : Memory) (a n v : ℕ) → v < 256 ^ n → Holds m a (word n v) → number_in m a n ≡ Some v
-word_held m a n v h held =
-    let e = number-held m a (word n v) held in
-    let l = length-word n v in
-    let f = number-word n v h in
-    let P : ℕ → Type 0 = λ k. number_in m a k ≡ Some (number (word n v)) in
-    subst P l e ∙ ap Some f
+-- the low half of a number
+low_half : (x : ℕ) → word 4 (x % 2 ^ 32) ≡ word 4 x
+unfolding word
+low_half x =
+    let a : x % 2 ^ 32 % 256 ≡ x % 256 = omega arith in
+    let b : x % 2 ^ 32 / 256 % 256 ≡ x / 256 % 256 = omega arith in
+    let c : x % 2 ^ 32 / 256 / 256 % 256 ≡ x / 256 / 256 % 256 = omega arith in
+    let d : x % 2 ^ 32 / 256 / 256 / 256 % 256 ≡ x / 256 / 256 / 256 % 256 = omega arith in
+    rw (a, b, c, d) refl
 
 -- an element in range does not depend on the default
 same_at : {X : Type 0} (xs : List X) (j : ℕ) (q d : X) → j < length xs → get_or xs j q ≡ q → get_or xs j d ≡ q
@@ -350,58 +367,56 @@ module _ (w : World) (o : Outline) (i : Image) (t : Symbolic) (m : Memory) where
     bytes : (a b : ℕ) → known_byte t a ≡ Some b → (byte_in m (w.base + a) ≡ Some b) × (b < 256)
 
   -- a change that covers exactly the bytes
-  whole_is : (q : TermPatch) (c : TermChange) (old : List ℕ) (a n : ℕ) (u : Term) → IsPlaced w o i q → Holds m (loaded_at w q.place) (bytes_after (change_by w c) old) → q.place ≡ a → whole_term c n ≡ Some u → number_in m (w.base + a) n ≡ Some (value_of w u % 256 ^ n)
+  whole_is : (q : TermPatch) (c : TermChange) (old : List ℕ) (a n : ℕ) (u : Term) → IsPlaced w o i q → Holds m (loaded_at w q.place) (bytes_after (change_by w c) old) → q.place ≡ a → whole_term c n ≡ Some u → Holds m (w.base + a) (word n (value_of w u))
   whole_is q (changes.Word v) old a n u k held at h = by_test (n == 8) refl h
     where
-      by_test : (b : Bool) → (n == 8) ≡ b → (if b then Some v else None) ≡ Some u → number_in m (w.base + a) n ≡ Some (value_of w u % 256 ^ n)
+      by_test : (b : Bool) → (n == 8) ≡ b → (if b then Some v else None) ≡ Some u → Holds m (w.base + a) (word n (value_of w u))
       by_test false e h = cc
       by_test true e h =
           let n_is : n ≡ 8 = eqb-true n 8 e in
           let near : loaded_at w q.place ≡ w.base + a = k.over.near ∙ ap (λ (p : ℕ). w.base + p) at in
           let P : ℕ → Type 0 = λ x. Holds m x (word 8 (value_of w v)) in
-          let f = word_held m (w.base + a) 8 (value_of w v) (omega arith) (subst P near held) in
-          let same : value_of w v ≡ value_of w u % 256 ^ 8 = let g = ap (value_of w) (some_is v u h) in omega (arith, g) in
-          let Q : ℕ → Type 0 = λ x. number_in m (w.base + a) x ≡ Some (value_of w u % 256 ^ x) in
-          subst Q (sym n_is) (f ∙ ap Some same)
+          let Q : ℕ → Type 0 = λ x. Holds m (w.base + a) (word x (value_of w v)) in
+          let R : Term → Type 0 = λ x. Holds m (w.base + a) (word n (value_of w x)) in
+          subst R (some_is v u h) (subst Q (sym n_is) (subst P near held))
   whole_is q (changes.Half v) old a n u k held at h = by_test (n == 4) refl h
     where
-      by_test : (b : Bool) → (n == 4) ≡ b → (if b then Some v else None) ≡ Some u → number_in m (w.base + a) n ≡ Some (value_of w u % 256 ^ n)
+      by_test : (b : Bool) → (n == 4) ≡ b → (if b then Some v else None) ≡ Some u → Holds m (w.base + a) (word n (value_of w u))
       by_test false e h = cc
       by_test true e h =
           let n_is : n ≡ 4 = eqb-true n 4 e in
           let near : loaded_at w q.place ≡ w.base + a = k.over.near ∙ ap (λ (p : ℕ). w.base + p) at in
           let P : ℕ → Type 0 = λ x. Holds m x (word 4 (value_of w v % 2 ^ 32)) in
-          let f = word_held m (w.base + a) 4 (value_of w v % 2 ^ 32) (omega arith) (subst P near held) in
-          let same : value_of w v % 2 ^ 32 ≡ value_of w u % 256 ^ 4 = ap (λ (x : Term). value_of w x % 2 ^ 32) (some_is v u h) in
-          let Q : ℕ → Type 0 = λ x. number_in m (w.base + a) x ≡ Some (value_of w u % 256 ^ x) in
-          subst Q (sym n_is) (f ∙ ap Some same)
+          let B : List ℕ → Type 0 = λ bs. Holds m (w.base + a) bs in
+          let Q : ℕ → Type 0 = λ x. Holds m (w.base + a) (word x (value_of w v)) in
+          let R : Term → Type 0 = λ x. Holds m (w.base + a) (word n (value_of w x)) in
+          subst R (some_is v u h) (subst Q (sym n_is) (subst B (low_half (value_of w v)) (subst P near held)))
   whole_is q (changes.Descriptor v) old a n u k held at h = cc
 
-  number_is : (a n x : ℕ) (u : Term) → HasPatches → n ≤ 8 → known_number t a n ≡ Some x → number_term x ≡ u → number_in m (w.base + a) n ≡ Some (value_of w u % 256 ^ n)
+  number_is : (a n x : ℕ) (u : Term) → HasPatches → n ≤ 8 → known_number t a n ≡ Some x → number_term x ≡ u → Holds m (w.base + a) (word n (value_of w u))
   number_is a n x u k l h e =
       let f = number_known t m w.base k.bytes n a x h in
       let small = fits_eight x n l f.1 in
-      let bound = f.1 in
-      let plain : 0 * 256 ^ n + x ≡ x = omega arith in
-      let narrow : x ≡ x % 256 ^ n = sym (ap (λ (v : ℕ). v % 256 ^ n) (sym plain) ∙ mod-mul-add 0 (256 ^ n) x bound) in
-      let word : x ≡ (0 + x) % 2 ^ 64 = omega (arith, small) in
-      f.0 ∙ ap Some (narrow ∙ ap (λ v. v % 256 ^ n) word ∙ ap (λ v. value_of w v % 256 ^ n) e)
+      let P : ℕ → Type 0 = λ v. Holds m (w.base + a) (word n v) in
+      let Q : Term → Type 0 = λ v. Holds m (w.base + a) (word n (value_of w v)) in
+      let same : x ≡ (0 + x) % 2 ^ 64 = omega (arith, small) in
+      subst Q e (subst P same f.0)
 
-  term_is : HasPatches → (a n : ℕ) (u : Term) → n ≤ 8 → term_at t a n ≡ Some u → number_in m (w.base + a) n ≡ Some (value_of w u % 256 ^ n)
+  term_is : HasPatches → (a n : ℕ) (u : Term) → n ≤ 8 → term_at t a n ≡ Some u → Holds m (w.base + a) (word n (value_of w u))
   unfolding term_at
   term_is k a n u l h = by_patch (patch_covering t.patches a) refl h
     where
-      by_number : (x : Option ℕ) → known_number t a n ≡ x → option_map number_term x ≡ Some u → number_in m (w.base + a) n ≡ Some (value_of w u % 256 ^ n)
+      by_number : (x : Option ℕ) → known_number t a n ≡ x → option_map number_term x ≡ Some u → Holds m (w.base + a) (word n (value_of w u))
       by_number None e h = cc
       by_number (Some x) e h = number_is a n x u k l e (some_is (number_term x) u h)
 
-      by_place : (q : TermPatch) → patch_covering t.patches a ≡ Some q → (b : Bool) → (q.place == a) ≡ b → (if b then whole_term q.change n else None) ≡ Some u → number_in m (w.base + a) n ≡ Some (value_of w u % 256 ^ n)
+      by_place : (q : TermPatch) → patch_covering t.patches a ≡ Some q → (b : Bool) → (q.place == a) ≡ b → (if b then whole_term q.change n else None) ≡ Some u → Holds m (w.base + a) (word n (value_of w u))
       by_place q e false f h = cc
       by_place q e true f h =
           let found = covering_in t.patches a q e in
           whole_is q q.change (bytes_or (read_bytes (memory_of i.machine i.runs) q.place (width_of q.change))) a n u (All-contains (IsPlaced w o i) t.patches q k.placed found.0) (All-contains (λ q. Holds m (made_of w o i q).run.start (made_of w o i q).run.bytes) t.patches q k.held found.0) (eqb-true q.place a f) h
 
-      by_patch : (x : Option TermPatch) → patch_covering t.patches a ≡ x → term_by t a n x ≡ Some u → number_in m (w.base + a) n ≡ Some (value_of w u % 256 ^ n)
+      by_patch : (x : Option TermPatch) → patch_covering t.patches a ≡ x → term_by t a n x ≡ Some u → Holds m (w.base + a) (word n (value_of w u))
       by_patch None e h = by_number (known_number t a n) refl h
       by_patch (Some q) e h = by_place q e (q.place == a) refl h
 

@@ -3,10 +3,11 @@
 --   TermsAreLoaded      in every world of an outline an image with terms can be loaded, and its memory has their values
 --   SumsAreValues, DifferencesAreValues, SameTermsAreEqual   arithmetic of terms is that of their values
 use Rattle.std.specs.Prelude.{◌≡◌, ℕ, ◌+◌, ◌-◌, ◌%◌, ◌^◌, ◌<◌, ◌≤◌, List, true, Some, Ok, All}
+use Rattle.wild_words.specs.Words.{word}
 use Rattle.wild_records.specs.declared.file_header.FileHeader.{FileHeader}
 use Rattle.wild_loader.specs.declared.memory.Memory.{Memory}
 use Rattle.wild_loader.specs.declared.world.World.{World}
-use Rattle.wild_loader.specs.Memory.{byte_in, number_in}
+use Rattle.wild_loader.specs.Memory.{byte_in, Holds}
 use Rattle.wild_loader.specs.Headers.{header, program_headers}
 use Rattle.wild_loader.specs.MovedLaws.{EndsBelow}
 use Rattle.wild_loader.specs.Load.{load}
@@ -20,7 +21,7 @@ use Rattle.wild_terms.specs.Symbolic.{Symbolic, terms_of, IsSorted, term_at, des
 -- in a world, memory has the values of the terms of symbolic memory
 pub record Follows (w : World) (s : Symbolic) (m : Memory) : Type 0 where
   pub machine : m.machine ≡ s.memory.machine
-  pub terms : (a n : ℕ) (t : Term) → n ≤ 8 → term_at s a n ≡ Some t → number_in m (w.base + a) n ≡ Some (value_of w t % 256 ^ n)
+  pub terms : (a n : ℕ) (t : Term) → n ≤ 8 → term_at s a n ≡ Some t → Holds m (w.base + a) (word n (value_of w t))
   pub descriptors : (a : ℕ) (t : Term) → descriptor_at s a ≡ Some t → first_value m.descriptors (w.base + a) ≡ Some (value_of w t)
   pub bytes : (a b : ℕ) → known_byte s a ≡ Some b → byte_in m (w.base + a) ≡ Some b
 

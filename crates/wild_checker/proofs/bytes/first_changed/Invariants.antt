@@ -1,6 +1,6 @@
-use Rattle.std.proofs.Common.{◌≡◌, drop}
-use Rattle.wild_checker.specs.Sections.{first_changed}
+use Rattle.std.proofs.Common.{◌≡◌, ◌+◌, drop}
+use Rattle.wild_checker.specs.Bytes.{first_changed}
 use Rattle.wild_checker.proofs.bytes.first_changed.Given as goal
 
 abbrev pub invariant-loop-k : goal.invariant-loop-k
-invariant-loop-k l = first_changed l.memory l.address l.k (drop l.k l.bytes) ≡ first_changed l.memory l.address 0 l.bytes
+invariant-loop-k l = first_changed l.memory l.address (l.start + l.k) (drop l.k l.bytes) ≡ first_changed l.memory l.address l.start l.bytes

@@ -1,0 +1,149 @@
+-- A field that is found to have a term has its value in memory.
+use Rattle.std.proofs.Common.{◌≡◌, ℕ, zero, suc, ◌+◌, ◌-◌, ◌%◌, ◌^◌, ◌<◌, ◌≤◌, Bool, true, false, ◌&&◌, List, [], ◌∷◌, length, nat_le, nat_lt, refl, sym, ap, ◌∙◌, arith, subst}
+use Rattle.std.specs.Prelude.{Option, Some, None, All, if◌then◌else◌, ◌==◌, ◌||◌, not, is_some, slice_index, slice_range}
+use Rattle.std.proofs.lemmas.Bool.{eqb-true, leb-true, ltb-true, and_parts, and_from, or_left, not-true}
+use Rattle.std.proofs.lemmas.Bool.Decides.{nat_tests}
+use Rattle.wild_words.specs.Words.{word}
+use Rattle.wild_words.proofs.Basics.{length-range}
+use Rattle.wild_reloc.specs.declared.info.RelocationKindInfo.{RelocationKindInfo}
+use Rattle.wild_reloc.specs.declared.info.RelocationSize.{RelocationSize}
+use Rattle.wild_reloc.specs.declared.info.RelocationSize.TheVariants.{ByteSize, BitMasking}
+use Rattle.wild_reloc.specs.declared.info.Width.{Width}
+use Rattle.wild_reloc.specs.declared.info.Width.TheVariants.{Zero, One, Two, Four, Eight}
+use Rattle.wild_reloc.specs.declared.range.AllowedRange.{AllowedRange}
+use Rattle.wild_reloc.specs.Agreement.{WidthsHold}
+use Rattle.wild_reloc.specs.Field.{field_width, is_aligned, allows, size_written, written}
+use Rattle.wild_reloc.specs.Formula.{Keeps}
+use Rattle.wild_reloc.specs.Range.{contains}
+use Rattle.wild_types.specs.declared.input.InputRelocation.{InputRelocation}
+use Rattle.wild_types.specs.declared.input.InputSection.{InputSection}
+use Rattle.wild_types.specs.declared.kind.Machine.{Machine}
+use Rattle.wild_types.specs.Item.{Item}
+use Rattle.wild_loader.specs.declared.memory.Memory.{Memory}
+use Rattle.wild_loader.specs.declared.world.World.{World}
+use Rattle.wild_loader.specs.Memory.{Holds, byte_in}
+use Rattle.wild_loader.proofs.MappedSegments.{byte_below}
+use Rattle.wild_meaning.specs.Item.{place_at}
+use Rattle.wild_meaning.specs.Field.{form_width, FieldReads}
+use Rattle.wild_terms.specs.declared.term.Atom.{Atom}
+use Rattle.wild_terms.specs.declared.term.Atom.TheVariants as atoms
+use Rattle.wild_terms.specs.declared.term.Term.{Term}
+use Rattle.wild_terms.specs.Terms.{same_term}
+use Rattle.wild_terms.specs.Values.{atom_value, value_of}
+use Rattle.wild_terms.specs.Laws.{Follows}
+use Rattle.wild_terms.specs.Symbolic.{Symbolic, known_byte, term_at}
+use Rattle.wild_terms.proofs.ValueLemmas.{same_terms}
+use Rattle.wild_references.specs.PlainLaws.{HasFormula}
+use Rattle.wild_checker.specs.Bytes.{first_changed}
+use Rattle.wild_checker.specs.References.{is_eight, is_whole, has_bytes, old_field, number_holds, is_term, holds_by, value_holds, is_inside}
+use Rattle.wild_checker.proofs.SiteLemmas.{no_change}
+
+-- ---- where the field is
+
+pub record IsInside (s : InputSection) (r : InputRelocation) (row : RelocationKindInfo) : Type 0 where
+  pub some : 0 < field_width row
+  pub within : r.offset + field_width row ≤ length s.bytes
+  pub low : s.address + r.offset < 2 ^ 64
+
+pub inside : (s : InputSection) (r : InputRelocation) (row : RelocationKindInfo) → is_inside s r row ≡ true → IsInside s r row
+inside s r row h =
+    let a = and_parts (nat_lt 0 (field_width row)) (nat_le (r.offset + field_width row) (length s.bytes) && nat_lt (s.address + r.offset) (2 ^ 64)) h in
+    let b = and_parts (nat_le (r.offset + field_width row) (length s.bytes)) (nat_lt (s.address + r.offset) (2 ^ 64)) a.1 in
+    record { some = ltb-true 0 (field_width row) a.0; within = leb-true (r.offset + field_width row) (length s.bytes) b.0; low = ltb-true (s.address + r.offset) (2 ^ 64) b.1 }
+
+-- ---- what memory has
+
+-- memory has the bytes that the row writes for a value that it allows
+pub record IsWritten (w : World) (m : Memory) (s : InputSection) (r : InputRelocation) (row : RelocationKindInfo) (v : ℕ) : Type 0 where
+  pub allowed : allows row v ≡ true
+  pub held : Holds m (w.base + (s.address + r.offset)) (written row v (old_field s r row))
+
+has_none : {X : Type 0} (o : Option X) → not (is_some o) ≡ true → o ≡ None
+has_none None h = refl
+has_none (Some x) h = cc
+
+pub bytes_held : (w : World) (m : Memory) (t : Symbolic) (a : ℕ) (bs : List ℕ) → Follows w t m → has_bytes t a bs ≡ true → Holds m (w.base + a) bs
+bytes_held w m t a bs follows h k l =
+    let known = no_change t a 0 bs (has_none (first_changed t a 0 bs) h) k l in
+    let e : w.base + (a + (0 + k)) ≡ w.base + a + k = omega arith in
+    ap (byte_in m) (sym e) ∙ follows.bytes (a + (0 + k)) (slice_index bs k) known
+
+-- a field of all 64 bits
+eight_written : (z : RelocationSize) (v : ℕ) (old : List ℕ) → is_eight z ≡ true → size_written z v old ≡ word 8 v
+eight_written (ByteSize Zero) v old h = cc
+eight_written (ByteSize One) v old h = cc
+eight_written (ByteSize Two) v old h = cc
+eight_written (ByteSize Four) v old h = cc
+eight_written (ByteSize Eight) v old h = refl
+eight_written (BitMasking b) v old h = cc
+
+in_range : (range : AllowedRange) (v : ℕ) → range.below ≡ 2 ^ 63 → range.above ≡ 2 ^ 63 → contains range v ≡ true
+in_range range v below above =
+    let test : (nat_lt v (2 ^ 63) || nat_le (2 ^ 64 - 2 ^ 63) v) ≡ true = by (nat_lt v (2 ^ 63)) refl in
+    rw (below, above) test
+  where
+    by : (b : Bool) → nat_lt v (2 ^ 63) ≡ b → (b || nat_le (2 ^ 64 - 2 ^ 63) v) ≡ true
+    by true e = refl
+    by false e = grind (arith, nat_tests, e)
+
+record IsWhole (row : RelocationKindInfo) : Type 0 where
+  eight : is_eight row.size ≡ true
+  any : (v : ℕ) → allows row v ≡ true
+
+whole : (row : RelocationKindInfo) → is_whole row ≡ true → IsWhole row
+whole row h =
+    let a = and_parts (is_eight row.size) (nat_le row.alignment 1 && (row.range.below == 2 ^ 63 && row.range.above == 2 ^ 63)) h in
+    let b = and_parts (nat_le row.alignment 1) (row.range.below == 2 ^ 63 && row.range.above == 2 ^ 63) a.1 in
+    let c = and_parts (row.range.below == 2 ^ 63) (row.range.above == 2 ^ 63) b.1 in
+    record {
+      eight = a.0;
+      any = λ v. and_from (is_aligned row.alignment v) (contains row.range v) (or_left (nat_le row.alignment 1) (v % row.alignment == 0) b.0) (in_range row.range v (eqb-true row.range.below (2 ^ 63) c.0) (eqb-true row.range.above (2 ^ 63) c.1));
+    }
+
+-- the term that memory has is the one that is looked for
+the_term : (o : Option Term) (x : Term) → is_term o x ≡ true → o ≡ Some x
+the_term None x h = cc
+the_term (Some y) x h = ap (λ (z : Term). Some z) (same_terms y x h)
+
+pub value_written : (w : World) (m : Memory) (t : Symbolic) (s : InputSection) (r : InputRelocation) (row : RelocationKindInfo) (x : Term) → Follows w t m → x.plus < 2 ^ 64 → value_holds t s r row x ≡ true → IsWritten w m s r row (value_of w x)
+value_written w m t s r row x follows low h = by (is_whole row) refl h
+  where
+    by_number : (a : Atom) → holds_by t s r row a x.plus ≡ true → IsWritten w m s r row ((atom_value w a + x.plus) % 2 ^ 64)
+    by_number atoms.Zero h =
+        let both = and_parts (allows row x.plus) (has_bytes t (s.address + r.offset) (written row x.plus (old_field s r row))) h in
+        let same : x.plus ≡ (0 + x.plus) % 2 ^ 64 = omega (arith, low) in
+        subst (λ (n : ℕ). IsWritten w m s r row n) same (record { allowed = both.0; held = bytes_held w m t (s.address + r.offset) (written row x.plus (old_field s r row)) follows both.1 })
+    by_number other h = cc
+
+    by : (b : Bool) → is_whole row ≡ b → (if b then is_term (term_at t (s.address + r.offset) 8) x else holds_by t s r row x.atom x.plus) ≡ true → IsWritten w m s r row (value_of w x)
+    by true e h =
+        let all = whole row e in
+        let held = follows.terms (s.address + r.offset) 8 x (omega arith) (the_term (term_at t (s.address + r.offset) 8) x h) in
+        record { allowed = all.any (value_of w x); held = subst (λ (bs : List ℕ). Holds m (w.base + (s.address + r.offset)) bs) (sym (eight_written row.size (value_of w x) (old_field s r row) all.eight)) held }
+    by false e h = by_number x.atom h
+
+-- ---- the field
+
+-- its first byte is loaded
+pub low_place : (w : World) (m : Memory) (s : InputSection) (r : InputRelocation) (row : RelocationKindInfo) (v : ℕ) → WidthsHold → IsInside s r row → IsWritten w m s r row v → w.base + (s.address + r.offset) < 2 ^ 64
+low_place w m s r row v widths p h =
+    let some = p.some in
+    let long = widths row v (old_field s r row) in
+    let first = h.held 0 (omega (arith, some, long)) in
+    let below = byte_below m (w.base + (s.address + r.offset) + 0) (slice_index (written row v (old_field s r row)) 0) first in
+    omega (arith, below)
+
+pub field_reads : (w : World) (m : Memory) (machine : Machine) (item : Item) (s : InputSection) (r : InputRelocation) (row : RelocationKindInfo) (v : ℕ) → WidthsHold → item.address ≡ s.address → item.bytes ≡ s.bytes → All (λ b. b < 256) (old_field s r row) → IsInside s r row → (f : HasFormula machine r.number row) → v < 2 ^ 64 → IsWritten w m s r row v
+    → FieldReads w m item r f.formula.form v
+field_reads w m machine item s r row v widths address bytes small p f low h =
+    let new = written row v (old_field s r row) in
+    let long : length (old_field s r row) ≡ field_width row = length-range s.bytes r.offset (field_width row) p.within in
+    let place : w.base + (s.address + r.offset) ≡ place_at w item r.offset = omega (arith, address) in
+    let old : old_field s r row ≡ slice_range item.bytes r.offset (r.offset + form_width f.formula.form) = ap (λ (n : ℕ). slice_range s.bytes r.offset (r.offset + n)) (sym f.width) ∙ ap (λ (bs : List ℕ). slice_range bs r.offset (r.offset + form_width f.formula.form)) (sym bytes) in
+    record {
+      bytes = new;
+      wide = widths row v (old_field s r row) ∙ sym f.width;
+      held = subst (λ (a : ℕ). Holds m a new) place h.held;
+      reads = f.agrees.reads v (old_field s r row) low long h.allowed;
+      keeps = subst (λ (bs : List ℕ). Keeps f.formula.form bs new) old (f.agrees.keeps v (old_field s r row) small long);
+    }

@@ -1,0 +1,326 @@
+-- The term of a symbol has the symbol's value.
+use Rattle.std.proofs.Common.{◌≡◌, ℕ, ◌+◌, ◌%◌, ◌^◌, ◌<◌, inl, inr, Bool, true, false, ◌&&◌, ◌||◌, List, ◌∷◌, nat_le, nat_lt, refl, sym, ap, ◌∙◌, arith, subst}
+use Rattle.std.specs.Prelude.{Option, Some, None, All, Contains, if◌then◌else◌, ◌==◌, not, slice_get, is_some, option_map, option_and_then}
+use Rattle.std.proofs.lemmas.Bool.{eq-eqb, and_parts, or_cases, not-true}
+use Rattle.std.proofs.lemmas.List.Elements.{All-contains}
+use Rattle.wild_words.proofs.ListLemmas.{holds_at}
+use Rattle.wild_records.specs.Abi.Symbol.{stt_section}
+use Rattle.wild_reloc.specs.Formula.{Value, SymbolPart, Distance, PageDistance, StubDistance}
+use Rattle.wild_types.specs.declared.file.File.{File}
+use Rattle.wild_types.specs.declared.file.Group.{Group}
+use Rattle.wild_types.specs.declared.input.InputRelocation.{InputRelocation}
+use Rattle.wild_types.specs.declared.input.InputSection.{InputSection}
+use Rattle.wild_types.specs.declared.kind.Machine.{Machine}
+use Rattle.wild_types.specs.declared.kind.Machine.TheVariants as machine
+use Rattle.wild_types.specs.declared.layout.Layout.{Layout}
+use Rattle.wild_types.specs.declared.symbol.Place.{Place}
+use Rattle.wild_types.specs.declared.symbol.Place.TheVariants as at
+use Rattle.wild_types.specs.declared.symbol.Resolution.{Resolution}
+use Rattle.wild_types.specs.declared.symbol.Symbol.{Symbol}
+use Rattle.wild_types.specs.Addresses.{raw_value, resolved_or, placed_value, address_at, address_in_file, address_in_section}
+use Rattle.wild_types.specs.Flags.{has_flag, ifunc, absolute, undefined_weak}
+use Rattle.wild_types.specs.Item.{Item}
+use Rattle.wild_types.specs.Lookups.{canonical, has_address, files_of, file_of}
+use Rattle.wild_types.specs.SymbolSlots.{plt_of, resolved_plt}
+use Rattle.wild_layout.specs.Numbers.{NumbersFit, SymbolNumbers}
+use Rattle.wild_loader.specs.declared.memory.Memory.{Memory}
+use Rattle.wild_loader.specs.declared.world.World.{World}
+use Rattle.wild_meaning.specs.Value.{HasValue, HasRaw, IsReplaceable, HasFlag, may_be_replaced, with_base}
+use Rattle.wild_meaning.specs.Denotes.{IsAddressStub}
+use Rattle.wild_meaning.specs.Strings.{NamesStrings}
+use Rattle.wild_meaning.specs.ReferentAArch64.{RepresentsOnAArch64, IsUndefinedWeak}
+use Rattle.wild_meaning.specs.Formula.{IsReferent, IsReferentOnAArch64, IsSymbolAddress, UsesOwnPlace}
+use Rattle.wild_meaning.proofs.SymbolLemmas.{canonical_is, own_definition, referent_is}
+use Rattle.wild_terms.specs.declared.outline.Outline.{Outline}
+use Rattle.wild_terms.specs.declared.term.Term.{Term}
+use Rattle.wild_terms.specs.Terms.{number_term}
+use Rattle.wild_terms.specs.Values.{value_of, IsWorldOf}
+use Rattle.wild_terms.proofs.ValueLemmas.{based_is}
+use Rattle.wild_references.specs.PlainLaws.{RawValuesAreAddresses}
+use Rattle.wild_checker.specs.Loaded.{Loaded}
+use Rattle.wild_checker.specs.Symbols.{are_ordered, in_file, address_by_place, address_of_symbol, raw_in, value_by, represents, is_plain, defined_term, symbol_term, is_merge, has_no_strings, is_no_merged, names_none, names_no_strings}
+use Rattle.wild_checker.specs.References.{referent_term}
+use Rattle.wild_checker.proofs.FileLemmas.{own_file}
+
+some_is : {X : Type 0} (x y : X) → (let o : Option X = Some x in o) ≡ Some y → x ≡ y
+some_is x y h = cc
+
+-- what is known of a file's place, of the layout's numbers and of the world
+pub record Known (k : Loaded) (f : File) (w : World) : Type 0 where
+  pub group : Group
+  pub grouped : Contains k.layout.groups group
+  pub filed : Contains group.files f
+  pub ordered : k.ordered ≡ are_ordered k.layout
+  pub numbers : NumbersFit k.layout
+  pub world : IsWorldOf k.outline w
+  pub raw : RawValuesAreAddresses
+
+-- the file is the symbol's own
+file_is : (k : Loaded) (f : File) (w : World) (i : ℕ) → Known k f w → in_file k f i ≡ true → file_of (files_of k.layout.groups) i ≡ Some f
+file_is k f w i n h =
+    let both = and_parts k.ordered (nat_le f.first_symbol i && nat_lt i (f.first_symbol + f.symbol_count)) h in
+    own_file k.layout n.group f i (sym n.ordered ∙ both.0) n.grouped n.filed both.1
+
+-- ---- addresses
+
+placed_is : (l : Layout) (f : File) (i value a : ℕ) (p : Place) → file_of (files_of l.groups) i ≡ Some f → address_by_place l f value p ≡ Some a → address_at l i value p ≡ Some a
+placed_is l f i value a at.Undefined own h = cc
+placed_is l f i value a at.Absolute own h = cc
+placed_is l f i value a at.Common own h = cc
+placed_is l f i value a (at.Output n) own h = cc
+placed_is l f i value a (at.Section n) own h = ap (address_in_file l n value) own ∙ h
+
+symbol_is : (l : Layout) (f : File) (i a : ℕ) (o : Option Symbol) → file_of (files_of l.groups) i ≡ Some f → address_of_symbol l f o ≡ Some a → option_and_then (λ (s : Symbol). address_at l i s.value s.place) o ≡ Some a
+symbol_is l f i a None own h = cc
+symbol_is l f i a (Some s) own h = placed_is l f i s.value a s.place own h
+
+resolved_by : (d : Symbol) (r : Option Resolution) → d.resolution ≡ r → (l : Layout) (i : ℕ) → slice_get l.symbols (canonical l i) ≡ Some d → raw_value l i ≡ resolved_or (option_map (λ r. r.raw_value) r) (placed_value l i)
+unfolding raw_value
+resolved_by d r e l i there = rw (there, e) refl
+
+raw_is : (k : Loaded) (f : File) (w : World) (i a : ℕ) (d : Symbol) → Known k f w → slice_get k.layout.symbols (canonical k.layout i) ≡ Some d → raw_in k f i d.resolution ≡ Some a → raw_value k.layout i ≡ Some a
+raw_is k f w i a d n there h = by d.resolution refl h
+  where
+    by_file : d.resolution ≡ None → (b : Bool) → in_file k f i ≡ b → (if b then address_of_symbol k.layout f (slice_get k.layout.symbols i) else None) ≡ Some a → raw_value k.layout i ≡ Some a
+    by_file e false is h = cc
+    by_file e true is h = resolved_by d None e k.layout i there ∙ symbol_is k.layout f i a (slice_get k.layout.symbols i) (file_is k f w i n is) h
+
+    by : (r : Option Resolution) → d.resolution ≡ r → raw_in k f i r ≡ Some a → raw_value k.layout i ≡ Some a
+    by None e h = by_file e (in_file k f i) refl h
+    by (Some r) e h = resolved_by d (Some r) e k.layout i there ∙ h
+
+-- an address is a number of the machine
+section_below : (l : Layout) (value a : ℕ) (o : Option InputSection) → address_in_section l value o ≡ Some a → a < 2 ^ 64
+section_below l value a None h = cc
+section_below l value a (Some s) h = by (has_address l s) h
+  where
+    by : (b : Bool) → (if b then Some ((s.address + value) % 2 ^ 64) else None) ≡ Some a → a < 2 ^ 64
+    by false h = cc
+    by true h = let same : (s.address + value) % 2 ^ 64 ≡ a = cc in omega (arith, same)
+
+place_below : (l : Layout) (f : File) (value a : ℕ) (p : Place) → address_by_place l f value p ≡ Some a → a < 2 ^ 64
+place_below l f value a at.Undefined h = cc
+place_below l f value a at.Absolute h = cc
+place_below l f value a at.Common h = cc
+place_below l f value a (at.Output n) h = cc
+place_below l f value a (at.Section n) h = section_below l value a (slice_get f.sections n) h
+
+symbol_below : (l : Layout) (f : File) (a : ℕ) (o : Option Symbol) → address_of_symbol l f o ≡ Some a → a < 2 ^ 64
+symbol_below l f a None h = cc
+symbol_below l f a (Some s) h = place_below l f s.value a s.place h
+
+raw_below : (k : Loaded) (f : File) (w : World) (i a : ℕ) (d : Symbol) → Known k f w → slice_get k.layout.symbols (canonical k.layout i) ≡ Some d → raw_in k f i d.resolution ≡ Some a → a < 2 ^ 64
+raw_below k f w i a d n there h = by d.resolution refl h
+  where
+    by_file : (b : Bool) → (if b then address_of_symbol k.layout f (slice_get k.layout.symbols i) else None) ≡ Some a → a < 2 ^ 64
+    by_file false h = cc
+    by_file true h = symbol_below k.layout f a (slice_get k.layout.symbols i) h
+
+    by : (r : Option Resolution) → d.resolution ≡ r → raw_in k f i r ≡ Some a → a < 2 ^ 64
+    by None e h = by_file (in_file k f i) h
+    by (Some r) e h =
+        let low = (holds_at SymbolNumbers k.layout.symbols (canonical k.layout i) d there n.numbers.symbols r e).value in
+        let same : r.raw_value ≡ a = cc in
+        omega (arith, low, same)
+
+-- ---- the value of a symbol
+
+value_is : (k : Loaded) (w : World) (b : Bool) (a : ℕ) → IsWorldOf k.outline w → a < 2 ^ 64 → value_of w (value_by b k.outline a) ≡ with_base b w.base a
+value_is k w true a world low = omega (arith, low)
+value_is k w false a world low = based_is k.outline w a world
+
+-- what is decided of symbol i, whose definition is d
+pub record IsPlain (k : Loaded) (i : ℕ) : Type 0 where
+  pub definition : Symbol
+  pub there : slice_get k.layout.symbols (canonical k.layout i) ≡ Some definition
+  pub plain : is_plain k.layout definition ≡ true
+
+pub record HasTerm (k : Loaded) (f : File) (i : ℕ) (t : Term) : Type 0 where
+  pub of : IsPlain k i
+  pub raw : ℕ
+  pub given : raw_in k f i of.definition.resolution ≡ Some raw
+  pub is : value_by (has_flag of.definition.flags absolute) k.outline raw ≡ t
+
+has_term : (k : Loaded) (f : File) (i : ℕ) (t : Term) → symbol_term k f i ≡ Some t → HasTerm k f i t
+has_term k f i t h = by (slice_get k.layout.symbols (canonical k.layout i)) refl h
+  where
+    by_raw : (d : Symbol) → slice_get k.layout.symbols (canonical k.layout i) ≡ Some d → is_plain k.layout d ≡ true → (o : Option ℕ) → raw_in k f i d.resolution ≡ o → option_map (value_by (has_flag d.flags absolute) k.outline) o ≡ Some t → HasTerm k f i t
+    by_raw d there plain None e h = cc
+    by_raw d there plain (Some a) e h = record { of = record { definition = d; there = there; plain = plain }; raw = a; given = e; is = some_is (value_by (has_flag d.flags absolute) k.outline a) t h }
+
+    by_plain : (d : Symbol) → slice_get k.layout.symbols (canonical k.layout i) ≡ Some d → (b : Bool) → is_plain k.layout d ≡ b → (if b then option_map (value_by (has_flag d.flags absolute) k.outline) (raw_in k f i d.resolution) else None) ≡ Some t → HasTerm k f i t
+    by_plain d there false e h = cc
+    by_plain d there true e h = by_raw d there e (raw_in k f i d.resolution) refl h
+
+    by : (o : Option Symbol) → slice_get k.layout.symbols (canonical k.layout i) ≡ o → defined_term k f i o ≡ Some t → HasTerm k f i t
+    by None there h = cc
+    by (Some d) there h = by_plain d there (is_plain k.layout d) refl h
+
+record PlainParts (l : Layout) (d : Symbol) : Type 0 where
+  own : may_be_replaced l.kind d.flags ≡ false
+  direct : has_flag d.flags ifunc ≡ false
+  alone : represents l.machine d ≡ true
+
+plain_parts : (l : Layout) (d : Symbol) → is_plain l d ≡ true → PlainParts l d
+plain_parts l d h =
+    let a = and_parts (not (may_be_replaced l.kind d.flags)) (not (has_flag d.flags ifunc) && represents l.machine d) h in
+    let b = and_parts (not (has_flag d.flags ifunc)) (represents l.machine d) a.1 in
+    record { own = not-true (may_be_replaced l.kind d.flags) a.0; direct = not-true (has_flag d.flags ifunc) b.0; alone = b.1 }
+
+-- the term has the symbol's value
+pub has_value : (k : Loaded) (f : File) (w : World) (i : ℕ) (t : Term) → Known k f w → HasTerm k f i t → HasValue k.layout w i (value_of w t)
+has_value k f w i t n h =
+    let l = k.layout in
+    let d = h.of.definition in
+    let there = h.of.there in
+    let defined = own_definition l i d there in
+    let p = plain_parts l d h.of.plain in
+    let raw = n.raw l i h.raw (raw_is k f w i h.raw d n there h.given) in
+    let still = has_flag d.flags absolute in
+    inr (
+      record { definition = canonical l i; defined = defined; symbol = d; listed = there; told = p.own },
+      record {
+        raw = h.raw;
+        given = raw;
+        indirect = false;
+        resolved = record { definition = canonical l i; defined = defined; symbol = d; listed = there; flagged = p.direct };
+        still = still;
+        absolute = record { definition = canonical l i; defined = defined; symbol = d; listed = there; flagged = refl };
+        is = ap (value_of w) (sym h.is) ∙ value_is k w still h.raw n.world (raw_below k f w i h.raw d n there h.given);
+      },
+    )
+
+-- ---- the definition is one
+
+one_symbol : (l : Layout) (i c : ℕ) (d s : Symbol) → slice_get l.symbols (canonical l i) ≡ Some d → canonical l i ≡ c → slice_get l.symbols c ≡ Some s → s ≡ d
+one_symbol l i c d s there same listed =
+    let both : Some s ≡ Some d = sym listed ∙ ap (λ (n : ℕ). slice_get l.symbols n) (sym same) ∙ there in
+    some_is s d both
+
+-- no other module may define it
+pub not_replaced : (k : Loaded) (i : ℕ) → IsPlain k i → IsReplaceable k.layout i true → ⊥
+not_replaced k i h r =
+    let same = one_symbol k.layout i r.definition h.definition r.symbol h.there (canonical_is k.layout i r.definition r.defined) r.listed in
+    let p = plain_parts k.layout h.definition h.plain in
+    let off : may_be_replaced k.layout.kind r.symbol.flags ≡ false = subst (λ (s : Symbol). may_be_replaced k.layout.kind s.flags ≡ false) (sym same) p.own in
+    let both : true ≡ false = sym r.told ∙ off in
+    cc
+
+-- ---- merged strings
+
+no_section : (f : File) (place : Place) (index : ℕ) (s : InputSection) → place ≡ at.Section index → slice_get f.sections index ≡ Some s → is_no_merged f place ≡ true → is_merge s.slot ≡ false
+no_section f place index s e found h =
+    let a : has_no_strings (slice_get f.sections index) ≡ true = subst (λ (p : Place). is_no_merged f p ≡ true) e h in
+    let b : not (is_merge s.slot) ≡ true = subst (λ (o : Option InputSection). has_no_strings o ≡ true) found a in
+    not-true (is_merge s.slot) b
+
+pub no_strings : (k : Loaded) (f : File) (w : World) (r : InputRelocation) (i : ℕ) → Known k f w → r.symbol ≡ Some i → names_no_strings k f i ≡ true → NamesStrings k.layout r → ⊥
+no_strings k f w r i n named h s =
+    let same : s.symbol ≡ i = (let both : Some s.symbol ≡ Some i = sym s.named ∙ named in some_is s.symbol i both) in
+    let listed : slice_get k.layout.symbols i ≡ Some s.has.symbol = subst (λ (x : ℕ). slice_get k.layout.symbols x ≡ Some s.has.symbol) same s.has.listed in
+    let test : names_none k f i (Some s.has.symbol) ≡ true = subst (λ (o : Option Symbol). names_none k f i o ≡ true) listed h in
+    elim (or_cases (not (s.has.symbol.info % 16 == stt_section)) (in_file k f i && is_no_merged f s.has.symbol.place) test) [
+      | inl other ↦
+          (let e : (s.has.symbol.info % 16 == stt_section) ≡ true = eq-eqb (s.has.symbol.info % 16) stt_section s.has.of_section in
+          let t = not-true (s.has.symbol.info % 16 == stt_section) other in
+          let both : true ≡ false = sym e ∙ t in
+          cc)
+      | inr here ↦
+          (let both = and_parts (in_file k f i) (is_no_merged f s.has.symbol.place) here in
+          let own : file_of (files_of k.layout.groups) i ≡ Some s.has.file = subst (λ (x : ℕ). file_of (files_of k.layout.groups) x ≡ Some s.has.file) same s.has.own in
+          let files : Some s.has.file ≡ Some f = sym own ∙ file_is k f w i n both.0 in
+          let file = some_is s.has.file f files in
+          let found : slice_get f.sections s.has.index ≡ Some s.has.section = subst (λ (x : File). slice_get x.sections s.has.index ≡ Some s.has.section) file s.has.found in
+          let off = no_section f s.has.symbol.place s.has.index s.has.section s.has.stands found both.1 in
+          let on : is_merge s.has.section.slot ≡ true = ap is_merge s.has.merged in
+          let twice : true ≡ false = sym on ∙ off in
+          cc)
+    ]
+
+-- ---- S and L
+
+-- a reference whose term is known
+pub data HasReferent (k : Loaded) (f : File) (r : InputRelocation) (t : Term) : Type 0 where
+  Nameless : r.symbol ≡ None → t ≡ number_term 0 → HasReferent k f r t
+  Named : (i : ℕ) → r.symbol ≡ Some i → names_no_strings k f i ≡ true → HasTerm k f i t → HasReferent k f r t
+
+pub has_referent : (k : Loaded) (f : File) (r : InputRelocation) (t : Term) → referent_term k f r.symbol ≡ Some t → HasReferent k f r t
+has_referent k f r t h = by r.symbol refl h
+  where
+    by_strings : (i : ℕ) → r.symbol ≡ Some i → (b : Bool) → names_no_strings k f i ≡ b → (if b then symbol_term k f i else None) ≡ Some t → HasReferent k f r t
+    by_strings i e false is h = cc
+    by_strings i e true is h = Named i e is (has_term k f i t h)
+
+    by : (o : Option ℕ) → r.symbol ≡ o → referent_term k f o ≡ Some t → HasReferent k f r t
+    by None e h = Nameless e (sym (some_is (number_term 0) t h))
+    by (Some i) e h = by_strings i e (names_no_strings k f i) refl h
+
+-- no stub represents it
+no_stub : (l : Layout) (i p : ℕ) (d : Symbol) → slice_get l.symbols (canonical l i) ≡ Some d → plt_of d ≡ None → IsAddressStub l i p → ⊥
+no_stub l i p d there none s =
+    let same = one_symbol l i s.stub.definition d s.stub.symbol there (canonical_is l i s.stub.definition s.stub.defined) s.stub.listed in
+    let off : plt_of s.stub.symbol ≡ None = subst (λ (x : Symbol). plt_of x ≡ None) (sym same) none in
+    let on : plt_of s.stub.symbol ≡ Some p = ap resolved_plt s.stub.decided ∙ s.stub.stub in
+    let both : Some p ≡ None = sym on ∙ off in
+    cc
+
+is_none : {X : Type 0} (o : Option X) → is_some o ≡ false → o ≡ None
+is_none None h = refl
+is_none (Some x) h = cc
+
+record DefinedOnAArch64 (d : Symbol) : Type 0 where
+  strong : has_flag d.flags undefined_weak ≡ false
+  stubless : plt_of d ≡ None
+
+defined_on_aarch64 : (d : Symbol) → represents machine.AArch64 d ≡ true → DefinedOnAArch64 d
+defined_on_aarch64 d h =
+    let both = and_parts (not (has_flag d.flags undefined_weak)) (not (is_some (plt_of d))) h in
+    record { strong = not-true (has_flag d.flags undefined_weak) both.0; stubless = is_none (plt_of d) (not-true (is_some (plt_of d)) both.1) }
+
+represents_by : (v : Value) (l : Layout) (w : World) (m : Memory) (r : InputRelocation) (i a : ℕ) → ((p : ℕ) → IsAddressStub l i p → ⊥) → HasValue l w i a → RepresentsOnAArch64 v l w m r i a
+represents_by SymbolPart l w m r i a none h = inr (none, h)
+represents_by PageDistance l w m r i a none h = inr (none, h)
+represents_by StubDistance l w m r i a none h = record { symbol = a; denoted = inl h; comes = inl refl }
+represents_by Distance l w m r i a none h = inl (inl h)
+represents_by other l w m r i a none h = inl h
+
+on_aarch64 : (k : Loaded) (f : File) (v : Value) (w : World) (m : Memory) (item : Item) (r : InputRelocation) (t : Term) → Known k f w → k.layout.machine ≡ machine.AArch64 → HasReferent k f r t → IsReferentOnAArch64 v k.layout w m item r r.symbol (value_of w t)
+on_aarch64 k f v w m item r t n on (Nameless e z) =
+    let zero : value_of w t ≡ 0 = ap (value_of w) z in
+    subst (λ (o : Option ℕ). IsReferentOnAArch64 v k.layout w m item r o (value_of w t)) (sym e) zero
+on_aarch64 k f v w m item r t n on (Named i e strings h) =
+    let d = h.of.definition in
+    let p = plain_parts k.layout d h.of.plain in
+    let q = defined_on_aarch64 d (subst (λ (x : Machine). represents x d ≡ true) on p.alone) in
+    let other : UsesOwnPlace v k.layout i → ⊥ = λ u. not_weak u.1.weak q.strong in
+    subst (λ (o : Option ℕ). IsReferentOnAArch64 v k.layout w m item r o (value_of w t)) (sym e)
+    (inr (other, represents_by v k.layout w m r i (value_of w t) (λ s is. no_stub k.layout i s d h.of.there q.stubless is) (has_value k f w i t n h)))
+  where
+    not_weak : HasFlag k.layout i undefined_weak true → has_flag h.of.definition.flags undefined_weak ≡ false → ⊥
+    not_weak x off =
+        let same = one_symbol k.layout i x.definition h.of.definition x.symbol h.of.there (canonical_is k.layout i x.definition x.defined) x.listed in
+        let on : has_flag h.of.definition.flags undefined_weak ≡ true = subst (λ (s : Symbol). has_flag s.flags undefined_weak ≡ true) same x.flagged in
+        let both : true ≡ false = sym on ∙ off in
+        cc
+
+on_x86_64 : (k : Loaded) (f : File) (w : World) (m : Memory) (r : InputRelocation) (t : Term) → Known k f w → HasReferent k f r t → IsSymbolAddress k.layout w m r.symbol (value_of w t)
+on_x86_64 k f w m r t n (Nameless e z) =
+    let zero : value_of w t ≡ 0 = ap (value_of w) z in
+    subst (λ (o : Option ℕ). IsSymbolAddress k.layout w m o (value_of w t)) (sym e) zero
+on_x86_64 k f w m r t n (Named i e strings h) = subst (λ (o : Option ℕ). IsSymbolAddress k.layout w m o (value_of w t)) (sym e) (inl (has_value k f w i t n h))
+
+nothing_named : (k : Loaded) (f : File) (w : World) (r : InputRelocation) (t : Term) → Known k f w → HasReferent k f r t → NamesStrings k.layout r → ⊥
+nothing_named k f w r t n (Nameless e z) s = (let both : Some s.symbol ≡ None = sym s.named ∙ e in cc)
+nothing_named k f w r t n (Named i e strings h) s = no_strings k f w r i n e strings s
+
+-- it is S, or L
+pub referent : (k : Loaded) (f : File) (v : Value) (w : World) (m : Memory) (item : Item) (r : InputRelocation) (t : Term) → Known k f w → HasReferent k f r t → IsReferent k.layout.machine v k.layout w m item r (value_of w t)
+referent k f v w m item r t n h = by k.layout.machine refl
+  where
+    by : (x : Machine) → k.layout.machine ≡ x → IsReferent k.layout.machine v k.layout w m item r (value_of w t)
+    by machine.X86_64 on = referent_is v k.layout w m item r (value_of w t) on (λ s. nothing_named k f w r t n h s.1) (on_x86_64 k f w m r t n h)
+    by machine.AArch64 on = subst (λ (x : Machine). IsReferent x v k.layout w m item r (value_of w t)) (sym on) (inr ((λ s. nothing_named k f w r t n h s.1), on_aarch64 k f v w m item r t n on h))
+
+pub not_replaceable : (k : Loaded) (f : File) (r : InputRelocation) (t : Term) (i : ℕ) → HasReferent k f r t → r.symbol ≡ Some i → IsReplaceable k.layout i true → ⊥
+not_replaceable k f r t i (Nameless e z) named x = (let both : Some i ≡ None = sym named ∙ e in cc)
+not_replaceable k f r t i (Named j e strings h) named x = (let both : Some j ≡ Some i = sym e ∙ named in let same = some_is j i both in not_replaced k j h.of (subst (λ (y : ℕ). IsReplaceable k.layout y true) (sym same) x))

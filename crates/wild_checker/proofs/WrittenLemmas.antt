@@ -1,0 +1,16 @@
+-- The front of a buffer after a field is written over the input's bytes.
+use Rattle.std.proofs.Common.{◌≡◌, ℕ, ◌≤◌, List, length, take, sym, ap, ◌∙◌, arith, subst}
+use Rattle.wild_words.specs.Words.{place}
+use Rattle.wild_words.proofs.WordLemmas.{front-place}
+use Rattle.wild_reloc.specs.declared.info.RelocationKindInfo.{RelocationKindInfo}
+use Rattle.wild_reloc.specs.Agreement.{WidthsHold}
+use Rattle.wild_reloc.specs.Field.{field_width, written}
+
+front : (ys xs : List ℕ) (n : ℕ) → n ≡ length ys → take n (place 0 ys xs) ≡ ys
+front ys xs n e = front-place 0 n xs ys (omega (arith, e)) (omega arith)
+
+pub taken : WidthsHold → (row : RelocationKindInfo) (v : ℕ) (old xs buf : List ℕ) → length old ≡ field_width row → buf ≡ place 0 (written row v (take (field_width row) (place 0 old xs))) (place 0 old xs) → take (field_width row) buf ≡ written row v old
+taken widths row v old xs buf long is =
+    let same = front old xs (field_width row) (sym long) in
+    let wide = widths row v (take (field_width row) (place 0 old xs)) in
+    ap (take (field_width row)) is ∙ front (written row v (take (field_width row) (place 0 old xs))) (place 0 old xs) (field_width row) (sym wide) ∙ ap (written row v) same

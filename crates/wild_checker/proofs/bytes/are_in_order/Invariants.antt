@@ -1,0 +1,6 @@
+use Rattle.std.proofs.Common.{◌≡◌, drop}
+use Rattle.wild_checker.specs.Bytes.{are_in_order}
+use Rattle.wild_checker.proofs.bytes.are_in_order.Given as goal
+
+abbrev pub invariant-loop-relocation : goal.invariant-loop-relocation
+invariant-loop-relocation l = are_in_order l.machine l.end (drop l.relocation-index l.relocations) ≡ are_in_order l.machine 0 l.relocations

@@ -1,0 +1,13 @@
+//! What references are checked against.
+use wild_terms::{Outline, TermMemory};
+use wild_types::Layout;
+
+/// A layout, its outline, and the memory of an image as terms.
+#[derive(Clone, Copy)]
+pub struct LoadedRef<'a> {
+    pub layout: &'a Layout,
+    pub outline: &'a Outline,
+    pub memory: &'a TermMemory,
+    /// Whether the files' ranges of symbols ascend, so that a symbol is one of at most one file.
+    pub ordered: bool,
+}

@@ -1,0 +1,117 @@
+-- In an item whose fields all have their formulas' values, and whose other bytes are the input's, each instruction does what it demands.
+use Rattle.std.proofs.Common.{◌≡◌, ℕ, ◌+◌, ◌<◌, inl, inr, List, [], ◌∷◌, length, refl, sym, ap, ◌∙◌, subst, arith}
+use Rattle.std.specs.Prelude.{Option, Some, None, Contains}
+use Rattle.wild_words.proofs.Basics.{listed_at}
+use Rattle.wild_reloc.specs.declared.info.RelocationKindInfo.{RelocationKindInfo}
+use Rattle.wild_reloc.specs.Formula.{Formula}
+use Rattle.wild_reloc.specs.FormulaX86_64.{x86_64_formula}
+use Rattle.wild_reloc.specs.Agreement.{Agrees}
+use Rattle.wild_types.specs.declared.kind.Machine.{Machine}
+use Rattle.wild_types.specs.declared.kind.Machine.TheVariants as machine
+use Rattle.wild_types.specs.declared.input.InputRelocation.{InputRelocation}
+use Rattle.wild_types.specs.declared.layout.Layout.{Layout}
+use Rattle.wild_types.specs.Item.{Item}
+use Rattle.wild_types.specs.Rows.{row_of}
+use Rattle.wild_loader.specs.declared.memory.Memory.{Memory}
+use Rattle.wild_loader.specs.declared.world.World.{World}
+use Rattle.wild_loader.specs.Memory.{Holds}
+use Rattle.wild_geometry.specs.MachineFacts.{RowsAreRead}
+use Rattle.wild_meaning.specs.Item.{place_at, IsReference}
+use Rattle.wild_meaning.specs.Field.{formula_of, IsInputByte}
+use Rattle.wild_meaning.specs.Sequence.{Instruction, Partner, IsOwnByte, instructions_of}
+use Rattle.wild_meaning.specs.Template.{IsInstruction, IsSingle, IsTemplate, reads, DoesDemanded, IsOfSequence}
+use Rattle.wild_meaning.specs.Reference.{MustHold, UsesOwnSymbolOnly}
+use Rattle.wild_meaning.proofs.PairLemmas.{as_pair}
+use Rattle.wild_references.specs.Laws.{FieldHolds}
+use Rattle.wild_references.specs.PlainLaws.{AllFieldsHold, PlainInstructionsDo, HasFormula, RowsHaveFormulas}
+use Rattle.wild_references.proofs.KnownRows.{formula_there}
+use Rattle.wild_references.proofs.WindowRows.{width_of, width_by}
+use Rattle.wild_references.proofs.Does.{HasField, PartnersThere}
+use Rattle.wild_references.proofs.RightOperands.{does_demanded}
+use Rattle.wild_references.proofs.KeptTables.{partner_width}
+use Rattle.wild_references.proofs.KeptBytes.{known_filled}
+use Rattle.wild_references.proofs.SequenceParts.{in_sequence}
+use Rattle.wild_references.proofs.SinglesAArch64.{lone_word_does}
+use Rattle.wild_references.proofs.RunWords.{IsKeptRun}
+use Rattle.wild_references.proofs.SequencesAArch64.{run_does}
+
+-- ---- rows
+
+pub rows_have_formulas : RowsAreRead → RowsHaveFormulas
+rows_have_formulas agree m n row is =
+    let t = formula_there m n row is in
+    record { formula = t.0; known = t.1; width = t.2; agrees = subst (Agrees row) t.1 (agree m n row is) }
+
+-- ---- an instruction's own bytes
+
+own_bytes : (l : Layout) (w : World) (m : Memory) (item : Item) → AllFieldsHold l w m item → (r : InputRelocation) (start : ℕ) (o : Instruction) → IsInstruction l item r start o → (k : ℕ) → IsOwnByte o k → IsInputByte w m item (start + k)
+own_bytes l w m item h r start o t k own =
+    let within = t.inside in
+    let low = own.inside in
+    h.others (start + k) (omega (arith, within, low)) (t.alone k own)
+
+of_item : (l : Layout) (item : Item) (r : InputRelocation) (start : ℕ) (o : Instruction) (first : InputRelocation) → (t : IsOfSequence l item r start o first) → (q : InputRelocation) → Contains (first ∷ t.rest) q → IsReference item q
+of_item l item r start o first t q c =
+    let s = in_sequence l item first t.rest start o t.sequence q c in
+    record { listed = listed_at item.relocations s.index q s.listed; refers = s.refers }
+
+-- ---- x86-64
+
+as_field : (l : Layout) (w : World) (m : Memory) (item : Item) (r : InputRelocation) → FieldHolds l w m item r → HasField l w m item r
+as_field l w m item r f = record { formula = f.formula; known = f.known; value = f.value; gives = f.gives; field = f.field }
+
+single_does : (l : Layout) (w : World) (m : Memory) (item : Item) → l.machine ≡ machine.X86_64 → AllFieldsHold l w m item → (r : InputRelocation) → IsReference item r → (start : ℕ) (o : Instruction) → IsSingle l item r start o → DoesDemanded (reads w m) l w m item r start o
+single_does l w m item on h r is start o t =
+    does_demanded l w m item r start o (record {
+      x86 = on;
+      stands = t.stands;
+      field = as_field l w m item r (h.references r is);
+      own = own_bytes l w m item h r start o t.stands;
+      partners = subst (λ (ps : List Partner). PartnersThere w m item start ps) (sym t.single) tt;
+    })
+
+-- as many bytes as its formula's field has
+wide_of : (l : Layout) (n : ℕ) (f : Formula) → l.machine ≡ machine.X86_64 → formula_of l.machine n ≡ Some f → width_of n ≡ width_by (Some f)
+wide_of l n f on known = ap width_by (subst (λ (k : Machine). formula_of k n ≡ Some f) on known)
+
+double_does : (l : Layout) (w : World) (m : Memory) (item : Item) → l.machine ≡ machine.X86_64 → AllFieldsHold l w m item → (r : InputRelocation) (start : ℕ) (o : Instruction) (first : InputRelocation) → IsOfSequence l item r start o first → DoesDemanded (reads w m) l w m item first start o
+double_does l w m item on h r start o first part =
+    let pair = as_pair l item first part.rest start o on part.sequence in
+    let t = pair.pair in
+    let here = of_item l item r start o first part first (0, omega arith, refl) in
+    let call = of_item l item r start o first part pair.second (subst (λ (rs : List InputRelocation). Contains (first ∷ rs) pair.second) (sym pair.is) (1, omega arith, refl)) in
+    let f = h.references pair.second call in
+    let wide = f.field.wide ∙ sym (wide_of l pair.second.number f.formula on f.known) ∙ partner_width o t.partner pair.second.number (known_filled l item first start o on t.stands) t.calls t.has.number in
+    let held = subst (λ (n : ℕ). Holds m (place_at w item n) f.field.bytes) t.has.field f.field.held in
+    does_demanded l w m item first start o (record {
+      x86 = on;
+      stands = t.stands;
+      field = as_field l w m item first (h.references first here);
+      own = own_bytes l w m item h first start o t.stands;
+      partners = subst (λ (ps : List Partner). PartnersThere w m item start ps) (sym t.calls) ((f.field.bytes, wide, held), tt);
+    })
+
+-- ---- AArch64
+
+run_kept : (l : Layout) (w : World) (m : Memory) (item : Item) → l.machine ≡ machine.AArch64 → AllFieldsHold l w m item → (r : InputRelocation) → MustHold l w item r → (UsesOwnSymbolOnly l item r → ⊥) → (start : ℕ) (o : Instruction) (first : InputRelocation) → IsOfSequence l item r start o first → IsKeptRun l w m item r start o first
+run_kept l w m item on h r asked alone start o first t = record {
+  on = on;
+  rest = t.rest;
+  sequence = t.sequence;
+  one = t.one;
+  each = λ q c a n. h.references q (of_item l item r start o first t q c);
+  asked = asked;
+  alone = alone;
+  own = own_bytes l w m item h first start o t.sequence.stands;
+}
+
+-- ---- both
+
+pub plain_instructions_do : PlainInstructionsDo
+plain_instructions_do l w m item h r is asked alone start o first t = by l.machine refl t
+  where
+    by : (k : Machine) → l.machine ≡ k → IsTemplate l item r start o first → DoesDemanded (reads w m) l w m item first start o
+    by machine.X86_64 on (inl s) = subst (λ (x : InputRelocation). DoesDemanded (reads w m) l w m item x start o) (sym s.1) (single_does l w m item on h r is start o s.0)
+    by machine.X86_64 on (inr s) = double_does l w m item on h r start o first s
+    by machine.AArch64 on (inl s) = subst (λ (x : InputRelocation). DoesDemanded (reads w m) l w m item x start o) (sym s.1) (lone_word_does l w m item r start o on s.0.stands s.0.single (h.references r is))
+    by machine.AArch64 on (inr s) = run_does l w m item r start o first (run_kept l w m item on h r asked alone start o first s)

@@ -1,0 +1,49 @@
+-- Items in the memory of any image, whoever wrote it.
+--   AllFieldsHold ..       each field of an item has its formula's value, and each byte outside all fields is the input's
+--   PlainInstructionsDo    then each instruction has the effect that it requires
+--   RowsHaveFormulas       each row of the tables has a formula, with a field as wide, and agrees with it
+--   RawValuesAreAddresses  the layout's address of a symbol is that symbol's
+use Rattle.std.specs.Prelude.{◌≡◌, ℕ, ◌<◌, length, Some}
+use Rattle.wild_reloc.specs.declared.info.RelocationKindInfo.{RelocationKindInfo}
+use Rattle.wild_reloc.specs.Formula.{Formula}
+use Rattle.wild_reloc.specs.Field.{field_width}
+use Rattle.wild_reloc.specs.Agreement.{AgreesWith}
+use Rattle.wild_types.specs.declared.kind.Machine.{Machine}
+use Rattle.wild_types.specs.declared.input.InputRelocation.{InputRelocation}
+use Rattle.wild_types.specs.declared.layout.Layout.{Layout}
+use Rattle.wild_types.specs.Addresses.{raw_value}
+use Rattle.wild_types.specs.Item.{Item}
+use Rattle.wild_types.specs.Rows.{row_of}
+use Rattle.wild_loader.specs.declared.memory.Memory.{Memory}
+use Rattle.wild_loader.specs.declared.world.World.{World}
+use Rattle.wild_meaning.specs.Value.{HasRaw}
+use Rattle.wild_meaning.specs.Item.{IsReference}
+use Rattle.wild_meaning.specs.Field.{formula_of, form_width, InNoField, IsInputByte}
+use Rattle.wild_meaning.specs.Sequence.{Instruction}
+use Rattle.wild_meaning.specs.Template.{IsTemplate, reads, DoesDemanded}
+use Rattle.wild_meaning.specs.Reference.{MustHold, UsesOwnSymbolOnly}
+use Rattle.wild_references.specs.Laws.{FieldHolds}
+
+-- each field of an item has its formula's value, and each byte outside all fields is the input's
+pub record AllFieldsHold (l : Layout) (w : World) (m : Memory) (item : Item) : Type 0 where
+  pub references : (r : InputRelocation) → IsReference item r → FieldHolds l w m item r
+  pub others : (k : ℕ) → k < length item.bytes → InNoField l item k → IsInputByte w m item k
+
+-- then each instruction of such an item has the effect that it requires
+abbrev pub PlainInstructionsDo : Type 0
+PlainInstructionsDo = (l : Layout) (w : World) (m : Memory) (item : Item) → AllFieldsHold l w m item → (r : InputRelocation) → IsReference item r → MustHold l w item r → (UsesOwnSymbolOnly l item r → ⊥)
+    → (start : ℕ) (o : Instruction) (first : InputRelocation) → IsTemplate l item r start o first → DoesDemanded (reads w m) l w m item first start o
+
+-- the row of a relocation type has a formula, with a field as wide, and agrees with it
+pub record HasFormula (m : Machine) (n : ℕ) (row : RelocationKindInfo) : Type 0 where
+  pub formula : Formula
+  pub known : formula_of m n ≡ Some formula
+  pub width : form_width formula.form ≡ field_width row
+  pub agrees : AgreesWith row formula
+
+abbrev pub RowsHaveFormulas : Type 0
+RowsHaveFormulas = (m : Machine) (n : ℕ) (row : RelocationKindInfo) → row_of m n ≡ Some row → HasFormula m n row
+
+-- the layout's address of a symbol is that symbol's
+abbrev pub RawValuesAreAddresses : Type 0
+RawValuesAreAddresses = (l : Layout) (i a : ℕ) → raw_value l i ≡ Some a → HasRaw l i a
