@@ -12,8 +12,8 @@ use crate::sections::{ChangedByte, DoubtfulReference};
 use crate::segments::segment_doubt;
 use crate::symbols::are_ordered;
 use std::alloc::{AllocError, Global};
-use wild_loader::LoadFault;
 use wild_layout::numbers_fit;
+use wild_loader::LoadFault;
 use wild_terms::{Outline, TermMemory, load_terms};
 use wild_types::Layout;
 

@@ -277,7 +277,7 @@ copy_linked sound =
         first = 1;
         rest = 2 ∷ 3 ∷ 4 ∷ 5 ∷ 6 ∷ 7 ∷ 8 ∷ [];
         bytes = refl;
-        data = λ z. absurd (omega (arith, z));
+        nonzero = λ z. absurd (omega (arith, z));
         held = linked.copies (λ b. cc) 0 456 data_answer has_copy;
       },
     )

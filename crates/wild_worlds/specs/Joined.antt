@@ -172,7 +172,7 @@ pub record IsLinkedWithCopy (l : Layout) : Type 0 where
   pub first : ℕ
   pub rest : List ℕ
   pub bytes : answer.bytes ≡ first ∷ rest
-  pub data : first ≢ 0
+  pub nonzero : first ≢ 0
   pub held : Holds elsewhere.linked.memory (elsewhere.world.base + address) answer.bytes
 
 -- ---- the layouts
