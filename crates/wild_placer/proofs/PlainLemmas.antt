@@ -17,6 +17,7 @@ use Rattle.wild_records.specs.declared.section_header.SectionHeader.{SectionHead
 use Rattle.wild_records.specs.declared.relocations.Rela.{Rela}
 use Rattle.wild_records.proofs.FileHeaderLemmas.{length-file_header}
 use Rattle.wild_loader.specs.declared.fault.LoadFault.{LoadFault}
+use Rattle.wild_loader.specs.declared.image.Image.{Image}
 use Rattle.wild_loader.specs.declared.memory.Machine.{Machine}
 use Rattle.wild_loader.specs.declared.memory.Memory.{Memory}
 use Rattle.wild_loader.specs.declared.memory.Run.{Run}
@@ -67,11 +68,14 @@ nothing_relocated : (w : World) (machine : Machine) (runs : List Run) → reloca
 unfolding relocate places_from add_all apart least_extent overlay_runs notes
 nothing_relocated w machine runs = refl
 
+abbrev plain_image : FileHeader → List Run → Image
+plain_image e runs = record { machine = machine_of e; runs = runs; tables = no_tables }
+
 plain_is_load : (w : World) (im : List ℕ) (e : FileHeader) → header im ≡ Ok e → tables im e (program_headers im e.program_count e.program_offset) ≡ Ok no_tables → load w im ≡ load_plain w im
 unfolding load image_at image_with load_plain
 plain_is_load w im e head none = rw (head, none) (by (segments w.base im (program_headers im e.program_count e.program_offset)))
   where
-    by : (r : Result (List Run) LoadFault) → ((r >>= λ runs. Ok (record { machine = machine_of e; runs = runs; tables = no_tables })) >>= λ i. relocate w (memory_of i.machine i.runs) i.tables) ≡ (r >>= λ runs. Ok (memory_of (machine_of e) runs))
+    by : (r : Result (List Run) LoadFault) → ((r >>= λ (runs : List Run). Ok (plain_image e runs)) >>= λ (i : Image). relocate w (memory_of i.machine i.runs) i.tables) ≡ (r >>= λ (runs : List Run). Ok (memory_of (machine_of e) runs))
     by (Ok runs) = nothing_relocated w (machine_of e) runs
     by (Err f) = refl
 

@@ -1,5 +1,10 @@
 //! The memory of a layout.
-ghost use Rattle.std.specs.Prelude.{◌≡◌, ◌≤◌, None, Ok, IfOk, IfErr, IfSome};
+ghost use Rattle.std.specs.Prelude.{◌≡◌, ◌≤◌, ◌==◌, not, None, Ok, IfOk, IfErr, IfSome};
+ghost use Rattle.std.specs.List.{list_all};
+ghost use Rattle.wild_records.specs.Abi.Section.{sht_rela};
+ghost use Rattle.wild_records.specs.Abi.Segment.{pt_dynamic};
+ghost use Rattle.wild_types.specs.declared.section.Section.{Section};
+ghost use Rattle.wild_types.specs.declared.section.Segment.{Segment};
 ghost use Rattle.wild_loader.specs.Outcome.{Gives as LoaderGives};
 ghost use Rattle.wild_loader.specs.Runs.{least_shared};
 ghost use Rattle.wild_placer.specs.Plain.{is_plain, load_by};
@@ -15,7 +20,7 @@ use wild_loader::{LoadFault, Memory, World, load_image};
 use wild_records::abi::section::SHT_RELA;
 use wild_records::abi::segment::{PT_DYNAMIC, PT_LOAD};
 use wild_records::{FileHeader, ProgramHeader};
-use wild_types::{Error, Fault, Layout};
+use wild_types::{Error, Fault, Layout, Section, Segment};
 
 /// The writer's error, as a fault of the placer.
 fn write_fault(error: Error) -> PlaceFault
@@ -47,15 +52,27 @@ fn fault_of_prefix(fault: LoadFault) -> Option<PlaceFault>
     }
 }
 
+/// Whether no segment is a dynamic section.
+fn has_no_dynamic(segments: &[Segment]) -> bool
+    ensures { result ≡ list_all (λ (g : Segment). not (g.kind == pt_dynamic)) segments.now }
+{
+    segments.iter().all(|segment| segment.kind != PT_DYNAMIC)
+}
+
+/// Whether no section has relocation entries.
+fn has_no_rela(sections: &[Section]) -> bool
+    ensures { result ≡ list_all (λ (s : Section). not (s.kind == sht_rela)) sections.now }
+{
+    sections.iter().all(|section| section.kind != SHT_RELA)
+}
+
 /// Whether the output has no tables to apply: it is loaded, and has no dynamic section and no relocation sections.
 fn is_plain(layout: &Layout) -> bool
     ensures { result ≡ is_plain layout.now }
 {
-    let segments = layout.segments.as_slice();
-    let sections = layout.sections.as_slice();
     !layout.kind.is_partial_link()
-        && segments.iter().all(|segment| segment.kind != PT_DYNAMIC)
-        && sections.iter().all(|section| section.kind != SHT_RELA)
+        && has_no_dynamic(layout.segments.as_slice())
+        && has_no_rela(layout.sections.as_slice())
 }
 
 /// How many of an image's first bytes are read of an output without tables to apply, or with a dynamic section: its headers, the segments
