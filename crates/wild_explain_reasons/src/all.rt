@@ -1,6 +1,6 @@
 //! All items that fail a test which looks at one item and at no other.
 
-use crate::clauses::{find, push_row};
+use crate::clauses::{find, push_first, push_row};
 use crate::layout_rows::{LAYOUT_ROWS, Row};
 use crate::names::part_word;
 use crate::table_rows::TABLE_ROWS;
@@ -95,6 +95,35 @@ fn push_rows(out: &mut String, layout: &Layout, rows: &[Row]) -> Result<(), Allo
     Ok(())
 }
 
+/// Adds the first of some tests that a clause has and an item fails at an index, and returns whether there is one. Without a clause and an
+/// index, adds the items that fail some tests, and returns false.
+fn push_some_tests(
+    out: &mut String,
+    layout: &Layout,
+    at: Option<(u32, usize)>,
+    rows: &[Row],
+) -> Result<bool, AllocError> {
+    match at {
+        Some((clause, index)) => push_first(out, layout, clause, index, rows),
+        None => {
+            push_rows(out, layout, rows)?;
+            Ok(false)
+        }
+    }
+}
+
+/// The same for all tests.
+pub(crate) fn push_tests(
+    out: &mut String,
+    layout: &Layout,
+    at: Option<(u32, usize)>,
+) -> Result<(), AllocError> {
+    if !push_some_tests(out, layout, at, &LAYOUT_ROWS)? {
+        push_some_tests(out, layout, at, &TABLE_ROWS)?;
+    }
+    Ok(())
+}
+
 /// Adds the shares that differ from what the groups have to write.
 fn push_shares(out: &mut String, layout: &Layout) -> Result<(), AllocError> {
     for (i, group) in layout.groups.as_slice().iter().enumerate() {
@@ -115,7 +144,6 @@ fn push_shares(out: &mut String, layout: &Layout) -> Result<(), AllocError> {
 /// Adds all items that fail a test of a clause which depends on no other item, and all shares that are not what is needed. A fault of a clause
 /// may be the cause of later ones.
 pub fn push_all(out: &mut String, layout: &Layout) -> Result<(), AllocError> {
-    push_rows(out, layout, &LAYOUT_ROWS)?;
-    push_rows(out, layout, &TABLE_ROWS)?;
+    push_tests(out, layout, None)?;
     push_shares(out, layout)
 }

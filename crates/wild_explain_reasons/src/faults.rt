@@ -209,23 +209,12 @@ fn words_number(fault: Fault) -> usize {
     }
 }
 
-/// The explanation and the remedy for a fault at a place.
-fn words_at(
-    layout: &Layout,
-    fault: Fault,
-    at: Option<SectionPlace>,
-) -> (&'static str, &'static str) {
-    let number = match (fault, at) {
-        (Fault::UnsupportedRelocation { .. }, Some(place))
-            if let Some(section) = section_at(layout, place) && section.slot.is_debug() => 26,
+/// The explanation and the remedy for a fault, which may be in a debug section.
+pub(crate) fn words_of(fault: Fault, is_debug: bool) -> (&'static str, &'static str) {
+    let number = match fault {
+        Fault::UnsupportedRelocation { .. } if is_debug => 26,
         _ => words_number(fault),
     };
-    FAULT_WORDS.get(number).copied().unwrap_or(("", ""))
-}
-
-/// What is wrong with frames, and the remedy.
-pub(crate) fn frame_words(why: FrameFault) -> (&'static str, &'static str) {
-    let number = words_number(Fault::BadFrameData { why });
     FAULT_WORDS.get(number).copied().unwrap_or(("", ""))
 }
 
@@ -487,7 +476,14 @@ pub(crate) fn push_fault(
         }),
         _ => None,
     };
-    let (what, remedy) = words_at(layout, fault, place);
+    let is_debug = match place {
+        Some(place) => match section_at(layout, place) {
+            Some(section) => section.slot.is_debug(),
+            None => false,
+        },
+        None => false,
+    };
+    let (what, remedy) = words_of(fault, is_debug);
     writeln!(out, "what: {what}")?;
     match (place, fault) {
         (Some(place), Fault::OverlappingSites { byte }) => push_overlap(out, layout, place, byte)?,

@@ -1,13 +1,13 @@
 //! Frames that are not kept: the first faulty entry of a section, and the FDEs that are dropped.
 
-use crate::faults::{frame_words, relocation_at};
+use crate::faults::{relocation_at, words_of};
 use crate::fields::word_at;
 use crate::items::{Item, SectionPlace, push_item};
 use std::alloc::{AllocError, Global};
 use std::fmt::Write;
 use wild_frames::{BadFrame, FrameError, FrameSource, Target, count_frames, write_eh_frame_data};
 use wild_placement::FileFrames;
-use wild_types::{FrameFault, InputRelocation, InputSection, Layout};
+use wild_types::{Fault, FrameFault, InputRelocation, InputSection, Layout};
 
 /// The relocation that has a fault: the one at its offset, or at the FDE's PC Begin.
 fn relocation_of(section: &InputSection, bad: BadFrame) -> Option<usize> {
@@ -31,7 +31,7 @@ fn push_bad_frame(
         Ok(()) => Ok(false),
         Err(FrameError::OutOfMemory) => Err(AllocError),
         Err(FrameError::Bad(bad)) => {
-            let (what, remedy) = frame_words(bad.why);
+            let (what, remedy) = words_of(Fault::BadFrameData { why: bad.why }, false);
             let offset = bad.offset;
             write!(out, "likely: ")?;
             push_item(out, Item::Input(at))?;

@@ -137,6 +137,16 @@ fn row_for(rows: &[(&'static str, &'static str)], path: &str) -> Option<&'static
     None
 }
 
+/// The members of the object at a path.
+fn members_of(path: &str) -> Option<&'static str> {
+    row_for(&MEMBERS, path)
+}
+
+/// The values of the member at a path, if they are words, flags or hex digits.
+fn values_of(path: &str) -> Option<&'static str> {
+    row_for(&VALUES, path)
+}
+
 /// Whether a list of names that are apart by `, ` has a name.
 fn has_name(names: &str, name: &str) -> bool {
     for known in names.split(", ") {
@@ -154,7 +164,7 @@ pub fn push_no_plan(out: &mut String, path: &str, found: &str) -> Result<(), All
         Some(steps) => steps,
         None => ("?", path),
     };
-    let what = match row_for(&MEMBERS, outer) {
+    let what = match members_of(outer) {
         Some(members) if !has_name(members, name) => {
             writeln!(
                 out,
@@ -167,7 +177,7 @@ pub fn push_no_plan(out: &mut String, path: &str, found: &str) -> Result<(), All
         None => "the member is unknown, or its value has another type than docs/PLAN.md says",
     };
     writeln!(out, "what: {what}\nwhere: {path}")?;
-    let expected = match row_for(&VALUES, path) {
+    let expected = match values_of(path) {
         Some(values) => values,
         None if outer == "/options" || has_name(FLAGS, name) => "true, false",
         None => "a whole number in the range of the member, a list or an object (docs/PLAN.md)",
