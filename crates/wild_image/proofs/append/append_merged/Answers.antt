@@ -9,8 +9,8 @@ use Rattle.wild_image.proofs.append.append_merged.Goals as goal
 pub split_at-requires : goal.split_at-requires
 split_at-requires c = (cut_off (merged_bytes c.args.merged.now) c.args.bytes.now _ (sym c.merged_size.ensures) c.requires.own).within
 
-pub put_front-requires-clause-lies : goal.put_front-requires-clause-lies
-put_front-requires-clause-lies c =
+pub put_front-requires : goal.put_front-requires
+put_front-requires c =
     let cut = cut_off (merged_bytes c.args.merged.now) c.args.bytes.now _ (sym c.merged_size.ensures) c.requires.own in
     subst (SomeLies c.args.layout.now c.args.merged.now.part) (sym (c.split_at.ensures.front ∙ cut.front)) c.requires.lies.front
 
