@@ -319,8 +319,8 @@ fn append_file<'b>(layout: &Layout, file: &File, bytes: &'b [u8], out: &mut [u8]
     ensures image { out.new ≡ overlay_prefix (file_pieces_in_order layout.now file.now) out.old }
     ensures rest { HasRest (file_bytes layout.now file.now) bytes.now result.now }
 {
-    let behind = append_sections(layout, file, bytes, out);
-    let rest = append_trailer(layout, file, behind, out);
+    let after = append_sections(layout, file, bytes, out);
+    let rest = append_trailer(layout, file, after, out);
     append_thunks(layout, file, rest, out)
 }
 
