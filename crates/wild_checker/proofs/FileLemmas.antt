@@ -96,19 +96,19 @@ all_first (f ∷ fs) n e h = All-cons (IsFirst (f ∷ fs)) f fs here (λ k d l. 
 
 end_of_both : (fs gs : List File) (n : ℕ) → end_of_files n (fs ++ gs) ≡ option_and_then (λ m. end_of_files m gs) (end_of_files n fs)
 end_of_both [] gs n = refl
-end_of_both (f ∷ fs) gs n = by (end_of_file n f)
+end_of_both (f ∷ fs) gs n = by (end_of_both fs gs) (end_of_file n f)
   where
-    by : (o : Option ℕ) → option_and_then (λ m. end_of_files m (fs ++ gs)) o ≡ option_and_then (λ m. end_of_files m gs) (option_and_then (λ m. end_of_files m fs) o)
-    by None = refl
-    by (Some m) = end_of_both fs gs m
+    by : ((m : ℕ) → end_of_files m (fs ++ gs) ≡ option_and_then (λ m. end_of_files m gs) (end_of_files m fs)) → (o : Option ℕ) → option_and_then (λ m. end_of_files m (fs ++ gs)) o ≡ option_and_then (λ m. end_of_files m gs) (option_and_then (λ m. end_of_files m fs) o)
+    by rest None = refl
+    by rest (Some m) = rest m
 
 end_of_all : (gs : List Group) (n : ℕ) → end_of_files n (files_of gs) ≡ end_of_groups n gs
 end_of_all [] n = refl
-end_of_all (g ∷ gs) n = end_of_both g.files (files_of gs) n ∙ by (end_of_files n g.files)
+end_of_all (g ∷ gs) n = end_of_both g.files (files_of gs) n ∙ by (end_of_all gs) (end_of_files n g.files)
   where
-    by : (o : Option ℕ) → option_and_then (λ m. end_of_files m (files_of gs)) o ≡ option_and_then (λ m. end_of_groups m gs) o
-    by None = refl
-    by (Some m) = end_of_all gs m
+    by : ((m : ℕ) → end_of_files m (files_of gs) ≡ end_of_groups m gs) → (o : Option ℕ) → option_and_then (λ m. end_of_files m (files_of gs)) o ≡ option_and_then (λ m. end_of_groups m gs) o
+    by rest None = refl
+    by rest (Some m) = rest m
 
 -- the file of the layout that has the symbol
 pub own_file : (l : Layout) (g : Group) (f : File) (i : ℕ) → are_ordered l ≡ true → Contains l.groups g → Contains g.files f → (nat_le f.first_symbol i && nat_lt i (f.first_symbol + f.symbol_count)) ≡ true → file_of (files_of l.groups) i ≡ Some f
