@@ -6,6 +6,7 @@
 mod command;
 mod input;
 mod making;
+mod place;
 mod program;
 mod relink;
 mod space;
@@ -16,7 +17,7 @@ pub use command::Command;
 pub use input::LIMIT;
 pub use program::{run, run_surely, write_answer};
 pub use status::{
-    CUT_SHORT, LINKED, NO_MEMORY, NO_PLAN, NOT_BOUND, NOT_CHANGED, READ_FAULT, REFUSED, TOO_LONG,
+    CUT_SHORT, LINKED, NO_MEMORY, NO_PLAN, NOT_BOUND, NOT_CHANGED, NOT_PLACED, READ_FAULT, REFUSED, TOO_LONG,
     USAGE, status_of,
 };
 pub use wild_io::{

@@ -10,6 +10,7 @@ ghost use Rattle.wild_program.specs.Steps.{IsRefusal, HasRightNumbers, IsAnswerO
 use crate::command::Command;
 use crate::input::{plan_of, read_input};
 use crate::making::made_answer;
+use crate::place::loaded_answer;
 use crate::relink::rewrite_answer;
 use crate::space::bind_answer;
 use crate::status::{CUT_SHORT, LINKED, NO_PLAN, READ_FAULT, REFUSED, TOO_LONG, USAGE};
@@ -109,6 +110,7 @@ fn command_answer(
             Ok((LINKED, summary))
         }
         Command::Relink { workers } => rewrite_answer(rt, alloc, bytes, workers),
+        Command::Place { workers } => loaded_answer(rt, alloc, bytes, workers),
         Command::Space => bind_answer(alloc, bytes),
     }
 }
@@ -154,7 +156,7 @@ fn run_command<S: Source, K: Sink>(
     match command_of(alloc, words)? {
         None => Ok(write_answer(
             sink,
-            b"usage: link W | make N W | relink W | space\n",
+            b"usage: link W | make N W | relink W | place W | space\n",
             USAGE,
         )),
         Some(command) => answer_command(rt, alloc, words, command, source, sink),
@@ -170,6 +172,7 @@ fn run_command<S: Source, K: Sink>(
 /// - 5 (`CUT_SHORT`): a write failed;
 /// - 7 (`TOO_LONG`): the plan is too long;
 /// - 9 (`NOT_CHANGED`): the change names no section that may be changed, or has bytes of another length;
+/// - 10 (`NOT_PLACED`): the loader does not load the image in the world;
 /// - 11 (`NOT_BOUND`): the images are not bound.
 pub fn run<S: Source, K: Sink>(
     rt: &(impl Threads + Sync),
