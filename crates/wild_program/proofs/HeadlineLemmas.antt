@@ -14,10 +14,10 @@ use Rattle.wild_text.specs.Plan.{layout_in}
 use Rattle.wild_text.specs.Laws.{PlansAreRead}
 use Rattle.wild_layout.specs.Numbers.{NumbersFit}
 use Rattle.wild_program.specs.Exit as exit
-use Rattle.wild_program.specs.Program.{Answer, usage, read_fault, too_long, of_plan, of_make, of_relink, of_space, status, text as text_of, errors_status, errors_text, layout_text, SourceChange, SinkChange, IsRightAnswer, IsWritten, HasMeaning, IsLinkedText}
+use Rattle.wild_program.specs.Program.{Answer, usage, read_fault, too_long, of_plan, of_make, of_relink, of_place, of_space, status, text as text_of, errors_status, errors_text, layout_text, SourceChange, SinkChange, IsRightAnswer, IsWritten, HasMeaning, IsLinkedText}
 use Rattle.wild_program.specs.Clauses.{IsHeadline}
 use Rattle.wild_program.proofs.Statuses.{clash}
-use Rattle.wild_program.proofs.Commands.{two_commands, link_or_relink, link_or_space}
+use Rattle.wild_program.proofs.Commands.{two_commands, link_or_relink, link_or_place, link_or_space}
 use Rattle.wild_program.proofs.OneMeaning.{one_meaning}
 use Rattle.wild_program.specs.Steps.{IsAnsweredBy, AnswerFits}
 use Rattle.wild_program.proofs.SourceLemmas.{all_read}
@@ -60,6 +60,7 @@ said_image t u said (of_plan (plan l)) words sound reads fits due h took plan_by
     image_of t l layout plan_bytes text sound reads fits left due.1 means (no_errors (errors l) said zero h)
     (appended u.taken_before u.taken_after before (layout_text l) text b a took)
 said_image t u said (of_relink m) words sound reads fits due h took plan_bytes before text layout command zero left means loads b a = link_or_relink words command due.0
+said_image t u said (of_place m) words sound reads fits due h took plan_bytes before text layout command zero left means loads b a = link_or_place words command due.0
 said_image t u said (of_space m) words sound reads fits due h took plan_bytes before text layout command zero left means loads b a = link_or_space words command due.0
 said_image t u said (of_make n) words sound reads fits due h took plan_bytes before text layout command zero left means loads b a = two_commands words n command due.0
 

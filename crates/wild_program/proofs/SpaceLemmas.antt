@@ -11,11 +11,11 @@ use Rattle.wild_text.specs.Space.{space_in}
 use Rattle.wild_text.specs.Laws.{SpacesHaveImages}
 use Rattle.wild_text.specs.declared.space.SpaceRequest.{SpaceRequest}
 use Rattle.wild_program.specs.Exit as exit
-use Rattle.wild_program.specs.Program.{Answer, usage, read_fault, too_long, of_plan, of_make, of_relink, of_space, status, text as text_of, bound_images, bound_status, bound_text, SourceChange, SinkChange, IsRightAnswer, IsWritten, IsSpaceText}
+use Rattle.wild_program.specs.Program.{Answer, usage, read_fault, too_long, of_plan, of_make, of_relink, of_place, of_space, status, text as text_of, bound_images, bound_status, bound_text, SourceChange, SinkChange, IsRightAnswer, IsWritten, IsSpaceText}
 use Rattle.wild_program.specs.Clauses.{IsBoundBy}
 use Rattle.wild_program.specs.Steps.{IsAnsweredBy}
 use Rattle.wild_program.proofs.Statuses.{clash}
-use Rattle.wild_program.proofs.Commands.{link_or_space, relink_or_space, make_or_space}
+use Rattle.wild_program.proofs.Commands.{link_or_space, relink_or_space, place_or_space, make_or_space}
 use Rattle.wild_program.proofs.DeterminedLemmas.{same_meaning}
 use Rattle.wild_program.proofs.HeadlineLemmas.{appended}
 
@@ -42,6 +42,7 @@ said_space words t u said too_long laws due h took whole before text s space zer
 said_space words t u said (of_plan m) laws due h took whole before text s space zero left means b a = link_or_space words due.0 space
 said_space words t u said (of_make n) laws due h took whole before text s space zero left means b a = make_or_space words n due.0.0 due.0.1 space
 said_space words t u said (of_relink m) laws due h took whole before text s space zero left means b a = relink_or_space words due.0 space
+said_space words t u said (of_place m) laws due h took whole before text s space zero left means b a = place_or_space words due.0 space
 said_space words t u said (of_space no_json) laws due h took whole before text s space zero left means b a = clash exit.linked exit.no_plan said refl zero h
 said_space words t u said (of_space (no_plan path)) laws due h took whole before text s space zero left means b a = clash exit.linked exit.no_plan said refl zero h
 said_space words t u said (of_space (plan r)) laws due h took whole before text s space zero left means b a =
