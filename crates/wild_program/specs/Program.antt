@@ -4,6 +4,8 @@
 --   IsRightAnswer words turn answer   the answer is the right one for these words and this input
 --   IsWritten told status text said   how an answer was written: the whole text, or a write failed
 --   IsLinkedText layout text  the text is that of a sound image of the layout
+--   IsRewrittenText layout text   the text says that a change was written, and then is that of a sound image of the layout
+--   IsPlacedText request text the text is that of a memory that has what the layout requires in its world
 --   IsSpaceText request text  the text is that of images that are bound as a dynamic linker binds them
 use Rattle.std.specs.Prelude.{◌≡◌, ℕ, ◌+◌, ◌^◌, ◌<◌, ◌≤◌, List, [], ◌∷◌, ◌++◌, length, map, codes, decimal, string_bytes, String, Option, Some, Result, Ok, Err, ◌⊎◌}
 use Rattle.std.specs.List.{sum}
@@ -24,10 +26,11 @@ use Rattle.serde_json.specs.Data.{Data}
 use Rattle.wild_text.specs.Means.{Meaning, no_json, no_plan, plan, MeansBy}
 use Rattle.wild_text.specs.Plan.{layout_in}
 use Rattle.wild_text.specs.Relink.{relink_in}
-use Rattle.wild_text.specs.RelinkAnswer.{rewritten_text, no_section_text, no_length_text}
+use Rattle.wild_text.specs.RelinkAnswer.{rewritten_line, rewritten_text, no_section_text, no_length_text}
 use Rattle.wild_text.specs.declared.relink.RelinkRequest.{RelinkRequest}
 use Rattle.wild_loader.specs.declared.memory.Memory.{Memory}
 use Rattle.wild_placer.specs.Place.{layout_memory}
+use Rattle.wild_placer.specs.Laws.{IsPlacedSoundly}
 use Rattle.wild_placer.specs.declared.fault.PlaceFault.{PlaceFault}
 use Rattle.wild_placer.specs.declared.fault.PlaceFault.TheVariants as place_faults
 use Rattle.wild_text.specs.Place.{place_in}
@@ -316,6 +319,17 @@ IsAnswered words t u said = (a : Answer) × IsRightAnswer words t a × IsWritten
 -- value or target that its relocation requires
 abbrev pub IsLinkedText : Layout → List ℕ → Type 0
 IsLinkedText layout text = (image : List ℕ) × (warnings : List EntryWarning) × (counts : List ℕ) × (text ≡ image_text layout image warnings counts) × IsSound layout image
+
+-- the line of a change, and then the text of a sound image of the layout
+abbrev pub IsRewrittenText : Layout → List ℕ → Type 0
+IsRewrittenText layout text = (of_image : List ℕ) × (text ≡ rewritten_line ++ of_image) × IsLinkedText layout of_image
+
+-- The text is that of a memory of the plan in its world. There each reference of a kept item holds, and every other byte is as it
+-- should be.
+pub record IsPlacedText (r : PlaceRequest) (text : List ℕ) : Type 0 where
+  pub memory : Memory
+  pub shown : text ≡ place_text r.world.base r.plan.segments memory.runs
+  pub sound : IsPlacedSoundly r.plan r.world memory
 
 -- The text is that of the order and the binds of images, as a dynamic linker makes them. The order is breadth first. Each image has
 -- its binds, its world and its memory. Each symbol is bound to itself, or to the first definition of its name.
