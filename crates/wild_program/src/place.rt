@@ -9,25 +9,25 @@ use crate::program::refusal_of;
 use crate::status::{LINKED, NO_PLAN, NOT_PLACED};
 use std::alloc::{AllocError, Global};
 use std::thread::Threads;
-use wild_image::{ElfAArch64, ElfX86_64, ShardedArch};
+use wild_image::{Arch, ElfAArch64, ElfX86_64, GroupWriter, OpenGate, Threaded};
+use wild_layout::numbers_fit;
 use wild_placer::{PlaceFault, place_code};
 use wild_plan::Machine;
 use wild_text::{PlaceRequest, place_answer, place_refusal};
 
 /// The status and the text for a plan and its world, for the machine that the plan names.
-fn machine_answer<A: ShardedArch + Sync>(
-    rt: &(impl Threads + Sync),
+fn machine_answer<A: Arch, E: GroupWriter<A, OpenGate>>(
+    executor: &E,
     alloc: Global,
     request: &PlaceRequest,
     workers: u8,
 ) -> Result<(u8, Vec<u8>), AllocError>
-where
-    A::Relaxation: Sync,
+    requires ready { E.ready executor.now }
     requires machine { request.now.plan.machine ≡ A.machine }
     requires workers { (1 ≤ workers) × (workers ≤ 64) }
     ensures { IfOk result (λ a. (a.0 ≡ place_status request.now) × (a.1.items ≡ place_answer_text request.now)) }
 {
-    match place_code::<A>(rt, alloc, &request.plan, &request.world, workers) {
+    match place_code::<A, E>(executor, alloc, &request.plan, &request.world, workers) {
         Ok(memory) => {
             let segments = request.plan.segments.as_slice();
             let text = place_answer(alloc, request.world.base, segments, memory.runs.as_slice())?;
@@ -53,8 +53,8 @@ fn request_answer(
     ensures { IfOk result (λ a. (a.0 ≡ place_status request.now) × (a.1.items ≡ place_answer_text request.now)) }
 {
     match request.plan.machine {
-        Machine::X86_64 => machine_answer::<ElfX86_64>(rt, alloc, request, workers),
-        Machine::AArch64 => machine_answer::<ElfAArch64>(rt, alloc, request, workers),
+        Machine::X86_64 => machine_answer::<ElfX86_64, _>(&Threaded(rt), alloc, request, workers),
+        Machine::AArch64 => machine_answer::<ElfAArch64, _>(&Threaded(rt), alloc, request, workers),
     }
 }
 
@@ -72,6 +72,7 @@ pub(crate) fn loaded_answer(
         Ok(request) => request,
         Err(text) => return Ok((NO_PLAN, text)),
     };
+    numbers_fit(&request.plan);
     let answer = request_answer(rt, alloc, &request, workers)?;
     Ok(answer)
 }
