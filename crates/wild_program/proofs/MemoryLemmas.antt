@@ -11,7 +11,9 @@ use Rattle.wild_loader.specs.Load.{load}
 use Rattle.wild_placer.specs.Place.{first_fault_or, layout_memory}
 use Rattle.wild_placer.specs.declared.fault.PlaceFault.{PlaceFault}
 use Rattle.wild_placer.specs.declared.fault.PlaceFault.TheVariants as place_faults
+use Rattle.wild_text.specs.PlaceAnswer.{place_text, not_placed_text}
 use Rattle.wild_text.specs.declared.place.PlaceRequest.{PlaceRequest}
+use Rattle.wild_program.specs.Exit as exit
 use Rattle.wild_program.specs.Program.{memory_status, memory_text}
 use Rattle.wild_program.specs.Steps.{IsRefusal}
 
@@ -35,3 +37,13 @@ memory_known l w = answer_known (errors l) (load w (bytes l))
 pub memory_refused : (r : PlaceRequest) (e : Error) (memory : Result Memory PlaceFault) (code : ℕ) (text : List ℕ) → memory ≡ Err (place_faults.Write e) → IsRefusal e code text → (code ≡ memory_status memory) × (text ≡ memory_text r memory)
 memory_refused r e memory code text is said =
     (said.status_is ∙ sym (ap memory_status is), said.text_is ∙ sym (ap (λ (m : Result Memory PlaceFault). memory_text r m) is))
+
+-- a plan without faults that is loaded
+pub memory_placed : (r : PlaceRequest) (m : Memory) (memory : Result Memory PlaceFault) (text : List ℕ) → memory ≡ Ok m → text ≡ place_text r.world.base r.plan.segments m.runs → (exit.linked ≡ memory_status memory) × (text ≡ memory_text r memory)
+memory_placed r m memory text is shown =
+    (sym (ap memory_status is), shown ∙ sym (ap (λ (x : Result Memory PlaceFault). memory_text r x) is))
+
+-- one that is not loaded
+pub memory_not_placed : (r : PlaceRequest) (f : LoadFault) (memory : Result Memory PlaceFault) (text : List ℕ) → memory ≡ Err (place_faults.Load f) → text ≡ not_placed_text f → (exit.not_placed ≡ memory_status memory) × (text ≡ memory_text r memory)
+memory_not_placed r f memory text is shown =
+    (sym (ap memory_status is), shown ∙ sym (ap (λ (x : Result Memory PlaceFault). memory_text r x) is))

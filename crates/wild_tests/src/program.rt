@@ -152,7 +152,12 @@ const TEXTS: &[(&[&str], &str, &str, usize)] = &[
         "not bound Load image=0 NotElf\n",
         1,
     ),
-    (&[], "", "usage: link W | make N W | relink W | place W | space\n", 1),
+    (
+        &[],
+        "",
+        "usage: link W | make N W | relink W | place W | space\n",
+        1,
+    ),
 ];
 
 /// Each write fails in turn, or takes nothing.
