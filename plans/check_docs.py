@@ -233,7 +233,7 @@ def programs():
 def checkout():
     """A folder with the scripts and plans of this checkout, in which the programs are the ones that are checked."""
     with tempfile.TemporaryDirectory() as folder:
-        for name in ("link", "relink", "explain", "needs", "space", "tools", "plans"):
+        for name in ("link", "relink", "place", "explain", "needs", "space", "tools", "plans"):
             os.symlink(f"{TOP}/{name}", f"{folder}/{name}")
         for name, program in (("wild_main", PROGRAM), ("wild_explain_main", EXPLAIN)):
             os.makedirs(f"{folder}/crates/{name}/out")
@@ -575,6 +575,7 @@ def statuses():
     same("README.md: status 2", (2, told["2"][0] + "\n"), answer("", "nothing"))
     same("README.md: status 3", (3, told["3"][0] + "\n"), answer("{"))
     same("README.md: status 11", (11, "not bound Load image=0 NotElf\n"), answer('{"images":[{}]}', "space"))
+    same("README.md: status 10", (10, "not placed Wraps address=4194304\n"), answer(f'{{"plan":{read("plans/smallest.json")},"world":{{"base":{2**64 - 1}}}}}', "place", "1"))
     same("README.md: status 9", (9, told["9"][0] + "\n"), answer(f'{{"plan":{read("plans/smallest.json")}}}', "relink", "1"))
     same("docs/SPACE.md: no images", (3, "not a plan: /images\n"), answer('{"resolvers":0}', "space"))
     same("README.md: status 4, of a directory", (4, told["4"][0] + "\n"), run(["bash", "-c", f"{PROGRAM} link 1 < plans"], TOP))

@@ -12,7 +12,7 @@ use wild_explain_reasons::{
     push_advice, push_all, push_fields, push_image, push_needs, push_no_plan, push_owner,
     push_reason,
 };
-use wild_image::write_layout;
+use wild_image::{Threaded, write_layout};
 use wild_plan::{Error, Fault, Layout};
 use wild_program::{LINKED, NO_PLAN, REFUSED};
 use wild_text::{PlanFault, no_plan_answer, read_plan, refusal_answer};
@@ -96,7 +96,7 @@ fn explain_layout(
 ) -> Result<(u8, String), AllocError>
     ensures { IfOk result (λ a. IsExplained layout.now a.0 (string_bytes a.1)) }
 {
-    match write_layout(rt, alloc, layout, 1) {
+    match write_layout(&Threaded(rt), alloc, layout, 1) {
         Ok(made) => {
             let text = image_answer(alloc, layout, made.out.as_slice(), view)?;
             Ok((LINKED, text))

@@ -1,20 +1,22 @@
 -- The answer to a change, and its status and text.
-use Rattle.std.proofs.Common.{◌≡◌, ◌⊎◌, inl, inr, ℕ, Bool, true, false, List, [], ◌∷◌, length, Option, Some, None, Result, Ok, Err, refl, sym, ap, ◌∙◌}
-use Rattle.std.specs.Prelude.{if◌then◌else◌, ◌==◌, OnOk}
+use Rattle.std.proofs.Common.{◌≡◌, ◌⊎◌, inl, inr, ℕ, Bool, true, false, List, [], ◌∷◌, length, Option, Some, None, Result, Ok, Err, refl, sym, ap, subst, ◌∙◌}
+use Rattle.std.specs.Prelude.{if◌then◌else◌, ◌==◌, IfOk, OnOk}
 use Rattle.wild_types.specs.declared.fault.Error.{Error}
 use Rattle.wild_types.specs.declared.input.InputSection.{InputSection}
 use Rattle.wild_types.specs.declared.layout.Layout.{Layout}
 use Rattle.wild_types.specs.Faults.{IsFirst, RefusesWith}
 use Rattle.wild_layout.specs.Faults.{errors}
+use Rattle.wild_layout.specs.Numbers.{NumbersFit}
 use Rattle.wild_change.specs.declared.change.Change.{Change}
 use Rattle.wild_change.specs.Change.{found_section, changed_layout}
 use Rattle.wild_relinker.specs.Answer.{unless_errors, answer_for, answer}
 use Rattle.wild_relinker.specs.declared.fault.RelinkFault.{RelinkFault}
 use Rattle.wild_relinker.specs.declared.fault.RelinkFault.TheVariants as refusals
 use Rattle.wild_text.specs.Answer.{refusal_text}
+use Rattle.wild_text.specs.declared.relink.RelinkRequest.{RelinkRequest}
 use Rattle.wild_program.specs.Exit as exit
 use Rattle.wild_program.specs.Program.{change_status, change_text}
-use Rattle.wild_program.specs.Steps.{IsRefusal, IsChangeAnswer}
+use Rattle.wild_program.specs.Steps.{ChangeFits, IsRefusal, IsChangeAnswer}
 use Rattle.wild_program.proofs.RefusalLemmas.{first_of}
 
 -- ---- the answer is never that memory was refused
@@ -71,3 +73,25 @@ change_said es a r l m code text none answered made said =
       said.status_is ∙ ap (λ (x : Result (Unit {0}) RelinkFault). change_status [] x) e ∙ sym (ap (λ (xs : List Error). change_status xs a) none),
       said.text_is ∙ same_text r l m made ∙ ap (λ (x : Result (Unit {0}) RelinkFault). change_text [] x m) e ∙ sym (ap (λ (xs : List Error). change_text xs a m) none),
     )
+
+-- ---- the numbers of the layout after the change
+
+-- what each value of a result gives
+pub on_value : {A E : Type 0} (r : Result A E) (P : A → Type 0) (Q : Type 0) → ((a : A) → P a → Q) → IfOk r P → OnOk r Q
+on_value (Ok a) P Q f h = f a h
+on_value (Err e) P Q f h = tt
+
+-- a plan that is refused has a fault
+pub refused_fits : (e : Error) (r : RelinkRequest) (code : ℕ) (text : List ℕ) → RefusesWith e.fault e (errors r.plan) → IsRefusal e code text → ChangeFits r
+refused_fits e r code text h is = λ none accepted. absurd (subst (IsFirst e) none (first_of e.fault e (errors r.plan) h is.known))
+
+on_ok : (r : Result (Unit {0}) RelinkFault) (Q : Type 0) → r ≡ Ok tt → OnOk r Q → Q
+on_ok (Ok done) Q is h = h
+on_ok (Err e) Q is h = absurd cc
+
+-- the layout after a change that is accepted is the changed layout
+pub said_fits : (r : RelinkRequest) (a : Result (Unit {0}) RelinkFault) (l : Layout) (code : ℕ) (text : List ℕ) → (a ≡ answer r.plan r.change) ⊎ (a ≡ Err refusals.OutOfMemory) → OnOk a (l ≡ changed_layout r.plan r.change) → NumbersFit l → IsChangeAnswer a l code text
+    → ChangeFits r
+said_fits r a l code text answered made fits said = λ none accepted.
+    let is = is_answer (answer r.plan r.change) a answered said.known ∙ accepted in
+    subst NumbersFit (on_ok a (l ≡ changed_layout r.plan r.change) is made) fits

@@ -1,28 +1,47 @@
--- The text of status 0 is that of a sound image.
-use Rattle.std.proofs.Common.{◌≡◌, ℕ, List, [], ◌∷◌, ◌++◌, Option, Some, None, refl, sym, ap, ◌∙◌, subst, inl, inr, String, Global}
+-- The text of status 0 is that of a sound image, or of a sound memory.
+use Rattle.std.proofs.Common.{◌≡◌, ℕ, List, [], ◌∷◌, ◌++◌, Option, Some, None, Result, Ok, Err, refl, sym, ap, ◌∙◌, subst, String, Global}
+use Rattle.std.specs.Prelude.{Bool, true, false, ◌==◌, if◌then◌else◌, length}
 use Rattle.std.proofs.lemmas.List.{append_cancel_left}
 use Rattle.std.specs.Io.KnownBytes.{Appends}
+use Rattle.wild_types.specs.ResolvedFlags.{HaveTheirFlags}
 use Rattle.wild_types.specs.declared.fault.Error.{Error}
+use Rattle.wild_types.specs.declared.input.InputSection.{InputSection}
 use Rattle.wild_types.specs.declared.layout.Layout.{Layout}
 use Rattle.wild_layout.specs.Image.{bytes, counts}
+use Rattle.wild_layout.specs.Numbers.{NumbersFit}
 use Rattle.wild_layout.specs.Warnings.{warnings}
 use Rattle.wild_layout.specs.Faults.{errors}
 use Rattle.wild_laws.specs.Laws.{ImagesAreSound}
-use Rattle.wild_text.specs.Means.{no_json, no_plan, plan, Means}
+use Rattle.wild_change.specs.declared.change.Change.{Change}
+use Rattle.wild_change.specs.Change.{found_section, changed_layout}
+use Rattle.wild_relinker.specs.Answer.{unless_errors, answer_for, answer}
+use Rattle.wild_relinker.specs.declared.fault.RelinkFault.{RelinkFault}
+use Rattle.wild_relinker.specs.declared.fault.RelinkFault.TheVariants as refusals
+use Rattle.wild_loader.specs.declared.memory.Memory.{Memory}
+use Rattle.wild_placer.specs.Laws.{PlacementsAreSound}
+use Rattle.wild_placer.specs.declared.fault.PlaceFault.{PlaceFault}
+use Rattle.wild_placer.specs.declared.fault.PlaceFault.TheVariants as place_faults
+use Rattle.wild_text.specs.Means.{plan}
 use Rattle.wild_text.specs.Answer.{image_text}
-use Rattle.wild_text.specs.Plan.{layout_in}
-use Rattle.wild_text.specs.Laws.{PlansAreRead}
-use Rattle.wild_layout.specs.Numbers.{NumbersFit}
+use Rattle.wild_text.specs.Laws.{PlansAreRead, RelinkPlansAreRead, PlacePlansAreRead}
+use Rattle.wild_text.specs.declared.relink.RelinkRequest.{RelinkRequest}
+use Rattle.wild_text.specs.declared.place.PlaceRequest.{PlaceRequest}
 use Rattle.wild_program.specs.Exit as exit
-use Rattle.wild_program.specs.Program.{Answer, usage, read_fault, too_long, of_plan, of_make, of_relink, of_space, status, text as text_of, errors_status, errors_text, layout_text, SourceChange, SinkChange, IsRightAnswer, IsWritten, HasMeaning, IsLinkedText}
-use Rattle.wild_program.specs.Clauses.{IsHeadline}
-use Rattle.wild_program.proofs.Statuses.{clash}
-use Rattle.wild_program.proofs.Commands.{two_commands, link_or_relink, link_or_space}
-use Rattle.wild_program.proofs.OneMeaning.{one_meaning}
+use Rattle.wild_program.specs.Program.{Answer, of_plan, of_relink, of_place, errors_status, errors_text, change_status, change_text, placed_memory, memory_status, memory_text, SourceChange, SinkChange, IsLinkedText, IsRewrittenText}
+use Rattle.wild_program.specs.Clauses.{IsWrittenWhole, IsHeadline}
 use Rattle.wild_program.specs.Steps.{IsAnsweredBy, AnswerFits}
-use Rattle.wild_program.proofs.SourceLemmas.{all_read}
+use Rattle.wild_program.proofs.Statuses.{clash}
+use Rattle.wild_program.proofs.MeaningLemmas.{whole_if_linked, written_if_linked, plan_answer, relink_answer, place_answer}
 
--- text that was appended is the text that came behind
+-- the laws of images and of memories
+pub record HasSoundLaws : Type 0 where
+  pub images : ImagesAreSound
+  pub memories : PlacementsAreSound
+  pub plans : PlansAreRead
+  pub relink_plans : RelinkPlansAreRead
+  pub place_plans : PlacePlansAreRead
+
+-- text that was appended is the text that was added
 pub appended : (before after : Option (List ℕ)) (xs added text : List ℕ) → before ≡ Some xs → after ≡ Some (xs ++ text) → Appends before after added → text ≡ added
 appended None after xs added text b a h = absurd cc
 appended (Some ys) None xs added text b a h = absurd cc
@@ -31,42 +50,99 @@ appended (Some ys) (Some zs) xs added text b a h =
     let after : zs ≡ xs ++ text = cc in
     append_cancel_left xs text added (sym after ∙ h ∙ ap (λ (ws : List ℕ). ws ++ added) before)
 
+-- an answer that is known, with what was written
+record IsKnown (u : SinkChange) (said : ℕ) (a : Answer) : Type 0 where
+  pub written : IsWrittenWhole u a said
+  pub fits : AnswerFits a
+
+known : (words : List (String Global)) (t : SourceChange) (u : SinkChange) (said : ℕ) (a : Answer) (h : IsAnsweredBy words t u said) → said ≡ exit.linked → h.answer ≡ a → IsKnown u said a
+known words t u said a h zero is =
+    subst (IsKnown u said) is (record { written = written_if_linked u said h.answer zero h.told_as; fits = h.fits })
+
+-- ---- an image
+
 no_errors : (es : List Error) (said : ℕ) → said ≡ exit.linked → said ≡ errors_status es → es ≡ []
 no_errors [] said zero h = refl
 no_errors (e ∷ es) said zero h = clash exit.linked exit.refused said refl zero h
 
-same_layout : (l layout : Layout) → plan l ≡ plan layout → l ≡ layout
-same_layout l layout e = cc
-
 -- the text of a layout without faults
-image_of : (t : SourceChange) (l layout : Layout) (plan_bytes text : List ℕ) → ImagesAreSound → PlansAreRead → NumbersFit l → t.left_before ≡ Some plan_bytes → HasMeaning t (plan l)
-    → Means plan_bytes (plan layout) → errors l ≡ [] → text ≡ layout_text l → IsLinkedText layout text
-image_of t l layout plan_bytes text sound reads fits left meant means none is =
-    let same = all_read t plan_bytes meant.0 left meant.1 in
-    let own : Means meant.0 (plan l) = meant.2 in
-    let one = one_meaning layout_in meant.0 (plan l) (plan layout) own (subst (λ (b : List ℕ). Means b (plan layout)) same means) in
-    let target = reads own.0 l own.2 in
-    let shown : text ≡ image_text l (bytes l) (warnings l) (counts l) = is ∙ ap (errors_text l) none in
-    subst (λ (k : Layout). IsLinkedText k text) (same_layout l layout one) (bytes l, warnings l, counts l, shown, sound l fits target.own none)
+linked_text : (l : Layout) (text : List ℕ) → ImagesAreSound → NumbersFit l → HaveTheirFlags l → errors l ≡ [] → text ≡ image_text l (bytes l) (warnings l) (counts l) → IsLinkedText l text
+linked_text l text sound fits own none shown = (bytes l, warnings l, counts l, shown, sound l fits own none)
 
-said_image : (t : SourceChange) (u : SinkChange) (said : ℕ) (a : Answer) (words : List (String Global)) → ImagesAreSound → PlansAreRead → AnswerFits a → IsRightAnswer words t a
-    → said ≡ status a → Appends u.taken_before u.taken_after (text_of a) → IsHeadline words t u said
-said_image t u said usage words sound reads fits due h took plan_bytes before text layout command zero left means loads b a = clash exit.linked exit.usage said refl zero h
-said_image t u said read_fault words sound reads fits due h took plan_bytes before text layout command zero left means loads b a = clash exit.linked exit.read_fault said refl zero h
-said_image t u said too_long words sound reads fits due h took plan_bytes before text layout command zero left means loads b a = clash exit.linked exit.too_long said refl zero h
-said_image t u said (of_plan no_json) words sound reads fits due h took plan_bytes before text layout command zero left means loads b a = clash exit.linked exit.no_plan said refl zero h
-said_image t u said (of_plan (no_plan path)) words sound reads fits due h took plan_bytes before text layout command zero left means loads b a = clash exit.linked exit.no_plan said refl zero h
-said_image t u said (of_plan (plan l)) words sound reads fits due h took plan_bytes before text layout command zero left means loads b a =
-    image_of t l layout plan_bytes text sound reads fits left due.1 means (no_errors (errors l) said zero h)
-    (appended u.taken_before u.taken_after before (layout_text l) text b a took)
-said_image t u said (of_relink m) words sound reads fits due h took plan_bytes before text layout command zero left means loads b a = link_or_relink words command due.0
-said_image t u said (of_space m) words sound reads fits due h took plan_bytes before text layout command zero left means loads b a = link_or_space words command due.0
-said_image t u said (of_make n) words sound reads fits due h took plan_bytes before text layout command zero left means loads b a = two_commands words n command due.0
+-- ---- an image after a change
 
-told_image : (t : SourceChange) (u : SinkChange) (said : ℕ) (a : Answer) (words : List (String Global)) → ImagesAreSound → PlansAreRead → AnswerFits a → IsRightAnswer words t a
-    → IsWritten u (status a) (text_of a) said → IsHeadline words t u said
-told_image t u said a words sound reads fits due (inl h) = said_image t u said a words sound reads fits due h.0 h.1
-told_image t u said a words sound reads fits due (inr h) = λ plan_bytes before text layout command zero left means loads b c. clash exit.linked exit.cut_short said refl zero h.0
+pub record IsAccepted (es : List Error) (a : Result (Unit {0}) RelinkFault) : Type 0 where
+  pub none : es ≡ []
+  pub accepted : a ≡ Ok tt
 
-pub headline : (words : List (String Global)) (t : SourceChange) (u : SinkChange) (said : ℕ) → ImagesAreSound → PlansAreRead → IsAnsweredBy words t u said → IsHeadline words t u said
-headline words t u said sound reads h = told_image t u said h.answer words sound reads h.fits h.due h.told_as
+is_accepted : (es : List Error) (a : Result (Unit {0}) RelinkFault) (said : ℕ) → said ≡ exit.linked → said ≡ change_status es a → IsAccepted es a
+is_accepted (e ∷ es) a said zero h = clash exit.linked exit.refused said refl zero h
+is_accepted [] (Ok done) said zero h = record { none = refl; accepted = refl }
+is_accepted [] (Err (refusals.Write e)) said zero h = clash exit.linked exit.refused said refl zero h
+is_accepted [] (Err (refusals.Length given needed)) said zero h = clash exit.linked exit.not_changed said refl zero h
+is_accepted [] (Err refusals.NoSection) said zero h = clash exit.linked exit.not_changed said refl zero h
+is_accepted [] (Err refusals.OutOfMemory) said zero h = clash exit.linked exit.not_changed said refl zero h
+
+none_first : (es : List Error) → unless_errors es ≡ Ok tt → es ≡ []
+none_first [] h = refl
+none_first (e ∷ es) h = absurd cc
+
+length_accepted : (same : Bool) (given needed : ℕ) (es : List Error) → (if same then unless_errors es else Err (refusals.Length given needed)) ≡ Ok tt → es ≡ []
+length_accepted true given needed es h = none_first es h
+length_accepted false given needed es h = absurd cc
+
+found_accepted : (l : Layout) (c : Change) (found : Option InputSection) → answer_for l c found ≡ Ok tt → errors (changed_layout l c) ≡ []
+found_accepted l c None h = absurd cc
+found_accepted l c (Some s) h = length_accepted (length c.bytes == length s.bytes) (length c.bytes) (length s.bytes) (errors (changed_layout l c)) h
+
+-- a change that is accepted leaves no fault
+none_after : (l : Layout) (c : Change) → answer l c ≡ Ok tt → errors (changed_layout l c) ≡ []
+none_after l c h = found_accepted l c (found_section l c) h
+
+-- the text of a change that is accepted
+rewritten_text_is : (es : List Error) (a : Result (Unit {0}) RelinkFault) (l : Layout) (text : List ℕ) → ImagesAreSound → NumbersFit l → HaveTheirFlags l → errors l ≡ [] → IsAccepted es a → text ≡ change_text es a l → IsRewrittenText l text
+rewritten_text_is es a l text sound fits own none h shown =
+    let of_image = image_text l (bytes l) (warnings l) (counts l) in (
+      of_image,
+      shown ∙ ap (λ (xs : List Error). change_text xs a l) h.none ∙ ap (λ (x : Result (Unit {0}) RelinkFault). change_text [] x l) h.accepted,
+      linked_text l of_image sound fits own none refl,
+    )
+
+-- ---- a memory
+
+is_memory : (m : Result Memory PlaceFault) (said : ℕ) → said ≡ exit.linked → said ≡ memory_status m → (x : Memory) × (m ≡ Ok x)
+is_memory (Ok x) said zero h = (x, refl)
+is_memory (Err (place_faults.Write e)) said zero h = clash exit.linked exit.refused said refl zero h
+is_memory (Err (place_faults.Load f)) said zero h = clash exit.linked exit.not_placed said refl zero h
+is_memory (Err (place_faults.Taken a)) said zero h = clash exit.linked exit.not_placed said refl zero h
+is_memory (Err (place_faults.NoSuch n)) said zero h = clash exit.linked exit.not_placed said refl zero h
+is_memory (Err place_faults.Full) said zero h = clash exit.linked exit.not_placed said refl zero h
+is_memory (Err place_faults.OutOfMemory) said zero h = clash exit.linked exit.not_placed said refl zero h
+
+-- ---- together
+
+pub headline : (words : List (String Global)) (t : SourceChange) (u : SinkChange) (said : ℕ) → HasSoundLaws → IsAnsweredBy words t u said → IsHeadline words t u said
+headline words t u said laws h = record {
+  linked = λ whole before text layout command zero left means loads b a.
+      let for_whole = whole_if_linked h.answer said zero (written_if_linked u said h.answer zero h.told_as).status in
+      let k = known words t u said (of_plan (plan layout)) h zero (plan_answer words t h.answer for_whole h.due whole (plan layout) command left means) in
+      let none = no_errors (errors layout) said zero k.written.status in
+      let shown = appended u.taken_before u.taken_after before _ text b a k.written.text in
+      linked_text layout text laws.images k.fits (laws.plans means.0 layout means.2).own none (shown ∙ ap (errors_text layout) none);
+  rewritten = λ whole before text r command zero left means loads b a.
+      let for_whole = whole_if_linked h.answer said zero (written_if_linked u said h.answer zero h.told_as).status in
+      let k = known words t u said (of_relink (plan r)) h zero (relink_answer words t h.answer for_whole h.due whole (plan r) command left means) in
+      let e = is_accepted (errors r.plan) (answer r.plan r.change) said zero k.written.status in
+      let shown = appended u.taken_before u.taken_after before _ text b a k.written.text in
+      rewritten_text_is (errors r.plan) (answer r.plan r.change) (changed_layout r.plan r.change) text laws.images (k.fits e.none e.accepted) (laws.relink_plans means.0 r means.2).own (none_after r.plan r.change e.accepted) e shown;
+  placed = λ whole before text r command zero left means loads legal b a.
+      let for_whole = whole_if_linked h.answer said zero (written_if_linked u said h.answer zero h.told_as).status in
+      let k = known words t u said (of_place (plan r)) h zero (place_answer words t h.answer for_whole h.due whole (plan r) command left means) in
+      let m = is_memory (placed_memory r) said zero k.written.status in
+      let shown = appended u.taken_before u.taken_after before _ text b a k.written.text in
+      record {
+        memory = m.0;
+        shown = shown ∙ ap (λ (x : Result Memory PlaceFault). memory_text r x) m.1;
+        sound = laws.memories r.plan r.world m.0 k.fits (laws.place_plans means.0 r means.2).own loads legal m.1;
+      };
+}

@@ -4,6 +4,8 @@
 --   IsRightAnswer words turn answer   the answer is the right one for these words and this input
 --   IsWritten told status text said   how an answer was written: the whole text, or a write failed
 --   IsLinkedText layout text  the text is that of a sound image of the layout
+--   IsRewrittenText layout text   the text says that a change was written, and then is that of a sound image of the layout
+--   IsPlacedText request text the text is that of a memory that has what the layout requires in its world
 --   IsSpaceText request text  the text is that of images that are bound as a dynamic linker binds them
 use Rattle.std.specs.Prelude.{◌≡◌, ℕ, ◌+◌, ◌^◌, ◌<◌, ◌≤◌, List, [], ◌∷◌, ◌++◌, length, map, codes, decimal, string_bytes, String, Option, Some, Result, Ok, Err, ◌⊎◌}
 use Rattle.std.specs.List.{sum}
@@ -24,8 +26,16 @@ use Rattle.serde_json.specs.Data.{Data}
 use Rattle.wild_text.specs.Means.{Meaning, no_json, no_plan, plan, MeansBy}
 use Rattle.wild_text.specs.Plan.{layout_in}
 use Rattle.wild_text.specs.Relink.{relink_in}
-use Rattle.wild_text.specs.RelinkAnswer.{rewritten_text, no_section_text, no_length_text}
+use Rattle.wild_text.specs.RelinkAnswer.{rewritten_line, rewritten_text, no_section_text, no_length_text}
 use Rattle.wild_text.specs.declared.relink.RelinkRequest.{RelinkRequest}
+use Rattle.wild_loader.specs.declared.memory.Memory.{Memory}
+use Rattle.wild_placer.specs.Place.{layout_memory}
+use Rattle.wild_placer.specs.Laws.{IsPlacedSoundly}
+use Rattle.wild_placer.specs.declared.fault.PlaceFault.{PlaceFault}
+use Rattle.wild_placer.specs.declared.fault.PlaceFault.TheVariants as place_faults
+use Rattle.wild_text.specs.Place.{place_in}
+use Rattle.wild_text.specs.PlaceAnswer.{place_text, not_placed_text}
+use Rattle.wild_text.specs.declared.place.PlaceRequest.{PlaceRequest}
 use Rattle.wild_text.specs.Space.{space_in}
 use Rattle.wild_text.specs.SpaceAnswer.{space_text, not_bound_text}
 use Rattle.wild_text.specs.declared.space.SpaceRequest.{SpaceRequest}
@@ -72,13 +82,21 @@ IsRelink words n = HasWorkers (codes "relink") words n
 abbrev pub IsRelinkCommand : List (String Global) → Type 0
 IsRelinkCommand words = (n : ℕ) × IsRelink words n
 
+-- the words are `place` and a number of workers
+abbrev pub IsPlace : List (String Global) → ℕ → Type 0
+IsPlace words n = HasWorkers (codes "place") words n
+
+-- the words are `place W`
+abbrev pub IsPlaceCommand : List (String Global) → Type 0
+IsPlaceCommand words = (n : ℕ) × IsPlace words n
+
 -- the word is `space`
 abbrev pub IsSpace : List (String Global) → Type 0
 IsSpace words = map string_bytes words ≡ codes "space" ∷ []
 
 -- the words are a command that reads its input to the end
 abbrev pub IsReading : List (String Global) → Type 0
-IsReading words = IsLinkCommand words ⊎ (IsRelinkCommand words ⊎ IsSpace words)
+IsReading words = IsLinkCommand words ⊎ (IsRelinkCommand words ⊎ (IsPlaceCommand words ⊎ IsSpace words))
 
 -- the words are a command
 abbrev pub IsCommand : List (String Global) → Type 0
@@ -89,6 +107,7 @@ abbrev pub Asks : List (String Global) → Command → Type 0
 Asks words (command.Link w) = IsLink words w
 Asks words (command.Make n w) = IsMake words n w
 Asks words (command.Relink w) = IsRelink words w
+Asks words (command.Place w) = IsPlace words w
 Asks words command.Space = IsSpace words
 
 -- the possible answers
@@ -99,6 +118,7 @@ pub data Answer : Type 0 where
   of_plan : Meaning Layout → Answer
   of_make : ℕ → Answer
   of_relink : Meaning RelinkRequest → Answer
+  of_place : Meaning PlaceRequest → Answer
   of_space : Meaning SpaceRequest → Answer
 
 -- the status for a layout with these faults
@@ -149,6 +169,29 @@ relink_status r = change_status (errors r.plan) (answer r.plan r.change)
 abbrev pub relink_answer_text : RelinkRequest → List ℕ
 relink_answer_text r = change_text (errors r.plan) (answer r.plan r.change) (changed_layout r.plan r.change)
 
+-- the memory of the plan in its world, or the first fault
+abbrev pub placed_memory : PlaceRequest → Result Memory PlaceFault
+placed_memory r = layout_memory r.plan r.world
+
+abbrev pub memory_status : Result Memory PlaceFault → ℕ
+memory_status (Ok m) = exit.linked
+memory_status (Err (place_faults.Write e)) = exit.refused
+memory_status (Err fault) = exit.not_placed
+
+-- the text of the memory of a plan, or of the first fault of its layout or of loading
+abbrev pub memory_text : PlaceRequest → Result Memory PlaceFault → List ℕ
+memory_text r (Ok m) = place_text r.world.base r.plan.segments m.runs
+memory_text r (Err (place_faults.Write e)) = refusal_text e
+memory_text r (Err (place_faults.Load fault)) = not_placed_text fault
+memory_text r (Err fault) = []
+
+-- `refused` if the plan has a fault; `not_placed` if the loader does not load its image; else `linked`
+abbrev pub place_status : PlaceRequest → ℕ
+place_status r = memory_status (placed_memory r)
+
+abbrev pub place_answer_text : PlaceRequest → List ℕ
+place_answer_text r = memory_text r (placed_memory r)
+
 -- what the images of an input are bound to
 abbrev pub bound_images : SpaceRequest → Result Bound BindFault
 bound_images s = bound s.images s.resolvers
@@ -188,15 +231,17 @@ status too_long = exit.too_long
 status (of_plan meaning) = meaning_status layout_status meaning
 status (of_make n) = exit.linked
 status (of_relink meaning) = meaning_status relink_status meaning
+status (of_place meaning) = meaning_status place_status meaning
 status (of_space meaning) = meaning_status space_status meaning
 
 abbrev pub text : Answer → List ℕ
-text usage = codes "usage: link W | make N W | relink W | space\n"
+text usage = codes "usage: link W | make N W | relink W | place W | space\n"
 text read_fault = codes "read fault\n"
 text too_long = codes "plan too long\n"
 text (of_plan meaning) = meaning_text layout_text meaning
 text (of_make n) = made_text n
 text (of_relink meaning) = meaning_text relink_answer_text meaning
+text (of_place meaning) = meaning_text place_answer_text meaning
 text (of_space meaning) = meaning_text space_answer_text meaning
 
 -- the maximal size of a plan in bytes
@@ -244,6 +289,7 @@ IsRightAnswer words t too_long = IsReading words × IsTooLong t
 IsRightAnswer words t (of_plan meaning) = IsLinkCommand words × HasMeaning t meaning
 IsRightAnswer words t (of_make n) = ((w : ℕ) × IsMake words n w) × NothingRead t
 IsRightAnswer words t (of_relink meaning) = IsRelinkCommand words × HasMeaningBy relink_in t meaning
+IsRightAnswer words t (of_place meaning) = IsPlaceCommand words × HasMeaningBy place_in t meaning
 IsRightAnswer words t (of_space meaning) = IsSpace words × HasMeaningBy space_in t meaning
 
 -- the state of the sink before and after: the bytes written so far, and the number of failed writes
@@ -273,6 +319,17 @@ IsAnswered words t u said = (a : Answer) × IsRightAnswer words t a × IsWritten
 -- value or target that its relocation requires
 abbrev pub IsLinkedText : Layout → List ℕ → Type 0
 IsLinkedText layout text = (image : List ℕ) × (warnings : List EntryWarning) × (counts : List ℕ) × (text ≡ image_text layout image warnings counts) × IsSound layout image
+
+-- the line of a change, and then the text of a sound image of the layout
+abbrev pub IsRewrittenText : Layout → List ℕ → Type 0
+IsRewrittenText layout text = (of_image : List ℕ) × (text ≡ rewritten_line ++ of_image) × IsLinkedText layout of_image
+
+-- The text is that of a memory of the plan in its world. There each reference of a kept item holds, and every other byte is as it
+-- should be.
+pub record IsPlacedText (r : PlaceRequest) (text : List ℕ) : Type 0 where
+  pub memory : Memory
+  pub shown : text ≡ place_text r.world.base r.plan.segments memory.runs
+  pub sound : IsPlacedSoundly r.plan r.world memory
 
 -- The text is that of the order and the binds of images, as a dynamic linker makes them. The order is breadth first. Each image has
 -- its binds, its world and its memory. Each symbol is bound to itself, or to the first definition of its name.

@@ -9,6 +9,8 @@ pub enum Command {
     Make { groups: u32, workers: u8 },
     /// Writes the image of the plan that is read, with a change of one input section; 1 to 64 workers.
     Relink { workers: u8 },
+    /// Writes the memory of the plan that is read, in the world that is read; 1 to 64 workers.
+    Place { workers: u8 },
     /// Writes the order and the binds of the images that are read.
     Space,
 }

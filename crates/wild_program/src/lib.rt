@@ -1,11 +1,12 @@
 //! The program as a library: `link W` reads a plan and writes its image as text; `make N W` writes the summary of the
-//! image of N groups; `relink W` reads a plan and a change of one input section; `space` reads images and writes how a dynamic
-//! linker binds them. The caller chooses the source and the sink.
+//! image of N groups; `relink W` reads a plan and a change of one input section; `place W` reads a plan and a world, and writes the
+//! memory of the plan; `space` reads images and writes how a dynamic linker binds them. The caller chooses the source and the sink.
 #![tactic(auto)]
 
 mod command;
 mod input;
 mod making;
+mod place;
 mod program;
 mod relink;
 mod space;
@@ -14,10 +15,10 @@ mod words;
 
 pub use command::Command;
 pub use input::LIMIT;
-pub use program::{run, run_surely, write_answer};
+pub use program::{layout_answer, plan_answer, run, run_surely, write_answer};
 pub use status::{
-    CUT_SHORT, LINKED, NO_MEMORY, NO_PLAN, NOT_BOUND, NOT_CHANGED, READ_FAULT, REFUSED, TOO_LONG,
-    USAGE, status_of,
+    CUT_SHORT, LINKED, NO_MEMORY, NO_PLAN, NOT_BOUND, NOT_CHANGED, NOT_PLACED, READ_FAULT, REFUSED,
+    TOO_LONG, USAGE, status_of,
 };
 pub use wild_io::{
     IoFailure, MemSink, MemSource, ReadFault, ReaderSource, Sink, Source, SureSink, SureSource,

@@ -10,16 +10,18 @@ ghost use Rattle.wild_program.specs.Steps.{IsRefusal, HasRightNumbers, IsAnswerO
 use crate::command::Command;
 use crate::input::{plan_of, read_input};
 use crate::making::made_answer;
+use crate::place::loaded_answer;
 use crate::relink::rewrite_answer;
 use crate::space::bind_answer;
 use crate::status::{CUT_SHORT, LINKED, NO_PLAN, READ_FAULT, REFUSED, TOO_LONG, USAGE};
 use crate::words::command_of;
 use std::alloc::{AllocError, Global};
 use std::thread::Threads;
-use wild_image::write_layout;
+use wild_image::{ImageWriter, Threaded, write_layout};
 use wild_io::{ReadFault, Sink, Source, SureSink, SureSource, write_whole};
 use wild_laws::images_are_sound;
 use wild_layout::numbers_fit;
+use wild_placer::placements_are_sound;
 use wild_plan::{Error, Fault, Layout};
 use wild_space::{binds_are_first, orders_are_breadth_first, spaces_are_made};
 use wild_text::{image_answer, plans_are_read, refusal_answer, spaces_have_images};
@@ -36,16 +38,17 @@ pub fn write_answer<K: Sink>(sink: &mut K, answer: &[u8], code: u8) -> u8
 }
 
 /// The status and the text for a layout.
-fn layout_answer(
-    rt: &(impl Threads + Sync),
+pub fn layout_answer<E: ImageWriter>(
+    executor: &E,
     alloc: Global,
     layout: &Layout,
     workers: u8,
 ) -> Result<(u8, Vec<u8>), AllocError>
-    requires { (1 ≤ workers) × (workers ≤ 64) }
+    requires ready { E.ready executor.now }
+    requires workers { (1 ≤ workers) × (workers ≤ 64) }
     ensures { IfOk result (λ a. (a.0 ≡ layout_status layout.now) × (a.1.items ≡ layout_text layout.now)) }
 {
-    match write_layout(rt, alloc, layout, workers) {
+    match write_layout(executor, alloc, layout, workers) {
         Ok(made) => {
             let text = image_answer(
                 alloc,
@@ -74,13 +77,14 @@ pub(crate) fn refusal_of(alloc: Global, error: Error) -> Result<(u8, Vec<u8>), A
 }
 
 /// The status and the text of `link` for the bytes of a plan.
-fn link_answer(
-    rt: &(impl Threads + Sync),
+pub fn plan_answer<E: ImageWriter>(
+    executor: &E,
     alloc: Global,
     bytes: &[u8],
     workers: u8,
 ) -> Result<(u8, Vec<u8>), AllocError>
-    requires { (1 ≤ workers) × (workers ≤ 64) }
+    requires ready { E.ready executor.now }
+    requires workers { (1 ≤ workers) × (workers ≤ 64) }
     ensures { IfOk result (λ a. IsAnswerOf (Link workers) bytes.now a.0 a.1.items) }
 {
     let layout: Layout = match plan_of(alloc, bytes)? {
@@ -88,7 +92,7 @@ fn link_answer(
         Err(text) => return Ok((NO_PLAN, text)),
     };
     numbers_fit(&layout);
-    let answer = layout_answer(rt, alloc, &layout, workers)?;
+    let answer = layout_answer(executor, alloc, &layout, workers)?;
     Ok(answer)
 }
 
@@ -103,12 +107,13 @@ fn command_answer(
     ensures { IfOk result (λ a. IsAnswerOf command bytes.now a.0 a.1.items) }
 {
     match command {
-        Command::Link { workers } => link_answer(rt, alloc, bytes, workers),
+        Command::Link { workers } => plan_answer(&Threaded(rt), alloc, bytes, workers),
         Command::Make { groups, workers } => {
             let summary = made_answer(rt, alloc, groups, workers)?;
             Ok((LINKED, summary))
         }
         Command::Relink { workers } => rewrite_answer(rt, alloc, bytes, workers),
+        Command::Place { workers } => loaded_answer(rt, alloc, bytes, workers),
         Command::Space => bind_answer(alloc, bytes),
     }
 }
@@ -154,7 +159,7 @@ fn run_command<S: Source, K: Sink>(
     match command_of(alloc, words)? {
         None => Ok(write_answer(
             sink,
-            b"usage: link W | make N W | relink W | space\n",
+            b"usage: link W | make N W | relink W | place W | space\n",
             USAGE,
         )),
         Some(command) => answer_command(rt, alloc, words, command, source, sink),
@@ -162,7 +167,7 @@ fn run_command<S: Source, K: Sink>(
 }
 
 /// The whole program: reads the plan if the words need one, and writes the answer's text. The status is
-/// - 0 (`LINKED`): an image, a summary or the binds of images were written;
+/// - 0 (`LINKED`): an image, a summary, a memory or the binds of images were written;
 /// - 1 (`REFUSED`): the layout has a fault;
 /// - 2 (`USAGE`): the words are not a command;
 /// - 3 (`NO_PLAN`): the bytes are not a plan;
@@ -170,6 +175,7 @@ fn run_command<S: Source, K: Sink>(
 /// - 5 (`CUT_SHORT`): a write failed;
 /// - 7 (`TOO_LONG`): the plan is too long;
 /// - 9 (`NOT_CHANGED`): the change names no section that may be changed, or has bytes of another length;
+/// - 10 (`NOT_PLACED`): the loader does not load the image in the world;
 /// - 11 (`NOT_BOUND`): the images are not bound.
 pub fn run<S: Source, K: Sink>(
     rt: &(impl Threads + Sync),
@@ -182,8 +188,9 @@ pub fn run<S: Source, K: Sink>(
     ensures answer { IfOk result (λ said. IsAnswered words.now
         (source_change (S.unread_bytes source.old) (S.unread_bytes source.new) (S.faults source.old) (S.faults source.new))
         (sink_change (K.output_bytes sink.old) (K.output_bytes sink.new) (K.faults sink.old) (K.faults sink.new)) said) }
-    // If an image of an executable or a shared object is written, the loader accepts it in every legal world. There each kept
-    // reference has the value or target that its relocation requires.
+    // If an image of an executable or a shared object is written, also after a change, the loader accepts it in every legal world. There
+    // each kept reference has the value or target that its relocation requires. If its memory is written, it has in that memory, where
+    // the world is legal.
     ensures headline { IfOk result (λ said. IsHeadline words.now
         (source_change (S.unread_bytes source.old) (S.unread_bytes source.new) (S.faults source.old) (S.faults source.new))
         (sink_change (K.output_bytes sink.old) (K.output_bytes sink.new) (K.faults sink.old) (K.faults sink.new)) said) }
@@ -218,6 +225,7 @@ pub fn run<S: Source, K: Sink>(
 {
     plans_are_read();
     images_are_sound();
+    placements_are_sound();
     spaces_have_images();
     spaces_are_made();
     orders_are_breadth_first();

@@ -127,5 +127,8 @@ pub fn command_of(alloc: Global, words: &[String]) -> Result<Option<Command>, Al
     if let Some(workers) = workers_of(alloc, words, "relink")? {
         return Ok(Some(Command::Relink { workers }));
     }
+    if let Some(workers) = workers_of(alloc, words, "place")? {
+        return Ok(Some(Command::Place { workers }));
+    }
     make_of(alloc, words)
 }

@@ -42,6 +42,9 @@ const NO_COMMANDS: &[&[&str]] = &[
     &["relink", "0"],
     &["relink", "65"],
     &["relink", "1", "1"],
+    &["place"],
+    &["place", "01"],
+    &["place", "65"],
     &["space", "1"],
     &["--help"],
 ];
@@ -50,7 +53,7 @@ const NO_COMMANDS: &[&[&str]] = &[
 fn words_that_are_no_command(rt: HostRuntime) -> Result<(), Fail> {
     for words in NO_COMMANDS {
         let (status, text) = answer(&rt, rt.alloc(), words, b"{}", &CALM)?;
-        let usage = b"usage: link W | make N W | relink W | space\n".as_slice();
+        let usage = b"usage: link W | make N W | relink W | place W | space\n".as_slice();
         assert!(rt; status == 2 && text.as_slice() == usage, "{words:?}");
     }
     Ok(())
@@ -134,6 +137,13 @@ const TEXTS: &[(&[&str], &str, &str, usize)] = &[
         "not a plan: /change\n",
         1,
     ),
+    (
+        &["place", "1"],
+        "{}",
+        "refused MalformedLayout clause=1 index=0\n",
+        1,
+    ),
+    (&["place", "1"], r#"{"world":0}"#, "not a plan: /world\n", 1),
     (&["space"], "{}", "not a plan: /images\n", 1),
     (&["space"], SPACE, "order 0\n", 1),
     (
@@ -142,7 +152,12 @@ const TEXTS: &[(&[&str], &str, &str, usize)] = &[
         "not bound Load image=0 NotElf\n",
         1,
     ),
-    (&[], "", "usage: link W | make N W | relink W | space\n", 1),
+    (
+        &[],
+        "",
+        "usage: link W | make N W | relink W | place W | space\n",
+        1,
+    ),
 ];
 
 /// Each write fails in turn, or takes nothing.

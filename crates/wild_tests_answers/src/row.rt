@@ -42,6 +42,9 @@ fn command_of(row: &str) -> &'static str {
         if word == "space" {
             return "space";
         }
+        if word == "world" || word == "place" {
+            return "place";
+        }
         if word == "change" || word == "relink" {
             return "relink";
         }
@@ -49,8 +52,13 @@ fn command_of(row: &str) -> &'static str {
     "link"
 }
 
+/// Whether the text of a line is a whole input.
+fn is_input(word: &str) -> bool {
+    word == "text" || word == "space" || word == "relink" || word == "place"
+}
+
 /// The input of a row: a plan by its name, or a text. Each `new` replaces the `old` before it, which has to occur in the input. A `change`
-/// adds itself to the plan before it.
+/// or a `world` adds itself to the plan before it.
 fn input_of(alloc: Global, row: &str) -> Result<Option<String>, AllocError> {
     let mut plan = String::new(alloc);
     let mut old = String::new(alloc);
@@ -61,10 +69,12 @@ fn input_of(alloc: Global, row: &str) -> Result<Option<String>, AllocError> {
                 return Ok(None);
             };
             plan = String::from_str(alloc, known)?;
-        } else if word == "text" || word == "space" || word == "relink" {
+        } else if is_input(word) {
             plan = String::from_str(alloc, text)?;
         } else if word == "change" {
             plan = format!(in alloc; "{{\"plan\":{plan},\"change\":{text}}}")?;
+        } else if word == "world" {
+            plan = format!(in alloc; "{{\"plan\":{plan},\"world\":{text}}}")?;
         } else if word == "old" {
             old = String::from_str(alloc, text)?;
         } else if word == "new" {
@@ -95,12 +105,15 @@ fn status_of(answer: &str) -> u8 {
     if answer.starts_with("image")
         || answer.starts_with("order")
         || answer.starts_with("rewritten")
+        || answer.starts_with("at ")
     {
         0
     } else if answer.starts_with("refused") {
         1
     } else if answer.starts_with("no change") {
         9
+    } else if answer.starts_with("not placed") {
+        10
     } else if answer.starts_with("not bound") {
         11
     } else {
@@ -108,7 +121,7 @@ fn status_of(answer: &str) -> u8 {
     }
 }
 
-/// Whether `link` or `relink` gives the answer for the input, with one worker and with many.
+/// Whether `link`, `relink` or `place` gives the answer for the input, with one worker and with many. The whole answer of `place` is compared.
 fn is_written(
     rt: &(impl Threads + Sync),
     alloc: Global,
@@ -118,7 +131,8 @@ fn is_written(
 ) -> Result<bool, AllocError> {
     for workers in ["1", "2", "64"] {
         let (status, text) = command_answer(rt, alloc, &[command, workers], input)?;
-        if status != status_of(answer) || !text.starts_with(answer.as_bytes()) {
+        let is_whole = command != "place" || text.as_slice() == answer.as_bytes();
+        if status != status_of(answer) || !text.starts_with(answer.as_bytes()) || !is_whole {
             return Ok(false);
         }
     }

@@ -17,7 +17,8 @@ first_step (Err p) f y e = absurd cc
 pub given_same : {X : Type 0} (x y : X) → ◌≡◌ {A = Result X (List ℕ)} (Ok x) (Ok y) → x ≡ y
 given_same x y e = cc
 
-above : {X : Type 0} (name : List ℕ) (r : Result X (List ℕ)) (x : X) → in_member name r ≡ Ok x → r ≡ Ok x
+-- what a member encodes, its value encodes
+pub above : {X : Type 0} (name : List ℕ) (r : Result X (List ℕ)) (x : X) → in_member name r ≡ Ok x → r ≡ Ok x
 above name (Ok y) x e = e
 above name (Err p) x e = absurd cc
 

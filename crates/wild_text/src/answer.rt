@@ -31,7 +31,7 @@ fn put_digits(bytes: &[u8], digits: &mut [u8])
     hex::encode_to_slice(bytes, digits).unwrap()
 }
 
-fn push_hex(out: &mut Vec<u8>, bytes: &[u8]) -> Result<(), AllocError>
+pub(crate) fn push_hex(out: &mut Vec<u8>, bytes: &[u8]) -> Result<(), AllocError>
     ensures { OnOk result (out.new.items ≡ out.old.items ++ hex_text bytes.now) }
 {
     let mut line = [0u8; 2 * LINE];

@@ -11,6 +11,8 @@ mod members;
 mod options;
 mod ordered_members;
 mod output;
+mod place;
+mod place_lines;
 mod plan;
 mod refusal;
 mod relink;
@@ -28,6 +30,8 @@ pub use answer::{
 pub use fault::PlanFault;
 pub use laws::{parts_are_read_again, plans_are_read, spaces_have_images};
 pub use members::Planned;
+pub use place::PlaceRequest;
+pub use place_lines::{place_answer, place_refusal};
 pub use plan::read_plan;
 pub use refusal::refusal_answer;
 pub use relink::RelinkRequest;

@@ -35,7 +35,7 @@ impl Planned for Change {
 
 /// The plan of a request.
 #[tactic(auto, unfolding(crate::specs::Relink::plan_in))]
-fn read_plan_of(alloc: Global, json: &Value) -> std::result::Result<Layout, PlanFault>
+pub(crate) fn read_plan_of(alloc: Global, json: &Value) -> std::result::Result<Layout, PlanFault>
     ensures { Gives result (plan_in (view json.now)) }
 {
     member_or_empty(alloc, json, "plan")

@@ -81,7 +81,7 @@ pub fn space_answer(
 
 /// The printed form of a fault of the loader.
 #[derive(Clone, Copy)]
-struct LoadWords(LoadFault);
+pub(crate) struct LoadWords(pub(crate) LoadFault);
 
 impl fmt::Display for LoadWords {
     ghost use Rattle.std.specs.Prelude.{Some};

@@ -1,7 +1,8 @@
 use Rattle.std.proofs.Common.{refl}
 use Rattle.wild_text.specs.Means.{plan}
 use Rattle.wild_program.specs.Program.{of_relink, relink_status, relink_answer_text}
-use Rattle.wild_program.proofs.AnswerLemmas.{no_plan_said}
+use Rattle.wild_program.specs.Steps.{ChangeFits}
+use Rattle.wild_program.proofs.AnswerLemmas.{no_plan_said, no_plan_has}
 use Rattle.wild_program.proofs.relink.rewrite_answer.Goals as goal
 
 pub returns-in-Err : goal.returns-in-Err
@@ -11,7 +12,7 @@ returns-in-Err g c =
     record {
       answer = of_relink none.meaning;
       meant = (none.meaning, refl, none.means);
-      fits = tt;
+      fits = no_plan_has ChangeFits none.meaning c.in-Err.text.items none.line;
       status_is = said.0;
       text_is = said.1;
     }
@@ -20,7 +21,7 @@ pub returns : goal.returns
 returns g c = record {
   answer = of_relink (plan c.in-Ok.request);
   meant = (plan c.in-Ok.request, refl, rw c.in-Ok.is at c.in_ok-request.ensures);
-  fits = tt;
-  status_is = c.in_ok-answer.ensures.0;
-  text_is = c.in_ok-answer.ensures.1;
+  fits = c.in_ok-answer.ensures.fits;
+  status_is = c.in_ok-answer.ensures.text.0;
+  text_is = c.in_ok-answer.ensures.text.1;
 }
