@@ -29,7 +29,7 @@ use Rattle.wild_loader.specs.declared.world.Answer.{Answer}
 use Rattle.wild_meaning.specs.Value.{IsDefinedBy, HasRaw, HasFlag, HasAnswer}
 use Rattle.wild_meaning.specs.World.{HasResolver, IsAnswer, IsAnswered, IsOwnAnswer, IsKnownModule, IsFirstModule, IsPastFileBytes, HasCopy, HasRoomFor, AnswersSymbols, IsLegal}
 use Rattle.wild_laws.specs.Laws.{ImagesAreSound}
-use Rattle.wild_laws.proofs.Symbols.{one_definition, one_symbol}
+use Rattle.wild_laws.proofs.Symbols.{one_definition, one_answer}
 use Rattle.wild_sample_layouts.specs.PlanOfGroups.{section_with}
 use Rattle.wild_sample_layouts.proofs.OnLiterals.{errors_on_literals}
 use Rattle.wild_worlds.specs.Worlds.{HasRoomAbove}
@@ -150,19 +150,11 @@ unfolding copy_file
 only_symbol zero d h = refl
 only_symbol (suc i) d h = absurd (let both : None ≡ Some h.symbol = h.listed in cc)
 
-answer_of_index : (r : Resolution) (k : ℕ) (x : Answer) → Some copied_resolution ≡ Some r → r.dynamic_symbol_index ≡ Some k → slice_get copy_world.symbols k ≡ Some x → x ≡ data_answer
-answer_of_index r k x decided told given =
-    let index : Some 1 ≡ Some k = ap (λ (q : Resolution). q.dynamic_symbol_index) (some_is copied_resolution r decided) ∙ told in
-    let there : slice_get copy_world.symbols 1 ≡ Some x = subst (λ (n : ℕ). slice_get copy_world.symbols n ≡ Some x) (sym (some_is 1 k index)) given in
-    sym (some_is data_answer x there)
-
-answer_is_data : (x : Answer) → HasAnswer copy_file copy_world 0 x → x ≡ data_answer
-answer_is_data x h =
-    let same : copied_data ≡ h.symbol = one_symbol copy_file 0 0 h.definition copied_data h.symbol data_defined h.defined data_listed h.listed in
-    answer_of_index h.resolution h.index x (ap (λ (s : Symbol). s.resolution) same ∙ h.decided) h.told h.given
-
 has_answer : HasAnswer copy_file copy_world 0 data_answer
 has_answer = record { definition = 0; defined = data_defined; symbol = copied_data; listed = data_listed; resolution = copied_resolution; decided = refl; index = 1; told = refl; given = refl }
+
+answer_is_data : (x : Answer) → HasAnswer copy_file copy_world 0 x → x ≡ data_answer
+answer_is_data x h = one_answer copy_file copy_world 0 x data_answer h has_answer
 
 has_copy : HasCopy copy_file copy_world 0 456 data_answer
 unfolding copy_file
