@@ -255,8 +255,7 @@ pub copy_linked : ImagesAreSound → IsMetWithCopy machine.X86_64 (output.Dynami
 unfolding copy_file
 copy_linked sound =
     let right = sound copy_file numbers flags faultless (inr tt) in
-    let linked = right.1 copy_world legal in
-    (
+    let linked = right.1 copy_world legal in (
       copy_file,
       refl,
       refl,
