@@ -160,7 +160,7 @@ fn put_some(layout: &Layout, part: usize, own: &[u8], out: &mut [u8])
 
 /// Copies bytes to the front of a part, if there are some and the part is written.
 fn put_front(layout: &Layout, part: usize, own: &[u8], out: &mut [u8])
-    requires lies { SomeLies layout.now part own.now }
+    requires { SomeLies layout.now part own.now }
     ensures { out.new ≡ overlay_prefix (front_piece layout.now part own.now) out.old }
 {
     if !writes_front(layout, part, own) {

@@ -12,4 +12,4 @@ pub put_some-requires-clause-written : goal.put_some-requires-clause-written
 put_some-requires-clause-written c = writes_part c.args.layout.now c.args.part c.args.own.now (sym c.writes_front.ensures ∙ c.if-not-writes_front.false)
 
 pub put_some-requires-clause-lies : goal.put_some-requires-clause-lies
-put_some-requires-clause-lies c = c.requires.lies (writes_some c.args.layout.now c.args.part c.args.own.now (sym c.writes_front.ensures ∙ c.if-not-writes_front.false))
+put_some-requires-clause-lies c = c.requires (writes_some c.args.layout.now c.args.part c.args.own.now (sym c.writes_front.ensures ∙ c.if-not-writes_front.false))
