@@ -10,7 +10,11 @@ use Rattle.wild_words.proofs.OverlayLemmas.{length-overlay}
 use Rattle.wild_types.specs.declared.file.Group.{Group}
 use Rattle.wild_types.specs.Lookups.{image_size}
 use Rattle.wild_geometry.proofs.InterleaveLemmas.{Contains-flat_map_from}
+use Rattle.std.specs.List.{flat_map}
+use Rattle.wild_image.specs.Batches.{AreBatches, batch_errors}
+use Rattle.wild_image.specs.declared.batch.Batch.{Batch}
 use Rattle.wild_image.specs.Prefix.{overlay_prefix}
+use Rattle.wild_image.proofs.BatchLemmas.{cut_of, joined}
 use Rattle.wild_image.proofs.PrefixLemmas.{overlay_taken, overlay_whole}
 use Rattle.wild_image.specs.declared.output.SizedOutput.{SizedOutput}
 use Rattle.wild_types.specs.declared.fault.Error.{Error}
@@ -101,6 +105,10 @@ group_written l i g old new laid at long e = e ∙ overlay_whole (group_pieces l
 pub prefix_is : (l : Layout) (n : ℕ) (out : List ℕ) → IsLaidOut l → out ≡ overlay_prefix (flat_map_from (group_pieces l) 0 l.groups) (take n (padding l)) → out ≡ take n (bytes l)
 unfolding bytes pieces
 prefix_is l n out laid e = e ∙ overlay_taken n (flat_map_from (group_pieces l) 0 l.groups) (padding l) (pieces_within l laid)
+
+-- the first fault of the batches is that of the groups
+pub batches_refused : (l : Layout) (bs : List Batch) (e : Error) → AreBatches l.groups bs → Refuses e (flat_map (batch_errors l) bs) → Refuses e (flat_map_from (group_errors l) 0 l.groups)
+batches_refused l bs e cut h = subst (λ (es : List Error). Refuses e es) (sym (joined (group_errors l) 0 l.groups bs (cut_of l.groups bs cut))) h
 
 -- an image is short
 pub bytes_fit : {X : Type 0} (r : Result X Error) (l : Layout) → IsLaidOut l → IfOk r (λ x. length (bytes l) ≤ 2 ^ 62)

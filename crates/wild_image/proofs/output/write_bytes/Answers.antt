@@ -1,14 +1,13 @@
-use Rattle.std.proofs.Common.{◌≡◌, List, length, sym, ap, ◌∙◌, arith, subst}
+use Rattle.std.proofs.Common.{◌≡◌, List, length, sym, ap, ◌∙◌, arith, rules}
+use Rattle.std.proofs.lemmas.List.{take_at}
 use Rattle.std.proofs.lemmas.Result.{err_from_is_err_and}
 use Rattle.wild_words.specs.Overlay.{Piece}
-use Rattle.wild_types.specs.declared.fault.Error.{Error}
-use Rattle.wild_types.specs.Faults.{Refuses}
 use Rattle.wild_layout.specs.Image.{padding, group_pieces}
 use Rattle.wild_layout.specs.Faults.{group_errors}
 use Rattle.wild_image.specs.Prefix.{overlay_prefix}
 use Rattle.wild_image.proofs.StandingLemmas.{each_file_lies}
 use Rattle.wild_image.proofs.BatchLemmas.{cut_of, joined}
-use Rattle.wild_image.proofs.OutputLemmas.{prefix_is}
+use Rattle.wild_image.proofs.OutputLemmas.{prefix_is, batches_refused}
 use Rattle.wild_image.proofs.output.write_bytes.Goals as goal
 
 pub append_all-requires-clause-inputs : goal.append_all-requires-clause-inputs
@@ -19,10 +18,9 @@ append_all-requires-clause-fits g c = let size = c.requires.laid_out.size in ome
 
 pub returns-in_err-append_all-clause-faults : goal.returns-in_err-append_all-clause-faults
 returns-in_err-append_all-clause-faults g c =
-    let l = c.args.layout.now in
     let r = c.from_residual-in_err-append_all in
     let p = err_from_is_err_and r.result r.ensures.1 in
-    rw (p.1, p.2) (subst (λ (es : List Error). Refuses _ es) (sym (joined (group_errors l) 0 l.groups c.args.batches.now (cut_of l.groups c.args.batches.now c.requires.batches))) c.in_err-append_all.ensures.faults)
+    rw (p.1, p.2) (batches_refused c.args.layout.now c.args.batches.now _ c.requires.batches c.in_err-append_all.ensures.faults)
 
 pub returns-clause-faults : goal.returns-clause-faults
 returns-clause-faults g c =
@@ -34,4 +32,6 @@ returns-clause-image g c =
     let l = c.args.layout.now in
     let padded = c.in_ok-out.ensures in
     let all = joined (group_pieces l) 0 l.groups c.args.batches.now (cut_of l.groups c.args.batches.now c.requires.batches) in
-    prefix_is l c.args.size _ c.requires.laid_out (c.in_ok-append_all.ensures.image ∙ ap (λ (ps : List Piece). overlay_prefix ps _) (sym all) ∙ ap (overlay_prefix _) padded)
+    let long : length c.append_all.new.out ≡ c.in_ok-out.out.len = search rules in
+    take_at c.append_all.new.out _ c.in_ok-out.out.len long
+    ∙ prefix_is l c.args.size c.append_all.new.out c.requires.laid_out (c.in_ok-append_all.ensures.image ∙ ap (λ (ps : List Piece). overlay_prefix ps _) (sym all) ∙ ap (overlay_prefix _) padded)
