@@ -1,0 +1,130 @@
+//! The image writer for C: a static library whose functions read structs of the caller and write into the caller's buffers. No
+//! function has a state or keeps a pointer. `c/wild.h` declares them.
+#![tactic(auto)]
+
+ghost use Rattle.std.specs.Prelude.{◌≡◌, ◌⊎◌, length};
+ghost use Rattle.wild_layout.specs.Faults.{errors};
+ghost use Rattle.wild_layout.specs.Image.{bytes, counts};
+ghost use Rattle.wild_meaning.specs.LinkedImage.{IsSound};
+ghost use Rattle.wild_types.specs.Lookups.{image_size};
+ghost use Rattle.wild_layout.specs.Warnings.{warnings};
+ghost use Rattle.wild_c_layout.specs.LayoutOf.{layout_of};
+ghost use Rattle.wild_c_layout.specs.WarningOf.{warning_of};
+ghost use Rattle.wild_c.specs.Answers.{IsAnswer, write_status, size_status, needs_status, AreNeeds, SaysFirst};
+ghost use Rattle.wild_c.specs.Statuses.{written, refused, no_memory};
+
+mod sizes;
+mod write;
+
+use std::alloc::Global;
+use wild_c_layout::{
+    CFault, CLayout, CWarning, decode_frame, decode_layout, frames_have_the_size, is_layout,
+    resolutions_have_their_flags,
+};
+use wild_laws::images_are_sound;
+use wild_layout::numbers_fit;
+
+/// The call did what its name says.
+const WRITTEN: u32 = 0;
+
+/// The layout has a fault.
+const REFUSED: u32 = 1;
+
+/// The structs stand for no layout.
+const NO_LAYOUT: u32 = 3;
+
+/// Out of memory.
+const NO_MEMORY: u32 = 6;
+
+/// A buffer has another size than what is written into it.
+const WRONG_SIZE: u32 = 8;
+
+/// Writes the image of the layout into `out`, and the number of relocations read for each section into `counts`. The status is
+/// - 0: they were written;
+/// - 1: the layout has faults; `fault` is the first of them;
+/// - 3: the structs stand for no layout;
+/// - 6: out of memory;
+/// - 8: `out` has not the image's size, or `counts` not the number of sections.
+///
+/// Only status 0 changes `out`, `counts` and `warning`, and only status 1 changes `fault`.
+#[unsafe(no_mangle)]
+pub extern "C" fn wild_write(
+    alloc: Global,
+    layout: &CLayout,
+    out: &mut [u8],
+    counts: &mut [u64],
+    warning: &mut CWarning,
+    fault: &mut CFault,
+) -> u32
+    ensures status { IsAnswer result (write_status layout.now (length out.old) (length counts.old)) }
+    ensures image { result ≡ written → out.new ≡ bytes (layout_of layout.now) }
+    ensures counts { result ≡ written → counts.new ≡ counts (layout_of layout.now) }
+    ensures warning { result ≡ written → warning.new ≡ warning_of (warnings (layout_of layout.now)) }
+    ensures fault { result ≡ refused → SaysFirst fault.new (errors (layout_of layout.now)) }
+    ensures out_unchanged { (result ≡ written → ⊥) → out.new ≡ out.old }
+    ensures counts_unchanged { (result ≡ written → ⊥) → counts.new ≡ counts.old }
+    ensures warning_unchanged { (result ≡ written → ⊥) → warning.new ≡ warning.old }
+    ensures fault_unchanged { (result ≡ refused → ⊥) → fault.new ≡ fault.old }
+    // The loader accepts the image in every legal world, and each kept reference has the value or target that its relocation
+    // requires.
+    ensures headline { result ≡ written → IsSound (layout_of layout.now) out.new }
+{
+    if !is_layout(layout) {
+        return NO_LAYOUT;
+    }
+    match decode_layout(alloc, layout) {
+        Ok(decoded) => {
+            resolutions_have_their_flags();
+            numbers_fit(&decoded);
+            images_are_sound();
+            write::write_into(alloc, &decoded, out, counts, warning, fault)
+        }
+        Err(_) => NO_MEMORY,
+    }
+}
+
+/// The size of the layout's image in bytes. The status is
+/// - 0: it was written into `size`;
+/// - 3: the structs stand for no layout;
+/// - 6: out of memory;
+/// - 8: it is 2^64 or more.
+#[unsafe(no_mangle)]
+pub extern "C" fn wild_image_size(alloc: Global, layout: &CLayout, size: &mut u64) -> u32
+    ensures status { IsAnswer result (size_status layout.now) }
+    ensures size { result ≡ written → size.new ≡ image_size (layout_of layout.now) }
+    ensures unchanged { (result ≡ written → ⊥) → size.new ≡ size.old }
+{
+    if !is_layout(layout) {
+        return NO_LAYOUT;
+    }
+    frames_have_the_size();
+    let Ok(frame) = decode_frame(alloc, layout) else {
+        return NO_MEMORY;
+    };
+    let end = frame.image_end();
+    if end > u128::from(u64::MAX) {
+        return WRONG_SIZE;
+    }
+    *size = end as u64;
+    WRITTEN
+}
+
+/// How many bytes each group needs of each part: with P parts, number G * P + K is what group G needs of part K. The status is
+/// - 0: the numbers were written into `sizes`;
+/// - 3: the structs stand for no layout;
+/// - 6: out of memory;
+/// - 8: `sizes` has not P numbers for each group.
+#[unsafe(no_mangle)]
+pub extern "C" fn wild_needs(alloc: Global, layout: &CLayout, sizes: &mut [u64]) -> u32
+    ensures status { IsAnswer result (needs_status layout.now (length sizes.old)) }
+    ensures sizes { result ≡ written → AreNeeds (layout_of layout.now) sizes.new }
+    ensures unchanged { (result ≡ written → ⊥) → sizes.new ≡ sizes.old }
+{
+    if !is_layout(layout) {
+        return NO_LAYOUT;
+    }
+    match decode_layout(alloc, layout) {
+        Ok(decoded) => sizes::write_needs(&decoded, sizes),
+        Err(_) => NO_MEMORY,
+    }
+}

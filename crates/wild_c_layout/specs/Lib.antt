@@ -1,0 +1,11 @@
+pub mod Codes
+pub mod Extras
+pub mod FaultOf
+pub mod Input
+pub mod Laws
+pub mod LayoutOf
+pub mod Options
+pub mod Output
+pub mod Symbols
+pub mod Values
+pub mod WarningOf

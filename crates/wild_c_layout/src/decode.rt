@@ -1,0 +1,29 @@
+//! Structs that stand for values, and lists of them.
+ghost use Rattle.std.specs.Prelude.{◌≡◌, map, IfOk};
+
+use std::alloc::{AllocError, Global};
+use wild_words::Items;
+
+/// A struct of a C program that stands for a value of type `T`.
+pub trait Decode<T> {
+    ghost value_of: { Self → T };
+
+    /// The value that it stands for.
+    fn decode(&self, alloc: Global) -> Result<T, AllocError>
+        ensures { IfOk result (λ x. x ≡ value_of self.now) };
+}
+
+/// The values that structs stand for, in order.
+pub fn decode_all<T: Drop, C: Decode<T>>(
+    alloc: Global,
+    structs: &[C],
+) -> Result<Items<T>, AllocError>
+    ensures { IfOk result (λ xs. xs ≡ map C.value_of structs.now) }
+{
+    let mut items = Vec::with_capacity(alloc, structs.len())?;
+    for each in structs {
+        let item = each.decode(alloc)?;
+        items.push(item)?;
+    }
+    Ok(Items::from_vec(items))
+}
