@@ -1,9 +1,10 @@
 -- Lemmas on the layouts that structs stand for.
-use Rattle.std.proofs.Common.{◌≡◌, ℕ, Bool, true, false, List, [], ◌∷◌, Option, Some, None, refl, ap, map, get_or}
+use Rattle.std.proofs.Common.{◌≡◌, ℕ, Bool, true, false, List, [], ◌∷◌, Option, Some, None, refl, ap, ap₂, get_or}
 use Rattle.std.proofs.lemmas.List.Elements.{All-map}
-use Rattle.std.specs.Prelude.{All, ◌==◌, ◌&&◌, ◌||◌, not, max, slice_get, drop, if◌then◌else◌}
-use Rattle.wild_types.specs.Lookups.{header_only, parts_end, sections_end, image_size, file_end, fills_file}
+use Rattle.std.specs.Prelude.{max, slice_get, drop, if◌then◌else◌}
+use Rattle.wild_types.specs.Lookups.{header_only, takes_file_bytes, parts_end, sections_end, image_size, file_end, fills_file}
 use Rattle.wild_types.specs.ResolvedFlags.{HasItsFlags, HaveTheirFlags}
+use Rattle.wild_types.specs.declared.layout.Layout.{Layout}
 use Rattle.wild_types.specs.declared.part.Part.{Part}
 use Rattle.wild_types.specs.declared.section.Section.{Section}
 use Rattle.wild_types.specs.declared.symbol.Resolution.{Resolution}
@@ -16,25 +17,32 @@ use Rattle.wild_c_layout.specs.declared.symbol.CSymbol.{CSymbol}
 
 -- ---- the size of the image
 
-header_only-frame : (c : CLayout) (o : Option Section) → header_only (frame_of c) o ≡ header_only (layout_of c) o
-unfolding frame_of layout_of
-header_only-frame c None = refl
-header_only-frame c (Some s) = refl
+header_only-same : (l m : Layout) → l.options ≡ m.options → (o : Option Section) → header_only l o ≡ header_only m o
+header_only-same l m e None = refl
+header_only-same l m e (Some s) = rw e refl
 
-parts_end-frame : (c : CLayout) (ps : List Part) → parts_end (frame_of c) ps ≡ parts_end (layout_of c) ps
-unfolding frame_of layout_of
-parts_end-frame c [] = refl
-parts_end-frame c (p ∷ ps) = rw (header_only-frame c (slice_get (layout_of c).sections p.section), parts_end-frame c ps) refl
+takes-same : (l m : Layout) → l.options ≡ m.options → l.sections ≡ m.sections → (k : ℕ) → takes_file_bytes l k ≡ takes_file_bytes m k
+takes-same l m e f k = rw (f, header_only-same l m e (slice_get m.sections k)) refl
 
-sections_end-frame : (c : CLayout) (ss : List Section) → sections_end (frame_of c) ss ≡ sections_end (layout_of c) ss
-unfolding frame_of layout_of
-sections_end-frame c [] = refl
-sections_end-frame c (s ∷ ss) = ap (max (file_end (fills_file (layout_of c) s) s.offset s.size)) (sections_end-frame c ss)
+parts_end-same : (l m : Layout) → l.options ≡ m.options → l.sections ≡ m.sections → (ps : List Part) → parts_end l ps ≡ parts_end m ps
+parts_end-same l m e f [] = refl
+parts_end-same l m e f (p ∷ ps) = ap₂ (λ (b : Bool) (n : ℕ). max (file_end b p.offset p.size) n) (takes-same l m e f p.section) (parts_end-same l m e f ps)
 
--- the options, parts and sections determine the size
+fills-same : (l m : Layout) → l.options ≡ m.options → (s : Section) → fills_file l s ≡ fills_file m s
+fills-same l m e s = rw e refl
+
+sections_end-same : (l m : Layout) → l.options ≡ m.options → (ss : List Section) → sections_end l ss ≡ sections_end m ss
+sections_end-same l m e [] = refl
+sections_end-same l m e (s ∷ ss) = ap₂ (λ (b : Bool) (n : ℕ). max (file_end b s.offset s.size) n) (fills-same l m e s) (sections_end-same l m e ss)
+
+-- options, parts and sections determine the size
+image_size-same : (l m : Layout) → l.options ≡ m.options → l.parts ≡ m.parts → l.sections ≡ m.sections → image_size l ≡ image_size m
+unfolding image_size
+image_size-same l m e p f = rw (p, f) (ap₂ max (parts_end-same l m e f m.parts) (sections_end-same l m e (drop 1 m.sections)))
+
 pub image_size-frame : (c : CLayout) → image_size (frame_of c) ≡ image_size (layout_of c)
-unfolding image_size frame_of layout_of
-image_size-frame c = rw (parts_end-frame c (layout_of c).parts, sections_end-frame c (drop 1 (layout_of c).sections)) refl
+unfolding frame_of layout_of
+image_size-frame c = image_size-same (frame_of c) (layout_of c) refl refl refl
 
 -- ---- flags
 

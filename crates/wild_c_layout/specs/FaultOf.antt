@@ -1,8 +1,7 @@
 -- How a C struct says why a layout has no image: a number for the fault, and what it has, in members of their own. A member that the
 -- fault has not is 0, a place that it has not is absent.
 --   fault_of e   the struct
---   error_of f   the fault that the struct says, if its numbers are known
-use Rattle.std.specs.Prelude.{ℕ, ℤ, pos, List, [], ◌∷◌, Option, Some, None, unwrap_or, slice_get, option_map, nat_lt, ◌==◌, if◌then◌else◌}
+use Rattle.std.specs.Prelude.{ℕ, ℤ, pos, Option, unwrap_or}
 use Rattle.wild_types.specs.declared.fault.At.{At}
 use Rattle.wild_types.specs.declared.fault.Error.{Error}
 use Rattle.wild_types.specs.declared.fault.Fault.{Fault}
@@ -11,7 +10,7 @@ use Rattle.wild_types.specs.declared.fault.FrameFault.{FrameFault}
 use Rattle.wild_types.specs.declared.fault.FrameFault.TheVariants as frame
 use Rattle.wild_types.specs.declared.fault.Missing.{Missing}
 use Rattle.wild_types.specs.declared.fault.Missing.TheVariants as missing
-use Rattle.wild_c_layout.specs.Values.{absent, present}
+use Rattle.wild_c_layout.specs.Values.{absent}
 use Rattle.wild_c_layout.specs.declared.fault.CFault.{CFault}
 
 -- a place that may be absent

@@ -8,7 +8,7 @@ use Rattle.wild_types.specs.declared.input.InputRelocation.{InputRelocation}
 use Rattle.wild_types.specs.declared.input.InputSection.{InputSection}
 use Rattle.wild_types.specs.declared.input.MergedString.{MergedString}
 use Rattle.wild_c_layout.specs.Codes.{slot_of, file_role_of}
-use Rattle.wild_c_layout.specs.Values.{is_set, present}
+use Rattle.wild_c_layout.specs.Values.{is_set, present, index}
 use Rattle.wild_c_layout.specs.declared.input.CFile.{CFile}
 use Rattle.wild_c_layout.specs.declared.input.CGroup.{CGroup}
 use Rattle.wild_c_layout.specs.declared.input.CInputSection.{CInputSection}
@@ -37,7 +37,7 @@ input_section_of s = record {
   reversed = is_set s.reversed;
   singleton = present s.singleton;
   target = s.target;
-  members = s.members.now;
+  members = map index s.members.now;
   bytes = s.bytes.now;
   strings = map merged_string_of s.strings.now;
   relocations = map relocation_of s.relocations.now;
@@ -61,7 +61,7 @@ file_of f = record {
   thunk_block = f.thunk_block;
   owns_thunk_block = is_set f.owns_thunk_block;
   lib_name = f.lib_name.now;
-  copies = f.copies.now;
+  copies = map index f.copies.now;
   verneed = version_needs_of f;
 }
 

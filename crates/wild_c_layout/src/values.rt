@@ -1,6 +1,7 @@
 //! Plain values: flags, numbers that may be absent, bytes.
 ghost use Rattle.std.specs.Prelude.{◌≡◌, IfOk};
-ghost use Rattle.wild_c_layout.specs.Values.{is_set, present, present_bytes};
+ghost use Rattle.wild_c_layout.specs.Values.{is_set, present, present_bytes, index};
+ghost use Rattle.wild_c_layout.specs.Extras.{listed_bytes};
 
 use crate::decode::Decode;
 use std::alloc::{AllocError, Global};
@@ -89,7 +90,7 @@ pub fn numbers_of(alloc: Global, numbers: &[u64]) -> Result<Items<u64>, AllocErr
 }
 
 impl Decode<Bytes> for CBytes<'_> {
-    ghost value_of = { λ b. b.bytes.now };
+    ghost value_of = { listed_bytes };
 
     fn decode(&self, alloc: Global) -> Result<Bytes, AllocError> {
         bytes_of(alloc, self.bytes)
@@ -97,7 +98,7 @@ impl Decode<Bytes> for CBytes<'_> {
 }
 
 impl Decode<SymbolIndex> for usize {
-    ghost value_of = { λ n. n };
+    ghost value_of = { index };
 
     fn decode(&self, _alloc: Global) -> Result<SymbolIndex, AllocError> {
         Ok(SymbolIndex(*self))
@@ -105,7 +106,7 @@ impl Decode<SymbolIndex> for usize {
 }
 
 impl Decode<SectionIndex> for usize {
-    ghost value_of = { λ n. n };
+    ghost value_of = { index };
 
     fn decode(&self, _alloc: Global) -> Result<SectionIndex, AllocError> {
         Ok(SectionIndex(*self))

@@ -1,0 +1,178 @@
+#!/usr/bin/env python3
+"""Checks the library for C beside the gate: check.py [LIBRARY] (default: crates/wild_c/out/libwild_c.a, which `./build --library` makes).
+
+- wild.h compiles as C11 and as C++17 without a warning; its structs have the members, offsets and sizes of the structs of
+  wild_c_layout, and so have those of rust/wild.
+- Each plan, written as structs, has the answer of plans/*.answer.
+- Calls by four threads at once, and calls with each allocation refused in turn.
+- The same under valgrind, if it is there: no error, no leak.
+- The examples in C and C++, and with cargo the one in Rust, write programs that run.
+
+It needs gcc, g++ and, for the toolchain's liblibc_c.a, `rt`.
+"""
+import os
+import re
+import shutil
+import subprocess
+import sys
+import tempfile
+from pathlib import Path
+
+HERE = Path(__file__).resolve().parent
+TOP = HERE.parent
+STRICT = ["-Wall", "-Wextra", "-Werror", "-pedantic"]
+SIZES = {"u8": 1, "bool": 1, "u16": 2, "u32": 4, "u64": 8, "i64": 8, "usize": 8, "Optional": 8}
+failures = []
+
+
+def check(what, ok, detail=""):
+    print(f"{'ok' if ok else 'WRONG'}: {what}{'' if ok else ': ' + str(detail)}", flush=True)
+    if not ok:
+        failures.append(what)
+
+
+def snake(name):
+    return re.sub(r"(?<!^)(?=[A-Z])", "_", name).lower()
+
+
+# ---- structs
+
+
+def structs_of(text, prefix):
+    """The #[repr(C)] structs of a source: names with lists of members and types."""
+    found = {}
+    for name, body in re.findall(rf"#\[repr\(C\)\]\n(?:#\[[^\n]*\n)*pub struct {prefix}(\w+)(?:<[^>]*>)? \{{\n(.*?)\n\}}", text, re.S):
+        found[name] = re.findall(r"^    (?:pub )?(\w+): (.*),$", body, re.M)
+    return found
+
+
+def shape(kind, structs, enums=()):
+    """Size and alignment of a member's type."""
+    if kind == "[u8; 4]":
+        return 4, 1
+    if kind.startswith("&'a [") or kind.startswith("List<") or kind == "Bytes<'a>":
+        return 16, 8
+    name = re.sub(r"<.*>", "", kind).removeprefix("C")
+    if name in structs:
+        size, align, _ = placed(structs[name], structs, enums)
+        return size, align
+    if kind in enums:
+        return 4, 4
+    return SIZES[kind], SIZES[kind]
+
+
+def placed(members, structs, enums=()):
+    """Size, alignment and offsets of a struct, as C lays it out."""
+    at, most, offsets = 0, 1, []
+    for name, kind in members:
+        size, align = shape(kind, structs, enums)
+        at = -(-at // align) * align
+        offsets.append((name, at))
+        at, most = at + size, max(most, align)
+    return -(-at // most) * most, most, offsets
+
+
+def check_structs(room):
+    text = "".join(path.read_text() for path in sorted((TOP / "crates/wild_c_layout/src").glob("*.rt")))
+    ours = structs_of(text, "C")
+    lists = {"Bytes": "bytes", "ThunkBlock": "thunk_block"}  # structs of one list, which C has as the list itself
+    lines = ['#include "wild.h"', "#include <stddef.h>"]
+    for name, members in ours.items():
+        size, _, offsets = placed(members, ours)
+        lines.append(f'_Static_assert(sizeof(wild_{snake(name)}) == {size}, "{name}");')
+        if name not in lists:
+            lines += [f'_Static_assert(offsetof(wild_{snake(name)}, {member}) == {at}, "{name}.{member}");' for member, at in offsets]
+    (room / "structs.c").write_text("\n".join(lines) + "\n")
+    ran = subprocess.run(["gcc", "-std=c11", *STRICT, f"-I{HERE}", "-c", "structs.c", "-o", "structs.o"], cwd=room, capture_output=True, text=True)
+    check(f"{len(ours)} structs of wild.h, {len(lines) - 2} sizes and offsets", ran.returncode == 0, ran.stderr[:600])
+
+    rust = (TOP / "rust/wild/src/structs.rs").read_text()
+    enums = re.findall(r"^    (\w+): \w+(?: = \d+)?,", rust, re.M)
+    theirs = structs_of(rust, "")
+    theirs["Warning"] = re.findall(r"^    (\w+): (.*),$", re.search(r"struct RawWarning \{\n(.*?)\n\}", rust, re.S)[1], re.M)
+    for name, members in ours.items():
+        if name not in lists:
+            check(f"rust/wild: {name}", name in theirs and placed(members, ours) == placed(theirs[name], theirs, enums), theirs.get(name))
+
+
+def check_numbers():
+    """Faults and flags of the header against the sources."""
+    header = (HERE / "wild.h").read_text()
+    fault = (TOP / "crates/wild_types/src/fault.rt").read_text()
+    names = re.findall(r"^    (\w+)(?: \{|,)$", re.search(r"pub enum Fault \{\n(.*?)\n\}", fault, re.S)[1], re.M)
+    listed = re.search(r"enum \{\s*(WILD_MALFORMED_LAYOUT.*?)\};", header, re.S)[1]
+    given = [word.split("=")[0].strip() for word in listed.split(",")]
+    check("faults", given == [f"WILD_{snake(name).upper()}" for name in names if name != "OutOfMemory"], given)
+    symbol = (TOP / "crates/wild_types/src/symbol.rt").read_text()
+    flags = re.findall(r"^        const (\w+) = (\d+);", symbol, re.M)
+    check("flags", all(re.search(rf"WILD_FLAG_{name} = {bit}\b", header) for name, bit in flags), flags)
+    rust = (TOP / "rust/wild/src/structs.rs").read_text()
+    check("rust/wild: flags", all(f"pub const {name}: u32 = {bit};" in rust for name, bit in flags), flags)
+
+
+# ---- programs
+
+
+def built(room, name, sources, libraries, extra=(), compiler="gcc", standard="gnu11"):
+    words = [compiler, f"-std={standard}", "-O1", "-g", *STRICT, f"-I{HERE}", *map(str, sources), *map(str, libraries), *extra, "-o", name]
+    ran = subprocess.run(words, cwd=room, capture_output=True, text=True)
+    check(f"{name}: compiled", ran.returncode == 0, ran.stderr[:600])
+    return room / name
+
+
+def check_plans(room, libraries):
+    valgrind = shutil.which("valgrind")
+    quiet = [valgrind, "-q", "--leak-check=full", "--error-exitcode=99"]
+    for plan in sorted((TOP / "plans").glob("*.json")):
+        answer = plan.with_suffix(".answer")
+        written = subprocess.run([sys.executable, HERE / "plan_to_c.py"], stdin=plan.open(), capture_output=True, check=True)
+        (room / "plan.c").write_bytes(written.stdout)
+        program = built(room, f"{plan.stem}_answer", ["plan.c", HERE / "answer.c"], libraries)
+        ran = subprocess.run([program], capture_output=True)
+        check(f"{plan.stem}: answer", ran.returncode == 0 and ran.stdout == answer.read_bytes(), ran.returncode)
+        if valgrind:
+            ran = subprocess.run([*quiet, program], capture_output=True)
+            check(f"{plan.stem}: valgrind", ran.returncode == 0 and ran.stdout == answer.read_bytes(), ran.stderr[-600:])
+        stress = built(room, f"{plan.stem}_stress", ["plan.c", HERE / "stress.c"], libraries, ["-pthread", "-Wl,--wrap=malloc,--wrap=realloc"])
+        ran = subprocess.run([stress], capture_output=True, text=True)
+        check(f"{plan.stem}: {ran.stdout.strip()}", ran.returncode == 0, ran.returncode)
+
+
+def check_examples(room, libraries):
+    for source, compiler, standard in (("hello.c", "gcc", "gnu11"), ("hello.cc", "g++", "c++17")):
+        maker = built(room, f"make_{source[6:] or source}", [HERE / source], libraries, compiler=compiler, standard=standard)
+        subprocess.run([maker, "hello"], cwd=room, check=True)
+        ran = subprocess.run([room / "hello"], capture_output=True, text=True)
+        check(f"{source}: {ran.stdout.strip()}", ran.returncode == 0 and ran.stdout.startswith("Hello from C"), ran.returncode)
+    if not shutil.which("cargo"):
+        print("left out: rust/wild, without cargo")
+        return
+    folder = {**os.environ, "WILD_LIB": str(libraries[0].parent), "WILD_KIT": str(libraries[1].parent), "CARGO_TARGET_DIR": str(room / "target")}
+    words = ["cargo", "run", "--offline", "--quiet", "--example", "hello", str(room / "hello")]
+    ran = subprocess.run(words, cwd=TOP / "rust/wild", env=folder, capture_output=True, text=True)
+    check("rust/wild: compiled", ran.returncode == 0, ran.stderr[-600:])
+    ran = subprocess.run([room / "hello"], capture_output=True, text=True)
+    check(f"hello.rs: {ran.stdout.strip()}", ran.returncode == 0 and ran.stdout == "Hello from Rust.\n", ran.returncode)
+
+
+def main():
+    library = Path(sys.argv[1] if len(sys.argv) > 1 else TOP / "crates/wild_c/out/libwild_c.a").resolve()
+    heap = Path(shutil.which("rt") or "/").resolve().parent.parent / "c/liblibc_c.a"
+    libraries = [library, heap]
+    with tempfile.TemporaryDirectory() as folder:
+        room = Path(folder)
+        (room / "both.c").write_text('#include "wild.h"\nint main(void) { wild_layout l = WILD_LAYOUT_INIT; return (int)l.kind; }\n')
+        shutil.copy(room / "both.c", room / "both.cc")
+        for compiler, standard, source in (("gcc", "c11", "both.c"), ("g++", "c++17", "both.cc")):
+            built(room, source.replace(".", "_"), [source], [], compiler=compiler, standard=standard)
+        check_structs(room)
+        check_numbers()
+        check_plans(room, libraries)
+        check_examples(room, libraries)
+    if failures:
+        sys.exit(f"check.py: {len(failures)} wrong: {', '.join(failures[:10])}")
+    print("check.py: all right")
+
+
+if __name__ == "__main__":
+    main()
