@@ -1,5 +1,5 @@
 -- Lemmas on the layouts that structs stand for.
-use Rattle.std.proofs.Common.{◌≡◌, ℕ, Bool, true, false, List, [], ◌∷◌, Option, Some, None, refl, ap, ap₂, get_or}
+use Rattle.std.proofs.Common.{◌≡◌, ℕ, Bool, true, false, List, [], ◌∷◌, Option, Some, None, refl, ap, ap₂, ◌∙◌, get_or}
 use Rattle.std.proofs.lemmas.List.Elements.{All-map}
 use Rattle.std.specs.Prelude.{max, slice_get, drop, if◌then◌else◌}
 use Rattle.wild_types.specs.Lookups.{header_only, takes_file_bytes, parts_end, sections_end, image_size, file_end, fills_file}
@@ -38,7 +38,8 @@ sections_end-same l m e (s ∷ ss) = ap₂ (λ (b : Bool) (n : ℕ). max (file_e
 -- options, parts and sections determine the size
 image_size-same : (l m : Layout) → l.options ≡ m.options → l.parts ≡ m.parts → l.sections ≡ m.sections → image_size l ≡ image_size m
 unfolding image_size
-image_size-same l m e p f = rw (p, f) (ap₂ max (parts_end-same l m e f m.parts) (sections_end-same l m e (drop 1 m.sections)))
+image_size-same l m e p f =
+    ap₂ max (parts_end-same l m e f l.parts ∙ ap (parts_end m) p) (sections_end-same l m e (drop 1 l.sections) ∙ ap (λ (ss : List Section). sections_end m (drop 1 ss)) f)
 
 pub image_size-frame : (c : CLayout) → image_size (frame_of c) ≡ image_size (layout_of c)
 unfolding frame_of layout_of

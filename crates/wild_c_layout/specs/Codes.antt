@@ -31,7 +31,7 @@ slots = slot.Discard ∷ slot.Loaded ∷ slot.Sorted ∷ slot.Debug ∷ slot.Fra
 abbrev pub file_roles : List FileRole
 file_roles = file_role.Object ∷ file_role.Prelude ∷ file_role.Dynamic ∷ file_role.Script ∷ file_role.Synthetic ∷ file_role.Epilogue ∷ file_role.NotLoaded ∷ []
 
-abbrev pub roles : List Role
+unfoldable pub roles : List Role
 roles = role.Raw ∷ role.FileHeader ∷ role.ProgramHeaders ∷ role.SectionHeaders ∷ role.Shstrtab ∷ role.Got ∷ role.GotRelr ∷ role.PltGot
     ∷ role.RelaPlt ∷ role.RelaDynRelative ∷ role.RelaDynGeneral ∷ role.RelrDyn ∷ role.Dynsym ∷ role.Dynstr
     ∷ role.GnuVersion ∷ role.GnuVersionD ∷ role.GnuVersionR ∷ role.SysvHash ∷ role.GnuHash

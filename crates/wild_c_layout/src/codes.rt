@@ -1,6 +1,6 @@
 //! Numbers that stand for one of several choices.
 ghost use Rattle.std.specs.Prelude.{◌≡◌};
-ghost use Rattle.wild_c_layout.specs.Codes.{slot_of, file_role_of, role_of, machine_of, kind_of, is_machine, is_kind, has_known_role, has_known_slot, has_known_place, has_known_sections, has_known_files};
+ghost use Rattle.wild_c_layout.specs.Codes.{slot_of, file_role_of, roles, role_of, machine_of, kind_of, is_machine, is_kind, has_known_role, has_known_slot, has_known_place, has_known_sections, has_known_files};
 
 use crate::input::{CFile, CGroup, CInputSection};
 use crate::output::CPart;
@@ -96,11 +96,19 @@ pub(crate) fn file_role_of(code: u32) -> FileRole
         .unwrap_or(FileRole::Object)
 }
 
+/// All roles, each at its number.
+#[tactic(auto, unfolding(crate::specs::Codes::roles))]
+fn roles<'a>() -> &'a [Role]
+    ensures { result.now ≡ roles }
+{
+    &ROLES
+}
+
 /// The role of a part with that number.
 pub(crate) fn role_of(code: u32) -> Role
     ensures { result ≡ role_of code }
 {
-    ROLES.get(code as usize).copied().unwrap_or(Role::Raw)
+    roles().get(code as usize).copied().unwrap_or(Role::Raw)
 }
 
 /// The kind of output with that number.
