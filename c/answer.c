@@ -1,9 +1,11 @@
 /* Prints what `link` prints for the layout that plan_to_c.py wrote. The image is written twice: with 1 byte too few in `out`, which has
  * to change nothing, and then whole. */
-#include "wild.h"
+#include "wild_text.h"
 #include <stdio.h>
 #include <stdlib.h>
 #include <string.h>
+
+enum { MOST = 1 << 28 };
 
 const wild_layout *planned_layout(void);
 
@@ -27,10 +29,8 @@ int main(void)
     wild_fault fault;
     memset(&fault, 7, sizeof fault);
     uint32_t status = wild_image_size(layout, &size);
-    if (status != WILD_WRITTEN) {
-        fprintf(stderr, "wild_image_size: status %u\n", status);
-        return 70;
-    }
+    if (status != WILD_WRITTEN || size > MOST)
+        size = 0; /* a fault of the layout, which is found with any buffer */
     uint8_t *out = malloc(size + 1);
     uint64_t *counts = malloc((layout->sections.len + 1) * sizeof *counts);
     if (!out || !counts)
@@ -44,7 +44,9 @@ int main(void)
     if (out[size] != 0x5a)
         return 72;
     if (status == WILD_REFUSED) {
-        printf("refused %u %u\n", fault.fault, fault.number);
+        char text[512];
+        wild_fault_text(&fault, text, sizeof text);
+        printf("%s\n", text);
     } else if (status == WILD_WRITTEN) {
         printf("image %llu\n", (unsigned long long)size);
         print_warning(layout, &warning);

@@ -4,12 +4,14 @@
 - wild.h compiles as C11 and as C++17 without a warning; its structs have the members, offsets and sizes of the structs of
   wild_c_layout, and so have those of rust/wild.
 - Each plan, written as structs, has the answer of plans/*.answer.
+- Each row of a page with a change of a plan and its answer has that answer, unless JSON alone can express the change.
 - Calls by four threads at once, and calls with each allocation refused in turn.
 - The same under valgrind, if it is there: no error, no leak.
 - The examples in C and C++, and with cargo the one in Rust, write programs that run.
 
 It needs gcc, g++ and, for the toolchain's liblibc_c.a, `rt`.
 """
+import json
 import os
 import re
 import shutil
@@ -138,6 +140,32 @@ def check_plans(room, libraries):
         check(f"{plan.stem}: {ran.stdout.strip()}", ran.returncode == 0, ran.returncode)
 
 
+def check_rows(room, libraries):
+    """The rows of pages with a change of a plan and its answer; the first lines are compared."""
+    sys.path.append(str(TOP / "plans"))
+    import check_docs
+
+    wrong, count = [], 0
+    subprocess.run(["gcc", "-O1", f"-I{HERE}", "-c", str(HERE / "answer.c"), "-o", "answer.o"], cwd=room, check=True)
+    for page in check_docs.PAGES:
+        for where, _, ahead, heads, cells in check_docs.rows(page):
+            said = cells[-1].strip("`")
+            if heads[-2:] != ["Change", "Answer"] or said.startswith("not a plan"):
+                continue
+            plan = (re.findall(r"`(plans/\w+\.json)`", cells[0]) or re.findall(r"`(plans/\w+\.json)`", ahead))[-1]
+            changed = check_docs.changed(json.loads(check_docs.read(plan)), cells[-2], check_docs.letters(ahead))
+            words = [sys.executable, HERE / "plan_to_c.py"]
+            written = subprocess.run(words, input=json.dumps(changed).encode(), capture_output=True, check=True)
+            (room / "plan.c").write_bytes(written.stdout)
+            words = ["gcc", "-O0", f"-I{HERE}", "plan.c", "answer.o", *map(str, libraries), "-o", "row"]
+            subprocess.run(words, cwd=room, check=True)
+            ran = subprocess.run([room / "row"], capture_output=True, text=True)
+            count += 1
+            if (ran.stdout.split("\n")[0], ran.returncode) != (said, 0 if said.startswith("image") else 1):
+                wrong.append((where, said, ran.returncode, ran.stdout[:100]))
+    check(f"{count} rows of pages with a change and its answer", not wrong, wrong[:5])
+
+
 def check_examples(room, libraries):
     for source, compiler, standard in (("hello.c", "gcc", "gnu11"), ("hello.cc", "g++", "c++17")):
         maker = built(room, f"make_{source[6:] or source}", [HERE / source], libraries, compiler=compiler, standard=standard)
@@ -168,6 +196,7 @@ def main():
         check_structs(room)
         check_numbers()
         check_plans(room, libraries)
+        check_rows(room, libraries)
         check_examples(room, libraries)
     if failures:
         sys.exit(f"check.py: {len(failures)} wrong: {', '.join(failures[:10])}")

@@ -2,6 +2,8 @@
 --   IsAnswer r s          the status is s, or out of memory
 --   write_status c n k    the status of writing into n bytes and k counts
 --   SaysFirst f es        the struct says the first of the faults
+--   IsRefusal es ..       the status for a layout with these faults, and the struct with the first one
+--   IsOutput l o          the layout has no faults, and this is its image with counts and warnings
 --   size_status c         the status of the image's size
 --   needs_status c n      the status of writing what each group needs of each part into n numbers
 --   AreNeeds l ns         the numbers are what each group needs of each part, part by part of each group
@@ -12,6 +14,8 @@ use Rattle.wild_types.specs.Lookups.{image_size}
 use Rattle.wild_needs.specs.Needs.{needs}
 use Rattle.wild_layout.specs.Faults.{errors}
 use Rattle.wild_layout.specs.Image.{bytes, counts}
+use Rattle.wild_layout.specs.Warnings.{warnings}
+use Rattle.wild_image.specs.declared.output.SizedOutput.{SizedOutput}
 use Rattle.wild_c_layout.specs.FaultOf.{fault_of}
 use Rattle.wild_c_layout.specs.LayoutOf.{is_layout, layout_of}
 use Rattle.wild_c_layout.specs.declared.fault.CFault.{CFault}
@@ -45,6 +49,17 @@ write_status c n k = struct_status (is_layout c) (layout_status (errors (layout_
 abbrev pub SaysFirst : CFault → List Error → Type 0
 SaysFirst f [] = ⊥
 SaysFirst f (e ∷ es) = f ≡ fault_of e
+
+-- the status of a layout with faults, and the struct that says the first one; or out of memory, and the struct as before
+abbrev pub IsRefusal : List Error → ℕ → CFault → CFault → Type 0
+IsRefusal es s before after = ((s ≡ status.refused) × SaysFirst after es) ⊎ ((s ≡ status.no_memory) × (after ≡ before))
+
+-- the layout has no faults, and this is its image with counts and warnings
+pub record IsOutput (l : Layout) (o : SizedOutput) : Type 0 where
+  pub faultless : errors l ≡ []
+  pub image : o.out ≡ bytes l
+  pub counts_are : o.counts ≡ counts l
+  pub warnings_are : o.warnings ≡ warnings l
 
 -- the status for a number that has to be below 2^64
 abbrev pub number_status : ℕ → ℕ

@@ -21,8 +21,6 @@ use wild_c_layout::{
     CFault, CLayout, CWarning, decode_frame, decode_layout, frames_have_the_size, is_layout,
     resolutions_have_their_flags,
 };
-use wild_laws::images_are_sound;
-use wild_layout::numbers_fit;
 
 /// The call did what its name says.
 const WRITTEN: u32 = 0;
@@ -39,30 +37,30 @@ const NO_MEMORY: u32 = 6;
 /// A buffer has another size than what is written into it.
 const WRONG_SIZE: u32 = 8;
 
-/// Writes the image of the layout into `out`, and the number of relocations read for each section into `counts`. The status is
+/// Writes the image of the layout into `out`, and the number of relocations read for each section into `read_counts`. The status is
 /// - 0: they were written;
 /// - 1: the layout has faults; `fault` is the first of them;
 /// - 3: the structs stand for no layout;
 /// - 6: out of memory;
-/// - 8: `out` has not the image's size, or `counts` not the number of sections.
+/// - 8: `out` has not the image's size, or `read_counts` not the number of sections.
 ///
-/// Only status 0 changes `out`, `counts` and `warning`, and only status 1 changes `fault`.
+/// Only status 0 changes `out`, `read_counts` and `warning`, and only status 1 changes `fault`.
 #[unsafe(no_mangle)]
 pub extern "C" fn wild_write(
     alloc: Global,
     layout: &CLayout,
     out: &mut [u8],
-    counts: &mut [u64],
+    read_counts: &mut [u64],
     warning: &mut CWarning,
     fault: &mut CFault,
 ) -> u32
-    ensures status { IsAnswer result (write_status layout.now (length out.old) (length counts.old)) }
+    ensures status { IsAnswer result (write_status layout.now (length out.old) (length read_counts.old)) }
     ensures image { result ≡ written → out.new ≡ bytes (layout_of layout.now) }
-    ensures counts { result ≡ written → counts.new ≡ counts (layout_of layout.now) }
+    ensures counts { result ≡ written → read_counts.new ≡ counts (layout_of layout.now) }
     ensures warning { result ≡ written → warning.new ≡ warning_of (warnings (layout_of layout.now)) }
     ensures fault { result ≡ refused → SaysFirst fault.new (errors (layout_of layout.now)) }
     ensures out_unchanged { (result ≡ written → ⊥) → out.new ≡ out.old }
-    ensures counts_unchanged { (result ≡ written → ⊥) → counts.new ≡ counts.old }
+    ensures counts_unchanged { (result ≡ written → ⊥) → read_counts.new ≡ read_counts.old }
     ensures warning_unchanged { (result ≡ written → ⊥) → warning.new ≡ warning.old }
     ensures fault_unchanged { (result ≡ refused → ⊥) → fault.new ≡ fault.old }
     // The loader accepts the image in every legal world, and each kept reference has the value or target that its relocation
@@ -75,9 +73,7 @@ pub extern "C" fn wild_write(
     match decode_layout(alloc, layout) {
         Ok(decoded) => {
             resolutions_have_their_flags();
-            numbers_fit(&decoded);
-            images_are_sound();
-            write::write_into(alloc, &decoded, out, counts, warning, fault)
+            write::write_into(alloc, &decoded, out, read_counts, warning, fault)
         }
         Err(_) => NO_MEMORY,
     }
