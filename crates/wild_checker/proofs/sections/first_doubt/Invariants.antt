@@ -4,4 +4,4 @@ use Rattle.wild_checker.specs.Sections.{first_doubt}
 use Rattle.wild_checker.proofs.sections.first_doubt.Given as goal
 
 abbrev pub invariant-loop-i : goal.invariant-loop-i
-invariant-loop-i g l = first_doubt (loaded_now l.loaded) l.file l.section l.i (drop l.i l.section.relocations) ≡ first_doubt (loaded_now l.loaded) l.file l.section 0 l.section.relocations
+invariant-loop-i l = first_doubt (loaded_now l.loaded) l.file l.section l.i (drop l.i l.section.relocations) ≡ first_doubt (loaded_now l.loaded) l.file l.section 0 l.section.relocations
