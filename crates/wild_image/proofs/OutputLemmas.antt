@@ -11,7 +11,7 @@ use Rattle.wild_types.specs.declared.file.Group.{Group}
 use Rattle.wild_types.specs.Lookups.{image_size}
 use Rattle.wild_geometry.proofs.InterleaveLemmas.{Contains-flat_map_from}
 use Rattle.std.specs.List.{flat_map}
-use Rattle.wild_image.specs.Batches.{AreBatches, batch_errors}
+use Rattle.wild_image.specs.Batches.{AreBatches, batch_errors, batch_pieces}
 use Rattle.wild_image.specs.declared.batch.Batch.{Batch}
 use Rattle.wild_image.specs.Prefix.{overlay_prefix}
 use Rattle.wild_image.proofs.BatchLemmas.{cut_of, joined}
@@ -102,9 +102,14 @@ pub group_written : (l : Layout) (i : ℕ) (g : Group) (old new : List ℕ) → 
 group_written l i g old new laid at long e = e ∙ overlay_whole (group_pieces l i g) old (group_within l i (length old) g laid at long)
 
 -- the first bytes of the padding and of the groups are those of the image
-pub prefix_is : (l : Layout) (n : ℕ) (out : List ℕ) → IsLaidOut l → out ≡ overlay_prefix (flat_map_from (group_pieces l) 0 l.groups) (take n (padding l)) → out ≡ take n (bytes l)
+prefix_is : (l : Layout) (n : ℕ) (out : List ℕ) → IsLaidOut l → out ≡ overlay_prefix (flat_map_from (group_pieces l) 0 l.groups) (take n (padding l)) → out ≡ take n (bytes l)
 unfolding bytes pieces
 prefix_is l n out laid e = e ∙ overlay_taken n (flat_map_from (group_pieces l) 0 l.groups) (padding l) (pieces_within l laid)
+
+-- the same, with the pieces of the batches
+pub prefix_of_batches : (l : Layout) (n : ℕ) (bs : List Batch) (old new : List ℕ) → IsLaidOut l → AreBatches l.groups bs → old ≡ take n (padding l) → new ≡ overlay_prefix (flat_map (batch_pieces l) bs) old → new ≡ take n (bytes l)
+prefix_of_batches l n bs old new laid cut padded e =
+    prefix_is l n new laid (e ∙ ap (λ (ps : List Piece). overlay_prefix ps old) (sym (joined (group_pieces l) 0 l.groups bs (cut_of l.groups bs cut))) ∙ ap (overlay_prefix (flat_map_from (group_pieces l) 0 l.groups)) padded)
 
 -- the first fault of the batches is that of the groups
 pub batches_refused : (l : Layout) (bs : List Batch) (e : Error) → AreBatches l.groups bs → Refuses e (flat_map (batch_errors l) bs) → Refuses e (flat_map_from (group_errors l) 0 l.groups)

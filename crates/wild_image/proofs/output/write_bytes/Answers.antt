@@ -1,13 +1,10 @@
-use Rattle.std.proofs.Common.{◌≡◌, List, length, sym, ap, ◌∙◌, arith, rules}
+use Rattle.std.proofs.Common.{◌≡◌, length, ◌∙◌, arith, rules}
 use Rattle.std.proofs.lemmas.List.{take_at}
 use Rattle.std.proofs.lemmas.Result.{err_from_is_err_and}
-use Rattle.wild_words.specs.Overlay.{Piece}
-use Rattle.wild_layout.specs.Image.{padding, group_pieces}
 use Rattle.wild_layout.specs.Faults.{group_errors}
-use Rattle.wild_image.specs.Prefix.{overlay_prefix}
 use Rattle.wild_image.proofs.StandingLemmas.{each_file_lies}
 use Rattle.wild_image.proofs.BatchLemmas.{cut_of, joined}
-use Rattle.wild_image.proofs.OutputLemmas.{prefix_is, batches_refused}
+use Rattle.wild_image.proofs.OutputLemmas.{prefix_of_batches, batches_refused}
 use Rattle.wild_image.proofs.output.write_bytes.Goals as goal
 
 pub append_all-requires-clause-inputs : goal.append_all-requires-clause-inputs
@@ -29,9 +26,6 @@ returns-clause-faults g c =
 
 pub returns-clause-image : goal.returns-clause-image
 returns-clause-image g c =
-    let l = c.args.layout.now in
-    let padded = c.in_ok-out.ensures in
-    let all = joined (group_pieces l) 0 l.groups c.args.batches.now (cut_of l.groups c.args.batches.now c.requires.batches) in
     let long : length c.append_all.new.out ≡ c.in_ok-out.out.len = search rules in
     take_at c.append_all.new.out _ c.in_ok-out.out.len long
-    ∙ prefix_is l c.args.size c.append_all.new.out c.requires.laid_out (c.in_ok-append_all.ensures.image ∙ ap (λ (ps : List Piece). overlay_prefix ps _) (sym all) ∙ ap (overlay_prefix _) padded)
+    ∙ prefix_of_batches c.args.layout.now c.args.size c.args.batches.now c.in_ok-out.out.items c.append_all.new.out c.requires.laid_out c.requires.batches c.in_ok-out.ensures c.in_ok-append_all.ensures.image
