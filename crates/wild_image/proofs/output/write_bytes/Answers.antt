@@ -28,4 +28,4 @@ pub returns-clause-image : goal.returns-clause-image
 returns-clause-image g c =
     let long : length c.append_all.new.out ≡ c.in_ok-out.out.len = search rules in
     take_at c.append_all.new.out _ c.in_ok-out.out.len long
-    ∙ prefix_of_batches c.args.layout.now c.args.size c.args.batches.now c.in_ok-out.out.items c.append_all.new.out c.requires.laid_out c.requires.batches c.in_ok-out.ensures c.in_ok-append_all.ensures.image
+    ∙ prefix_of_batches c.args.layout.now c.args.size c.args.batches.now c.deref_mut-2.result.now c.append_all.new.out c.requires.laid_out c.requires.batches (c.deref_mut-2.ensures.value ∙ c.in_ok-out.ensures) c.in_ok-append_all.ensures.image
