@@ -307,6 +307,10 @@ uint32_t wild_write(const wild_layout *layout, uint8_t *out, size_t out_len, uin
    `sizes` must have P numbers for each group. */
 uint32_t wild_needs(const wild_layout *layout, uint64_t *sizes, size_t sizes_len);
 
+/* The text that `link 1` prints for a plan in JSON (docs/PLAN.md), into the front of `out`, and its length into `used`. The status is that of
+   `link`: 0, 1 or 3. WILD_WRONG_SIZE: the text is longer than `out`; only `used` was written. In libwild_json_c.a. */
+uint32_t wild_link_json(const uint8_t *plan, size_t plan_len, uint8_t *out, size_t out_len, size_t *used);
+
 #ifdef __cplusplus
 }
 #endif
