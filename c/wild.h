@@ -10,8 +10,8 @@
  * with its WILD_.._INIT: lists are empty, optional numbers are absent, other members have the defaults of docs/PLAN.md, which says
  * what each member means.
  *
- * Numbers. An optional number that is not there is WILD_ABSENT. A flag is set if it is not 0. A number that stands for a choice is
- * checked: one that is out of range is answered with WILD_NO_LAYOUT.
+ * Numbers. An optional number that is not there is WILD_ABSENT. A flag is set if it is not 0. A number of an enum is
+ * checked: the answer to any other number is WILD_NO_LAYOUT.
  *
  * Link with libwild_c.a and the toolchain's liblibc_c.a (three functions over malloc, realloc and free): docs/EMBED.md. */
 #ifndef WILD_H
@@ -263,7 +263,7 @@ typedef struct {
 enum {
     WILD_WRITTEN = 0,    /* the call did what its name says */
     WILD_REFUSED = 1,    /* the layout has faults; the first one was written */
-    WILD_NO_LAYOUT = 3,  /* a number stands for no choice, or the version is another; of wild_link_json: the text is no plan */
+    WILD_NO_LAYOUT = 3,  /* a number is none of its enum, or the version is another; of wild_link_json: the text is no plan */
     WILD_NO_MEMORY = 6,  /* out of memory */
     WILD_WRONG_SIZE = 8  /* a buffer has another size than what is written into it */
 };
