@@ -1,10 +1,12 @@
 #!/usr/bin/env python3
-"""Checks the library for C beside the gate: check.py [LIBRARY] (default: crates/wild_c/out/libwild_c.a, which `./build --library` makes).
+"""Checks the libraries for C beside the gate: check.py [LIBRARY [JSON_LIBRARY]] (default: crates/wild_c/out/libwild_c.a and
+crates/wild_json_c/out/libwild_json_c.a, which `./build --library` makes; without the second its checks are left out).
 
 - wild.h compiles as C11 and as C++17 without a warning; its structs have the members, offsets and sizes of the structs of
   wild_c_layout, and so have those of rust/wild.
 - Each plan, written as structs, has the answer of plans/*.answer.
 - Each row of a page with a change of a plan and its answer has that answer, unless JSON alone can express the change.
+- Each plan has that answer by `wild_link_json` too.
 - Calls by four threads at once, and calls with each allocation refused in turn.
 - The same under valgrind, if it is there: no error, no leak.
 - The examples in C and C++, and with cargo the one in Rust, write programs that run.
@@ -140,6 +142,17 @@ def check_plans(room, libraries):
         check(f"{plan.stem}: {ran.stdout.strip()}", ran.returncode == 0, ran.returncode)
 
 
+def check_json(room, libraries):
+    """Each plan by wild_link_json, and a text that is no plan."""
+    program = built(room, "link", [HERE / "link.c"], libraries)
+    for plan in sorted((TOP / "plans").glob("*.json")):
+        ran = subprocess.run([program], stdin=plan.open(), capture_output=True)
+        check(f"{plan.stem}: by JSON", ran.returncode == 0 and ran.stdout == plan.with_suffix(".answer").read_bytes(), ran.returncode)
+    for text, status, said in (("{", 3, "not a plan: json\n"), ('{"page_size":-1}', 3, "not a plan: /page_size\n"), ("{}", 1, "refused MalformedLayout clause=1 index=0\n")):
+        ran = subprocess.run([program], input=text, capture_output=True, text=True)
+        check(f"{text}: by JSON", (ran.returncode, ran.stdout) == (status, said), (ran.returncode, ran.stdout))
+
+
 def check_rows(room, libraries):
     """The rows of pages with a change of a plan and its answer; the first lines are compared."""
     sys.path.append(str(TOP / "plans"))
@@ -187,6 +200,7 @@ def main():
     library = Path(sys.argv[1] if len(sys.argv) > 1 else TOP / "crates/wild_c/out/libwild_c.a").resolve()
     heap = Path(shutil.which("rt") or "/").resolve().parent.parent / "c/liblibc_c.a"
     libraries = [library, heap]
+    by_json = Path(sys.argv[2] if len(sys.argv) > 2 else TOP / "crates/wild_json_c/out/libwild_json_c.a").resolve()
     with tempfile.TemporaryDirectory() as folder:
         room = Path(folder)
         (room / "both.c").write_text('#include "wild.h"\nint main(void) { wild_layout l = WILD_LAYOUT_INIT; return (int)l.kind; }\n')
@@ -197,6 +211,10 @@ def main():
         check_numbers()
         check_plans(room, libraries)
         check_rows(room, libraries)
+        if by_json.exists():
+            check_json(room, [by_json, heap])
+        else:
+            print(f"left out: plans in JSON, without {by_json}")
         check_examples(room, libraries)
     if failures:
         sys.exit(f"check.py: {len(failures)} wrong: {', '.join(failures[:10])}")

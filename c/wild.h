@@ -10,8 +10,8 @@
  * with its WILD_.._INIT: lists are empty, optional numbers are absent, other members have the defaults of docs/PLAN.md, which says
  * what each member means.
  *
- * Numbers. An optional number that is not there is WILD_ABSENT. A flag is set if it is not 0. A number that stands for a choice is
- * checked: one that is out of range is answered with WILD_NO_LAYOUT.
+ * Numbers. An optional number that is not there is WILD_ABSENT. A flag is set if it is not 0. A number of an enum is
+ * checked: the answer to any other number is WILD_NO_LAYOUT.
  *
  * Link with libwild_c.a and the toolchain's liblibc_c.a (three functions over malloc, realloc and free): docs/EMBED.md. */
 #ifndef WILD_H
@@ -263,7 +263,7 @@ typedef struct {
 enum {
     WILD_WRITTEN = 0,    /* the call did what its name says */
     WILD_REFUSED = 1,    /* the layout has faults; the first one was written */
-    WILD_NO_LAYOUT = 3,  /* a number stands for no choice, or the version is another; of wild_link_json: the text is no plan */
+    WILD_NO_LAYOUT = 3,  /* a number is none of its enum, or the version is another; of wild_link_json: the text is no plan */
     WILD_NO_MEMORY = 6,  /* out of memory */
     WILD_WRONG_SIZE = 8  /* a buffer has another size than what is written into it */
 };
@@ -306,6 +306,10 @@ uint32_t wild_write(const wild_layout *layout, uint8_t *out, size_t out_len, uin
 /* How many bytes each group needs of each part: with P parts, sizes[G * P + K] is what group G needs of part K (docs/EXPLAIN.md).
    `sizes` must have P numbers for each group. */
 uint32_t wild_needs(const wild_layout *layout, uint64_t *sizes, size_t sizes_len);
+
+/* The text that `link 1` prints for a plan in JSON (docs/PLAN.md), into the front of `out`, and its length into `used`. The status is that of
+   `link`: 0, 1 or 3. WILD_WRONG_SIZE: the text is longer than `out`; only `used` was written. In libwild_json_c.a. */
+uint32_t wild_link_json(const uint8_t *plan, size_t plan_len, uint8_t *out, size_t out_len, size_t *used);
 
 #ifdef __cplusplus
 }
