@@ -1,7 +1,8 @@
 -- Bytes that memory has in every world.
 --   first_changed t a k bs    the first of bytes from an address on that memory does not have in every world
+--   has_bytes t a bs          memory has these bytes in every world
 --   changed_gap m t s n rs    the same for the bytes of a section from offset n on that are in no field
-use Rattle.std.specs.Prelude.{ℕ, ◌+◌, ◌-◌, ◌==◌, Bool, true, false, if◌then◌else◌, nat_le, min, length, slice_range, List, [], ◌∷◌, Option, Some, None}
+use Rattle.std.specs.Prelude.{ℕ, ◌+◌, ◌-◌, ◌==◌, Bool, true, false, not, if◌then◌else◌, nat_le, min, length, slice_range, List, [], ◌∷◌, Option, Some, None, is_some}
 use Rattle.wild_types.specs.declared.input.InputRelocation.{InputRelocation}
 use Rattle.wild_types.specs.declared.input.InputSection.{InputSection}
 use Rattle.wild_types.specs.declared.kind.Machine.{Machine}
@@ -21,6 +22,10 @@ is_byte t a b = is_same (known_byte t a) b
 abbrev pub first_changed : Symbolic → ℕ → ℕ → List ℕ → Option ℕ
 first_changed t a k [] = None
 first_changed t a k (b ∷ bs) = if is_byte t (a + k) b then first_changed t a (k + 1) bs else Some k
+
+-- memory has these bytes in every world
+abbrev pub has_bytes : Symbolic → ℕ → List ℕ → Bool
+has_bytes t a bs = not (is_some (first_changed t a 0 bs))
 
 -- the end of a relocation's field
 abbrev pub field_end : Machine → InputRelocation → ℕ

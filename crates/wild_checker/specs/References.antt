@@ -2,8 +2,10 @@
 --   value_term k f s r row     the value of the reference's formula as a term
 --   field_holds k s r row x    the field has that value in every world
 --   reference_holds k f s r    both
-use Rattle.std.specs.Prelude.{ℕ, ◌+◌, ◌-◌, ◌^◌, ◌%◌, ◌==◌, ◌&&◌, Bool, true, false, not, if◌then◌else◌, nat_lt, nat_le, length, slice_range, List, Option, Some, None, is_some, option_map, option_and_then}
+use Rattle.std.specs.Prelude.{ℕ, ◌+◌, ◌-◌, ◌/◌, ◌^◌, ◌%◌, ◌==◌, ◌&&◌, Bool, true, false, not, if◌then◌else◌, nat_lt, nat_le, length, slice_get, slice_range, List, Option, Some, None, option_map, option_and_then}
 use Rattle.std.specs.Int.{w64, cast_unsigned}
+use Rattle.wild_records.specs.Abi.Section.{shf_write}
+use Rattle.wild_reloc.specs.declared.expression.SlotSort.TheVariants as sorts
 use Rattle.wild_reloc.specs.declared.expression.Subtrahend.{Subtrahend}
 use Rattle.wild_reloc.specs.declared.expression.Subtrahend.TheVariants as subtrahend
 use Rattle.wild_reloc.specs.declared.expression.Term.TheVariants as terms
@@ -18,17 +20,22 @@ use Rattle.wild_types.specs.declared.file.File.{File}
 use Rattle.wild_types.specs.declared.input.InputRelocation.{InputRelocation}
 use Rattle.wild_types.specs.declared.input.InputSection.{InputSection}
 use Rattle.wild_types.specs.declared.layout.Layout.{Layout}
-use Rattle.wild_types.specs.Lookups.{place_of}
+use Rattle.wild_types.specs.declared.symbol.Symbol.{Symbol}
+use Rattle.wild_types.specs.Flags.{has_flag, non_interposable}
+use Rattle.wild_types.specs.Lookups.{canonical, place_of}
 use Rattle.wild_types.specs.Rows.{row_of}
+use Rattle.wild_meaning.specs.Value.{may_be_replaced}
 use Rattle.wild_terms.specs.declared.term.Atom.{Atom}
 use Rattle.wild_terms.specs.declared.term.Atom.TheVariants.{Zero, Base}
 use Rattle.wild_terms.specs.declared.term.Term.{Term}
-use Rattle.wild_terms.specs.Terms.{number_term, sum, difference, same_term}
+use Rattle.wild_terms.specs.Terms.{number_term, sum, difference}
 use Rattle.wild_terms.specs.Outline.{based}
 use Rattle.wild_terms.specs.Symbolic.{Symbolic, term_at}
 use Rattle.wild_checker.specs.Loaded.{Loaded}
-use Rattle.wild_checker.specs.Bytes.{first_changed}
-use Rattle.wild_checker.specs.Symbols.{names_no_strings, symbol_term}
+use Rattle.wild_checker.specs.Bytes.{has_bytes}
+use Rattle.wild_checker.specs.Search.{or_else}
+use Rattle.wild_checker.specs.Slots.{is_known, slot_term, stub_term}
+use Rattle.wild_checker.specs.Symbols.{names_no_strings, symbol_term, index_of, answer_term}
 
 -- ---- the value
 
@@ -72,34 +79,73 @@ less k s r subtrahend.GotBase x = distance_term x (table_term k)
 less k s r subtrahend.PageOfPlace x = page_distance k.layout x (place_term k s r)
 less k s r subtrahend.PageOfGot x = None
 
--- the terms and what is subtracted, of which the value is decided: S + A, less P, GOT or a page; L + A less P or GOT; GOT + A - P
+-- L, as a stub
+abbrev pub stub_referent : Loaded → File → Option ℕ → Option Term
+stub_referent k f None = None
+stub_referent k f (Some i) = stub_term k f i
+
+-- L: S where that is known, else the symbol's stub
+abbrev pub branch_term : Loaded → File → InputRelocation → Option Term
+branch_term k f r = or_else (referent_term k f r.symbol) (stub_referent k f r.symbol)
+
+-- G, for a slot of the symbol's address
+abbrev pub slot_referent : Loaded → File → Option ℕ → Option Term
+slot_referent k f None = None
+slot_referent k f (Some i) = slot_term k f i
+
+-- the terms and what is subtracted, of which the value is decided: S + A, less P, GOT or a page; L + A less P or GOT; G + A less P or
+-- GOT; GOT + A - P
 abbrev pub term_less : Loaded → File → InputRelocation → expression.Term → Subtrahend → Option Term
 term_less k f r terms.Symbol less = referent_term k f r.symbol
-term_less k f r terms.Stub subtrahend.Place = referent_term k f r.symbol
-term_less k f r terms.Stub subtrahend.GotBase = referent_term k f r.symbol
+term_less k f r terms.Stub subtrahend.Place = branch_term k f r
+term_less k f r terms.Stub subtrahend.GotBase = branch_term k f r
+term_less k f r (terms.Slot sorts.Address) subtrahend.Place = slot_referent k f r.symbol
+term_less k f r (terms.Slot sorts.Address) subtrahend.GotBase = slot_referent k f r.symbol
 term_less k f r terms.GotBase subtrahend.Place = Some (table_term k)
 term_less k f r other less = None
 
 abbrev pub value_by_parts : Loaded → File → InputSection → InputRelocation → expression.Term → Subtrahend → Option Term
 value_by_parts k f s r t u = option_and_then (λ x. less k s r u (sum x (addend_of r))) (term_less k f r t u)
 
--- the value of the reference's formula
-abbrev pub value_term : Loaded → File → InputSection → InputRelocation → RelocationKindInfo → Option Term
-value_term k f s r row = value_by_parts k f s r (expression_of row.kind).term (subtrahend_of row.kind row.mask)
-
--- ---- the field
+-- ---- words that a loader fills with the address of a symbol that another module may define
 
 abbrev pub is_eight : RelocationSize → Bool
 is_eight (ByteSize Eight) = true
 is_eight other = false
 
+abbrev pub is_nothing : Subtrahend → Bool
+is_nothing subtrahend.Nothing = true
+is_nothing other = false
+
+abbrev pub is_symbol : expression.Term → Bool
+is_symbol terms.Symbol = true
+is_symbol other = false
+
+-- the field has eight bytes of S + A, in a section that the program may write to (gABI, "Relocation")
+abbrev pub is_word : InputSection → RelocationKindInfo → Bool
+is_word s row = s.flags / shf_write % 2 == 1 && (is_eight row.size && (is_symbol (expression_of row.kind).term && is_nothing (subtrahend_of row.kind row.mask)))
+
+abbrev pub foreign_by : Loaded → Option Symbol → Option Term
+foreign_by k None = None
+foreign_by k (Some d) = if may_be_replaced k.layout.kind d.flags && not (has_flag d.flags non_interposable) then answer_term k.outline (index_of d.resolution) else None
+
+abbrev pub foreign_term : Loaded → Option ℕ → Option Term
+foreign_term k None = None
+foreign_term k (Some i) = foreign_by k (slice_get k.layout.symbols (canonical k.layout i))
+
+-- S + A, from the world's answer
+abbrev pub word_term : Loaded → InputSection → InputRelocation → RelocationKindInfo → Option Term
+word_term k s r row = if is_word s row then option_map (λ x. sum x (addend_of r)) (foreign_term k r.symbol) else None
+
+-- the value of the reference's formula
+abbrev pub value_term : Loaded → File → InputSection → InputRelocation → RelocationKindInfo → Option Term
+value_term k f s r row = or_else (value_by_parts k f s r (expression_of row.kind).term (subtrahend_of row.kind row.mask)) (word_term k s r row)
+
+-- ---- the field
+
 -- the field has all 64 bits of any value
 abbrev pub is_whole : RelocationKindInfo → Bool
 is_whole row = is_eight row.size && (nat_le row.alignment 1 && (row.range.below == 2 ^ 63 && row.range.above == 2 ^ 63))
-
--- memory has these bytes in every world
-abbrev pub has_bytes : Symbolic → ℕ → List ℕ → Bool
-has_bytes t a bs = not (is_some (first_changed t a 0 bs))
 
 abbrev pub old_field : InputSection → InputRelocation → RelocationKindInfo → List ℕ
 old_field s r row = slice_range s.bytes r.offset (r.offset + field_width row)
@@ -108,17 +154,13 @@ old_field s r row = slice_range s.bytes r.offset (r.offset + field_width row)
 abbrev pub number_holds : Symbolic → InputSection → InputRelocation → RelocationKindInfo → ℕ → Bool
 number_holds t s r row n = allows row n && has_bytes t (s.address + r.offset) (written row n (old_field s r row))
 
-abbrev pub is_term : Option Term → Term → Bool
-is_term None x = false
-is_term (Some y) x = same_term y x
-
 -- a term that depends on the world needs a field of 64 bits
 abbrev pub holds_by : Symbolic → InputSection → InputRelocation → RelocationKindInfo → Atom → ℕ → Bool
 holds_by t s r row Zero n = number_holds t s r row n
 holds_by t s r row other n = false
 
 abbrev pub value_holds : Symbolic → InputSection → InputRelocation → RelocationKindInfo → Term → Bool
-value_holds t s r row x = if is_whole row then is_term (term_at t (s.address + r.offset) 8) x else holds_by t s r row x.atom x.plus
+value_holds t s r row x = if is_whole row then is_known (term_at t (s.address + r.offset) 8) x else holds_by t s r row x.atom x.plus
 
 -- there is a field, and it is in the section
 abbrev pub is_inside : InputSection → InputRelocation → RelocationKindInfo → Bool

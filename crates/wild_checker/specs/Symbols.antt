@@ -3,8 +3,9 @@
 --   in_file k f i          symbol i is one of file f
 --   raw_in k f i r         symbol i's address in the layout, from its definition's resolution r or from its place in file f
 --   symbol_term k f i      symbol i's value
+--   loaded_term k f i d    symbol i's value, also where another module may define the symbol
 --   names_no_strings k f i symbol i is not that of a section of merged strings
-use Rattle.std.specs.Prelude.{ℕ, ◌+◌, ◌%◌, ◌==◌, ◌&&◌, ◌||◌, Bool, true, false, not, if◌then◌else◌, nat_lt, nat_le, slice_get, List, [], ◌∷◌, Option, Some, None, is_some, option_map, option_and_then}
+use Rattle.std.specs.Prelude.{ℕ, ◌+◌, ◌%◌, ◌^◌, ◌==◌, ◌&&◌, ◌||◌, Bool, true, false, not, if◌then◌else◌, nat_lt, nat_le, length, slice_get, List, [], ◌∷◌, Option, Some, None, is_some, option_map, option_and_then}
 use Rattle.wild_records.specs.Abi.Symbol.{stt_section}
 use Rattle.wild_types.specs.declared.file.File.{File}
 use Rattle.wild_types.specs.declared.file.Group.{Group}
@@ -24,8 +25,9 @@ use Rattle.wild_types.specs.Lookups.{canonical}
 use Rattle.wild_types.specs.SymbolSlots.{plt_of}
 use Rattle.wild_meaning.specs.Value.{may_be_replaced}
 use Rattle.wild_terms.specs.declared.outline.Outline.{Outline}
+use Rattle.wild_terms.specs.declared.term.Atom.TheVariants.{Address}
 use Rattle.wild_terms.specs.declared.term.Term.{Term}
-use Rattle.wild_terms.specs.Terms.{number_term}
+use Rattle.wild_terms.specs.Terms.{number_term, atom_term}
 use Rattle.wild_terms.specs.Outline.{based}
 use Rattle.wild_checker.specs.Loaded.{Loaded}
 
@@ -91,6 +93,21 @@ defined_term k f i (Some d) = if is_plain k.layout d then option_map (value_by (
 -- symbol i's value
 abbrev pub symbol_term : Loaded → File → ℕ → Option Term
 symbol_term k f i = defined_term k f i (slice_get k.layout.symbols (canonical k.layout i))
+
+-- ---- symbols that another module may define
+
+abbrev pub index_of : Option Resolution → Option ℕ
+index_of None = None
+index_of (Some r) = r.dynamic_symbol_index
+
+-- the address in the answer for a dynamic symbol
+abbrev pub answer_term : Outline → Option ℕ → Option Term
+answer_term o None = None
+answer_term o (Some i) = if nat_lt i (length o.symbols) && nat_lt i (2 ^ 32) then Some (atom_term (Address i)) else None
+
+-- symbol i's value, where d is its definition: the world's answer, or the output's own value if no resolver computes it
+abbrev pub loaded_term : Loaded → File → ℕ → Symbol → Option Term
+loaded_term k f i d = if may_be_replaced k.layout.kind d.flags then answer_term k.outline (index_of d.resolution) else (if has_flag d.flags ifunc then None else option_map (value_by (has_flag d.flags absolute) k.outline) (raw_in k f i d.resolution))
 
 -- ---- merged strings
 

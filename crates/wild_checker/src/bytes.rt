@@ -1,6 +1,6 @@
 //! Bytes of input sections that are in no field.
 ghost use Rattle.std.specs.Prelude.{◌≡◌, ◌+◌, ◌^◌, ◌<◌, length};
-ghost use Rattle.wild_checker.specs.Bytes.{is_byte, first_changed, field_end, are_in_order, changed_between, changed_gap};
+ghost use Rattle.wild_checker.specs.Bytes.{is_byte, first_changed, has_bytes, field_end, are_in_order, changed_between, changed_gap};
 
 use wild_terms::TermMemory;
 use wild_types::{InputRelocation, InputSection, Machine, field_bytes};
@@ -16,7 +16,7 @@ fn is_byte(memory: &TermMemory, address: u128, byte: u8) -> bool
 }
 
 /// The first of bytes from an address on that memory does not have in every world; offsets count from `start`.
-pub(crate) fn first_changed(
+fn first_changed(
     memory: &TermMemory,
     address: u64,
     start: usize,
@@ -31,6 +31,13 @@ pub(crate) fn first_changed(
         }
     }
     None
+}
+
+/// Whether memory has these bytes in every world.
+pub(crate) fn has_bytes(memory: &TermMemory, address: u64, bytes: &[u8]) -> bool
+    ensures { result ≡ has_bytes memory.now address bytes.now }
+{
+    first_changed(memory, address, 0, bytes).is_none()
 }
 
 /// The end of a relocation's field.

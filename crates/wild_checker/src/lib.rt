@@ -9,6 +9,7 @@ mod question;
 mod references;
 mod sections;
 mod segments;
+mod slots;
 mod symbols;
 mod verdict;
 

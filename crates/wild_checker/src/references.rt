@@ -2,12 +2,16 @@
 ghost use Rattle.std.specs.Prelude.{◌≡◌, true, length, take};
 ghost use Rattle.wild_reloc.specs.Field.{field_width, written};
 ghost use Rattle.wild_checker.specs.Loaded.{loaded_now};
-ghost use Rattle.wild_checker.specs.References.{referent_term, addend_of, place_term, table_term, distance_term, page_term, page_distance, less, term_less, value_by_parts, value_term, is_eight, is_whole, number_holds, is_term, value_holds, is_inside, field_holds, reference_holds};
+ghost use Rattle.wild_checker.specs.References.{referent_term, addend_of, place_term, table_term, distance_term, page_term, page_distance, less, branch_term, slot_referent, term_less, value_by_parts, is_nothing, is_symbol, is_word, foreign_term, word_term, value_term, is_eight, is_whole, number_holds, value_holds, is_inside, field_holds, reference_holds};
 
-use crate::bytes::first_changed;
+use crate::bytes::has_bytes;
 use crate::loaded::LoadedRef;
-use crate::symbols::{names_no_strings, symbol_term};
-use wild_reloc::{RelocationKindInfo, RelocationSize, Subtrahend, Width, widths_of_fields};
+use crate::slots::{is_known, slot_term, stub_term};
+use crate::symbols::{answered_term, may_be_replaced, names_no_strings, symbol_term};
+use wild_records::abi::section::SHF_WRITE;
+use wild_reloc::{
+    RelocationKindInfo, RelocationSize, SlotSort, Subtrahend, Width, widths_of_fields,
+};
 use wild_terms::{Atom, Term, TermMemory};
 use wild_types::{File, InputRelocation, InputSection, Layout, SymbolIndex, row_of};
 use wild_words::put;
@@ -99,6 +103,23 @@ fn less(
     }
 }
 
+/// L: S where that is known, else the symbol's stub.
+fn branch_term(loaded: &LoadedRef, file: &File, relocation: &InputRelocation) -> Option<Term>
+    ensures { result ≡ branch_term (loaded_now loaded.now) file.now relocation.now }
+{
+    match referent_term(loaded, file, relocation.symbol) {
+        Some(x) => Some(x),
+        None => stub_term(loaded, file, relocation.symbol?),
+    }
+}
+
+/// G, for a slot of the symbol's address.
+fn slot_referent(loaded: &LoadedRef, file: &File, symbol: Option<SymbolIndex>) -> Option<Term>
+    ensures { result ≡ slot_referent (loaded_now loaded.now) file.now symbol }
+{
+    slot_term(loaded, file, symbol?)
+}
+
 /// The term of a formula, if its value is decided.
 fn term_less(
     loaded: &LoadedRef,
@@ -111,11 +132,13 @@ fn term_less(
 {
     match (term, subtrahend) {
         (wild_reloc::Term::Symbol, _) => referent_term(loaded, file, relocation.symbol),
-        (wild_reloc::Term::Stub, Subtrahend::Place) => {
-            referent_term(loaded, file, relocation.symbol)
+        (wild_reloc::Term::Stub, Subtrahend::Place) => branch_term(loaded, file, relocation),
+        (wild_reloc::Term::Stub, Subtrahend::GotBase) => branch_term(loaded, file, relocation),
+        (wild_reloc::Term::Slot(SlotSort::Address), Subtrahend::Place) => {
+            slot_referent(loaded, file, relocation.symbol)
         }
-        (wild_reloc::Term::Stub, Subtrahend::GotBase) => {
-            referent_term(loaded, file, relocation.symbol)
+        (wild_reloc::Term::Slot(SlotSort::Address), Subtrahend::GotBase) => {
+            slot_referent(loaded, file, relocation.symbol)
         }
         (wild_reloc::Term::GotBase, Subtrahend::Place) => Some(table_term(loaded)),
         _ => None,
@@ -143,6 +166,76 @@ fn value_by_parts(
     )
 }
 
+/// Whether a field has eight whole bytes.
+fn is_eight(size: RelocationSize) -> bool
+    ensures { result ≡ is_eight size }
+{
+    match size {
+        RelocationSize::ByteSize(Width::Eight) => true,
+        _ => false,
+    }
+}
+
+/// Whether nothing is subtracted.
+fn is_nothing(subtrahend: Subtrahend) -> bool
+    ensures { result ≡ is_nothing subtrahend }
+{
+    match subtrahend {
+        Subtrahend::Nothing => true,
+        _ => false,
+    }
+}
+
+/// Whether a term is S.
+fn is_symbol(term: wild_reloc::Term) -> bool
+    ensures { result ≡ is_symbol term }
+{
+    match term {
+        wild_reloc::Term::Symbol => true,
+        _ => false,
+    }
+}
+
+/// Whether a field has eight bytes of S + A, in a section that the program may write to.
+fn is_word(section: &InputSection, row: &RelocationKindInfo) -> bool
+    ensures { result ≡ is_word section.now row.now }
+{
+    section.flags / SHF_WRITE % 2 == 1
+        && is_eight(row.size)
+        && is_symbol(row.kind.expression().term)
+        && is_nothing(row.subtrahend())
+}
+
+/// The address in the answer for a symbol that another module may define and that is interposable.
+fn foreign_term(loaded: &LoadedRef, symbol: Option<SymbolIndex>) -> Option<Term>
+    ensures { result ≡ foreign_term (loaded_now loaded.now) symbol }
+{
+    let symbols = loaded.layout.symbols.as_slice();
+    let definition = symbols.get(loaded.layout.canonical(symbol?).0)?;
+    let flags = definition.flags;
+    if may_be_replaced(loaded.layout.kind, flags) && flags.is_interposable() {
+        answered_term(loaded.outline, definition)
+    } else {
+        None
+    }
+}
+
+/// S + A, from the world's answer, in a word that a loader fills.
+fn word_term(
+    loaded: &LoadedRef,
+    section: &InputSection,
+    relocation: &InputRelocation,
+    row: &RelocationKindInfo,
+) -> Option<Term>
+    ensures { result ≡ word_term (loaded_now loaded.now) section.now relocation.now row.now }
+{
+    if !is_word(section, row) {
+        return None;
+    }
+    let x = foreign_term(loaded, relocation.symbol)?;
+    Some(x.plus(addend(relocation)))
+}
+
 /// The value of the reference's formula.
 fn value_term(
     loaded: &LoadedRef,
@@ -154,16 +247,9 @@ fn value_term(
     ensures { result ≡ value_term (loaded_now loaded.now) file.now section.now relocation.now row.now }
 {
     let term = row.kind.expression().term;
-    value_by_parts(loaded, file, section, relocation, term, row.subtrahend())
-}
-
-/// Whether a field has eight whole bytes.
-fn is_eight(size: RelocationSize) -> bool
-    ensures { result ≡ is_eight size }
-{
-    match size {
-        RelocationSize::ByteSize(Width::Eight) => true,
-        _ => false,
+    match value_by_parts(loaded, file, section, relocation, term, row.subtrahend()) {
+        Some(x) => Some(x),
+        None => word_term(loaded, section, relocation, row),
     }
 }
 
@@ -207,17 +293,7 @@ fn number_holds(
     let place = section.address + relocation.offset;
     let old = &section.bytes.as_slice()[start..start + width];
     let field = written_field(row, value, old);
-    row.allows(value) && first_changed(memory, place, 0, &field[..width]).is_none()
-}
-
-/// Whether a term is known and is that one.
-fn is_term(known: Option<Term>, x: Term) -> bool
-    ensures { result ≡ is_term known x }
-{
-    match known {
-        Some(y) => y.is(x),
-        None => false,
-    }
+    row.allows(value) && has_bytes(memory, place, &field[..width])
 }
 
 /// Whether the field has a value. A term that depends on the world needs a field of 64 bits.
@@ -232,7 +308,7 @@ fn value_holds(
     ensures { result ≡ value_holds memory.now section.now relocation.now row.now x }
 {
     if is_whole(row) {
-        return is_term(memory.term(section.address + relocation.offset, 8), x);
+        return is_known(memory.term(section.address + relocation.offset, 8), x);
     }
     match x.atom {
         Atom::Zero => number_holds(memory, section, relocation, row, x.plus),

@@ -3,11 +3,11 @@ ghost use Rattle.std.specs.Prelude.{◌≡◌, Some, option_and_then};
 ghost use Rattle.wild_types.specs.Addresses.{address_in_section};
 ghost use Rattle.wild_meaning.specs.Value.{may_be_replaced};
 ghost use Rattle.wild_checker.specs.Loaded.{loaded_now};
-ghost use Rattle.wild_checker.specs.Symbols.{end_of_file, end_of_files, end_of_groups, are_ordered, in_file, address_by_place, raw_in, value_by, represents, is_plain, defined_term, symbol_term, is_no_merged, names_no_strings};
+ghost use Rattle.wild_checker.specs.Symbols.{end_of_file, end_of_files, end_of_groups, are_ordered, in_file, address_by_place, raw_in, value_by, represents, is_plain, defined_term, symbol_term, index_of, answer_term, loaded_term, is_no_merged, names_no_strings};
 
 use crate::loaded::LoadedRef;
 use wild_records::abi::symbol::STT_SECTION;
-use wild_terms::{Outline, Term};
+use wild_terms::{Atom, Outline, Term};
 use wild_types::{
     File, Group, InputSection, Layout, Machine, OutputKind, Place, Resolution, Slot, Symbol,
     SymbolIndex, ValueFlags, plt_of,
@@ -120,7 +120,7 @@ fn value_by(absolute: bool, outline: &Outline, address: u64) -> Term
 }
 
 /// Whether another module may define a symbol with these flags.
-fn may_be_replaced(kind: OutputKind, flags: ValueFlags) -> bool
+pub(crate) fn may_be_replaced(kind: OutputKind, flags: ValueFlags) -> bool
     ensures { result ≡ may_be_replaced kind flags }
 {
     let exported = flags.needs_export_dynamic() && flags.is_interposable();
@@ -173,6 +173,48 @@ pub(crate) fn symbol_term(loaded: &LoadedRef, file: &File, symbol: SymbolIndex) 
     let symbols = loaded.layout.symbols.as_slice();
     let definition = symbols.get(loaded.layout.canonical(symbol).0)?;
     defined_term(loaded, file, symbol, definition)
+}
+
+/// The address in the answer for a dynamic symbol.
+fn answer_term(outline: &Outline, index: Option<u64>) -> Option<Term>
+    ensures { result ≡ answer_term outline.now index }
+{
+    let index = index?;
+    if index < outline.symbols.len() as u64 && index < 1 << 32 {
+        Some(Term::atom(Atom::Address(index as u32)))
+    } else {
+        None
+    }
+}
+
+/// The address in the answer for a symbol, from its definition.
+pub(crate) fn answered_term(outline: &Outline, definition: &Symbol) -> Option<Term>
+    ensures { result ≡ answer_term outline.now (index_of definition.now.resolution) }
+{
+    match definition.resolution {
+        Some(resolution) => answer_term(outline, resolution.dynamic_symbol_index),
+        None => None,
+    }
+}
+
+/// A symbol's value, also where another module may define the symbol; none if a resolver computes it.
+pub(crate) fn loaded_term(
+    loaded: &LoadedRef,
+    file: &File,
+    symbol: SymbolIndex,
+    definition: &Symbol,
+) -> Option<Term>
+    ensures { result ≡ loaded_term (loaded_now loaded.now) file.now symbol definition.now }
+{
+    if may_be_replaced(loaded.layout.kind, definition.flags) {
+        return answered_term(loaded.outline, definition);
+    }
+    if definition.flags.is_ifunc() {
+        return None;
+    }
+    let address = raw_in(loaded, file, symbol, definition.resolution)?;
+    let absolute = definition.flags.is_absolute();
+    Some(value_by(absolute, loaded.outline, address))
 }
 
 /// Whether a place is in no section of merged strings.
