@@ -28,15 +28,15 @@ use Rattle.wild_meaning.specs.Field.{form_width, FieldReads}
 use Rattle.wild_terms.specs.declared.term.Atom.{Atom}
 use Rattle.wild_terms.specs.declared.term.Atom.TheVariants as atoms
 use Rattle.wild_terms.specs.declared.term.Term.{Term}
-use Rattle.wild_terms.specs.Terms.{same_term}
 use Rattle.wild_terms.specs.Values.{atom_value, value_of}
 use Rattle.wild_terms.specs.Laws.{Follows}
-use Rattle.wild_terms.specs.Symbolic.{Symbolic, known_byte, term_at}
-use Rattle.wild_terms.proofs.ValueLemmas.{same_terms}
+use Rattle.wild_terms.specs.Symbolic.{Symbolic, term_at}
 use Rattle.wild_references.specs.PlainLaws.{HasFormula}
-use Rattle.wild_checker.specs.Bytes.{first_changed}
-use Rattle.wild_checker.specs.References.{is_eight, is_whole, has_bytes, old_field, number_holds, is_term, holds_by, value_holds, is_inside}
-use Rattle.wild_checker.proofs.SiteLemmas.{no_change}
+use Rattle.wild_checker.specs.Bytes.{has_bytes}
+use Rattle.wild_checker.specs.Slots.{is_known}
+use Rattle.wild_checker.specs.References.{is_eight, is_whole, old_field, number_holds, holds_by, value_holds, is_inside}
+use Rattle.wild_checker.proofs.ByteLemmas.{bytes_held}
+use Rattle.wild_checker.proofs.SlotLemmas.{the_term}
 
 -- ---- where the field is
 
@@ -57,16 +57,6 @@ inside s r row h =
 pub record IsWritten (w : World) (m : Memory) (s : InputSection) (r : InputRelocation) (row : RelocationKindInfo) (v : ℕ) : Type 0 where
   pub allowed : allows row v ≡ true
   pub held : Holds m (w.base + (s.address + r.offset)) (written row v (old_field s r row))
-
-has_none : {X : Type 0} (o : Option X) → not (is_some o) ≡ true → o ≡ None
-has_none None h = refl
-has_none (Some x) h = cc
-
-pub bytes_held : (w : World) (m : Memory) (t : Symbolic) (a : ℕ) (bs : List ℕ) → Follows w t m → has_bytes t a bs ≡ true → Holds m (w.base + a) bs
-bytes_held w m t a bs follows h k l =
-    let known = no_change t a 0 bs (has_none (first_changed t a 0 bs) h) k l in
-    let e : w.base + (a + (0 + k)) ≡ w.base + a + k = omega arith in
-    ap (byte_in m) (sym e) ∙ follows.bytes (a + (0 + k)) (slice_index bs k) known
 
 -- a field of all 64 bits
 eight_written : (z : RelocationSize) (v : ℕ) (old : List ℕ) → is_eight z ≡ true → size_written z v old ≡ word 8 v
@@ -100,11 +90,6 @@ whole row h =
       any = λ v. and_from (is_aligned row.alignment v) (contains row.range v) (or_left (nat_le row.alignment 1) (v % row.alignment == 0) b.0) (in_range row.range v (eqb-true row.range.below (2 ^ 63) c.0) (eqb-true row.range.above (2 ^ 63) c.1));
     }
 
--- the term that memory has is the one that is looked for
-the_term : (o : Option Term) (x : Term) → is_term o x ≡ true → o ≡ Some x
-the_term None x h = cc
-the_term (Some y) x h = ap (λ (z : Term). Some z) (same_terms y x h)
-
 pub value_written : (w : World) (m : Memory) (t : Symbolic) (s : InputSection) (r : InputRelocation) (row : RelocationKindInfo) (x : Term) → Follows w t m → x.plus < 2 ^ 64 → value_holds t s r row x ≡ true → IsWritten w m s r row (value_of w x)
 value_written w m t s r row x follows low h = by (is_whole row) refl h
   where
@@ -115,7 +100,7 @@ value_written w m t s r row x follows low h = by (is_whole row) refl h
         subst (λ (n : ℕ). IsWritten w m s r row n) same (record { allowed = both.0; held = bytes_held w m t (s.address + r.offset) (written row x.plus (old_field s r row)) follows both.1 })
     by_number other h = cc
 
-    by : (b : Bool) → is_whole row ≡ b → (if b then is_term (term_at t (s.address + r.offset) 8) x else holds_by t s r row x.atom x.plus) ≡ true → IsWritten w m s r row (value_of w x)
+    by : (b : Bool) → is_whole row ≡ b → (if b then is_known (term_at t (s.address + r.offset) 8) x else holds_by t s r row x.atom x.plus) ≡ true → IsWritten w m s r row (value_of w x)
     by true e h =
         let all = whole row e in
         let held = follows.terms (s.address + r.offset) 8 x (omega arith) (the_term (term_at t (s.address + r.offset) 8) x h) in

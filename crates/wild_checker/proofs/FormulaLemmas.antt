@@ -1,38 +1,58 @@
 -- The term of a reference has the value of its formula.
-use Rattle.std.proofs.Common.{◌≡◌, ℕ, ◌+◌, ◌-◌, ◌*◌, ◌%◌, ◌^◌, ◌<◌, ◌≤◌, ◌⊎◌, inl, inr, Bool, true, false, refl, sym, ap, ◌∙◌, arith, subst}
-use Rattle.std.specs.Prelude.{Option, Some, None, if◌then◌else◌, ◌==◌, option_map, option_and_then}
-use Rattle.std.proofs.lemmas.Bool.{eqb-true}
+use Rattle.std.proofs.Common.{◌≡◌, ℕ, ◌+◌, ◌-◌, ◌*◌, ◌/◌, ◌%◌, ◌^◌, ◌<◌, ◌≤◌, ◌⊎◌, ◌&&◌, inl, inr, Bool, true, false, refl, sym, ap, ◌∙◌, arith, subst}
+use Rattle.std.specs.Prelude.{Option, Some, None, if◌then◌else◌, ◌==◌, not, slice_get, option_map, option_and_then}
+use Rattle.std.proofs.lemmas.Bool.{eqb-true, and_parts, not-true}
+use Rattle.wild_records.specs.Abi.Section.{shf_write}
+use Rattle.wild_reloc.specs.declared.expression.SlotSort.TheVariants as sorts
 use Rattle.wild_reloc.specs.declared.expression.Subtrahend.{Subtrahend}
 use Rattle.wild_reloc.specs.declared.expression.Subtrahend.TheVariants as subtrahend
 use Rattle.wild_reloc.specs.declared.expression.Term as expression
 use Rattle.wild_reloc.specs.declared.expression.Term.TheVariants as terms
+use Rattle.wild_reloc.specs.declared.info.RelocationKindInfo.{RelocationKindInfo}
 use Rattle.wild_reloc.specs.declared.info.RelocationSize.{RelocationSize}
 use Rattle.wild_reloc.specs.declared.info.RelocationSize.TheVariants.{ByteSize, BitMasking}
+use Rattle.wild_reloc.specs.declared.info.Width.TheVariants.{Zero, One, Two, Four, Eight}
 use Rattle.wild_reloc.specs.Agreement.{sized}
-use Rattle.wild_reloc.specs.Expression.{expressed}
-use Rattle.wild_reloc.specs.Formula.{Value, NoValue, SymbolAddress, SymbolPart, Distance, PageDistance, FromTable, StubDistance, StubFromTable, TableDistance}
+use Rattle.wild_reloc.specs.Expression.{expression_of, subtrahend_of, expressed}
+use Rattle.wild_reloc.specs.Field.{field_width, size_width}
+use Rattle.wild_reloc.specs.Formula.{Value, Formula, AddressSlot, SymbolAddress, SymbolPart, Distance, PageDistance, FromTable, StubDistance, StubFromTable, TableDistance, SlotDistance, SlotFromTable}
 use Rattle.wild_types.specs.declared.file.File.{File}
 use Rattle.wild_types.specs.declared.input.InputRelocation.{InputRelocation}
 use Rattle.wild_types.specs.declared.input.InputSection.{InputSection}
+use Rattle.wild_types.specs.declared.kind.Machine.{Machine}
+use Rattle.wild_types.specs.declared.kind.Machine.TheVariants as machine
 use Rattle.wild_types.specs.declared.layout.Layout.{Layout}
+use Rattle.wild_types.specs.declared.symbol.Symbol.{Symbol}
+use Rattle.wild_types.specs.Flags.{has_flag, non_interposable}
 use Rattle.wild_types.specs.Item.{Item}
-use Rattle.wild_types.specs.Lookups.{place_of}
+use Rattle.wild_types.specs.Lookups.{canonical, place_of}
 use Rattle.wild_loader.specs.declared.memory.Memory.{Memory}
 use Rattle.wild_loader.specs.declared.world.World.{World}
-use Rattle.wild_meaning.specs.Value.{IsReplaceable}
+use Rattle.wild_loader.specs.StepLawsX86_64.{StubsOfValuesAreRead}
+use Rattle.wild_meaning.specs.Value.{HasValue, HasFlag, IsReplaceable, may_be_replaced}
+use Rattle.wild_meaning.specs.Denotes.{Denotes}
+use Rattle.wild_meaning.specs.Slot.{IsSlot}
+use Rattle.wild_meaning.specs.Strings.{NamesStrings}
 use Rattle.wild_meaning.specs.Item.{place_at}
-use Rattle.wild_meaning.specs.Formula.{Gives, IsSum, TakesAddress, TakesOffset, table_at, page_of}
+use Rattle.wild_meaning.specs.Field.{form_width}
+use Rattle.wild_meaning.specs.Formula.{Gives, IsSum, IsTarget, IsReferent, IsReferentOnAArch64, IsSymbolAddress, TakesAddress, TakesOffset, table_at, page_of}
+use Rattle.wild_meaning.specs.Reference.{UsesOwnDefinition}
+use Rattle.wild_meaning.proofs.SymbolLemmas.{canonical_is, own_definition, referent_is}
 use Rattle.wild_terms.specs.declared.outline.Outline.{Outline}
 use Rattle.wild_terms.specs.declared.term.Atom.{Atom}
 use Rattle.wild_terms.specs.declared.term.Atom.TheVariants as atoms
 use Rattle.wild_terms.specs.declared.term.Term.{Term}
+use Rattle.wild_terms.specs.Laws.{Follows}
 use Rattle.wild_terms.specs.Terms.{number_term, sum, same_atom, difference}
 use Rattle.wild_terms.specs.Outline.{based}
 use Rattle.wild_terms.specs.Values.{atom_value, value_of, IsWorldOf}
 use Rattle.wild_terms.proofs.ValueLemmas.{based_is, sums_are, differences_are}
 use Rattle.wild_checker.specs.Loaded.{Loaded}
-use Rattle.wild_checker.specs.References.{referent_term, addend_of, place_term, table_term, distance_term, page_by, page_term, page_distance, less, term_less, value_by_parts}
-use Rattle.wild_checker.proofs.ValueLemmas.{Known, HasReferent, has_referent, referent, not_replaceable}
+use Rattle.wild_checker.specs.Search.{or_else}
+use Rattle.wild_checker.specs.Symbols.{index_of, answer_term}
+use Rattle.wild_checker.specs.References.{referent_term, stub_referent, branch_term, slot_referent, addend_of, place_term, table_term, distance_term, page_by, page_term, page_distance, less, term_less, value_by_parts, is_eight, is_nothing, is_symbol, is_word, foreign_by, foreign_term, word_term, value_term}
+use Rattle.wild_checker.proofs.SlotLemmas.{IsStubOf, slot_is, stub_is}
+use Rattle.wild_checker.proofs.ValueLemmas.{Known, HasReferent, has_referent, referent, not_replaceable, foreign_value, one_symbol}
 
 some_is : {X : Type 0} (x y : X) → (let o : Option X = Some x in o) ≡ Some y → x ≡ y
 some_is x y h = cc
@@ -42,8 +62,10 @@ some_is x y h = cc
 -- where the section is placed as its item, and the field is loaded
 pub record IsPlaced (k : Loaded) (w : World) (item : Item) (s : InputSection) (r : InputRelocation) : Type 0 where
   pub address : item.address ≡ s.address
+  pub flags : item.flags ≡ s.flags
   pub low : place_at w item r.offset < 2 ^ 64
   pub pages : k.layout.page_size % 4096 ≡ 0 → w.base % 4096 ≡ 0
+  pub stubs : StubsOfValuesAreRead
 
 abbrev plus_of : Term → ℕ
 plus_of t = t.plus
@@ -149,7 +171,7 @@ less_below k s r subtrahend.GotBase x z low h = distance_below x (table_term k) 
 less_below k s r subtrahend.PageOfPlace x z low h = page_distance_below k.layout x (place_term k s r) z h
 less_below k s r subtrahend.PageOfGot x z low h = cc
 
-pub parts_below : (k : Loaded) (f : File) (s : InputSection) (r : InputRelocation) (z : Term) (t : expression.Term) (u : Subtrahend) → value_by_parts k f s r t u ≡ Some z → z.plus < 2 ^ 64
+parts_below : (k : Loaded) (f : File) (s : InputSection) (r : InputRelocation) (z : Term) (t : expression.Term) (u : Subtrahend) → value_by_parts k f s r t u ≡ Some z → z.plus < 2 ^ 64
 parts_below k f s r z t u h = by (term_less k f r t u) h
   where
     by : (o : Option Term) → option_and_then (λ (x : Term). less k s r u (sum x (addend_of r))) o ≡ Some z → z.plus < 2 ^ 64
@@ -159,14 +181,41 @@ parts_below k f s r z t u h = by (term_less k f r t u) h
         reduced : (n : ℕ) → n % 2 ^ 64 < 2 ^ 64
         reduced n = omega arith
 
+pub term_below : (k : Loaded) (f : File) (s : InputSection) (r : InputRelocation) (row : RelocationKindInfo) (z : Term) → value_term k f s r row ≡ Some z → z.plus < 2 ^ 64
+term_below k f s r row z h = by (value_by_parts k f s r (expression_of row.kind).term (subtrahend_of row.kind row.mask)) refl h
+  where
+    reduced : (n : ℕ) → n % 2 ^ 64 < 2 ^ 64
+    reduced n = omega arith
+
+    by_answer : (o : Option Term) → option_map (λ x. sum x (addend_of r)) o ≡ Some z → z.plus < 2 ^ 64
+    by_answer None h = cc
+    by_answer (Some x) h = subst (λ (t : Term). t.plus < 2 ^ 64) (some_is (sum x (addend_of r)) z h) (reduced (x.plus + addend_of r))
+
+    by_word : (b : Bool) → (if b then option_map (λ x. sum x (addend_of r)) (foreign_term k r.symbol) else None) ≡ Some z → z.plus < 2 ^ 64
+    by_word false h = cc
+    by_word true h = by_answer (foreign_term k r.symbol) h
+
+    by : (o : Option Term) → value_by_parts k f s r (expression_of row.kind).term (subtrahend_of row.kind row.mask) ≡ o → or_else o (word_term k s r row) ≡ Some z → z.plus < 2 ^ 64
+    by None e h = by_word (is_word s row) h
+    by (Some x) e h = subst (λ (t : Term). t.plus < 2 ^ 64) (some_is x z h) (parts_below k f s r x (expression_of row.kind).term (subtrahend_of row.kind row.mask) e)
+
 -- ---- the value
 
--- the value of the formula; where the formula has the symbol's address, no other module may define the symbol
-pub record IsDecided (k : Loaded) (w : World) (m : Memory) (item : Item) (r : InputRelocation) (v : Value) (x : Term) : Type 0 where
+-- the value of the formula; the reference does not depend on the output's own definition of a symbol that another module may define
+pub record IsDecided (k : Loaded) (w : World) (m : Memory) (item : Item) (r : InputRelocation) (v : Value) (width : ℕ) (x : Term) : Type 0 where
   pub gives : Gives v k.layout w m item r (value_of w x)
-  pub own : (i : ℕ) → r.symbol ≡ Some i → TakesOffset v ⊎ TakesAddress v → IsReplaceable k.layout i true → ⊥
+  pub own : (f : Formula) → f.value ≡ v → form_width f.form ≡ width → (i : ℕ) → r.symbol ≡ Some i → UsesOwnDefinition k.layout item i f → IsReplaceable k.layout i true → ⊥
 
-module _ (k : Loaded) (f : File) (w : World) (m : Memory) (item : Item) (s : InputSection) (r : InputRelocation) (known : Known k f w) (placed : IsPlaced k w item s r) where
+-- what L is: S, or on x86-64 the symbol's stub
+pub data IsBranch (k : Loaded) (f : File) (w : World) (m : Memory) (r : InputRelocation) (t : Term) : Type 0 where
+  BySymbol : HasReferent k f r t → IsBranch k f w m r t
+  ByStub : (i : ℕ) → r.symbol ≡ Some i → IsStubOf k w m i (value_of w t) → IsBranch k f w m r t
+
+takes_by : (l : Layout) (item : Item) (i : ℕ) (f : Formula) → UsesOwnDefinition l item i f → TakesOffset f.value ⊎ TakesAddress f.value
+takes_by l item i f (inl h) = inl h
+takes_by l item i f (inr h) = inr h.0
+
+module _ (k : Loaded) (f : File) (w : World) (m : Memory) (item : Item) (s : InputSection) (r : InputRelocation) (width : ℕ) (known : Known k f w) (follows : Follows w k.memory m) (placed : IsPlaced k w item s r) where
   sum_is : (v : Value) (t : Term) → HasReferent k f r t → IsSum v k.layout w m item r (value_of w (sum t (addend_of r)))
   sum_is v t h = record { symbol = value_of w t; denoted = referent k f v w m item r t known h; sum = sums_are w t (addend_of r) }
 
@@ -188,8 +237,8 @@ module _ (k : Loaded) (f : File) (w : World) (m : Memory) (item : Item) (s : Inp
   by_page : (t x : Term) → page_distance k.layout (sum t (addend_of r)) (place_term k s r) ≡ Some x → IsNumber w x ((page_of (value_of w (sum t (addend_of r))) + (2 ^ 64 - page_of (place_at w item r.offset))) % 2 ^ 64)
   by_page t x h = subst (λ (n : ℕ). IsNumber w x ((page_of (value_of w (sum t (addend_of r))) + (2 ^ 64 - page_of n)) % 2 ^ 64)) (place_is k w item s r known.world placed) (page_distance_is k.layout w (sum t (addend_of r)) (place_term k s r) x placed.pages (sum_below t) place_below h)
 
-  none_own : (v : Value) (t : Term) → HasReferent k f r t → (i : ℕ) → r.symbol ≡ Some i → TakesOffset v ⊎ TakesAddress v → IsReplaceable k.layout i true → ⊥
-  none_own v t h i named takes x = not_replaceable k f r t i h named x
+  none_own : (v : Value) (t : Term) → HasReferent k f r t → (g : Formula) → g.value ≡ v → form_width g.form ≡ width → (i : ℕ) → r.symbol ≡ Some i → UsesOwnDefinition k.layout item i g → IsReplaceable k.layout i true → ⊥
+  none_own v t h g is wide i named takes x = not_replaceable k f r t i h named x
 
   added : (a b c x : ℕ) → x ≡ ((a + b) % 2 ^ 64 + c) % 2 ^ 64 → x ≡ (a + b + c) % 2 ^ 64
   added a b c x e = omega (arith, e)
@@ -198,36 +247,78 @@ module _ (k : Loaded) (f : File) (w : World) (m : Memory) (item : Item) (s : Inp
   stub_number : (t x : Term) (n : ℕ) → IsNumber w x ((value_of w (sum t (addend_of r)) + n) % 2 ^ 64) → value_of w x ≡ (value_of w t + addend_of r + n) % 2 ^ 64
   stub_number t x n h = added (value_of w t) (addend_of r) n (value_of w x) (h.is ∙ ap (λ (y : ℕ). (y + n) % 2 ^ 64) (sums_are w t (addend_of r)))
 
-  address_by : (z : RelocationSize) (t : Term) → HasReferent k f r t → IsDecided k w m item r (sized z SymbolAddress) (sum t (addend_of r))
+  address_by : (z : RelocationSize) (t : Term) → HasReferent k f r t → IsDecided k w m item r (sized z SymbolAddress) width (sum t (addend_of r))
   address_by (ByteSize n) t h = record { gives = sum_is SymbolAddress t h; own = none_own SymbolAddress t h }
   address_by (BitMasking b) t h = record { gives = sum_is SymbolPart t h; own = none_own SymbolPart t h }
 
-  distance_by : (z : RelocationSize) (t x : Term) → HasReferent k f r t → distance_term (sum t (addend_of r)) (place_term k s r) ≡ Some x → IsDecided k w m item r (sized z Distance) x
+  distance_by : (z : RelocationSize) (t x : Term) → HasReferent k f r t → distance_term (sum t (addend_of r)) (place_term k s r) ≡ Some x → IsDecided k w m item r (sized z Distance) width x
   distance_by (ByteSize n) t x h e = (let b = by_place t x e in record { gives = (value_of w (sum t (addend_of r)), sum_is Distance t h, b.is); own = none_own Distance t h })
   distance_by (BitMasking n) t x h e = (let b = by_place t x e in record { gives = (value_of w (sum t (addend_of r)), sum_is Distance t h, b.is); own = none_own Distance t h })
 
-  table_by : (z : RelocationSize) (t x : Term) → HasReferent k f r t → distance_term (sum t (addend_of r)) (table_term k) ≡ Some x → IsDecided k w m item r (sized z FromTable) x
+  table_by : (z : RelocationSize) (t x : Term) → HasReferent k f r t → distance_term (sum t (addend_of r)) (table_term k) ≡ Some x → IsDecided k w m item r (sized z FromTable) width x
   table_by (ByteSize n) t x h e = (let b = by_table t x e in record { gives = (value_of w (sum t (addend_of r)), sum_is FromTable t h, b.is); own = none_own FromTable t h })
   table_by (BitMasking n) t x h e = (let b = by_table t x e in record { gives = (value_of w (sum t (addend_of r)), sum_is FromTable t h, b.is); own = none_own FromTable t h })
 
-  page_by_size : (z : RelocationSize) (t x : Term) → HasReferent k f r t → page_distance k.layout (sum t (addend_of r)) (place_term k s r) ≡ Some x → IsDecided k w m item r (sized z PageDistance) x
+  page_by_size : (z : RelocationSize) (t x : Term) → HasReferent k f r t → page_distance k.layout (sum t (addend_of r)) (place_term k s r) ≡ Some x → IsDecided k w m item r (sized z PageDistance) width x
   page_by_size (ByteSize n) t x h e = (let b = by_page t x e in record { gives = (value_of w (sum t (addend_of r)), sum_is PageDistance t h, b.is); own = none_own PageDistance t h })
   page_by_size (BitMasking n) t x h e = (let b = by_page t x e in record { gives = (value_of w (sum t (addend_of r)), sum_is PageDistance t h, b.is); own = none_own PageDistance t h })
 
-  no_address : (v : Value) → (TakesOffset v → ⊥) → (TakesAddress v → ⊥) → (i : ℕ) → r.symbol ≡ Some i → TakesOffset v ⊎ TakesAddress v → IsReplaceable k.layout i true → ⊥
-  no_address v none-offset none-address i named (inl x) y = none-offset x
-  no_address v none-offset none-address i named (inr x) y = none-address x
+  no_address : (v : Value) → (TakesOffset v → ⊥) → (TakesAddress v → ⊥) → (g : Formula) → g.value ≡ v → form_width g.form ≡ width → (i : ℕ) → r.symbol ≡ Some i → UsesOwnDefinition k.layout item i g → IsReplaceable k.layout i true → ⊥
+  no_address v none-offset none-address g is wide i named takes y = by (takes_by k.layout item i g takes)
+    where
+      by : TakesOffset g.value ⊎ TakesAddress g.value → ⊥
+      by (inl x) = none-offset (subst TakesOffset is x)
+      by (inr x) = none-address (subst TakesAddress is x)
 
-  stub_by : (z : RelocationSize) (t x : Term) → HasReferent k f r t → distance_term (sum t (addend_of r)) (place_term k s r) ≡ Some x → IsDecided k w m item r (sized z StubDistance) x
-  stub_by (ByteSize n) t x h e = (let b = by_place t x e in record { gives = (value_of w t, referent k f StubDistance w m item r t known h, stub_number t x (2 ^ 64 - place_at w item r.offset) b); own = no_address StubDistance (λ q. q) (λ q. q) })
-  stub_by (BitMasking n) t x h e = (let b = by_place t x e in record { gives = (value_of w t, referent k f StubDistance w m item r t known h, stub_number t x (2 ^ 64 - place_at w item r.offset) b); own = no_address StubDistance (λ q. q) (λ q. q) })
+  -- L
+  branch_is : (v : Value) (t : Term) → (v ≡ StubDistance) ⊎ (v ≡ StubFromTable) → IsBranch k f w m r t → IsReferent k.layout.machine v k.layout w m item r (value_of w t)
+  branch_is v t one (BySymbol h) = referent k f v w m item r t known h
+  branch_is v t one (ByStub i named s) = subst (λ (x : Machine). IsReferent x v k.layout w m item r (value_of w t)) (sym s.on) (by_value one)
+    where
+      there : Denotes k.layout w m i (value_of w t)
+      there = inr s.stub
 
-  stub_table_by : (z : RelocationSize) (t x : Term) → HasReferent k f r t → distance_term (sum t (addend_of r)) (table_term k) ≡ Some x → IsDecided k w m item r (sized z StubFromTable) x
-  stub_table_by (ByteSize n) t x h e = (let b = by_table t x e in record { gives = (value_of w t, referent k f StubFromTable w m item r t known h, stub_number t x (2 ^ 64 - table_at k.layout w) b); own = no_address StubFromTable (λ q. q) (λ q. q) })
-  stub_table_by (BitMasking n) t x h e = (let b = by_table t x e in record { gives = (value_of w t, referent k f StubFromTable w m item r t known h, stub_number t x (2 ^ 64 - table_at k.layout w) b); own = no_address StubFromTable (λ q. q) (λ q. q) })
+      by_value : (v ≡ StubDistance) ⊎ (v ≡ StubFromTable) → IsReferent machine.X86_64 v k.layout w m item r (value_of w t)
+      by_value (inl e) = subst (λ (x : Value). IsReferent machine.X86_64 x k.layout w m item r (value_of w t)) (sym e) (inr ((λ q. q.0), subst (λ (o : Option ℕ). IsTarget k.layout w m o (value_of w t)) (sym named) there))
+      by_value (inr e) = subst (λ (x : Value). IsReferent machine.X86_64 x k.layout w m item r (value_of w t)) (sym e) (inr ((λ q. q.0), subst (λ (o : Option ℕ). IsTarget k.layout w m o (value_of w t)) (sym named) there))
+
+  has_branch : (t : Term) → branch_term k f r ≡ Some t → IsBranch k f w m r t
+  has_branch t h = by (referent_term k f r.symbol) refl h
+    where
+      by_symbol : (o : Option ℕ) → r.symbol ≡ o → stub_referent k f o ≡ Some t → IsBranch k f w m r t
+      by_symbol None e h = cc
+      by_symbol (Some i) e h = ByStub i e (stub_is k f w m i t placed.stubs known follows h)
+
+      by : (o : Option Term) → referent_term k f r.symbol ≡ o → or_else o (stub_referent k f r.symbol) ≡ Some t → IsBranch k f w m r t
+      by None e h = by_symbol r.symbol refl h
+      by (Some x) e h = BySymbol (has_referent k f r t (e ∙ h))
+
+  stub_by : (z : RelocationSize) (t x : Term) → IsBranch k f w m r t → distance_term (sum t (addend_of r)) (place_term k s r) ≡ Some x → IsDecided k w m item r (sized z StubDistance) width x
+  stub_by (ByteSize n) t x h e = (let b = by_place t x e in record { gives = (value_of w t, branch_is StubDistance t (inl refl) h, stub_number t x (2 ^ 64 - place_at w item r.offset) b); own = no_address StubDistance (λ q. q) (λ q. q) })
+  stub_by (BitMasking n) t x h e = (let b = by_place t x e in record { gives = (value_of w t, branch_is StubDistance t (inl refl) h, stub_number t x (2 ^ 64 - place_at w item r.offset) b); own = no_address StubDistance (λ q. q) (λ q. q) })
+
+  stub_table_by : (z : RelocationSize) (t x : Term) → IsBranch k f w m r t → distance_term (sum t (addend_of r)) (table_term k) ≡ Some x → IsDecided k w m item r (sized z StubFromTable) width x
+  stub_table_by (ByteSize n) t x h e = (let b = by_table t x e in record { gives = (value_of w t, branch_is StubFromTable t (inr refl) h, stub_number t x (2 ^ 64 - table_at k.layout w) b); own = no_address StubFromTable (λ q. q) (λ q. q) })
+  stub_table_by (BitMasking n) t x h e = (let b = by_table t x e in record { gives = (value_of w t, branch_is StubFromTable t (inr refl) h, stub_number t x (2 ^ 64 - table_at k.layout w) b); own = no_address StubFromTable (λ q. q) (λ q. q) })
+
+  -- G
+  slot_here : (t : Term) → slot_referent k f r.symbol ≡ Some t → IsSlot AddressSlot k.layout w m r.symbol (value_of w t)
+  slot_here t h = by r.symbol refl h
+    where
+      by : (o : Option ℕ) → r.symbol ≡ o → slot_referent k f o ≡ Some t → IsSlot AddressSlot k.layout w m r.symbol (value_of w t)
+      by None e h = cc
+      by (Some i) e h = subst (λ (o : Option ℕ). IsSlot AddressSlot k.layout w m o (value_of w t)) (sym e) (slot_is k f w m i t known follows h)
+
+  slot_by_place : (z : RelocationSize) (t x : Term) → slot_referent k f r.symbol ≡ Some t → distance_term (sum t (addend_of r)) (place_term k s r) ≡ Some x → IsDecided k w m item r (sized z (SlotDistance AddressSlot)) width x
+  slot_by_place (ByteSize n) t x h e = (let b = by_place t x e in record { gives = (value_of w t, slot_here t h, stub_number t x (2 ^ 64 - place_at w item r.offset) b); own = no_address (SlotDistance AddressSlot) (λ q. q) (λ q. q) })
+  slot_by_place (BitMasking n) t x h e = (let b = by_place t x e in record { gives = (value_of w t, slot_here t h, stub_number t x (2 ^ 64 - place_at w item r.offset) b); own = no_address (SlotDistance AddressSlot) (λ q. q) (λ q. q) })
+
+  slot_by_table : (z : RelocationSize) (t x : Term) → slot_referent k f r.symbol ≡ Some t → distance_term (sum t (addend_of r)) (table_term k) ≡ Some x → IsDecided k w m item r (sized z SlotFromTable) width x
+  slot_by_table (ByteSize n) t x h e = (let b = by_table t x e in record { gives = (value_of w t, slot_here t h, stub_number t x (2 ^ 64 - table_at k.layout w) b); own = no_address SlotFromTable (λ q. q) (λ q. q) })
+  slot_by_table (BitMasking n) t x h e = (let b = by_table t x e in record { gives = (value_of w t, slot_here t h, stub_number t x (2 ^ 64 - table_at k.layout w) b); own = no_address SlotFromTable (λ q. q) (λ q. q) })
 
   -- GOT + A - P
-  got_by : (z : RelocationSize) (x : Term) → distance_term (sum (table_term k) (addend_of r)) (place_term k s r) ≡ Some x → IsDecided k w m item r (sized z TableDistance) x
+  got_by : (z : RelocationSize) (x : Term) → distance_term (sum (table_term k) (addend_of r)) (place_term k s r) ≡ Some x → IsDecided k w m item r (sized z TableDistance) width x
   got_by z x e = by_size z
     where
       b : IsNumber w x ((value_of w (sum (table_term k) (addend_of r)) + (2 ^ 64 - place_at w item r.offset)) % 2 ^ 64)
@@ -236,7 +327,7 @@ module _ (k : Loaded) (f : File) (w : World) (m : Memory) (item : Item) (s : Inp
       number : value_of w x ≡ (table_at k.layout w + addend_of r + (2 ^ 64 - place_at w item r.offset)) % 2 ^ 64
       number = stub_number (table_term k) x (2 ^ 64 - place_at w item r.offset) b ∙ ap (λ (n : ℕ). (n + addend_of r + (2 ^ 64 - place_at w item r.offset)) % 2 ^ 64) (table_is k w known.world)
 
-      by_size : (z : RelocationSize) → IsDecided k w m item r (sized z TableDistance) x
+      by_size : (z : RelocationSize) → IsDecided k w m item r (sized z TableDistance) width x
       by_size (ByteSize n) = record { gives = number; own = no_address TableDistance (λ q. q) (λ q. q) }
       by_size (BitMasking n) = record { gives = number; own = no_address TableDistance (λ q. q) (λ q. q) }
 
@@ -253,14 +344,14 @@ module _ (k : Loaded) (f : File) (w : World) (m : Memory) (item : Item) (s : Inp
       by None e h = cc
       by (Some y) e h = record { term = y; is = e; made = h }
 
-  decided_by : (z : RelocationSize) (x : Term) (t : expression.Term) (u : Subtrahend) → HasParts x t u → IsDecided k w m item r (sized z (expressed t u)) x
-  decided_by z x terms.Symbol subtrahend.Nothing p = subst (IsDecided k w m item r (sized z SymbolAddress)) (some_is (sum p.term (addend_of r)) x p.made) (address_by z p.term (has_referent k f r p.term p.is))
+  decided_by : (z : RelocationSize) (x : Term) (t : expression.Term) (u : Subtrahend) → HasParts x t u → IsDecided k w m item r (sized z (expressed t u)) width x
+  decided_by z x terms.Symbol subtrahend.Nothing p = subst (IsDecided k w m item r (sized z SymbolAddress) width) (some_is (sum p.term (addend_of r)) x p.made) (address_by z p.term (has_referent k f r p.term p.is))
   decided_by z x terms.Symbol subtrahend.Place p = distance_by z p.term x (has_referent k f r p.term p.is) p.made
   decided_by z x terms.Symbol subtrahend.GotBase p = table_by z p.term x (has_referent k f r p.term p.is) p.made
   decided_by z x terms.Symbol subtrahend.PageOfPlace p = page_by_size z p.term x (has_referent k f r p.term p.is) p.made
   decided_by z x terms.Symbol subtrahend.PageOfGot p = (let e = p.made in cc)
-  decided_by z x terms.Stub subtrahend.Place p = stub_by z p.term x (has_referent k f r p.term p.is) p.made
-  decided_by z x terms.Stub subtrahend.GotBase p = stub_table_by z p.term x (has_referent k f r p.term p.is) p.made
+  decided_by z x terms.Stub subtrahend.Place p = stub_by z p.term x (has_branch p.term p.is) p.made
+  decided_by z x terms.Stub subtrahend.GotBase p = stub_table_by z p.term x (has_branch p.term p.is) p.made
   decided_by z x terms.Stub subtrahend.Nothing p = (let e = p.is in cc)
   decided_by z x terms.Stub subtrahend.PageOfPlace p = (let e = p.is in cc)
   decided_by z x terms.Stub subtrahend.PageOfGot p = (let e = p.is in cc)
@@ -272,10 +363,126 @@ module _ (k : Loaded) (f : File) (w : World) (m : Memory) (item : Item) (s : Inp
   decided_by z x terms.GotBase subtrahend.PageOfPlace p = (let e = p.is in cc)
   decided_by z x terms.GotBase subtrahend.PageOfGot p = (let e = p.is in cc)
   decided_by z x terms.Nothing u p = (let e = p.is in cc)
-  decided_by z x (terms.Slot sort) u p = (let e = p.is in cc)
+  decided_by z x (terms.Slot sorts.Address) subtrahend.Place p = slot_by_place z p.term x p.is p.made
+  decided_by z x (terms.Slot sorts.Address) subtrahend.GotBase p = slot_by_table z p.term x p.is p.made
+  decided_by z x (terms.Slot sorts.Address) subtrahend.Nothing p = (let e = p.is in cc)
+  decided_by z x (terms.Slot sorts.Address) subtrahend.PageOfPlace p = (let e = p.is in cc)
+  decided_by z x (terms.Slot sorts.Address) subtrahend.PageOfGot p = (let e = p.is in cc)
+  decided_by z x (terms.Slot sorts.TlsGd) u p = (let e = p.is in cc)
+  decided_by z x (terms.Slot sorts.TlsLd) u p = (let e = p.is in cc)
+  decided_by z x (terms.Slot sorts.TpOff) u p = (let e = p.is in cc)
+  decided_by z x (terms.Slot sorts.TlsDesc) u p = (let e = p.is in cc)
   decided_by z x terms.Size u p = (let e = p.is in cc)
   decided_by z x terms.PointerOffset u p = (let e = p.is in cc)
   decided_by z x terms.ModuleOffset u p = (let e = p.is in cc)
 
-  pub decided : (z : RelocationSize) (x : Term) (t : expression.Term) (u : Subtrahend) → value_by_parts k f s r t u ≡ Some x → IsDecided k w m item r (sized z (expressed t u)) x
-  decided z x t u h = decided_by z x t u (has_parts x t u h)
+  -- ---- words that a loader fills
+
+  record IsForeign (t : Term) : Type 0 where
+    symbol : ℕ
+    named : r.symbol ≡ Some symbol
+    definition : Symbol
+    there : slice_get k.layout.symbols (canonical k.layout symbol) ≡ Some definition
+    replaced : may_be_replaced k.layout.kind definition.flags ≡ true
+    interposable : has_flag definition.flags non_interposable ≡ false
+    is : answer_term k.outline (index_of definition.resolution) ≡ Some t
+
+  is_foreign : (t : Term) → foreign_term k r.symbol ≡ Some t → IsForeign t
+  is_foreign t h = by r.symbol refl h
+    where
+      by_test : (i : ℕ) → r.symbol ≡ Some i → (d : Symbol) → slice_get k.layout.symbols (canonical k.layout i) ≡ Some d → (b : Bool) → (may_be_replaced k.layout.kind d.flags && not (has_flag d.flags non_interposable)) ≡ b → (if b then answer_term k.outline (index_of d.resolution) else None) ≡ Some t → IsForeign t
+      by_test i e d there false test h = cc
+      by_test i e d there true test h =
+          let both = and_parts (may_be_replaced k.layout.kind d.flags) (not (has_flag d.flags non_interposable)) test in
+          record { symbol = i; named = e; definition = d; there = there; replaced = both.0; interposable = not-true (has_flag d.flags non_interposable) both.1; is = h }
+
+      by_definition : (i : ℕ) → r.symbol ≡ Some i → (o : Option Symbol) → slice_get k.layout.symbols (canonical k.layout i) ≡ o → foreign_by k o ≡ Some t → IsForeign t
+      by_definition i e None there h = cc
+      by_definition i e (Some d) there h = by_test i e d there (may_be_replaced k.layout.kind d.flags && not (has_flag d.flags non_interposable)) refl h
+
+      by : (o : Option ℕ) → r.symbol ≡ o → foreign_term k o ≡ Some t → IsForeign t
+      by None e h = cc
+      by (Some i) e h = by_definition i e (slice_get k.layout.symbols (canonical k.layout i)) refl h
+
+  foreign_referent : (t : Term) → IsForeign t → IsReferent k.layout.machine SymbolAddress k.layout w m item r (value_of w t)
+  foreign_referent t h = by k.layout.machine refl
+    where
+      value : HasValue k.layout w h.symbol (value_of w t)
+      value = foreign_value k w h.symbol h.definition t known.world h.there h.replaced h.is
+
+      none : NamesStrings k.layout r → ⊥
+      none s =
+          let same : s.symbol ≡ h.symbol = (let both : Some s.symbol ≡ Some h.symbol = sym s.named ∙ h.named in some_is s.symbol h.symbol both) in
+          let own = s.has.plain.own in
+          let listed = subst (λ (x : ℕ). canonical k.layout x ≡ own.definition) same (canonical_is k.layout s.symbol own.definition own.defined) in
+          let one = one_symbol k.layout h.symbol own.definition h.definition own.symbol h.there listed own.listed in
+          let on : has_flag h.definition.flags non_interposable ≡ true = subst (λ (x : Symbol). has_flag x.flags non_interposable ≡ true) one own.flagged in
+          let off = h.interposable in
+          let both : true ≡ false = sym on ∙ off in
+          cc
+
+      by : (x : Machine) → k.layout.machine ≡ x → IsReferent k.layout.machine SymbolAddress k.layout w m item r (value_of w t)
+      by machine.X86_64 on = referent_is SymbolAddress k.layout w m item r (value_of w t) on (λ s. none s.1) (subst (λ (o : Option ℕ). IsSymbolAddress k.layout w m o (value_of w t)) (sym h.named) (inl value))
+      by machine.AArch64 on =
+          subst (λ (x : Machine). IsReferent x SymbolAddress k.layout w m item r (value_of w t)) (sym on)
+          (inr ((λ s. none s.1), subst (λ (o : Option ℕ). IsReferentOnAArch64 SymbolAddress k.layout w m item r o (value_of w t)) (sym h.named) (inr ((λ u. u.0), inl value))))
+
+  eight_by : (z : RelocationSize) → is_eight z ≡ true → z ≡ ByteSize Eight
+  eight_by (ByteSize Zero) h = cc
+  eight_by (ByteSize One) h = cc
+  eight_by (ByteSize Two) h = cc
+  eight_by (ByteSize Four) h = cc
+  eight_by (ByteSize Eight) h = refl
+  eight_by (BitMasking b) h = cc
+
+  symbol_by : (t : expression.Term) → is_symbol t ≡ true → t ≡ terms.Symbol
+  symbol_by terms.Symbol h = refl
+  symbol_by other h = cc
+
+  nothing_by : (u : Subtrahend) → is_nothing u ≡ true → u ≡ subtrahend.Nothing
+  nothing_by subtrahend.Nothing h = refl
+  nothing_by other h = cc
+
+  foreign_decided : (t : Term) → width ≡ 8 → s.flags / shf_write % 2 ≡ 1 → IsForeign t → IsDecided k w m item r SymbolAddress width (sum t (addend_of r))
+  foreign_decided t eight writable h = record {
+    gives = record { symbol = value_of w t; denoted = foreign_referent t h; sum = sums_are w t (addend_of r) };
+    own = no_own;
+  }
+    where
+      no_own : (g : Formula) → g.value ≡ SymbolAddress → form_width g.form ≡ width → (i : ℕ) → r.symbol ≡ Some i → UsesOwnDefinition k.layout item i g → IsReplaceable k.layout i true → ⊥
+      no_own g is wide i named (inl takes) x = subst TakesOffset is takes
+      no_own g is wide i named (inr takes) x =
+          let same : h.symbol ≡ i = (let both : Some h.symbol ≡ Some i = sym h.named ∙ named in some_is h.symbol i both) in
+          let flag : HasFlag k.layout h.symbol non_interposable false = record { definition = canonical k.layout h.symbol; defined = own_definition k.layout h.symbol h.definition h.there; symbol = h.definition; listed = h.there; flagged = h.interposable } in
+          takes.1 (record {
+            writable = ap (λ (n : ℕ). n / shf_write % 2) placed.flags ∙ writable;
+            interposable = subst (λ (y : ℕ). HasFlag k.layout y non_interposable false) same flag;
+            value = is;
+            wide = wide ∙ eight;
+          })
+
+  -- ---- both
+
+  pub decided : (row : RelocationKindInfo) (x : Term) → width ≡ field_width row → value_term k f s r row ≡ Some x → IsDecided k w m item r (sized row.size (expressed (expression_of row.kind).term (subtrahend_of row.kind row.mask))) width x
+  decided row x wide h = by (value_by_parts k f s r (expression_of row.kind).term (subtrahend_of row.kind row.mask)) refl h
+    where
+      by_answer : (is_word s row) ≡ true → (o : Option Term) → foreign_term k r.symbol ≡ o → option_map (λ y. sum y (addend_of r)) o ≡ Some x → IsDecided k w m item r (sized row.size (expressed (expression_of row.kind).term (subtrahend_of row.kind row.mask))) width x
+      by_answer test None e h = cc
+      by_answer test (Some y) e h =
+          let a = and_parts (s.flags / shf_write % 2 == 1) (is_eight row.size && (is_symbol (expression_of row.kind).term && is_nothing (subtrahend_of row.kind row.mask))) test in
+          let b = and_parts (is_eight row.size) (is_symbol (expression_of row.kind).term && is_nothing (subtrahend_of row.kind row.mask)) a.1 in
+          let c = and_parts (is_symbol (expression_of row.kind).term) (is_nothing (subtrahend_of row.kind row.mask)) b.1 in
+          let size = eight_by row.size b.0 in
+          let term = symbol_by (expression_of row.kind).term c.0 in
+          let less = nothing_by (subtrahend_of row.kind row.mask) c.1 in
+          let eight : width ≡ 8 = wide ∙ ap size_width size in
+          let is : SymbolAddress ≡ sized row.size (expressed (expression_of row.kind).term (subtrahend_of row.kind row.mask)) = sym (ap (λ (z : RelocationSize). sized z (expressed (expression_of row.kind).term (subtrahend_of row.kind row.mask))) size ∙ ap (λ (y : expression.Term). sized (ByteSize Eight) (expressed y (subtrahend_of row.kind row.mask))) term ∙ ap (λ (y : Subtrahend). sized (ByteSize Eight) (expressed terms.Symbol y)) less) in
+          subst (λ (v : Value). IsDecided k w m item r v width x) is (subst (IsDecided k w m item r SymbolAddress width) (some_is (sum y (addend_of r)) x h) (foreign_decided y eight (eqb-true (s.flags / shf_write % 2) 1 a.0) (is_foreign y e)))
+
+      by_word : (b : Bool) → is_word s row ≡ b → (if b then option_map (λ y. sum y (addend_of r)) (foreign_term k r.symbol) else None) ≡ Some x → IsDecided k w m item r (sized row.size (expressed (expression_of row.kind).term (subtrahend_of row.kind row.mask))) width x
+      by_word false e h = cc
+      by_word true e h = by_answer e (foreign_term k r.symbol) refl h
+
+      by : (o : Option Term) → value_by_parts k f s r (expression_of row.kind).term (subtrahend_of row.kind row.mask) ≡ o → or_else o (word_term k s r row) ≡ Some x → IsDecided k w m item r (sized row.size (expressed (expression_of row.kind).term (subtrahend_of row.kind row.mask))) width x
+      by None e h = by_word (is_word s row) refl h
+      by (Some y) e h = decided_by row.size x (expression_of row.kind).term (subtrahend_of row.kind row.mask) (has_parts x (expression_of row.kind).term (subtrahend_of row.kind row.mask) (e ∙ h))

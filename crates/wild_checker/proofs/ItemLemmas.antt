@@ -6,6 +6,7 @@ use Rattle.std.proofs.lemmas.List.Elements.{All-contains, All-take, All-drop}
 use Rattle.wild_records.specs.Abi.Relocation.{r_x86_64_none}
 use Rattle.wild_reloc.specs.declared.info.RelocationKindInfo.{RelocationKindInfo}
 use Rattle.wild_reloc.specs.Agreement.{WidthsHold}
+use Rattle.wild_reloc.specs.Field.{field_width}
 use Rattle.wild_reloc.specs.Expression.{expression_of, subtrahend_of}
 use Rattle.wild_reloc.specs.Formula.{Value, Formula}
 use Rattle.wild_types.specs.declared.file.File.{File}
@@ -20,6 +21,7 @@ use Rattle.wild_layout.specs.Numbers.{NumbersFit, InputNumbers}
 use Rattle.wild_loader.specs.declared.memory.Memory.{Memory}
 use Rattle.wild_loader.specs.declared.world.World.{World}
 use Rattle.wild_loader.specs.Memory.{byte_in}
+use Rattle.wild_loader.specs.StepLawsX86_64.{StubsOfValuesAreRead}
 use Rattle.wild_meaning.specs.Item.{place_at, IsReference}
 use Rattle.wild_meaning.specs.Field.{formula_of, form_width, InNoField, IsInputByte}
 use Rattle.wild_meaning.specs.Formula.{Gives, TakesAddress, TakesOffset}
@@ -36,7 +38,7 @@ use Rattle.wild_checker.specs.Bytes.{changed_gap}
 use Rattle.wild_checker.specs.References.{old_field, value_term, value_holds, is_inside, field_holds, holds_by_row, reference_holds}
 use Rattle.wild_checker.specs.Sections.{is_settled, first_doubt}
 use Rattle.wild_checker.proofs.FieldLemmas.{IsInside, inside, IsWritten, value_written, low_place, field_reads}
-use Rattle.wild_checker.proofs.FormulaLemmas.{IsPlaced, decided, parts_below}
+use Rattle.wild_checker.proofs.FormulaLemmas.{IsPlaced, decided, term_below}
 use Rattle.wild_checker.proofs.SiteLemmas.{IsBeside, gap_known, no_doubt}
 use Rattle.wild_checker.proofs.ValueLemmas.{Known}
 
@@ -46,10 +48,12 @@ pub record Laws : Type 0 where
   pub rows : RowsHaveFormulas
   pub widths : WidthsHold
   pub instructions : PlainInstructionsDo
+  pub stubs : StubsOfValuesAreRead
 
 -- a section of the layout as its item, in a memory that follows the terms
 pub record IsItem (k : Loaded) (f : File) (w : World) (m : Memory) (item : Item) (s : InputSection) : Type 0 where
   pub address : item.address ≡ s.address
+  pub flags : item.flags ≡ s.flags
   pub bytes : item.bytes ≡ s.bytes
   pub relocations : item.relocations ≡ s.relocations
   pub small : InputNumbers s
@@ -86,21 +90,17 @@ record IsRight (k : Loaded) (w : World) (m : Memory) (item : Item) (r : InputRel
   field : FieldHolds k.layout w m item r
   own : UsesOwnSymbolOnly k.layout item r → ⊥
 
-takes_by : (l : Layout) (item : Item) (i : ℕ) (f : Formula) → UsesOwnDefinition l item i f → TakesOffset f.value ⊎ TakesAddress f.value
-takes_by l item i f (inl h) = inl h
-takes_by l item i f (inr h) = inr h.0
-
 right : (k : Loaded) (f : File) (w : World) (m : Memory) (item : Item) (s : InputSection) (r : InputRelocation) → Laws → IsItem k f w m item s → reference_holds k f s r ≡ true → IsRight k w m item r
 right k f w m item s r laws n h =
     let c = found k f s r h in
     let p = inside s r c.row c.place in
     let formula = laws.rows k.layout.machine r.number c.row c.is in
-    let below = parts_below k f s r c.value (expression_of c.row.kind).term (subtrahend_of c.row.kind c.row.mask) c.known in
+    let below = term_below k f s r c.row c.value c.known in
     let written = value_written w m k.memory s r c.row c.value n.follows below c.holds in
     let low = low_place w m s r c.row (value_of w c.value) laws.widths p written in
     let address = n.address in
-    let placed : IsPlaced k w item s r = record { address = address; low = omega (arith, low, address); pages = n.pages } in
-    let d = decided k f w m item s r n.known placed c.row.size c.value (expression_of c.row.kind).term (subtrahend_of c.row.kind c.row.mask) c.known in
+    let placed : IsPlaced k w item s r = record { address = address; flags = n.flags; low = omega (arith, low, address); pages = n.pages; stubs = laws.stubs } in
+    let d = decided k f w m item s r (field_width c.row) n.known n.follows placed c.row c.value refl c.known in
     let same = formula.agrees.value in
     let small : All (λ b. b < 256) (old_field s r c.row) = All-take (λ b. b < 256) _ (drop r.offset s.bytes) (All-drop (λ b. b < 256) r.offset s.bytes n.small.bytes) in
     let fits : value_of w c.value < 2 ^ 64 = omega arith in
@@ -112,7 +112,7 @@ right k f w m item s r laws n h =
         gives = subst (λ (v : Value). Gives v k.layout w m item r (value_of w c.value)) same d.gives;
         field = field_reads w m k.layout.machine item s r c.row (value_of w c.value) laws.widths address n.bytes small p formula fits written;
       };
-      own = λ u. d.own u.symbol u.named (subst (λ (v : Value). TakesOffset v ⊎ TakesAddress v) (sym same) (subst (λ (g : Formula). TakesOffset g.value ⊎ TakesAddress g.value) (one_formula u.formula formula.formula (sym u.known ∙ formula.known)) (takes_by k.layout item u.symbol u.formula u.takes))) u.replaceable;
+      own = λ u. (let one = one_formula u.formula formula.formula (sym u.known ∙ formula.known) in d.own u.formula (ap (λ (g : Formula). g.value) one ∙ sym same) (ap (λ (g : Formula). form_width g.form) one ∙ formula.width) u.symbol u.named u.takes u.replaceable);
     }
   where
     one_formula : (a b : Formula) → (let o : Option Formula = Some a in o) ≡ Some b → a ≡ b

@@ -1,7 +1,9 @@
 pub mod WorldLemmas
 pub mod FileLemmas
 pub mod SiteLemmas
+pub mod ByteLemmas
 pub mod ValueLemmas
+pub mod SlotLemmas
 pub mod WrittenLemmas
 pub mod FormulaLemmas
 pub mod FieldLemmas

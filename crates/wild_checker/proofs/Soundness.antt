@@ -114,7 +114,7 @@ holds k f w m s laws known follows small pages p =
     let forward = p.forward in
     let item : Item = record { address = s.address; flags = s.flags; bytes = s.bytes; relocations = s.relocations; thunk_block = block_for k.layout f s } in
     let same : placed_item k.layout f s ≡ item = rw forward refl in
-    subst (ItemHolds k.layout w m) (sym same) (item_holds k f w m item s laws (record { address = refl; bytes = refl; relocations = refl; small = small; known = known; follows = follows; pages = pages }) p.references p.bytes)
+    subst (ItemHolds k.layout w m) (sym same) (item_holds k f w m item s laws (record { address = refl; flags = refl; bytes = refl; relocations = refl; small = small; known = known; follows = follows; pages = pages }) p.references p.bytes)
 
 -- ---- each kept item
 

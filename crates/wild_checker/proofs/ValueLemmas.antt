@@ -1,8 +1,9 @@
 -- The term of a symbol has the symbol's value.
-use Rattle.std.proofs.Common.{◌≡◌, ℕ, ◌+◌, ◌%◌, ◌^◌, ◌<◌, inl, inr, Bool, true, false, ◌&&◌, ◌||◌, List, ◌∷◌, nat_le, nat_lt, refl, sym, ap, ◌∙◌, arith, subst}
-use Rattle.std.specs.Prelude.{Option, Some, None, All, Contains, if◌then◌else◌, ◌==◌, not, slice_get, is_some, option_map, option_and_then}
-use Rattle.std.proofs.lemmas.Bool.{eq-eqb, and_parts, or_cases, not-true}
+use Rattle.std.proofs.Common.{◌≡◌, ℕ, ◌+◌, ◌%◌, ◌^◌, ◌<◌, inl, inr, Bool, true, false, ◌&&◌, ◌||◌, List, ◌∷◌, length, nat_le, nat_lt, refl, sym, ap, ◌∙◌, arith, subst}
+use Rattle.std.specs.Prelude.{Option, Some, None, All, Contains, if◌then◌else◌, ◌==◌, not, slice_get, is_some, unwrap_or, option_map, option_and_then}
+use Rattle.std.proofs.lemmas.Bool.{eq-eqb, ltb-true, and_parts, or_cases, not-true}
 use Rattle.std.proofs.lemmas.List.Elements.{All-contains}
+use Rattle.wild_words.proofs.Basics.{slice_get_inside}
 use Rattle.wild_words.proofs.ListLemmas.{holds_at}
 use Rattle.wild_records.specs.Abi.Symbol.{stt_section}
 use Rattle.wild_reloc.specs.Formula.{Value, SymbolPart, Distance, PageDistance, StubDistance}
@@ -25,6 +26,7 @@ use Rattle.wild_types.specs.SymbolSlots.{plt_of, resolved_plt}
 use Rattle.wild_layout.specs.Numbers.{NumbersFit, SymbolNumbers}
 use Rattle.wild_loader.specs.declared.memory.Memory.{Memory}
 use Rattle.wild_loader.specs.declared.world.World.{World}
+use Rattle.wild_loader.specs.declared.world.Answer.{Answer}
 use Rattle.wild_meaning.specs.Value.{HasValue, HasRaw, IsReplaceable, HasFlag, may_be_replaced, with_base}
 use Rattle.wild_meaning.specs.Denotes.{IsAddressStub}
 use Rattle.wild_meaning.specs.Strings.{NamesStrings}
@@ -32,13 +34,14 @@ use Rattle.wild_meaning.specs.ReferentAArch64.{RepresentsOnAArch64, IsUndefinedW
 use Rattle.wild_meaning.specs.Formula.{IsReferent, IsReferentOnAArch64, IsSymbolAddress, UsesOwnPlace}
 use Rattle.wild_meaning.proofs.SymbolLemmas.{canonical_is, own_definition, referent_is}
 use Rattle.wild_terms.specs.declared.outline.Outline.{Outline}
+use Rattle.wild_terms.specs.declared.term.Atom.TheVariants.{Address}
 use Rattle.wild_terms.specs.declared.term.Term.{Term}
-use Rattle.wild_terms.specs.Terms.{number_term}
-use Rattle.wild_terms.specs.Values.{value_of, IsWorldOf}
+use Rattle.wild_terms.specs.Terms.{number_term, atom_term}
+use Rattle.wild_terms.specs.Values.{no_answer, value_of, IsWorldOf}
 use Rattle.wild_terms.proofs.ValueLemmas.{based_is}
 use Rattle.wild_references.specs.PlainLaws.{RawValuesAreAddresses}
 use Rattle.wild_checker.specs.Loaded.{Loaded}
-use Rattle.wild_checker.specs.Symbols.{are_ordered, in_file, address_by_place, address_of_symbol, raw_in, value_by, represents, is_plain, defined_term, symbol_term, is_merge, has_no_strings, is_no_merged, names_none, names_no_strings}
+use Rattle.wild_checker.specs.Symbols.{are_ordered, in_file, address_by_place, address_of_symbol, raw_in, value_by, represents, is_plain, defined_term, symbol_term, index_of, answer_term, loaded_term, is_merge, has_no_strings, is_no_merged, names_none, names_no_strings}
 use Rattle.wild_checker.specs.References.{referent_term}
 use Rattle.wild_checker.proofs.FileLemmas.{own_file}
 
@@ -167,32 +170,96 @@ plain_parts l d h =
     let b = and_parts (not (has_flag d.flags ifunc)) (represents l.machine d) a.1 in
     record { own = not-true (may_be_replaced l.kind d.flags) a.0; direct = not-true (has_flag d.flags ifunc) b.0; alone = b.1 }
 
--- the term has the symbol's value
-pub has_value : (k : Loaded) (f : File) (w : World) (i : ℕ) (t : Term) → Known k f w → HasTerm k f i t → HasValue k.layout w i (value_of w t)
-has_value k f w i t n h =
+-- the output's own value of a symbol
+own_value : (k : Loaded) (f : File) (w : World) (i a : ℕ) (d : Symbol) → Known k f w → slice_get k.layout.symbols (canonical k.layout i) ≡ Some d → may_be_replaced k.layout.kind d.flags ≡ false → has_flag d.flags ifunc ≡ false → raw_in k f i d.resolution ≡ Some a → HasValue k.layout w i (value_of w (value_by (has_flag d.flags absolute) k.outline a))
+own_value k f w i a d n there own direct given =
     let l = k.layout in
-    let d = h.of.definition in
-    let there = h.of.there in
     let defined = own_definition l i d there in
-    let p = plain_parts l d h.of.plain in
-    let raw = n.raw l i h.raw (raw_is k f w i h.raw d n there h.given) in
     let still = has_flag d.flags absolute in
     inr (
-      record { definition = canonical l i; defined = defined; symbol = d; listed = there; told = p.own },
+      record { definition = canonical l i; defined = defined; symbol = d; listed = there; told = own },
       record {
-        raw = h.raw;
-        given = raw;
+        raw = a;
+        given = n.raw l i a (raw_is k f w i a d n there given);
         indirect = false;
-        resolved = record { definition = canonical l i; defined = defined; symbol = d; listed = there; flagged = p.direct };
+        resolved = record { definition = canonical l i; defined = defined; symbol = d; listed = there; flagged = direct };
         still = still;
         absolute = record { definition = canonical l i; defined = defined; symbol = d; listed = there; flagged = refl };
-        is = ap (value_of w) (sym h.is) ∙ value_is k w still h.raw n.world (raw_below k f w i h.raw d n there h.given);
+        is = value_is k w still a n.world (raw_below k f w i a d n there given);
       },
     )
 
+-- the term has the symbol's value
+pub has_value : (k : Loaded) (f : File) (w : World) (i : ℕ) (t : Term) → Known k f w → HasTerm k f i t → HasValue k.layout w i (value_of w t)
+has_value k f w i t n h =
+    let p = plain_parts k.layout h.of.definition h.of.plain in
+    subst (λ (x : Term). HasValue k.layout w i (value_of w x)) h.is (own_value k f w i h.raw h.of.definition n h.of.there p.own p.direct h.given)
+
+-- ---- symbols that another module may define
+
+-- the index of a symbol whose answer is known
+record HasIndex (o : Outline) (d : Symbol) (t : Term) : Type 0 where
+  resolution : Resolution
+  decided : d.resolution ≡ Some resolution
+  index : ℕ
+  told : resolution.dynamic_symbol_index ≡ Some index
+  within : index < length o.symbols
+  is : atom_term (Address index) ≡ t
+
+has_index : (o : Outline) (d : Symbol) (t : Term) → answer_term o (index_of d.resolution) ≡ Some t → HasIndex o d t
+has_index o d t h = by d.resolution refl h
+  where
+    by_test : (r : Resolution) → d.resolution ≡ Some r → (i : ℕ) → r.dynamic_symbol_index ≡ Some i → (b : Bool) → (nat_lt i (length o.symbols) && nat_lt i (2 ^ 32)) ≡ b → (if b then Some (atom_term (Address i)) else None) ≡ Some t → HasIndex o d t
+    by_test r e i f false test h = cc
+    by_test r e i f true test h =
+        let both = and_parts (nat_lt i (length o.symbols)) (nat_lt i (2 ^ 32)) test in
+        record { resolution = r; decided = e; index = i; told = f; within = ltb-true i (length o.symbols) both.0; is = some_is (atom_term (Address i)) t h }
+
+    by_index : (r : Resolution) → d.resolution ≡ Some r → (x : Option ℕ) → r.dynamic_symbol_index ≡ x → answer_term o x ≡ Some t → HasIndex o d t
+    by_index r e None f h = cc
+    by_index r e (Some i) f h = by_test r e i f (nat_lt i (length o.symbols) && nat_lt i (2 ^ 32)) refl h
+
+    by : (x : Option Resolution) → d.resolution ≡ x → answer_term o (index_of x) ≡ Some t → HasIndex o d t
+    by None e h = cc
+    by (Some r) e h = by_index r e r.dynamic_symbol_index refl h
+
+answer_value : (w : World) (i : ℕ) (x : Answer) → slice_get w.symbols i ≡ Some x → x.address < 2 ^ 64 → value_of w (atom_term (Address i)) ≡ x.address
+answer_value w i x given low = ap (λ (o : Option Answer). ((unwrap_or o no_answer).address + 0) % 2 ^ 64) given ∙ omega (arith, low)
+
+pub foreign_value : (k : Loaded) (w : World) (i : ℕ) (d : Symbol) (t : Term) → IsWorldOf k.outline w → slice_get k.layout.symbols (canonical k.layout i) ≡ Some d → may_be_replaced k.layout.kind d.flags ≡ true → answer_term k.outline (index_of d.resolution) ≡ Some t → HasValue k.layout w i (value_of w t)
+foreign_value k w i d t world there replaced h =
+    let l = k.layout in
+    let x = has_index k.outline d t h in
+    let within = x.within in
+    let known = slice_get_inside k.outline.symbols x.index (omega (arith, within)) in
+    let a = world.answered x.index known.0 known.1 in
+    let defined = own_definition l i d there in
+    inl (
+      record { definition = canonical l i; defined = defined; symbol = d; listed = there; told = replaced },
+      a.answer,
+      record { definition = canonical l i; defined = defined; symbol = d; listed = there; resolution = x.resolution; decided = x.decided; index = x.index; told = x.told; given = a.given },
+      ap (value_of w) (sym x.is) ∙ answer_value w x.index a.answer a.given a.known.address,
+    )
+
+-- the term of any symbol has its value
+pub loaded_value : (k : Loaded) (f : File) (w : World) (i : ℕ) (d : Symbol) (t : Term) → Known k f w → slice_get k.layout.symbols (canonical k.layout i) ≡ Some d → loaded_term k f i d ≡ Some t → HasValue k.layout w i (value_of w t)
+loaded_value k f w i d t n there h = by (may_be_replaced k.layout.kind d.flags) refl h
+  where
+    by_raw : may_be_replaced k.layout.kind d.flags ≡ false → has_flag d.flags ifunc ≡ false → (o : Option ℕ) → raw_in k f i d.resolution ≡ o → option_map (value_by (has_flag d.flags absolute) k.outline) o ≡ Some t → HasValue k.layout w i (value_of w t)
+    by_raw own direct None e h = cc
+    by_raw own direct (Some a) e h = subst (λ (x : Term). HasValue k.layout w i (value_of w x)) (some_is (value_by (has_flag d.flags absolute) k.outline a) t h) (own_value k f w i a d n there own direct e)
+
+    by_resolver : may_be_replaced k.layout.kind d.flags ≡ false → (b : Bool) → has_flag d.flags ifunc ≡ b → (if b then None else option_map (value_by (has_flag d.flags absolute) k.outline) (raw_in k f i d.resolution)) ≡ Some t → HasValue k.layout w i (value_of w t)
+    by_resolver own true e h = cc
+    by_resolver own false e h = by_raw own e (raw_in k f i d.resolution) refl h
+
+    by : (b : Bool) → may_be_replaced k.layout.kind d.flags ≡ b → (if b then answer_term k.outline (index_of d.resolution) else (if has_flag d.flags ifunc then None else option_map (value_by (has_flag d.flags absolute) k.outline) (raw_in k f i d.resolution))) ≡ Some t → HasValue k.layout w i (value_of w t)
+    by true e h = foreign_value k w i d t n.world there e h
+    by false e h = by_resolver e (has_flag d.flags ifunc) refl h
+
 -- ---- the definition is one
 
-one_symbol : (l : Layout) (i c : ℕ) (d s : Symbol) → slice_get l.symbols (canonical l i) ≡ Some d → canonical l i ≡ c → slice_get l.symbols c ≡ Some s → s ≡ d
+pub one_symbol : (l : Layout) (i c : ℕ) (d s : Symbol) → slice_get l.symbols (canonical l i) ≡ Some d → canonical l i ≡ c → slice_get l.symbols c ≡ Some s → s ≡ d
 one_symbol l i c d s there same listed =
     let both : Some s ≡ Some d = sym listed ∙ ap (λ (n : ℕ). slice_get l.symbols n) (sym same) ∙ there in
     some_is s d both

@@ -2,6 +2,7 @@
 ghost use Rattle.wild_checker.specs.Outline.{WorldsAreOutlined};
 ghost use Rattle.wild_checker.specs.Verdict.{YesIsFounded};
 
+use wild_loader::stubs_are_read;
 use wild_references::plain_items_are_read;
 use wild_reloc::widths_of_fields;
 use wild_terms::terms_are_loaded;
@@ -19,4 +20,5 @@ pub fn yes_is_founded()
     worlds_are_outlined();
     plain_items_are_read();
     widths_of_fields();
+    stubs_are_read();
 }

@@ -1,7 +1,10 @@
 //! Slots and stubs of symbols.
-ghost use Rattle.std.specs.Prelude.{◌≡◌, ◌<◌, ◌≤◌, ◌^◌};
+ghost use Rattle.std.specs.Prelude.{◌≡◌};
 ghost use Rattle.wild_words.specs.Words.{word};
+ghost use Rattle.wild_reloc.specs.Formula.{AddressSlot};
+ghost use Rattle.wild_types.specs.SymbolSlots.{got_of, plt_of};
 ghost use Rattle.wild_loader.specs.StepLawsX86_64.{stub_bytes};
+ghost use Rattle.wild_meaning.specs.Slot.{offset_from_first};
 ghost use Rattle.wild_checker.specs.Loaded.{loaded_now};
 ghost use Rattle.wild_checker.specs.Slots.{is_known, are_same, holds_value, address_slot, slot_by, slot_term, is_x86_64, stub_distance, is_signed_32, is_stub, stub_by, stub_term};
 
