@@ -1,7 +1,9 @@
--- The front of a buffer after a field is written over the input's bytes.
-use Rattle.std.proofs.Common.{◌≡◌, ℕ, ◌≤◌, List, length, take, sym, ap, ◌∙◌, arith, subst}
-use Rattle.wild_words.specs.Words.{place}
-use Rattle.wild_words.proofs.WordLemmas.{front-place}
+-- Buffers after bytes are written into them.
+use Rattle.std.proofs.Common.{◌≡◌, ℕ, ◌≤◌, List, [], ◌∷◌, length, take, refl, sym, ap, ◌∙◌, arith, subst}
+use Rattle.std.specs.Int.{to_le_bytes, w64}
+use Rattle.wild_words.specs.Words.{place, word}
+use Rattle.wild_words.proofs.WordLemmas.{front-place, length-word, low_word_4}
+use Rattle.wild_loader.specs.StepLawsX86_64.{stub_bytes}
 use Rattle.wild_reloc.specs.declared.info.RelocationKindInfo.{RelocationKindInfo}
 use Rattle.wild_reloc.specs.Agreement.{WidthsHold}
 use Rattle.wild_reloc.specs.Field.{field_width, written}
@@ -9,8 +11,18 @@ use Rattle.wild_reloc.specs.Field.{field_width, written}
 front : (ys xs : List ℕ) (n : ℕ) → n ≡ length ys → take n (place 0 ys xs) ≡ ys
 front ys xs n e = front-place 0 n xs ys (omega (arith, e)) (omega arith)
 
+-- the front of a buffer after a field is written over the input's bytes
 pub taken : WidthsHold → (row : RelocationKindInfo) (v : ℕ) (old xs mid buf : List ℕ) → length old ≡ field_width row → mid ≡ place 0 old xs → buf ≡ place 0 (written row v (take (field_width row) mid)) mid → take (field_width row) buf ≡ written row v old
 taken widths row v old xs mid buf long first is =
     let same = ap (take (field_width row)) first ∙ front old xs (field_width row) (sym long) in
     let wide = widths row v (take (field_width row) mid) in
     ap (take (field_width row)) is ∙ front (written row v (take (field_width row) mid)) mid (field_width row) (sym wide) ∙ ap (written row v) same
+
+-- a stub, after its displacement is written over zeros
+stub_placed : (bs : List ℕ) → length bs ≡ 4 → place 7 bs (0xf3 ∷ 0x0f ∷ 0x1e ∷ 0xfa ∷ 0xf2 ∷ 0xff ∷ 0x25 ∷ 0 ∷ 0 ∷ 0 ∷ 0 ∷ 0x0f ∷ 0x1f ∷ 0x44 ∷ 0 ∷ 0 ∷ []) ≡ stub_bytes bs
+unfolding place
+stub_placed bs four = rw four refl
+
+pub stub_of_number : (d : ℕ) → place 7 (take 4 (to_le_bytes w64 d)) (0xf3 ∷ 0x0f ∷ 0x1e ∷ 0xfa ∷ 0xf2 ∷ 0xff ∷ 0x25 ∷ 0 ∷ 0 ∷ 0 ∷ 0 ∷ 0x0f ∷ 0x1f ∷ 0x44 ∷ 0 ∷ 0 ∷ []) ≡ stub_bytes (word 4 d)
+stub_of_number d =
+    subst (λ (bs : List ℕ). place 7 bs (0xf3 ∷ 0x0f ∷ 0x1e ∷ 0xfa ∷ 0xf2 ∷ 0xff ∷ 0x25 ∷ 0 ∷ 0 ∷ 0 ∷ 0 ∷ 0x0f ∷ 0x1f ∷ 0x44 ∷ 0 ∷ 0 ∷ []) ≡ stub_bytes (word 4 d)) (sym (low_word_4 d)) (stub_placed (word 4 d) (length-word 4 d))

@@ -14,7 +14,7 @@ use crate::symbols::loaded_term;
 use wild_loader::Machine as Processor;
 use wild_terms::Term;
 use wild_types::{File, Machine, Symbol, SymbolIndex, got_of, plt_of};
-use wild_words::put_u32;
+use wild_words::put;
 
 /// Whether a term is known and is that one.
 pub(crate) fn is_known(known: Option<Term>, x: Term) -> bool
@@ -127,7 +127,7 @@ fn stub_code(displacement: u64) -> [u8; 16]
     let mut code = [
         0xf3, 0x0f, 0x1e, 0xfa, 0xf2, 0xff, 0x25, 0, 0, 0, 0, 0x0f, 0x1f, 0x44, 0, 0,
     ];
-    put_u32(&mut code, 7, displacement as u32);
+    put(&mut code, 7, &displacement.to_le_bytes()[..4]);
     code
 }
 
