@@ -1,5 +1,5 @@
 -- Buffers after bytes are written into them.
-use Rattle.std.proofs.Common.{◌≡◌, ℕ, ◌≤◌, List, [], ◌∷◌, length, take, refl, sym, ap, ◌∙◌, arith, subst}
+use Rattle.std.proofs.Common.{◌≡◌, ℕ, ◌≤◌, List, [], ◌∷◌, length, take, refl, sym, ap, ◌∙◌, arith}
 use Rattle.std.specs.Int.{to_le_bytes, w64}
 use Rattle.wild_words.specs.Words.{place, word}
 use Rattle.wild_words.proofs.WordLemmas.{front-place, length-word, low_word_4}
@@ -18,11 +18,16 @@ taken widths row v old xs mid buf long first is =
     let wide = widths row v (take (field_width row) mid) in
     ap (take (field_width row)) is ∙ front (written row v (take (field_width row) mid)) mid (field_width row) (sym wide) ∙ ap (written row v) same
 
--- a stub, after its displacement is written over zeros
-stub_placed : (bs : List ℕ) → length bs ≡ 4 → place 7 bs (0xf3 ∷ 0x0f ∷ 0x1e ∷ 0xfa ∷ 0xf2 ∷ 0xff ∷ 0x25 ∷ 0 ∷ 0 ∷ 0 ∷ 0 ∷ 0x0f ∷ 0x1f ∷ 0x44 ∷ 0 ∷ 0 ∷ []) ≡ stub_bytes bs
+-- the bytes of a stub whose displacement is 0
+abbrev blank : List ℕ
+blank = 0xf3 ∷ 0x0f ∷ 0x1e ∷ 0xfa ∷ 0xf2 ∷ 0xff ∷ 0x25 ∷ 0 ∷ 0 ∷ 0 ∷ 0 ∷ 0x0f ∷ 0x1f ∷ 0x44 ∷ 0 ∷ 0 ∷ []
+
+stub_placed : (bs : List ℕ) → length bs ≡ 4 → place 7 bs blank ≡ stub_bytes bs
 unfolding place
 stub_placed bs four = rw four refl
 
-pub stub_of_number : (d : ℕ) → place 7 (take 4 (to_le_bytes w64 d)) (0xf3 ∷ 0x0f ∷ 0x1e ∷ 0xfa ∷ 0xf2 ∷ 0xff ∷ 0x25 ∷ 0 ∷ 0 ∷ 0 ∷ 0 ∷ 0x0f ∷ 0x1f ∷ 0x44 ∷ 0 ∷ 0 ∷ []) ≡ stub_bytes (word 4 d)
-stub_of_number d =
-    subst (λ (bs : List ℕ). place 7 bs (0xf3 ∷ 0x0f ∷ 0x1e ∷ 0xfa ∷ 0xf2 ∷ 0xff ∷ 0x25 ∷ 0 ∷ 0 ∷ 0 ∷ 0 ∷ 0x0f ∷ 0x1f ∷ 0x44 ∷ 0 ∷ 0 ∷ []) ≡ stub_bytes (word 4 d)) (sym (low_word_4 d)) (stub_placed (word 4 d) (length-word 4 d))
+-- a stub, after its displacement is written
+pub stub_written : (d : ℕ) (bytes out : List ℕ) → bytes ≡ to_le_bytes w64 d → out ≡ place 7 (take 4 bytes) blank → out ≡ stub_bytes (word 4 d)
+stub_written d bytes out e is =
+    let low : take 4 bytes ≡ word 4 d = ap (take 4) e ∙ low_word_4 d in
+    is ∙ ap (λ (bs : List ℕ). place 7 bs blank) low ∙ stub_placed (word 4 d) (length-word 4 d)

@@ -16,12 +16,7 @@ fn is_byte(memory: &TermMemory, address: u128, byte: u8) -> bool
 }
 
 /// The first of bytes from an address on that memory does not have in every world; offsets count from `start`.
-fn first_changed(
-    memory: &TermMemory,
-    address: u64,
-    start: usize,
-    bytes: &[u8],
-) -> Option<usize>
+fn first_changed(memory: &TermMemory, address: u64, start: usize, bytes: &[u8]) -> Option<usize>
     requires { start + length bytes.now < 2 ^ 64 }
     ensures { result ≡ first_changed memory.now address start bytes.now }
 {
