@@ -5,7 +5,7 @@
 --   IsWritten told status text said   how an answer was written: the whole text, or a write failed
 --   IsLinkedText layout text  the text is that of a sound image of the layout
 --   IsRewrittenText layout text   the text says that a change was written, and then is that of a sound image of the layout
---   IsPlacedText request text the text is that of a memory that has what the layout requires in its world
+--   IsPlacedText request text the text is that of a memory in which the references of the layout hold
 --   IsSpaceText request text  the text is that of images that are bound as a dynamic linker binds them
 use Rattle.std.specs.Prelude.{◌≡◌, ℕ, ◌+◌, ◌^◌, ◌<◌, ◌≤◌, List, [], ◌∷◌, ◌++◌, length, map, codes, decimal, string_bytes, String, Option, Some, Result, Ok, Err, ◌⊎◌}
 use Rattle.std.specs.List.{sum}
