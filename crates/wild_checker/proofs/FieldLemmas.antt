@@ -1,14 +1,13 @@
 -- A field that is found to have a term has its value in memory.
-use Rattle.std.proofs.Common.{◌≡◌, ℕ, zero, suc, ◌+◌, ◌-◌, ◌%◌, ◌^◌, ◌<◌, ◌≤◌, Bool, true, false, ◌&&◌, List, [], ◌∷◌, length, nat_le, nat_lt, refl, sym, ap, ◌∙◌, arith, subst}
-use Rattle.std.specs.Prelude.{Option, Some, None, All, if◌then◌else◌, ◌==◌, ◌||◌, not, is_some, slice_index, slice_range}
-use Rattle.std.proofs.lemmas.Bool.{eqb-true, leb-true, ltb-true, and_parts, and_from, or_left, not-true}
+use Rattle.std.proofs.Common.{◌≡◌, ℕ, ◌+◌, ◌-◌, ◌%◌, ◌^◌, ◌<◌, ◌≤◌, Bool, true, false, ◌&&◌, List, length, nat_le, nat_lt, refl, sym, ap, ◌∙◌, arith, subst}
+use Rattle.std.specs.Prelude.{All, if◌then◌else◌, ◌==◌, ◌||◌, slice_index, slice_range}
+use Rattle.std.proofs.lemmas.Bool.{eqb-true, leb-true, ltb-true, and_parts, and_from, or_left}
 use Rattle.std.proofs.lemmas.Bool.Decides.{nat_tests}
 use Rattle.wild_words.specs.Words.{word}
 use Rattle.wild_words.proofs.Basics.{length-range}
 use Rattle.wild_reloc.specs.declared.info.RelocationKindInfo.{RelocationKindInfo}
 use Rattle.wild_reloc.specs.declared.info.RelocationSize.{RelocationSize}
 use Rattle.wild_reloc.specs.declared.info.RelocationSize.TheVariants.{ByteSize, BitMasking}
-use Rattle.wild_reloc.specs.declared.info.Width.{Width}
 use Rattle.wild_reloc.specs.declared.info.Width.TheVariants.{Zero, One, Two, Four, Eight}
 use Rattle.wild_reloc.specs.declared.range.AllowedRange.{AllowedRange}
 use Rattle.wild_reloc.specs.Agreement.{WidthsHold}
@@ -21,7 +20,7 @@ use Rattle.wild_types.specs.declared.kind.Machine.{Machine}
 use Rattle.wild_types.specs.Item.{Item}
 use Rattle.wild_loader.specs.declared.memory.Memory.{Memory}
 use Rattle.wild_loader.specs.declared.world.World.{World}
-use Rattle.wild_loader.specs.Memory.{Holds, byte_in}
+use Rattle.wild_loader.specs.Memory.{Holds}
 use Rattle.wild_loader.proofs.MappedSegments.{byte_below}
 use Rattle.wild_meaning.specs.Item.{place_at}
 use Rattle.wild_meaning.specs.Field.{form_width, FieldReads}
@@ -34,7 +33,7 @@ use Rattle.wild_terms.specs.Symbolic.{Symbolic, term_at}
 use Rattle.wild_references.specs.PlainLaws.{HasFormula}
 use Rattle.wild_checker.specs.Bytes.{has_bytes}
 use Rattle.wild_checker.specs.Slots.{is_known}
-use Rattle.wild_checker.specs.References.{is_eight, is_whole, old_field, number_holds, holds_by, value_holds, is_inside}
+use Rattle.wild_checker.specs.References.{is_eight, is_whole, old_field, holds_by, value_holds, is_inside}
 use Rattle.wild_checker.proofs.ByteLemmas.{bytes_held}
 use Rattle.wild_checker.proofs.SlotLemmas.{the_term}
 

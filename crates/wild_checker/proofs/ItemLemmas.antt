@@ -1,43 +1,40 @@
 -- A section whose references are all found to hold, and whose other bytes are the input's, holds as an item.
-use Rattle.std.proofs.Common.{◌≡◌, ℕ, ◌+◌, ◌-◌, ◌%◌, ◌^◌, ◌<◌, ◌≤◌, ◌⊎◌, inl, inr, Bool, true, false, ◌&&◌, List, length, get_or, refl, sym, ap, ◌∙◌, arith, subst}
-use Rattle.std.specs.Prelude.{Option, Some, None, All, Contains, if◌then◌else◌, ◌==◌, ◌≢◌, ◌||◌, drop, slice_index, slice_range}
+use Rattle.std.proofs.Common.{◌≡◌, ℕ, ◌+◌, ◌%◌, ◌^◌, ◌<◌, ◌≤◌, ◌⊎◌, inl, inr, true, List, length, get_or, refl, sym, ap, ◌∙◌, arith, subst}
+use Rattle.std.specs.Prelude.{Option, Some, None, All, Contains, ◌==◌, drop, slice_index}
 use Rattle.std.proofs.lemmas.Bool.{cases_lt, eqb-true, or_cases, and_parts}
 use Rattle.std.proofs.lemmas.List.Elements.{All-contains, All-take, All-drop}
 use Rattle.wild_records.specs.Abi.Relocation.{r_x86_64_none}
 use Rattle.wild_reloc.specs.declared.info.RelocationKindInfo.{RelocationKindInfo}
 use Rattle.wild_reloc.specs.Agreement.{WidthsHold}
 use Rattle.wild_reloc.specs.Field.{field_width}
-use Rattle.wild_reloc.specs.Expression.{expression_of, subtrahend_of}
 use Rattle.wild_reloc.specs.Formula.{Value, Formula}
 use Rattle.wild_types.specs.declared.file.File.{File}
-use Rattle.wild_types.specs.declared.file.Group.{Group}
 use Rattle.wild_types.specs.declared.input.InputRelocation.{InputRelocation}
 use Rattle.wild_types.specs.declared.input.InputSection.{InputSection}
-use Rattle.wild_types.specs.declared.kind.Machine.{Machine}
 use Rattle.wild_types.specs.declared.layout.Layout.{Layout}
 use Rattle.wild_types.specs.Item.{Item}
 use Rattle.wild_types.specs.Rows.{row_of, row_width}
-use Rattle.wild_layout.specs.Numbers.{NumbersFit, InputNumbers}
+use Rattle.wild_layout.specs.Numbers.{InputNumbers}
 use Rattle.wild_loader.specs.declared.memory.Memory.{Memory}
 use Rattle.wild_loader.specs.declared.world.World.{World}
 use Rattle.wild_loader.specs.Memory.{byte_in}
 use Rattle.wild_loader.specs.StepLawsX86_64.{StubsOfValuesAreRead}
 use Rattle.wild_meaning.specs.Item.{place_at, IsReference}
 use Rattle.wild_meaning.specs.Field.{formula_of, form_width, InNoField, IsInputByte}
-use Rattle.wild_meaning.specs.Formula.{Gives, TakesAddress, TakesOffset}
-use Rattle.wild_meaning.specs.Reference.{HoldsPlain, ItemHolds, MustHold, UsesOwnSymbolOnly, UsesOwnDefinition, IsOutsideReferences}
+use Rattle.wild_meaning.specs.Formula.{Gives}
+use Rattle.wild_meaning.specs.Reference.{HoldsPlain, ItemHolds, MustHold, UsesOwnSymbolOnly}
 use Rattle.wild_meaning.specs.Sequence.{Instruction, IsOwnByte}
 use Rattle.wild_meaning.specs.Template.{IsInstruction, IsTemplate}
 use Rattle.wild_terms.specs.declared.term.Term.{Term}
 use Rattle.wild_terms.specs.Values.{value_of}
 use Rattle.wild_terms.specs.Laws.{Follows}
 use Rattle.wild_references.specs.Laws.{FieldHolds}
-use Rattle.wild_references.specs.PlainLaws.{AllFieldsHold, PlainInstructionsDo, HasFormula, RowsHaveFormulas}
+use Rattle.wild_references.specs.PlainLaws.{AllFieldsHold, PlainInstructionsDo, RowsHaveFormulas}
 use Rattle.wild_checker.specs.Loaded.{Loaded}
 use Rattle.wild_checker.specs.Bytes.{changed_gap}
 use Rattle.wild_checker.specs.References.{old_field, value_term, value_holds, is_inside, field_holds, holds_by_row, reference_holds}
 use Rattle.wild_checker.specs.Sections.{is_settled, first_doubt}
-use Rattle.wild_checker.proofs.FieldLemmas.{IsInside, inside, IsWritten, value_written, low_place, field_reads}
+use Rattle.wild_checker.proofs.FieldLemmas.{inside, value_written, low_place, field_reads}
 use Rattle.wild_checker.proofs.FormulaLemmas.{IsPlaced, decided, term_below}
 use Rattle.wild_checker.proofs.SiteLemmas.{IsBeside, gap_known, no_doubt}
 use Rattle.wild_checker.proofs.ValueLemmas.{Known}

@@ -1,15 +1,14 @@
 -- Slots and stubs that are found to hold a symbol's value are the symbol's.
-use Rattle.std.proofs.Common.{◌≡◌, ℕ, suc, ◌+◌, ◌-◌, ◌/◌, ◌%◌, ◌^◌, ◌<◌, ◌≤◌, ◌⊎◌, inl, inr, Bool, true, false, ◌&&◌, ◌||◌, List, [], ◌∷◌, length, nat_le, nat_lt, refl, sym, ap, ◌∙◌, arith, subst}
+use Rattle.std.proofs.Common.{◌≡◌, ℕ, ◌+◌, ◌-◌, ◌/◌, ◌%◌, ◌^◌, ◌<◌, inl, inr, Bool, true, false, ◌&&◌, List, [], ◌∷◌, length, nat_le, nat_lt, refl, sym, ap, ◌∙◌, arith, subst}
 use Rattle.std.specs.Prelude.{Option, Some, None, if◌then◌else◌, slice_get, slice_index, option_map, option_and_then}
 use Rattle.std.proofs.lemmas.Bool.{leb-true, ltb-true, and_parts, or_cases}
 use Rattle.wild_words.specs.Words.{word, number}
 use Rattle.wild_words.proofs.WordLemmas.{length-word, number-word}
-use Rattle.wild_reloc.specs.Formula.{AddressSlot, sign_extended}
+use Rattle.wild_reloc.specs.Formula.{AddressSlot}
 use Rattle.wild_reloc.proofs.FormLemmas.{signed_4}
 use Rattle.wild_types.specs.declared.file.File.{File}
 use Rattle.wild_types.specs.declared.kind.Machine.{Machine}
 use Rattle.wild_types.specs.declared.kind.Machine.TheVariants as machine
-use Rattle.wild_types.specs.declared.layout.Layout.{Layout}
 use Rattle.wild_types.specs.declared.symbol.Resolution.{Resolution}
 use Rattle.wild_types.specs.declared.symbol.Symbol.{Symbol}
 use Rattle.wild_types.specs.Flags.{has_flag, got_slot}
@@ -21,11 +20,10 @@ use Rattle.wild_loader.specs.declared.memory.Memory.{Memory}
 use Rattle.wild_loader.specs.declared.world.World.{World}
 use Rattle.wild_loader.specs.Instruction.{jump_through, signed_32, sum_64}
 use Rattle.wild_loader.specs.InstructionX86_64.{meaning_x86_64}
-use Rattle.wild_loader.specs.Memory.{Holds, byte_in, number_in}
+use Rattle.wild_loader.specs.Memory.{Holds, number_in}
 use Rattle.wild_loader.specs.StepLawsX86_64.{stub_bytes, IsSigned32, StubsOfValuesAreRead}
 use Rattle.wild_loader.proofs.HeldBytes.{number-held}
 use Rattle.wild_loader.proofs.MappedSegments.{byte_below}
-use Rattle.wild_loader.specs.declared.instruction.Action.{Action}
 use Rattle.wild_meaning.specs.Denotes.{IsStub}
 use Rattle.wild_meaning.specs.Jump.{JumpsBy, meaning_of}
 use Rattle.wild_meaning.specs.Slot.{IsSlotOf, HasSlotAddress, offset_from_first}
@@ -36,7 +34,6 @@ use Rattle.wild_terms.specs.Outline.{based}
 use Rattle.wild_terms.specs.Laws.{Follows}
 use Rattle.wild_terms.specs.Symbolic.{term_at}
 use Rattle.wild_terms.specs.Values.{value_of}
-use Rattle.wild_terms.specs.Terms.{same_term}
 use Rattle.wild_terms.proofs.ValueLemmas.{based_is, same_terms}
 use Rattle.wild_checker.specs.Loaded.{Loaded}
 use Rattle.wild_checker.specs.Bytes.{has_bytes}

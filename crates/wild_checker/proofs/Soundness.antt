@@ -1,5 +1,5 @@
 -- After Yes the image holds in every legal world.
-use Rattle.std.proofs.Common.{◌≡◌, ℕ, ◌+◌, ◌*◌, ◌/◌, ◌%◌, ◌&&◌, inl, inr, Bool, true, false, List, ◌∷◌, ◌++◌, refl, sym, ap, ◌∙◌, arith, subst}
+use Rattle.std.proofs.Common.{◌≡◌, ℕ, ◌/◌, ◌%◌, ◌&&◌, inl, inr, Bool, true, false, List, ◌∷◌, ◌++◌, refl, sym, subst}
 use Rattle.std.specs.Prelude.{Option, Some, None, Result, Ok, Err, All, Contains, if◌then◌else◌, not}
 use Rattle.std.proofs.lemmas.Bool.{eq-eqb, and_parts, not-true}
 use Rattle.std.proofs.lemmas.List.Elements.{All-contains, Contains-append_right}

@@ -1,8 +1,7 @@
 -- The term of a symbol has the symbol's value.
-use Rattle.std.proofs.Common.{◌≡◌, ℕ, ◌+◌, ◌%◌, ◌^◌, ◌<◌, inl, inr, Bool, true, false, ◌&&◌, ◌||◌, List, ◌∷◌, length, nat_le, nat_lt, refl, sym, ap, ◌∙◌, arith, subst}
-use Rattle.std.specs.Prelude.{Option, Some, None, All, Contains, if◌then◌else◌, ◌==◌, not, slice_get, is_some, unwrap_or, option_map, option_and_then}
+use Rattle.std.proofs.Common.{◌≡◌, ℕ, ◌+◌, ◌%◌, ◌^◌, ◌<◌, inl, inr, Bool, true, false, ◌&&◌, length, nat_le, nat_lt, refl, sym, ap, ◌∙◌, arith, subst}
+use Rattle.std.specs.Prelude.{Option, Some, None, Contains, if◌then◌else◌, ◌==◌, not, slice_get, is_some, unwrap_or, option_map, option_and_then}
 use Rattle.std.proofs.lemmas.Bool.{eq-eqb, ltb-true, and_parts, or_cases, not-true}
-use Rattle.std.proofs.lemmas.List.Elements.{All-contains}
 use Rattle.wild_words.proofs.Basics.{slice_get_inside}
 use Rattle.wild_words.proofs.ListLemmas.{holds_at}
 use Rattle.wild_records.specs.Abi.Symbol.{stt_section}
@@ -27,10 +26,10 @@ use Rattle.wild_layout.specs.Numbers.{NumbersFit, SymbolNumbers}
 use Rattle.wild_loader.specs.declared.memory.Memory.{Memory}
 use Rattle.wild_loader.specs.declared.world.World.{World}
 use Rattle.wild_loader.specs.declared.world.Answer.{Answer}
-use Rattle.wild_meaning.specs.Value.{HasValue, HasRaw, IsReplaceable, HasFlag, may_be_replaced, with_base}
+use Rattle.wild_meaning.specs.Value.{HasValue, IsReplaceable, HasFlag, may_be_replaced, with_base}
 use Rattle.wild_meaning.specs.Denotes.{IsAddressStub}
 use Rattle.wild_meaning.specs.Strings.{NamesStrings}
-use Rattle.wild_meaning.specs.ReferentAArch64.{RepresentsOnAArch64, IsUndefinedWeak}
+use Rattle.wild_meaning.specs.ReferentAArch64.{RepresentsOnAArch64}
 use Rattle.wild_meaning.specs.Formula.{IsReferent, IsReferentOnAArch64, IsSymbolAddress, UsesOwnPlace}
 use Rattle.wild_meaning.proofs.SymbolLemmas.{canonical_is, own_definition, referent_is}
 use Rattle.wild_terms.specs.declared.outline.Outline.{Outline}

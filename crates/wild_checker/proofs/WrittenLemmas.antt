@@ -1,5 +1,5 @@
 -- Buffers after bytes are written into them.
-use Rattle.std.proofs.Common.{◌≡◌, ℕ, ◌≤◌, List, [], ◌∷◌, length, take, refl, sym, ap, ◌∙◌, arith}
+use Rattle.std.proofs.Common.{◌≡◌, ℕ, List, [], ◌∷◌, length, take, refl, sym, ap, ◌∙◌, arith}
 use Rattle.std.specs.Int.{to_le_bytes, w64}
 use Rattle.wild_words.specs.Words.{place, word}
 use Rattle.wild_words.proofs.WordLemmas.{front-place, length-word, low_word_4}

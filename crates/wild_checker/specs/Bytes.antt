@@ -2,7 +2,7 @@
 --   first_changed t a k bs    the first of bytes from an address on that memory does not have in every world
 --   has_bytes t a bs          memory has these bytes in every world
 --   changed_gap m t s n rs    the same for the bytes of a section from offset n on that are in no field
-use Rattle.std.specs.Prelude.{ℕ, ◌+◌, ◌-◌, ◌==◌, Bool, true, false, not, if◌then◌else◌, nat_le, min, length, slice_range, List, [], ◌∷◌, Option, Some, None, is_some}
+use Rattle.std.specs.Prelude.{ℕ, ◌+◌, ◌==◌, Bool, true, false, not, if◌then◌else◌, nat_le, min, length, slice_range, List, [], ◌∷◌, Option, Some, None, is_some}
 use Rattle.wild_types.specs.declared.input.InputRelocation.{InputRelocation}
 use Rattle.wild_types.specs.declared.input.InputSection.{InputSection}
 use Rattle.wild_types.specs.declared.kind.Machine.{Machine}
