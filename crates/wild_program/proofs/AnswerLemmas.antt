@@ -25,6 +25,7 @@ right_numbers words (command.Make n w) h = (h.1, h.2, h.3, h.4)
 right_numbers words (command.Relink w) h = (h.1, h.2)
 right_numbers words (command.Place w) h = (h.1, h.2)
 right_numbers words command.Space h = tt
+right_numbers words command.Verify h = tt
 
 -- the words of a command that reads its input
 pub is_reading : (words : List (String Global)) (c : Command) → Asks words c → reads_input c ≡ true → IsReading words
@@ -32,7 +33,8 @@ is_reading words (command.Link w) h reads = inl (w, h)
 is_reading words (command.Make n w) h reads = absurd cc
 is_reading words (command.Relink w) h reads = inr (inl (w, h))
 is_reading words (command.Place w) h reads = inr (inr (inl (w, h)))
-is_reading words command.Space h reads = inr (inr (inr h))
+is_reading words command.Space h reads = inr (inr (inr (inl h)))
+is_reading words command.Verify h reads = inr (inr (inr (inr h)))
 
 -- the answer for the command and the bytes of its input is the one for the words
 pub right_answer : (words : List (String Global)) (t : SourceChange) (c : Command) (whole : List ℕ) (a : Answer) → Asks words c → IsInput c t whole → IsMeant c whole a → IsRightAnswer words t a
@@ -41,3 +43,4 @@ right_answer words t (command.Make n w) whole a asks read meant = subst (λ (b :
 right_answer words t (command.Relink w) whole a asks read meant = subst (λ (b : Answer). IsRightAnswer words t b) (sym meant.1) ((w, asks), (whole, read, meant.2))
 right_answer words t (command.Place w) whole a asks read meant = subst (λ (b : Answer). IsRightAnswer words t b) (sym meant.1) ((w, asks), (whole, read, meant.2))
 right_answer words t command.Space whole a asks read meant = subst (λ (b : Answer). IsRightAnswer words t b) (sym meant.1) (asks, (whole, read, meant.2))
+right_answer words t command.Verify whole a asks read meant = subst (λ (b : Answer). IsRightAnswer words t b) (sym meant.2) (asks, (whole, read, meant.3), meant.4)

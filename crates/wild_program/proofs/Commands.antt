@@ -3,7 +3,7 @@ use Rattle.std.proofs.Common.{◌≡◌, ℕ, List, [], ◌∷◌, length, sym, 
 use Rattle.std.specs.Prelude.{codes}
 use Rattle.std.proofs.lemmas.Fmt.{decimal_injective}
 use Rattle.wild_program.specs.Exit as exit
-use Rattle.wild_program.specs.Program.{IsLinkCommand, IsMake, IsRelinkCommand, IsPlaceCommand, IsSpace, IsReading, Answer, usage, read_fault, too_long, of_plan, of_make, of_relink, of_place, of_space, status, text, made_text, SourceChange, SinkChange, IsRightAnswer, NothingRead, IsWritten}
+use Rattle.wild_program.specs.Program.{IsLinkCommand, IsMake, IsRelinkCommand, IsPlaceCommand, IsSpace, IsVerify, IsReading, Answer, usage, read_fault, too_long, of_plan, of_make, of_relink, of_place, of_space, of_verify, status, text, made_text, SourceChange, SinkChange, IsRightAnswer, NothingRead, IsWritten}
 use Rattle.wild_program.specs.Clauses.{IsMadeBy}
 use Rattle.wild_program.specs.Steps.{IsAnsweredBy}
 
@@ -67,12 +67,43 @@ make_or_place words n w m p = absurd (clash (ap length m.0) (ap length p.1.0))
     clash : {k : ℕ} → k ≡ 3 → k ≡ 2 → ⊥
     clash a b = omega arith
 
+-- `verify` has one word too
+pub link_or_verify : {X : Type 0} (words : List (String Global)) → IsLinkCommand words → IsVerify words → X
+link_or_verify words l v = absurd (clash (ap length l.1.0) (ap length v))
+  where
+    clash : {k : ℕ} → k ≡ 2 → k ≡ 1 → ⊥
+    clash a b = omega arith
+
+pub relink_or_verify : {X : Type 0} (words : List (String Global)) → IsRelinkCommand words → IsVerify words → X
+relink_or_verify words r v = absurd (clash (ap length r.1.0) (ap length v))
+  where
+    clash : {k : ℕ} → k ≡ 2 → k ≡ 1 → ⊥
+    clash a b = omega arith
+
+pub place_or_verify : {X : Type 0} (words : List (String Global)) → IsPlaceCommand words → IsVerify words → X
+place_or_verify words p v = absurd (clash (ap length p.1.0) (ap length v))
+  where
+    clash : {k : ℕ} → k ≡ 2 → k ≡ 1 → ⊥
+    clash a b = omega arith
+
+pub make_or_verify : {X : Type 0} (words : List (String Global)) (n w : ℕ) → IsMake words n w → IsVerify words → X
+make_or_verify words n w m v = absurd (clash (ap length m.0) (ap length v))
+  where
+    clash : {k : ℕ} → k ≡ 3 → k ≡ 1 → ⊥
+    clash a b = omega arith
+
+pub space_or_verify : {X : Type 0} (words : List (String Global)) → IsSpace words → IsVerify words → X
+space_or_verify words s v =
+    let same : codes "space" ∷ [] ≡ codes "verify" ∷ [] = sym s ∙ v in
+    absurd cc
+
 -- `make` reads nothing
 pub make_or_reading : {X : Type 0} (words : List (String Global)) (n w : ℕ) → IsMake words n w → IsReading words → X
 make_or_reading words n w m (inl l) = two_commands words n l (w, m)
 make_or_reading words n w m (inr (inl r)) = make_or_relink words n w m r
 make_or_reading words n w m (inr (inr (inl p))) = make_or_place words n w m p
-make_or_reading words n w m (inr (inr (inr s))) = make_or_space words n w m s
+make_or_reading words n w m (inr (inr (inr (inl s)))) = make_or_space words n w m s
+make_or_reading words n w m (inr (inr (inr (inr v)))) = make_or_verify words n w m v
 
 one_make : (words : List (String Global)) (m n v w : ℕ) → IsMake words m v → IsMake words n w → m ≡ n
 one_make words m n v w h k =
@@ -90,6 +121,7 @@ of_answer words t u said (of_plan meaning) due h n w m = two_commands words n du
 of_answer words t u said (of_relink meaning) due h n w m = make_or_relink words n w m due.0
 of_answer words t u said (of_place meaning) due h n w m = make_or_place words n w m due.0
 of_answer words t u said (of_space meaning) due h n w m = make_or_space words n w m due.0
+of_answer words t u said (of_verify meaning v) due h n w m = make_or_verify words n w m due.0
 of_answer words t u said (of_make k) due h n w m =
     (due.1, subst (λ (i : ℕ). IsWritten u exit.linked (made_text i) said) (one_make words k n due.0.0 w due.0.1 m) h)
 

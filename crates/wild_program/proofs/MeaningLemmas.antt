@@ -10,12 +10,15 @@ use Rattle.wild_text.specs.declared.relink.RelinkRequest.{RelinkRequest}
 use Rattle.wild_text.specs.Place.{place_in}
 use Rattle.wild_text.specs.declared.place.PlaceRequest.{PlaceRequest}
 use Rattle.wild_text.specs.Space.{space_in}
+use Rattle.wild_text.specs.Verify.{verify_in}
+use Rattle.wild_text.specs.declared.verify.VerifyRequest.{VerifyRequest}
+use Rattle.wild_checker.specs.declared.verdict.Verdict.{Verdict}
 use Rattle.wild_text.specs.declared.space.SpaceRequest.{SpaceRequest}
 use Rattle.wild_program.specs.Exit as exit
-use Rattle.wild_program.specs.Program.{IsLinkCommand, IsRelinkCommand, IsPlaceCommand, IsSpace, limit, Answer, usage, read_fault, too_long, of_plan, of_make, of_relink, of_place, of_space, status, text, SourceChange, SinkChange, HasMeaningBy, IsRightAnswer, IsWritten}
+use Rattle.wild_program.specs.Program.{IsLinkCommand, IsRelinkCommand, IsPlaceCommand, IsSpace, IsVerify, limit, Answer, usage, read_fault, too_long, of_plan, of_make, of_relink, of_place, of_space, of_verify, IsVerdictOn, status, text, SourceChange, SinkChange, HasMeaningBy, IsRightAnswer, IsWritten}
 use Rattle.wild_program.specs.Clauses.{NothingFailed, IsWrittenWhole}
 use Rattle.wild_program.proofs.Statuses.{clash}
-use Rattle.wild_program.proofs.Commands.{two_commands, link_or_relink, link_or_place, relink_or_place, place_or_space, make_or_place, relink_or_space, make_or_relink, link_or_space, make_or_space}
+use Rattle.wild_program.proofs.Commands.{two_commands, link_or_relink, link_or_place, relink_or_place, place_or_space, make_or_place, relink_or_space, make_or_relink, link_or_space, make_or_space, link_or_verify, relink_or_verify, place_or_verify, space_or_verify, make_or_verify}
 use Rattle.wild_program.proofs.OneMeaning.{one_meaning}
 use Rattle.wild_program.proofs.SourceLemmas.{all_read, not_too_long}
 
@@ -37,6 +40,7 @@ whole_if_calm words t u (of_make n) calm due whole left short = tt
 whole_if_calm words t u (of_relink m) calm due whole left short = tt
 whole_if_calm words t u (of_place m) calm due whole left short = tt
 whole_if_calm words t u (of_space m) calm due whole left short = tt
+whole_if_calm words t u (of_verify m v) calm due whole left short = tt
 
 -- and each whose status is 0
 pub whole_if_linked : (a : Answer) (said : ℕ) → said ≡ exit.linked → said ≡ status a → IsForWholeInput a
@@ -48,6 +52,7 @@ whole_if_linked (of_make n) said zero h = tt
 whole_if_linked (of_relink m) said zero h = tt
 whole_if_linked (of_place m) said zero h = tt
 whole_if_linked (of_space m) said zero h = tt
+whole_if_linked (of_verify m v) said zero h = tt
 
 -- a text with status 0 was written whole
 pub written_if_linked : (u : SinkChange) (said : ℕ) (a : Answer) → said ≡ exit.linked → IsWritten u (status a) (text a) said → IsWrittenWhole u a said
@@ -71,6 +76,7 @@ plan_answer words t (of_make n) for_whole due whole meaning command left means =
 plan_answer words t (of_relink m) for_whole due whole meaning command left means = link_or_relink words command due.0
 plan_answer words t (of_place m) for_whole due whole meaning command left means = link_or_place words command due.0
 plan_answer words t (of_space m) for_whole due whole meaning command left means = link_or_space words command due.0
+plan_answer words t (of_verify m v) for_whole due whole meaning command left means = link_or_verify words command due.0
 
 -- the answer for `relink W`
 pub relink_answer : (words : List (String Global)) (t : SourceChange) (a : Answer) → IsForWholeInput a → IsRightAnswer words t a → (whole : List ℕ) (meaning : Meaning RelinkRequest) → IsRelinkCommand words → t.left_before ≡ Some whole → MeansBy relink_in whole meaning → a ≡ of_relink meaning
@@ -82,6 +88,7 @@ relink_answer words t (of_make n) for_whole due whole meaning command left means
 relink_answer words t (of_relink m) for_whole due whole meaning command left means = ap (λ (k : Meaning RelinkRequest). of_relink k) (same_meaning relink_in t whole m meaning left due.1 means)
 relink_answer words t (of_place m) for_whole due whole meaning command left means = relink_or_place words command due.0
 relink_answer words t (of_space m) for_whole due whole meaning command left means = relink_or_space words command due.0
+relink_answer words t (of_verify m v) for_whole due whole meaning command left means = relink_or_verify words command due.0
 
 -- the answer for `place W`
 pub place_answer : (words : List (String Global)) (t : SourceChange) (a : Answer) → IsForWholeInput a → IsRightAnswer words t a → (whole : List ℕ) (meaning : Meaning PlaceRequest) → IsPlaceCommand words → t.left_before ≡ Some whole → MeansBy place_in whole meaning → a ≡ of_place meaning
@@ -93,10 +100,11 @@ place_answer words t (of_make n) for_whole due whole meaning command left means 
 place_answer words t (of_relink m) for_whole due whole meaning command left means = relink_or_place words due.0 command
 place_answer words t (of_place m) for_whole due whole meaning command left means = ap (λ (k : Meaning PlaceRequest). of_place k) (same_meaning place_in t whole m meaning left due.1 means)
 place_answer words t (of_space m) for_whole due whole meaning command left means = place_or_space words command due.0
+place_answer words t (of_verify m v) for_whole due whole meaning command left means = place_or_verify words command due.0
 
 -- the answer for `space`
 pub space_answer : (words : List (String Global)) (t : SourceChange) (a : Answer) → IsForWholeInput a → IsRightAnswer words t a → (whole : List ℕ) (meaning : Meaning SpaceRequest) → IsSpace words → t.left_before ≡ Some whole → MeansBy space_in whole meaning → a ≡ of_space meaning
-space_answer words t usage for_whole due whole meaning command left means = absurd (due.0 (inl (inr (inr (inr command)))))
+space_answer words t usage for_whole due whole meaning command left means = absurd (due.0 (inl (inr (inr (inr (inl command))))))
 space_answer words t read_fault for_whole due whole meaning command left means = absurd for_whole
 space_answer words t too_long for_whole due whole meaning command left means = absurd for_whole
 space_answer words t (of_plan m) for_whole due whole meaning command left means = link_or_space words due.0 command
@@ -104,3 +112,19 @@ space_answer words t (of_make n) for_whole due whole meaning command left means 
 space_answer words t (of_relink m) for_whole due whole meaning command left means = relink_or_space words due.0 command
 space_answer words t (of_place m) for_whole due whole meaning command left means = place_or_space words due.0 command
 space_answer words t (of_space m) for_whole due whole meaning command left means = ap (λ (k : Meaning SpaceRequest). of_space k) (same_meaning space_in t whole m meaning left due.1 means)
+space_answer words t (of_verify m v) for_whole due whole meaning command left means = space_or_verify words command due.0
+
+-- the answer for `verify`, with a verdict on what was read
+pub verify_answer : (words : List (String Global)) (t : SourceChange) (a : Answer) → IsForWholeInput a → IsRightAnswer words t a → (whole : List ℕ) (meaning : Meaning VerifyRequest) → IsVerify words → t.left_before ≡ Some whole → MeansBy verify_in whole meaning
+    → (v : Verdict) × (a ≡ of_verify meaning v) × IsVerdictOn meaning v
+verify_answer words t usage for_whole due whole meaning command left means = absurd (due.0 (inl (inr (inr (inr (inr command))))))
+verify_answer words t read_fault for_whole due whole meaning command left means = absurd for_whole
+verify_answer words t too_long for_whole due whole meaning command left means = absurd for_whole
+verify_answer words t (of_plan m) for_whole due whole meaning command left means = link_or_verify words due.0 command
+verify_answer words t (of_make n) for_whole due whole meaning command left means = make_or_verify words n due.0.0 due.0.1 command
+verify_answer words t (of_relink m) for_whole due whole meaning command left means = relink_or_verify words due.0 command
+verify_answer words t (of_place m) for_whole due whole meaning command left means = place_or_verify words due.0 command
+verify_answer words t (of_space m) for_whole due whole meaning command left means = space_or_verify words due.0 command
+verify_answer words t (of_verify m v) for_whole due whole meaning command left means =
+    let same = same_meaning verify_in t whole m meaning left due.1 means in
+    (v, ap (λ (k : Meaning VerifyRequest). of_verify k v) same, subst (λ (k : Meaning VerifyRequest). IsVerdictOn k v) same due.2)

@@ -6,6 +6,7 @@
 --   IsLinkedText layout text  the text is that of a sound image of the layout
 --   IsRewrittenText layout text   the text says that a change was written, and then is that of a sound image of the layout
 --   IsPlacedText request text the text is that of a memory in which the references of the layout hold
+--   IsVerdictOn meaning v     v is the verdict on the image that was read
 --   IsSpaceText request text  the text is that of images that are bound as a dynamic linker binds them
 use Rattle.std.specs.Prelude.{◌≡◌, ℕ, ◌+◌, ◌^◌, ◌<◌, ◌≤◌, List, [], ◌∷◌, ◌++◌, length, map, codes, decimal, string_bytes, String, Option, Some, Result, Ok, Err, ◌⊎◌}
 use Rattle.std.specs.List.{sum}
@@ -21,10 +22,20 @@ use Rattle.wild_types.specs.declared.warning.EntryWarning.{EntryWarning}
 use Rattle.wild_layout.specs.Image.{bytes, counts}
 use Rattle.wild_layout.specs.Warnings.{warnings}
 use Rattle.wild_layout.specs.Faults.{errors}
+use Rattle.wild_layout.specs.Faults.{clause_errors}
+use Rattle.wild_plan_rules.specs.WellFormed.{first_clause}
 use Rattle.wild_meaning.specs.LinkedImage.{IsSound}
+use Rattle.wild_checker.specs.Verdict.{IsAnswer}
+use Rattle.wild_checker.specs.declared.verdict.Doubt.{Doubt}
+use Rattle.wild_checker.specs.declared.verdict.Doubt.TheVariants as doubts
+use Rattle.wild_checker.specs.declared.verdict.Verdict.{Verdict}
+use Rattle.wild_checker.specs.declared.verdict.Verdict.TheVariants.{Yes, No}
 use Rattle.serde_json.specs.Data.{Data}
 use Rattle.wild_text.specs.Means.{Meaning, no_json, no_plan, plan, MeansBy}
 use Rattle.wild_text.specs.Plan.{layout_in}
+use Rattle.wild_text.specs.Verify.{verify_in}
+use Rattle.wild_text.specs.VerifyAnswer.{yes_text, no_partial_text, no_load_text, no_segment_text, no_byte_text, no_reference_text}
+use Rattle.wild_text.specs.declared.verify.VerifyRequest.{VerifyRequest}
 use Rattle.wild_text.specs.Relink.{relink_in}
 use Rattle.wild_text.specs.RelinkAnswer.{rewritten_line, rewritten_text, no_section_text, no_length_text}
 use Rattle.wild_text.specs.declared.relink.RelinkRequest.{RelinkRequest}
@@ -90,13 +101,21 @@ IsPlace words n = HasWorkers (codes "place") words n
 abbrev pub IsPlaceCommand : List (String Global) → Type 0
 IsPlaceCommand words = (n : ℕ) × IsPlace words n
 
+-- the words are this name alone
+abbrev pub IsWord : List ℕ → List (String Global) → Type 0
+IsWord name words = map string_bytes words ≡ name ∷ []
+
 -- the word is `space`
 abbrev pub IsSpace : List (String Global) → Type 0
-IsSpace words = map string_bytes words ≡ codes "space" ∷ []
+IsSpace words = IsWord (codes "space") words
+
+-- the word is `verify`
+abbrev pub IsVerify : List (String Global) → Type 0
+IsVerify words = IsWord (codes "verify") words
 
 -- the words are a command that reads its input to the end
 abbrev pub IsReading : List (String Global) → Type 0
-IsReading words = IsLinkCommand words ⊎ (IsRelinkCommand words ⊎ (IsPlaceCommand words ⊎ IsSpace words))
+IsReading words = IsLinkCommand words ⊎ (IsRelinkCommand words ⊎ (IsPlaceCommand words ⊎ (IsSpace words ⊎ IsVerify words)))
 
 -- the words are a command
 abbrev pub IsCommand : List (String Global) → Type 0
@@ -109,6 +128,7 @@ Asks words (command.Make n w) = IsMake words n w
 Asks words (command.Relink w) = IsRelink words w
 Asks words (command.Place w) = IsPlace words w
 Asks words command.Space = IsSpace words
+Asks words command.Verify = IsVerify words
 
 -- the possible answers
 pub data Answer : Type 0 where
@@ -120,6 +140,7 @@ pub data Answer : Type 0 where
   of_relink : Meaning RelinkRequest → Answer
   of_place : Meaning PlaceRequest → Answer
   of_space : Meaning SpaceRequest → Answer
+  of_verify : Meaning VerifyRequest → Verdict → Answer
 
 -- the status for a layout with these faults
 abbrev pub errors_status : List Error → ℕ
@@ -212,6 +233,52 @@ space_status s = bound_status (bound_images s)
 abbrev pub space_answer_text : SpaceRequest → List ℕ
 space_answer_text s = bound_text (bound_images s)
 
+-- the fault of the first clause that fails, if the layout is not well formed
+abbrev pub clause_faults : Layout → List Error
+clause_faults l = clause_errors (first_clause l)
+
+-- the text of a doubt
+abbrev pub doubt_text : Doubt → List ℕ
+doubt_text doubts.Partial = no_partial_text
+doubt_text (doubts.Load fault) = no_load_text fault
+doubt_text (doubts.Segment index) = no_segment_text index
+doubt_text (doubts.Byte site) = no_byte_text site.group site.file site.section site.index
+doubt_text (doubts.Reference site) = no_reference_text site.group site.file site.section site.index
+
+abbrev pub verdict_status : Verdict → ℕ
+verdict_status Yes = exit.linked
+verdict_status (No doubt) = exit.doubted
+
+abbrev pub verdict_text : Verdict → List ℕ
+verdict_text Yes = yes_text
+verdict_text (No doubt) = doubt_text doubt
+
+-- the status for a plan whose clauses have these faults, with that verdict on the image
+abbrev pub check_status : List Error → Verdict → ℕ
+check_status (e ∷ es) v = exit.refused
+check_status [] v = verdict_status v
+
+abbrev pub check_text : List Error → Verdict → List ℕ
+check_text (e ∷ es) v = refusal_text e
+check_text [] v = verdict_text v
+
+-- `refused` if the plan is not well formed; else `linked` or `doubted`, by the verdict on the image
+abbrev pub verify_status : Verdict → VerifyRequest → ℕ
+verify_status v r = check_status (clause_faults r.plan) v
+
+abbrev pub verify_text : Verdict → VerifyRequest → List ℕ
+verify_text v r = check_text (clause_faults r.plan) v
+
+-- v is the verdict on the image, if the plan is well formed
+abbrev pub IsVerdictOf : VerifyRequest → Verdict → Type 0
+IsVerdictOf r v = clause_faults r.plan ≡ [] → IsAnswer r.plan r.image v
+
+-- the same for what was read; without a plan there is none
+abbrev pub IsVerdictOn : Meaning VerifyRequest → Verdict → Type 0
+IsVerdictOn no_json v = Unit {0}
+IsVerdictOn (no_plan path) v = Unit {0}
+IsVerdictOn (plan r) v = IsVerdictOf r v
+
 -- the status for the meaning of an input, by the status of what it encodes
 abbrev pub meaning_status : {X : Type 0} → (X → ℕ) → Meaning X → ℕ
 meaning_status status_of no_json = exit.no_plan
@@ -233,9 +300,10 @@ status (of_make n) = exit.linked
 status (of_relink meaning) = meaning_status relink_status meaning
 status (of_place meaning) = meaning_status place_status meaning
 status (of_space meaning) = meaning_status space_status meaning
+status (of_verify meaning v) = meaning_status (verify_status v) meaning
 
 abbrev pub text : Answer → List ℕ
-text usage = codes "usage: link W | make N W | relink W | place W | space\n"
+text usage = codes "usage: link W | make N W | verify | relink W | place W | space\n"
 text read_fault = codes "read fault\n"
 text too_long = codes "plan too long\n"
 text (of_plan meaning) = meaning_text layout_text meaning
@@ -243,6 +311,7 @@ text (of_make n) = made_text n
 text (of_relink meaning) = meaning_text relink_answer_text meaning
 text (of_place meaning) = meaning_text place_answer_text meaning
 text (of_space meaning) = meaning_text space_answer_text meaning
+text (of_verify meaning v) = meaning_text (verify_text v) meaning
 
 -- the maximal size of a plan in bytes
 abbrev pub limit : ℕ
@@ -291,6 +360,7 @@ IsRightAnswer words t (of_make n) = ((w : ℕ) × IsMake words n w) × NothingRe
 IsRightAnswer words t (of_relink meaning) = IsRelinkCommand words × HasMeaningBy relink_in t meaning
 IsRightAnswer words t (of_place meaning) = IsPlaceCommand words × HasMeaningBy place_in t meaning
 IsRightAnswer words t (of_space meaning) = IsSpace words × HasMeaningBy space_in t meaning
+IsRightAnswer words t (of_verify meaning v) = IsVerify words × HasMeaningBy verify_in t meaning × IsVerdictOn meaning v
 
 -- the state of the sink before and after: the bytes written so far, and the number of failed writes
 pub record SinkChange : Type 0 where

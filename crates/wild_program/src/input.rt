@@ -27,8 +27,11 @@ pub(crate) fn read_input<S: Source>(
         (source_change (S.unread_bytes source.old) (S.unread_bytes source.new) (S.faults source.old) (S.faults source.new)) }
 {
     match command {
-        Command::Link { .. } | Command::Relink { .. } | Command::Place { .. } | Command::Space =>
-            read_whole(alloc, source, LIMIT),
+        Command::Link { .. }
+        | Command::Verify
+        | Command::Relink { .. }
+        | Command::Place { .. }
+        | Command::Space => read_whole(alloc, source, LIMIT),
         Command::Make { .. } => Ok(Vec::new(alloc)),
     }
 }

@@ -4,7 +4,7 @@ ghost use Rattle.wild_io.specs.Memory.{sure_unread};
 ghost use Rattle.wild_program.specs.Exit.{read_fault, cut_short};
 ghost use Rattle.wild_program.specs.declared.command.Command.TheVariants.{Link};
 ghost use Rattle.wild_program.specs.Program.{Asks, layout_status, layout_text, source_change, sink_change, IsWritten, IsAnswered};
-ghost use Rattle.wild_program.specs.Clauses.{HasItsCause, NothingFailed, IsDetermined, IsComplete, IsHeadline, IsMadeBy, IsBoundBy};
+ghost use Rattle.wild_program.specs.Clauses.{HasItsCause, NothingFailed, IsDetermined, IsComplete, IsHeadline, IsMadeBy, IsBoundBy, IsCheckedBy};
 ghost use Rattle.wild_program.specs.Steps.{IsRefusal, HasRightNumbers, IsAnswerOf, IsAnsweredBy};
 
 use crate::command::Command;
@@ -14,6 +14,7 @@ use crate::place::loaded_answer;
 use crate::relink::rewrite_answer;
 use crate::space::bind_answer;
 use crate::status::{CUT_SHORT, LINKED, NO_PLAN, READ_FAULT, REFUSED, TOO_LONG, USAGE};
+use crate::verify::checked_answer;
 use crate::words::command_of;
 use std::alloc::{AllocError, Global};
 use std::thread::Threads;
@@ -112,6 +113,7 @@ fn command_answer(
             let summary = made_answer(rt, alloc, groups, workers)?;
             Ok((LINKED, summary))
         }
+        Command::Verify => checked_answer(alloc, bytes),
         Command::Relink { workers } => rewrite_answer(rt, alloc, bytes, workers),
         Command::Place { workers } => loaded_answer(rt, alloc, bytes, workers),
         Command::Space => bind_answer(alloc, bytes),
@@ -159,7 +161,7 @@ fn run_command<S: Source, K: Sink>(
     match command_of(alloc, words)? {
         None => Ok(write_answer(
             sink,
-            b"usage: link W | make N W | relink W | place W | space\n",
+            b"usage: link W | make N W | verify | relink W | place W | space\n",
             USAGE,
         )),
         Some(command) => answer_command(rt, alloc, words, command, source, sink),
@@ -167,13 +169,14 @@ fn run_command<S: Source, K: Sink>(
 }
 
 /// The whole program: reads the plan if the words need one, and writes the answer's text. The status is
-/// - 0 (`LINKED`): an image, a summary, a memory or the binds of images were written;
+/// - 0 (`LINKED`): an image, a summary, a memory or the binds of images were written, or the image is right;
 /// - 1 (`REFUSED`): the layout has a fault;
 /// - 2 (`USAGE`): the words are not a command;
 /// - 3 (`NO_PLAN`): the bytes are not a plan;
 /// - 4 (`READ_FAULT`): a read failed;
 /// - 5 (`CUT_SHORT`): a write failed;
 /// - 7 (`TOO_LONG`): the plan is too long;
+/// - 8 (`DOUBTED`): the image is doubted;
 /// - 9 (`NOT_CHANGED`): the change names no section that may be changed, or has bytes of another length;
 /// - 10 (`NOT_PLACED`): the loader does not load the image in the world;
 /// - 11 (`NOT_BOUND`): the images are not bound.
@@ -220,6 +223,9 @@ pub fn run<S: Source, K: Sink>(
     ensures bound { IfOk result (λ said. IsBoundBy words.now
         (source_change (S.unread_bytes source.old) (S.unread_bytes source.new) (S.faults source.old) (S.faults source.new))
         (sink_change (K.output_bytes sink.old) (K.output_bytes sink.new) (K.faults sink.old) (K.faults sink.new)) said) }
+    // If `verify` ends with status 0, the loader accepts the image in every legal world of the plan, and each kept item holds there.
+    ensures checked { IfOk result (λ said. IsCheckedBy words.now
+        (source_change (S.unread_bytes source.old) (S.unread_bytes source.new) (S.faults source.old) (S.faults source.new)) said) }
     // If memory is refused, no byte has been written.
     ensures memory { OnErr result (K.output_bytes sink.new ≡ K.output_bytes sink.old) }
 {

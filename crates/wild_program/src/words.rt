@@ -1,9 +1,9 @@
 //! Parses the words of a command.
-ghost use Rattle.std.specs.Prelude.{◌≡◌, ◌≤◌, ◌<◌, ◌^◌, ℕ, [], drop, IfOk, MatchOption, MatchResult, decimal};
+ghost use Rattle.std.specs.Prelude.{◌≡◌, ◌≤◌, ◌<◌, ◌^◌, ℕ, [], drop, IfOk, MatchOption, MatchResult, MatchBool, decimal};
 ghost use Rattle.std.specs.Vec.Iter.{into_iter_items};
 ghost use Rattle.std.specs.IoError.{error_kind};
 ghost use Rattle.std.specs.declared.io.ErrorKind.TheVariants.{OutOfMemory};
-ghost use Rattle.wild_program.specs.Program.{HasWorkers, IsMakeCommand, IsSpace, IsCommand, Asks};
+ghost use Rattle.wild_program.specs.Program.{HasWorkers, IsWord, IsMakeCommand, IsCommand, Asks};
 
 use crate::command::Command;
 use std::alloc::{AllocError, Global};
@@ -99,18 +99,13 @@ fn make_of(alloc: Global, words: &[String]) -> Result<Option<Command>, AllocErro
     }
 }
 
-/// The command of the one word, if it is one.
-fn space_of(words: &[String]) -> Option<Command>
-    ensures { MatchOption result (IsSpace words.now → ⊥) (Asks words.now) }
+/// Whether the words are this name alone.
+fn is_word(words: &[String], name: &str) -> bool
+    ensures { MatchBool result (IsWord name.now words.now) (IsWord name.now words.now → ⊥) }
 {
     match words {
-        [name] => {
-            if name.as_str() != "space" {
-                return None;
-            }
-            Some(Command::Space)
-        }
-        _ => None,
+        [word] => word.as_str() == name,
+        _ => false,
     }
 }
 
@@ -118,8 +113,11 @@ fn space_of(words: &[String]) -> Option<Command>
 pub fn command_of(alloc: Global, words: &[String]) -> Result<Option<Command>, AllocError>
     ensures { IfOk result (λ o. MatchOption o (IsCommand words.now → ⊥) (Asks words.now)) }
 {
-    if let Some(command) = space_of(words) {
-        return Ok(Some(command));
+    if is_word(words, "space") {
+        return Ok(Some(Command::Space));
+    }
+    if is_word(words, "verify") {
+        return Ok(Some(Command::Verify));
     }
     if let Some(workers) = workers_of(alloc, words, "link")? {
         return Ok(Some(Command::Link { workers }));

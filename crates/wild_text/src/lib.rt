@@ -21,6 +21,8 @@ mod space;
 mod space_lines;
 mod symbol;
 mod values;
+mod verify;
+mod verify_lines;
 mod versions;
 mod warning;
 
@@ -37,3 +39,8 @@ pub use refusal::refusal_answer;
 pub use relink::RelinkRequest;
 pub use space::SpaceRequest;
 pub use space_lines::{space_answer, space_refusal};
+pub use verify::VerifyRequest;
+pub use verify_lines::{
+    no_byte_answer, no_load_answer, no_partial_answer, no_reference_answer, no_segment_answer,
+    yes_answer,
+};
