@@ -233,7 +233,7 @@ def programs():
 def checkout():
     """A folder with the scripts and plans of this checkout, in which the programs are the ones that are checked."""
     with tempfile.TemporaryDirectory() as folder:
-        for name in ("link", "relink", "place", "explain", "needs", "space", "tools", "plans"):
+        for name in ("link", "verify", "relink", "place", "explain", "needs", "space", "tools", "plans"):
             os.symlink(f"{TOP}/{name}", f"{folder}/{name}")
         for name, program in (("wild_main", PROGRAM), ("wild_explain_main", EXPLAIN)):
             os.makedirs(f"{folder}/crates/{name}/out")

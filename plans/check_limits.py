@@ -54,7 +54,7 @@ def levels():
 
 
 def workers():
-    for count, said in (("1", "image 344"), ("64", "image 344"), ("65", "usage: link W | make N W | relink W | place W | space"), ("0", "usage: link W | make N W | relink W | place W | space")):
+    for count, said in (("1", "image 344"), ("64", "image 344"), ("65", "usage: link W | make N W | verify | relink W | place W | space"), ("0", "usage: link W | make N W | verify | relink W | place W | space")):
         asked(f"{count} workers", said, plan(), count)
 
 

@@ -180,8 +180,8 @@ def not_waiting(plan):
 
 def commands():
     """Words that are no command."""
-    usage = (2, b"usage: link W | make N W | relink W | place W | space\n")
-    for words in ([], [""], ["link"], ["link", ""], ["link", "0"], ["link", "65"], ["link", "+1"], ["link", " 1"], ["link", "1", "1"], ["LINK", "1"], ["relink"], ["relink", "0"], ["place"], ["place", "65"], ["space", "1"], ["Space"], ["make", "2"], ["make", "65537", "1"],
+    usage = (2, b"usage: link W | make N W | verify | relink W | place W | space\n")
+    for words in ([], [""], ["link"], ["link", ""], ["link", "0"], ["link", "65"], ["link", "+1"], ["link", " 1"], ["link", "1", "1"], ["LINK", "1"], ["relink"], ["relink", "0"], ["place"], ["place", "65"], ["space", "1"], ["Space"], ["verify", "1"], ["Verify"], ["make", "2"], ["make", "65537", "1"],
                   ["make", "2", "18446744073709551617"], [b"\xff"], ["link", b"\xff"], ["link", "1" * 100000]):
         name = str(words) if len(str(words)) < 40 else str(words)[:40] + ".."
         told(f"words {name}", usage, run(words))

@@ -8,7 +8,7 @@ refused, by answer, and each refusal that had another answer; the status is 0 wh
     plans/refuse_growth.py PROGRAM smallest every     these plans alone, `make`, `space` and shards
 
 Each allocation is refused of `make 2 2`, of `space` for three images, of each plan, among them the smallest and one with a part of each role
-(plans/every.json), of `relink` for a section of each plan, and of `place` for each plan at base 0. Of a plan whose debug section is cut into shards, which has 65,537 relocations, each is refused from the last of reading on, and some of those ahead.
+(plans/every.json), of `relink` for a section of each plan, of `place` for each plan at base 0, and of `verify` for each plan and its image. Of a plan whose debug section is cut into shards, which has 65,537 relocations, each is refused from the last of reading on, and some of those ahead.
 
 The program asks the C library for memory, so a library that is loaded ahead of it refuses allocation N (malloc, calloc, realloc and their
 like), or that and all behind it. It says so with a byte on standard error, on which the program writes nothing; so the first run without that byte
@@ -102,6 +102,13 @@ def with_world(plan):
     return json.dumps({"plan": value, "world": {"symbols": [{}] * (count + 1), "resolvers": chosen}}, separators=(",", ":")).encode()
 
 
+def with_image(program, plan):
+    """The input of `verify`: a plan, and the image that `link` prints of it."""
+    printed = subprocess.run([program, "link", "1"], input=plan, stdout=subprocess.PIPE).stdout.decode()
+    image = "".join(line for line in printed.split("\n") if " " not in line)
+    return json.dumps({"plan": json.loads(plan), "image": image}, separators=(",", ":")).encode()
+
+
 def sweep(program, library, words, plan, others):
     """How often each answer came, where one allocation is refused, and where (others) all behind it are too."""
     came, odd = Counter(), []
@@ -181,6 +188,7 @@ def main():
             runs += [(["link", workers], f"plans/{os.path.basename(path)}", plan) for workers in ("1", "2")]
             runs += [(["relink", "1"], f"plans/{os.path.basename(path)}", with_change(plan))]
             runs += [(["place", workers], f"plans/{os.path.basename(path)}", with_world(plan)) for workers in ("1", "2")]
+            runs += [(["verify"], f"plans/{os.path.basename(path)}", with_image(program, plan))]
     failed, tried = False, 0
     with tempfile.TemporaryDirectory() as folder:
         library = shim(folder)

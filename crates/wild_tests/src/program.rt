@@ -46,6 +46,7 @@ const NO_COMMANDS: &[&[&str]] = &[
     &["place", "01"],
     &["place", "65"],
     &["space", "1"],
+    &["verify", "1"],
     &["--help"],
 ];
 
@@ -53,7 +54,7 @@ const NO_COMMANDS: &[&[&str]] = &[
 fn words_that_are_no_command(rt: HostRuntime) -> Result<(), Fail> {
     for words in NO_COMMANDS {
         let (status, text) = answer(&rt, rt.alloc(), words, b"{}", &CALM)?;
-        let usage = b"usage: link W | make N W | relink W | place W | space\n".as_slice();
+        let usage = b"usage: link W | make N W | verify | relink W | place W | space\n".as_slice();
         assert!(rt; status == 2 && text.as_slice() == usage, "{words:?}");
     }
     Ok(())
@@ -144,6 +145,13 @@ const TEXTS: &[(&[&str], &str, &str, usize)] = &[
         1,
     ),
     (&["place", "1"], r#"{"world":0}"#, "not a plan: /world\n", 1),
+    (
+        &["verify"],
+        "{}",
+        "refused MalformedLayout clause=1 index=0\n",
+        1,
+    ),
+    (&["verify"], r#"{"image":"0"}"#, "not a plan: /image\n", 1),
     (&["space"], "{}", "not a plan: /images\n", 1),
     (&["space"], SPACE, "order 0\n", 1),
     (
@@ -155,7 +163,7 @@ const TEXTS: &[(&[&str], &str, &str, usize)] = &[
     (
         &[],
         "",
-        "usage: link W | make N W | relink W | place W | space\n",
+        "usage: link W | make N W | verify | relink W | place W | space\n",
         1,
     ),
 ];

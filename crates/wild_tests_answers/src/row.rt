@@ -42,6 +42,9 @@ fn command_of(row: &str) -> &'static str {
         if word == "space" {
             return "space";
         }
+        if word == "image" || word == "verify" {
+            return "verify";
+        }
         if word == "world" || word == "place" {
             return "place";
         }
@@ -54,11 +57,15 @@ fn command_of(row: &str) -> &'static str {
 
 /// Whether the text of a line is a whole input.
 fn is_input(word: &str) -> bool {
-    word == "text" || word == "space" || word == "relink" || word == "place"
+    word == "text"
+        || word == "space"
+        || word == "relink"
+        || word == "place"
+        || word == "verify"
 }
 
-/// The input of a row: a plan by its name, or a text. Each `new` replaces the `old` before it, which has to occur in the input. A `change`
-/// or a `world` adds itself to the plan before it.
+/// The input of a row: a plan by its name, or a text. Each `new` replaces the `old` before it, which has to occur in the input. A `change`,
+/// a `world` or an `image` adds itself to the plan before it.
 fn input_of(alloc: Global, row: &str) -> Result<Option<String>, AllocError> {
     let mut plan = String::new(alloc);
     let mut old = String::new(alloc);
@@ -75,6 +82,8 @@ fn input_of(alloc: Global, row: &str) -> Result<Option<String>, AllocError> {
             plan = format!(in alloc; "{{\"plan\":{plan},\"change\":{text}}}")?;
         } else if word == "world" {
             plan = format!(in alloc; "{{\"plan\":{plan},\"world\":{text}}}")?;
+        } else if word == "image" {
+            plan = format!(in alloc; "{{\"plan\":{plan},\"image\":\"{text}\"}}")?;
         } else if word == "old" {
             old = String::from_str(alloc, text)?;
         } else if word == "new" {
@@ -106,12 +115,15 @@ fn status_of(answer: &str) -> u8 {
         || answer.starts_with("order")
         || answer.starts_with("rewritten")
         || answer.starts_with("at ")
+        || answer.starts_with("yes")
     {
         0
     } else if answer.starts_with("refused") {
         1
     } else if answer.starts_with("no change") {
         9
+    } else if answer.starts_with("no ") {
+        8
     } else if answer.starts_with("not placed") {
         10
     } else if answer.starts_with("not bound") {
@@ -139,14 +151,15 @@ fn is_written(
     Ok(true)
 }
 
-/// Whether this is the whole answer of `space` for the input.
-fn is_bound(
+/// Whether this is the whole answer for the input of a command without workers.
+fn is_answered(
     rt: &(impl Threads + Sync),
     alloc: Global,
+    command: &str,
     input: &str,
     answer: &str,
 ) -> Result<bool, AllocError> {
-    let (status, text) = command_answer(rt, alloc, &["space"], input)?;
+    let (status, text) = command_answer(rt, alloc, &[command], input)?;
     Ok(status == status_of(answer) && text.as_slice() == answer.as_bytes())
 }
 
@@ -196,8 +209,8 @@ pub(crate) fn row_holds(
     };
     let (input, answer) = (input.as_str(), answer.as_str());
     let command = command_of(row);
-    if command == "space" {
-        return is_bound(rt, alloc, input, answer);
+    if command == "space" || command == "verify" {
+        return is_answered(rt, alloc, command, input, answer);
     }
     let is_right = is_written(rt, alloc, command, input, answer)?;
     Ok(is_right && is_explained(rt, alloc, input, answer, row)?)

@@ -1,4 +1,4 @@
-//! The program: `link W`, `make N W`, `relink W`, `place W`, `space`, `explain ..` and `needs`, as the proved programs have them.
+//! The program: `link W`, `make N W`, `verify`, `relink W`, `place W`, `space`, `explain ..` and `needs`, as the proved programs have them.
 
 use std::fs::File;
 use std::io;
