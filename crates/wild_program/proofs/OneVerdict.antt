@@ -31,7 +31,7 @@ same_cons x y xs ys a b = rw (a, b) refl
 -- ---- ascending numbers in another order
 
 -- 1 below a number, else 0
-below : ℕ → ℕ → ℕ
+abbrev below : ℕ → ℕ → ℕ
 below n x = if nat_lt x n then 1 else 0
 
 none_below : (n : ℕ) (xs : List ℕ) → All (λ x. n ≤ x) xs → sum_by (below n) xs ≡ 0
@@ -108,7 +108,7 @@ has_width (changes.Half t) = omega arith
 has_width (changes.Descriptor t) = omega arith
 
 -- one change ends at or before the place of the other
-EndsBefore : TermPatch → TermPatch → Type 0
+abbrev EndsBefore : TermPatch → TermPatch → Type 0
 EndsBefore p q = p.place + width_of p.change ≤ q.place
 
 ends_before : (p q : TermPatch) → EndsBefore p q → p.place < q.place

@@ -49,8 +49,8 @@ verdict_said r v code said none is holds c t = record {
 -- ---- status 0
 
 record IsYes (es : List Error) (v : Verdict) : Type 0 where
-  none : es ≡ []
-  yes : v ≡ Yes
+  pub none : es ≡ []
+  pub yes : v ≡ Yes
 
 is_yes : (es : List Error) (v : Verdict) (said : ℕ) → said ≡ exit.linked → said ≡ check_status es v → IsYes es v
 is_yes (e ∷ es) v said zero h = clash exit.linked exit.refused said refl zero h
@@ -59,8 +59,8 @@ is_yes [] (No doubt) said zero h = clash exit.linked exit.doubted said refl zero
 
 -- an answer that is known, with its status
 record IsKnown (said : ℕ) (a : Answer) : Type 0 where
-  status_is : said ≡ status a
-  fits : AnswerFits a
+  pub status_is : said ≡ status a
+  pub fits : AnswerFits a
 
 pub checked_by : (words : List (String Global)) (t : SourceChange) (u : SinkChange) (said : ℕ) → IsAnsweredBy words t u said → IsCheckedBy words t said
 checked_by words t u said h = λ whole r command zero left means.
