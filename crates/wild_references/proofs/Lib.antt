@@ -11,7 +11,7 @@ mod Values
 pub mod Symbols
 mod SlotFlags
 mod SlotContents
-mod StubCode
+pub mod StubCode
 mod EntryWords
 mod AnsweredValues
 mod FirstSlots

@@ -1,9 +1,11 @@
 -- In an item whose fields all have their formulas' values, and whose other bytes are the input's, each instruction does what it demands.
-use Rattle.std.proofs.Common.{◌≡◌, ℕ, ◌+◌, ◌<◌, inl, inr, List, [], ◌∷◌, length, refl, sym, ap, ◌∙◌, subst, arith}
+use Rattle.std.proofs.Common.{◌≡◌, ℕ, ◌+◌, ◌%◌, ◌<◌, inl, inr, true, false, List, [], ◌∷◌, length, refl, sym, ap, ◌∙◌, subst, arith}
 use Rattle.std.specs.Prelude.{Option, Some, None, Contains}
 use Rattle.wild_words.proofs.Basics.{listed_at}
 use Rattle.wild_reloc.specs.declared.info.RelocationKindInfo.{RelocationKindInfo}
-use Rattle.wild_reloc.specs.Formula.{Formula}
+use Rattle.wild_reloc.specs.declared.expression.Class.TheVariants as class
+use Rattle.wild_reloc.specs.Expression.{expression_of, has_value, writes}
+use Rattle.wild_reloc.specs.Formula.{Formula, Reads}
 use Rattle.wild_reloc.specs.FormulaX86_64.{x86_64_formula}
 use Rattle.wild_reloc.specs.Agreement.{Agrees}
 use Rattle.wild_types.specs.declared.kind.Machine.{Machine}
@@ -23,8 +25,9 @@ use Rattle.wild_meaning.specs.Template.{IsInstruction, IsSingle, IsTemplate, rea
 use Rattle.wild_meaning.specs.Reference.{MustHold, UsesOwnSymbolOnly}
 use Rattle.wild_meaning.proofs.PairLemmas.{as_pair}
 use Rattle.wild_references.specs.Laws.{FieldHolds}
-use Rattle.wild_references.specs.PlainLaws.{AllFieldsHold, PlainInstructionsDo, HasFormula, RowsHaveFormulas}
-use Rattle.wild_references.proofs.KnownRows.{formula_there}
+use Rattle.wild_references.specs.PlainLaws.{AllFieldsHold, PlainInstructionsDo, ReadsLowBits, HasFormula, RowsHaveFormulas}
+use Rattle.wild_references.proofs.KnownRows.{IsSeen, row_fits, formula_there}
+use Rattle.wild_references.proofs.LowForms.{reads_low}
 use Rattle.wild_references.proofs.WindowRows.{width_of, width_by}
 use Rattle.wild_references.proofs.Does.{HasField, PartnersThere}
 use Rattle.wild_references.proofs.RightOperands.{does_demanded}
@@ -37,10 +40,25 @@ use Rattle.wild_references.proofs.SequencesAArch64.{run_does}
 
 -- ---- rows
 
+-- a field with the offset of an address in its page has its bits below 4096
+low_bits : RowsAreRead → (m : Machine) (n : ℕ) (row : RelocationKindInfo) (f : Formula) → row_of m n ≡ Some row → formula_of m n ≡ Some f → (expression_of row.kind).class ≡ class.Part → ReadsLowBits f.form
+low_bits agree m n row f is known part bytes v x reads same =
+    let fits = row_fits agree m n row is (ap has_value part) in
+    let both : Some fits.formula ≡ Some f = sym fits.known ∙ known in
+    let one = the_formula fits.formula f both in
+    by_seen (subst (λ (g : Formula). IsSeen m row.kind g.form) one fits.seen)
+  where
+    the_formula : (a b : Formula) → (let o : Option Formula = Some a in o) ≡ Some b → a ≡ b
+    the_formula a b e = cc
+
+    by_seen : IsSeen m row.kind f.form → Reads f.form bytes x
+    by_seen (inl whole) = (let none : writes (expression_of row.kind).class ≡ false = ap writes part in let both : true ≡ false = sym whole ∙ none in cc)
+    by_seen (inr low) = reads_low f.form bytes v x low.low reads same
+
 pub rows_have_formulas : RowsAreRead → RowsHaveFormulas
 rows_have_formulas agree m n row is =
     let t = formula_there m n row is in
-    record { formula = t.0; known = t.1; width = t.2; agrees = subst (Agrees row) t.1 (agree m n row is) }
+    record { formula = t.0; known = t.1; width = t.2; agrees = subst (Agrees row) t.1 (agree m n row is); low = low_bits agree m n row t.0 is t.1 }
 
 -- ---- an instruction's own bytes
 

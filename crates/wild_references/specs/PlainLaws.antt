@@ -3,9 +3,11 @@
 --   PlainInstructionsDo    then each instruction has the effect that it requires
 --   RowsHaveFormulas       each row of the tables has a formula, with a field as wide, and agrees with it
 --   RawValuesAreAddresses  the layout's address of a symbol is that symbol's
-use Rattle.std.specs.Prelude.{◌≡◌, ℕ, ◌<◌, length, Some}
+use Rattle.std.specs.Prelude.{◌≡◌, ℕ, ◌%◌, ◌<◌, List, length, Some}
 use Rattle.wild_reloc.specs.declared.info.RelocationKindInfo.{RelocationKindInfo}
-use Rattle.wild_reloc.specs.Formula.{Formula}
+use Rattle.wild_reloc.specs.declared.expression.Class.TheVariants as class
+use Rattle.wild_reloc.specs.Expression.{expression_of}
+use Rattle.wild_reloc.specs.Formula.{Form, Formula, Reads}
 use Rattle.wild_reloc.specs.Field.{field_width}
 use Rattle.wild_reloc.specs.Agreement.{AgreesWith}
 use Rattle.wild_types.specs.declared.kind.Machine.{Machine}
@@ -34,12 +36,18 @@ abbrev pub PlainInstructionsDo : Type 0
 PlainInstructionsDo = (l : Layout) (w : World) (m : Memory) (item : Item) → AllFieldsHold l w m item → (r : InputRelocation) → IsReference item r → MustHold l w item r → (UsesOwnSymbolOnly l item r → ⊥)
     → (start : ℕ) (o : Instruction) (first : InputRelocation) → IsTemplate l item r start o first → DoesDemanded (reads w m) l w m item first start o
 
--- the row of a relocation type has a formula, with a field as wide, and agrees with it
+-- the field reads the same of each number with the same bits below its page of 4096 bytes
+abbrev pub ReadsLowBits : Form → Type 0
+ReadsLowBits form = (bytes : List ℕ) (v x : ℕ) → Reads form bytes v → v % 4096 ≡ x % 4096 → Reads form bytes x
+
+-- The row of a relocation type has a formula, with a field as wide, and agrees with it. A field with only the offset of an address in
+-- its page reads the same of each number with that offset.
 pub record HasFormula (m : Machine) (n : ℕ) (row : RelocationKindInfo) : Type 0 where
   pub formula : Formula
   pub known : formula_of m n ≡ Some formula
   pub width : form_width formula.form ≡ field_width row
   pub agrees : AgreesWith row formula
+  pub low : (expression_of row.kind).class ≡ class.Part → ReadsLowBits formula.form
 
 abbrev pub RowsHaveFormulas : Type 0
 RowsHaveFormulas = (m : Machine) (n : ℕ) (row : RelocationKindInfo) → row_of m n ≡ Some row → HasFormula m n row

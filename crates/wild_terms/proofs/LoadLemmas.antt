@@ -446,6 +446,22 @@ module _ (w : World) (o : Outline) (i : Image) (t : Symbolic) (m : Memory) where
       by_patch None e h = cc
       by_patch (Some q) e h = by_place q e (q.place == a) refl h
 
+  -- which is an address of the machine
+  descriptor_low : HasPatches → (a : ℕ) (u : Term) → descriptor_at t a ≡ Some u → w.base + a < 2 ^ 64
+  unfolding descriptor_at
+  descriptor_low k a u h = by_patch (patch_covering t.patches a) refl h
+    where
+      low : (q : TermPatch) → loaded_at w q.place ≡ w.base + q.place → q.place ≡ a → w.base + a < 2 ^ 64
+      low q near at = omega (arith, near, at)
+
+      by_place : (q : TermPatch) → patch_covering t.patches a ≡ Some q → (b : Bool) → (q.place == a) ≡ b → (if b then noted_term q.change else None) ≡ Some u → w.base + a < 2 ^ 64
+      by_place q e false f h = cc
+      by_place q e true f h = low q (All-contains (IsPlaced w o i) t.patches q k.placed (covering_in t.patches a q e).0).over.near (eqb-true q.place a f)
+
+      by_patch : (x : Option TermPatch) → patch_covering t.patches a ≡ x → descriptor_by a x ≡ Some u → w.base + a < 2 ^ 64
+      by_patch None e h = cc
+      by_patch (Some q) e h = by_place q e (q.place == a) refl h
+
 -- ---- the whole
 
 map_twice : {X Y Z : Type 0} (f : Y → Z) (g : X → Y) (xs : List X) → map f (map g xs) ≡ map (λ x. f (g x)) xs
@@ -517,7 +533,7 @@ loaded_terms o image s t w h sorted l room bytes =
     let out = subst (O a) whole (all_outside w o i a s.patches placed clear) in
     (applied.others (w.base + a) out ∙ (byte_moves i.machine w.base i.runs a b ends here).0, byte_small m0 a b small here)) in
     let has : HasPatches w o i t m = record { placed = All-permutation K s.patches t.patches sorted.patches placed; held = All-permutation H s.patches t.patches sorted.patches held; bytes = byte } in
-    let follows : Follows w t m = record { machine = ap (λ (x : Memory). x.machine) (sym same); terms = term_is w o i t m has; descriptors = descriptor_is w o i t m s.patches has sorted.patches placed p.apart (applied.descriptors ∙ ap notes (sym whole)); bytes = λ a b e. (byte a b e).0 } in
+    let follows : Follows w t m = record { machine = ap (λ (x : Memory). x.machine) (sym same); terms = term_is w o i t m has; descriptors = descriptor_is w o i t m s.patches has sorted.patches placed p.apart (applied.descriptors ∙ ap notes (sym whole)); places = descriptor_low w o i t m has; bytes = λ a b e. (byte a b e).0 } in
     (m, ap (λ (r : Result Image LoadFault). r >>= λ (j : Image). relocate w (memory_of j.machine j.runs) j.tables) at ∙ applied.is, follows)
   where
     known_plain : (t : Symbolic) (a b : ℕ) → known_byte t a ≡ Some b → (patch_covering t.patches a ≡ None) × (byte_in t.memory a ≡ Some b)

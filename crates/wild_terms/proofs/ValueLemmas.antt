@@ -79,14 +79,14 @@ based_is o w n l = by_test o.movable refl
 small : (n : ℕ) → n < 2 ^ 64 → n ≡ (n + 0) % 2 ^ 64
 small n h = omega arith
 
-own_module_is : (o : Outline) (w : World) → IsWorldOf o w → w.own_module ≡ value_of w (own_module o)
+pub own_module_is : (o : Outline) (w : World) → IsWorldOf o w → w.own_module ≡ value_of w (own_module o)
 own_module_is o w l = by_program o.program refl
   where
     by_program : (p : Option ℕ) → o.program ≡ p → w.own_module ≡ value_of w (module_by p)
     by_program None e = small w.own_module l.owner
     by_program (Some d) e = let h = (l.program d e).owner in omega (arith, h)
 
-own_distance_is : (o : Outline) (w : World) → IsWorldOf o w → value_of w (own_distance o) ≡ distance_or w w.own_module % 2 ^ 64
+pub own_distance_is : (o : Outline) (w : World) → IsWorldOf o w → value_of w (own_distance o) ≡ distance_or w w.own_module % 2 ^ 64
 own_distance_is o w l = by_program o.program refl
   where
     by_program : (p : Option ℕ) → o.program ≡ p → value_of w (distance_by p) ≡ distance_or w w.own_module % 2 ^ 64
@@ -106,19 +106,19 @@ answered_at o w i a l h = l.answered i a (known_is (slice_get o.symbols i) (faul
 part_is : (f : Answer → ℕ) (w : World) (i : ℕ) (x : Answer) → slice_get w.symbols i ≡ Some x → f x < 2 ^ 64 → f x ≡ (f (answer_or w i) + 0) % 2 ^ 64
 part_is f w i x e h = small (f x) h ∙ ap (λ (o : Option Answer). (f (unwrap_or o no_answer) + 0) % 2 ^ 64) (sym e)
 
-address_is : (w : World) (i : ℕ) (a : KnownAnswer) → (k : IsAnswered w i a) → k.answer.address ≡ value_of w (address_of i a)
+pub address_is : (w : World) (i : ℕ) (a : KnownAnswer) → (k : IsAnswered w i a) → k.answer.address ≡ value_of w (address_of i a)
 address_is w i Foreign k = part_is (λ x. x.address) w i k.answer k.given k.known.address
 address_is w i (Own address offset size) k = k.agrees.0
 
-module_is : (o : Outline) (w : World) (i : ℕ) (a : KnownAnswer) → IsWorldOf o w → (k : IsAnswered w i a) → k.answer.module ≡ value_of w (module_of o i a)
+pub module_is : (o : Outline) (w : World) (i : ℕ) (a : KnownAnswer) → IsWorldOf o w → (k : IsAnswered w i a) → k.answer.module ≡ value_of w (module_of o i a)
 module_is o w i Foreign l k = part_is (λ x. x.module) w i k.answer k.given k.known.owner
 module_is o w i (Own address offset size) l k = k.agrees.1 ∙ own_module_is o w l
 
-offset_is : (w : World) (i : ℕ) (a : KnownAnswer) → (k : IsAnswered w i a) → k.answer.offset ≡ value_of w (offset_of i a)
+pub offset_is : (w : World) (i : ℕ) (a : KnownAnswer) → (k : IsAnswered w i a) → k.answer.offset ≡ value_of w (offset_of i a)
 offset_is w i Foreign k = part_is (λ x. x.offset) w i k.answer k.given k.known.offset
 offset_is w i (Own address offset size) k = let e = k.agrees.2 in let h = k.known.offset in omega (arith, e, h)
 
-size_is : (w : World) (i : ℕ) (a : KnownAnswer) → (k : IsAnswered w i a) → k.answer.size ≡ value_of w (size_of i a)
+pub size_is : (w : World) (i : ℕ) (a : KnownAnswer) → (k : IsAnswered w i a) → k.answer.size ≡ value_of w (size_of i a)
 size_is w i Foreign k = part_is (λ x. x.size) w i k.answer k.given k.known.size
 size_is w i (Own address offset size) k = let e = k.agrees.3 in let h = k.known.size in omega (arith, e, h)
 
@@ -126,7 +126,7 @@ answer_same : (w : World) (i : ℕ) (x : Answer) → slice_get w.symbols i ≡ S
 answer_same w i x e = ap (λ (o : Option Answer). unwrap_or o no_answer) e
 
 -- the offset from the thread pointer
-thread_offset_is : (o : Outline) (w : World) (i : ℕ) (a : KnownAnswer) → IsWorldOf o w → (k : IsAnswered w i a) → (distance_or w k.answer.module + k.answer.offset) % 2 ^ 64 ≡ value_of w (thread_offset_of o i a)
+pub thread_offset_is : (o : Outline) (w : World) (i : ℕ) (a : KnownAnswer) → IsWorldOf o w → (k : IsAnswered w i a) → (distance_or w k.answer.module + k.answer.offset) % 2 ^ 64 ≡ value_of w (thread_offset_of o i a)
 thread_offset_is o w i Foreign l k =
     let same = answer_same w i k.answer k.given in
     let whole : (distance_or w (answer_or w i).module + (answer_or w i).offset) % 2 ^ 64 ≡ (distance_or w k.answer.module + k.answer.offset) % 2 ^ 64 = ap (λ (x : Answer). (distance_or w x.module + x.offset) % 2 ^ 64) same in
@@ -167,7 +167,7 @@ record Place (w : World) (i : ℕ) (t : Term) : Type 0 where
   known : first_value w.modules owner ≡ Some distance
   is : (cast_unsigned w64 distance + offset) % 2 ^ 64 ≡ value_of w t
 
-distance_is : (w : World) (m : ℕ) (d : ℤ) → first_value w.modules m ≡ Some d → distance_or w m ≡ cast_unsigned w64 d
+pub distance_is : (w : World) (m : ℕ) (d : ℤ) → first_value w.modules m ≡ Some d → distance_or w m ≡ cast_unsigned w64 d
 distance_is w m d e = ap unsigned_or e
 
 place_is : (o : Outline) (w : World) (i : ℕ) (t : Term) → IsWorldOf o w → thread_offset_term o i ≡ Ok t → Place w i t

@@ -23,6 +23,7 @@ pub record Follows (w : World) (s : Symbolic) (m : Memory) : Type 0 where
   pub machine : m.machine ≡ s.memory.machine
   pub terms : (a n : ℕ) (t : Term) → n ≤ 8 → term_at s a n ≡ Some t → Holds m (w.base + a) (word n (value_of w t))
   pub descriptors : (a : ℕ) (t : Term) → descriptor_at s a ≡ Some t → first_value m.descriptors (w.base + a) ≡ Some (value_of w t)
+  pub places : (a : ℕ) (t : Term) → descriptor_at s a ≡ Some t → w.base + a < 2 ^ 64
   pub bytes : (a b : ℕ) → known_byte s a ≡ Some b → byte_in m (w.base + a) ≡ Some b
 
 -- in a world in which no segment ends past the last address

@@ -3,7 +3,7 @@ ghost use Rattle.std.specs.Prelude.{◌≡◌, ◌==◌};
 ghost use Rattle.std.specs.List.{list_any};
 ghost use Rattle.std.specs.List.Sorted.{IsNonDecreasing};
 ghost use Rattle.wild_loader.specs.Outcome.{Gives};
-ghost use Rattle.wild_terms.specs.Outline.{HasSortedResolvers, has_resolver, based, own_module, own_distance, answer_for, address_of, module_of, offset_of, thread_offset_of, size_of, resolver_term, module_term, thread_offset_term, addend_of, change_terms};
+ghost use Rattle.wild_terms.specs.Outline.{HasSortedResolvers, has_resolver, based, own_module, own_distance, answer_for, module_of, thread_offset_of, resolver_term, module_term, thread_offset_term, addend_of, change_terms};
 
 use crate::term::{Atom, Term};
 use wild_loader::{DynamicKind, LoadFault};
@@ -47,33 +47,38 @@ pub enum TermChange {
     Descriptor(Term),
 }
 
-/// The address in an answer.
-fn address(index: u32, answer: KnownAnswer) -> Term
-    ensures { result ≡ address_of index answer }
-{
-    match answer {
-        KnownAnswer::Foreign => Term::atom(Atom::Address(index)),
-        KnownAnswer::Own { address, .. } => address,
-    }
-}
+impl KnownAnswer {
+    ghost use Rattle.std.specs.Prelude.{◌≡◌};
+    ghost use Rattle.wild_terms.specs.Outline.{address_of, offset_of, size_of};
 
-/// The offset in thread-local data in an answer.
-fn offset(index: u32, answer: KnownAnswer) -> Term
-    ensures { result ≡ offset_of index answer }
-{
-    match answer {
-        KnownAnswer::Foreign => Term::atom(Atom::Offset(index)),
-        KnownAnswer::Own { offset, .. } => Term::number(offset),
+    /// The address in the answer with that index.
+    pub fn address(self, index: u32) -> Term
+        ensures { result ≡ address_of index self }
+    {
+        match self {
+            KnownAnswer::Foreign => Term::atom(Atom::Address(index)),
+            KnownAnswer::Own { address, .. } => address,
+        }
     }
-}
 
-/// The size in an answer.
-fn size(index: u32, answer: KnownAnswer) -> Term
-    ensures { result ≡ size_of index answer }
-{
-    match answer {
-        KnownAnswer::Foreign => Term::atom(Atom::Size(index)),
-        KnownAnswer::Own { size, .. } => Term::number(size),
+    /// The offset in thread-local data in the answer with that index.
+    pub fn offset(self, index: u32) -> Term
+        ensures { result ≡ offset_of index self }
+    {
+        match self {
+            KnownAnswer::Foreign => Term::atom(Atom::Offset(index)),
+            KnownAnswer::Own { offset, .. } => Term::number(offset),
+        }
+    }
+
+    /// The size in the answer with that index.
+    pub fn size(self, index: u32) -> Term
+        ensures { result ≡ size_of index self }
+    {
+        match self {
+            KnownAnswer::Foreign => Term::atom(Atom::Size(index)),
+            KnownAnswer::Own { size, .. } => Term::number(size),
+        }
     }
 }
 
@@ -144,8 +149,8 @@ impl Outline {
         }
     }
 
-    /// The module in an answer.
-    fn module(&self, index: u32, answer: KnownAnswer) -> Term
+    /// The module in the answer with that index.
+    pub fn module(&self, index: u32, answer: KnownAnswer) -> Term
         ensures { result ≡ module_of self.now index answer }
     {
         match answer {
@@ -154,8 +159,8 @@ impl Outline {
         }
     }
 
-    /// The offset from the thread pointer in an answer.
-    fn thread_offset(&self, index: u32, answer: KnownAnswer) -> Term
+    /// The offset from the thread pointer in the answer with that index.
+    pub fn thread_offset(&self, index: u32, answer: KnownAnswer) -> Term
         ensures { result ≡ thread_offset_of self.now index answer }
     {
         match answer {
@@ -214,14 +219,14 @@ impl Outline {
         let a = addend(entry);
         match kind {
             DynamicKind::Relative => Ok(TermChange::Word(self.based(a))),
-            DynamicKind::Symbol => Ok(TermChange::Word(address(index, self.answer(index)?))),
+            DynamicKind::Symbol => Ok(TermChange::Word(self.answer(index)?.address(index))),
             DynamicKind::SymbolPlus => {
-                Ok(TermChange::Word(address(index, self.answer(index)?).plus(a)))
+                Ok(TermChange::Word(self.answer(index)?.address(index).plus(a)))
             }
             DynamicKind::Resolved => Ok(TermChange::Word(self.resolver(a)?)),
             DynamicKind::Module => Ok(TermChange::Word(self.module_at(index)?)),
             DynamicKind::ModuleOffset => {
-                Ok(TermChange::Word(offset(index, self.answer(index)?).plus(a)))
+                Ok(TermChange::Word(self.answer(index)?.offset(index).plus(a)))
             }
             DynamicKind::ThreadOffset => {
                 Ok(TermChange::Word(self.thread_offset_at(index)?.plus(a)))
@@ -232,8 +237,8 @@ impl Outline {
             DynamicKind::Copy => Err(LoadFault::Overlap {
                 address: entry.offset,
             }),
-            DynamicKind::Size32 => Ok(TermChange::Half(size(index, self.answer(index)?).plus(a))),
-            DynamicKind::Size64 => Ok(TermChange::Word(size(index, self.answer(index)?).plus(a))),
+            DynamicKind::Size32 => Ok(TermChange::Half(self.answer(index)?.size(index).plus(a))),
+            DynamicKind::Size64 => Ok(TermChange::Word(self.answer(index)?.size(index).plus(a))),
         }
     }
 }
