@@ -10,6 +10,7 @@ use Rattle.std.proofs.lemmas.List.Sums.{sum_by-cons}
 use Rattle.wild_words.proofs.ListLemmas.{AllPairs-head, AllPairs-tail}
 use Rattle.wild_types.specs.declared.layout.Layout.{Layout}
 use Rattle.wild_types.specs.Kinds.{is_partial_link}
+use Rattle.wild_loader.specs.declared.memory.Memory.{Memory}
 use Rattle.wild_loader.specs.declared.fault.LoadFault.{LoadFault}
 use Rattle.wild_loader.specs.declared.fault.LoadFault.TheVariants as faults
 use Rattle.wild_terms.specs.declared.outline.KnownAnswer.{KnownAnswer}
@@ -89,11 +90,12 @@ all_alike {X} x (y ∷ ys) (z ∷ zs) a b n =
     let P : X → Type 0 = λ w. w ≡ x in
     same_cons y z ys zs (All-head P y ys a ∙ sym (All-head P z zs b)) (all_alike x ys zs (All-tail P y ys a) (All-tail P z zs b) (omega (arith, n)))
 
-same_outline : (o p : Outline) → o.movable ≡ p.movable → o.program ≡ p.program → o.symbols ≡ p.symbols → o.resolvers ≡ p.resolvers → o ≡ p
-same_outline o p a b c d = cc
+same_outline : (m n : Bool) (p q : Option ℕ) (s t : List KnownAnswer) (r u : List ℕ) → m ≡ n → p ≡ q → s ≡ t → r ≡ u
+    → ◌≡◌ {A = Outline} (record { movable = m; program = p; symbols = s; resolvers = r }) (record { movable = n; program = q; symbols = t; resolvers = u })
+same_outline m n p q s t r u a b c d = rw (a, b, c, d) refl
 
 one_outline : (l : Layout) (o p : Outline) → IsOutlineOf l o → IsOutlineOf l p → o ≡ p
-one_outline l o p a b = same_outline o p
+one_outline l o p a b = same_outline o.movable p.movable o.program p.program o.symbols p.symbols o.resolvers p.resolvers
     (a.movable ∙ sym b.movable)
     (a.program ∙ sym b.program)
     (all_alike Foreign o.symbols p.symbols a.foreign b.foreign (a.count ∙ sym b.count))
@@ -155,11 +157,11 @@ same_patches (p ∷ ps) (q ∷ qs) a b to from =
     (λ P. later_all P p q ps qs b place (to (λ x. P x ⊎ (x.place ≡ p.place))))
     (λ P. later_all P q p qs ps a (sym place) (from (λ x. P x ⊎ (x.place ≡ q.place)))))
 
-same_symbolic : (s t : Symbolic) → s.memory ≡ t.memory → s.patches ≡ t.patches → s ≡ t
-same_symbolic s t a b = cc
+same_symbolic : (m n : Memory) (ps qs : List TermPatch) → m ≡ n → ps ≡ qs → ◌≡◌ {A = Symbolic} (record { memory = m; patches = ps }) (record { memory = n; patches = qs })
+same_symbolic m n ps qs a b = rw (a, b) refl
 
 one_order : (s t u : Symbolic) → IsSorted s t → IsSorted s u → t ≡ u
-one_order s t u a b = same_symbolic t u (a.memory ∙ sym b.memory) (same_patches t.patches u.patches a.ascend.each b.ascend.each
+one_order s t u a b = same_symbolic t.memory u.memory t.patches u.patches (a.memory ∙ sym b.memory) (same_patches t.patches u.patches a.ascend.each b.ascend.each
     (λ P h. All-permutation P s.patches u.patches b.patches (All-permutation P t.patches s.patches (IsPermutation-sym s.patches t.patches a.patches) h))
     (λ P h. All-permutation P s.patches t.patches a.patches (All-permutation P u.patches s.patches (IsPermutation-sym s.patches u.patches b.patches) h)))
 
