@@ -21,9 +21,7 @@ use Rattle.wild_terms.specs.declared.outline.TermChange.TheVariants as changes
 use Rattle.wild_terms.specs.declared.load.TermPatch.{TermPatch}
 use Rattle.wild_terms.specs.Symbolic.{Symbolic, width_of, IsSorted, terms_of}
 use Rattle.wild_checker.specs.Outline.{IsOutlineOf}
-use Rattle.wild_checker.specs.declared.verdict.Doubt.TheVariants as doubts
 use Rattle.wild_checker.specs.declared.verdict.Verdict.{Verdict}
-use Rattle.wild_checker.specs.declared.verdict.Verdict.TheVariants.{Yes, No}
 use Rattle.wild_checker.specs.Verdict.{by_segment, IsSegmentVerdict, IsRefusal, IsReadVerdict, IsVerdict, IsAnswer}
 
 same_cons : {X : Type 0} (x y : X) (xs ys : List X) → x ≡ y → xs ≡ ys → x ∷ xs ≡ y ∷ ys
