@@ -1,10 +1,12 @@
 -- A field that is found to have a term has its value in memory.
-use Rattle.std.proofs.Common.{◌≡◌, ℕ, ◌+◌, ◌-◌, ◌%◌, ◌^◌, ◌<◌, ◌≤◌, Bool, true, false, ◌&&◌, List, length, nat_le, nat_lt, refl, sym, ap, ◌∙◌, arith, subst}
+use Rattle.std.proofs.Common.{◌≡◌, ℕ, ◌+◌, ◌-◌, ◌%◌, ◌^◌, ◌<◌, ◌≤◌, ◌⊎◌, inl, inr, Bool, true, false, ◌&&◌, List, length, nat_le, nat_lt, refl, sym, ap, ◌∙◌, arith, subst}
 use Rattle.std.specs.Prelude.{All, if◌then◌else◌, ◌==◌, ◌||◌, slice_index, slice_range}
 use Rattle.std.proofs.lemmas.Bool.{eqb-true, leb-true, ltb-true, and_parts, and_from, or_left}
 use Rattle.std.proofs.lemmas.Bool.Decides.{nat_tests}
 use Rattle.wild_words.specs.Words.{word}
 use Rattle.wild_words.proofs.Basics.{length-range}
+use Rattle.wild_reloc.specs.declared.expression.Class.{Class}
+use Rattle.wild_reloc.specs.declared.expression.Class.TheVariants as class
 use Rattle.wild_reloc.specs.declared.info.RelocationKindInfo.{RelocationKindInfo}
 use Rattle.wild_reloc.specs.declared.info.RelocationSize.{RelocationSize}
 use Rattle.wild_reloc.specs.declared.info.RelocationSize.TheVariants.{ByteSize, BitMasking}
@@ -12,7 +14,8 @@ use Rattle.wild_reloc.specs.declared.info.Width.TheVariants.{Zero, One, Two, Fou
 use Rattle.wild_reloc.specs.declared.range.AllowedRange.{AllowedRange}
 use Rattle.wild_reloc.specs.Agreement.{WidthsHold}
 use Rattle.wild_reloc.specs.Field.{field_width, is_aligned, allows, size_written, written}
-use Rattle.wild_reloc.specs.Formula.{Keeps}
+use Rattle.wild_reloc.specs.Expression.{expression_of}
+use Rattle.wild_reloc.specs.Formula.{Reads, Keeps}
 use Rattle.wild_reloc.specs.Range.{contains}
 use Rattle.wild_types.specs.declared.input.InputRelocation.{InputRelocation}
 use Rattle.wild_types.specs.declared.input.InputSection.{InputSection}
@@ -31,9 +34,10 @@ use Rattle.wild_terms.specs.Values.{atom_value, value_of}
 use Rattle.wild_terms.specs.Laws.{Follows}
 use Rattle.wild_terms.specs.Symbolic.{Symbolic, term_at}
 use Rattle.wild_references.specs.PlainLaws.{HasFormula}
+use Rattle.wild_checker.specs.Loaded.{Loaded}
 use Rattle.wild_checker.specs.Bytes.{has_bytes}
 use Rattle.wild_checker.specs.Slots.{is_known}
-use Rattle.wild_checker.specs.References.{is_eight, is_whole, old_field, holds_by, value_holds, is_inside}
+use Rattle.wild_checker.specs.References.{is_eight, is_whole, is_part, old_field, number_holds, holds_by, value_holds, is_inside}
 use Rattle.wild_checker.proofs.ByteLemmas.{bytes_held}
 use Rattle.wild_checker.proofs.SlotLemmas.{the_term}
 
@@ -89,22 +93,55 @@ whole row h =
       any = λ v. and_from (is_aligned row.alignment v) (contains row.range v) (or_left (nat_le row.alignment 1) (v % row.alignment == 0) b.0) (in_range row.range v (eqb-true row.range.below (2 ^ 63) c.0) (eqb-true row.range.above (2 ^ 63) c.1));
     }
 
-pub value_written : (w : World) (m : Memory) (t : Symbolic) (s : InputSection) (r : InputRelocation) (row : RelocationKindInfo) (x : Term) → Follows w t m → x.plus < 2 ^ 64 → value_holds t s r row x ≡ true → IsWritten w m s r row (value_of w x)
-value_written w m t s r row x follows low h = by (is_whole row) refl h
-  where
-    by_number : (a : Atom) → holds_by t s r row a x.plus ≡ true → IsWritten w m s r row ((atom_value w a + x.plus) % 2 ^ 64)
-    by_number atoms.Zero h =
-        let both = and_parts (allows row x.plus) (has_bytes t (s.address + r.offset) (written row x.plus (old_field s r row))) h in
-        let same : x.plus ≡ (0 + x.plus) % 2 ^ 64 = omega (arith, low) in
-        subst (λ (n : ℕ). IsWritten w m s r row n) same (record { allowed = both.0; held = bytes_held w m t (s.address + r.offset) (written row x.plus (old_field s r row)) follows both.1 })
-    by_number other h = cc
+-- the value, or for a field with the offset in a page a number with the same one
+pub record IsShown (w : World) (m : Memory) (s : InputSection) (r : InputRelocation) (row : RelocationKindInfo) (v : ℕ) : Type 0 where
+  pub number : ℕ
+  pub below : number < 2 ^ 64
+  pub written : IsWritten w m s r row number
+  pub same : (number ≡ v) ⊎ (((expression_of row.kind).class ≡ class.Part) × (number % 4096 ≡ v % 4096))
 
-    by : (b : Bool) → is_whole row ≡ b → (if b then is_known (term_at t (s.address + r.offset) 8) x else holds_by t s r row x.atom x.plus) ≡ true → IsWritten w m s r row (value_of w x)
+number_written : (w : World) (m : Memory) (t : Symbolic) (s : InputSection) (r : InputRelocation) (row : RelocationKindInfo) (n : ℕ) → Follows w t m → number_holds t s r row n ≡ true → IsWritten w m s r row n
+number_written w m t s r row n follows h =
+    let both = and_parts (allows row n) (has_bytes t (s.address + r.offset) (written row n (old_field s r row))) h in
+    record { allowed = both.0; held = bytes_held w m t (s.address + r.offset) (written row n (old_field s r row)) follows both.1 }
+
+is_part_class : (c : Class) → is_part c ≡ true → c ≡ class.Part
+is_part_class class.Part h = refl
+is_part_class other h = cc
+
+low_sum : (b n : ℕ) → b % 4096 ≡ 0 → n % 4096 % 4096 ≡ (b + n) % 2 ^ 64 % 4096
+low_sum b n e = omega (arith, e)
+
+pub value_shown : (k : Loaded) (w : World) (m : Memory) (s : InputSection) (r : InputRelocation) (row : RelocationKindInfo) (x : Term) → Follows w k.memory m → (k.layout.page_size % 4096 ≡ 0 → w.base % 4096 ≡ 0) → x.plus < 2 ^ 64 → value_holds k s r row x ≡ true → IsShown w m s r row (value_of w x)
+value_shown k w m s r row x follows pages low h = by (is_whole row) refl h
+  where
+    t : Symbolic
+    t = k.memory
+
+    by_atom : (a : Atom) → holds_by k s r row a x.plus ≡ true → IsShown w m s r row ((atom_value w a + x.plus) % 2 ^ 64)
+    by_atom atoms.Zero h = record { number = x.plus; below = low; written = number_written w m t s r row x.plus follows h; same = inl (zero x.plus low) }
+      where
+        zero : (n : ℕ) → n < 2 ^ 64 → n ≡ (0 + n) % 2 ^ 64
+        zero n l = omega (arith, l)
+    by_atom atoms.Base h =
+        let a = and_parts (is_part (expression_of row.kind).class) (k.layout.page_size % 4096 == 0 && number_holds t s r row (x.plus % 4096)) h in
+        let b = and_parts (k.layout.page_size % 4096 == 0) (number_holds t s r row (x.plus % 4096)) a.1 in
+        let page = pages (eqb-true (k.layout.page_size % 4096) 0 b.0) in
+        record { number = x.plus % 4096; below = omega arith; written = number_written w m t s r row (x.plus % 4096) follows b.1; same = inr (is_part_class (expression_of row.kind).class a.0, low_sum w.base x.plus page) }
+    by_atom other h = cc
+
+    by : (b : Bool) → is_whole row ≡ b → (if b then is_known (term_at t (s.address + r.offset) 8) x else holds_by k s r row x.atom x.plus) ≡ true → IsShown w m s r row (value_of w x)
     by true e h =
         let all = whole row e in
         let held = follows.terms (s.address + r.offset) 8 x (omega arith) (the_term (term_at t (s.address + r.offset) 8) x h) in
-        record { allowed = all.any (value_of w x); held = subst (λ (bs : List ℕ). Holds m (w.base + (s.address + r.offset)) bs) (sym (eight_written row.size (value_of w x) (old_field s r row) all.eight)) held }
-    by false e h = by_number x.atom h
+        let below : value_of w x < 2 ^ 64 = omega arith in
+        record {
+          number = value_of w x;
+          below = below;
+          written = record { allowed = all.any (value_of w x); held = subst (λ (bs : List ℕ). Holds m (w.base + (s.address + r.offset)) bs) (sym (eight_written row.size (value_of w x) (old_field s r row) all.eight)) held };
+          same = inl refl;
+        }
+    by false e h = by_atom x.atom h
 
 -- ---- the field
 
@@ -117,17 +154,28 @@ low_place w m s r row v widths p h =
     let below = byte_below m (w.base + (s.address + r.offset) + 0) (slice_index (written row v (old_field s r row)) 0) first in
     omega (arith, below)
 
-pub field_reads : (w : World) (m : Memory) (machine : Machine) (item : Item) (s : InputSection) (r : InputRelocation) (row : RelocationKindInfo) (v : ℕ) → WidthsHold → item.address ≡ s.address → item.bytes ≡ s.bytes → All (λ b. b < 256) (old_field s r row) → IsInside s r row → (f : HasFormula machine r.number row) → v < 2 ^ 64 → IsWritten w m s r row v
+pub field_reads : (w : World) (m : Memory) (machine : Machine) (item : Item) (s : InputSection) (r : InputRelocation) (row : RelocationKindInfo) (v : ℕ) → WidthsHold → item.address ≡ s.address → item.bytes ≡ s.bytes → All (λ b. b < 256) (old_field s r row) → r.offset + field_width row ≤ length s.bytes → (f : HasFormula machine r.number row) → IsShown w m s r row v
     → FieldReads w m item r f.formula.form v
-field_reads w m machine item s r row v widths address bytes small p f low h =
-    let new = written row v (old_field s r row) in
-    let long : length (old_field s r row) ≡ field_width row = length-range s.bytes r.offset (field_width row) p.within in
+field_reads w m machine item s r row v widths address bytes small within f h =
+    let n = h.number in
+    let new = written row n (old_field s r row) in
+    let long : length (old_field s r row) ≡ field_width row = length-range s.bytes r.offset (field_width row) within in
     let place : w.base + (s.address + r.offset) ≡ place_at w item r.offset = omega (arith, address) in
     let old : old_field s r row ≡ slice_range item.bytes r.offset (r.offset + form_width f.formula.form) = ap (λ (n : ℕ). slice_range s.bytes r.offset (r.offset + n)) (sym f.width) ∙ ap (λ (bs : List ℕ). slice_range bs r.offset (r.offset + form_width f.formula.form)) (sym bytes) in
     record {
       bytes = new;
-      wide = widths row v (old_field s r row) ∙ sym f.width;
-      held = subst (λ (a : ℕ). Holds m a new) place h.held;
-      reads = f.agrees.reads v (old_field s r row) low long h.allowed;
-      keeps = subst (λ (bs : List ℕ). Keeps f.formula.form bs new) old (f.agrees.keeps v (old_field s r row) small long);
+      wide = widths row n (old_field s r row) ∙ sym f.width;
+      held = subst (λ (a : ℕ). Holds m a new) place h.written.held;
+      reads = by h.same (f.agrees.reads n (old_field s r row) h.below long h.written.allowed);
+      keeps = subst (λ (bs : List ℕ). Keeps f.formula.form bs new) old (f.agrees.keeps n (old_field s r row) small long);
     }
+  where
+    by : (h.number ≡ v) ⊎ (((expression_of row.kind).class ≡ class.Part) × (h.number % 4096 ≡ v % 4096)) → Reads f.formula.form (written row h.number (old_field s r row)) h.number → Reads f.formula.form (written row h.number (old_field s r row)) v
+    by (inl e) reads = subst (Reads f.formula.form (written row h.number (old_field s r row))) e reads
+    by (inr p) reads = f.low p.0 (written row h.number (old_field s r row)) h.number v reads p.1
+
+-- a mark has no field, so it has any value
+pub nothing_written : (w : World) (m : Memory) (s : InputSection) (r : InputRelocation) (row : RelocationKindInfo) → WidthsHold → field_width row ≡ 0 → allows row 0 ≡ true → IsShown w m s r row 0
+nothing_written w m s r row widths none allowed =
+    let long = widths row 0 (old_field s r row) in
+    record { number = 0; below = omega arith; written = record { allowed = allowed; held = λ j l. absurd (omega (arith, l, long, none)) }; same = inl refl }

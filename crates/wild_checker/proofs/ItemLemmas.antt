@@ -1,13 +1,19 @@
 -- A section whose references are all found to hold, and whose other bytes are the input's, holds as an item.
-use Rattle.std.proofs.Common.{◌≡◌, ℕ, ◌+◌, ◌%◌, ◌^◌, ◌<◌, ◌≤◌, ◌⊎◌, inl, inr, true, List, length, get_or, refl, sym, ap, ◌∙◌, arith, subst}
-use Rattle.std.specs.Prelude.{Option, Some, None, All, Contains, ◌==◌, drop, slice_index}
-use Rattle.std.proofs.lemmas.Bool.{cases_lt, eqb-true, or_cases, and_parts}
+use Rattle.std.proofs.Common.{◌≡◌, ℕ, ◌+◌, ◌%◌, ◌^◌, ◌<◌, ◌≤◌, ◌⊎◌, inl, inr, ◌&&◌, Bool, true, false, List, length, get_or, refl, sym, ap, ◌∙◌, arith, subst}
+use Rattle.std.specs.Prelude.{Option, Some, None, All, Contains, ◌==◌, ◌||◌, if◌then◌else◌, not, nat_le, drop, slice_index}
+use Rattle.std.proofs.lemmas.Bool.{cases_lt, eqb-true, leb-true, or_cases, and_parts, not-true}
 use Rattle.std.proofs.lemmas.List.Elements.{All-contains, All-take, All-drop}
 use Rattle.wild_records.specs.Abi.Relocation.{r_x86_64_none}
+use Rattle.wild_reloc.specs.declared.expression.Subtrahend.{Subtrahend}
+use Rattle.wild_reloc.specs.declared.expression.Term as expression
+use Rattle.wild_reloc.specs.declared.expression.Term.TheVariants as terms
 use Rattle.wild_reloc.specs.declared.info.RelocationKindInfo.{RelocationKindInfo}
-use Rattle.wild_reloc.specs.Agreement.{WidthsHold}
-use Rattle.wild_reloc.specs.Field.{field_width}
-use Rattle.wild_reloc.specs.Formula.{Value, Formula}
+use Rattle.wild_reloc.specs.declared.info.RelocationSize.{RelocationSize}
+use Rattle.wild_reloc.specs.declared.info.RelocationSize.TheVariants.{ByteSize, BitMasking}
+use Rattle.wild_reloc.specs.Agreement.{WidthsHold, sized}
+use Rattle.wild_reloc.specs.Expression.{expression_of, subtrahend_of, expressed}
+use Rattle.wild_reloc.specs.Field.{field_width, allows}
+use Rattle.wild_reloc.specs.Formula.{Value, NoValue, Formula}
 use Rattle.wild_types.specs.declared.file.File.{File}
 use Rattle.wild_types.specs.declared.input.InputRelocation.{InputRelocation}
 use Rattle.wild_types.specs.declared.input.InputSection.{InputSection}
@@ -18,10 +24,10 @@ use Rattle.wild_layout.specs.Numbers.{InputNumbers}
 use Rattle.wild_loader.specs.declared.memory.Memory.{Memory}
 use Rattle.wild_loader.specs.declared.world.World.{World}
 use Rattle.wild_loader.specs.Memory.{byte_in}
-use Rattle.wild_loader.specs.StepLawsX86_64.{StubsOfValuesAreRead}
+use Rattle.wild_references.proofs.StubCode.{StubLaws}
 use Rattle.wild_meaning.specs.Item.{place_at, IsReference}
 use Rattle.wild_meaning.specs.Field.{formula_of, form_width, InNoField, IsInputByte}
-use Rattle.wild_meaning.specs.Formula.{Gives}
+use Rattle.wild_meaning.specs.Formula.{Gives, TakesAddress, TakesOffset}
 use Rattle.wild_meaning.specs.Reference.{HoldsPlain, ItemHolds, MustHold, UsesOwnSymbolOnly}
 use Rattle.wild_meaning.specs.Sequence.{Instruction, IsOwnByte}
 use Rattle.wild_meaning.specs.Template.{IsInstruction, IsTemplate}
@@ -32,10 +38,10 @@ use Rattle.wild_references.specs.Laws.{FieldHolds}
 use Rattle.wild_references.specs.PlainLaws.{AllFieldsHold, PlainInstructionsDo, RowsHaveFormulas}
 use Rattle.wild_checker.specs.Loaded.{Loaded}
 use Rattle.wild_checker.specs.Bytes.{changed_gap}
-use Rattle.wild_checker.specs.References.{old_field, value_term, value_holds, is_inside, field_holds, holds_by_row, reference_holds}
+use Rattle.wild_checker.specs.References.{old_field, value_term, word_term, value_holds, is_inside, field_holds, has_offset_mode, is_mark, mark_holds, holds_by_row, reference_holds}
 use Rattle.wild_checker.specs.Sections.{is_settled, first_doubt}
-use Rattle.wild_checker.proofs.FieldLemmas.{inside, value_written, low_place, field_reads}
-use Rattle.wild_checker.proofs.FormulaLemmas.{IsPlaced, decided, term_below}
+use Rattle.wild_checker.proofs.FieldLemmas.{inside, value_shown, nothing_written, low_place, field_reads}
+use Rattle.wild_checker.proofs.FormulaLemmas.{IsPlaced, no_offsets, takes_by, decided, term_below}
 use Rattle.wild_checker.proofs.SiteLemmas.{IsBeside, gap_known, no_doubt}
 use Rattle.wild_checker.proofs.ValueLemmas.{Known}
 
@@ -45,7 +51,7 @@ pub record Laws : Type 0 where
   pub rows : RowsHaveFormulas
   pub widths : WidthsHold
   pub instructions : PlainInstructionsDo
-  pub stubs : StubsOfValuesAreRead
+  pub stubs : StubLaws
 
 -- a section of the layout as its item, in a memory that follows the terms
 pub record IsItem (k : Loaded) (f : File) (w : World) (m : Memory) (item : Item) (s : InputSection) : Type 0 where
@@ -60,60 +66,116 @@ pub record IsItem (k : Loaded) (f : File) (w : World) (m : Memory) (item : Item)
 
 -- ---- one reference
 
-record IsFound (k : Loaded) (f : File) (s : InputSection) (r : InputRelocation) : Type 0 where
-  row : RelocationKindInfo
-  is : row_of k.layout.machine r.number ≡ Some row
-  value : Term
-  known : value_term k f s r row ≡ Some value
-  place : is_inside s r row ≡ true
-  holds : value_holds k.memory s r row value ≡ true
+data IsFound (k : Loaded) (f : File) (s : InputSection) (r : InputRelocation) : Type 0 where
+  -- the relocation only marks an instruction
+  Mark : (row : RelocationKindInfo) → row_of k.layout.machine r.number ≡ Some row → is_mark (expression_of row.kind).term ≡ true → mark_holds k s r row ≡ true → IsFound k f s r
+  -- the field has a value
+  Field : (row : RelocationKindInfo) → row_of k.layout.machine r.number ≡ Some row → (x : Term) → (value_term k f s r row ≡ Some x) ⊎ (word_term k s r row ≡ Some x) → is_inside s r row ≡ true → value_holds k s r row x ≡ true → IsFound k f s r
 
 found : (k : Loaded) (f : File) (s : InputSection) (r : InputRelocation) → reference_holds k f s r ≡ true → IsFound k f s r
 unfolding reference_holds
 found k f s r h = by_row (row_of k.layout.machine r.number) refl h
   where
-    by_value : (row : RelocationKindInfo) → row_of k.layout.machine r.number ≡ Some row → (o : Option Term) → value_term k f s r row ≡ o → field_holds k s r row o ≡ true → IsFound k f s r
+    by_value : (row : RelocationKindInfo) → row_of k.layout.machine r.number ≡ Some row → (o : Option Term) → ((x : Term) → o ≡ Some x → (value_term k f s r row ≡ Some x) ⊎ (word_term k s r row ≡ Some x)) → field_holds k s r row o ≡ true → IsFound k f s r
     by_value row e None is h = cc
     by_value row e (Some x) is h =
-        let both = and_parts (is_inside s r row) (value_holds k.memory s r row x) h in
-        record { row = row; is = e; value = x; known = is; place = both.0; holds = both.1 }
+        let both = and_parts (is_inside s r row) (value_holds k s r row x) h in
+        Field row e x (is x refl) both.0 both.1
+
+    by_either : (row : RelocationKindInfo) → row_of k.layout.machine r.number ≡ Some row → (field_holds k s r row (value_term k f s r row) || field_holds k s r row (word_term k s r row)) ≡ true → IsFound k f s r
+    by_either row e h = elim (or_cases (field_holds k s r row (value_term k f s r row)) (field_holds k s r row (word_term k s r row)) h) [
+      | inl a ↦ by_value row e (value_term k f s r row) (λ x is. inl is) a
+      | inr b ↦ by_value row e (word_term k s r row) (λ x is. inr is) b
+    ]
+
+    by_mark : (row : RelocationKindInfo) → row_of k.layout.machine r.number ≡ Some row → (b : Bool) → is_mark (expression_of row.kind).term ≡ b → (if b then mark_holds k s r row else (field_holds k s r row (value_term k f s r row) || field_holds k s r row (word_term k s r row))) ≡ true → IsFound k f s r
+    by_mark row e true is h = Mark row e is h
+    by_mark row e false is h = by_either row e h
 
     by_row : (o : Option RelocationKindInfo) → row_of k.layout.machine r.number ≡ o → holds_by_row k f s r o ≡ true → IsFound k f s r
     by_row None e h = cc
-    by_row (Some row) e h = by_value row e (value_term k f s r row) refl h
+    by_row (Some row) e h = by_mark row e (is_mark (expression_of row.kind).term) refl h
 
 -- the field has its formula's value, and no other module may define a symbol whose address it has
 record IsRight (k : Loaded) (w : World) (m : Memory) (item : Item) (r : InputRelocation) : Type 0 where
   field : FieldHolds k.layout w m item r
   own : UsesOwnSymbolOnly k.layout item r → ⊥
 
-right : (k : Loaded) (f : File) (w : World) (m : Memory) (item : Item) (s : InputSection) (r : InputRelocation) → Laws → IsItem k f w m item s → reference_holds k f s r ≡ true → IsRight k w m item r
-right k f w m item s r laws n h =
-    let c = found k f s r h in
-    let p = inside s r c.row c.place in
-    let formula = laws.rows k.layout.machine r.number c.row c.is in
-    let below = term_below k f s r c.row c.value c.known in
-    let written = value_written w m k.memory s r c.row c.value n.follows below c.holds in
-    let low = low_place w m s r c.row (value_of w c.value) laws.widths p written in
-    let address = n.address in
-    let placed : IsPlaced k w item s r = record { address = address; flags = n.flags; low = omega (arith, low, address); pages = n.pages; stubs = laws.stubs } in
-    let d = decided k f w m item s r (field_width c.row) n.known n.follows placed c.row c.value refl c.known in
-    let same = formula.agrees.value in
-    let small : All (λ b. b < 256) (old_field s r c.row) = All-take (λ b. b < 256) _ (drop r.offset s.bytes) (All-drop (λ b. b < 256) r.offset s.bytes n.small.bytes) in
-    let fits : value_of w c.value < 2 ^ 64 = omega arith in
+one_formula : (a b : Formula) → (let o : Option Formula = Some a in o) ≡ Some b → a ≡ b
+one_formula a b e = cc
+
+small_field : (s : InputSection) (r : InputRelocation) (row : RelocationKindInfo) → InputNumbers s → All (λ b. b < 256) (old_field s r row)
+small_field s r row n = All-take (λ b. b < 256) _ (drop r.offset s.bytes) (All-drop (λ b. b < 256) r.offset s.bytes n.bytes)
+
+-- a mark has no value
+no_value : (t : expression.Term) (u : Subtrahend) → is_mark t ≡ true → expressed t u ≡ NoValue
+no_value terms.Nothing u h = refl
+no_value terms.Symbol u h = cc
+no_value terms.Stub u h = cc
+no_value (terms.Slot x) u h = cc
+no_value terms.GotBase u h = cc
+no_value terms.Size u h = cc
+no_value terms.PointerOffset u h = cc
+no_value terms.ModuleOffset u h = cc
+
+sized_none : (z : RelocationSize) → sized z NoValue ≡ NoValue
+sized_none (ByteSize n) = refl
+sized_none (BitMasking b) = refl
+
+right_mark : (k : Loaded) (f : File) (w : World) (m : Memory) (item : Item) (s : InputSection) (r : InputRelocation) (row : RelocationKindInfo) → Laws → IsItem k f w m item s → row_of k.layout.machine r.number ≡ Some row → is_mark (expression_of row.kind).term ≡ true → mark_holds k s r row ≡ true → IsRight k w m item r
+right_mark k f w m item s r row laws n is mark h =
+    let a = and_parts (field_width row == 0) (nat_le r.offset (length s.bytes) && (allows row 0 && not (has_offset_mode k.layout s))) h in
+    let b = and_parts (nat_le r.offset (length s.bytes)) (allows row 0 && not (has_offset_mode k.layout s)) a.1 in
+    let c = and_parts (allows row 0) (not (has_offset_mode k.layout s)) b.1 in
+    let none = eqb-true (field_width row) 0 a.0 in
+    let start = leb-true r.offset (length s.bytes) b.0 in
+    let within : r.offset + field_width row ≤ length s.bytes = omega (arith, none, start) in
+    let formula = laws.rows k.layout.machine r.number row is in
+    let value : NoValue ≡ formula.formula.value = sym (ap (sized row.size) (no_value (expression_of row.kind).term (subtrahend_of row.kind row.mask) mark) ∙ sized_none row.size) ∙ formula.agrees.value in
+    let off = no_offsets k item s n.flags (not-true (has_offset_mode k.layout s) c.1) in
     record {
       field = record {
         formula = formula.formula;
         known = formula.known;
-        value = value_of w c.value;
-        gives = subst (λ (v : Value). Gives v k.layout w m item r (value_of w c.value)) same d.gives;
-        field = field_reads w m k.layout.machine item s r c.row (value_of w c.value) laws.widths address n.bytes small p formula fits written;
+        value = 0;
+        gives = subst (λ (v : Value). Gives v k.layout w m item r 0) value off;
+        field = field_reads w m k.layout.machine item s r row 0 laws.widths n.address n.bytes (small_field s r row n.small) within formula (nothing_written w m s r row laws.widths none c.0);
+      };
+      own = λ u. (let one = one_formula u.formula formula.formula (sym u.known ∙ formula.known) in by (takes_by k.layout item u.symbol u.formula u.takes) (ap (λ (g : Formula). g.value) one ∙ sym value));
+    }
+  where
+    by : {v : Value} → TakesOffset v ⊎ TakesAddress v → v ≡ NoValue → ⊥
+    by (inl x) e = subst TakesOffset e x
+    by (inr x) e = subst TakesAddress e x
+
+right_field : (k : Loaded) (f : File) (w : World) (m : Memory) (item : Item) (s : InputSection) (r : InputRelocation) (row : RelocationKindInfo) (x : Term) → Laws → IsItem k f w m item s → row_of k.layout.machine r.number ≡ Some row → (value_term k f s r row ≡ Some x) ⊎ (word_term k s r row ≡ Some x) → is_inside s r row ≡ true → value_holds k s r row x ≡ true → IsRight k w m item r
+right_field k f w m item s r row x laws n is known there h =
+    let p = inside s r row there in
+    let formula = laws.rows k.layout.machine r.number row is in
+    let below = term_below k f s r row x known in
+    let shown = value_shown k w m s r row x n.follows n.pages below h in
+    let low = low_place w m s r row shown.number laws.widths p shown.written in
+    let address = n.address in
+    let placed : IsPlaced k w item s r = record { address = address; flags = n.flags; low = omega (arith, low, address); pages = n.pages; stubs = laws.stubs } in
+    let d = decided k f w m item s r (field_width row) n.known n.follows placed row x refl known in
+    let same = formula.agrees.value in
+    record {
+      field = record {
+        formula = formula.formula;
+        known = formula.known;
+        value = value_of w x;
+        gives = subst (λ (v : Value). Gives v k.layout w m item r (value_of w x)) same d.gives;
+        field = field_reads w m k.layout.machine item s r row (value_of w x) laws.widths address n.bytes (small_field s r row n.small) p.within formula shown;
       };
       own = λ u. (let one = one_formula u.formula formula.formula (sym u.known ∙ formula.known) in d.own u.formula (ap (λ (g : Formula). g.value) one ∙ sym same) (ap (λ (g : Formula). form_width g.form) one ∙ formula.width) u.symbol u.named u.takes u.replaceable);
     }
+
+right : (k : Loaded) (f : File) (w : World) (m : Memory) (item : Item) (s : InputSection) (r : InputRelocation) → Laws → IsItem k f w m item s → reference_holds k f s r ≡ true → IsRight k w m item r
+right k f w m item s r laws n h = by (found k f s r h)
   where
-    one_formula : (a b : Formula) → (let o : Option Formula = Some a in o) ≡ Some b → a ≡ b
-    one_formula a b e = cc
+    by : IsFound k f s r → IsRight k w m item r
+    by (Mark row is mark h) = right_mark k f w m item s r row laws n is mark h
+    by (Field row is x known there h) = right_field k f w m item s r row x laws n is known there h
 
 -- ---- the item
 

@@ -3,6 +3,7 @@ pub mod FileLemmas
 pub mod SiteLemmas
 pub mod ByteLemmas
 pub mod ValueLemmas
+pub mod ThreadLemmas
 pub mod SlotLemmas
 pub mod WrittenLemmas
 pub mod FormulaLemmas

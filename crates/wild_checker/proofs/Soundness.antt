@@ -138,7 +138,7 @@ kept_holds l o w m image t laws raw numbers world legal follows h item (OfSectio
     let r = none_at (doubtful_reference loaded) l.groups i.group i.file s h.references i.grouped i.filed i.listed in
     let b = none_at (λ f. changed_byte l.machine t) l.groups i.group i.file s h.bytes i.grouped i.filed i.listed in
     let p = plain loaded i.file s (no_frames s k.loaded) (in_memory s k.loaded k.room k.has_data) r b in
-    let known : Known loaded i.file w = record { group = i.group; grouped = i.grouped; filed = i.filed; ordered = refl; numbers = numbers; world = world; raw = raw } in
+    let known : Known loaded i.file w = record { group = i.group; grouped = i.grouped; filed = i.filed; ordered = refl; numbers = numbers; world = world; own = legal.symbols.known; resolvers = legal.resolvers; raw = raw } in
     subst (ItemHolds l w m) (sym e) (holds loaded i.file w m s laws known follows (small_section l i.group i.file s numbers i.grouped i.filed i.listed) (page_base w.base l.page_size legal.aligned) p)
 kept_holds l o w m image t laws raw numbers world legal follows h item (OfFrames s k e) =
     let loaded : Loaded = record { layout = l; outline = o; memory = t; ordered = are_ordered l } in

@@ -2,6 +2,7 @@ pub mod Search
 pub mod Loaded
 pub mod Bytes
 pub mod Symbols
+pub mod Threads
 pub mod Slots
 pub mod References
 pub mod Sections

@@ -3,6 +3,7 @@
 --   in_file k f i          symbol i is one of file f
 --   raw_in k f i r         symbol i's address in the layout, from its definition's resolution r or from its place in file f
 --   symbol_term k f i      symbol i's value
+--   known_answer o x           what is known of the answer for a dynamic symbol
 --   loaded_term k f i d    symbol i's value, also where another module may define the symbol
 --   names_no_strings k f i symbol i is not that of a section of merged strings
 use Rattle.std.specs.Prelude.{ℕ, ◌+◌, ◌%◌, ◌^◌, ◌==◌, ◌&&◌, ◌||◌, Bool, true, false, not, if◌then◌else◌, nat_lt, nat_le, length, slice_get, List, [], ◌∷◌, Option, Some, None, is_some, option_map, option_and_then}
@@ -24,11 +25,13 @@ use Rattle.wild_types.specs.Flags.{has_flag, ifunc, absolute, undefined_weak}
 use Rattle.wild_types.specs.Lookups.{canonical}
 use Rattle.wild_types.specs.SymbolSlots.{plt_of}
 use Rattle.wild_meaning.specs.Value.{may_be_replaced}
+use Rattle.wild_terms.specs.declared.outline.KnownAnswer.{KnownAnswer}
 use Rattle.wild_terms.specs.declared.outline.Outline.{Outline}
-use Rattle.wild_terms.specs.declared.term.Atom.TheVariants.{Address}
+use Rattle.wild_terms.specs.declared.term.Atom.TheVariants.{Resolver}
 use Rattle.wild_terms.specs.declared.term.Term.{Term}
 use Rattle.wild_terms.specs.Terms.{number_term, atom_term}
-use Rattle.wild_terms.specs.Outline.{based}
+use Rattle.wild_terms.specs.Outline.{based, address_of}
+use Rattle.wild_checker.specs.declared.symbols.IndexedAnswer.{IndexedAnswer}
 use Rattle.wild_checker.specs.Loaded.{Loaded}
 
 -- ---- the files of symbols
@@ -75,20 +78,25 @@ abbrev pub value_by : Bool → Outline → ℕ → Term
 value_by true o a = number_term a
 value_by false o a = based o a
 
--- On AArch64 an address represents its symbol if no stub does, and an undefined weak symbol has a rule of its own (aaelf64, "Weak
--- references").
-abbrev pub represents : Machine → Symbol → Bool
-represents machine.X86_64 d = true
-represents machine.AArch64 d = not (has_flag d.flags undefined_weak) && not (is_some (plt_of d))
+abbrev pub is_equal : Option ℕ → Option ℕ → Bool
+is_equal None y = false
+is_equal (Some a) None = false
+is_equal (Some a) (Some b) = a == b
+
+-- On AArch64 an address represents its symbol if it is not that of the symbol's stub, and an undefined weak symbol has a rule of its own
+-- (aaelf64, "Weak references").
+abbrev pub represents : Machine → Symbol → Option ℕ → Bool
+represents machine.X86_64 d raw = true
+represents machine.AArch64 d raw = not (has_flag d.flags undefined_weak) && not (is_equal raw (plt_of d))
 
 -- no other module may define the symbol, and no resolver computes its value
-abbrev pub is_plain : Layout → Symbol → Bool
-is_plain l d = not (may_be_replaced l.kind d.flags) && (not (has_flag d.flags ifunc) && represents l.machine d)
+abbrev pub is_plain : Loaded → File → ℕ → Symbol → Bool
+is_plain k f i d = not (may_be_replaced k.layout.kind d.flags) && (not (has_flag d.flags ifunc) && represents k.layout.machine d (raw_in k f i d.resolution))
 
 -- symbol i's value, where d is its definition
 abbrev pub defined_term : Loaded → File → ℕ → Option Symbol → Option Term
 defined_term k f i None = None
-defined_term k f i (Some d) = if is_plain k.layout d then option_map (value_by (has_flag d.flags absolute) k.outline) (raw_in k f i d.resolution) else None
+defined_term k f i (Some d) = if is_plain k f i d then option_map (value_by (has_flag d.flags absolute) k.outline) (raw_in k f i d.resolution) else None
 
 -- symbol i's value
 abbrev pub symbol_term : Loaded → File → ℕ → Option Term
@@ -100,14 +108,30 @@ abbrev pub index_of : Option Resolution → Option ℕ
 index_of None = None
 index_of (Some r) = r.dynamic_symbol_index
 
+abbrev pub answer_at : ℕ → KnownAnswer → IndexedAnswer
+answer_at i a = record { index = i; answer = a }
+
+-- what is known of the answer for a dynamic symbol
+abbrev pub known_answer : Outline → Option ℕ → Option IndexedAnswer
+known_answer o None = None
+known_answer o (Some i) = if nat_lt i (2 ^ 32) then option_map (answer_at i) (slice_get o.symbols i) else None
+
 -- the address in the answer for a dynamic symbol
 abbrev pub answer_term : Outline → Option ℕ → Option Term
-answer_term o None = None
-answer_term o (Some i) = if nat_lt i (length o.symbols) && nat_lt i (2 ^ 32) then Some (atom_term (Address i)) else None
+answer_term o x = option_map (λ a. address_of a.index a.answer) (known_answer o x)
 
--- symbol i's value, where d is its definition: the world's answer, or the output's own value if no resolver computes it
+-- the answer of an IFUNC's resolver
+abbrev pub resolver_term : Option Resolution → Option Term
+resolver_term None = None
+resolver_term (Some r) = Some (atom_term (Resolver r.raw_value))
+
+-- symbol i's value by the output's own definition d
+abbrev pub own_term : Loaded → File → ℕ → Symbol → Option Term
+own_term k f i d = if has_flag d.flags ifunc then resolver_term d.resolution else option_map (value_by (has_flag d.flags absolute) k.outline) (raw_in k f i d.resolution)
+
+-- symbol i's value, where d is its definition: the world's answer, or the output's own value
 abbrev pub loaded_term : Loaded → File → ℕ → Symbol → Option Term
-loaded_term k f i d = if may_be_replaced k.layout.kind d.flags then answer_term k.outline (index_of d.resolution) else (if has_flag d.flags ifunc then None else option_map (value_by (has_flag d.flags absolute) k.outline) (raw_in k f i d.resolution))
+loaded_term k f i d = if may_be_replaced k.layout.kind d.flags then answer_term k.outline (index_of d.resolution) else own_term k f i d
 
 -- ---- merged strings
 

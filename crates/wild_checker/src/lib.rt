@@ -11,6 +11,7 @@ mod sections;
 mod segments;
 mod slots;
 mod symbols;
+mod threads;
 mod verdict;
 
 pub use laws::{worlds_are_outlined, yes_is_founded};

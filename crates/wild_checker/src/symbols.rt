@@ -3,11 +3,11 @@ ghost use Rattle.std.specs.Prelude.{◌≡◌, Some, option_and_then};
 ghost use Rattle.wild_types.specs.Addresses.{address_in_section};
 ghost use Rattle.wild_meaning.specs.Value.{may_be_replaced};
 ghost use Rattle.wild_checker.specs.Loaded.{loaded_now};
-ghost use Rattle.wild_checker.specs.Symbols.{end_of_file, end_of_files, end_of_groups, are_ordered, in_file, address_by_place, raw_in, value_by, represents, is_plain, defined_term, symbol_term, index_of, answer_term, loaded_term, is_no_merged, names_no_strings};
+ghost use Rattle.wild_checker.specs.Symbols.{end_of_file, end_of_files, end_of_groups, are_ordered, in_file, address_by_place, raw_in, value_by, is_equal, represents, is_plain, defined_term, symbol_term, index_of, known_answer, answer_term, own_term, loaded_term, is_no_merged, names_no_strings};
 
 use crate::loaded::LoadedRef;
 use wild_records::abi::symbol::STT_SECTION;
-use wild_terms::{Atom, Outline, Term};
+use wild_terms::{Atom, KnownAnswer, Outline, Term};
 use wild_types::{
     File, Group, InputSection, Layout, Machine, OutputKind, Place, Resolution, Slot, Symbol,
     SymbolIndex, ValueFlags, plt_of,
@@ -90,7 +90,7 @@ fn address_by_place(layout: &Layout, file: &File, value: u64, place: Place) -> O
 }
 
 /// A symbol's address in the layout: that of its definition's resolution, else of its place in the file.
-fn raw_in(
+pub(crate) fn raw_in(
     loaded: &LoadedRef,
     file: &File,
     symbol: SymbolIndex,
@@ -128,25 +128,37 @@ pub(crate) fn may_be_replaced(kind: OutputKind, flags: ValueFlags) -> bool
         || (matches!(kind, OutputKind::SharedObject) && exported)
 }
 
-/// Whether an address represents its symbol. On AArch64 it does if no stub does, and the symbol is defined.
-fn represents(machine: Machine, definition: &Symbol) -> bool
-    ensures { result ≡ represents machine definition.now }
+/// Whether two addresses are there and equal.
+pub(crate) fn is_equal(a: Option<u64>, b: Option<u64>) -> bool
+    ensures { result ≡ is_equal a b }
+{
+    match (a, b) {
+        (Some(a), Some(b)) => a == b,
+        _ => false,
+    }
+}
+
+/// Whether an address represents its symbol. On AArch64 it does if it is not that of the symbol's stub, and the symbol is defined.
+fn represents(machine: Machine, definition: &Symbol, address: Option<u64>) -> bool
+    ensures { result ≡ represents machine definition.now address }
 {
     match machine {
         Machine::X86_64 => true,
         Machine::AArch64 => {
-            !definition.flags.is_undefined_weak() && plt_of(definition).is_none()
+            !definition.flags.is_undefined_weak() && !is_equal(address, plt_of(definition))
         }
     }
 }
 
 /// Whether no other module may define a symbol, and no resolver computes its value.
-fn is_plain(layout: &Layout, definition: &Symbol) -> bool
-    ensures { result ≡ is_plain layout.now definition.now }
+fn is_plain(loaded: &LoadedRef, file: &File, symbol: SymbolIndex, definition: &Symbol) -> bool
+    ensures { result ≡ is_plain (loaded_now loaded.now) file.now symbol definition.now }
 {
+    let layout = loaded.layout;
+    let address = raw_in(loaded, file, symbol, definition.resolution);
     !may_be_replaced(layout.kind, definition.flags)
         && !definition.flags.is_ifunc()
-        && represents(layout.machine, definition)
+        && represents(layout.machine, definition, address)
 }
 
 /// A symbol's value, from its definition.
@@ -158,7 +170,7 @@ fn defined_term(
 ) -> Option<Term>
     ensures { result ≡ defined_term (loaded_now loaded.now) file.now symbol (Some definition.now) }
 {
-    if !is_plain(loaded.layout, definition) {
+    if !is_plain(loaded, file, symbol, definition) {
         return None;
     }
     let address = raw_in(loaded, file, symbol, definition.resolution)?;
@@ -175,15 +187,36 @@ pub(crate) fn symbol_term(loaded: &LoadedRef, file: &File, symbol: SymbolIndex) 
     defined_term(loaded, file, symbol, definition)
 }
 
-/// The address in the answer for a dynamic symbol.
-fn answer_term(outline: &Outline, index: Option<u64>) -> Option<Term>
-    ensures { result ≡ answer_term outline.now index }
+/// What is known of the answer for a dynamic symbol.
+#[derive(Clone, Copy)]
+pub struct IndexedAnswer {
+    /// The index of the symbol.
+    pub index: u32,
+    pub answer: KnownAnswer,
+}
+
+/// What is known of the answer for the dynamic symbol with an index.
+fn answer_for(outline: &Outline, index: Option<u64>) -> Option<IndexedAnswer>
+    ensures { result ≡ known_answer outline.now index }
 {
     let index = index?;
-    if index < outline.symbols.len() as u64 && index < 1 << 32 {
-        Some(Term::atom(Atom::Address(index as u32)))
-    } else {
-        None
+    if index >= 1 << 32 {
+        return None;
+    }
+    let answer = *outline.symbols.as_slice().get(index as usize)?;
+    Some(IndexedAnswer {
+        index: index as u32,
+        answer,
+    })
+}
+
+/// What is known of the answer for a symbol, from its definition.
+pub(crate) fn known_answer(outline: &Outline, definition: &Symbol) -> Option<IndexedAnswer>
+    ensures { result ≡ known_answer outline.now (index_of definition.now.resolution) }
+{
+    match definition.resolution {
+        Some(resolution) => answer_for(outline, resolution.dynamic_symbol_index),
+        None => None,
     }
 }
 
@@ -191,13 +224,31 @@ fn answer_term(outline: &Outline, index: Option<u64>) -> Option<Term>
 pub(crate) fn answered_term(outline: &Outline, definition: &Symbol) -> Option<Term>
     ensures { result ≡ answer_term outline.now (index_of definition.now.resolution) }
 {
-    match definition.resolution {
-        Some(resolution) => answer_term(outline, resolution.dynamic_symbol_index),
-        None => None,
-    }
+    let found = known_answer(outline, definition)?;
+    Some(found.answer.address(found.index))
 }
 
-/// A symbol's value, also where another module may define the symbol; none if a resolver computes it.
+/// A symbol's value by the output's own definition: for an IFUNC, the answer of its resolver.
+pub(crate) fn own_term(
+    loaded: &LoadedRef,
+    file: &File,
+    symbol: SymbolIndex,
+    definition: &Symbol,
+) -> Option<Term>
+    ensures { result ≡ own_term (loaded_now loaded.now) file.now symbol definition.now }
+{
+    if definition.flags.is_ifunc() {
+        return match definition.resolution {
+            Some(resolution) => Some(Term::atom(Atom::Resolver(resolution.raw_value))),
+            None => None,
+        };
+    }
+    let address = raw_in(loaded, file, symbol, definition.resolution)?;
+    let absolute = definition.flags.is_absolute();
+    Some(value_by(absolute, loaded.outline, address))
+}
+
+/// A symbol's value, also where another module may define the symbol.
 pub(crate) fn loaded_term(
     loaded: &LoadedRef,
     file: &File,
@@ -209,12 +260,7 @@ pub(crate) fn loaded_term(
     if may_be_replaced(loaded.layout.kind, definition.flags) {
         return answered_term(loaded.outline, definition);
     }
-    if definition.flags.is_ifunc() {
-        return None;
-    }
-    let address = raw_in(loaded, file, symbol, definition.resolution)?;
-    let absolute = definition.flags.is_absolute();
-    Some(value_by(absolute, loaded.outline, address))
+    own_term(loaded, file, symbol, definition)
 }
 
 /// Whether a place is in no section of merged strings.

@@ -14,7 +14,6 @@ use Rattle.wild_loader.specs.declared.memory.Memory.{Memory}
 use Rattle.wild_loader.specs.declared.fault.LoadFault.{LoadFault}
 use Rattle.wild_loader.specs.declared.fault.LoadFault.TheVariants as faults
 use Rattle.wild_terms.specs.declared.outline.KnownAnswer.{KnownAnswer}
-use Rattle.wild_terms.specs.declared.outline.KnownAnswer.TheVariants.{Foreign}
 use Rattle.wild_terms.specs.declared.outline.Outline.{Outline}
 use Rattle.wild_terms.specs.declared.outline.TermChange.{TermChange}
 use Rattle.wild_terms.specs.declared.outline.TermChange.TheVariants as changes
@@ -79,15 +78,6 @@ same_order xs ys zs a b up on = same_numbers ys zs up on (λ f. sum_by-IsPermuta
 
 -- ---- an outline of a layout is one
 
--- lists of one value that are as long
-all_alike : {X : Type 0} (x : X) (xs ys : List X) → All (λ y. y ≡ x) xs → All (λ y. y ≡ x) ys → length xs ≡ length ys → xs ≡ ys
-all_alike x [] [] a b n = refl
-all_alike x [] (z ∷ zs) a b n = absurd (omega (arith, n))
-all_alike x (y ∷ ys) [] a b n = absurd (omega (arith, n))
-all_alike {X} x (y ∷ ys) (z ∷ zs) a b n =
-    let P : X → Type 0 = λ w. w ≡ x in
-    same_cons y z ys zs (All-head P y ys a ∙ sym (All-head P z zs b)) (all_alike x ys zs (All-tail P y ys a) (All-tail P z zs b) (omega (arith, n)))
-
 same_outline : (m n : Bool) (p q : Option ℕ) (s t : List KnownAnswer) (r u : List ℕ) → m ≡ n → p ≡ q → s ≡ t → r ≡ u
     → ◌≡◌ {A = Outline} (record { movable = m; program = p; symbols = s; resolvers = r }) (record { movable = n; program = q; symbols = t; resolvers = u })
 same_outline m n p q s t r u a b c d = rw (a, b, c, d) refl
@@ -96,7 +86,7 @@ one_outline : (l : Layout) (o p : Outline) → IsOutlineOf l o → IsOutlineOf l
 one_outline l o p a b = same_outline o.movable p.movable o.program p.program o.symbols p.symbols o.resolvers p.resolvers
     (a.movable ∙ sym b.movable)
     (a.program ∙ sym b.program)
-    (all_alike Foreign o.symbols p.symbols a.foreign b.foreign (a.count ∙ sym b.count))
+    (a.symbols ∙ sym b.symbols)
     (same_order _ o.resolvers p.resolvers a.resolvers b.resolvers a.ascend b.ascend)
 
 -- ---- the changes in their order are one list
