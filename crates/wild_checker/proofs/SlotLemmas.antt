@@ -292,8 +292,7 @@ has_pair k w m a x y follows h =
 -- a slot with a stub's address
 stub_held : (k : Loaded) (f : File) (w : World) (m : Memory) (i a : ℕ) (d : Symbol) → Known k f w → CodeLaws k w → Follows w k.memory m → slice_get k.layout.symbols (canonical k.layout i) ≡ Some d → holds_stub k f i d a ≡ true → IsHeld sorts.Address k w m i a
 stub_held k f w m i a d n law follows there h =
-    let x = and_parts (nat_lt a (2 ^ 64)) ((is_at_stub k f i d || has_flag d.flags ifunc_got_for_address) && are_same (term_at k.memory a 8) (stub_term k f i)) h in
-    let both = and_parts (is_at_stub k f i d || has_flag d.flags ifunc_got_for_address) (are_same (term_at k.memory a 8) (stub_term k f i)) x.1 in
+    let both = and_parts (is_at_stub k f i d || has_flag d.flags ifunc_got_for_address) (are_same (term_at k.memory a 8) (stub_term k f i)) h in
     let p = is_same (term_at k.memory a 8) (stub_term k f i) both.1 in
     let v = found_word k w m a p.term follows p.known in
     let s = stub_is k f w m i p.term law n follows p.is in
@@ -315,8 +314,7 @@ held sorts.TlsGd k f w m i a d n law follows there h =
     record { low = p.first.low; holds = ((q.distance + value_of w p.offset) % 2 ^ 64, record { owner = value_of w p.owner; first = p.first.number; offset = value_of w p.offset; second = p.second; distance = q.distance; known = q.known; sum = refl }, q.has) }
 held sorts.TlsLd k f w m i a d n law follows there h = cc
 held sorts.TpOff k f w m i a d n law follows there h =
-    let both = and_parts (nat_lt a (2 ^ 64)) (are_same (term_at k.memory a 8) (thread_term k f i d) || (may_be_zero k f i d && is_known (term_at k.memory a 8) (number_term 0))) h in
-    elim (or_cases (are_same (term_at k.memory a 8) (thread_term k f i d)) (may_be_zero k f i d && is_known (term_at k.memory a 8) (number_term 0)) both.1) [
+    elim (or_cases (are_same (term_at k.memory a 8) (thread_term k f i d)) (may_be_zero k f i d && is_known (term_at k.memory a 8) (number_term 0)) h) [
       | inl s ↦
           (let p = is_same (term_at k.memory a 8) (thread_term k f i d) s in
           let v = found_word k w m a p.term follows p.known in
@@ -327,8 +325,7 @@ held sorts.TpOff k f w m i a d n law follows there h =
           record { low = v.low; holds = (0, v.number, zero_is k f w i d n there p.0) })
     ]
 held sorts.TlsDesc k f w m i a d n law follows there h =
-    let both = and_parts (nat_lt a (2 ^ 64)) (are_same (descriptor_at k.memory a) (thread_term k f i d)) h in
-    let p = is_same (descriptor_at k.memory a) (thread_term k f i d) both.1 in
+    let p = is_same (descriptor_at k.memory a) (thread_term k f i d) h in
     let noted = the_term (descriptor_at k.memory a) p.term p.known in
     record { low = follows.places a p.term noted; holds = (value_of w p.term, follows.descriptors a p.term noted, thread_is k f w i d p.term n there p.is) }
 
@@ -348,15 +345,15 @@ has_slot sort k f i t h = by (slice_get k.layout.symbols (canonical k.layout i))
     s : Slot
     s = slot_sort sort
 
-    by_test : (d : Symbol) → slice_get k.layout.symbols (canonical k.layout i) ≡ Some d → (a : ℕ) → HasSlotAddress s k.layout i a → (b : Bool) → holds_slot k f i d sort a ≡ b → (if b then Some (based k.outline a) else None) ≡ Some t → HasSlot sort k f i t
+    by_test : (d : Symbol) → slice_get k.layout.symbols (canonical k.layout i) ≡ Some d → (a : ℕ) → HasSlotAddress s k.layout i a → (b : Bool) → (nat_lt a (2 ^ 64) && holds_slot k f i d sort a) ≡ b → (if b then Some (based k.outline a) else None) ≡ Some t → HasSlot sort k f i t
     by_test d there a given false e h = cc
-    by_test d there a given true e h = record { definition = d; there = there; slot = a; given = given; holds = e; is = some_is (based k.outline a) t h }
+    by_test d there a given true e h = record { definition = d; there = there; slot = a; given = given; holds = (and_parts (nat_lt a (2 ^ 64)) (holds_slot k f i d sort a) e).1; is = some_is (based k.outline a) t h }
 
     by_first : (d : Symbol) → slice_get k.layout.symbols (canonical k.layout i) ≡ Some d → has_slot_of s d.flags ≡ true → (r : Resolution) → d.resolution ≡ Some r → (o : Option ℕ) → r.got_address ≡ o → slot_by k f i d sort (option_map (λ first. first + offset_from_first s d.flags) o) ≡ Some t → HasSlot sort k f i t
     by_first d there flag r e None g h = cc
     by_first d there flag r e (Some first) g h =
         let a = first + offset_from_first s d.flags in
-        by_test d there a (record { definition = canonical k.layout i; defined = own_definition k.layout i d there; symbol = d; listed = there; flagged = flag; resolution = r; decided = e; first = first; given = g; place = refl }) (holds_slot k f i d sort a) refl h
+        by_test d there a (record { definition = canonical k.layout i; defined = own_definition k.layout i d there; symbol = d; listed = there; flagged = flag; resolution = r; decided = e; first = first; given = g; place = refl }) (nat_lt a (2 ^ 64) && holds_slot k f i d sort a) refl h
 
     by_resolution : (d : Symbol) → slice_get k.layout.symbols (canonical k.layout i) ≡ Some d → has_slot_of s d.flags ≡ true → (x : Option Resolution) → d.resolution ≡ x → slot_by k f i d sort (option_map (λ first. first + offset_from_first s d.flags) (resolved_got x)) ≡ Some t → HasSlot sort k f i t
     by_resolution d there flag None e h = cc

@@ -15,7 +15,10 @@ use Rattle.wild_records.proofs.FieldLemmas.{signed_fits}
 use Rattle.wild_types.specs.declared.kind.OutputKind.{OutputKind}
 use Rattle.wild_types.specs.declared.kind.OutputKind.TheVariants as output
 use Rattle.wild_types.specs.declared.kind.RelocationModel.TheVariants as model
+use Rattle.wild_types.specs.declared.kind.Machine.{Machine}
+use Rattle.wild_types.specs.declared.kind.Machine.TheVariants as machine
 use Rattle.wild_types.specs.declared.layout.Layout.{Layout}
+use Rattle.wild_types.specs.declared.layout.Tls.{Tls}
 use Rattle.wild_types.specs.declared.symbol.Resolution.{Resolution}
 use Rattle.wild_types.specs.declared.symbol.Symbol.{Symbol}
 use Rattle.wild_types.specs.Flags.{has_flag, absolute, ifunc}
@@ -24,7 +27,7 @@ use Rattle.wild_types.specs.Lookups.{canonical}
 use Rattle.wild_loader.specs.declared.world.World.{World}
 use Rattle.wild_loader.specs.declared.world.Answer.{Answer}
 use Rattle.wild_loader.specs.Changes.{first_value}
-use Rattle.wild_meaning.specs.Thread.{rounded_up, thread_pointer}
+use Rattle.wild_meaning.specs.Thread.{rounded_up, thread_pointer_of, thread_pointer}
 use Rattle.wild_meaning.specs.Value.{IsDefinedBy, IsLocatedAt, IsResolved, IsUnresolved, HasRaw, HasFlag, IsValue, may_be_replaced, with_base}
 use Rattle.wild_meaning.specs.World.{IsOwnAnswer, first_module, IsFixed, IsLoadable, IsExecutable, IsLegal, IsAnswer, IsAnswered, HasResolver}
 use Rattle.wild_meaning.proofs.SymbolLemmas.{canonical_is, own_definition}
@@ -37,7 +40,7 @@ use Rattle.wild_terms.specs.Terms.{number_term}
 use Rattle.wild_terms.specs.Outline.{has_resolver}
 use Rattle.wild_terms.specs.Values.{value_of}
 use Rattle.wild_terms.specs.Values as terms
-use Rattle.wild_checker.specs.Outline.{end_by, index_by, index_end, greatest_end, address_by, resolver_of, program_of, answer_count, own_address, own_answer, is_own, with_answer, with_resolved, with_symbol, with_symbols, known_answers, IsOutlineOf, WorldsAreOutlined}
+use Rattle.wild_checker.specs.Outline.{end_by, index_by, index_end, greatest_end, address_by, resolver_of, next_multiple, pointer_of, program_of, answer_count, own_address, own_answer, is_own, with_answer, with_resolved, with_symbol, with_symbols, known_answers, IsOutlineOf, WorldsAreOutlined}
 
 -- ---- answers
 
@@ -312,11 +315,20 @@ resolved l o w is legal n h =
 -- ---- thread-local data
 
 -- 0 is no alignment
-pub not_aligned : (n : ℕ) → rounded_up n 0 ≡ n
-not_aligned n =
-    let none : 0 - n % 0 ≡ 0 = omega arith in
-    let e : (0 - n % 0) % 0 ≡ 0 = ap (λ (k : ℕ). k % 0) none ∙ zero-mod 0 in
-    ap (λ (k : ℕ). n + k) e ∙ omega arith
+multiple_is : (n align : ℕ) → next_multiple n align ≡ rounded_up n align
+multiple_is n align = by (align == 0) refl
+  where
+    by : (b : Bool) → (align == 0) ≡ b → (if b then n else n + (align - n % align) % align) ≡ rounded_up n align
+    by false e = refl
+    by true e =
+        let zero = eqb-true align 0 e in
+        let none : align - n % align ≡ 0 = omega (arith, zero) in
+        let gap : (align - n % align) % align ≡ 0 = ap (λ (k : ℕ). k % align) none ∙ zero-mod align in
+        omega (arith, gap)
+
+pointer_is : (m : Machine) (t : Tls) → pointer_of m t ≡ thread_pointer_of m t
+pointer_is machine.X86_64 t = multiple_is t.end t.align
+pointer_is machine.AArch64 t = ap (λ (n : ℕ). t.start + (2 ^ 64 - n)) (multiple_is 16 t.align)
 
 executable : (k : OutputKind) → is_executable k ≡ true → IsExecutable k
 executable (output.StaticExecutable m) h = tt
@@ -331,11 +343,12 @@ program_is l w can legal d h = by (is_executable l.kind) refl h
     distance : (start pointer c d : ℕ) → (pointer + c) % 2 ^ 64 ≡ start → c < 2 ^ 64 → (start + (2 ^ 64 - pointer % 2 ^ 64)) % 2 ^ 64 ≡ d → c ≡ d
     distance start pointer c d begins low e = omega (arith, begins, low, e)
 
-    by : (b : Bool) → is_executable l.kind ≡ b → (if b then Some ((l.tls.start + (2 ^ 64 - thread_pointer l % 2 ^ 64)) % 2 ^ 64) else None) ≡ Some d → terms.IsProgram w d
+    by : (b : Bool) → is_executable l.kind ≡ b → (if b then Some ((l.tls.start + (2 ^ 64 - pointer_of l.machine l.tls % 2 ^ 64)) % 2 ^ 64) else None) ≡ Some d → terms.IsProgram w d
     by false e h = cc
     by true e h =
         let first = legal.first (executable l.kind e) in
-        let same : (l.tls.start + (2 ^ 64 - thread_pointer l % 2 ^ 64)) % 2 ^ 64 ≡ d = cc in
+        let given : (l.tls.start + (2 ^ 64 - pointer_of l.machine l.tls % 2 ^ 64)) % 2 ^ 64 ≡ d = cc in
+        let same : (l.tls.start + (2 ^ 64 - thread_pointer l % 2 ^ 64)) % 2 ^ 64 ≡ d = ap (λ (p : ℕ). (l.tls.start + (2 ^ 64 - p % 2 ^ 64)) % 2 ^ 64) (sym (pointer_is l.machine l.tls)) ∙ given in
         let here = first_filtered w.modules first_module first.distance first.pair in
         let c = cast_unsigned w64 first.distance in
         let is : c ≡ d = distance l.tls.start (thread_pointer l) c d first.is.begins (signed_fits w64 first.distance first.is.fits) same in

@@ -6,14 +6,16 @@
 use Rattle.std.specs.Prelude.{◌≡◌, ℕ, ◌+◌, ◌-◌, ◌%◌, ◌^◌, ◌==◌, ◌&&◌, Bool, not, if◌then◌else◌, nat_lt, List, [], ◌∷◌, length, set, replicate, Option, Some, None, min, max}
 use Rattle.std.specs.List.{filter_map}
 use Rattle.std.specs.List.Sorted.{IsPermutation}
+use Rattle.wild_types.specs.declared.kind.Machine.{Machine}
+use Rattle.wild_types.specs.declared.kind.Machine.TheVariants as machine
 use Rattle.wild_types.specs.declared.layout.Layout.{Layout}
+use Rattle.wild_types.specs.declared.layout.Tls.{Tls}
 use Rattle.wild_types.specs.declared.symbol.Resolution.{Resolution}
 use Rattle.wild_types.specs.declared.symbol.Symbol.{Symbol}
 use Rattle.wild_types.specs.Flags.{has_flag, absolute, ifunc}
 use Rattle.wild_types.specs.Kinds.{is_executable, is_position_independent}
 use Rattle.wild_types.specs.Lookups.{canonical}
 use Rattle.wild_loader.specs.declared.world.World.{World}
-use Rattle.wild_meaning.specs.Thread.{thread_pointer}
 use Rattle.wild_meaning.specs.Value.{may_be_replaced}
 use Rattle.wild_meaning.specs.World.{IsLoadable, IsLegal}
 use Rattle.wild_terms.specs.declared.outline.KnownAnswer.{KnownAnswer}
@@ -53,10 +55,20 @@ address_by (Some r) = Some r.raw_value
 abbrev pub resolver_of : Symbol → Option ℕ
 resolver_of s = if has_flag s.flags ifunc then address_by s.resolution else None
 
+-- the lowest multiple of an alignment that is at least n; 0 is no alignment
+abbrev pub next_multiple : ℕ → ℕ → ℕ
+next_multiple n align = if align == 0 then n else n + (align - n % align) % align
+
+-- the value of the thread pointer if the initial data are used as a thread's own: after the data, or before them by the size of the
+-- control block
+abbrev pub pointer_of : Machine → Tls → ℕ
+pointer_of machine.X86_64 tls = next_multiple tls.end tls.align
+pointer_of machine.AArch64 tls = tls.start + (2 ^ 64 - next_multiple 16 tls.align)
+
 -- the distance of an executable's thread-local data from the thread pointer, modulo 2^64 ("ELF Handling For Thread-Local Storage",
 -- "Run-Time Handling of TLS"); the distance of a library's depends on the world
 abbrev pub program_of : Layout → Option ℕ
-program_of l = if is_executable l.kind then Some ((l.tls.start + (2 ^ 64 - thread_pointer l % 2 ^ 64)) % 2 ^ 64) else None
+program_of l = if is_executable l.kind then Some ((l.tls.start + (2 ^ 64 - pointer_of l.machine l.tls % 2 ^ 64)) % 2 ^ 64) else None
 
 -- ---- the output's own answers
 

@@ -83,7 +83,7 @@ is_at_stub k f i d = not (has_flag d.flags absolute) && (has_flag d.flags ifunc 
 
 -- the word at an address is the address of symbol i's stub, and a slot for the symbol's address may have that
 abbrev pub holds_stub : Loaded → File → ℕ → Symbol → ℕ → Bool
-holds_stub k f i d a = nat_lt a (2 ^ 64) && ((is_at_stub k f i d || has_flag d.flags ifunc_got_for_address) && are_same (term_at k.memory a 8) (stub_term k f i))
+holds_stub k f i d a = (is_at_stub k f i d || has_flag d.flags ifunc_got_for_address) && are_same (term_at k.memory a 8) (stub_term k f i)
 
 -- the word at an address is symbol i's value, or its stub's address
 abbrev pub holds_address : Loaded → File → ℕ → Symbol → ℕ → Bool
@@ -95,11 +95,11 @@ holds_pair k a first second = nat_lt a (2 ^ 64 - 8) && (are_same (term_at k.memo
 
 -- the word at an address is symbol i's offset from the thread pointer in every world
 abbrev pub holds_offset : Loaded → File → ℕ → Symbol → ℕ → Bool
-holds_offset k f i d a = nat_lt a (2 ^ 64) && (are_same (term_at k.memory a 8) (thread_term k f i d) || (may_be_zero k f i d && is_known (term_at k.memory a 8) (number_term 0)))
+holds_offset k f i d a = are_same (term_at k.memory a 8) (thread_term k f i d) || (may_be_zero k f i d && is_known (term_at k.memory a 8) (number_term 0))
 
 -- the loader notes that offset for the descriptor at an address
 abbrev pub holds_descriptor : Loaded → File → ℕ → Symbol → ℕ → Bool
-holds_descriptor k f i d a = nat_lt a (2 ^ 64) && are_same (descriptor_at k.memory a) (thread_term k f i d)
+holds_descriptor k f i d a = are_same (descriptor_at k.memory a) (thread_term k f i d)
 
 -- memory at an address has what a slot of that sort holds for symbol i (x86-64 psABI, "Global Offset Table (GOT)"; "ELF Handling For
 -- Thread-Local Storage", "TLS Access Models")
@@ -116,7 +116,7 @@ slot_place sort d = if has_slot_of (slot_sort sort) d.flags then option_map (λ 
 
 abbrev pub slot_by : Loaded → File → ℕ → Symbol → SlotSort → Option ℕ → Option Term
 slot_by k f i d sort None = None
-slot_by k f i d sort (Some a) = if holds_slot k f i d sort a then Some (based k.outline a) else None
+slot_by k f i d sort (Some a) = if nat_lt a (2 ^ 64) && holds_slot k f i d sort a then Some (based k.outline a) else None
 
 -- the address of symbol i's slot of a sort, if it holds what such a slot holds
 abbrev pub symbol_slot : Loaded → File → SlotSort → ℕ → Option Term

@@ -3,8 +3,7 @@ ghost use Rattle.std.specs.Prelude.{◌≡◌, ◌%◌, ◌^◌, replicate, IfOk
 ghost use Rattle.std.specs.List.{filter_map};
 ghost use Rattle.std.specs.List.Sorted.{IsPermutation, IsNonDecreasing};
 ghost use Rattle.wild_terms.specs.declared.outline.KnownAnswer.TheVariants.{Foreign};
-ghost use Rattle.wild_meaning.specs.Thread.{rounded_up, thread_pointer_of};
-ghost use Rattle.wild_checker.specs.Outline.{index_end, greatest_end, own_address, own_answer, is_own, with_answer, with_symbol, with_symbols, resolver_of, program_of, IsOutlineOf};
+ghost use Rattle.wild_checker.specs.Outline.{index_end, greatest_end, own_address, own_answer, is_own, with_answer, with_symbol, with_symbols, resolver_of, next_multiple, pointer_of, program_of, IsOutlineOf};
 
 use crate::symbols::may_be_replaced;
 use std::alloc::{AllocError, Global};
@@ -147,9 +146,8 @@ fn resolvers(alloc: Global, symbols: &[Symbol]) -> Result<Items<u64>, AllocError
 }
 
 /// The lowest multiple of an alignment that is at least a number; 0 is no alignment.
-#[tactic(auto, using(crate::proofs::WorldLemmas::not_aligned))]
-fn rounded_up(number: u64, align: u64) -> u128
-    ensures { result ≡ rounded_up number align }
+fn next_multiple(number: u64, align: u64) -> u128
+    ensures { result ≡ next_multiple number align }
 {
     if align == 0 {
         return number as u128;
@@ -159,13 +157,13 @@ fn rounded_up(number: u64, align: u64) -> u128
 }
 
 /// The value of the thread pointer, modulo 2^64, if the initial data are used as a thread's own.
-fn thread_pointer(machine: Machine, tls: Tls) -> u64
-    ensures { result ≡ thread_pointer_of machine tls % 2 ^ 64 }
+fn pointer_of(machine: Machine, tls: Tls) -> u64
+    ensures { result ≡ pointer_of machine tls % 2 ^ 64 }
 {
     let pointer = match machine {
-        Machine::X86_64 => rounded_up(tls.end, tls.align),
+        Machine::X86_64 => next_multiple(tls.end, tls.align),
         Machine::AArch64 => {
-            let block = rounded_up(16, tls.align);
+            let block = next_multiple(16, tls.align);
             let back = if block < 1 << 64 {
                 (1 << 64) - block
             } else {
@@ -182,7 +180,7 @@ fn program_of(layout: &Layout) -> Option<u64>
     ensures { result ≡ program_of layout.now }
 {
     if layout.kind.is_executable() {
-        let pointer = thread_pointer(layout.machine, layout.tls);
+        let pointer = pointer_of(layout.machine, layout.tls);
         Some(layout.tls.start.wrapping_sub(pointer))
     } else {
         None
