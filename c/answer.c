@@ -1,6 +1,6 @@
 /* Prints what `link` prints for the layout that plan_to_c.py wrote. The image is written twice: with 1 byte too few in `out`, which has
  * to change nothing, and then whole. */
-#include "wild_text.h"
+#include "wild.h"
 #include <stdio.h>
 #include <stdlib.h>
 #include <string.h>
@@ -44,9 +44,11 @@ int main(void)
     if (out[size] != 0x5a)
         return 72;
     if (status == WILD_REFUSED) {
-        char text[512];
-        wild_fault_text(&fault, text, sizeof text);
-        printf("%s\n", text);
+        uint8_t text[WILD_FAULT_TEXT];
+        size_t used = 0;
+        if (wild_fault_text(&fault, text, sizeof text, &used) != WILD_WRITTEN)
+            return 73;
+        fwrite(text, 1, used, stdout);
     } else if (status == WILD_WRITTEN) {
         printf("image %llu\n", (unsigned long long)size);
         print_warning(layout, &warning);

@@ -2,13 +2,15 @@
 """Checks the libraries for C beside the gate: check.py [LIBRARY [JSON_LIBRARY]] (default: crates/wild_c/out/libwild_c.a and
 crates/wild_json_c/out/libwild_json_c.a, which `./build --library` makes; without the second its checks are left out).
 
-- wild.h compiles as C11 and as C++17 without a warning; its structs have the members, offsets and sizes of the structs of
-  wild_c_layout, and so have those of rust/wild.
+- wild.h compiles as C11 and as C++17 without a warning. Its structs have the members, offsets and sizes of the structs of
+  wild_c_layout, its enums have their numbers; so have those of rust/wild.
+- The text of each fault, and of structs that have none.
 - Each plan, written as structs, has the answer of plans/*.answer.
 - Each row of a page with a change of a plan and its answer has that answer, unless JSON alone can express the change.
 - Each plan has that answer by `wild_link_json` too.
 - Calls by four threads at once, and calls with each allocation refused in turn.
 - The same under valgrind, if it is there: no error, no leak.
+- All this with the toolchain's liblibc_c.a, and with wild_arena.c in its place.
 - The examples in C and C++, and with cargo the one in Rust, write programs that run.
 
 It needs gcc, g++ and, for the toolchain's liblibc_c.a, `rt`.
@@ -99,9 +101,23 @@ def check_structs(room):
             check(f"rust/wild: {name}", name in theirs and placed(members, ours) == placed(theirs[name], theirs, enums), theirs.get(name))
 
 
+def check_choices(header, rust):
+    """The order of roles, slots and roles of files, of the header and of rust/wild, against the sources."""
+    codes = (TOP / "crates/wild_c_layout/src/codes.rt").read_text()
+    other = {"Group": "GroupSlot", "Dynamic": "Library"}  # names that something else in the header has
+    for table, kind, first in (("ROLES", "Role", "WILD_RAW"), ("SLOTS", "Slot", "WILD_DISCARD"), ("FILE_ROLES", "FileRole", "WILD_OBJECT")):
+        ours = re.findall(r"::(\w+)", re.search(rf"const {table}: \[.*?\] = \[(.*?)\];", codes, re.S)[1])
+        listed = re.split(r",\s*", re.search(rf"enum \{{\s*({first}\b.*?)\s*\}};", header, re.S)[1])
+        wanted = ["WILD_" + snake(name if kind == "Role" else other.get(name, name)).upper() for name in ours]
+        check(f"{kind}s", listed == wanted, listed)
+        listed = re.split(r",\s*", re.search(rf"    {kind}: (.*?),\n\}}", rust, re.S)[1])
+        check(f"rust/wild: {kind}s", listed == ["Library" if kind == "FileRole" and name == "Dynamic" else name for name in ours], listed)
+
+
 def check_numbers():
-    """Faults and flags of the header against the sources."""
+    """Choices, faults and flags of the header against the sources."""
     header = (HERE / "wild.h").read_text()
+    check_choices(header, (TOP / "rust/wild/src/structs.rs").read_text())
     fault = (TOP / "crates/wild_types/src/fault.rt").read_text()
     names = re.findall(r"^    (\w+)(?: \{|,)$", re.search(r"pub enum Fault \{\n(.*?)\n\}", fault, re.S)[1], re.M)
     listed = re.search(r"enum \{\s*(WILD_MALFORMED_LAYOUT.*?)\};", header, re.S)[1]
@@ -124,22 +140,28 @@ def built(room, name, sources, libraries, extra=(), compiler="gcc", standard="gn
     return room / name
 
 
-def check_plans(room, libraries):
+def check_plan(room, name, sources, libraries, answer):
+    """The answer to the plan that plan.c has, also under valgrind, and the calls of stress.c."""
+    program = built(room, f"{name}_answer", ["plan.c", HERE / "answer.c", *sources], libraries)
+    ran = subprocess.run([program], capture_output=True)
+    check(f"{name}: answer", ran.returncode == 0 and ran.stdout == answer, ran.returncode)
     valgrind = shutil.which("valgrind")
-    quiet = [valgrind, "-q", "--leak-check=full", "--error-exitcode=99"]
+    if valgrind:
+        ran = subprocess.run([valgrind, "-q", "--leak-check=full", "--error-exitcode=99", program], capture_output=True)
+        check(f"{name}: valgrind", ran.returncode == 0 and ran.stdout == answer, ran.stderr[-600:])
+    words = ["-pthread", "-Wl,--wrap=malloc,--wrap=realloc"]
+    stress = built(room, f"{name}_stress", ["plan.c", HERE / "stress.c", *sources], libraries, words)
+    ran = subprocess.run([stress], capture_output=True, text=True)
+    check(f"{name}: {ran.stdout.strip()}", ran.returncode == 0, ran.returncode)
+
+
+def check_plans(room, libraries):
     for plan in sorted((TOP / "plans").glob("*.json")):
-        answer = plan.with_suffix(".answer")
+        answer = plan.with_suffix(".answer").read_bytes()
         written = subprocess.run([sys.executable, HERE / "plan_to_c.py"], stdin=plan.open(), capture_output=True, check=True)
         (room / "plan.c").write_bytes(written.stdout)
-        program = built(room, f"{plan.stem}_answer", ["plan.c", HERE / "answer.c"], libraries)
-        ran = subprocess.run([program], capture_output=True)
-        check(f"{plan.stem}: answer", ran.returncode == 0 and ran.stdout == answer.read_bytes(), ran.returncode)
-        if valgrind:
-            ran = subprocess.run([*quiet, program], capture_output=True)
-            check(f"{plan.stem}: valgrind", ran.returncode == 0 and ran.stdout == answer.read_bytes(), ran.stderr[-600:])
-        stress = built(room, f"{plan.stem}_stress", ["plan.c", HERE / "stress.c"], libraries, ["-pthread", "-Wl,--wrap=malloc,--wrap=realloc"])
-        ran = subprocess.run([stress], capture_output=True, text=True)
-        check(f"{plan.stem}: {ran.stdout.strip()}", ran.returncode == 0, ran.returncode)
+        check_plan(room, plan.stem, [], libraries, answer)
+        check_plan(room, f"{plan.stem}_arena", [HERE / "wild_arena.c"], libraries[:1], answer)
 
 
 def check_json(room, libraries):
@@ -179,6 +201,15 @@ def check_rows(room, libraries):
     check(f"{count} rows of pages with a change and its answer", not wrong, wrong[:5])
 
 
+def check_faults(room, libraries):
+    """The text of each fault, in a buffer of its length, and in one that is too short; and of structs that have no fault."""
+    program = built(room, "faults", [HERE / "faults.c"], libraries)
+    ran = subprocess.run([program], capture_output=True, text=True)
+    rows = (TOP / "docs/FAULTS.md").read_text()
+    names = [line.split()[1] for line in ran.stdout.splitlines()]
+    check(f"{len(set(names))} faults by wild_fault_text", ran.returncode == 0 and len(set(names)) == 18 and all(f"`{name}`" in rows for name in names), ran.stdout[-600:])
+
+
 def check_examples(room, libraries):
     for source, compiler, standard in (("hello.c", "gcc", "gnu11"), ("hello.cc", "g++", "c++17")):
         maker = built(room, f"make_{source[6:] or source}", [HERE / source], libraries, compiler=compiler, standard=standard)
@@ -209,6 +240,7 @@ def main():
             built(room, source.replace(".", "_"), [source], [], compiler=compiler, standard=standard)
         check_structs(room)
         check_numbers()
+        check_faults(room, libraries)
         check_plans(room, libraries)
         check_rows(room, libraries)
         if by_json.exists():

@@ -263,7 +263,8 @@ typedef struct {
 enum {
     WILD_WRITTEN = 0,    /* the call did what its name says */
     WILD_REFUSED = 1,    /* the layout has faults; the first one was written */
-    WILD_NO_LAYOUT = 3,  /* a number is none of its enum, or the version is another; of wild_link_json: the text is no plan */
+    WILD_NO_LAYOUT = 3,  /* a number is none of its enum, or the version is another; of wild_link_json: the text is no plan; of
+                            wild_fault_text: the struct has no fault */
     WILD_NO_MEMORY = 6,  /* out of memory */
     WILD_WRONG_SIZE = 8  /* a buffer has another size than what is written into it */
 };
@@ -306,6 +307,12 @@ uint32_t wild_write(const wild_layout *layout, uint8_t *out, size_t out_len, uin
 /* How many bytes each group needs of each part: with P parts, sizes[G * P + K] is what group G needs of part K (docs/EXPLAIN.md).
    `sizes` must have P numbers for each group. */
 uint32_t wild_needs(const wild_layout *layout, uint64_t *sizes, size_t sizes_len);
+
+/* The line that `link` prints for a fault (docs/FAULTS.md), with its final newline, into the front of `out`, and its length into `used`.
+   WILD_NO_LAYOUT: a number of the struct is that of no fault. WILD_WRONG_SIZE: the line is longer than `out`; only `used` was written.
+   No line is longer than WILD_FAULT_TEXT. */
+#define WILD_FAULT_TEXT 256u
+uint32_t wild_fault_text(const wild_fault *fault, uint8_t *out, size_t out_len, size_t *used);
 
 /* The text that `link 1` prints for a plan in JSON (docs/PLAN.md), into the front of `out`, and its length into `used`. The status is that of
    `link`: 0, 1 or 3. WILD_WRONG_SIZE: the text is longer than `out`; only `used` was written. In libwild_json_c.a. */

@@ -7,7 +7,9 @@
 --   size_status c         the status of the image's size
 --   needs_status c n      the status of writing what each group needs of each part into n numbers
 --   AreNeeds l ns         the numbers are what each group needs of each part, part by part of each group
-use Rattle.std.specs.Prelude.{◌≡◌, ℕ, ◌*◌, ◌/◌, ◌%◌, ◌^◌, ◌<◌, ◌==◌, Bool, true, false, ◌&&◌, ◌⊎◌, if◌then◌else◌, nat_lt, List, [], ◌∷◌, length, slice_index}
+--   error_text e          the line that `link` prints for the fault that a struct says
+--   text_status e room    the status of writing that line into the room
+use Rattle.std.specs.Prelude.{◌≡◌, ℕ, ◌*◌, ◌/◌, ◌%◌, ◌^◌, ◌<◌, ◌==◌, Bool, true, false, ◌&&◌, ◌⊎◌, if◌then◌else◌, nat_lt, List, [], ◌∷◌, Option, Some, None, length, slice_index}
 use Rattle.wild_types.specs.declared.fault.Error.{Error}
 use Rattle.wild_types.specs.declared.layout.Layout.{Layout}
 use Rattle.wild_types.specs.Lookups.{image_size}
@@ -15,9 +17,11 @@ use Rattle.wild_needs.specs.Needs.{needs}
 use Rattle.wild_layout.specs.Faults.{errors}
 use Rattle.wild_layout.specs.Image.{bytes, counts}
 use Rattle.wild_layout.specs.Warnings.{warnings}
+use Rattle.wild_text.specs.Answer.{refusal_text}
 use Rattle.wild_image.specs.declared.output.SizedOutput.{SizedOutput}
 use Rattle.wild_c_layout.specs.FaultOf.{fault_of}
 use Rattle.wild_c_layout.specs.LayoutOf.{is_layout, layout_of}
+use Rattle.wild_c_layout.specs.Text.{fits as fits_text}
 use Rattle.wild_c_layout.specs.declared.fault.CFault.{CFault}
 use Rattle.wild_c_layout.specs.declared.layout.CLayout.{CLayout}
 use Rattle.wild_c.specs.Statuses as status
@@ -36,7 +40,7 @@ layout_status (e ∷ es) fit = status.refused
 layout_status [] false = status.wrong_size
 layout_status [] true = status.written
 
--- the status for structs that stand for a layout, which has that status, or for none
+-- the status for structs that represent a layout, which has that status, or none
 abbrev pub struct_status : Bool → ℕ → ℕ
 struct_status false s = status.no_layout
 struct_status true s = s
@@ -80,3 +84,13 @@ needs_status c n = struct_status (is_layout c) (table_status (layout_of c) n)
 -- the numbers are what the first group needs of each part, then what the second one does, and so on
 abbrev pub AreNeeds : Layout → List ℕ → Type 0
 AreNeeds l ns = (k : ℕ) → k < length ns → slice_index ns k ≡ needs l (k % length l.parts) (k / length l.parts)
+
+-- the line that `link` prints for a fault, if there is one
+abbrev pub error_text : Option Error → List ℕ
+error_text None = []
+error_text (Some e) = refusal_text e
+
+-- the status of writing that line into the room
+abbrev pub text_status : Option Error → List ℕ → ℕ
+text_status None room = status.no_layout
+text_status (Some e) room = if fits_text (refusal_text e) room then status.written else status.wrong_size

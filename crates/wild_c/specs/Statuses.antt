@@ -9,7 +9,7 @@ written = 0
 abbrev pub refused : ℕ
 refused = 1
 
--- the structs stand for no layout
+-- the structs represent no layout
 abbrev pub no_layout : ℕ
 no_layout = 3
 
@@ -17,6 +17,6 @@ no_layout = 3
 abbrev pub no_memory : ℕ
 no_memory = 6
 
--- a buffer has another size than what is written into it
+-- the size of a buffer is not that of the output
 abbrev pub wrong_size : ℕ
 wrong_size = 8

@@ -1,4 +1,4 @@
--- Lemmas on the layouts that structs stand for.
+-- Lemmas on the layouts that structs represent.
 use Rattle.std.proofs.Common.{◌≡◌, ℕ, Bool, true, false, List, [], ◌∷◌, Option, Some, None, refl, ap, ap₂, ◌∙◌, get_or}
 use Rattle.std.proofs.lemmas.List.Elements.{All-map}
 use Rattle.std.specs.Prelude.{max, slice_get, drop, if◌then◌else◌}

@@ -1,11 +1,11 @@
--- Which number of a C struct stands for which choice: the index in the list of choices, or the number in the standard. A number that
--- stands for nothing counts as the first choice; the tests say which numbers are known.
+-- Which number of a C struct represents which choice: the index in the list of choices, or the number in the standard. A number that
+-- represents nothing counts as the first choice; the tests say which numbers are known.
 --   slot_of n        how an input section is written
 --   file_role_of n   the kind of a file
 --   role_of n        the contents of a part
 --   kind_of n        the kind of output
 --   machine_of n     the machine (gABI, "ELF Header", e_machine)
---   has_known_..     the number in a struct stands for a choice; so do those in all structs that it has
+--   has_known_..     the number in a struct represents a choice; so do those in all structs that it has
 use Rattle.std.specs.Prelude.{ℕ, ◌==◌, Bool, ◌&&◌, ◌||◌, if◌then◌else◌, List, [], ◌∷◌, nat_lt, unwrap_or, slice_get}
 use Rattle.std.specs.List.{list_all}
 use Rattle.wild_types.specs.declared.file.FileRole.{FileRole}

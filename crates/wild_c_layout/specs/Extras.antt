@@ -1,4 +1,4 @@
--- Which dynamic symbol, version, thunk, sorted section, merged strings or property a C struct stands for.
+-- Which dynamic symbol, version, thunk, sorted section, merged strings or property a C struct represents.
 use Rattle.std.specs.Prelude.{ℕ, if◌then◌else◌, List, map}
 use Rattle.wild_types.specs.declared.layout.DynamicSymbol.{DynamicSymbol}
 use Rattle.wild_types.specs.declared.layout.Merged.{Merged}

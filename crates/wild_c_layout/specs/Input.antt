@@ -1,4 +1,4 @@
--- Which input file, section or relocation a C struct stands for.
+-- Which input file, section or relocation a C struct represents.
 use Rattle.std.specs.Prelude.{ℕ, if◌then◌else◌, Option, Some, None, map}
 use Rattle.wild_types.specs.declared.file.File.{File}
 use Rattle.wild_types.specs.declared.file.Group.{Group}

@@ -1,5 +1,5 @@
--- Which layout the structs of a C program stand for.
---   is_layout c   they are of this version, and each number that stands for a choice is one of those
+-- Which layout the structs of a C program represent.
+--   is_layout c   they are of this version, and each number that represents a choice is one of those
 --   layout_of c   the layout
 --   frame_of c    its options, parts and sections alone
 use Rattle.std.specs.Prelude.{ℕ, ◌==◌, Bool, ◌&&◌, if◌then◌else◌, Option, Some, None, nat_lt, map}

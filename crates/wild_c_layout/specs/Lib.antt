@@ -1,4 +1,5 @@
 pub mod Codes
+pub mod ErrorOf
 pub mod Extras
 pub mod FaultOf
 pub mod Input
@@ -7,5 +8,6 @@ pub mod LayoutOf
 pub mod Options
 pub mod Output
 pub mod Symbols
+pub mod Text
 pub mod Values
 pub mod WarningOf

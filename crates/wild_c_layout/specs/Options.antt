@@ -1,4 +1,4 @@
--- Which options of the link a C struct stands for.
+-- Which options of the link a C struct represents.
 use Rattle.std.specs.Prelude.{map}
 use Rattle.wild_types.specs.declared.options.Options.{Options}
 use Rattle.wild_c_layout.specs.Extras.{listed_bytes}

@@ -1,4 +1,4 @@
--- Which part, section or segment a C struct stands for.
+-- Which part, section or segment a C struct represents.
 use Rattle.std.specs.Prelude.{ℕ, if◌then◌else◌, List, Option, Some, None}
 use Rattle.wild_types.specs.declared.part.Part.{Part}
 use Rattle.wild_types.specs.declared.section.Section.{Section}

@@ -1,4 +1,4 @@
--- Which symbol a C struct stands for.
+-- Which symbol a C struct represents.
 use Rattle.std.specs.Prelude.{ℕ, ◌==◌, if◌then◌else◌, Option, Some, None}
 use Rattle.wild_types.specs.declared.symbol.Place.{Place}
 use Rattle.wild_types.specs.declared.symbol.Place.TheVariants as place

@@ -1,8 +1,8 @@
--- What plain numbers and bytes of a C struct stand for.
+-- What plain numbers and bytes of a C struct represent.
 --   is_set n            the flag is set: it is not 0
 --   present n           the number; none if it is the one that says so
 --   present_bytes n bs  the bytes, if the flag is set
---   index n             an index in a list, as it is
+--   index n             an index in a list: the number itself
 use Rattle.std.specs.Prelude.{ℕ, ◌-◌, ◌^◌, ◌==◌, Bool, not, if◌then◌else◌, List, Option, Some, None}
 
 -- the number that says that there is none

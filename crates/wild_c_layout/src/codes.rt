@@ -1,4 +1,4 @@
-//! Numbers that stand for one of several choices.
+//! Numbers that represent one of several choices.
 ghost use Rattle.std.specs.Prelude.{◌≡◌};
 ghost use Rattle.wild_c_layout.specs.Codes.{slot_of, file_role_of, roles, role_of, machine_of, kind_of, is_machine, is_kind, has_known_role, has_known_slot, has_known_place, has_known_sections, has_known_files};
 
@@ -143,7 +143,7 @@ pub(crate) fn is_kind(code: u32) -> bool
     (code as usize) < KINDS.len()
 }
 
-/// The test that each number stands for a choice.
+/// The test that each number represents a choice.
 pub struct KnownCodes;
 
 impl Test<CPart> for KnownCodes {

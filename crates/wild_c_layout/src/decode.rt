@@ -1,19 +1,28 @@
-//! Structs that stand for values, and lists of them.
+//! Structs that represent values, and lists of them.
 ghost use Rattle.std.specs.Prelude.{◌≡◌, map, IfOk};
 
 use std::alloc::{AllocError, Global};
 use wild_words::Items;
 
-/// A struct of a C program that stands for a value of type `T`.
+/// A struct of a C program that represents a value of type `T`.
 pub trait Decode<T> {
     ghost value_of: { Self → T };
 
-    /// The value that it stands for.
+    /// The value that it represents.
     fn decode(&self, alloc: Global) -> Result<T, AllocError>
         ensures { IfOk result (λ x. x ≡ value_of self.now) };
 }
 
-/// The values that structs stand for, in order.
+/// A struct of numbers alone that represents a value of type `T`.
+pub trait DecodePlain<T> {
+    ghost value_of: { Self → T };
+
+    /// The value that it represents.
+    fn value(&self) -> T
+        ensures { result ≡ value_of self.now };
+}
+
+/// The values that structs represent, in order.
 pub fn decode_all<T: Drop, C: Decode<T>>(
     alloc: Global,
     structs: &[C],
@@ -26,4 +35,15 @@ pub fn decode_all<T: Drop, C: Decode<T>>(
         items.push(item)?;
     }
     Ok(Items::from_vec(items))
+}
+
+/// The values that structs of numbers represent, in order.
+pub fn decode_plain<T: Drop, C: DecodePlain<T>>(
+    alloc: Global,
+    structs: &[C],
+) -> Result<Items<T>, AllocError>
+    ensures { IfOk result (λ xs. xs ≡ map C.value_of structs.now) }
+{
+    let values = structs.iter().map(|each| each.value()).collect(alloc)?;
+    Ok(Items::from_vec(values))
 }

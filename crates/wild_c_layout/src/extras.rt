@@ -2,7 +2,7 @@
 ghost use Rattle.std.specs.Prelude.{◌≡◌, map};
 ghost use Rattle.wild_c_layout.specs.Extras.{dynamic_symbol_of, version_definition_of, thunk_of, thunks_of, sorted_section_of, merged_of, property_value_of, property_of};
 
-use crate::decode::{Decode, decode_all};
+use crate::decode::{Decode, DecodePlain, decode_all, decode_plain};
 use crate::values::{CBytes, bytes_of, is_set, present_index};
 use std::alloc::{AllocError, Global};
 use wild_types::{
@@ -97,14 +97,14 @@ impl Decode<VersionDefinition> for CVersionDefinition<'_> {
     }
 }
 
-impl Decode<Thunk> for CThunk {
+impl DecodePlain<Thunk> for CThunk {
     ghost value_of = { thunk_of };
 
-    fn decode(&self, _alloc: Global) -> Result<Thunk, AllocError> {
-        Ok(Thunk {
+    fn value(&self) -> Thunk {
+        Thunk {
             symbol: SymbolIndex(self.symbol),
             address: self.address,
-        })
+        }
     }
 }
 
@@ -112,19 +112,19 @@ impl Decode<Items<Thunk>> for CThunkBlock<'_> {
     ghost value_of = { thunks_of };
 
     fn decode(&self, alloc: Global) -> Result<Items<Thunk>, AllocError> {
-        decode_all(alloc, self.thunks)
+        decode_plain(alloc, self.thunks)
     }
 }
 
-impl Decode<SortedSection> for CSortedSection {
+impl DecodePlain<SortedSection> for CSortedSection {
     ghost value_of = { sorted_section_of };
 
-    fn decode(&self, _alloc: Global) -> Result<SortedSection, AllocError> {
-        Ok(SortedSection {
+    fn value(&self) -> SortedSection {
+        SortedSection {
             group: self.group,
             file: self.file,
             section: self.section,
-        })
+        }
     }
 }
 
@@ -154,13 +154,13 @@ fn property_value_of(property: &CProperty) -> PropertyValue
     }
 }
 
-impl Decode<Property> for CProperty {
+impl DecodePlain<Property> for CProperty {
     ghost value_of = { property_of };
 
-    fn decode(&self, _alloc: Global) -> Result<Property, AllocError> {
-        Ok(Property {
+    fn value(&self) -> Property {
+        Property {
             ptype: self.ptype,
             value: property_value_of(self),
-        })
+        }
     }
 }

@@ -4,7 +4,7 @@ ghost use Rattle.wild_c_layout.specs.Codes.{slot_of, file_role_of};
 ghost use Rattle.wild_c_layout.specs.Input.{relocation_of, merged_string_of, input_section_of, needed_version_of, version_needs_of, file_of, group_of};
 
 use crate::codes::{file_role_of, slot_of};
-use crate::decode::{Decode, decode_all};
+use crate::decode::{Decode, DecodePlain, decode_all, decode_plain};
 use crate::values::{bytes_of, is_set, numbers_of, present_section, present_symbol};
 use std::alloc::{AllocError, Global};
 use wild_types::{
@@ -93,29 +93,29 @@ pub struct CGroup<'a> {
     pub symtab_global_start: u64,
 }
 
-impl Decode<InputRelocation> for CRelocation {
+impl DecodePlain<InputRelocation> for CRelocation {
     ghost value_of = { relocation_of };
 
     #[tactic(auto, unfolding(crate::specs::Input::relocation_of))]
-    fn decode(&self, _alloc: Global) -> Result<InputRelocation, AllocError> {
-        Ok(InputRelocation {
+    fn value(&self) -> InputRelocation {
+        InputRelocation {
             offset: self.offset,
             number: self.number,
             symbol: present_symbol(self.symbol),
             addend: self.addend,
             malformed: is_set(self.malformed),
-        })
+        }
     }
 }
 
-impl Decode<MergedString> for CMergedString {
+impl DecodePlain<MergedString> for CMergedString {
     ghost value_of = { merged_string_of };
 
-    fn decode(&self, _alloc: Global) -> Result<MergedString, AllocError> {
-        Ok(MergedString {
+    fn value(&self) -> MergedString {
+        MergedString {
             offset: self.offset,
             address: self.address,
-        })
+        }
     }
 }
 
@@ -125,10 +125,10 @@ impl Decode<InputSection> for CInputSection<'_> {
     #[tactic(auto, unfolding(crate::specs::Input::input_section_of))]
     fn decode(&self, alloc: Global) -> Result<InputSection, AllocError> {
         let name = bytes_of(alloc, self.name)?;
-        let members = decode_all(alloc, self.members)?;
+        let members = decode_plain(alloc, self.members)?;
         let bytes = bytes_of(alloc, self.bytes)?;
-        let strings = decode_all(alloc, self.strings)?;
-        let relocations = decode_all(alloc, self.relocations)?;
+        let strings = decode_plain(alloc, self.strings)?;
+        let relocations = decode_plain(alloc, self.relocations)?;
         Ok(InputSection {
             slot: slot_of(self.slot),
             name,
@@ -181,7 +181,7 @@ impl Decode<File> for CFile<'_> {
     fn decode(&self, alloc: Global) -> Result<File, AllocError> {
         let sections = decode_all(alloc, self.sections)?;
         let lib_name = bytes_of(alloc, self.lib_name)?;
-        let copies = decode_all(alloc, self.copies)?;
+        let copies = decode_plain(alloc, self.copies)?;
         let verneed = version_needs_of(alloc, self)?;
         Ok(File {
             role: file_role_of(self.role),

@@ -3,7 +3,7 @@ ghost use Rattle.std.specs.Prelude.{◌≡◌, IfOk};
 ghost use Rattle.wild_c_layout.specs.LayoutOf.{tls_of, entry_of, sysv_hash_of, gnu_hash_of, is_layout, layout_of, frame_of};
 
 use crate::codes::{KnownCodes, is_kind, is_machine, kind_of, machine_of};
-use crate::decode::{Decode, decode_all};
+use crate::decode::{Decode, decode_all, decode_plain};
 use crate::extras::{
     CDynamicSymbol, CMerged, CProperty, CSortedSection, CThunkBlock, CVersionDefinition,
 };
@@ -115,7 +115,7 @@ fn gnu_hash_of(layout: &CLayout) -> Option<GnuHash>
     })
 }
 
-/// Whether the structs stand for a layout: they are of this version, and each number that stands for a choice is one of those.
+/// Whether the structs represent a layout: they are of this version, and each number that represents a choice is one of those.
 #[tactic(auto, unfolding(crate::specs::LayoutOf::is_layout))]
 pub fn is_layout(layout: &CLayout) -> bool
     ensures { result ≡ is_layout layout.now }
@@ -129,25 +129,25 @@ pub fn is_layout(layout: &CLayout) -> bool
         && all_pass(&KnownCodes, layout.groups)
 }
 
-/// The layout that the structs stand for. A number that stands for no choice counts as 0, or as `EM_X86_64`.
+/// The layout that the structs represent. A number that represents no choice counts as 0, or as `EM_X86_64`.
 #[tactic(auto, unfolding(crate::specs::LayoutOf::layout_of))]
 pub fn decode_layout(alloc: Global, layout: &CLayout) -> Result<Layout, AllocError>
     ensures { IfOk result (λ l. l ≡ layout_of layout.now) }
 {
     let options = layout.options.decode(alloc)?;
-    let parts = decode_all(alloc, layout.parts)?;
+    let parts = decode_plain(alloc, layout.parts)?;
     let sections = decode_all(alloc, layout.sections)?;
-    let segments = decode_all(alloc, layout.segments)?;
+    let segments = decode_plain(alloc, layout.segments)?;
     let symbols = decode_all(alloc, layout.symbols)?;
     let groups = decode_all(alloc, layout.groups)?;
     let dynsyms = decode_all(alloc, layout.dynsyms)?;
     let verdefs = decode_all(alloc, layout.verdefs)?;
     let thunk_blocks = decode_all(alloc, layout.thunk_blocks)?;
-    let sorted = decode_all(alloc, layout.sorted)?;
+    let sorted = decode_plain(alloc, layout.sorted)?;
     let merged = decode_all(alloc, layout.merged)?;
     let identity = bytes_of(alloc, layout.identity)?;
     let interp = bytes_of(alloc, layout.interp)?;
-    let properties = decode_all(alloc, layout.properties)?;
+    let properties = decode_plain(alloc, layout.properties)?;
     let build_id = present_bytes(alloc, layout.has_build_id, layout.build_id)?;
     Ok(Layout {
         machine: machine_of(layout.machine),
@@ -182,13 +182,13 @@ pub fn decode_layout(alloc: Global, layout: &CLayout) -> Result<Layout, AllocErr
     })
 }
 
-/// The options, parts and sections that the structs stand for, in a layout that has nothing else.
+/// The options, parts and sections that the structs represent, in a layout that has nothing else.
 #[tactic(auto, unfolding(crate::specs::LayoutOf::frame_of))]
 pub fn decode_frame(alloc: Global, layout: &CLayout) -> Result<Layout, AllocError>
     ensures { IfOk result (λ l. l ≡ frame_of layout.now) }
 {
     let options = layout.options.decode(alloc)?;
-    let parts = decode_all(alloc, layout.parts)?;
+    let parts = decode_plain(alloc, layout.parts)?;
     let sections = decode_all(alloc, layout.sections)?;
     Ok(Layout {
         options,

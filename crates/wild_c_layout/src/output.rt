@@ -3,7 +3,7 @@ ghost use Rattle.std.specs.Prelude.{◌≡◌};
 ghost use Rattle.wild_c_layout.specs.Output.{part_of, section_of, segment_of, fill_of};
 
 use crate::codes::role_of;
-use crate::decode::Decode;
+use crate::decode::{Decode, DecodePlain};
 use crate::values::{bytes_of, is_set};
 use std::alloc::{AllocError, Global};
 use wild_types::{Part, Section, SectionIndex, Segment};
@@ -57,19 +57,19 @@ pub struct CSegment {
     pub align: u64,
 }
 
-impl Decode<Part> for CPart {
+impl DecodePlain<Part> for CPart {
     ghost value_of = { part_of };
 
     #[tactic(auto, unfolding(crate::specs::Output::part_of))]
-    fn decode(&self, _alloc: Global) -> Result<Part, AllocError> {
-        Ok(Part {
+    fn value(&self) -> Part {
+        Part {
             role: role_of(self.role),
             section: SectionIndex(self.section),
             offset: self.offset,
             address: self.address,
             size: self.size,
             align: self.align,
-        })
+        }
     }
 }
 
@@ -107,12 +107,12 @@ impl Decode<Section> for CSection<'_> {
     }
 }
 
-impl Decode<Segment> for CSegment {
+impl DecodePlain<Segment> for CSegment {
     ghost value_of = { segment_of };
 
     #[tactic(auto, unfolding(crate::specs::Output::segment_of))]
-    fn decode(&self, _alloc: Global) -> Result<Segment, AllocError> {
-        Ok(Segment {
+    fn value(&self) -> Segment {
+        Segment {
             kind: self.kind,
             flags: self.flags,
             offset: self.offset,
@@ -121,6 +121,6 @@ impl Decode<Segment> for CSegment {
             file_size: self.file_size,
             mem_size: self.mem_size,
             align: self.align,
-        })
+        }
     }
 }

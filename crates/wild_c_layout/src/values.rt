@@ -3,7 +3,7 @@ ghost use Rattle.std.specs.Prelude.{◌≡◌, IfOk};
 ghost use Rattle.wild_c_layout.specs.Values.{is_set, present, present_bytes, index};
 ghost use Rattle.wild_c_layout.specs.Extras.{listed_bytes};
 
-use crate::decode::Decode;
+use crate::decode::{Decode, DecodePlain};
 use std::alloc::{AllocError, Global};
 use wild_types::{SectionIndex, SymbolIndex};
 use wild_words::{Bytes, Items};
@@ -97,18 +97,18 @@ impl Decode<Bytes> for CBytes<'_> {
     }
 }
 
-impl Decode<SymbolIndex> for usize {
+impl DecodePlain<SymbolIndex> for usize {
     ghost value_of = { index };
 
-    fn decode(&self, _alloc: Global) -> Result<SymbolIndex, AllocError> {
-        Ok(SymbolIndex(*self))
+    fn value(&self) -> SymbolIndex {
+        SymbolIndex(*self)
     }
 }
 
-impl Decode<SectionIndex> for usize {
+impl DecodePlain<SectionIndex> for usize {
     ghost value_of = { index };
 
-    fn decode(&self, _alloc: Global) -> Result<SectionIndex, AllocError> {
-        Ok(SectionIndex(*self))
+    fn value(&self) -> SectionIndex {
+        SectionIndex(*self)
     }
 }

@@ -3,11 +3,14 @@
 #![tactic(auto)]
 
 ghost use Rattle.std.specs.Prelude.{◌≡◌, ◌⊎◌};
-ghost use Rattle.wild_json_c.specs.Answers.{IsLinked, fits, no_memory, put};
+ghost use Rattle.wild_json_c.specs.Answers.{IsLinked, IsSoundlyLinked, linked, no_memory};
 
 use std::alloc::Global;
+use wild_c_layout::put_text;
 use wild_image::Alone;
+use wild_laws::images_are_sound;
 use wild_program::plan_answer;
+use wild_text::plans_are_read;
 
 /// Out of memory.
 const NO_MEMORY: u32 = 6;
@@ -15,17 +18,20 @@ const NO_MEMORY: u32 = 6;
 /// The text is longer than the buffer.
 const WRONG_SIZE: u32 = 8;
 
-/// Writes the text into the front of `out`, if it is not longer.
-fn put_text(text: &[u8], out: &mut [u8]) -> bool
-    ensures fits { result ≡ fits text.now out.old }
-    ensures room { out.new ≡ put text.now out.old }
+/// Writes the text that `link 1` prints for a plan into the front of `out`, and its length into `used`.
+fn write_answer(alloc: Global, plan: &[u8], out: &mut [u8], used: &mut usize) -> u32
+    ensures { IsLinked plan.now out.old out.new used.new result
+        ⊎ (result ≡ no_memory) × (out.new ≡ out.old) × (used.new ≡ used.old) }
 {
-    if out.len() < text.len() {
-        return false;
+    let Ok((code, text)) = plan_answer(&Alone, alloc, plan, 1) else {
+        return NO_MEMORY;
+    };
+    *used = text.len();
+    if put_text(&text, out) {
+        u32::from(code)
+    } else {
+        WRONG_SIZE
     }
-    let (front, _) = out.split_at_mut(text.len());
-    front.copy_from_slice(text);
-    true
 }
 
 /// Writes the text that `link 1` prints for a plan into the front of `out`, and its length into `used`. The status is
@@ -39,16 +45,13 @@ pub extern "C" fn wild_link_json(
     out: &mut [u8],
     used: &mut usize,
 ) -> u32
-    ensures { IsLinked plan.now out.old out.new used.new result
+    ensures answer { IsLinked plan.now out.old out.new used.new result
         ⊎ (result ≡ no_memory) × (out.new ≡ out.old) × (used.new ≡ used.old) }
+    // If an image of an executable or a shared object is written, the loader accepts it in every legal world, and each kept reference
+    // has the value or target that its relocation requires.
+    ensures headline { result ≡ linked → IsSoundlyLinked plan.now out.old out.new used.new }
 {
-    let Ok((code, text)) = plan_answer(&Alone, alloc, plan, 1) else {
-        return NO_MEMORY;
-    };
-    *used = text.len();
-    if put_text(&text, out) {
-        u32::from(code)
-    } else {
-        WRONG_SIZE
-    }
+    plans_are_read();
+    images_are_sound();
+    write_answer(alloc, plan, out, used)
 }

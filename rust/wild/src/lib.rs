@@ -84,7 +84,7 @@ pub enum Error {
 impl fmt::Display for Error {
     fn fmt(&self, f: &mut fmt::Formatter<'_>) -> fmt::Result {
         match self {
-            Error::Refused(fault) => write!(f, "refused: {fault:?}"),
+            Error::Refused(fault) => fault.fmt(f),
             Error::OtherVersion => f.write_str("the library has another version"),
             Error::OutOfMemory => f.write_str("out of memory"),
             Error::WrongSize => f.write_str("wrong size"),
@@ -93,6 +93,19 @@ impl fmt::Display for Error {
 }
 
 impl std::error::Error for Error {}
+
+/// No line for a fault is longer.
+const FAULT_TEXT: usize = 256;
+
+/// The line that `link` prints for the fault (`docs/FAULTS.md`).
+impl fmt::Display for Fault {
+    fn fmt(&self, f: &mut fmt::Formatter<'_>) -> fmt::Result {
+        let (mut text, mut used) = ([0; FAULT_TEXT], 0);
+        let status = unsafe { wild_fault_text(self, text.as_mut_ptr(), text.len(), &mut used) };
+        let line = std::str::from_utf8(text.get(..used).unwrap_or_default()).unwrap_or_default();
+        if status == 0 { f.write_str(line.trim_end()) } else { write!(f, "refused {self:?}") }
+    }
+}
 
 fn result_of(status: u32, fault: Fault) -> Result<(), Error> {
     match status {
@@ -116,6 +129,7 @@ unsafe extern "C" {
         fault: &mut Fault,
     ) -> u32;
     fn wild_needs(layout: &Layout, sizes: *mut u64, sizes_len: usize) -> u32;
+    fn wild_fault_text(fault: &Fault, out: *mut u8, out_len: usize, used: &mut usize) -> u32;
 }
 
 /// The size of the layout's image in bytes.
