@@ -17,7 +17,7 @@ mod values;
 mod warning;
 
 pub use codes::KnownCodes;
-pub use decode::{Decode, DecodePlain};
+pub use decode::{Decode, DecodePlain, decode_all, decode_plain};
 pub use error::error_of;
 pub use extras::{
     CDynamicSymbol, CMerged, CProperty, CSortedSection, CThunk, CThunkBlock, CVersionDefinition,
@@ -33,5 +33,5 @@ pub use options::COptions;
 pub use output::{CPart, CSection, CSegment};
 pub use symbol::CSymbol;
 pub use text::put_text;
-pub use values::{ABSENT, CBytes};
+pub use values::{ABSENT, CBytes, bytes_of};
 pub use warning::{CWarning, warning_of};
