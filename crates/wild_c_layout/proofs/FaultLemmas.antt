@@ -102,6 +102,7 @@ places_of at = placed (place at.group) (place at.file) (place at.section) (place
 
 -- each struct of a fault has the fault's places
 place_kept : (at : At) (f : Fault) → at_of (fault_at at f) ≡ places_of at
+unfolding places_of placed
 place_kept at faults.OutOfMemory = refl
 place_kept at (faults.MalformedLayout clause index) = refl
 place_kept at (faults.InsufficientAllocation part group given needed) = refl
@@ -123,6 +124,7 @@ place_kept at (faults.OutOfRange value) = refl
 place_kept at (faults.OverlappingSites byte) = refl
 
 places_again : (at : At) → HasNumbers at → places_of at ≡ at
+unfolding places_of placed
 places_again at h = rw (present_again at.group h.group, present_again at.file h.file, present_again at.section h.section, present_again at.offset h.offset) refl
 
 -- the struct of a fault says that fault

@@ -44,6 +44,9 @@ pub fn decode_plain<T: Drop, C: DecodePlain<T>>(
 ) -> Result<Items<T>, AllocError>
     ensures { IfOk result (λ xs. xs ≡ map C.value_of structs.now) }
 {
-    let values = structs.iter().map(|each| each.value()).collect(alloc)?;
-    Ok(Items::from_vec(values))
+    let mut items = Vec::with_capacity(alloc, structs.len())?;
+    for each in structs {
+        items.push(each.value())?;
+    }
+    Ok(Items::from_vec(items))
 }

@@ -13,12 +13,13 @@ mod memory;
 mod world;
 
 pub use load_fault::CLoadFault;
-pub use world::{CAnswer, CModule, CResolver, CWorld};
-
 use std::alloc::Global;
-use wild_c_layout::{CFault, CLayout, Decode, decode_layout, is_layout, resolutions_have_their_flags};
+use wild_c_layout::{
+    CFault, CLayout, Decode, decode_layout, is_layout, resolutions_have_their_flags,
+};
 use wild_layout::numbers_fit;
 use wild_placer::placements_are_sound;
+pub use world::{CAnswer, CModule, CResolver, CWorld};
 
 /// The memory was written.
 const WRITTEN: u32 = 0;
