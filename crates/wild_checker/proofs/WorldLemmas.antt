@@ -308,7 +308,7 @@ resolved l o w is legal n h =
         let P : ℕ → Type 0 = λ k. first_value w.resolvers ((w.base + k) % 2 ^ 64) ≡ Some once.answer in
         record { answer = once.answer; given = subst P raw (first_filtered w.resolvers ((w.base + r.raw_value) % 2 ^ 64) once.answer once.pair); fits = once.fits }
 
-    by_flag : (s : Symbol) → Contains l.symbols s → (b : Bool) → has_flag s.flags ifunc ≡ b → (if b then value_is s.resolution else None) ≡ Some n → terms.HasResolver w n
+    by_flag : (s : Symbol) → Contains l.symbols s → (b : Bool) → has_flag s.flags ifunc ≡ b → (if b then address_by s.resolution else None) ≡ Some n → terms.HasResolver w n
     by_flag s c true f h = by_resolution s c f s.resolution refl h
     by_flag s c false f h = cc
 
