@@ -24,14 +24,20 @@ no_load_text reason = codes "no load " ++ load_fault_text reason ++ codes "\n"
 abbrev pub no_segment_text : ℕ → List ℕ
 no_segment_text index = codes "no segment index=" ++ decimal index ++ codes "\n"
 
--- an input section
-abbrev pub section_text : ℕ → ℕ → ℕ → List ℕ
-section_text group file section = codes " group=" ++ decimal group ++ codes " file=" ++ decimal file ++ codes " section=" ++ decimal section
+-- a byte of an input section
+abbrev pub byte_text : ℕ → ℕ → ℕ → ℕ → List ℕ
+byte_text group file section offset =
+    codes "byte group=" ++ decimal group ++ codes " file=" ++ decimal file ++ codes " section=" ++ decimal section ++ codes " offset=" ++ decimal offset
+
+-- a relocation of an input section
+abbrev pub reference_text : ℕ → ℕ → ℕ → ℕ → List ℕ
+reference_text group file section index =
+    codes "reference group=" ++ decimal group ++ codes " file=" ++ decimal file ++ codes " section=" ++ decimal section ++ codes " index=" ++ decimal index
 
 -- the text for a byte that is not the input's
 abbrev pub no_byte_text : ℕ → ℕ → ℕ → ℕ → List ℕ
-no_byte_text group file section offset = codes "no byte" ++ section_text group file section ++ codes " offset=" ++ decimal offset ++ codes "\n"
+no_byte_text group file section offset = codes "no " ++ byte_text group file section offset ++ codes "\n"
 
 -- the text for a reference that does not hold, or is not decided
 abbrev pub no_reference_text : ℕ → ℕ → ℕ → ℕ → List ℕ
-no_reference_text group file section index = codes "no reference" ++ section_text group file section ++ codes " index=" ++ decimal index ++ codes "\n"
+no_reference_text group file section index = codes "no " ++ reference_text group file section index ++ codes "\n"

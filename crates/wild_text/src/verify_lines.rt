@@ -4,6 +4,7 @@ ghost use Rattle.wild_text.specs.VerifyAnswer.{yes_text, no_partial_text, no_loa
 
 use crate::space_lines::LoadWords;
 use std::alloc::{AllocError, Global};
+use std::fmt;
 use wild_loader::LoadFault;
 
 /// The text for an image that is right in every legal world.
@@ -37,6 +38,64 @@ pub fn no_segment_answer(alloc: Global, index: usize) -> Result<String, AllocErr
     Ok(text)
 }
 
+/// The printed form of a byte of an input section.
+#[derive(Clone, Copy)]
+struct ByteWords {
+    group: usize,
+    file: usize,
+    section: usize,
+    offset: usize,
+}
+
+impl fmt::Display for ByteWords {
+    ghost use Rattle.std.specs.Prelude.{Some};
+    ghost use Rattle.wild_text.specs.VerifyAnswer.{byte_text};
+
+    ghost output = { λ w. Some (byte_text w.group w.file w.section w.offset) };
+
+    fn fmt<W: fmt::Write>(&self, f: &mut fmt::Formatter<W>) -> fmt::Result {
+        let ByteWords {
+            group,
+            file,
+            section,
+            offset,
+        } = *self;
+        write!(
+            f,
+            "byte group={group} file={file} section={section} offset={offset}"
+        )
+    }
+}
+
+/// The printed form of a relocation of an input section.
+#[derive(Clone, Copy)]
+struct ReferenceWords {
+    group: usize,
+    file: usize,
+    section: usize,
+    index: usize,
+}
+
+impl fmt::Display for ReferenceWords {
+    ghost use Rattle.std.specs.Prelude.{Some};
+    ghost use Rattle.wild_text.specs.VerifyAnswer.{reference_text};
+
+    ghost output = { λ w. Some (reference_text w.group w.file w.section w.index) };
+
+    fn fmt<W: fmt::Write>(&self, f: &mut fmt::Formatter<W>) -> fmt::Result {
+        let ReferenceWords {
+            group,
+            file,
+            section,
+            index,
+        } = *self;
+        write!(
+            f,
+            "reference group={group} file={file} section={section} index={index}"
+        )
+    }
+}
+
 /// The text for a byte that is not the input's.
 pub fn no_byte_answer(
     alloc: Global,
@@ -47,9 +106,13 @@ pub fn no_byte_answer(
 ) -> Result<String, AllocError>
     ensures { IfOk result (λ s. string_bytes s ≡ no_byte_text group file section offset) }
 {
-    let text = format!(in alloc;
-        "no byte group={group} file={file} section={section} offset={offset}\n"
-    )?;
+    let words = ByteWords {
+        group,
+        file,
+        section,
+        offset,
+    };
+    let text = format!(in alloc; "no {words}\n")?;
     Ok(text)
 }
 
@@ -63,8 +126,12 @@ pub fn no_reference_answer(
 ) -> Result<String, AllocError>
     ensures { IfOk result (λ s. string_bytes s ≡ no_reference_text group file section index) }
 {
-    let text = format!(in alloc;
-        "no reference group={group} file={file} section={section} index={index}\n"
-    )?;
+    let words = ReferenceWords {
+        group,
+        file,
+        section,
+        index,
+    };
+    let text = format!(in alloc; "no {words}\n")?;
     Ok(text)
 }
