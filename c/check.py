@@ -10,7 +10,6 @@ crates/wild_json_c/out/libwild_json_c.a, which `./build --library` makes; withou
 - Each plan has that answer by `wild_link_json` too.
 - Calls by four threads at once, and calls with each allocation refused in turn.
 - The same under valgrind, if it is there: no error, no leak.
-- All this with the toolchain's liblibc_c.a, and with wild_arena.c in its place.
 - The examples in C and C++, and with cargo the one in Rust, write programs that run.
 
 It needs gcc, g++ and, for the toolchain's liblibc_c.a, `rt`.
@@ -140,9 +139,9 @@ def built(room, name, sources, libraries, extra=(), compiler="gcc", standard="gn
     return room / name
 
 
-def check_plan(room, name, sources, libraries, answer):
+def check_plan(room, name, libraries, answer):
     """The answer to the plan that plan.c has, also under valgrind, and the calls of stress.c."""
-    program = built(room, f"{name}_answer", ["plan.c", HERE / "answer.c", *sources], libraries)
+    program = built(room, f"{name}_answer", ["plan.c", HERE / "answer.c"], libraries)
     ran = subprocess.run([program], capture_output=True)
     check(f"{name}: answer", ran.returncode == 0 and ran.stdout == answer, ran.returncode)
     valgrind = shutil.which("valgrind")
@@ -150,7 +149,7 @@ def check_plan(room, name, sources, libraries, answer):
         ran = subprocess.run([valgrind, "-q", "--leak-check=full", "--error-exitcode=99", program], capture_output=True)
         check(f"{name}: valgrind", ran.returncode == 0 and ran.stdout == answer, ran.stderr[-600:])
     words = ["-pthread", "-Wl,--wrap=malloc,--wrap=realloc"]
-    stress = built(room, f"{name}_stress", ["plan.c", HERE / "stress.c", *sources], libraries, words)
+    stress = built(room, f"{name}_stress", ["plan.c", HERE / "stress.c"], libraries, words)
     ran = subprocess.run([stress], capture_output=True, text=True)
     check(f"{name}: {ran.stdout.strip()}", ran.returncode == 0, ran.returncode)
 
@@ -160,8 +159,7 @@ def check_plans(room, libraries):
         answer = plan.with_suffix(".answer").read_bytes()
         written = subprocess.run([sys.executable, HERE / "plan_to_c.py"], stdin=plan.open(), capture_output=True, check=True)
         (room / "plan.c").write_bytes(written.stdout)
-        check_plan(room, plan.stem, [], libraries, answer)
-        check_plan(room, f"{plan.stem}_arena", [HERE / "wild_arena.c"], libraries[:1], answer)
+        check_plan(room, plan.stem, libraries, answer)
 
 
 def check_json(room, libraries):
