@@ -113,15 +113,20 @@ def check_choices(header, rust):
         check(f"rust/wild: {kind}s", listed == ["Library" if kind == "FileRole" and name == "Dynamic" else name for name in ours], listed)
 
 
+def fault_names():
+    """The names of faults, in the order of the sources."""
+    fault = (TOP / "crates/wild_types/src/fault.rt").read_text()
+    names = re.findall(r"^    (\w+)(?: \{|,)$", re.search(r"pub enum Fault \{\n(.*?)\n\}", fault, re.S)[1], re.M)
+    return [name for name in names if name != "OutOfMemory"]
+
+
 def check_numbers():
     """Choices, faults and flags of the header against the sources."""
     header = (HERE / "wild.h").read_text()
     check_choices(header, (TOP / "rust/wild/src/structs.rs").read_text())
-    fault = (TOP / "crates/wild_types/src/fault.rt").read_text()
-    names = re.findall(r"^    (\w+)(?: \{|,)$", re.search(r"pub enum Fault \{\n(.*?)\n\}", fault, re.S)[1], re.M)
     listed = re.search(r"enum \{\s*(WILD_MALFORMED_LAYOUT.*?)\};", header, re.S)[1]
     given = [word.split("=")[0].strip() for word in listed.split(",")]
-    check("faults", given == [f"WILD_{snake(name).upper()}" for name in names if name != "OutOfMemory"], given)
+    check("faults", given == [f"WILD_{snake(name).upper()}" for name in fault_names()], given)
     symbol = (TOP / "crates/wild_types/src/symbol.rt").read_text()
     flags = re.findall(r"^        const (\w+) = (\d+);", symbol, re.M)
     check("flags", all(re.search(rf"WILD_FLAG_{name} = {bit}\b", header) for name, bit in flags), flags)
@@ -203,9 +208,8 @@ def check_faults(room, libraries):
     """The text of each fault, in a buffer of its length, and in one that is too short; and of structs that have no fault."""
     program = built(room, "faults", [HERE / "faults.c"], libraries)
     ran = subprocess.run([program], capture_output=True, text=True)
-    rows = (TOP / "docs/FAULTS.md").read_text()
-    names = [line.split()[1] for line in ran.stdout.splitlines()]
-    check(f"{len(set(names))} faults by wild_fault_text", ran.returncode == 0 and len(set(names)) == 18 and all(f"`{name}`" in rows for name in names), ran.stdout[-600:])
+    names = dict.fromkeys(line.split()[1] for line in ran.stdout.splitlines())
+    check(f"{len(names)} faults by wild_fault_text", ran.returncode == 0 and list(names) == fault_names(), ran.stdout[-600:])
 
 
 def check_examples(room, libraries):
