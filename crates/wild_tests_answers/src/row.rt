@@ -57,11 +57,7 @@ fn command_of(row: &str) -> &'static str {
 
 /// Whether the text of a line is a whole input.
 fn is_input(word: &str) -> bool {
-    word == "text"
-        || word == "space"
-        || word == "relink"
-        || word == "place"
-        || word == "verify"
+    word == "text" || word == "space" || word == "relink" || word == "place" || word == "verify"
 }
 
 /// The input of a row: a plan by its name, or a text. Each `new` replaces the `old` before it, which has to occur in the input. A `change`,
