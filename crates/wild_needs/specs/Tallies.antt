@@ -34,7 +34,7 @@ counted_in Dynamic l s = length (dynamic_relocations l s)
 -- a section may have items of that kind
 abbrev pub may_have_items : Counted → Layout → SectionFacts → Bool
 may_have_items Listed l at = is_position_independent l.kind && at.is_read
-may_have_items Packed l at = is_position_independent l.kind && at.is_read
+may_have_items Packed l at = (is_position_independent l.kind && at.is_read) && l.options.relr
 may_have_items Dynamic l at = at.is_read && allocated at.flags
 
 -- the count depends on the addresses of sections: with RELR even places are packed, and odd ones have an entry

@@ -85,14 +85,15 @@ impl SectionFacts {
     }
 }
 
-/// Whether a section may have items of that kind.
+/// Whether a section may have items of that kind. Without the option no place is packed as RELR.
 #[inline(always)]
 fn may_have_items(kind: Counted, layout: &Layout, standing: SectionFacts) -> bool
     ensures { result ≡ may_have_items kind layout.now standing }
 {
     match kind {
-        Counted::Listed | Counted::Packed => {
-            layout.kind.is_position_independent() && standing.is_read
+        Counted::Listed => layout.kind.is_position_independent() && standing.is_read,
+        Counted::Packed => {
+            layout.kind.is_position_independent() && standing.is_read && layout.options.relr
         }
         Counted::Dynamic => standing.is_read && is_allocated(standing.flags),
     }
