@@ -53,6 +53,10 @@ counted_end f r s xs i n end h =
 
 -- ---- fields that are left to entries
 
+pub false_from_not : (b : Bool) → not b ≡ true → b ≡ false
+false_from_not true h = cc
+false_from_not false h = refl
+
 never : (b : Bool) → (b ≡ true → ⊥) → b ≡ false
 never true h = absurd (h refl)
 never false h = refl

@@ -95,7 +95,7 @@ has_dynamic_entry other = false
 
 -- the types whose fields such an entry can fill: an 8-byte address in a writable section, and a size
 abbrev pub may_have_dynamic_entry : ℕ → ℕ → Bool
-may_have_dynamic_entry flags n = (n == r_x86_64_64 || n == r_aarch64_abs64) && writable flags || (n == r_x86_64_size32 || n == r_x86_64_size64)
+may_have_dynamic_entry flags n = may_be_relative n && writable flags || (n == r_x86_64_size32 || n == r_x86_64_size64)
 
 -- the symbols that such an entry can name: interposable ones and IFUNCs
 abbrev pub may_have_entry : Layout → Option ℕ → Bool

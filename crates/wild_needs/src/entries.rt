@@ -15,7 +15,7 @@ use wild_types::{File, InputRelocation, InputSection, Layout, SymbolIndex, is_wr
 
 /// Whether a relocation of that type can write an address that changes with the load bias: only an 8-byte address can.
 #[inline]
-fn may_be_relative(number: u32) -> bool
+pub(crate) fn may_be_relative(number: u32) -> bool
     ensures { result ≡ may_be_relative number }
 {
     matches!(number, R_X86_64_64 | R_AARCH64_ABS64)
@@ -108,7 +108,7 @@ pub(crate) fn count_place(run: Run, place: Option<u64>) -> (usize, Run)
 /// Whether an entry that names a symbol or a resolver can fill the field of a relocation of that type, in a section with such
 /// flags.
 #[inline]
-fn may_have_dynamic_entry(flags: u64, number: u32) -> bool
+pub(crate) fn may_have_dynamic_entry(flags: u64, number: u32) -> bool
     ensures { result ≡ may_have_dynamic_entry flags number }
 {
     match number {
