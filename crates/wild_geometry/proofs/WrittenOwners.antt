@@ -1,5 +1,5 @@
 -- Each byte that has an owner is in a piece. So the image does not depend on what is there before the pieces are written.
-use Rattle.std.proofs.Common.{◌≡◌, ℕ, zero, suc, ◌+◌, ◌-◌, ◌<◌, ◌≤◌, ◌⊎◌, inl, inr, ◌==◌, Bool, true, false, not, ◌&&◌, ◌||◌, if◌then◌else◌, nat_le, nat_lt, List, [], ◌∷◌, ◌++◌, length, map, take, get_or, All, Contains, slice_get, flat_map, refl, sym, ap, ◌∙◌, arith, subst}
+use Rattle.std.proofs.Common.{◌≡◌, ℕ, suc, ◌+◌, ◌-◌, ◌<◌, ◌≤◌, ◌⊎◌, inl, inr, ◌==◌, Bool, true, false, not, ◌&&◌, ◌||◌, if◌then◌else◌, nat_le, nat_lt, List, [], ◌∷◌, length, map, take, get_or, All, Contains, slice_get, flat_map, refl, sym, ◌∙◌, arith, subst}
 use Rattle.std.specs.Prelude.{slice_index}
 use Rattle.std.specs.List.{list_any}
 use Rattle.std.proofs.lemmas.Bool.{cases_Bool, cases_lt, and_parts, and_from, or_cases, false_from_ne_true, not-true, leb-true, ltb-true, eqb-true, eqb-false}
@@ -219,7 +219,7 @@ no_table : (l : Layout) (k : ℕ) (p : Part) → IsLaidOut l → All (IsOutsideP
 no_table l k p laid all listed own =
     let owns = and_parts (not (has_role role.Raw p)) (takes_file_bytes l p.section && is_within p.offset p.size k) own in
     let rest = and_parts (takes_file_bytes l p.section) (is_within p.offset p.size k) owns.1 in
-    let written = not-true _ (and_parts (has_data l p.section) (not (is_header_only_at l p.section)) rest.0).1 in
+    let written = not-true (is_header_only_at l p.section) (and_parts (has_data l p.section) (not (is_header_only_at l p.section)) rest.0).1 in
     let bounds = and_parts (nat_le p.offset k) (nat_lt k (p.offset + p.size)) rest.1 in
     let from = leb-true p.offset k bounds.0 in
     let to = ltb-true k (p.offset + p.size) bounds.1 in

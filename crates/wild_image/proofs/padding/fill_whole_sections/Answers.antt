@@ -1,4 +1,4 @@
-use Rattle.std.proofs.Common.{◌≡◌, ◌+◌, ◌-◌, length, drop, arith, ap, ◌∙◌}
+use Rattle.std.proofs.Common.{◌-◌, length, drop, arith, ap, ◌∙◌}
 use Rattle.wild_image.proofs.PaddingLemmas.{fills_from_end, fills_from_before, filled_whole}
 use Rattle.wild_image.proofs.padding.fill_whole_sections.Goals as goal
 
