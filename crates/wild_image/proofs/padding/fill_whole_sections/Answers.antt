@@ -5,7 +5,7 @@ use Rattle.wild_image.proofs.padding.fill_whole_sections.Goals as goal
 pub loop-i-init : goal.loop-i-init
 loop-i-init c =
     let l = c.args.layout.now in
-    let same = c.all_but_first.ensures ∙ ap (drop 1) c.as_slice.ensures in
+    let same = c.all_but_first-sections.ensures ∙ ap (drop 1) c.as_slice.ensures in
     fills_from_end l (drop 1 l.sections) _ _ c.args.out.now (c.len-i.ensures ∙ ap length same) c.requires.zeros
 
 pub loop-i-preserved : goal.loop-i-preserved
