@@ -45,7 +45,6 @@ use Rattle.wild_types.specs.declared.kind.Machine.TheVariants as machine
 use Rattle.wild_meaning.proofs.PairLemmas.{as_double}
 use Rattle.wild_checker.specs.declared.rewritten.Cursor.{Cursor}
 use Rattle.wild_checker.specs.Rewritten.{rewritten_start, first_cursor}
-use Rattle.wild_checker.proofs.InstructionLemmas.{filled_instruction_does}
 use Rattle.wild_checker.proofs.PlacedSections.{Laws, IsItem, IsChecked}
 use Rattle.wild_checker.proofs.PlainLemmas.{IsKeptAt, none_if, pair_kept, input_byte, own_kept}
 use Rattle.wild_checker.proofs.RewrittenLemmas.{IsRewritten, rewritten, number_is, size_is, formula_is, position_of, single, holds_rewritten}
@@ -277,7 +276,7 @@ item_holds k f w m item s laws n checked = record {
           gives = h.gives;
           field = h.field;
           kept = λ start o first t. own_bytes k f w m item s laws n checked r i start o first kept t;
-          does = λ start o first t. filled_instruction_does k.layout w m item r is u v start o first t (record { fields = fields k f w m item s laws n checked r i start o first kept is t; own = own_bytes k f w m item s laws n checked r i start o first kept t });
+          does = λ start o first t. laws.instructions k.layout w m item r is u v start o first t (record { fields = fields k f w m item s laws n checked r i start o first kept is t; own = own_bytes k f w m item s laws n checked r i start o first kept t });
         }
 
     held : (r : InputRelocation) → IsReference item r → MustHold k.layout w item r → (UsesOwnSymbolOnly k.layout item r → ⊥) → (at : IsAt k f s r) → (x : Option ℕ) → rewritten_start k f s (cursor_at k.layout.machine first_cursor s.relocations at.position) r ≡ x → ReferenceHolds k.layout w m item r

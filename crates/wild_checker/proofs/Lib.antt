@@ -8,7 +8,6 @@ pub mod SlotLemmas
 pub mod WrittenLemmas
 pub mod FormulaLemmas
 pub mod FieldLemmas
-pub mod InstructionLemmas
 pub mod PlacedSections
 pub mod CodeLemmas
 pub mod ShapeLemmas

@@ -9,7 +9,7 @@ use Rattle.wild_layout.specs.Numbers.{InputNumbers}
 use Rattle.wild_loader.specs.declared.memory.Memory.{Memory}
 use Rattle.wild_loader.specs.declared.world.World.{World}
 use Rattle.wild_terms.specs.Laws.{Follows}
-use Rattle.wild_references.specs.PlainLaws.{RowsHaveFormulas}
+use Rattle.wild_references.specs.PlainLaws.{PlainInstructionsDo, RowsHaveFormulas}
 use Rattle.wild_references.proofs.StubCode.{StubLaws}
 use Rattle.wild_checker.specs.Bytes.{are_in_order}
 use Rattle.wild_checker.specs.Loaded.{Loaded}
@@ -20,6 +20,7 @@ use Rattle.wild_checker.proofs.ValueLemmas.{Known}
 pub record Laws : Type 0 where
   pub rows : RowsHaveFormulas
   pub widths : WidthsHold
+  pub instructions : PlainInstructionsDo
   pub stubs : StubLaws
 
 -- a section of the layout as its item, in a memory that follows the terms

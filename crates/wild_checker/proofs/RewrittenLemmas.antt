@@ -28,6 +28,7 @@ use Rattle.wild_types.specs.Flags.{has_flag, ifunc_got_for_address}
 use Rattle.wild_types.specs.Lookups.{canonical}
 use Rattle.wild_types.specs.Rows.{row_of, row_width, field_bytes}
 use Rattle.wild_loader.specs.declared.instruction.Action.{Action}
+use Rattle.wild_loader.specs.declared.instruction.Cell.{Cell}
 use Rattle.wild_loader.specs.declared.instruction.Deed.{Deed}
 use Rattle.wild_loader.specs.declared.instruction.Operand.{Operand}
 use Rattle.wild_loader.specs.declared.instruction.Operand.TheVariants.{Number}
@@ -281,7 +282,7 @@ stands k f w m item s laws n checked i r start there h = record {
         let part = and_parts (nat_le (length h.shape.cells) (r.offset + 4)) (matches_cells h.shape.cells (slice_range s.bytes (r.offset + 4 - length h.shape.cells) (r.offset + 4))) both.1 in
         let begun : matches_cells h.shape.cells (slice_range s.bytes start (r.offset + 4)) ≡ true = subst (λ (x : ℕ). matches_cells h.shape.cells (slice_range s.bytes x (r.offset + 4)) ≡ true) (sym h.begin) part.1 in
         let ended : matches_cells h.shape.cells (slice_range s.bytes start (start + size_of o)) ≡ true = subst (λ (x : ℕ). matches_cells h.shape.cells (slice_range s.bytes start x) ≡ true) (sym whole) begun in
-        rw (sym h.found.shaped.cells) at ended
+        subst (λ (cs : List Cell). matches_cells cs (slice_range s.bytes start (start + size_of o)) ≡ true) (sym h.found.shaped.cells) ended
 
     before_field : (j : ℕ) → IsOwnByte o j → start + j < r.offset
     before_field j own =
@@ -293,14 +294,14 @@ stands k f w m item s laws n checked i r start there h = record {
     room = room_is k f s c r start h
 
     apart : (j : ℕ) → IsOwnByte o j → (q : InputRelocation) → Contains s.relocations q → (g : Formula) → formula_of k.layout.machine q.number ≡ Some g → (start + j < q.offset) ⊎ (q.offset + form_width g.form ≤ start + j)
-    apart j own q listed g known =
+    apart j own q listed g has =
         let at = position_of s.relocations q listed in
         let low = before_field j own in
         elim (cases_lt at.0 i) [
           | inl before ↦
               (let end = reached k.layout.machine first_cursor s.relocations at.0 i q before at.1 in
               let settled = settled_at k f s first_cursor 0 s.relocations at.0 q checked.references at.1 in
-              let narrow = width_is laws.rows k f s (cursor_at k.layout.machine first_cursor s.relocations at.0) q settled g known in
+              let narrow = width_is laws.rows k f s (cursor_at k.layout.machine first_cursor s.relocations at.0) q settled g has in
               let clear = h.clear in
               inr (ended q.offset (form_width g.form) (field_bytes k.layout.machine q.number) _ c.clear start j narrow end clear))
           | inr from ↦ elim (cases_lt i at.0) [
@@ -381,10 +382,10 @@ no_sequence k f w m item s n checked i r start there h first rest from p q c =
     ]
   where
     later : (a b : ℕ) → (a ≡ b → ⊥) → b ≤ a → b < a
-    later a b no le =
+    later a b apart le =
         elim (cases_lt b a) [
           | inl lt ↦ lt
-          | inr ge ↦ absurd (no (omega (arith, le, ge)))
+          | inr ge ↦ absurd (apart (omega (arith, le, ge)))
         ]
 
 pub single : (k : Loaded) (f : File) (w : World) (m : Memory) (item : Item) (s : InputSection) → Laws → IsItem k f w m item s → IsChecked k f s → (i : ℕ) (r : InputRelocation) (start : ℕ) → slice_get s.relocations i ≡ Some r → (h : IsRewritten k f s (cursor_at k.layout.machine first_cursor s.relocations i) r start) → IsSingle k.layout item r start h.found.shaped.instruction
