@@ -129,7 +129,7 @@ unfolding sections
 no_sections im e none = rw none refl
 
 -- the headers of a layout's sections, by which entries are read, are those of the image
-pub HasItsSections : Layout → List SectionHeader → Type 0
+abbrev pub HasItsSections : Layout → List SectionHeader → Type 0
 HasItsSections l ss = (im : List ℕ) (entries : List Rela) → section_entries im ss entries ≡ section_entries im (map (rela_header l) (drop 1 l.sections)) entries
 
 -- the image of an output without a dynamic section
