@@ -65,7 +65,7 @@ def after_clause(toks, i):
 def after_attribute(toks, i):
     """The index after the attribute at `i` if only the prover or the formatter reads it; else `i`."""
     j = i + 1 + (toks[i + 1] == ('mark', '!'))
-    if toks[j] == ('mark', '[') and toks[j + 1][1] in ('tactic', 'rattlefmt', 'error'):
+    if toks[j] == ('mark', '[') and toks[j + 1][1] in ('tactic', 'cycle', 'rattlefmt', 'error'):
         return after_group(toks, j)
     return i
 

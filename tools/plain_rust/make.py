@@ -14,14 +14,13 @@ HERE = Path(__file__).resolve().parent
 TOP = HERE.parent.parent
 PROGRAMS = ('wild_main', 'wild_explain_main')
 TESTS = ('wild_tests', 'wild_tests_low', 'wild_tests_tables', 'wild_tests_images', 'wild_tests_plans', 'wild_tests_answers')
-LIBRARIES = ('atomic_table', 'bitflags', 'hex', 'rayon', 'serde_json')
+LIBRARIES = ('atomic_table', 'bitflags', 'fast_float', 'hex', 'json', 'rayon', 'serde_json')
 
 # (file, its text, what replaces it)
 MENDS = [
     ('wild_symbols/prefix.rs', 'fn drop(self)', 'fn drop(&mut self)'),
     ('wild_symbols/prefix.rs', 'let SymbolTablePrefix { writer, kept } = self;\n        writer.join(kept);',
      'self.writer.join(self.kept);'),
-    ('wild_text/members.rs', 'Map::new(alloc)', 'Map::new()'),
     ('wild_program/words.rs', 'use std::{env, io};', 'use crate::shim::env;\nuse std::io;'),
 ]
 

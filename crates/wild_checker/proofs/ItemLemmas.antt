@@ -1,8 +1,8 @@
--- A section whose references are all found to hold, and whose other bytes are the input's, holds as an item.
-use Rattle.std.proofs.Common.{◌≡◌, ℕ, ◌+◌, ◌%◌, ◌^◌, ◌<◌, ◌≤◌, ◌⊎◌, inl, inr, ◌&&◌, Bool, true, false, List, length, get_or, refl, sym, ap, ◌∙◌, arith, subst}
-use Rattle.std.specs.Prelude.{Option, Some, None, All, Contains, ◌==◌, ◌||◌, if◌then◌else◌, not, nat_le, drop, slice_index}
+-- A section whose references are all found to hold, rewritten or not, and whose other bytes are the input's, holds as an item.
+use Rattle.std.proofs.Common.{◌≡◌, ℕ, ◌+◌, ◌<◌, ◌≤◌, ◌⊎◌, inl, inr, ◌&&◌, Bool, true, false, List, length, get_or, refl, sym, ap, ◌∙◌, arith, subst, ◌≢◌, ◌||◌}
+use Rattle.std.specs.Prelude.{if◌then◌else◌, Option, Some, None, All, Contains, ◌==◌, ◌||◌, not, nat_le, drop, is_some, slice_get}
 use Rattle.std.proofs.lemmas.Bool.{cases_lt, eqb-true, leb-true, or_cases, and_parts, not-true}
-use Rattle.std.proofs.lemmas.List.Elements.{All-contains, All-take, All-drop}
+use Rattle.std.proofs.lemmas.List.Elements.{All-take, All-drop}
 use Rattle.wild_records.specs.Abi.Relocation.{r_x86_64_none}
 use Rattle.wild_reloc.specs.declared.expression.Subtrahend.{Subtrahend}
 use Rattle.wild_reloc.specs.declared.expression.Term as expression
@@ -10,10 +10,10 @@ use Rattle.wild_reloc.specs.declared.expression.Term.TheVariants as terms
 use Rattle.wild_reloc.specs.declared.info.RelocationKindInfo.{RelocationKindInfo}
 use Rattle.wild_reloc.specs.declared.info.RelocationSize.{RelocationSize}
 use Rattle.wild_reloc.specs.declared.info.RelocationSize.TheVariants.{ByteSize, BitMasking}
-use Rattle.wild_reloc.specs.Agreement.{WidthsHold, sized}
+use Rattle.wild_reloc.specs.Agreement.{sized}
 use Rattle.wild_reloc.specs.Expression.{expression_of, subtrahend_of, expressed}
 use Rattle.wild_reloc.specs.Field.{field_width, allows}
-use Rattle.wild_reloc.specs.Formula.{Value, NoValue, Formula}
+use Rattle.wild_reloc.specs.Formula.{Value, NoValue, Formula, formula, SlotDistance, Plain, Signed}
 use Rattle.wild_types.specs.declared.file.File.{File}
 use Rattle.wild_types.specs.declared.input.InputRelocation.{InputRelocation}
 use Rattle.wild_types.specs.declared.input.InputSection.{InputSection}
@@ -23,46 +23,32 @@ use Rattle.wild_types.specs.Rows.{row_of, row_width}
 use Rattle.wild_layout.specs.Numbers.{InputNumbers}
 use Rattle.wild_loader.specs.declared.memory.Memory.{Memory}
 use Rattle.wild_loader.specs.declared.world.World.{World}
-use Rattle.wild_loader.specs.Memory.{byte_in}
-use Rattle.wild_references.proofs.StubCode.{StubLaws}
-use Rattle.wild_meaning.specs.Item.{place_at, IsReference}
+use Rattle.wild_meaning.specs.Item.{IsReference}
 use Rattle.wild_meaning.specs.Field.{formula_of, form_width, InNoField, IsInputByte}
 use Rattle.wild_meaning.specs.Formula.{Gives, TakesAddress, TakesOffset}
-use Rattle.wild_meaning.specs.Reference.{HoldsPlain, ItemHolds, MustHold, UsesOwnSymbolOnly}
-use Rattle.wild_meaning.specs.Sequence.{Instruction, IsOwnByte}
-use Rattle.wild_meaning.specs.Template.{IsInstruction, IsTemplate}
+use Rattle.wild_meaning.specs.Reference.{HoldsPlain, ItemHolds, MustHold, UsesOwnSymbolOnly, ReferenceHolds, IsOutsideReferences, UsesOwnDefinition}
+use Rattle.wild_meaning.specs.Sequence.{Instruction, IsOwnByte, size_of}
+use Rattle.wild_meaning.specs.Template.{IsInstruction, IsTemplate, IsSingle, IsOfSequence}
 use Rattle.wild_terms.specs.declared.term.Term.{Term}
 use Rattle.wild_terms.specs.Values.{value_of}
-use Rattle.wild_terms.specs.Laws.{Follows}
 use Rattle.wild_references.specs.Laws.{FieldHolds}
-use Rattle.wild_references.specs.PlainLaws.{AllFieldsHold, PlainInstructionsDo, RowsHaveFormulas}
+use Rattle.wild_references.specs.PlainLaws.{RowsHaveFormulas}
 use Rattle.wild_checker.specs.Loaded.{Loaded}
-use Rattle.wild_checker.specs.Bytes.{changed_gap}
 use Rattle.wild_checker.specs.References.{old_field, value_term, word_term, value_holds, is_inside, field_holds, has_offset_mode, is_mark, mark_holds, holds_by_row, reference_holds}
-use Rattle.wild_checker.specs.Sections.{is_settled, first_doubt}
+use Rattle.wild_checker.specs.Sections.{is_settled}
 use Rattle.wild_checker.proofs.FieldLemmas.{inside, value_shown, nothing_written, low_place, field_reads}
 use Rattle.wild_checker.proofs.FormulaLemmas.{IsPlaced, no_offsets, takes_by, decided, term_below}
-use Rattle.wild_checker.proofs.SiteLemmas.{IsBeside, gap_known, no_doubt}
-use Rattle.wild_checker.proofs.ValueLemmas.{Known}
-
--- ---- what is used
-
-pub record Laws : Type 0 where
-  pub rows : RowsHaveFormulas
-  pub widths : WidthsHold
-  pub instructions : PlainInstructionsDo
-  pub stubs : StubLaws
-
--- a section of the layout as its item, in a memory that follows the terms
-pub record IsItem (k : Loaded) (f : File) (w : World) (m : Memory) (item : Item) (s : InputSection) : Type 0 where
-  pub address : item.address ≡ s.address
-  pub flags : item.flags ≡ s.flags
-  pub bytes : item.bytes ≡ s.bytes
-  pub relocations : item.relocations ≡ s.relocations
-  pub small : InputNumbers s
-  pub known : Known k f w
-  pub follows : Follows w k.memory m
-  pub pages : k.layout.page_size % 4096 ≡ 0 → w.base % 4096 ≡ 0
+use Rattle.wild_checker.proofs.SiteLemmas.{IsBeside}
+use Rattle.wild_words.proofs.Basics.{listed_at}
+use Rattle.wild_types.specs.declared.kind.Machine.{Machine}
+use Rattle.wild_types.specs.declared.kind.Machine.TheVariants as machine
+use Rattle.wild_meaning.proofs.PairLemmas.{as_double}
+use Rattle.wild_checker.specs.declared.rewritten.Cursor.{Cursor}
+use Rattle.wild_checker.specs.Rewritten.{rewritten_start, first_cursor}
+use Rattle.wild_checker.proofs.PlacedSections.{Laws, IsItem, IsChecked}
+use Rattle.wild_checker.proofs.PlainLemmas.{IsKeptAt, none_if, pair_kept, input_byte, own_kept}
+use Rattle.wild_checker.proofs.RewrittenLemmas.{IsRewritten, rewritten, number_is, size_is, formula_is, position_of, single, holds_rewritten}
+use Rattle.wild_checker.proofs.WalkLemmas.{InRewritten, cursor_at, settled_at}
 
 -- ---- one reference
 
@@ -179,14 +165,23 @@ right k f w m item s r laws n h = by (found k f s r h)
 
 -- ---- the item
 
--- a reference of the item was looked at
-settled : (k : Loaded) (f : File) (s : InputSection) (item : Item) (r : InputRelocation) → item.relocations ≡ s.relocations → first_doubt k f s 0 s.relocations ≡ None → IsReference item r → reference_holds k f s r ≡ true
-settled k f s item r same none is =
-    let listed = subst (λ (rs : List InputRelocation). Contains rs r) same is.listed in
-    let test = All-contains (λ (r : InputRelocation). is_settled k f s r ≡ true) s.relocations r (no_doubt k f s 0 s.relocations none) listed in
-    elim (or_cases (r.number == r_x86_64_none) (reference_holds k f s r) test) [
-      | inl nothing ↦ absurd (is.refers (eqb-true r.number r_x86_64_none nothing))
-      | inr holds ↦ holds
+-- a relocation at a position, and what was found of it
+record IsAt (k : Loaded) (f : File) (s : InputSection) (r : InputRelocation) : Type 0 where
+  position : ℕ
+  there : slice_get s.relocations position ≡ Some r
+  settled : is_settled k f s (cursor_at k.layout.machine first_cursor s.relocations position) r ≡ true
+
+at_position : (k : Loaded) (f : File) (w : World) (m : Memory) (item : Item) (s : InputSection) → IsItem k f w m item s → IsChecked k f s → (r : InputRelocation) → IsReference item r → IsAt k f s r
+at_position k f w m item s n checked r is =
+    let at = position_of s.relocations r (subst (λ (rs : List InputRelocation). Contains rs r) n.relocations is.listed) in
+    record { position = at.0; there = at.1; settled = settled_at k f s first_cursor 0 s.relocations at.0 r checked.references at.1 }
+
+-- a reference that was not rewritten holds
+plain_holds : (k : Loaded) (f : File) (s : InputSection) (c : Cursor) (r : InputRelocation) → r.number ≢ r_x86_64_none → is_settled k f s c r ≡ true → rewritten_start k f s c r ≡ None → reference_holds k f s r ≡ true
+plain_holds k f s c r refers settled none =
+    elim (or_cases (r.number == r_x86_64_none) (is_some (rewritten_start k f s c r) || reference_holds k f s r) settled) [
+      | inl nothing ↦ absurd (refers (eqb-true r.number r_x86_64_none nothing))
+      | inr other ↦ (let plain : (false || reference_holds k f s r) ≡ true = rw none at other in plain)
     ]
 
 -- no byte in no field is changed
@@ -197,53 +192,115 @@ beside rows l r k h = by (row_of l.machine r.number) refl
     by None e = elim (cases_lt k r.offset) [ inl low ↦ inl low | inr high ↦ inr (omega (arith, high)) ]
     by (Some row) e = (let t = rows l.machine r.number row e in subst (λ (n : ℕ). (k < r.offset) ⊎ (r.offset + n ≤ k)) t.width (h t.formula t.known))
 
-others : (k : Loaded) (f : File) (w : World) (m : Memory) (item : Item) (s : InputSection) → Laws → IsItem k f w m item s → changed_gap k.layout.machine k.memory s 0 s.relocations ≡ None → (j : ℕ) → j < length item.bytes → InNoField k.layout item j → IsInputByte w m item j
-others k f w m item s laws n gap j within out =
-    let same = n.bytes in
-    let address = n.address in
-    let short : j < length s.bytes = subst (λ (bs : List ℕ). j < length bs) same within in
-    let out-there : All (λ (r : InputRelocation). (g : Formula) → formula_of k.layout.machine r.number ≡ Some g → (j < r.offset) ⊎ (r.offset + form_width g.form ≤ j)) s.relocations = subst (λ (rs : List InputRelocation). All (λ (r : InputRelocation). (g : Formula) → formula_of k.layout.machine r.number ≡ Some g → (j < r.offset) ⊎ (r.offset + form_width g.form ≤ j)) rs) n.relocations out in
-    let all : All (IsBeside k.layout.machine j) s.relocations = λ i d l. beside laws.rows k.layout (get_or s.relocations i d) j (out-there i d l) in
-    let known = gap_known k.layout.machine k.memory s 0 s.relocations j gap (omega arith) short all in
-    let e : w.base + (s.address + j) ≡ place_at w item j = omega (arith, address) in
-    ap (byte_in m) (sym e) ∙ n.follows.bytes (s.address + j) (slice_index s.bytes j) known ∙ ap (λ (bs : List ℕ). Some (slice_index bs j)) (sym same)
+all_beside : (k : Loaded) (f : File) (w : World) (m : Memory) (item : Item) (s : InputSection) → Laws → IsItem k f w m item s → (b : ℕ) → InNoField k.layout item b → All (IsBeside k.layout.machine b) s.relocations
+all_beside k f w m item s laws n b out =
+    let there : All (λ (r : InputRelocation). (g : Formula) → formula_of k.layout.machine r.number ≡ Some g → (b < r.offset) ⊎ (r.offset + form_width g.form ≤ b)) s.relocations = subst (λ (rs : List InputRelocation). All (λ (r : InputRelocation). (g : Formula) → formula_of k.layout.machine r.number ≡ Some g → (b < r.offset) ⊎ (r.offset + form_width g.form ≤ b)) rs) n.relocations out in
+    λ i d l. beside laws.rows k.layout (get_or s.relocations i d) b (there i d l)
 
--- an instruction's own bytes are the input's
-own_byte : (l : Layout) (w : World) (m : Memory) (item : Item) → ((j : ℕ) → j < length item.bytes → InNoField l item j → IsInputByte w m item j) → (r : InputRelocation) (start : ℕ) (o : Instruction) → IsInstruction l item r start o → (j : ℕ) → IsOwnByte o j → IsInputByte w m item (start + j)
-own_byte l w m item each r start o t j own =
-    let within = t.inside in
-    let low = own.inside in
-    each (start + j) (omega (arith, within, low)) (t.alone j own)
+-- an instruction's own bytes are in no field
+own_within : (k : Loaded) (item : Item) (r : InputRelocation) (start : ℕ) (o : Instruction) (first : InputRelocation) → IsTemplate k.layout item r start o first → (j : ℕ) → IsOwnByte o j → (start + j < length item.bytes) × InNoField k.layout item (start + j)
+own_within k item r start o first t j own = by t
+  where
+    of : (q : InputRelocation) → IsInstruction k.layout item q start o → (start + j < length item.bytes) × InNoField k.layout item (start + j)
+    of q t = (let within = t.inside in let low = own.inside in omega (arith, within, low), t.alone j own)
 
-pub item_holds : (k : Loaded) (f : File) (w : World) (m : Memory) (item : Item) (s : InputSection) → Laws → IsItem k f w m item s → first_doubt k f s 0 s.relocations ≡ None → changed_gap k.layout.machine k.memory s 0 s.relocations ≡ None → ItemHolds k.layout w m item
-item_holds k f w m item s laws n none gap = record {
-  references = λ r is o u v. inl (plain r is u v);
-  linked = λ r is o u v. absurd ((each r is).own v);
-  others = λ j l out. bytes j l out.fields;
+    by : IsTemplate k.layout item r start o first → (start + j < length item.bytes) × InNoField k.layout item (start + j)
+    by (inl one) = of r one.0.stands
+    by (inr part) = of first part.sequence.stands
+
+own_bytes : (k : Loaded) (f : File) (w : World) (m : Memory) (item : Item) (s : InputSection) → Laws → IsItem k f w m item s → IsChecked k f s → (r : InputRelocation) (i start : ℕ) (o : Instruction) (first : InputRelocation) → IsKeptAt k f s i r → IsTemplate k.layout item r start o first → (j : ℕ) → IsOwnByte o j → IsInputByte w m item (start + j)
+own_bytes k f w m item s laws n checked r i start o first kept t j own =
+    let place = own_within k item r start o first t j own in
+    input_byte k f w m item s n checked (start + j) place.0 (all_beside k f w m item s laws n (start + j) place.1) (own_kept k f w m item s n checked r i start o first kept t j own)
+
+-- a relocation at a position where it is kept holds
+right_at : (k : Loaded) (f : File) (w : World) (m : Memory) (item : Item) (s : InputSection) → Laws → IsItem k f w m item s → IsChecked k f s → (r : InputRelocation) (i : ℕ) → r.number ≢ r_x86_64_none → IsKeptAt k f s i r → IsRight k w m item r
+right_at k f w m item s laws n checked r i refers kept =
+    right k f w m item s r laws n (plain_holds k f s (cursor_at k.layout.machine first_cursor s.relocations i) r refers (settled_at k f s first_cursor 0 s.relocations i r checked.references kept.there) kept.none)
+
+-- the fields of an instruction of which one relocation is kept all hold
+fields : (k : Loaded) (f : File) (w : World) (m : Memory) (item : Item) (s : InputSection) → Laws → IsItem k f w m item s → IsChecked k f s → (r : InputRelocation) (i start : ℕ) (o : Instruction) (first : InputRelocation) → IsKeptAt k f s i r → IsReference item r → IsTemplate k.layout item r start o first → (q : InputRelocation) → IsReference item q → IsTemplate k.layout item q start o first → FieldHolds k.layout w m item q
+fields k f w m item s laws n checked r i start o first kept is t q refers u = by k.layout.machine refl t u
+  where
+    no_both : (p : InputRelocation) → IsSingle k.layout item p start o → (x : InputRelocation) → IsOfSequence k.layout item x start o first → ⊥
+    no_both p one x part = (let several = part.sequence.several in let none = ap length one.single in omega (arith, several, none))
+
+    of_pair : k.layout.machine ≡ machine.X86_64 → IsOfSequence k.layout item q start o first → FieldHolds k.layout w m item q
+    of_pair on part =
+        let d = as_double k.layout item q start o first on part in
+        let pair = pair_kept k f w m item s n first d.second start o on d.sequence in
+        elim d.one [
+          | inl e ↦ (right_at k f w m item s laws n checked q d.sequence.has.index refers.refers (subst (λ (x : InputRelocation). IsKeptAt k f s d.sequence.has.index x) (sym e) pair.first_kept)).field
+          | inr e ↦ (right_at k f w m item s laws n checked q (d.sequence.has.index + 1) refers.refers (subst (λ (x : InputRelocation). IsKeptAt k f s (d.sequence.has.index + 1) x) (sym e) pair.second_kept)).field
+        ]
+
+    elsewhere : k.layout.machine ≡ machine.AArch64 → FieldHolds k.layout w m item q
+    elsewhere on =
+        let at = at_position k f w m item s n checked q refers in
+        let none = none_if k f s at.position q (λ from h. (let both : machine.AArch64 ≡ machine.X86_64 = sym on ∙ h.code.on in cc)) in
+        (right_at k f w m item s laws n checked q at.position refers.refers (record { there = at.there; none = none })).field
+
+    by : (x : Machine) → k.layout.machine ≡ x → IsTemplate k.layout item r start o first → IsTemplate k.layout item q start o first → FieldHolds k.layout w m item q
+    by machine.AArch64 on t u = elsewhere on
+    by machine.X86_64 on t (inr part) = of_pair on part
+    by machine.X86_64 on (inr part) (inl one) = absurd (no_both q one.0 r part)
+    by machine.X86_64 on (inl one) (inl other) =
+        let same : r ≡ q = sym one.1 ∙ other.1 in
+        (right_at k f w m item s laws n checked q i refers.refers (subst (λ (x : InputRelocation). IsKeptAt k f s i x) same kept)).field
+
+-- a rewritten instruction takes no address or offset of its symbol
+no_own_symbol : (k : Loaded) (f : File) (item : Item) (s : InputSection) (c : Cursor) (r : InputRelocation) (start : ℕ) → IsRewritten k f s c r start → UsesOwnSymbolOnly k.layout item r → ⊥
+no_own_symbol k f item s c r start h u =
+    let slot = h.found.shaped.slot in
+    let same : formula (SlotDistance slot) (Plain 32 Signed) ≡ u.formula = one_formula (formula (SlotDistance slot) (Plain 32 Signed)) u.formula (sym (formula_is k f s c r start h) ∙ u.known) in
+    let takes = subst (λ (g : Formula). UsesOwnDefinition k.layout item u.symbol g) (sym same) u.takes in
+    elim takes [
+      | inl offset ↦ absurd offset
+      | inr address ↦ absurd address.0
+    ]
+
+pub item_holds : (k : Loaded) (f : File) (w : World) (m : Memory) (item : Item) (s : InputSection) → Laws → IsItem k f w m item s → IsChecked k f s → ItemHolds k.layout w m item
+item_holds k f w m item s laws n checked = record {
+  references = λ r is o u v. (let at = at_position k f w m item s n checked r is in held r is u v at (rewritten_start k f s (cursor_at k.layout.machine first_cursor s.relocations at.position) r) refl);
+  linked = λ r is o u v. (let at = at_position k f w m item s n checked r is in absurd (followed r is v at (rewritten_start k f s (cursor_at k.layout.machine first_cursor s.relocations at.position) r) refl));
+  others = λ j l out. input_byte k f w m item s n checked j l (all_beside k f w m item s laws n j out.fields) (outside j out);
 }
   where
-    each : (r : InputRelocation) → IsReference item r → IsRight k w m item r
-    each r is = right k f w m item s r laws n (settled k f s item r n.relocations none is)
-
-    bytes : (j : ℕ) → j < length item.bytes → InNoField k.layout item j → IsInputByte w m item j
-    bytes = others k f w m item s laws n gap
-
-    all : AllFieldsHold k.layout w m item
-    all = record { references = λ r is. (each r is).field; others = bytes }
-
-    kept : (r : InputRelocation) (start : ℕ) (o : Instruction) (first : InputRelocation) → IsTemplate k.layout item r start o first → (j : ℕ) → IsOwnByte o j → IsInputByte w m item (start + j)
-    kept r start o first (inl t) j own = own_byte k.layout w m item bytes r start o t.0.stands j own
-    kept r start o first (inr t) j own = own_byte k.layout w m item bytes first start o t.sequence.stands j own
-
-    plain : (r : InputRelocation) → IsReference item r → MustHold k.layout w item r → (UsesOwnSymbolOnly k.layout item r → ⊥) → HoldsPlain k.layout w m item r
-    plain r is u v =
-        let h = (each r is).field in
+    plain : (r : InputRelocation) → IsReference item r → MustHold k.layout w item r → (UsesOwnSymbolOnly k.layout item r → ⊥) → (i : ℕ) → IsKeptAt k f s i r → HoldsPlain k.layout w m item r
+    plain r is u v i kept =
+        let h = (right_at k f w m item s laws n checked r i is.refers kept).field in
         record {
           formula = h.formula;
           known = h.known;
           value = h.value;
           gives = h.gives;
           field = h.field;
-          kept = kept r;
-          does = laws.instructions k.layout w m item all r is u v;
+          kept = λ start o first t. own_bytes k f w m item s laws n checked r i start o first kept t;
+          does = λ start o first t. laws.instructions k.layout w m item r is u v start o first t (record { fields = fields k f w m item s laws n checked r i start o first kept is t; own = own_bytes k f w m item s laws n checked r i start o first kept t });
         }
+
+    held : (r : InputRelocation) → IsReference item r → MustHold k.layout w item r → (UsesOwnSymbolOnly k.layout item r → ⊥) → (at : IsAt k f s r) → (x : Option ℕ) → rewritten_start k f s (cursor_at k.layout.machine first_cursor s.relocations at.position) r ≡ x → ReferenceHolds k.layout w m item r
+    held r is u v at None e = inl (plain r is u v at.position (record { there = at.there; none = e }))
+    held r is u v at (Some start) e = inr (holds_rewritten k f w m item s laws n checked at.position r start at.there (rewritten k f s (cursor_at k.layout.machine first_cursor s.relocations at.position) r start e))
+
+    followed : (r : InputRelocation) → IsReference item r → UsesOwnSymbolOnly k.layout item r → (at : IsAt k f s r) → (x : Option ℕ) → rewritten_start k f s (cursor_at k.layout.machine first_cursor s.relocations at.position) r ≡ x → ⊥
+    followed r is v at None e = (right_at k f w m item s laws n checked r at.position is.refers (record { there = at.there; none = e })).own v
+    followed r is v at (Some start) e = no_own_symbol k f item s (cursor_at k.layout.machine first_cursor s.relocations at.position) r start (rewritten k f s (cursor_at k.layout.machine first_cursor s.relocations at.position) r start e) v
+
+    -- a byte outside all instructions is in no rewritten one
+    outside : (j : ℕ) → IsOutsideReferences k.layout item j → InRewritten k f s first_cursor s.relocations j → ⊥
+    outside j out h =
+        let c = cursor_at k.layout.machine first_cursor s.relocations h.position in
+        let p = rewritten k f s c h.relocation h.start h.is in
+        let listed = subst (λ (rs : List InputRelocation). Contains rs h.relocation) (sym n.relocations) (listed_at s.relocations h.position h.relocation h.there) in
+        let refers = p.found.shaped.refers in
+        let number = number_is k f s c h.relocation h.start p in
+        let is : IsReference item h.relocation = record { listed = listed; refers = λ none. refers (number ∙ none) } in
+        let size = size_is k f s c h.relocation h.start p in
+        let same : size_of p.found.shaped.instruction ≡ length p.shape.cells = ap length p.found.shaped.cells in
+        let low = h.low in
+        let high = h.high in
+        elim (out.templates h.relocation h.start p.found.shaped.instruction h.relocation is (inl (single k f w m item s laws n checked h.position h.relocation h.start h.there p, refl))) [
+          | inl before ↦ omega (arith, before, low)
+          | inr after ↦ omega (arith, after, size, same, high)
+        ]

@@ -8,6 +8,12 @@ pub mod SlotLemmas
 pub mod WrittenLemmas
 pub mod FormulaLemmas
 pub mod FieldLemmas
+pub mod PlacedSections
+pub mod CodeLemmas
+pub mod ShapeLemmas
+pub mod WalkLemmas
+pub mod RewrittenLemmas
+pub mod PlainLemmas
 pub mod ItemLemmas
 pub mod SegmentLemmas
 pub mod VerdictLemmas

@@ -10,12 +10,10 @@ use Rattle.wild_types.specs.declared.input.InputRelocation.{InputRelocation}
 use Rattle.wild_types.specs.declared.input.InputSection.{InputSection}
 use Rattle.wild_types.specs.declared.kind.Machine.{Machine}
 use Rattle.wild_terms.specs.Symbolic.{Symbolic, known_byte}
-use Rattle.wild_checker.specs.Loaded.{Loaded}
-use Rattle.wild_checker.specs.Bytes.{is_same, is_byte, first_changed, field_end, changed_between, changed_gap}
+use Rattle.wild_checker.specs.Bytes.{is_same, is_byte, first_changed, field_end, changed_between}
 use Rattle.wild_checker.specs.Search.{or_else, site_at, in_sections, in_files, in_groups}
-use Rattle.wild_checker.specs.Sections.{is_settled, first_doubt}
 
-both_none : {X : Type 0} (a b : Option X) → or_else a b ≡ None → (a ≡ None) × (b ≡ None)
+pub both_none : {X : Type 0} (a b : Option X) → or_else a b ≡ None → (a ≡ None) × (b ≡ None)
 both_none None b h = (refl, h)
 both_none (Some x) b h = cc
 
@@ -55,16 +53,7 @@ none_at asks gs g f s none in-groups in-files in-sections =
     let file = All-contains (NoneInFile asks) g.files f group in-files in
     All-contains (λ s. asks f s ≡ None) f.sections s file in-sections
 
--- ---- references and bytes
-
--- where none is doubted, all refer to nothing or hold
-pub no_doubt : (k : Loaded) (f : File) (s : InputSection) (i : ℕ) (rs : List InputRelocation) → first_doubt k f s i rs ≡ None → All (λ (r : InputRelocation). is_settled k f s r ≡ true) rs
-no_doubt k f s i [] h = All-nil (λ (r : InputRelocation). is_settled k f s r ≡ true)
-no_doubt k f s i (r ∷ rs) h = by_test (no_doubt k f s (i + 1) rs) (is_settled k f s r) refl h
-  where
-    by_test : (first_doubt k f s (i + 1) rs ≡ None → All (λ (r : InputRelocation). is_settled k f s r ≡ true) rs) → (b : Bool) → is_settled k f s r ≡ b → (if b then first_doubt k f s (i + 1) rs else Some i) ≡ None → All (λ (r : InputRelocation). is_settled k f s r ≡ true) (r ∷ rs)
-    by_test rest true e h = All-cons (λ (r : InputRelocation). is_settled k f s r ≡ true) r rs e (rest h)
-    by_test rest false e h = cc
+-- ---- bytes
 
 same_byte : (x : Option ℕ) (b : ℕ) → is_same x b ≡ true → x ≡ Some b
 same_byte None b h = cc
@@ -87,7 +76,7 @@ no_change t a k (b ∷ bs) h j l = by_test (no_change t a (k + 1) bs) (is_byte t
 -- ---- bytes in no field
 
 -- the bytes between two offsets
-between_known : (t : Symbolic) (s : InputSection) (n to k : ℕ) → changed_between t s n to ≡ None → n ≤ k → k < to → k < length s.bytes → known_byte t (s.address + k) ≡ Some (slice_index s.bytes k)
+pub between_known : (t : Symbolic) (s : InputSection) (n to k : ℕ) → changed_between t s n to ≡ None → n ≤ k → k < to → k < length s.bytes → known_byte t (s.address + k) ≡ Some (slice_index s.bytes k)
 between_known t s n to k h low high within =
     let end = min to (length s.bytes) in
     let above : k < end = least k to (length s.bytes) high within in
@@ -112,13 +101,3 @@ between_known t s n to k h low high within =
 -- the byte is in no field
 abbrev pub IsBeside : Machine → ℕ → InputRelocation → Type 0
 IsBeside m k r = (k < r.offset) ⊎ (field_end m r ≤ k)
-
-pub gap_known : (m : Machine) (t : Symbolic) (s : InputSection) (n : ℕ) (rs : List InputRelocation) (k : ℕ) → changed_gap m t s n rs ≡ None → n ≤ k → k < length s.bytes → All (IsBeside m k) rs → known_byte t (s.address + k) ≡ Some (slice_index s.bytes k)
-gap_known m t s n [] k h low within all = between_known t s n (length s.bytes) k h low within within
-gap_known m t s n (r ∷ rs) k h low within all =
-    let two = both_none (changed_between t s n r.offset) (changed_gap m t s (field_end m r) rs) h in
-    by two.0 (gap_known m t s (field_end m r) rs k two.1) (All-head (IsBeside m k) r rs all)
-  where
-    by : changed_between t s n r.offset ≡ None → (field_end m r ≤ k → k < length s.bytes → All (IsBeside m k) rs → known_byte t (s.address + k) ≡ Some (slice_index s.bytes k)) → IsBeside m k r → known_byte t (s.address + k) ≡ Some (slice_index s.bytes k)
-    by between rest (inl before) = between_known t s n r.offset k between low before within
-    by between rest (inr behind) = rest behind within (All-tail (IsBeside m k) r rs all)

@@ -33,15 +33,17 @@ use Rattle.wild_references.specs.PlainLaws.{RawValuesAreAddresses}
 use Rattle.wild_checker.specs.declared.question.Site.{Site}
 use Rattle.wild_checker.specs.declared.verdict.Doubt.TheVariants as doubts
 use Rattle.wild_checker.specs.declared.verdict.Verdict.TheVariants.{Yes, No}
-use Rattle.wild_checker.specs.Bytes.{are_in_order, changed_gap}
+use Rattle.wild_checker.specs.Bytes.{are_in_order}
 use Rattle.wild_checker.specs.Loaded.{Loaded}
 use Rattle.wild_checker.specs.Outline.{WorldsAreOutlined}
+use Rattle.wild_checker.specs.Rewritten.{first_cursor}
 use Rattle.wild_checker.specs.Search.{in_groups}
-use Rattle.wild_checker.specs.Sections.{is_loaded_slot, is_in_memory, has_frames, is_in_order, changed_byte, first_doubt, doubtful_reference}
+use Rattle.wild_checker.specs.Sections.{is_loaded_slot, is_in_memory, has_frames, is_in_order, changed_gap, changed_byte, first_doubt, doubtful_reference}
 use Rattle.wild_checker.specs.Segments.{segment_doubt}
 use Rattle.wild_checker.specs.Symbols.{are_ordered}
 use Rattle.wild_checker.specs.Verdict.{HoldsIn, by_reference, by_byte, whole, by_segment, IsRefusal, IsReadVerdict, IsOutlined, YesIsFounded}
-use Rattle.wild_checker.proofs.ItemLemmas.{Laws, item_holds}
+use Rattle.wild_checker.proofs.ItemLemmas.{item_holds}
+use Rattle.wild_checker.proofs.PlacedSections.{Laws, IsChecked}
 use Rattle.wild_checker.proofs.SegmentLemmas.{room_for}
 use Rattle.wild_checker.proofs.SiteLemmas.{none_at}
 use Rattle.wild_checker.proofs.ValueLemmas.{Known}
@@ -50,7 +52,7 @@ use Rattle.wild_checker.proofs.ValueLemmas.{Known}
 
 record Found (l : Layout) (o : Outline) (image : List ℕ) (t : Symbolic) : Type 0 where
   segments : segment_doubt l image ≡ Ok None
-  bytes : in_groups (λ f. changed_byte l.machine t) 0 l.groups ≡ None
+  bytes : in_groups (changed_byte (record { layout = l; outline = o; memory = t; ordered = are_ordered l })) 0 l.groups ≡ None
   references : in_groups (doubtful_reference (record { layout = l; outline = o; memory = t; ordered = are_ordered l })) 0 l.groups ≡ None
 
 found : (l : Layout) (o : Outline) (image : List ℕ) (t : Symbolic) (d : Option ℕ) → segment_doubt l image ≡ Ok d → Yes ≡ by_segment l o t d → Found l o image t
@@ -60,17 +62,17 @@ found l o image t None d h = by_debug l.options.only_keep_debug h
     k : Loaded
     k = record { layout = l; outline = o; memory = t; ordered = are_ordered l }
 
-    by_references : in_groups (λ f. changed_byte l.machine t) 0 l.groups ≡ None → (x : Option Site) → in_groups (doubtful_reference k) 0 l.groups ≡ x → Yes ≡ by_reference x → Found l o image t
+    by_references : in_groups (changed_byte k) 0 l.groups ≡ None → (x : Option Site) → in_groups (doubtful_reference k) 0 l.groups ≡ x → Yes ≡ by_reference x → Found l o image t
     by_references b None e h = record { segments = d; bytes = b; references = e }
     by_references b (Some site) e h = cc
 
-    by_bytes : (x : Option Site) → in_groups (λ f. changed_byte l.machine t) 0 l.groups ≡ x → Yes ≡ by_byte k x → Found l o image t
+    by_bytes : (x : Option Site) → in_groups (changed_byte k) 0 l.groups ≡ x → Yes ≡ by_byte k x → Found l o image t
     by_bytes None e h = by_references e (in_groups (doubtful_reference k) 0 l.groups) refl h
     by_bytes (Some site) e h = cc
 
-    by_debug : (b : Bool) → Yes ≡ (if b then No (doubts.Reference whole) else by_byte k (in_groups (λ f. changed_byte l.machine t) 0 l.groups)) → Found l o image t
+    by_debug : (b : Bool) → Yes ≡ (if b then No (doubts.Reference whole) else by_byte k (in_groups (changed_byte k) 0 l.groups)) → Found l o image t
     by_debug true h = cc
-    by_debug false h = by_bytes (in_groups (λ f. changed_byte l.machine t) 0 l.groups) refl h
+    by_debug false h = by_bytes (in_groups (changed_byte k) 0 l.groups) refl h
 
 -- ---- one section
 
@@ -96,25 +98,26 @@ no_frames s loaded = let e = by_slot s.slot loaded in rw e refl
 -- a section in memory that nothing is doubted of
 record Plain (k : Loaded) (f : File) (s : InputSection) : Type 0 where
   forward : s.reversed ≡ false
-  references : first_doubt k f s 0 s.relocations ≡ None
-  bytes : changed_gap k.layout.machine k.memory s 0 s.relocations ≡ None
+  checked : IsChecked k f s
 
-plain : (k : Loaded) (f : File) (s : InputSection) → has_frames s ≡ false → is_in_memory s ≡ true → doubtful_reference k f s ≡ None → changed_byte k.layout.machine k.memory s ≡ None → Plain k f s
+plain : (k : Loaded) (f : File) (s : InputSection) → has_frames s ≡ false → is_in_memory s ≡ true → doubtful_reference k f s ≡ None → changed_byte k f s ≡ None → Plain k f s
 plain k f s frames there r b =
-    let r2 : (if is_in_order k.layout.machine s then first_doubt k f s 0 s.relocations else Some 0) ≡ None = rw (frames, there) at r in
-    let b2 : (if true && is_in_order k.layout.machine s then changed_gap k.layout.machine k.memory s 0 s.relocations else None) ≡ None = rw there at b in
+    let r2 : (if is_in_order k.layout.machine s then first_doubt k f s first_cursor 0 s.relocations else Some 0) ≡ None = rw (frames, there) at r in
+    let b2 : (if true && is_in_order k.layout.machine s then changed_gap k f s first_cursor s.relocations else None) ≡ None = rw there at b in
     by_order (is_in_order k.layout.machine s) refl r2 b2
   where
-    by_order : (x : Bool) → is_in_order k.layout.machine s ≡ x → (if x then first_doubt k f s 0 s.relocations else Some 0) ≡ None → (if x then changed_gap k.layout.machine k.memory s 0 s.relocations else None) ≡ None → Plain k f s
+    by_order : (x : Bool) → is_in_order k.layout.machine s ≡ x → (if x then first_doubt k f s first_cursor 0 s.relocations else Some 0) ≡ None → (if x then changed_gap k f s first_cursor s.relocations else None) ≡ None → Plain k f s
     by_order false e r b = cc
-    by_order true e r b = record { forward = not-true s.reversed (and_parts (not s.reversed) (are_in_order k.layout.machine 0 s.relocations) e).0; references = r; bytes = b }
+    by_order true e r b =
+        let both = and_parts (not s.reversed) (are_in_order k.layout.machine 0 s.relocations) e in
+        record { forward = not-true s.reversed both.0; checked = record { order = both.1; references = r; bytes = b } }
 
 holds : (k : Loaded) (f : File) (w : World) (m : Memory) (s : InputSection) → Laws → Known k f w → Follows w k.memory m → InputNumbers s → (k.layout.page_size % 4096 ≡ 0 → w.base % 4096 ≡ 0) → Plain k f s → ItemHolds k.layout w m (placed_item k.layout f s)
 holds k f w m s laws known follows small pages p =
     let forward = p.forward in
     let item : Item = record { address = s.address; flags = s.flags; bytes = s.bytes; relocations = s.relocations; thunk_block = block_for k.layout f s } in
     let same : placed_item k.layout f s ≡ item = rw forward refl in
-    subst (ItemHolds k.layout w m) (sym same) (item_holds k f w m item s laws (record { address = refl; flags = refl; bytes = refl; relocations = refl; small = small; known = known; follows = follows; pages = pages }) p.references p.bytes)
+    subst (ItemHolds k.layout w m) (sym same) (item_holds k f w m item s laws (record { address = refl; flags = refl; bytes = refl; relocations = refl; small = small; known = known; follows = follows; pages = pages }) p.checked)
 
 -- ---- each kept item
 
@@ -136,7 +139,7 @@ kept_holds l o w m image t laws raw numbers world legal follows h item (OfSectio
     let i = k.input in
     let loaded : Loaded = record { layout = l; outline = o; memory = t; ordered = are_ordered l } in
     let r = none_at (doubtful_reference loaded) l.groups i.group i.file s h.references i.grouped i.filed i.listed in
-    let b = none_at (λ f. changed_byte l.machine t) l.groups i.group i.file s h.bytes i.grouped i.filed i.listed in
+    let b = none_at (changed_byte loaded) l.groups i.group i.file s h.bytes i.grouped i.filed i.listed in
     let p = plain loaded i.file s (no_frames s k.loaded) (in_memory s k.loaded k.room k.has_data) r b in
     let known : Known loaded i.file w = record { group = i.group; grouped = i.grouped; filed = i.filed; ordered = refl; numbers = numbers; world = world; own = legal.symbols.known; resolvers = legal.resolvers; raw = raw } in
     subst (ItemHolds l w m) (sym e) (holds loaded i.file w m s laws known follows (small_section l i.group i.file s numbers i.grouped i.filed i.listed) (page_base w.base l.page_size legal.aligned) p)

@@ -1,8 +1,8 @@
 -- Buffers after bytes are written into them.
-use Rattle.std.proofs.Common.{◌≡◌, ℕ, List, [], ◌∷◌, length, take, refl, sym, ap, ◌∙◌, arith}
+use Rattle.std.proofs.Common.{◌≡◌, ℕ, ◌%◌, ◌^◌, ◌<◌, List, [], ◌∷◌, length, take, refl, sym, ap, ◌∙◌, arith}
 use Rattle.std.specs.Int.{to_le_bytes, w64}
 use Rattle.wild_words.specs.Words.{place, word}
-use Rattle.wild_words.proofs.WordLemmas.{front-place, length-word, low_word_4}
+use Rattle.wild_words.proofs.WordLemmas.{front-place, length-word, low_word_4, word_8}
 use Rattle.wild_loader.specs.StepLawsX86_64.{stub_bytes}
 use Rattle.wild_reloc.specs.declared.info.RelocationKindInfo.{RelocationKindInfo}
 use Rattle.wild_reloc.specs.Agreement.{WidthsHold}
@@ -31,3 +31,9 @@ pub stub_written : (d : ℕ) (bytes out : List ℕ) → bytes ≡ to_le_bytes w6
 stub_written d bytes out e is =
     let low : take 4 bytes ≡ word 4 d = ap (take 4) e ∙ low_word_4 d in
     is ∙ ap (λ (bs : List ℕ). place 7 bs blank) low ∙ stub_placed (word 4 d) (length-word 4 d)
+
+-- the bytes of a number of 64 bits
+pub number_written : (v : ℕ) (bytes : List ℕ) → v < 2 ^ 64 → bytes ≡ to_le_bytes w64 v → bytes ≡ word 8 (v % 2 ^ 64)
+number_written v bytes low e =
+    let same : v ≡ v % 2 ^ 64 = omega (arith, low) in
+    e ∙ word_8 v ∙ ap (word 8) same

@@ -1,14 +1,13 @@
 -- Bytes that memory has in every world.
 --   first_changed t a k bs    the first of bytes from an address on that memory does not have in every world
 --   has_bytes t a bs          memory has these bytes in every world
---   changed_gap m t s n rs    the same for the bytes of a section from offset n on that are in no field
+--   changed_between t s n k  the same for the bytes of a section from offset n to offset k
 use Rattle.std.specs.Prelude.{ℕ, ◌+◌, ◌==◌, Bool, true, false, not, if◌then◌else◌, nat_le, min, length, slice_range, List, [], ◌∷◌, Option, Some, None, is_some}
 use Rattle.wild_types.specs.declared.input.InputRelocation.{InputRelocation}
 use Rattle.wild_types.specs.declared.input.InputSection.{InputSection}
 use Rattle.wild_types.specs.declared.kind.Machine.{Machine}
 use Rattle.wild_types.specs.Rows.{field_bytes}
 use Rattle.wild_terms.specs.Symbolic.{Symbolic, known_byte}
-use Rattle.wild_checker.specs.Search.{or_else}
 
 abbrev pub is_same : Option ℕ → ℕ → Bool
 is_same None b = false
@@ -39,8 +38,3 @@ are_in_order m n (r ∷ rs) = if nat_le n r.offset then are_in_order m (field_en
 -- the first changed byte between two offsets
 abbrev pub changed_between : Symbolic → InputSection → ℕ → ℕ → Option ℕ
 changed_between t s n to = first_changed t s.address n (slice_range s.bytes n (min to (length s.bytes)))
-
--- the first changed byte from offset n on that is in no field
-abbrev pub changed_gap : Machine → Symbolic → InputSection → ℕ → List InputRelocation → Option ℕ
-changed_gap m t s n [] = changed_between t s n (length s.bytes)
-changed_gap m t s n (r ∷ rs) = or_else (changed_between t s n r.offset) (changed_gap m t s (field_end m r) rs)

@@ -5,6 +5,7 @@ pub mod Symbols
 pub mod Threads
 pub mod Slots
 pub mod References
+pub mod Rewritten
 pub mod Sections
 pub mod Outline
 pub mod Segments

@@ -1,8 +1,9 @@
 -- What is decided of an input section.
---   changed_byte m t s        the first byte in no field that memory does not have in every world; fields have to be in order
+--   changed_byte k f s        the first byte in no field and in no rewritten instruction that memory does not have in every world; fields
+--                             have to be in order
 --   doubtful_reference k f s  the first reference that does not hold in every world, or is not decided; of frames and of sections in
 --                             reverse order none is
-use Rattle.std.specs.Prelude.{ℕ, ◌+◌, ◌/◌, ◌%◌, ◌==◌, ◌&&◌, ◌||◌, Bool, true, false, not, if◌then◌else◌, List, [], ◌∷◌, Option, Some, None}
+use Rattle.std.specs.Prelude.{ℕ, ◌+◌, ◌/◌, ◌%◌, ◌==◌, ◌&&◌, ◌||◌, Bool, true, false, not, if◌then◌else◌, List, [], ◌∷◌, length, Option, Some, None, is_some, unwrap_or}
 use Rattle.wild_records.specs.Abi.Relocation.{r_x86_64_none}
 use Rattle.wild_records.specs.Abi.Section.{shf_alloc}
 use Rattle.wild_types.specs.declared.file.File.{File}
@@ -12,10 +13,12 @@ use Rattle.wild_types.specs.declared.input.Slot.{Slot}
 use Rattle.wild_types.specs.declared.input.Slot.TheVariants as slot
 use Rattle.wild_types.specs.declared.kind.Machine.{Machine}
 use Rattle.wild_types.specs.Lookups.{is_frame}
-use Rattle.wild_terms.specs.Symbolic.{Symbolic}
+use Rattle.wild_checker.specs.declared.rewritten.Cursor.{Cursor}
 use Rattle.wild_checker.specs.Loaded.{Loaded}
-use Rattle.wild_checker.specs.Bytes.{are_in_order, changed_gap}
+use Rattle.wild_checker.specs.Bytes.{are_in_order, changed_between}
 use Rattle.wild_checker.specs.References.{reference_holds}
+use Rattle.wild_checker.specs.Rewritten.{next_cursor, first_cursor, rewritten_start}
+use Rattle.wild_checker.specs.Search.{or_else}
 
 abbrev pub is_loaded_slot : Slot → Bool
 is_loaded_slot slot.Loaded = true
@@ -33,19 +36,28 @@ has_frames s = is_frame s.slot && not s.nobits
 abbrev pub is_in_order : Machine → InputSection → Bool
 is_in_order m s = not s.reversed && are_in_order m 0 s.relocations
 
-abbrev pub changed_byte : Machine → Symbolic → InputSection → Option ℕ
-changed_byte m t s = if is_in_memory s && is_in_order m s then changed_gap m t s 0 s.relocations else None
+-- where the bytes that have to be the input's end: at a relocation's field, or at its instruction if that was rewritten
+abbrev pub gap_end : Loaded → File → InputSection → Cursor → InputRelocation → ℕ
+gap_end k f s c r = unwrap_or (rewritten_start k f s c r) r.offset
 
--- the relocation refers to nothing, or holds
-abbrev pub is_settled : Loaded → File → InputSection → InputRelocation → Bool
-is_settled k f s r = r.number == r_x86_64_none || reference_holds k f s r
+-- the first changed byte from a place in the section on that is in no field and in no rewritten instruction
+abbrev pub changed_gap : Loaded → File → InputSection → Cursor → List InputRelocation → Option ℕ
+changed_gap k f s c [] = changed_between k.memory s c.end (length s.bytes)
+changed_gap k f s c (r ∷ rs) = or_else (changed_between k.memory s c.end (gap_end k f s c r)) (changed_gap k f s (next_cursor k.layout.machine c r) rs)
 
--- the position of the first relocation that refers to something and does not hold in every world; positions count from i
-abbrev pub first_doubt : Loaded → File → InputSection → ℕ → List InputRelocation → Option ℕ
-first_doubt k f s i [] = None
-first_doubt k f s i (r ∷ rs) = if is_settled k f s r then first_doubt k f s (i + 1) rs else Some i
+abbrev pub changed_byte : Loaded → File → InputSection → Option ℕ
+changed_byte k f s = if is_in_memory s && is_in_order k.layout.machine s then changed_gap k f s first_cursor s.relocations else None
+
+-- the relocation refers to nothing, holds, or has a rewritten instruction with the required effect
+abbrev pub is_settled : Loaded → File → InputSection → Cursor → InputRelocation → Bool
+is_settled k f s c r = r.number == r_x86_64_none || (is_some (rewritten_start k f s c r) || reference_holds k f s r)
+
+-- the position of the first relocation that is not settled; positions count from i
+abbrev pub first_doubt : Loaded → File → InputSection → Cursor → ℕ → List InputRelocation → Option ℕ
+first_doubt k f s c i [] = None
+first_doubt k f s c i (r ∷ rs) = if is_settled k f s c r then first_doubt k f s (next_cursor k.layout.machine c r) (i + 1) rs else Some i
 
 abbrev pub doubtful_reference : Loaded → File → InputSection → Option ℕ
 doubtful_reference k f s =
     if has_frames s then Some 0
-    else (if is_in_memory s then (if is_in_order k.layout.machine s then first_doubt k f s 0 s.relocations else Some 0) else None)
+    else (if is_in_memory s then (if is_in_order k.layout.machine s then first_doubt k f s first_cursor 0 s.relocations else Some 0) else None)

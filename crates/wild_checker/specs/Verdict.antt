@@ -56,7 +56,9 @@ whole = record { group = 0; file = 0; section = 0; index = 0 }
 
 -- the verdict on an image whose segments to load are the layout's: the first changed byte, else the first reference
 abbrev pub sections_verdict : Layout → Outline → Symbolic → Verdict
-sections_verdict l o t = if l.options.only_keep_debug then No (doubts.Reference whole) else by_byte (record { layout = l; outline = o; memory = t; ordered = are_ordered l }) (in_groups (λ f. changed_byte l.machine t) 0 l.groups)
+sections_verdict l o t =
+    let k : Loaded = record { layout = l; outline = o; memory = t; ordered = are_ordered l } in
+    if l.options.only_keep_debug then No (doubts.Reference whole) else by_byte k (in_groups (changed_byte k) 0 l.groups)
 
 abbrev pub by_segment : Layout → Outline → Symbolic → Option ℕ → Verdict
 by_segment l o t None = sections_verdict l o t

@@ -1,6 +1,6 @@
-//! Bytes of input sections that are in no field.
+//! Bytes that memory has in every world.
 ghost use Rattle.std.specs.Prelude.{◌≡◌, ◌+◌, ◌^◌, ◌<◌, length};
-ghost use Rattle.wild_checker.specs.Bytes.{is_byte, first_changed, has_bytes, field_end, are_in_order, changed_between, changed_gap};
+ghost use Rattle.wild_checker.specs.Bytes.{is_byte, first_changed, has_bytes, field_end, are_in_order, changed_between};
 
 use wild_terms::TermMemory;
 use wild_types::{InputRelocation, InputSection, Machine, field_bytes};
@@ -58,7 +58,7 @@ pub(crate) fn are_in_order(machine: Machine, relocations: &[InputRelocation]) ->
 }
 
 /// The first changed byte of a section between two offsets.
-fn changed_between(
+pub(crate) fn changed_between(
     memory: &TermMemory,
     section: &InputSection,
     from: u128,
@@ -73,22 +73,4 @@ fn changed_between(
     }
     let start = from as usize;
     first_changed(memory, section.address, start, &bytes[start..end])
-}
-
-/// The first changed byte of a section that is in no field.
-pub(crate) fn changed_gap(
-    machine: Machine,
-    memory: &TermMemory,
-    section: &InputSection,
-) -> Option<usize>
-    ensures { result ≡ changed_gap machine memory.now section.now 0 section.now.relocations }
-{
-    let mut end = 0;
-    for relocation in section.relocations.as_slice() {
-        if let Some(k) = changed_between(memory, section, end, relocation.offset as u128) {
-            return Some(k);
-        }
-        end = field_end(machine, relocation);
-    }
-    changed_between(memory, section, end, section.bytes.len() as u128)
 }

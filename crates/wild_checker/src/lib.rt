@@ -2,11 +2,13 @@
 #![tactic(auto)]
 
 mod bytes;
+mod instructions;
 mod laws;
 mod loaded;
 mod outline;
 mod question;
 mod references;
+mod rewritten;
 mod sections;
 mod segments;
 mod slots;

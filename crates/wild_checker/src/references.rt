@@ -87,7 +87,7 @@ fn referent_term(loaded: &LoadedRef, file: &File, relocation: &InputRelocation) 
 }
 
 /// A, modulo 2^64.
-fn addend(relocation: &InputRelocation) -> u64
+pub(crate) fn addend(relocation: &InputRelocation) -> u64
     ensures { result ≡ addend_of relocation.now }
 {
     relocation.addend.cast_unsigned()
@@ -199,7 +199,7 @@ fn named_slot(
 }
 
 /// Whether code of an output holds offsets in place of references to descriptors.
-fn knows_offsets(machine: Machine, kind: OutputKind, relax: bool) -> bool
+pub(crate) fn knows_offsets(machine: Machine, kind: OutputKind, relax: bool) -> bool
     ensures { result ≡ knows_offsets machine kind relax }
 {
     match (machine, kind) {

@@ -57,10 +57,6 @@ fn sections_verdict(layout: &Layout, outline: &Outline, memory: &TermMemory) -> 
         return Verdict::No(Doubt::Reference(WHOLE));
     }
     let groups = layout.groups.as_slice();
-    let machine = layout.machine;
-    if let Some(site) = ask_groups(&ChangedByte { machine, memory }, groups) {
-        return Verdict::No(Doubt::Byte(site));
-    }
     let ordered = are_ordered(layout);
     let loaded = LoadedRef {
         layout,
@@ -68,6 +64,9 @@ fn sections_verdict(layout: &Layout, outline: &Outline, memory: &TermMemory) -> 
         memory,
         ordered,
     };
+    if let Some(site) = ask_groups(&ChangedByte { loaded }, groups) {
+        return Verdict::No(Doubt::Byte(site));
+    }
     match ask_groups(&DoubtfulReference { loaded }, groups) {
         Some(site) => Verdict::No(Doubt::Reference(site)),
         None => Verdict::Yes,

@@ -37,7 +37,7 @@ pub section_left : (l : Layout) (s : InputSection) → is_read s ≡ true → se
 unfolding section_general_bytes section_generals dynamic_relocations dynamic_relocation_bytes dynamic_relocation_in
 section_left l s h = rw h (kept (λ r. has_dynamic_entry (treatment l s.flags r)) (dynamic_relocation l s.address s.flags) s.relocations)
 
-section_unread : (l : Layout) (s : InputSection) → is_read s ≡ false → section_general_bytes l s ≡ []
+pub section_unread : (l : Layout) (s : InputSection) → is_read s ≡ false → section_general_bytes l s ≡ []
 unfolding section_general_bytes section_generals dynamic_relocations
 section_unread l s h = rw h refl
 

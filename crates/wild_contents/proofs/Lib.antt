@@ -14,3 +14,5 @@ pub mod FileLemmas
 pub mod NoteLemmas
 pub mod SearchTableLemmas
 pub mod ThunkLemmas
+pub mod FrameCursorLemmas
+pub mod NoEntryLemmas

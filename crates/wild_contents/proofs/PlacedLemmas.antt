@@ -23,7 +23,7 @@ use Rattle.wild_types.specs.Lists.{total}
 use Rattle.wild_types.specs.FileRoles.{is_prelude}
 use Rattle.wild_types.specs.FileSymbols.{copies_of}
 use Rattle.wild_types.specs.Kinds.{is_partial_link}
-use Rattle.wild_types.specs.Lookups.{is_frame}
+use Rattle.wild_types.specs.Lookups.{is_frame, is_loaded}
 use Rattle.wild_frames.specs.Frames.{frame_bytes}
 use Rattle.wild_needs.specs.declared.table.SymtabName.{SymtabName}
 use Rattle.wild_needs.specs.declared.table.SymtabName.TheVariants as named
@@ -81,6 +81,20 @@ room_by l f at s slot.Group e = rw e refl
 pub room_of_placed : (l : Layout) (f : File) (at : ℕ) (s : InputSection) → frame_room (placed_section l f at s) ≡ kept_size l f s
 unfolding placed_section kept_size
 room_of_placed l f at s = room_by l f at s s.slot refl
+
+loaded_unchanged : (k : Slot) (l : Layout) (f : File) (at : ℕ) (s : InputSection) → is_loaded k ≡ true → s.reversed ≡ false → is_partial_link l.kind ≡ false → placed_by k l f at s ≡ s
+unfolding with_word_order
+loaded_unchanged slot.Loaded l f at s k h p = rw (p, h) refl
+loaded_unchanged other l f at s k h p = cc
+
+-- a loaded section is placed as it is, unless its words are reversed or its relocations are in a table
+pub placed_unchanged : (l : Layout) (s : InputSection) → is_loaded s.slot ≡ true → s.reversed ≡ false → is_partial_link l.kind ≡ false → (f : File) (at : ℕ) → placed_section l f at s ≡ s
+unfolding placed_section
+placed_unchanged l s k h p f at = loaded_unchanged s.slot l f at s k h p
+
+-- so it gives what it gives as the plan has it
+pub given_unchanged : (r : Role) (l : Layout) (f : File) (at : ℕ) (s : InputSection) (old now : List ℕ) → ((g : File) (a : ℕ) → placed_section l g a s ≡ s) → now ≡ old ++ section_given r l s → now ≡ old ++ section_given r l (placed_section l f at s)
+given_unchanged r l f at s old now same is = is ∙ ap (λ (x : InputSection). old ++ section_given r l x) (sym (same f at))
 
 -- one more section of those to come
 pub placed_sections_more : {Y : Type 0} (G : InputSection → List Y) (l : Layout) (f : File) (at : ℕ) (ss : List InputSection) (i : ℕ) (s : InputSection) (now next whole : List Y) → i < length ss → s ≡ get_or ss i s → now ++ flat_map G (placed_sections l f at (drop i ss)) ≡ whole → next ≡ now ++ G (placed_section l f at s)

@@ -6,3 +6,5 @@ pub mod Notes
 pub mod FileTables
 pub mod SearchTable
 pub mod Walks
+pub mod FrameCursor
+pub mod NoEntries

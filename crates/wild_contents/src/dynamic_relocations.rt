@@ -11,6 +11,7 @@ ghost use Rattle.wild_contents.specs.General.{dynamic_relocation_in, dynamic_rel
 use crate::part_bytes::PartBytes;
 use crate::relative_entries::add_entry;
 use std::alloc::AllocError;
+use wild_needs::has_dynamic_entry;
 use wild_records::Rela;
 use wild_relax::Arch;
 use wild_reloc::DynamicRelocationKind;
@@ -37,9 +38,9 @@ fn index_or_zero(layout: &Layout, symbol: SymbolIndex) -> u64
     index_of(layout, symbol).unwrap_or(0)
 }
 
-/// The entry of a relocation, if the dynamic linker computes its field.
+/// The entry of a relocation, if its treatment is one that the dynamic linker computes.
 #[tactic(auto, unfolding(crate::specs::General::dynamic_relocation_in))]
-fn dynamic_relocation(
+fn entry_by_treatment(
     layout: &Layout,
     section: &InputSection,
     relocation: &InputRelocation,
@@ -64,6 +65,21 @@ fn dynamic_relocation(
         }
         _ => None,
     }
+}
+
+/// The entry of a relocation, if the dynamic linker computes its field. Most relocations have none by their type or symbol.
+#[tactic(auto, unfolding(crate::specs::General::dynamic_relocation_in))]
+fn dynamic_relocation(
+    layout: &Layout,
+    section: &InputSection,
+    relocation: &InputRelocation,
+) -> Option<Rela>
+    ensures { result ≡ dynamic_relocation_in layout.now section.now relocation.now }
+{
+    if !has_dynamic_entry(layout, section, relocation) {
+        return None;
+    }
+    entry_by_treatment(layout, section, relocation)
 }
 
 /// Appends the entry of a relocation, if the dynamic linker computes its field.

@@ -11,12 +11,13 @@ ghost use Rattle.wild_placement.specs.PlacedSections.{file_frames, address_after
 ghost use Rattle.wild_layout.specs.SearchTable.{code_at, section_fdes, sections_fdes, group_fdes, layout_fdes, address_of_role};
 ghost use Rattle.wild_contents.specs.SearchTable.{found_fdes, IsSearchTable};
 
+use crate::frame_cursor::FrameCursor;
 use crate::part_bytes::PartBytes;
 use std::alloc::{AllocError, Global};
 use wild_frames::{
     Fde, Found, FrameSource, Sorter, TableError, Walk, walk_continues, write_search_table,
 };
-use wild_placement::{FileFrames, frames_at, kept_size};
+use wild_placement::FileFrames;
 use wild_records::{EhFrameHdr, EhFrameHdrEntry};
 use wild_relax::Arch;
 use wild_sections::{Resolved, raw_address, value_or_0};
@@ -104,21 +105,23 @@ fn add_from<A: Arch>(
     }
 }
 
-/// Appends the FDEs of a section of frames that begin at an address.
+/// Appends the FDEs of a section. If it is one of frames, they begin at the address of `cursor`.
 #[tactic(auto, using(crate::proofs::SearchTableLemmas::frames_added, crate::proofs::SearchTableLemmas::frames_bad, crate::proofs::SearchTableLemmas::frames_none))]
 fn add_frames<A: Arch>(
     alloc: Global,
     resolved: &Resolved<A>,
     file: &File,
-    at: u64,
     section: &InputSection,
+    cursor: &mut FrameCursor<'_>,
     fdes: &mut Vec<Fde>,
 ) -> Result<(), AllocError>
-    ensures { OnOk result (fdes.new.items ≡ fdes.old.items ++ section_fdes resolved.now.layout.now file.now at section.now) }
+    ensures fdes { OnOk result (fdes.new.items ≡ fdes.old.items ++ section_fdes resolved.now.layout.now file.now cursor.old section.now) }
+    ensures cursor { cursor.new ≡ cursor.old }
 {
     if !section.slot.is_frame() {
         return Ok(());
     }
+    let at = cursor.address();
     let frames = FileFrames {
         layout: resolved.layout,
         file,
@@ -130,39 +133,59 @@ fn add_frames<A: Arch>(
     }
 }
 
-/// Appends the FDEs of a file whose frames begin at an address; returns the address after them.
-#[tactic(auto, using(crate::proofs::SearchTableLemmas::section_more, crate::proofs::SearchTableLemmas::section_done, crate::proofs::PlacedLemmas::reach_more, crate::proofs::PlacedLemmas::reach_done))]
-fn add_file<A: Arch>(
+/// Appends the FDEs of a section, and moves `cursor` past it.
+fn add_section<'a, A: Arch>(
     alloc: Global,
-    resolved: &Resolved<A>,
-    file: &File,
-    at: u64,
+    resolved: &Resolved<'a, A>,
+    file: &'a File,
+    section: &'a InputSection,
+    cursor: &mut FrameCursor<'a>,
     fdes: &mut Vec<Fde>,
-) -> Result<u64, AllocError>
-    ensures fdes { OnOk result (fdes.new.items ≡ fdes.old.items ++ sections_fdes resolved.now.layout.now file.now at file.now.sections) }
-    ensures next { IfOk result (λ n. n ≡ address_after at (file_frames resolved.now.layout.now file.now)) }
+) -> Result<(), AllocError>
+    ensures fdes { OnOk result (fdes.new.items ≡ fdes.old.items ++ section_fdes resolved.now.layout.now file.now cursor.old section.now) }
+    ensures next { OnOk result (cursor.new ≡ address_after cursor.old (kept_size resolved.now.layout.now file.now section.now)) }
 {
-    let mut next = at;
+    add_frames(alloc, resolved, file, section, cursor, fdes)?;
+    cursor.pass(FileFrames {
+        layout: resolved.layout,
+        file,
+        section,
+    });
+    Ok(())
+}
+
+/// Appends the FDEs of a file, and moves `cursor` past it.
+#[tactic(auto, using(crate::proofs::SearchTableLemmas::section_more, crate::proofs::SearchTableLemmas::section_done, crate::proofs::PlacedLemmas::reach_more, crate::proofs::PlacedLemmas::reach_done))]
+fn add_file<'a, A: Arch>(
+    alloc: Global,
+    resolved: &Resolved<'a, A>,
+    file: &'a File,
+    cursor: &mut FrameCursor<'a>,
+    fdes: &mut Vec<Fde>,
+) -> Result<(), AllocError>
+    ensures fdes { OnOk result (fdes.new.items ≡ fdes.old.items ++ sections_fdes resolved.now.layout.now file.now cursor.old file.now.sections) }
+    ensures next { OnOk result (cursor.new ≡ address_after cursor.old (file_frames resolved.now.layout.now file.now)) }
+{
     for section in file.sections.as_slice() {
-        add_frames(alloc, resolved, file, next, section, fdes)?;
-        next = next.wrapping_add(kept_size(resolved.layout, file, section));
+        add_section(alloc, resolved, file, section, cursor, fdes)?;
     }
-    Ok(next)
+    cursor.fits();
+    Ok(())
 }
 
 /// Appends the FDEs of a group.
 #[tactic(auto, using(crate::proofs::SearchTableLemmas::file_more, crate::proofs::SearchTableLemmas::file_done))]
-fn add_group<A: Arch>(
+fn add_group<'a, A: Arch>(
     alloc: Global,
-    resolved: &Resolved<A>,
-    group: &Group,
+    resolved: &Resolved<'a, A>,
+    group: &'a Group,
     fdes: &mut Vec<Fde>,
 ) -> Result<(), AllocError>
     ensures { OnOk result (fdes.new.items ≡ fdes.old.items ++ group_fdes resolved.now.layout.now group.now) }
 {
-    let mut next = frames_at(resolved.layout, group);
+    let mut cursor = FrameCursor::new(resolved.layout, group);
     for file in group.files.as_slice() {
-        next = add_file(alloc, resolved, file, next, fdes)?;
+        add_file(alloc, resolved, file, &mut cursor, fdes)?;
     }
     Ok(())
 }

@@ -15,7 +15,7 @@ use wild_explain_reasons::{
 use wild_image::{Threaded, write_layout};
 use wild_plan::{Error, Fault, Layout};
 use wild_program::{LINKED, NO_PLAN, REFUSED};
-use wild_text::{PlanFault, no_plan_answer, read_plan, refusal_answer};
+use wild_text::{InputFault, no_plan_answer, read_plan, refusal_answer};
 
 /// The status and the text for a fault, with its reason, and those of other faults if all are asked for; out of memory has none.
 fn refusal_of(
@@ -128,7 +128,10 @@ fn layout_answer(
 const SHOWN: usize = 80;
 
 /// What a plan has at a path: a short text, a number or a flag as it is, of anything else its type.
-fn found_at(alloc: Global, value: &Value, path: &str) -> Result<String, AllocError> {
+fn found_at(alloc: Global, bytes: &[u8], path: &str) -> Result<String, AllocError> {
+    let Ok(value) = Value::from_slice(alloc, bytes) else {
+        return Err(AllocError);
+    };
     match value.pointer(path) {
         Some(Value::String(text)) if text.len() > SHOWN => String::from_str(alloc, "a longer text"),
         Some(found) if !found.is_array() && !found.is_object() => found.to_string(alloc),
@@ -138,12 +141,12 @@ fn found_at(alloc: Global, value: &Value, path: &str) -> Result<String, AllocErr
     }
 }
 
-/// The text for a value whose first wrong member has that path.
-fn no_plan_reason(alloc: Global, value: &Value, path: &str) -> Result<String, AllocError>
+/// The text for a plan whose first wrong member has that path.
+fn no_plan_reason(alloc: Global, bytes: &[u8], path: &str) -> Result<String, AllocError>
     ensures { IfOk result (λ s. Begins (no_plan_text path.now) (string_bytes s)) }
 {
     let line = no_plan_answer(alloc, path)?;
-    let found = found_at(alloc, value, path)?;
+    let found = found_at(alloc, bytes, path)?;
     let mut reason = String::new(alloc);
     push_no_plan(&mut reason, path, found.as_str())?;
     let text = join_lines(alloc, line.as_str(), reason.as_str())?;
@@ -151,8 +154,14 @@ fn no_plan_reason(alloc: Global, value: &Value, path: &str) -> Result<String, Al
 }
 
 /// Where a text is no JSON.
-fn json_reason(alloc: Global, line: usize, column: usize) -> Result<String, AllocError> {
-    format!(in alloc; "what: the text is no JSON\nwhere: line {line}, column {column}\n")
+fn json_reason(alloc: Global, bytes: &[u8]) -> Result<String, AllocError> {
+    match Value::from_slice(alloc, bytes) {
+        Err(e) if !e.is_memory() => {
+            let (line, column) = (e.line(), e.column());
+            format!(in alloc; "what: the text is no JSON\nwhere: line {line}, column {column}\n")
+        }
+        _ => Err(AllocError),
+    }
 }
 
 /// The status and the text for the bytes of a plan.
@@ -164,22 +173,16 @@ pub(crate) fn plan_answer(
 ) -> Result<(u8, String), AllocError>
     ensures { IfOk result (λ a. IsAnswerOf bytes.now command a.0 (string_bytes a.1)) }
 {
-    let value = match Value::from_slice(alloc, bytes) {
-        Ok(value) => value,
-        Err(e) => {
-            if e.is_memory() {
-                return Err(AllocError);
-            }
-            let reason = json_reason(alloc, e.line(), e.column())?;
+    let layout = match read_plan(alloc, bytes) {
+        Ok(layout) => layout,
+        Err(InputFault::OutOfMemory) => return Err(AllocError),
+        Err(InputFault::NoJson) => {
+            let reason = json_reason(alloc, bytes)?;
             let text = join_lines(alloc, "not a plan: json\n", reason.as_str())?;
             return Ok((NO_PLAN, text));
         }
-    };
-    let layout = match read_plan(alloc, &value) {
-        Ok(layout) => layout,
-        Err(PlanFault::OutOfMemory) => return Err(AllocError),
-        Err(PlanFault::At(path)) => {
-            let text = no_plan_reason(alloc, &value, path.as_str())?;
+        Err(InputFault::At(path)) => {
+            let text = no_plan_reason(alloc, bytes, path.as_str())?;
             return Ok((NO_PLAN, text));
         }
     };

@@ -115,12 +115,12 @@ loaded_item l item s kind laid k e is =
     }
 
 -- the last file of the layout
-record LastFile (gs : List Group) : Type 0 where
-  group : Group
-  grouped : Contains gs group
-  file : File
-  filed : Contains group.files file
-  last : is_epilogue file.role ≡ true
+pub record LastFile (gs : List Group) : Type 0 where
+  pub group : Group
+  pub grouped : Contains gs group
+  pub file : File
+  pub filed : Contains group.files file
+  pub last : is_epilogue file.role ≡ true
 
 is_last : (b : Bool) → bool_eq b true ≡ true → b ≡ true
 is_last true h = refl
@@ -161,7 +161,7 @@ groups_last first i (g ∷ (x ∷ xs)) some h =
       | inr n ↦ absurd (let no : Some i ≡ None = rw n at h in cc)
     ]
 
-last_file : (l : Layout) → IsLaidOut l → LastFile l.groups
+pub last_file : (l : Layout) → IsLaidOut l → LastFile l.groups
 last_file l laid = groups_last true 0 l.groups laid.some_group laid.files
 
 -- a sorted section, which stands with the last file

@@ -169,7 +169,7 @@ groups_once xs (g ∷ gs) h some =
     ]
 
 -- what is the first file's is given once
-once_by_file : (l : Layout) → first_misplaced_file true 0 l.groups ≡ None → 1 ≤ length l.groups → flat_map (λ (f : File). of_first_file f (merged_and_identity_pieces l)) (files_of l.groups) ≡ merged_and_identity_pieces l
+pub once_by_file : (l : Layout) → first_misplaced_file true 0 l.groups ≡ None → 1 ≤ length l.groups → flat_map (λ (f : File). of_first_file f (merged_and_identity_pieces l)) (files_of l.groups) ≡ merged_and_identity_pieces l
 once_by_file l h some = flat_map-flat_map (λ (f : File). of_first_file f (merged_and_identity_pieces l)) (λ (g : Group). g.files) l.groups ∙ groups_once (merged_and_identity_pieces l) l.groups h some
 
 -- what is known of all that files own

@@ -1,5 +1,5 @@
 -- What the groups give to the parts lies in the image, each piece apart from the others.
-use Rattle.std.proofs.Common.{◌≡◌, ℕ, zero, suc, ◌+◌, ◌<◌, ◌≤◌, inl, inr, ◌==◌, Bool, true, false, not, if◌then◌else◌, List, [], ◌∷◌, length, get_or, All, AllPairs, Contains, Some, slice_get, flat_map, refl, sym, ap, ◌∙◌, arith, subst}
+use Rattle.std.proofs.Common.{◌≡◌, ℕ, zero, suc, ◌+◌, ◌<◌, ◌≤◌, inl, inr, ◌==◌, Bool, true, false, not, if◌then◌else◌, List, [], ◌∷◌, length, map, get_or, All, AllPairs, Contains, Some, slice_get, flat_map, refl, sym, ap, ◌∙◌, arith, subst}
 use Rattle.std.proofs.lemmas.Bool.{cases_Bool, cases_order, and_parts, and_from, or_cases, leb-true, eqb-true, eqb-false}
 use Rattle.std.proofs.lemmas.Option.{slice_get-get_or, same_Some}
 use Rattle.wild_words.proofs.ListLemmas.{All-flat_map, All-optional}
@@ -9,7 +9,7 @@ use Rattle.wild_types.specs.declared.part.Part.{Part}
 use Rattle.wild_types.specs.declared.part.Role.TheVariants as role
 use Rattle.wild_types.specs.declared.file.Group.{Group}
 use Rattle.wild_types.specs.declared.layout.Layout.{Layout}
-use Rattle.wild_types.specs.Lookups.{is_filled, has_data, is_header_only_at, image_size}
+use Rattle.wild_types.specs.Lookups.{is_filled, has_data, is_header_only_at, image_size, files_of}
 use Rattle.wild_types.specs.FilePlaces.{given}
 use Rattle.wild_types.specs.Parts.{role_place, has_role}
 use Rattle.wild_types.proofs.ListLemmas.{total-prefix}
@@ -29,7 +29,7 @@ use Rattle.wild_geometry.proofs.StandingLemmas.{all_sections, sorted_loaded}
 use Rattle.wild_geometry.proofs.SectionLemmas.{each_known, sorted_known, Runs}
 use Rattle.wild_geometry.proofs.PieceLemmas.{All-written, AllPairs-written, parts_apart, owner_at, offset_is, stood_room, Standing, section_rooms_apart, InImage, section_rooms_within}
 use Rattle.wild_geometry.proofs.LongSections.{each_tabled}
-use Rattle.wild_geometry.proofs.Rooms.{DoNotOverlap, room_of, section_room, place_of_known, place_of_sorted, rooms_stand}
+use Rattle.wild_geometry.proofs.Rooms.{DoNotOverlap, room_of, section_room, file_rooms, place_of_known, place_of_sorted, rooms_stand}
 use Rattle.wild_geometry.proofs.ThunkRuns.{all_thunks}
 use Rattle.wild_geometry.proofs.ThunkLemmas.{SectionsStand, ThunksStand, thunk_room, each_thunk}
 use Rattle.wild_geometry.proofs.FrontLemmas.{Front, fronts, FrontStands, All-some, AllPairs-some, front_at, front_is, each_front, FrontsStand-from_clauses}
@@ -214,12 +214,17 @@ given_within l h =
     let in_image = EndsBy-image l i p li one.takes (omega arith) in
     omega arith))
 
+-- the rooms of all that files own are where their pieces are
+pub places_from_clauses : (l : Layout) → AllClausesHold l → map extent_of (flat_map (file_rooms l) (files_of l.groups)) ≡ map extent_of (flat_map (owned_pieces l) l.groups)
+places_from_clauses l laid =
+    rooms_stand l (λ i g m j f n k s o. place_of_known l (get_or (get_or l.groups i g).files j f) (get_or (get_or (get_or l.groups i g).files j f).sections k s) (each_known l laid i g m j f n k s o) (each_tabled l laid i g m j f n k s o)) (λ i x m. place_of_sorted l (get_or (sorted_inputs l) i x) (sorted_known l laid i x m) (sorted_loaded l i x m))
+
 -- what is known of all that files own
 owned_from_clauses : (l : Layout) → AllClausesHold l → SectionsStand l → ThunksStand l → Owned l
 owned_from_clauses l laid stood thunks = record {
   laid = laid;
   follow = (PartsFollow-from_order l 0 0 l.parts laid.order).pairs;
-  places = rooms_stand l (λ i g m j f n k s o. place_of_known l (get_or (get_or l.groups i g).files j f) (get_or (get_or (get_or l.groups i g).files j f).sections k s) (each_known l laid i g m j f n k s o) (each_tabled l laid i g m j f n k s o)) (λ i x m. place_of_sorted l (get_or (sorted_inputs l) i x) (sorted_known l laid i x m) (sorted_loaded l i x m));
+  places = places_from_clauses l laid;
   first = laid.shares.files;
   some = laid.counts.some_group;
   stood = stood;

@@ -5,3 +5,4 @@ pub mod Slots
 pub mod Thunks
 pub mod PlacedSections
 pub mod Carried
+pub mod OwnedBytes

@@ -1,5 +1,4 @@
 pub mod PaddingLemmas
-pub mod GapLemmas
 pub mod ChangedLemmas
 pub mod CountLemmas
 pub mod PairLemmas

@@ -1,14 +1,15 @@
 -- Laws of the whole image, and of all faults.
-use Rattle.std.proofs.Common.{◌≡◌, ℕ, ◌+◌, ◌^◌, ◌<◌, ◌≤◌, ◌-◌, inl, inr, All, nat_le, List, [], ◌∷◌, ◌++◌, length, take, Result, Ok, Err, refl, sym, ap, ◌∙◌, arith, subst, nat_lt}
-use Rattle.std.specs.Prelude.{Contains, IfOk, Some, slice_get}
-use Rattle.std.proofs.lemmas.List.{take_all}
+use Rattle.std.proofs.Common.{◌≡◌, ℕ, ◌+◌, ◌^◌, ◌<◌, ◌≤◌, ◌-◌, inl, inr, All, nat_le, List, [], ◌∷◌, ◌++◌, length, take, drop, Result, Ok, Err, refl, sym, ap, ◌∙◌, arith, subst, nat_lt}
+use Rattle.std.specs.Prelude.{Contains, IfOk, Some, slice_get, slice_index, min}
+use Rattle.std.proofs.lemmas.List.{take_all, take_min, take-append-le, length-append, length-drop, get_or_append_left, get_or-append_right, get_or-drop}
 use Rattle.std.proofs.lemmas.Option.{get_or_from_slice_get, slice_get_within}
-use Rattle.std.proofs.lemmas.Bool.{cases_Bool, and_parts, ltb-true}
+use Rattle.std.proofs.lemmas.Bool.{cases_Bool, cases_lt, and_parts, ltb-true}
 use Rattle.wild_words.specs.Overlay.{Piece, overlay, AreDisjoint}
 use Rattle.wild_words.proofs.Basics.{All-each}
 use Rattle.wild_words.proofs.OverlayLemmas.{length-overlay}
 use Rattle.wild_types.specs.declared.file.Group.{Group}
 use Rattle.wild_types.specs.Lookups.{image_size}
+use Rattle.wild_geometry.specs.OwnedBytes.{IsPadded}
 use Rattle.wild_geometry.proofs.InterleaveLemmas.{Contains-flat_map_from}
 use Rattle.std.specs.List.{flat_map}
 use Rattle.wild_image.specs.Batches.{AreBatches, batch_errors, batch_pieces}
@@ -82,10 +83,6 @@ role_address l laid r = address_by r l.parts (λ i d low. (laid.parts i d low).a
 abbrev IsWithin : ℕ → Piece → Type 0
 IsWithin n p = p.at + length p.bytes ≤ n
 
-pieces_within : (l : Layout) → IsLaidOut l → All (IsWithin (length (padding l))) (flat_map_from (group_pieces l) 0 l.groups)
-unfolding pieces
-pieces_within l laid = subst (λ (n : ℕ). All (IsWithin n) (pieces l)) (sym (length-padding l)) laid.owners.within
-
 -- those of one group
 group_within : (l : Layout) (i n : ℕ) (g : Group) → IsLaidOut l → slice_get l.groups i ≡ Some g → n ≡ image_size l → All (IsWithin n) (group_pieces l i g)
 unfolding pieces
@@ -101,15 +98,41 @@ group_within l i n g laid at same =
 pub group_written : (l : Layout) (i : ℕ) (g : Group) (old new : List ℕ) → IsLaidOut l → slice_get l.groups i ≡ Some g → length old ≡ image_size l → new ≡ overlay_prefix (group_pieces l i g) old → new ≡ overlay (group_pieces l i g) old
 group_written l i g old new laid at long e = e ∙ overlay_whole (group_pieces l i g) old (group_within l i (length old) g laid at long)
 
--- the first bytes of the padding and of the groups are those of the image
-prefix_is : (l : Layout) (n : ℕ) (out : List ℕ) → IsLaidOut l → out ≡ overlay_prefix (flat_map_from (group_pieces l) 0 l.groups) (take n (padding l)) → out ≡ take n (bytes l)
-unfolding bytes pieces
-prefix_is l n out laid e = e ∙ overlay_taken n (flat_map_from (group_pieces l) 0 l.groups) (padding l) (pieces_within l laid)
+-- with the padding after them, bytes that are padded are padded
+padded_on : (l : Layout) (n : ℕ) (out : List ℕ) → n ≤ image_size l → IsPadded l n out → IsPadded l (image_size l) (out ++ drop n (padding l))
+padded_on l n out fits padded =
+    let long = padded.long in
+    let size = length-padding l in
+    record {
+      long = length-append out (drop n (padding l)) ∙ ap (λ (m : ℕ). length out + m) (length-drop n (padding l)) ∙ omega (arith, long, size, fits);
+      free = λ k low free. elim (cases_lt k n) [
+        | inl first ↦ get_or_append_left out (drop n (padding l)) 0 k (omega (arith, first, long)) ∙ padded.free k first free
+        | inr later ↦
+            (let e : n + (k - n) ≡ k = omega (arith, later) in
+            get_or-append_right out (drop n (padding l)) n k 0 long later ∙ get_or-drop n (padding l) (k - n) 0 ∙ ap (slice_index (padding l)) e)
+      ];
+    }
+
+-- the pieces of the groups written over first bytes that are padded are the first bytes of the image
+prefix_is : (l : Layout) (n : ℕ) (old new : List ℕ) → IsLaidOut l → ((base : List ℕ) → IsPadded l (image_size l) base → overlay (pieces l) base ≡ bytes l) → IsPadded l (min (image_size l) n) old → new ≡ overlay_prefix (flat_map_from (group_pieces l) 0 l.groups) old → new ≡ take n (bytes l)
+unfolding pieces
+prefix_is l n old new laid written padded e =
+    let m = min (image_size l) n in
+    let base = old ++ drop m (padding l) in
+    let based = padded_on l m old (omega arith) padded in
+    let long = padded.long in
+    let front : take m base ≡ old = take-append-le m old (drop m (padding l)) (omega (arith, long)) ∙ take_all m old (omega (arith, long)) in
+    let within = subst (λ (k : ℕ). All (IsWithin k) (pieces l)) (sym based.long) laid.owners.within in
+    let apart : AreDisjoint (length base) (pieces l) = subst (λ (k : ℕ). AreDisjoint k (pieces l)) (sym based.long) laid.owners in
+    let size : length (bytes l) ≡ image_size l = ap length (sym (written base based)) ∙ length-overlay (pieces l) base apart ∙ based.long in
+    e ∙ ap (overlay_prefix (pieces l)) (sym front) ∙ overlay_taken m (pieces l) base within ∙ ap (take m) (written base based)
+    ∙ ap (λ (k : ℕ). take k (bytes l)) (omega (arith, size)) ∙ take_min n (bytes l)
 
 -- the same, with the pieces of the batches
-pub prefix_of_batches : (l : Layout) (n : ℕ) (bs : List Batch) (old new : List ℕ) → IsLaidOut l → AreBatches l.groups bs → old ≡ take n (padding l) → new ≡ overlay_prefix (flat_map (batch_pieces l) bs) old → new ≡ take n (bytes l)
-prefix_of_batches l n bs old new laid cut padded e =
-    prefix_is l n new laid (e ∙ ap (λ (ps : List Piece). overlay_prefix ps old) (sym (joined (group_pieces l) 0 l.groups bs (cut_of l.groups bs cut))) ∙ ap (overlay_prefix (flat_map_from (group_pieces l) 0 l.groups)) padded)
+pub prefix_of_batches : (l : Layout) (n : ℕ) (bs : List Batch) (old new : List ℕ) → IsLaidOut l → ((base : List ℕ) → IsPadded l (image_size l) base → overlay (pieces l) base ≡ bytes l) → AreBatches l.groups bs → IsPadded l (min (image_size l) n) old
+    → new ≡ overlay_prefix (flat_map (batch_pieces l) bs) old → new ≡ take n (bytes l)
+prefix_of_batches l n bs old new laid written cut padded e =
+    prefix_is l n old new laid written padded (e ∙ ap (λ (ps : List Piece). overlay_prefix ps old) (sym (joined (group_pieces l) 0 l.groups bs (cut_of l.groups bs cut))))
 
 -- the first fault of the batches is that of the groups
 pub batches_refused : (l : Layout) (bs : List Batch) (e : Error) → AreBatches l.groups bs → Refuses e (flat_map (batch_errors l) bs) → Refuses e (flat_map_from (group_errors l) 0 l.groups)

@@ -1,6 +1,5 @@
 pub mod Append
 pub mod Padding
-pub mod Gaps
 pub mod Batches
 pub mod Jobs
 pub mod RelocationCounts

@@ -4,7 +4,6 @@
 mod append;
 mod batch;
 mod buffer;
-mod gaps;
 mod group_writer;
 mod job;
 mod layout_facts;

@@ -25,7 +25,7 @@ use wild_clauses::{LayoutSurvey, well_formed_with};
 use wild_contents::make_search_table;
 use wild_crew::{Gate, OpenGate};
 use wild_debug::Workers;
-use wild_geometry::layouts_are_laid_out;
+use wild_geometry::{layouts_are_laid_out, owned_bytes_are_written};
 use wild_needs::elf_entry_address;
 use wild_relax::{Arch, ElfAArch64, ElfX86_64};
 use wild_sections::{Resolved, SymbolTables};
@@ -76,6 +76,8 @@ fn write_bytes<A: Arch>(
     size: u64,
 ) -> Result<Vec<u8>, Error>
     requires machine { layout.now.machine ≡ A.machine }
+    requires clauses { first_clause layout.now ≡ Ok tt }
+    requires shares { flat_map_from (part_errors layout.now) 0 layout.now.parts ≡ [] }
     requires laid_out { IsLaidOut layout.now }
     requires few { length layout.now.groups < 2 ^ 32 }
     requires batches { AreBatches layout.now.groups batches.now }
@@ -84,6 +86,7 @@ fn write_bytes<A: Arch>(
     ensures faults { Answers result (flat_map_from (group_errors layout.now) 0 layout.now.groups) }
     ensures image { IfOk result (λ v. v.items ≡ take size (bytes layout.now)) }
 {
+    owned_bytes_are_written();
     let mut starts = vec![in alloc; 0u64; layout.parts.len()]?;
     let mut out = padded_prefix(alloc, layout, size)?;
     append_all(layout, batches, outcomes, &mut starts, &mut out)?;

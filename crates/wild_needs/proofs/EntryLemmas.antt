@@ -21,8 +21,8 @@ use Rattle.wild_types.specs.declared.kind.Machine.{Machine}
 use Rattle.wild_types.specs.declared.kind.Machine.TheVariants as machine
 use Rattle.wild_types.specs.declared.layout.Layout.{Layout}
 use Rattle.wild_slot.specs.declared.treatment.Treatment.{Treatment}
-use Rattle.wild_slot.specs.declared.treatment.Treatment.TheVariants.{Symbolic, Indirect, Extent}
-use Rattle.wild_needs.specs.Entries.{has_dynamic_entry, may_have_dynamic_entry, may_have_entry}
+use Rattle.wild_slot.specs.declared.treatment.Treatment.TheVariants.{BaseRelative, Symbolic, Indirect, Extent}
+use Rattle.wild_needs.specs.Entries.{is_base_relative, is_relative_by, may_be_relative, has_dynamic_entry, may_have_dynamic_entry, may_have_entry}
 use Rattle.wild_types.specs.Lookups.{allocated, writable}
 use Rattle.wild_types.specs.Rows.{row_of}
 use Rattle.wild_types.specs.Flags.{has_flag, interposable, dynamic, ifunc}
@@ -52,6 +52,10 @@ counted_end f r s xs i n end h =
     omega (arith, e, h)
 
 -- ---- fields that are left to entries
+
+pub false_from_not : (b : Bool) → not b ≡ true → b ≡ false
+false_from_not true h = cc
+false_from_not false h = refl
 
 never : (b : Bool) → (b ≡ true → ⊥) → b ≡ false
 never true h = absurd (h refl)
@@ -134,6 +138,25 @@ number_here machine.AArch64 n row known = parts_pass (λ (k : ℕ) (r : Relocati
 pub others_stay : (l : Layout) (flags : ℕ) (r : InputRelocation) → may_have_dynamic_entry flags r.number ≡ false → has_dynamic_entry (treatment l flags r) ≡ false
 unfolding treatment
 others_stay l flags r m = row_stays l flags r.symbol r.number (row_that_accepts l.machine r (row_of l.machine r.number)) (λ row h. number_here l.machine r.number row (suited_is l.machine r (row_of l.machine r.number) row h)) m
+
+-- ---- types that write addresses that move
+
+relative_number : (l : Layout) (flags : ℕ) (symbol : Option ℕ) (row : RelocationKindInfo) (n : ℕ) (t : Treatment) → has_number row.kind (field_width row) n ≡ true → Says l flags symbol row t → is_base_relative t ≡ true → may_be_relative n ≡ true
+relative_number l flags symbol row n BaseRelative h says e =
+    let number : has_number kinds.Absolute (field_width row) n ≡ true = subst (λ (k : RelocationKind). has_number k (field_width row) n ≡ true) says.kind h in
+    number_known (field_width row == 8) (n == r_x86_64_64 || n == r_aarch64_abs64) (eq-eqb (field_width row) 8 says.width) number
+relative_number l flags symbol row n other h says e = cc
+
+row_fixed : (l : Layout) (flags : ℕ) (o : Option ℕ) (n : ℕ) (row : Option RelocationKindInfo) → ((r : RelocationKindInfo) → row ≡ Some r → has_number r.kind (field_width r) n ≡ true) → may_be_relative n ≡ false → is_base_relative (row_treatment l flags n o row) ≡ false
+unfolding row_treatment
+row_fixed l flags o n None known m = refl
+row_fixed l flags o n (Some row) known m =
+    never _ (λ e. (let both : true ≡ false = sym (relative_number l flags o row n (row_treatment l flags n o (Some row)) (known row refl) (row_said l flags n o row) e) ∙ m in cc))
+
+-- a relocation of another type writes no address that moves
+pub others_fixed : (l : Layout) (flags : ℕ) (r : InputRelocation) → may_be_relative r.number ≡ false → is_relative_by l flags r ≡ false
+unfolding treatment
+others_fixed l flags r m = row_fixed l flags r.symbol r.number (row_that_accepts l.machine r (row_of l.machine r.number)) (λ row h. number_here l.machine r.number row (suited_is l.machine r (row_of l.machine r.number) row h)) m
 
 -- ---- symbols that entries do not name
 

@@ -11,3 +11,4 @@ pub mod StringLemmas
 pub mod TableLemmas
 pub mod TallyLemmas
 pub mod UndefinedLemmas
+pub mod TypeLemmas

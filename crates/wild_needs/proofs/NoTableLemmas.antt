@@ -25,16 +25,12 @@ use Rattle.wild_placement.specs.PlacedSections.{address_after, placed_section, p
 use Rattle.wild_needs.specs.declared.tally.SectionFacts.{SectionFacts}
 use Rattle.wild_needs.specs.Entries.{dynamic_relocations, general_count}
 use Rattle.wild_needs.specs.Needs.{frames_room, has_plain_role, is_plain, lacks_slots_and_import, has_no_dynamic_tables, is_read_only_input, file_needs_no_tables, group_needs_no_tables, inner_groups, inner_groups_need_no_tables, group_share, total_share}
-use Rattle.wild_needs.proofs.EntryLemmas.{fixed_stay}
+use Rattle.wild_needs.proofs.EntryLemmas.{false_from_not, fixed_stay}
 use Rattle.wild_needs.proofs.RoomLemmas.{frames_kept}
 use Rattle.wild_needs.proofs.ShareLemmas.{group_plain}
 use Rattle.wild_needs.proofs.SlotShareLemmas.{own_without}
 use Rattle.wild_needs.proofs.StandingShares.{group_is_plain}
 use Rattle.wild_needs.proofs.TallyLemmas.{other_standing}
-
-no : (b : Bool) → not b ≡ true → b ≡ false
-no true h = cc
-no false h = refl
 
 -- ---- symbols
 
@@ -55,7 +51,7 @@ own_at [] i h = unknown
 own_at (s ∷ ss) zero h =
     let p = and_parts (lacks_slots_and_import s) (list_all lacks_slots_and_import ss) h in
     let q = and_parts (lacks_slots s) (not (has_flag s.flags dynamic)) p.0 in
-    no (has_flag s.flags dynamic) q.1
+    false_from_not (has_flag s.flags dynamic) q.1
 own_at (s ∷ ss) (suc i) h =
     let p = and_parts (lacks_slots_and_import s) (list_all lacks_slots_and_import ss) h in
     own_at ss i p.1
@@ -88,8 +84,8 @@ fixed_none l f at [] h own = refl
 fixed_none l f at (s ∷ ss) h own =
     let p = and_parts (is_read_only_input s) (list_all is_read_only_input ss) h in
     let q = and_parts (not (is_frame s.slot)) (not (writable s.flags)) p.0 in
-    let flags : (placed_section l f at s).flags ≡ s.flags = ap (λ (x : SectionFacts). x.flags) (other_standing l f at s (no (is_frame s.slot) q.0)) in
-    let a = left_none l (placed_section l f at s) (ap writable flags ∙ no (writable s.flags) q.1) own in
+    let flags : (placed_section l f at s).flags ≡ s.flags = ap (λ (x : SectionFacts). x.flags) (other_standing l f at s (false_from_not (is_frame s.slot) q.0)) in
+    let a = left_none l (placed_section l f at s) (ap writable flags ∙ false_from_not (writable s.flags) q.1) own in
     let b = fixed_none l f (address_after at (kept_size l f s)) ss p.1 own in
     omega (arith, a, b)
 
@@ -102,7 +98,7 @@ fixed_frameless l f [] h = refl
 fixed_frameless l f (s ∷ ss) h =
     let p = and_parts (is_read_only_input s) (list_all is_read_only_input ss) h in
     let q = and_parts (not (is_frame s.slot)) (not (writable s.flags)) p.0 in
-    let a = none_kept l f s (no (is_frame s.slot) q.0) in
+    let a = none_kept l f s (false_from_not (is_frame s.slot) q.0) in
     let b = fixed_frameless l f ss p.1 in
     omega (arith, a, b)
 
@@ -140,16 +136,16 @@ unfolding general_count
 bare_general l f t =
     let count : InputSection → ℕ = λ (s : InputSection). length (dynamic_relocations l s) in
     let copies = t.copies in
-    let none = fixed_none l f 0 f.sections t.sections (own_symbol l (no (needs_dynamic l.kind) t.static) t.symbols) in
+    let none = fixed_none l f 0 f.sections t.sections (own_symbol l (false_from_not (needs_dynamic l.kind) t.static) t.symbols) in
     let parts = total-append count (placed_sections l f 0 f.sections) (of_last_file f (sorted_sections l)) in
-    let last : total count (of_last_file f (sorted_sections l)) ≡ 0 = rw (no (is_epilogue f.role) t.last) refl in
+    let last : total count (of_last_file f (sorted_sections l)) ≡ 0 = rw (false_from_not (is_epilogue f.role) t.last) refl in
     omega (arith, copies, none, parts, last)
 
 bare_frames : (l : Layout) (f : File) → IsBareIn l f → frames_room l (placed_file l 0 f) ≡ 0
 bare_frames l f t =
     let kept = frames_kept l f 0 f.sections in
     let none = fixed_frameless l f f.sections t.sections in
-    let end = no_end l.options.terminator (is_epilogue f.role) 4 (no (is_epilogue f.role) t.last) in
+    let end = no_end l.options.terminator (is_epilogue f.role) 4 (false_from_not (is_epilogue f.role) t.last) in
     omega (arith, kept, none, end)
   where
     no_end : (asked last : Bool) (n : ℕ) → last ≡ false → (if asked then (if last then n else 0) else 0) ≡ 0

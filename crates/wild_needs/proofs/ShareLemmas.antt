@@ -27,7 +27,7 @@ use Rattle.wild_types.specs.FileSymbols.{own_symbols}
 use Rattle.wild_types.proofs.LookupLemmas.{plain_still}
 use Rattle.wild_types.proofs.ListLemmas.{total-none}
 use Rattle.wild_needs.specs.SlotShares.{is_slot_role, header_share, slots_need_nothing, slot_share, relr_got_places, group_relr_got, relr_got_share}
-use Rattle.wild_needs.proofs.EntryLemmas.{packed_none}
+use Rattle.wild_needs.proofs.EntryLemmas.{packed_none, false_from_not}
 use Rattle.wild_needs.proofs.SlotBlockLemmas.{places_without}
 use Rattle.wild_needs.proofs.SlotShareLemmas.{slots_plain, own_without, others_share}
 
@@ -223,18 +223,14 @@ tests_of l f h =
     let b = and_parts (not (needs_dynamic l.kind) && not (has_symtab l)) (not (is_prelude f.role)) a.0 in
     let c = and_parts (not (needs_dynamic l.kind)) (not (has_symtab l)) b.0 in
     record {
-      static = no (needs_dynamic l.kind) c.0;
-      stripped = no (has_symtab l) c.1;
-      first = no (is_prelude f.role) b.1;
-      last = no (is_epilogue f.role) a.1;
+      static = false_from_not (needs_dynamic l.kind) c.0;
+      stripped = false_from_not (has_symtab l) c.1;
+      first = false_from_not (is_prelude f.role) b.1;
+      last = false_from_not (is_epilogue f.role) a.1;
       without = q.0;
       none = eqb-true _ _ e.0;
       frameless = eqb-true _ _ e.1;
     }
-  where
-    no : (b : Bool) → not b ≡ true → b ≡ false
-    no true h = cc
-    no false h = refl
 
 static_none : (l : Layout) (r : Role) (f : File) → Tests l f → static_of l r f ≡ 0
 static_none l role.RelaDynGeneral f t = t.none

@@ -28,7 +28,7 @@ use Rattle.wild_needs.specs.declared.tally.Counted.{Counted}
 use Rattle.wild_needs.specs.declared.tally.Counted.TheVariants.{Listed, Packed, Dynamic}
 use Rattle.wild_needs.specs.declared.tally.SectionFacts.{SectionFacts}
 use Rattle.wild_needs.specs.declared.tally.Tally.{Tally}
-use Rattle.wild_needs.specs.Entries.{is_relative_by, listed_at, relr_place_at, rela_places, relr_places, words_of, has_dynamic_entry, dynamic_relocations}
+use Rattle.wild_needs.specs.Entries.{is_relative_by, listed_at, relr_place, relr_place_at, rela_places, relr_places, words_of, has_dynamic_entry, dynamic_relocations}
 use Rattle.wild_needs.specs.Tallies.{section_facts, counted_in, may_have_items, reads_places, rest_of, tallied, Tallies}
 use Rattle.wild_needs.proofs.EntryLemmas.{counted_none, packed_none, none_left}
 
@@ -130,14 +130,27 @@ tally_small (more h t) low = tally_small t h.small
 asked : (k : Counted) (l : Layout) (s : InputSection) → ((ps : List ℕ) → length (packed ps) ≡ counted Closed ps) → may_have_items k l (section_facts s) ≡ true → rest_of k l (section_facts s) Closed s.relocations ≡ counted_in k l s
 unfolding rela_places relr_places dynamic_relocations
 asked Listed l s runs h = rw h refl
-asked Packed l s runs h = rw h (sym (runs (flat_map (λ r. option_to_list (relr_place_at l s.flags s.address r)) s.relocations)))
+asked Packed l s runs h = let p = and_parts (is_position_independent l.kind && is_read s) l.options.relr h in rw p.0 (sym (runs (flat_map (λ r. option_to_list (relr_place_at l s.flags s.address r)) s.relocations)))
 asked Dynamic l s runs h = let p = and_parts (is_read s) (allocated s.flags) h in rw p.0 refl
+
+-- without the option no place is packed
+no_place_without_relr : (l : Layout) (flags a : ℕ) (rs : List InputRelocation) → l.options.relr ≡ false → flat_map (λ r. option_to_list (relr_place_at l flags a r)) rs ≡ []
+no_place_without_relr l flags a [] h = refl
+no_place_without_relr l flags a (r ∷ rs) h =
+    elim (cases_Bool (is_relative_by l flags r)) [
+      | inl t ↦ rw (t, h) (no_place_without_relr l flags a rs h)
+      | inr f ↦ rw f (no_place_without_relr l flags a rs h)
+    ]
+
+no_words_without_relr : (l : Layout) (s : InputSection) (b : Bool) → (b && l.options.relr) ≡ false → length (packed (if b then flat_map (λ r. option_to_list (relr_place l s r)) s.relocations else [])) ≡ 0
+no_words_without_relr l s false h = ap length packed_none
+no_words_without_relr l s true h = ap (λ (ps : List ℕ). length (packed ps)) (no_place_without_relr l s.flags s.address s.relocations h) ∙ ap length packed_none
 
 -- else it has none
 pub unasked : (k : Counted) (l : Layout) (s : InputSection) → may_have_items k l (section_facts s) ≡ false → counted_in k l s ≡ 0
 unfolding rela_places relr_places dynamic_relocations
 unasked Listed l s h = rw h refl
-unasked Packed l s h = rw h (ap length packed_none)
+unasked Packed l s h = no_words_without_relr l s (is_position_independent l.kind && is_read s) h
 unasked Dynamic l s h = by_test (is_read s) h
   where
     by_test : (b : Bool) → (b && allocated s.flags) ≡ false → length (if b then filter (λ r. has_dynamic_entry (treatment l s.flags r)) s.relocations else []) ≡ 0
@@ -191,14 +204,6 @@ listed_anywhere l flags a b (r ∷ rs) h =
       | inr f ↦ rw f rest
     ]
 
-packed_nowhere : (l : Layout) (flags a : ℕ) (rs : List InputRelocation) → l.options.relr ≡ false → flat_map (λ r. option_to_list (relr_place_at l flags a r)) rs ≡ []
-packed_nowhere l flags a [] h = refl
-packed_nowhere l flags a (r ∷ rs) h =
-    elim (cases_Bool (is_relative_by l flags r)) [
-      | inl t ↦ rw (t, h) (packed_nowhere l flags a rs h)
-      | inr f ↦ rw f (packed_nowhere l flags a rs h)
-    ]
-
 -- a section of frames
 frames_anywhere : (k : Counted) (l : Layout) (f : File) (a b : ℕ) (s : InputSection) → reads_places k l ≡ false → counted_in k l (placed_frames l f a s) ≡ counted_in k l (placed_frames l f b s)
 unfolding rela_places relr_places dynamic_relocations
@@ -209,7 +214,7 @@ frames_anywhere Listed l f a b s h =
     ]
 frames_anywhere Packed l f a b s h =
     elim (cases_Bool (is_position_independent l.kind)) [
-      | inl t ↦ rw (t, packed_nowhere l (frame_flags s.flags) a (placed_frames l f a s).relocations (rw t at h), packed_nowhere l (frame_flags s.flags) b (placed_frames l f a s).relocations (rw t at h)) refl
+      | inl t ↦ rw (t, no_place_without_relr l (frame_flags s.flags) a (placed_frames l f a s).relocations (rw t at h), no_place_without_relr l (frame_flags s.flags) b (placed_frames l f a s).relocations (rw t at h)) refl
       | inr n ↦ rw n refl
     ]
 frames_anywhere Dynamic l f a b s h = refl

@@ -1,6 +1,7 @@
 -- The relative relocations of a position-independent output: entries with addends, or RELR words (gABI, "Relocation", "Relative
 -- Relocation Table"); and the entries that name a symbol or a resolver.
 --   is_relative_by l flags r           a relocation writes an address that changes with the load bias, in a section with such flags
+--   may_be_relative n                  a relocation of type n can write one
 --   listed_at, relr_place_at            the place of a relocation, if it has an entry, and if it is packed
 --   rela_places, relr_places    the places of a section's relative relocations: those that have an entry, and those
 --                                   that are packed
@@ -33,6 +34,10 @@ is_base_relative other = false
 -- the relocation writes an address that changes with the load bias, in a section with such flags
 abbrev pub is_relative_by : Layout → ℕ → InputRelocation → Bool
 is_relative_by l flags r = is_base_relative (treatment l flags r)
+
+-- the types that can write such an address: those of 8-byte addresses
+abbrev pub may_be_relative : ℕ → Bool
+may_be_relative n = n == r_x86_64_64 || n == r_aarch64_abs64
 
 abbrev pub is_relative : Layout → InputSection → InputRelocation → Bool
 is_relative l s r = is_relative_by l s.flags r
@@ -90,7 +95,7 @@ has_dynamic_entry other = false
 
 -- the types whose fields such an entry can fill: an 8-byte address in a writable section, and a size
 abbrev pub may_have_dynamic_entry : ℕ → ℕ → Bool
-may_have_dynamic_entry flags n = (n == r_x86_64_64 || n == r_aarch64_abs64) && writable flags || (n == r_x86_64_size32 || n == r_x86_64_size64)
+may_have_dynamic_entry flags n = may_be_relative n && writable flags || (n == r_x86_64_size32 || n == r_x86_64_size64)
 
 -- the symbols that such an entry can name: interposable ones and IFUNCs
 abbrev pub may_have_entry : Layout → Option ℕ → Bool

@@ -2,7 +2,7 @@
 ghost use Rattle.std.specs.Prelude.{◌≡◌, ℕ, ◌+◌, ◌-◌, ◌^◌, ◌%◌, ◌≤◌, min, List, length, ◌++◌, is_some, option_to_list, IfSome};
 ghost use Rattle.wild_relr.specs.RunWords.{counted};
 ghost use Rattle.wild_placement.specs.PlacedSections.{placed_file};
-ghost use Rattle.wild_needs.specs.Entries.{is_relative_by, is_relative, listed_at, relr_place_at, relr_place, entry_count, word_count, sorted_words, has_dynamic_entry, may_have_dynamic_entry, may_have_entry, general_count};
+ghost use Rattle.wild_needs.specs.Entries.{may_be_relative, is_relative_by, is_relative, listed_at, relr_place_at, relr_place, entry_count, word_count, sorted_words, has_dynamic_entry, may_have_dynamic_entry, may_have_entry, general_count};
 ghost use Rattle.wild_slot.specs.Treatment.{treatment};
 
 use crate::tally::{Counted, count_of_file, count_sections, count_sorted};
@@ -13,14 +13,32 @@ use wild_relr::{Choice, Run, choice};
 use wild_slot::{Treatment, flags_at, treatment_of};
 use wild_types::{File, InputRelocation, InputSection, Layout, SymbolIndex, is_writable};
 
-/// Whether a relocation writes an address that changes with the load bias, in a section with such flags.
-pub fn is_relative_by(layout: &Layout, flags: u64, relocation: &InputRelocation) -> bool
+/// Whether a relocation of that type can write an address that changes with the load bias: only an 8-byte address can.
+#[inline]
+pub(crate) fn may_be_relative(number: u32) -> bool
+    ensures { result ≡ may_be_relative number }
+{
+    matches!(number, R_X86_64_64 | R_AARCH64_ABS64)
+}
+
+/// Whether the treatment of a relocation is such an address.
+fn has_relative_treatment(layout: &Layout, flags: u64, relocation: &InputRelocation) -> bool
     ensures { result ≡ is_relative_by layout.now flags relocation.now }
 {
     matches!(
         treatment_of(layout, flags, relocation),
         Treatment::BaseRelative
     )
+}
+
+/// Whether a relocation writes an address that changes with the load bias, in a section with such flags. The treatment is computed
+/// only if the type allows it.
+#[inline]
+#[tactic(auto, using(crate::proofs::EntryLemmas::others_fixed))]
+pub fn is_relative_by(layout: &Layout, flags: u64, relocation: &InputRelocation) -> bool
+    ensures { result ≡ is_relative_by layout.now flags relocation.now }
+{
+    may_be_relative(relocation.number) && has_relative_treatment(layout, flags, relocation)
 }
 
 /// Whether a relocation of a section writes an address that changes with the load bias.
@@ -90,7 +108,7 @@ pub(crate) fn count_place(run: Run, place: Option<u64>) -> (usize, Run)
 /// Whether an entry that names a symbol or a resolver can fill the field of a relocation of that type, in a section with such
 /// flags.
 #[inline]
-fn may_have_dynamic_entry(flags: u64, number: u32) -> bool
+pub(crate) fn may_have_dynamic_entry(flags: u64, number: u32) -> bool
     ensures { result ≡ may_have_dynamic_entry flags number }
 {
     match number {

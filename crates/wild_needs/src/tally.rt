@@ -1,5 +1,5 @@
 //! Counts the dynamic relocations and RELR words of a file's placed sections.
-ghost use Rattle.std.specs.Prelude.{◌≡◌, ℕ, ◌+◌, ◌-◌, ◌^◌, ◌≤◌, ◌∷◌, true, length, min, map, List};
+ghost use Rattle.std.specs.Prelude.{◌≡◌, ℕ, ◌+◌, ◌-◌, ◌^◌, ◌≤◌, ◌∷◌, true, not, length, min, map, List};
 ghost use Rattle.wild_types.specs.declared.file.File.{File};
 ghost use Rattle.wild_types.specs.declared.input.InputRelocation.{InputRelocation};
 ghost use Rattle.wild_types.specs.declared.layout.Layout.{Layout};
@@ -8,14 +8,19 @@ ghost use Rattle.wild_placement.specs.PlacedSections.{Input, sorted_input, addre
 ghost use Rattle.wild_placement.specs.FrameInputs.{kept_size};
 ghost use Rattle.wild_placement.specs.ReversedWords.{with_word_order};
 ghost use Rattle.wild_needs.specs.Entries.{rela_places, words_of, dynamic_relocations};
-ghost use Rattle.wild_needs.specs.Tallies.{section_facts, counted_in, may_have_items, reads_places, rest_of, tallied};
+ghost use Rattle.wild_needs.specs.Tallies.{section_facts, counted_in, may_have_items, type_allows, types_exclude, reads_places, rest_of, tallied};
 ghost use Rattle.wild_relr.specs.declared.run.Run.TheVariants.{Closed};
 
-use crate::entries::{count_place, has_dynamic_entry_by, is_rela_at, relr_place_at};
+use crate::entries::{
+    count_place, has_dynamic_entry_by, is_rela_at, may_be_relative, may_have_dynamic_entry,
+    relr_place_at,
+};
 use std::convert::Infallible;
 use wild_placement::{frame_flags, give_relocations, give_reversed, kept_size, sorted_input};
 use wild_relr::{Run, runs_are_counted};
-use wild_types::{File, InputRelocation, InputSection, Layout, SortedSection, is_allocated};
+use wild_types::{
+    File, InputRelocation, InputSection, Layout, SortedSection, Test, all_pass, is_allocated,
+};
 use wild_words::Sink;
 
 /// The kind of item that is counted.
@@ -85,17 +90,55 @@ impl SectionFacts {
     }
 }
 
-/// Whether a section may have items of that kind.
+/// Whether a section may have items of that kind. Without the option no place is packed as RELR.
 #[inline(always)]
 fn may_have_items(kind: Counted, layout: &Layout, standing: SectionFacts) -> bool
     ensures { result ≡ may_have_items kind layout.now standing }
 {
     match kind {
-        Counted::Listed | Counted::Packed => {
-            layout.kind.is_position_independent() && standing.is_read
+        Counted::Listed => layout.kind.is_position_independent() && standing.is_read,
+        Counted::Packed => {
+            layout.kind.is_position_independent() && standing.is_read && layout.options.relr
         }
         Counted::Dynamic => standing.is_read && is_allocated(standing.flags),
     }
+}
+
+/// Whether a relocation of that type can be an item of that kind, in a section with such flags.
+#[inline(always)]
+fn type_allows(kind: Counted, flags: u64, number: u32) -> bool
+    ensures { result ≡ type_allows kind flags number }
+{
+    match kind {
+        Counted::Listed | Counted::Packed => may_be_relative(number),
+        Counted::Dynamic => may_have_dynamic_entry(flags, number),
+    }
+}
+
+/// The test that a relocation cannot be an item of that kind, by its type and the flags of its section.
+#[derive(Clone, Copy)]
+struct TypeExcludes {
+    kind: Counted,
+    flags: u64,
+}
+
+impl Test<InputRelocation> for TypeExcludes {
+    ghost test = { λ t r. not (type_allows t.kind t.flags r.number) };
+
+    #[inline(always)]
+    fn passes(&self, relocation: &InputRelocation) -> bool {
+        !type_allows(self.kind, self.flags, relocation.number)
+    }
+}
+
+/// Whether no relocation of an input section can be an item of that kind, by its type. Then the entries of its frames are not walked.
+fn types_exclude(kind: Counted, flags: u64, section: &InputSection) -> bool
+    ensures { result ≡ types_exclude kind flags section.now.relocations }
+{
+    all_pass(
+        &TypeExcludes { kind, flags },
+        section.relocations.as_slice(),
+    )
 }
 
 /// The count of the relocations of a section, at most 2^64 - 1.
@@ -173,7 +216,7 @@ impl Sink<InputRelocation> for Tally<'_> {
 
 /// The number of items of that kind in a section, at most 2^64 - 1.
 #[inline(always)]
-#[tactic(auto, using(crate::proofs::TallyLemmas::tallies))]
+#[tactic(auto, using(crate::proofs::TallyLemmas::tallies, crate::proofs::TypeLemmas::excluded_section))]
 fn count_section(
     kind: Counted,
     layout: &Layout,
@@ -185,6 +228,9 @@ fn count_section(
 {
     let standing = SectionFacts::of(at, section);
     if !may_have_items(kind, layout, standing) {
+        return 0;
+    }
+    if types_exclude(kind, standing.flags, section) {
         return 0;
     }
     runs_are_counted();

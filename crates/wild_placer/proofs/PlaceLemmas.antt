@@ -93,18 +93,18 @@ not_loaded l w f none h = subst (λ (es : List Error). Fails (load_fault f) (fir
 
 -- the loading of a plain layout's image, or of any image
 IsLoadedBy : Layout → World → Bool → Type 0
-IsLoadedBy l w plain = plain ≡ true → load w (bytes l) ≡ load_plain w (bytes l)
+IsLoadedBy l w plain = plain ≡ true → load w (bytes l) ≡ load_plain l w (bytes l)
 
 abbrev Front : Layout → World → Bool → ℕ → Result Memory LoadFault
-Front l w plain n = load_by plain w (take n (bytes l))
+Front l w plain n = load_by plain l w (take n (bytes l))
 
 front_agrees : (l : Layout) (w : World) (plain : Bool) (n : ℕ) → 64 ≤ n → IsLoadedBy l w plain → Agrees (Front l w plain n) (load w (bytes l))
 unfolding IsLoadedBy
-front_agrees l w true n least by_segments = subst (λ (r : Result Memory LoadFault). Agrees (load_plain w (take n (bytes l))) r) (sym (by_segments refl)) (plain_agrees w n (bytes l) least)
+front_agrees l w true n least by_segments = subst (λ (r : Result Memory LoadFault). Agrees (load_plain l w (take n (bytes l))) r) (sym (by_segments refl)) (plain_agrees l w n (bytes l) least)
 front_agrees l w false n least by_segments = load_agrees w n (bytes l) least
 
 -- what these bytes give is the memory
-pub prefix_placed : (l : Layout) (w : World) (plain : Bool) (n : ℕ) (m : Memory) → errors l ≡ [] → 64 ≤ n → (plain ≡ true → load w (bytes l) ≡ load_plain w (bytes l)) → load_by plain w (take n (bytes l)) ≡ Ok m → layout_memory l w ≡ Ok m
+pub prefix_placed : (l : Layout) (w : World) (plain : Bool) (n : ℕ) (m : Memory) → errors l ≡ [] → 64 ≤ n → (plain ≡ true → load w (bytes l) ≡ load_plain l w (bytes l)) → load_by plain l w (take n (bytes l)) ≡ Ok m → layout_memory l w ≡ Ok m
 unfolding IsLoadedBy
 prefix_placed l w plain n m none least by_segments is = is_placed l w m none (loaded_by (Front l w plain n) (load w (bytes l)) (Ok m) (front_agrees l w plain n least by_segments) is (λ o e. no_error (load_faults.Cut o) m (sym e)))
 
@@ -112,7 +112,7 @@ some_same : {X : Type 0} (x y : X) → ◌≡◌ {A = Option X} (Some x) (Some y
 some_same x y e = cc
 
 -- or the fault, unless they end too early
-pub prefix_not_loaded : (l : Layout) (w : World) (plain : Bool) (n : ℕ) (f : LoadFault) (g : PlaceFault) → errors l ≡ [] → 64 ≤ n → (plain ≡ true → load w (bytes l) ≡ load_plain w (bytes l)) → LoaderFails f (load_by plain w (take n (bytes l))) → fault_of_prefix f ≡ Some g → Fails g (layout_memory l w)
+pub prefix_not_loaded : (l : Layout) (w : World) (plain : Bool) (n : ℕ) (f : LoadFault) (g : PlaceFault) → errors l ≡ [] → 64 ≤ n → (plain ≡ true → load w (bytes l) ≡ load_plain l w (bytes l)) → LoaderFails f (load_by plain l w (take n (bytes l))) → fault_of_prefix f ≡ Some g → Fails g (layout_memory l w)
 unfolding layout_memory IsLoadedBy
 prefix_not_loaded l w plain n f g none least by_segments h is = by f h is
   where

@@ -1,13 +1,12 @@
--- Images without tables to apply: their memory is that of their segments.
-use Rattle.std.proofs.Common.{◌≡◌, ℕ, zero, suc, ◌+◌, ◌*◌, ◌<◌, ◌≤◌, ◌==◌, ◌&&◌, inl, inr, Bool, true, false, if◌then◌else◌, List, [], ◌∷◌, length, take, refl, sym, ap, ◌∙◌, arith, subst}
+-- Images without a dynamic section: their memory is that of their segments, with their relocation sections applied.
+use Rattle.std.proofs.Common.{◌≡◌, ℕ, zero, suc, ◌+◌, ◌*◌, ◌<◌, ◌≤◌, ◌==◌, ◌&&◌, inl, inr, Bool, true, false, if◌then◌else◌, List, [], ◌∷◌, length, map, take, drop, refl, sym, ap, ◌∙◌, arith, subst}
 use Rattle.std.specs.Prelude.{All, None, Result, Ok, Err}
 use Rattle.std.specs.List.{flat_map}
 use Rattle.std.proofs.lemmas.Bool.{cases_Bool, cases_lt, le-leb, ne_eqb}
 use Rattle.std.proofs.lemmas.List.{take_all}
-use Rattle.std.proofs.lemmas.List.Elements.{All-head, All-tail}
 use Rattle.wild_words.specs.Words.{HasBytesAt}
 use Rattle.wild_words.proofs.Basics.{length-flat_map_each}
-use Rattle.wild_records.specs.Abi.Section.{shn_undef, sht_rela}
+use Rattle.wild_records.specs.Abi.Section.{shn_undef}
 use Rattle.wild_records.specs.FileHeader.{file_header_at, FileHeaderIsRead}
 use Rattle.wild_records.specs.ProgramHeader.{ProgramHeaderIsRead}
 use Rattle.wild_records.specs.SectionHeader.{section_header_at, SectionHeaderFits, SectionHeaderIsRead}
@@ -26,73 +25,59 @@ use Rattle.wild_loader.specs.declared.world.World.{World}
 use Rattle.wild_loader.specs.Outcome.{◌>>=◌}
 use Rattle.wild_loader.specs.Headers.{header, is_loadable_header, machine_of, program_headers, section_count, sections}
 use Rattle.wild_loader.specs.Memory.{memory_of}
-use Rattle.wild_loader.specs.Places.{places_from}
-use Rattle.wild_loader.specs.Relocate.{relocate, add_all, apart, notes}
-use Rattle.wild_loader.specs.Runs.{overlay_runs}
-use Rattle.wild_words.specs.Extents.{least_extent}
+use Rattle.wild_loader.specs.Relocate.{relocate}
 use Rattle.wild_loader.specs.Segments.{segments}
 use Rattle.wild_loader.specs.SegmentLaws.{HasHeaders, first_size, section_bytes}
-use Rattle.wild_loader.specs.Tables.{has_entries, section_entries, section_tables, first_dynamic, tables}
+use Rattle.wild_loader.specs.Tables.{section_entries, section_tables, first_dynamic, tables}
 use Rattle.wild_loader.specs.Load.{image_with, image_at, load}
 use Rattle.wild_loader.proofs.RecordLists.{programs-read, sections-read, section-first, length-program, length-section}
 use Rattle.wild_loader.proofs.TableLemmas.{lies-table}
-use Rattle.wild_placer.specs.Plain.{plain_with, load_plain}
-use Rattle.wild_placer.proofs.PrefixLemmas.{IsFront, Agrees, then_agrees, front_long, header_agrees, header_bound, program_headers_taken, segments_agree}
+use Rattle.wild_types.specs.declared.layout.Layout.{Layout}
+use Rattle.wild_placer.specs.Plain.{rela_header, rela_headers, entry_tables, load_plain}
+use Rattle.wild_placer.proofs.PrefixLemmas.{IsFront, Agrees, then_agrees, front_long, header_agrees, header_bound, program_headers_taken, segments_agree, entries_agree}
 
 -- ---- by the first bytes of the image
 
-plain_front_agrees : (w : World) (n : ℕ) (im : List ℕ) → IsFront n im → Agrees (load_plain w (take n im)) (load_plain w im)
+plain_front_agrees : (l : Layout) (w : World) (n : ℕ) (im : List ℕ) → IsFront n im → Agrees (load_plain l w (take n im)) (load_plain l w im)
 unfolding load_plain
-plain_front_agrees w n im f =
+plain_front_agrees l w n im f =
     then_agrees (header (take n im)) (header im) _ _ (header_agrees n im f) (λ e is.
     (let ends = header_bound (take n im) e is in
     let long = front_long n im f in
     let same = program_headers_taken n e.program_count e.program_offset im (omega (arith, ends, long)) in
     let hs = program_headers im e.program_count e.program_offset in
-    subst (λ (gs : List ProgramHeader). Agrees (segments w.base (take n im) gs >>= λ runs. Ok (memory_of (machine_of e) runs)) (segments w.base im hs >>= λ runs. Ok (memory_of (machine_of e) runs))) (sym same)
-    (then_agrees (segments w.base (take n im) hs) (segments w.base im hs) _ _ (segments_agree n w.base im hs f) (λ runs e. inl refl))))
+    let ss = rela_headers l e in
+    let loaded : List Run → List Rela → Result Memory LoadFault = λ runs entries. relocate w (memory_of (machine_of e) runs) (entry_tables entries) in
+    subst (λ (gs : List ProgramHeader). Agrees (segments w.base (take n im) gs >>= λ runs. section_entries (take n im) ss [] >>= loaded runs) (segments w.base im hs >>= λ runs. section_entries im ss [] >>= loaded runs)) (sym same)
+    (then_agrees (segments w.base (take n im) hs) (segments w.base im hs) _ _ (segments_agree n w.base im hs f) (λ runs e.
+    then_agrees (section_entries (take n im) ss []) (section_entries im ss []) _ _ (entries_agree n im ss [] f) (λ entries read. inl refl)))))
 
-pub plain_agrees : (w : World) (n : ℕ) (im : List ℕ) → 64 ≤ n → Agrees (load_plain w (take n im)) (load_plain w im)
-plain_agrees w n im least =
+pub plain_agrees : (l : Layout) (w : World) (n : ℕ) (im : List ℕ) → 64 ≤ n → Agrees (load_plain l w (take n im)) (load_plain l w im)
+plain_agrees l w n im least =
     elim (cases_lt n (length im)) [
-      | inl more ↦ plain_front_agrees w n im (record { least = least; more = omega (arith, more) })
-      | inr less ↦ inl (ap (load_plain w) (sym (take_all n im less)))
+      | inl more ↦ plain_front_agrees l w n im (record { least = least; more = omega (arith, more) })
+      | inr less ↦ inl (ap (load_plain l w) (sym (take_all n im less)))
     ]
 
--- ---- an image whose tables are empty
+-- ---- an image without a dynamic section
 
-abbrev no_tables : Tables
-no_tables = record { words = []; entries = []; jumps = [] }
-
-nothing_relocated : (w : World) (machine : Machine) (runs : List Run) → relocate w (memory_of machine runs) no_tables ≡ Ok (memory_of machine runs)
-unfolding relocate places_from add_all apart least_extent overlay_runs notes
-nothing_relocated w machine runs = refl
-
-abbrev plain_image : FileHeader → List Run → Image
-plain_image e runs = record { machine = machine_of e; runs = runs; tables = no_tables }
-
-plain_is_load : (w : World) (im : List ℕ) (e : FileHeader) → header im ≡ Ok e → tables im e (program_headers im e.program_count e.program_offset) ≡ Ok no_tables → load w im ≡ load_plain w im
-unfolding load image_at image_with load_plain
-plain_is_load w im e head none = rw (head, none) (by (segments w.base im (program_headers im e.program_count e.program_offset)))
-  where
-    by : (r : Result (List Run) LoadFault) → ((r >>= λ (runs : List Run). Ok (plain_image e runs)) >>= λ (i : Image). relocate w (memory_of i.machine i.runs) i.tables) ≡ (r >>= λ (runs : List Run). Ok (memory_of (machine_of e) runs))
-    by (Ok runs) = nothing_relocated w (machine_of e) runs
-    by (Err f) = refl
-
--- no section has entries
-abbrev pub IsNoRela : SectionHeader → Type 0
-IsNoRela s = (s.kind ≡ sht_rela) → ⊥
-
-no_entries : (im : List ℕ) (ss : List SectionHeader) → All IsNoRela ss → section_entries im ss [] ≡ Ok []
-unfolding section_entries
-no_entries im [] none = refl
-no_entries im (s ∷ ss) none =
-    let other = ne_eqb s.kind sht_rela (All-head IsNoRela s ss none) in
-    rw other (no_entries im ss (All-tail IsNoRela s ss none))
-
-tables_none : (im : List ℕ) (e : FileHeader) (hs : List ProgramHeader) (ss : List SectionHeader) → first_dynamic hs ≡ None → sections im e ≡ Ok ss → All IsNoRela ss → tables im e hs ≡ Ok no_tables
+static_tables : (im : List ℕ) (e : FileHeader) (hs : List ProgramHeader) (ss : List SectionHeader) → first_dynamic hs ≡ None → sections im e ≡ Ok ss → tables im e hs ≡ (section_entries im ss [] >>= λ entries. Ok (entry_tables entries))
 unfolding tables section_tables
-tables_none im e hs ss static listed none = let entries = no_entries im ss none in rw (static, listed, entries) refl
+static_tables im e hs ss static listed = rw (static, listed) refl
+
+plain_is_load : (l : Layout) (w : World) (im : List ℕ) (e : FileHeader) → header im ≡ Ok e → tables im e (program_headers im e.program_count e.program_offset) ≡ (section_entries im (rela_headers l e) [] >>= λ entries. Ok (entry_tables entries)) → load w im ≡ load_plain l w im
+unfolding load image_at image_with load_plain
+plain_is_load l w im e head found = rw (head, found) (by (segments w.base im (program_headers im e.program_count e.program_offset)) (section_entries im (rela_headers l e) []))
+  where
+    made : List Run → Tables → Image
+    made runs t = record { machine = machine_of e; runs = runs; tables = t }
+
+    by : (r : Result (List Run) LoadFault) (s : Result (List Rela) LoadFault)
+        → ((r >>= λ (runs : List Run). (s >>= λ (entries : List Rela). Ok (entry_tables entries)) >>= λ (t : Tables). Ok (made runs t)) >>= λ (i : Image). relocate w (memory_of i.machine i.runs) i.tables)
+        ≡ (r >>= λ (runs : List Run). s >>= λ (entries : List Rela). relocate w (memory_of (machine_of e) runs) (entry_tables entries))
+    by (Ok runs) (Ok entries) = refl
+    by (Ok runs) (Err f) = refl
+    by (Err f) s = refl
 
 -- ---- an image that has its headers
 
@@ -143,18 +128,23 @@ no_sections : (im : List ℕ) (e : FileHeader) → (e.section_offset == 0) ≡ t
 unfolding sections
 no_sections im e none = rw none refl
 
--- the image of an output without a dynamic section and without relocation tables
-pub has_no_tables : FileHeaderIsRead → ProgramHeaderIsRead → SectionHeaderIsRead → (w : World) (im : List ℕ) (e : FileHeader) (hs : List ProgramHeader) (ss : List SectionHeader) → HasHeaders im e hs ss → is_loadable_header e ≡ true → first_dynamic hs ≡ None → All IsNoRela ss → load w im ≡ load_plain w im
-has_no_tables file program section w im e hs ss has loadable static none =
+-- the headers of a layout's sections, by which entries are read, are those of the image
+abbrev pub HasItsSections : Layout → List SectionHeader → Type 0
+HasItsSections l ss = (im : List ℕ) (entries : List Rela) → section_entries im ss entries ≡ section_entries im (map (rela_header l) (drop 1 l.sections)) entries
+
+-- the image of an output without a dynamic section
+pub static_is_loaded : FileHeaderIsRead → ProgramHeaderIsRead → SectionHeaderIsRead → (l : Layout) (w : World) (im : List ℕ) (e : FileHeader) (hs : List ProgramHeader) (ss : List SectionHeader) → HasHeaders im e hs ss → is_loadable_header e ≡ true → first_dynamic hs ≡ None → HasItsSections l ss → load w im ≡ load_plain l w im
+static_is_loaded file program section l w im e hs ss has loadable static same =
     let head = header_read file im e hs ss has loadable in
     let count = has.program_count in
     let programs : program_headers im e.program_count e.program_offset ≡ hs = ap (λ (n : ℕ). program_headers im n e.program_offset) count ∙ programs-read program im hs e.program_offset has.programs_fit has.programs in
-    let found : tables im e hs ≡ Ok no_tables =
+    let Q : List SectionHeader → Type 0 = λ gs. tables im e hs ≡ (section_entries im gs [] >>= λ entries. Ok (entry_tables entries)) in
+    let found : Q (rela_headers l e) =
     elim (cases_Bool (e.section_offset == 0)) [
-      | inl t ↦ tables_none im e hs [] static (no_sections im e t) (λ k d low. absurd (omega (arith, low)))
-      | inr f ↦ tables_none im e hs ss static (sections_read section im e hs ss has (some_offset e.section_offset f)) none
+      | inl t ↦ rw t (static_tables im e hs [] static (no_sections im e t))
+      | inr f ↦ rw (f, ← same im []) (static_tables im e hs ss static (sections_read section im e hs ss has (some_offset e.section_offset f)))
     ] in
-    plain_is_load w im e head (ap (tables im e) programs ∙ found)
+    plain_is_load l w im e head (ap (tables im e) programs ∙ found)
   where
     some_offset : (n : ℕ) → (n == 0) ≡ false → 0 < n
     some_offset zero f = cc

@@ -404,7 +404,7 @@ with_agrees n im s entries f =
     let long = front_long n im f in
     inl (ap (λ (rs : List Rela). Ok (entries ++ rs)) (sym (relas_taken n (s.size / 24) s.offset im (omega (arith, ends, long)))))))
 
-entries_agree : (n : ℕ) (im : List ℕ) (ss : List SectionHeader) (entries : List Rela) → IsFront n im → Agrees (section_entries (take n im) ss entries) (section_entries im ss entries)
+pub entries_agree : (n : ℕ) (im : List ℕ) (ss : List SectionHeader) (entries : List Rela) → IsFront n im → Agrees (section_entries (take n im) ss entries) (section_entries im ss entries)
 unfolding section_entries
 entries_agree n im [] entries f = inl refl
 entries_agree n im (s ∷ ss) entries f = by (has_entries s) (λ more. entries_agree n im ss more f)

@@ -1,7 +1,7 @@
 -- What placed memories have.
 --   PlacementsAreSound   the memory of a layout in a legal world is linked
 --   PlacedRunsAreSeparate  no two runs of it share an address
---   PlainLayoutsAreLoaded  the memory of a plain layout is that of its segments
+--   PlainLayoutsAreLoaded  the memory of a plain layout is that of its segments, with its relocation sections applied
 use Rattle.std.specs.Prelude.{◌≡◌, true, [], Ok, None}
 use Rattle.wild_types.specs.declared.layout.Layout.{Layout}
 use Rattle.wild_types.specs.ResolvedFlags.{HaveTheirFlags}
@@ -30,6 +30,7 @@ PlacementsAreSound = (l : Layout) (w : World) (m : Memory) → NumbersFit l → 
 abbrev pub PlacedRunsAreSeparate : Type 0
 PlacedRunsAreSeparate = (l : Layout) (w : World) (m : Memory) → layout_memory l w ≡ Ok m → least_shared m.runs ≡ None
 
--- the memory that the loader makes of the image of a plain layout is that of its segments, in any world
+-- the memory that the loader makes of the image of a plain layout is that of its segments, with its relocation sections applied, in any
+-- world
 abbrev pub PlainLayoutsAreLoaded : Type 0
-PlainLayoutsAreLoaded = (l : Layout) (w : World) → NumbersFit l → errors l ≡ [] → is_plain l ≡ true → load w (bytes l) ≡ load_plain w (bytes l)
+PlainLayoutsAreLoaded = (l : Layout) (w : World) → NumbersFit l → errors l ≡ [] → is_plain l ≡ true → load w (bytes l) ≡ load_plain l w (bytes l)

@@ -1,9 +1,7 @@
 //! The memory of a layout.
 ghost use Rattle.std.specs.Prelude.{◌≡◌, ◌≤◌, ◌==◌, not, None, Ok, IfOk, IfErr, IfSome};
 ghost use Rattle.std.specs.List.{list_all};
-ghost use Rattle.wild_records.specs.Abi.Section.{sht_rela};
 ghost use Rattle.wild_records.specs.Abi.Segment.{pt_dynamic};
-ghost use Rattle.wild_types.specs.declared.section.Section.{Section};
 ghost use Rattle.wild_types.specs.declared.section.Segment.{Segment};
 ghost use Rattle.wild_loader.specs.Outcome.{Gives as LoaderGives};
 ghost use Rattle.wild_loader.specs.Runs.{least_shared};
@@ -17,10 +15,9 @@ use std::alloc::Global;
 use wild_image::{Arch, GroupWriter, OpenGate, write, write_prefix};
 use wild_layout::numbers_fit;
 use wild_loader::{LoadFault, Memory, World, load_image};
-use wild_records::abi::section::SHT_RELA;
 use wild_records::abi::segment::{PT_DYNAMIC, PT_LOAD};
 use wild_records::{FileHeader, ProgramHeader};
-use wild_types::{Error, Fault, Layout, Section, Segment};
+use wild_types::{Error, Fault, Layout, Segment};
 
 /// The writer's error, as a fault of the placer.
 fn write_fault(error: Error) -> PlaceFault
@@ -59,46 +56,40 @@ fn has_no_dynamic(segments: &[Segment]) -> bool
     segments.iter().all(|segment| segment.kind != PT_DYNAMIC)
 }
 
-/// Whether no section has relocation entries.
-fn has_no_rela(sections: &[Section]) -> bool
-    ensures { result ≡ list_all (λ (s : Section). not (s.kind == sht_rela)) sections.now }
-{
-    sections.iter().all(|section| section.kind != SHT_RELA)
-}
-
-/// Whether the output has no tables to apply: it is loaded, and has no dynamic section and no relocation sections.
+/// Whether the output is loaded, and has no dynamic section.
 fn is_plain(layout: &Layout) -> bool
     ensures { result ≡ is_plain layout.now }
 {
-    !layout.kind.is_partial_link()
-        && has_no_dynamic(layout.segments.as_slice())
-        && has_no_rela(layout.sections.as_slice())
+    !layout.kind.is_partial_link() && has_no_dynamic(layout.segments.as_slice())
 }
 
-/// How many of an image's first bytes are read of an output without tables to apply, or with a dynamic section: its headers, the segments
-/// that are loaded and the dynamic section. Of any other image all bytes are read, as the loader reads its section headers.
-fn loaded_size(layout: &Layout, plain: bool) -> u64
+/// How many of an image's first bytes are read: its headers, the segments that are loaded and the dynamic section.
+fn loaded_size(layout: &Layout) -> u64
     ensures { 64 ≤ result }
 {
     let segments = layout.segments.as_slice();
     let headers = (segments.len() as u64).saturating_mul(ProgramHeader::SIZE as u64);
     let mut end = headers.saturating_add(FileHeader::SIZE as u64);
-    let mut is_found = plain;
     for segment in segments {
         if segment.kind == PT_LOAD || segment.kind == PT_DYNAMIC {
             end = end.max(segment.offset.saturating_add(segment.file_size));
         }
-        is_found |= segment.kind == PT_DYNAMIC;
     }
-    if is_found { end } else { u64::MAX }
+    end
 }
 
-/// The memory of the first bytes of an image, with or without tables to apply.
-fn load_by(alloc: Global, plain: bool, prefix: &[u8], world: &World) -> Result<Memory, LoadFault>
-    ensures { LoaderGives result (load_by plain world.now prefix.now) }
+/// The memory of the first bytes of an image, with or without a dynamic section.
+fn load_by(
+    alloc: Global,
+    plain: bool,
+    layout: &Layout,
+    prefix: &[u8],
+    world: &World,
+) -> Result<Memory, LoadFault>
+    ensures { LoaderGives result (load_by plain layout.now world.now prefix.now) }
 {
     if plain {
-        load_plain(alloc, prefix, world)
+        load_plain(alloc, layout, prefix, world)
     } else {
         load_image(alloc, prefix, world)
     }
@@ -122,12 +113,12 @@ fn place_prefix<A: Arch, E: GroupWriter<A, OpenGate>>(
     numbers_fit(layout);
     plain_layouts_are_loaded();
     let plain = is_plain(layout);
-    let size = loaded_size(layout, plain);
+    let size = loaded_size(layout);
     let output = match write_prefix::<A, E>(executor, alloc, layout, workers, size) {
         Ok(output) => output,
         Err(error) => return Err(write_fault(error)),
     };
-    match load_by(alloc, plain, output.out.as_slice(), world) {
+    match load_by(alloc, plain, layout, output.out.as_slice(), world) {
         Ok(memory) => Ok(Some(memory)),
         Err(fault) => match fault_of_prefix(fault) {
             Some(fault) => Err(fault),

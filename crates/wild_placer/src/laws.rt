@@ -19,7 +19,7 @@ pub fn placed_runs_are_separate()
     ensures { PlacedRunsAreSeparate }
 {}
 
-/// The memory of a layout without tables to apply is that of its segments.
+/// The memory of a layout without a dynamic section is that of its segments, with its relocation sections applied.
 pub fn plain_layouts_are_loaded()
     ensures { PlainLayoutsAreLoaded }
 {

@@ -2,13 +2,14 @@
 ghost use Rattle.std.specs.Prelude.{◌≡◌, true, IfOk, IsErrOf, MatchResult};
 ghost use Rattle.wild_io.specs.Causes.{CountRose};
 ghost use Rattle.wild_program.specs.Program.{source_change, IsTooLong};
-ghost use Rattle.wild_program.specs.Steps.{reads_input, IsInput, IsPlan, HasNoPlan};
+ghost use Rattle.wild_text.specs.Plan.{layout_in};
+ghost use Rattle.wild_program.specs.Steps.{reads_input, IsInput, IsPlan, HasNoPlan, IsFaultText};
 
 use crate::command::Command;
-use serde_json::Value;
 use std::alloc::{AllocError, Global};
 use wild_io::{ReadFault, Source, read_whole};
-use wild_text::{PlanFault, Planned, no_plan_answer};
+use wild_text::{InputFault, Planned, no_plan_answer, read_bytes, read_plan};
+use wild_types::Layout;
 
 /// The maximal size of an input in bytes.
 pub const LIMIT: usize = 1 << 31;
@@ -36,28 +37,45 @@ pub(crate) fn read_input<S: Source>(
     }
 }
 
-/// What the bytes encode, or the text that they are no plan.
+/// The text for bytes that are no plan; out of memory has none.
+fn fault_text(alloc: Global, fault: InputFault) -> Result<Vec<u8>, AllocError>
+    ensures { IfOk result (λ text. IsFaultText fault text.items) }
+{
+    match fault {
+        InputFault::NoJson => b"not a plan: json\n".to_vec(alloc),
+        InputFault::At(path) => {
+            let text = no_plan_answer(alloc, path.as_str())?;
+            Ok(text.into_bytes())
+        }
+        InputFault::OutOfMemory => Err(AllocError),
+    }
+}
+
+/// The layout of a plan, or the text that the bytes are no plan.
+pub(crate) fn layout_of(alloc: Global, bytes: &[u8]) -> Result<Result<Layout, Vec<u8>>, AllocError>
+    ensures { IfOk result (λ plan. MatchResult plan (IsPlan layout_in bytes.now) (λ text. HasNoPlan layout_in bytes.now text.items)) }
+{
+    match read_plan(alloc, bytes) {
+        Ok(layout) => Ok(Ok(layout)),
+        Err(fault) => {
+            let text = fault_text(alloc, fault)?;
+            Ok(Err(text))
+        }
+    }
+}
+
+/// What the bytes encode, or the text that they are no plan. The bytes are dropped.
 pub(crate) fn plan_of<T: Planned + Drop>(
     alloc: Global,
-    bytes: &[u8],
+    bytes: Vec<u8>,
 ) -> Result<Result<T, Vec<u8>>, AllocError>
-    ensures { IfOk result (λ plan. MatchResult plan (IsPlan T.reads bytes.now) (λ text. HasNoPlan T.reads bytes.now text.items)) }
+    ensures { IfOk result (λ plan. MatchResult plan (IsPlan T.reads bytes.items) (λ text. HasNoPlan T.reads bytes.items text.items)) }
 {
-    let value = match Value::from_slice(alloc, bytes) {
-        Ok(value) => value,
-        Err(e) => {
-            if e.is_memory() {
-                return Err(AllocError);
-            }
-            return Ok(Err(b"not a plan: json\n".to_vec(alloc)?));
-        }
-    };
-    match T::read(alloc, &value) {
+    match read_bytes(alloc, bytes.as_slice()) {
         Ok(plan) => Ok(Ok(plan)),
-        Err(PlanFault::OutOfMemory) => Err(AllocError),
-        Err(PlanFault::At(path)) => {
-            let text = no_plan_answer(alloc, path.as_str())?;
-            Ok(Err(text.into_bytes()))
+        Err(fault) => {
+            let text = fault_text(alloc, fault)?;
+            Ok(Err(text))
         }
     }
 }

@@ -25,5 +25,5 @@ pub use wild_io::{
     IoFailure, MemSink, MemSource, ReadFault, ReaderSource, Sink, Source, SureSink, SureSource,
     WriterSink,
 };
-pub use wild_text::{PlanFault, read_plan};
+pub use wild_text::{InputFault, read_plan};
 pub use words::{command_of, words_of};

@@ -62,11 +62,11 @@ fn request_answer(
 pub(crate) fn loaded_answer(
     rt: &(impl Threads + Sync),
     alloc: Global,
-    bytes: &[u8],
+    bytes: Vec<u8>,
     workers: u8,
 ) -> Result<(u8, Vec<u8>), AllocError>
     requires { (1 ≤ workers) × (workers ≤ 64) }
-    ensures { IfOk result (λ a. IsAnswerOf (Place workers) bytes.now a.0 a.1.items) }
+    ensures { IfOk result (λ a. IsAnswerOf (Place workers) bytes.items a.0 a.1.items) }
 {
     let request: PlaceRequest = match plan_of(alloc, bytes)? {
         Ok(request) => request,

@@ -1,14 +1,15 @@
 //! The whole program, over any source and sink.
-ghost use Rattle.std.specs.Prelude.{◌≡◌, ◌≢◌, ◌≤◌, Some, None, IfOk, OnErr};
+ghost use Rattle.std.specs.Prelude.{◌≡◌, ◌≢◌, ◌≤◌, ℕ, List, Some, None, IfOk, OnErr, MatchResult};
 ghost use Rattle.wild_io.specs.Memory.{sure_unread};
 ghost use Rattle.wild_program.specs.Exit.{read_fault, cut_short};
 ghost use Rattle.wild_program.specs.declared.command.Command.TheVariants.{Link};
 ghost use Rattle.wild_program.specs.Program.{Asks, layout_status, layout_text, source_change, sink_change, IsWritten, IsAnswered};
 ghost use Rattle.wild_program.specs.Clauses.{HasItsCause, NothingFailed, IsDetermined, IsComplete, IsHeadline, IsMadeBy, IsBoundBy, IsCheckedBy};
-ghost use Rattle.wild_program.specs.Steps.{IsRefusal, HasRightNumbers, IsAnswerOf, IsAnsweredBy};
+ghost use Rattle.wild_program.specs.Steps.{IsRefusal, HasRightNumbers, IsPlan, HasNoPlan, IsAnswerOf, IsAnsweredBy};
+ghost use Rattle.wild_text.specs.Plan.{layout_in};
 
 use crate::command::Command;
-use crate::input::{plan_of, read_input};
+use crate::input::{layout_of, read_input};
 use crate::making::made_answer;
 use crate::place::loaded_answer;
 use crate::relink::rewrite_answer;
@@ -77,6 +78,43 @@ pub(crate) fn refusal_of(alloc: Global, error: Error) -> Result<(u8, Vec<u8>), A
     }
 }
 
+/// The status and the text of `link` for what the bytes of a plan mean.
+fn meaning_answer<E: ImageWriter>(
+    executor: &E,
+    alloc: Global,
+    plan: Result<Layout, Vec<u8>>,
+    workers: u8,
+) -> Result<(u8, Vec<u8>), AllocError>
+    requires ready { E.ready executor.now }
+    requires workers { (1 ≤ workers) × (workers ≤ 64) }
+    ensures { IfOk result (λ a. (bytes : List ℕ) → MatchResult plan (IsPlan layout_in bytes) (λ text. HasNoPlan layout_in bytes text.items) → IsAnswerOf (Link workers) bytes a.0 a.1.items) }
+{
+    let layout = match plan {
+        Ok(layout) => layout,
+        Err(text) => return Ok((NO_PLAN, text)),
+    };
+    numbers_fit(&layout);
+    let answer = layout_answer(executor, alloc, &layout, workers)?;
+    Ok(answer)
+}
+
+/// The status and the text of `link` for the bytes of a plan, which are dropped before anything is written.
+fn link_answer<E: ImageWriter>(
+    executor: &E,
+    alloc: Global,
+    bytes: Vec<u8>,
+    workers: u8,
+) -> Result<(u8, Vec<u8>), AllocError>
+    requires ready { E.ready executor.now }
+    requires workers { (1 ≤ workers) × (workers ≤ 64) }
+    ensures { IfOk result (λ a. IsAnswerOf (Link workers) bytes.items a.0 a.1.items) }
+{
+    let plan = layout_of(alloc, bytes.as_slice())?;
+    drop(bytes);
+    let answer = meaning_answer(executor, alloc, plan, workers)?;
+    Ok(answer)
+}
+
 /// The status and the text of `link` for the bytes of a plan.
 pub fn plan_answer<E: ImageWriter>(
     executor: &E,
@@ -88,12 +126,8 @@ pub fn plan_answer<E: ImageWriter>(
     requires workers { (1 ≤ workers) × (workers ≤ 64) }
     ensures { IfOk result (λ a. IsAnswerOf (Link workers) bytes.now a.0 a.1.items) }
 {
-    let layout: Layout = match plan_of(alloc, bytes)? {
-        Ok(layout) => layout,
-        Err(text) => return Ok((NO_PLAN, text)),
-    };
-    numbers_fit(&layout);
-    let answer = layout_answer(executor, alloc, &layout, workers)?;
+    let plan = layout_of(alloc, bytes)?;
+    let answer = meaning_answer(executor, alloc, plan, workers)?;
     Ok(answer)
 }
 
@@ -102,13 +136,13 @@ fn command_answer(
     rt: &(impl Threads + Sync),
     alloc: Global,
     command: Command,
-    bytes: &[u8],
+    bytes: Vec<u8>,
 ) -> Result<(u8, Vec<u8>), AllocError>
     requires { HasRightNumbers command }
-    ensures { IfOk result (λ a. IsAnswerOf command bytes.now a.0 a.1.items) }
+    ensures { IfOk result (λ a. IsAnswerOf command bytes.items a.0 a.1.items) }
 {
     match command {
-        Command::Link { workers } => plan_answer(&Threaded(rt), alloc, bytes, workers),
+        Command::Link { workers } => link_answer(&Threaded(rt), alloc, bytes, workers),
         Command::Make { groups, workers } => {
             let summary = made_answer(rt, alloc, groups, workers)?;
             Ok((LINKED, summary))
@@ -141,7 +175,7 @@ fn answer_command<S: Source, K: Sink>(
         Err(ReadFault::IoFailure) => return Ok(write_answer(sink, b"read fault\n", READ_FAULT)),
         Err(ReadFault::TooLong) => return Ok(write_answer(sink, b"plan too long\n", TOO_LONG)),
     };
-    let (code, answer) = command_answer(rt, alloc, command, &bytes)?;
+    let (code, answer) = command_answer(rt, alloc, command, bytes)?;
     Ok(write_answer(sink, &answer, code))
 }
 

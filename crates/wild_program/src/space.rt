@@ -42,8 +42,8 @@ fn bound_answer(alloc: Global, request: &SpaceRequest) -> Result<(u8, Vec<u8>), 
 }
 
 /// The status and the text of `space` for the bytes of its input.
-pub(crate) fn bind_answer(alloc: Global, bytes: &[u8]) -> Result<(u8, Vec<u8>), AllocError>
-    ensures { IfOk result (λ a. IsAnswerOf Space bytes.now a.0 a.1.items) }
+pub(crate) fn bind_answer(alloc: Global, bytes: Vec<u8>) -> Result<(u8, Vec<u8>), AllocError>
+    ensures { IfOk result (λ a. IsAnswerOf Space bytes.items a.0 a.1.items) }
 {
     let request: SpaceRequest = match plan_of(alloc, bytes)? {
         Ok(request) => request,

@@ -76,8 +76,8 @@ fn request_answer(alloc: Global, request: &VerifyRequest) -> Result<(u8, Vec<u8>
 }
 
 /// The status and the text of `verify` for the bytes of its input.
-pub(crate) fn checked_answer(alloc: Global, bytes: &[u8]) -> Result<(u8, Vec<u8>), AllocError>
-    ensures { IfOk result (λ a. IsAnswerOf Verify bytes.now a.0 a.1.items) }
+pub(crate) fn checked_answer(alloc: Global, bytes: Vec<u8>) -> Result<(u8, Vec<u8>), AllocError>
+    ensures { IfOk result (λ a. IsAnswerOf Verify bytes.items a.0 a.1.items) }
 {
     let request: VerifyRequest = match plan_of(alloc, bytes)? {
         Ok(request) => request,

@@ -1,5 +1,5 @@
--- In an item whose fields all have their formulas' values, and whose other bytes are the input's, each instruction does what it demands.
-use Rattle.std.proofs.Common.{◌≡◌, ℕ, ◌+◌, ◌%◌, ◌<◌, inl, inr, true, false, List, [], ◌∷◌, length, refl, sym, ap, ◌∙◌, subst, arith}
+-- An instruction whose fields have their formulas' values, and whose own bytes are the input's, does what it demands.
+use Rattle.std.proofs.Common.{◌≡◌, ℕ, ◌+◌, ◌%◌, inl, inr, true, false, List, [], ◌∷◌, refl, sym, ap, ◌∙◌, subst, arith}
 use Rattle.std.specs.Prelude.{Option, Some, None, Contains}
 use Rattle.wild_words.proofs.Basics.{listed_at}
 use Rattle.wild_reloc.specs.declared.info.RelocationKindInfo.{RelocationKindInfo}
@@ -21,11 +21,11 @@ use Rattle.wild_geometry.specs.MachineFacts.{RowsAreRead}
 use Rattle.wild_meaning.specs.Item.{place_at, IsReference}
 use Rattle.wild_meaning.specs.Field.{formula_of, IsInputByte}
 use Rattle.wild_meaning.specs.Sequence.{Instruction, Partner, IsOwnByte, instructions_of}
-use Rattle.wild_meaning.specs.Template.{IsInstruction, IsSingle, IsTemplate, reads, DoesDemanded, IsOfSequence}
+use Rattle.wild_meaning.specs.Template.{IsSingle, IsTemplate, reads, DoesDemanded, IsOfSequence}
 use Rattle.wild_meaning.specs.Reference.{MustHold, UsesOwnSymbolOnly}
 use Rattle.wild_meaning.proofs.PairLemmas.{as_pair}
 use Rattle.wild_references.specs.Laws.{FieldHolds}
-use Rattle.wild_references.specs.PlainLaws.{AllFieldsHold, PlainInstructionsDo, ReadsLowBits, HasFormula, RowsHaveFormulas}
+use Rattle.wild_references.specs.PlainLaws.{IsFilledPlainly, PlainInstructionsDo, ReadsLowBits, HasFormula, RowsHaveFormulas}
 use Rattle.wild_references.proofs.KnownRows.{IsSeen, row_fits, formula_there}
 use Rattle.wild_references.proofs.LowForms.{reads_low}
 use Rattle.wild_references.proofs.WindowRows.{width_of, width_by}
@@ -60,13 +60,7 @@ rows_have_formulas agree m n row is =
     let t = formula_there m n row is in
     record { formula = t.0; known = t.1; width = t.2; agrees = subst (Agrees row) t.1 (agree m n row is); low = low_bits agree m n row t.0 is t.1 }
 
--- ---- an instruction's own bytes
-
-own_bytes : (l : Layout) (w : World) (m : Memory) (item : Item) → AllFieldsHold l w m item → (r : InputRelocation) (start : ℕ) (o : Instruction) → IsInstruction l item r start o → (k : ℕ) → IsOwnByte o k → IsInputByte w m item (start + k)
-own_bytes l w m item h r start o t k own =
-    let within = t.inside in
-    let low = own.inside in
-    h.others (start + k) (omega (arith, within, low)) (t.alone k own)
+-- ---- relocations
 
 of_item : (l : Layout) (item : Item) (r : InputRelocation) (start : ℕ) (o : Instruction) (first : InputRelocation) → (t : IsOfSequence l item r start o first) → (q : InputRelocation) → Contains (first ∷ t.rest) q → IsReference item q
 of_item l item r start o first t q c =
@@ -78,13 +72,13 @@ of_item l item r start o first t q c =
 as_field : (l : Layout) (w : World) (m : Memory) (item : Item) (r : InputRelocation) → FieldHolds l w m item r → HasField l w m item r
 as_field l w m item r f = record { formula = f.formula; known = f.known; value = f.value; gives = f.gives; field = f.field }
 
-single_does : (l : Layout) (w : World) (m : Memory) (item : Item) → l.machine ≡ machine.X86_64 → AllFieldsHold l w m item → (r : InputRelocation) → IsReference item r → (start : ℕ) (o : Instruction) → IsSingle l item r start o → DoesDemanded (reads w m) l w m item r start o
-single_does l w m item on h r is start o t =
+single_does : (l : Layout) (w : World) (m : Memory) (item : Item) → l.machine ≡ machine.X86_64 → (r : InputRelocation) → FieldHolds l w m item r → (start : ℕ) (o : Instruction) → IsSingle l item r start o → ((k : ℕ) → IsOwnByte o k → IsInputByte w m item (start + k)) → DoesDemanded (reads w m) l w m item r start o
+single_does l w m item on r field start o t own =
     does_demanded l w m item r start o (record {
       x86 = on;
       stands = t.stands;
-      field = as_field l w m item r (h.references r is);
-      own = own_bytes l w m item h r start o t.stands;
+      field = as_field l w m item r field;
+      own = own;
       partners = subst (λ (ps : List Partner). PartnersThere w m item start ps) (sym t.single) tt;
     })
 
@@ -92,44 +86,54 @@ single_does l w m item on h r is start o t =
 wide_of : (l : Layout) (n : ℕ) (f : Formula) → l.machine ≡ machine.X86_64 → formula_of l.machine n ≡ Some f → width_of n ≡ width_by (Some f)
 wide_of l n f on known = ap width_by (subst (λ (k : Machine). formula_of k n ≡ Some f) on known)
 
-double_does : (l : Layout) (w : World) (m : Memory) (item : Item) → l.machine ≡ machine.X86_64 → AllFieldsHold l w m item → (r : InputRelocation) (start : ℕ) (o : Instruction) (first : InputRelocation) → IsOfSequence l item r start o first → DoesDemanded (reads w m) l w m item first start o
-double_does l w m item on h r start o first part =
+double_does : (l : Layout) (w : World) (m : Memory) (item : Item) → l.machine ≡ machine.X86_64 → (r : InputRelocation) (start : ℕ) (o : Instruction) (first : InputRelocation) → (part : IsOfSequence l item r start o first) → ((q : InputRelocation) → Contains (first ∷ part.rest) q → FieldHolds l w m item q) → ((k : ℕ) → IsOwnByte o k → IsInputByte w m item (start + k))
+    → DoesDemanded (reads w m) l w m item first start o
+double_does l w m item on r start o first part fields own =
     let pair = as_pair l item first part.rest start o on part.sequence in
     let t = pair.pair in
-    let here = of_item l item r start o first part first (0, omega arith, refl) in
-    let call = of_item l item r start o first part pair.second (subst (λ (rs : List InputRelocation). Contains (first ∷ rs) pair.second) (sym pair.is) (1, omega arith, refl)) in
-    let f = h.references pair.second call in
+    let here = fields first (0, omega arith, refl) in
+    let f = fields pair.second (subst (λ (rs : List InputRelocation). Contains (first ∷ rs) pair.second) (sym pair.is) (1, omega arith, refl)) in
     let wide = f.field.wide ∙ sym (wide_of l pair.second.number f.formula on f.known) ∙ partner_width o t.partner pair.second.number (known_filled l item first start o on t.stands) t.calls t.has.number in
     let held = subst (λ (n : ℕ). Holds m (place_at w item n) f.field.bytes) t.has.field f.field.held in
     does_demanded l w m item first start o (record {
       x86 = on;
       stands = t.stands;
-      field = as_field l w m item first (h.references first here);
-      own = own_bytes l w m item h first start o t.stands;
+      field = as_field l w m item first here;
+      own = own;
       partners = subst (λ (ps : List Partner). PartnersThere w m item start ps) (sym t.calls) ((f.field.bytes, wide, held), tt);
     })
 
 -- ---- AArch64
 
-run_kept : (l : Layout) (w : World) (m : Memory) (item : Item) → l.machine ≡ machine.AArch64 → AllFieldsHold l w m item → (r : InputRelocation) → MustHold l w item r → (UsesOwnSymbolOnly l item r → ⊥) → (start : ℕ) (o : Instruction) (first : InputRelocation) → IsOfSequence l item r start o first → IsKeptRun l w m item r start o first
-run_kept l w m item on h r asked alone start o first t = record {
+run_kept : (l : Layout) (w : World) (m : Memory) (item : Item) → l.machine ≡ machine.AArch64 → (r : InputRelocation) → MustHold l w item r → (UsesOwnSymbolOnly l item r → ⊥) → (start : ℕ) (o : Instruction) (first : InputRelocation) → (t : IsOfSequence l item r start o first) → ((q : InputRelocation) → Contains (first ∷ t.rest) q → FieldHolds l w m item q) → ((k : ℕ) → IsOwnByte o k → IsInputByte w m item (start + k))
+    → IsKeptRun l w m item r start o first
+run_kept l w m item on r asked alone start o first t fields own = record {
   on = on;
   rest = t.rest;
   sequence = t.sequence;
   one = t.one;
-  each = λ q c a n. h.references q (of_item l item r start o first t q c);
+  each = λ q c a n. fields q c;
   asked = asked;
   alone = alone;
-  own = own_bytes l w m item h first start o t.sequence.stands;
+  own = own;
 }
 
 -- ---- both
 
+part_of : (l : Layout) (item : Item) (r q : InputRelocation) (start : ℕ) (o : Instruction) (first : InputRelocation) → (t : IsOfSequence l item r start o first) → Contains (first ∷ t.rest) q → IsTemplate l item q start o first
+part_of l item r q start o first t c = inr (record { rest = t.rest; sequence = t.sequence; one = c })
+
 pub plain_instructions_do : PlainInstructionsDo
-plain_instructions_do l w m item h r is asked alone start o first t = by l.machine refl t
+plain_instructions_do l w m item r is asked alone start o first t h = by l.machine refl t
   where
+    here : IsTemplate l item r start o first → FieldHolds l w m item r
+    here t = h.fields r is t
+
+    each : (s : IsOfSequence l item r start o first) → (q : InputRelocation) → Contains (first ∷ s.rest) q → FieldHolds l w m item q
+    each s q c = h.fields q (of_item l item r start o first s q c) (part_of l item r q start o first s c)
+
     by : (k : Machine) → l.machine ≡ k → IsTemplate l item r start o first → DoesDemanded (reads w m) l w m item first start o
-    by machine.X86_64 on (inl s) = subst (λ (x : InputRelocation). DoesDemanded (reads w m) l w m item x start o) (sym s.1) (single_does l w m item on h r is start o s.0)
-    by machine.X86_64 on (inr s) = double_does l w m item on h r start o first s
-    by machine.AArch64 on (inl s) = subst (λ (x : InputRelocation). DoesDemanded (reads w m) l w m item x start o) (sym s.1) (lone_word_does l w m item r start o on s.0.stands s.0.single (h.references r is))
-    by machine.AArch64 on (inr s) = run_does l w m item r start o first (run_kept l w m item on h r asked alone start o first s)
+    by machine.X86_64 on (inl s) = subst (λ (x : InputRelocation). DoesDemanded (reads w m) l w m item x start o) (sym s.1) (single_does l w m item on r (here (inl s)) start o s.0 h.own)
+    by machine.X86_64 on (inr s) = double_does l w m item on r start o first s (each s) h.own
+    by machine.AArch64 on (inl s) = subst (λ (x : InputRelocation). DoesDemanded (reads w m) l w m item x start o) (sym s.1) (lone_word_does l w m item r start o on s.0.stands s.0.single (here (inl s)))
+    by machine.AArch64 on (inr s) = run_does l w m item r start o first (run_kept l w m item on r asked alone start o first s (each s) h.own)

@@ -1,9 +1,9 @@
--- Items in the memory of any image, whoever wrote it.
---   AllFieldsHold ..       each field of an item has its formula's value, and each byte outside all fields is the input's
---   PlainInstructionsDo    then each instruction has the effect that it requires
+-- Instructions in the memory of any image, whoever wrote it.
+--   IsFilledPlainly ..     each field of an instruction has its formula's value, and its own bytes are the input's
+--   PlainInstructionsDo    then the instruction has the effect that it requires
 --   RowsHaveFormulas       each row of the tables has a formula, with a field as wide, and agrees with it
 --   RawValuesAreAddresses  the layout's address of a symbol is that symbol's
-use Rattle.std.specs.Prelude.{◌≡◌, ℕ, ◌%◌, ◌<◌, List, length, Some}
+use Rattle.std.specs.Prelude.{◌≡◌, ℕ, ◌+◌, ◌%◌, List, Some}
 use Rattle.wild_reloc.specs.declared.info.RelocationKindInfo.{RelocationKindInfo}
 use Rattle.wild_reloc.specs.declared.expression.Class.TheVariants as class
 use Rattle.wild_reloc.specs.Expression.{expression_of}
@@ -20,21 +20,21 @@ use Rattle.wild_loader.specs.declared.memory.Memory.{Memory}
 use Rattle.wild_loader.specs.declared.world.World.{World}
 use Rattle.wild_meaning.specs.Value.{HasRaw}
 use Rattle.wild_meaning.specs.Item.{IsReference}
-use Rattle.wild_meaning.specs.Field.{formula_of, form_width, InNoField, IsInputByte}
-use Rattle.wild_meaning.specs.Sequence.{Instruction}
+use Rattle.wild_meaning.specs.Field.{formula_of, form_width, IsInputByte}
+use Rattle.wild_meaning.specs.Sequence.{Instruction, IsOwnByte}
 use Rattle.wild_meaning.specs.Template.{IsTemplate, reads, DoesDemanded}
 use Rattle.wild_meaning.specs.Reference.{MustHold, UsesOwnSymbolOnly}
 use Rattle.wild_references.specs.Laws.{FieldHolds}
 
--- each field of an item has its formula's value, and each byte outside all fields is the input's
-pub record AllFieldsHold (l : Layout) (w : World) (m : Memory) (item : Item) : Type 0 where
-  pub references : (r : InputRelocation) → IsReference item r → FieldHolds l w m item r
-  pub others : (k : ℕ) → k < length item.bytes → InNoField l item k → IsInputByte w m item k
+-- each field of an instruction has its formula's value, and its own bytes are the input's
+pub record IsFilledPlainly (l : Layout) (w : World) (m : Memory) (item : Item) (start : ℕ) (o : Instruction) (first : InputRelocation) : Type 0 where
+  pub fields : (r : InputRelocation) → IsReference item r → IsTemplate l item r start o first → FieldHolds l w m item r
+  pub own : (k : ℕ) → IsOwnByte o k → IsInputByte w m item (start + k)
 
--- then each instruction of such an item has the effect that it requires
+-- then the instruction has the effect that it requires
 abbrev pub PlainInstructionsDo : Type 0
-PlainInstructionsDo = (l : Layout) (w : World) (m : Memory) (item : Item) → AllFieldsHold l w m item → (r : InputRelocation) → IsReference item r → MustHold l w item r → (UsesOwnSymbolOnly l item r → ⊥)
-    → (start : ℕ) (o : Instruction) (first : InputRelocation) → IsTemplate l item r start o first → DoesDemanded (reads w m) l w m item first start o
+PlainInstructionsDo = (l : Layout) (w : World) (m : Memory) (item : Item) (r : InputRelocation) → IsReference item r → MustHold l w item r → (UsesOwnSymbolOnly l item r → ⊥) → (start : ℕ) (o : Instruction) (first : InputRelocation) → IsTemplate l item r start o first
+    → IsFilledPlainly l w m item start o first → DoesDemanded (reads w m) l w m item first start o
 
 -- the field reads the same of each number with the same bits below its page of 4096 bytes
 abbrev pub ReadsLowBits : Form → Type 0

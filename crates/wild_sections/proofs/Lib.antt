@@ -13,3 +13,4 @@ pub mod StringLemmas
 pub mod DefiningFileLemmas
 pub mod TargetLemmas
 pub mod FourByteLemmas
+pub mod CallLemmas

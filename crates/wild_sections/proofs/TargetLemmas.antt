@@ -1,8 +1,8 @@
 -- Laws of the table of the targets of distances.
-use Rattle.std.proofs.Common.{◌≡◌, ℕ, ◌+◌, ◌<◌, inl, inr, Bool, true, false, List, [], ◌∷◌, ◌++◌, length, get_or, map, refl, sym, ap, ◌∙◌, arith}
-use Rattle.std.specs.Prelude.{◌||◌, if◌then◌else◌, not, Option, Some, None, option_and_then, Ok, Err, slice_get}
+use Rattle.std.proofs.Common.{◌≡◌, ℕ, ◌+◌, ◌<◌, inl, inr, Bool, true, false, List, [], ◌∷◌, ◌++◌, length, get_or, map, refl, sym, ap, ◌∙◌, arith, subst}
+use Rattle.std.specs.Prelude.{◌||◌, if◌then◌else◌, Option, Some, None, option_and_then, Ok, Err, slice_get}
 use Rattle.std.specs.List.{range_with_len}
-use Rattle.std.proofs.lemmas.Bool.{cases_Bool, and_parts}
+use Rattle.std.proofs.lemmas.Bool.{cases_Bool}
 use Rattle.std.proofs.lemmas.List.FromFn.{get_or-map-range_with_len, length-map-range_with_len, map-range_with_len_more}
 use Rattle.wild_records.specs.Abi.Relocation.{r_x86_64_pc32}
 use Rattle.wild_reloc.specs.Range.{of_bits, contains}
@@ -21,11 +21,11 @@ use Rattle.wild_types.specs.declared.symbol.Symbol.{Symbol}
 use Rattle.wild_types.specs.declared.file.File.{File}
 use Rattle.wild_types.specs.declared.layout.Layout.{Layout}
 use Rattle.wild_types.specs.Item.{Item}
-use Rattle.wild_types.specs.Kinds.{is_position_independent}
 use Rattle.wild_types.specs.Lookups.{files_of, file_of, place_of}
 use Rattle.wild_types.specs.Rows.{row_of}
 use Rattle.wild_types.specs.Addresses.{raw_value}
-use Rattle.wild_slot.specs.Treatment.{flags_at}
+use Rattle.wild_types.specs.Flags.{interposable}
+use Rattle.wild_slot.specs.Treatment.{flags_at, is_barred}
 use Rattle.wild_layout.specs.declared.decision.Decision.TheVariants.{Field}
 use Rattle.wild_layout.specs.SymbolValues.{displacement}
 use Rattle.wild_layout.specs.SlotValues.{symbol_is_ifunc, address_of}
@@ -36,8 +36,8 @@ use Rattle.wild_layout.specs.Values.{weak_resolves_to_place, undefined_weak_targ
 use Rattle.wild_layout.specs.Decide.{field_for, field_or_thunk, decided}
 use Rattle.wild_layout.proofs.MergedLemmas.{address_plain}
 use Rattle.wild_sections.specs.DefiningFiles.{layout_needs_owner_files}
-use Rattle.wild_sections.specs.Targets.{is_x86_64, has_targets, may_be_merged, target_of, HasTargets, IsTarget}
-use Rattle.wild_sections.proofs.DistanceLemmas.{fixed_decided}
+use Rattle.wild_sections.specs.Targets.{is_x86_64, has_targets, may_be_merged, target_of, HasTargets, IsTarget, IsKnownTarget, IsOwnTarget}
+use Rattle.wild_sections.proofs.DistanceLemmas.{known_decided}
 use Rattle.wild_sections.proofs.DefiningFileLemmas.{unasked}
 
 -- ---- the table
@@ -69,12 +69,12 @@ or_false true b h = cc
 or_false false b h = (refl, h)
 
 -- a symbol with a target is not chosen, and stands for no merged strings
-record IsPlain (l : Layout) (i a : ℕ) : Type 0 where
-  unchosen : symbol_is_ifunc l i ≡ false
-  unmerged : may_be_merged (layout_needs_owner_files l) (slice_get l.symbols i) ≡ false
-  value : raw_value l i ≡ Some a
+pub record IsPlain (l : Layout) (i a : ℕ) : Type 0 where
+  pub unchosen : symbol_is_ifunc l i ≡ false
+  pub unmerged : may_be_merged (layout_needs_owner_files l) (slice_get l.symbols i) ≡ false
+  pub value : raw_value l i ≡ Some a
 
-is_plain : (l : Layout) (i a : ℕ) → target_of l i ≡ Some a → IsPlain l i a
+pub is_plain : (l : Layout) (i a : ℕ) → target_of l i ≡ Some a → IsPlain l i a
 is_plain l i a h =
     elim (cases_Bool (symbol_is_ifunc l i || may_be_merged (layout_needs_owner_files l) (slice_get l.symbols i))) [
       | inl t ↦ cc (rw t at h)
@@ -101,7 +101,7 @@ none_named : (l : Layout) (i : ℕ) → may_be_merged true (slice_get l.symbols 
 unfolding merged_strings
 none_named l i h = rw (none_by (is_plain_own (flags_at l i)) (option_and_then (strings_of_symbol (files_of l.groups) i) (slice_get l.symbols i)) (none_told l i (slice_get l.symbols i) h)) refl
 
-unmerged_named : (l : Layout) (i : ℕ) → may_be_merged (layout_needs_owner_files l) (slice_get l.symbols i) ≡ false → names_merged l (Some i) ≡ false
+pub unmerged_named : (l : Layout) (i : ℕ) → may_be_merged (layout_needs_owner_files l) (slice_get l.symbols i) ≡ false → names_merged l (Some i) ≡ false
 unmerged_named l i h =
     elim (cases_Bool (layout_needs_owner_files l)) [
       | inl t ↦ none_named l i (rw t at h)
@@ -118,28 +118,30 @@ target_address l r i a named h =
     let unmerged : names_merged l r.symbol ≡ false = ap (names_merged l) named ∙ unmerged_named l i p.unmerged in
     address_plain l r unmerged ∙ ap (address_of l) named ∙ address_is l i a p
 
+pub known_by : (l : Layout) (i t a : ℕ) → Some t ≡ Some a → IsTarget l i t → ((flags n : ℕ) → is_barred l flags n i ≡ false) → IsKnownTarget l i a
+known_by l i t a e target here = let same : t ≡ a = cc e in record { target = subst (IsTarget l i) same target; here = here }
+
+pub own_by : (l : Layout) (i t a : ℕ) → Some t ≡ Some a → IsTarget l i t → interposable (flags_at l i) ≡ false → IsOwnTarget l i a
+own_by l i t a e target own = let same : t ≡ a = cc e in record { target = subst (IsTarget l i) same target; own = own }
+
 -- ---- what is decided
 
-is_machine : (m : Machine) → is_x86_64 m ≡ true → m ≡ machine.X86_64
+pub is_machine : (m : Machine) → is_x86_64 m ≡ true → m ≡ machine.X86_64
 is_machine machine.X86_64 h = refl
 is_machine machine.AArch64 h = cc
 
-not_true : (b : Bool) → not b ≡ true → b ≡ false
-not_true true h = cc
-not_true false h = refl
-
 -- the row of the most common type
-abbrev near_row : RelocationKindInfo
+abbrev pub near_row : RelocationKindInfo
 near_row = plain Relative Four Signed
 
 known_row : (m : Machine) (n : ℕ) → m ≡ machine.X86_64 → n ≡ r_x86_64_pc32 → row_of m n ≡ Some near_row
 unfolding row_of x86_64_row
 known_row m n x86 number = rw (x86, number) refl
 
-near_term : (l : Layout) (r : InputRelocation) (p a : ℕ) → l.machine ≡ machine.X86_64 → address_for l r ≡ Ok a → term_at l r near_row p ≡ Ok a
+pub near_term : (l : Layout) (r : InputRelocation) (p a : ℕ) → l.machine ≡ machine.X86_64 → address_for l r ≡ Ok a → term_at l r near_row p ≡ Ok a
 near_term l r p a x86 is = ap (λ (m : Machine). if weak_resolves_to_place m l r near_row then Ok (undefined_weak_target r.number p) else term_by l r terms.Symbol) x86 ∙ is
 
-near_reached : (l : Layout) (s : Item) (r : InputRelocation) (v : ℕ) → contains (of_bits 32 Signed) v ≡ true → field_or_thunk l s r near_row v ≡ Ok (Field (ByteSize Four) v)
+pub near_reached : (l : Layout) (s : Item) (r : InputRelocation) (v : ℕ) → contains (of_bits 32 Signed) v ≡ true → field_or_thunk l s r near_row v ≡ Ok (Field (ByteSize Four) v)
 unfolding field_or_thunk
 near_reached l s r v fits = ap (λ (b : Bool). if b then Ok (Field (ByteSize Four) v) else Err (faults.OutOfRange v)) fits
 
@@ -147,12 +149,10 @@ near_field : (l : Layout) (s : Item) (r : InputRelocation) (a v : ℕ) → v ≡
 near_field l s r a v is fits = ap (λ (x : ℕ). field_or_thunk l s r near_row x) (sym is) ∙ near_reached l s r v fits
 
 -- a distance to a target that four bytes hold
-pub near_decided : (l : Layout) (s : Item) (r : InputRelocation) (i a v : ℕ) → r.number ≡ r_x86_64_pc32 → r.symbol ≡ Some i → IsTarget l i a → v ≡ displacement a r.addend (place_of s.address r) → contains (of_bits 32 Signed) v ≡ true
+pub near_decided : (l : Layout) (s : Item) (r : InputRelocation) (i a v : ℕ) → r.number ≡ r_x86_64_pc32 → r.symbol ≡ Some i → IsKnownTarget l i a → v ≡ displacement a r.addend (place_of s.address r) → contains (of_bits 32 Signed) v ≡ true
     → decided l s r ≡ Ok (Field (ByteSize Four) v)
-near_decided l s r i a v number named target is fits =
-    let both = and_parts (is_x86_64 l.machine) (not (is_position_independent l.kind)) target.output in
-    let x86 = is_machine l.machine both.0 in
-    let fixed = not_true (is_position_independent l.kind) both.1 in
-    let term = near_term l r (place_of s.address r) a x86 (target_address l r i a named target.is) in
-    sym (fixed_decided l s r near_row (known_row l.machine r.number x86 number) refl x86 fixed)
+near_decided l s r i a v number named known is fits =
+    let x86 = is_machine l.machine known.target.output in
+    let term = near_term l r (place_of s.address r) a x86 (target_address l r i a named known.target.is) in
+    sym (known_decided l s r near_row i (known_row l.machine r.number x86 number) refl x86 named (known.here s.flags r.number))
     ∙ ap (field_for l s r near_row) term ∙ near_field l s r a v is fits

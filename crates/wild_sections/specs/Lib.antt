@@ -9,3 +9,4 @@ pub mod Strings
 pub mod Targets
 pub mod Values
 pub mod SymbolTables
+pub mod Calls

@@ -1,6 +1,7 @@
 //! Applies the relocations of an input section: decides each, and writes its field.
 #![tactic(auto)]
 
+mod calls;
 mod choice;
 mod decide;
 mod defining_file;

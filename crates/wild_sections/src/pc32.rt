@@ -1,4 +1,4 @@
-//! Fast path for the most common relocation type, R_X86_64_PC32, in outputs that are not position-independent.
+//! Fast path for the distances of x86-64, R_X86_64_PC32.
 ghost use Rattle.std.specs.Prelude.{◌≡◌, ℕ, true, false, Ok, Some, slice_get};
 ghost use Rattle.wild_records.specs.Abi.Relocation.{r_x86_64_pc32};
 ghost use Rattle.wild_reloc.specs.declared.info.RelocationSize.TheVariants.{ByteSize};
@@ -15,7 +15,7 @@ ghost use Rattle.wild_sections.specs.Targets.{HasTargets};
 
 use crate::relocation::{distance_for, is_fixed_distance};
 use crate::resolve::displacement;
-use crate::target::target_in;
+use crate::target::known_target;
 use crate::values::Resolved;
 use wild_layout::Decision;
 use wild_records::abi::relocation::R_X86_64_PC32;
@@ -23,7 +23,7 @@ use wild_relax::Arch;
 use wild_reloc::{RelocationSize, Width};
 use wild_types::{Fault, InputRelocation, ItemRef};
 
-/// The most common type in x86-64 code. It is tested first, so that its row needs no search.
+/// A common type in x86-64 code. It is tested first, so that its row needs no search.
 const PC32: u32 = R_X86_64_PC32;
 
 /// The value of a decision that writes a four-byte field.
@@ -44,7 +44,7 @@ fn four_byte_value(decided: Result<Decision, Fault>) -> Option<u64>
 
 /// The distance from a relocation to an address, if it fits in a signed four-byte field.
 #[inline(always)]
-fn near_distance(target: u64, start: u64, relocation: &InputRelocation) -> Option<u64>
+pub(crate) fn near_distance(target: u64, start: u64, relocation: &InputRelocation) -> Option<u64>
     ensures is { (value : ℕ) → result ≡ Some value → value ≡ displacement target relocation.now.addend (place_of start relocation.now) }
     ensures fits { (value : ℕ) → result ≡ Some value → contains (of_bits 32 Signed) value ≡ true }
 {
@@ -56,7 +56,7 @@ fn near_distance(target: u64, start: u64, relocation: &InputRelocation) -> Optio
     }
 }
 
-/// The value of a relocation of the most common type, if the address of its symbol is in the table of targets.
+/// The value of a relocation of that type, if the address of its symbol is in the table of targets.
 #[inline(always)]
 fn value_to_target<A: Arch>(
     resolved: &Resolved<A>,
@@ -68,11 +68,11 @@ fn value_to_target<A: Arch>(
     requires number { relocation.now.number ≡ r_x86_64_pc32 }
     ensures { (value : ℕ) → result ≡ Some value → decided resolved.now.layout.now (item_now item.now) relocation.now ≡ Ok (Field (ByteSize Four) value) }
 {
-    let target = target_in(resolved, targets, relocation.symbol?)?;
+    let target = known_target(resolved, targets, relocation.symbol?)?;
     near_distance(target, item.address, relocation)
 }
 
-/// The value of a relocation of the most common type for any symbol, by the row of the type.
+/// The value of a relocation of that type for any symbol, by the row of the type.
 #[inline(never)]
 fn value_by_row<A: Arch>(
     resolved: &Resolved<A>,
@@ -91,7 +91,7 @@ fn value_by_row<A: Arch>(
     }
 }
 
-/// The value of a relocation of the most common type, if it is written to a four-byte field.
+/// The value of a relocation of that type, if it is written to a four-byte field.
 #[inline(always)]
 fn value_of_pc32<A: Arch>(
     resolved: &Resolved<A>,
@@ -109,8 +109,7 @@ fn value_of_pc32<A: Arch>(
     }
 }
 
-/// The value of a relocation of the most common type, for a four-byte field; None if the general path has to decide, as in a
-/// position-independent output.
+/// The value of a relocation of that type, for a four-byte field; None if the general path has to decide.
 #[inline(always)]
 pub(crate) fn pc32_value<A: Arch>(
     resolved: &Resolved<A>,

@@ -13,12 +13,12 @@ ghost use Rattle.wild_layout.specs.SectionPlaces.{FieldLies};
 ghost use Rattle.wild_sections.specs.Origins.{ending_errors};
 ghost use Rattle.wild_sections.specs.WrittenDecisions.{AreDecided, DecisionsLie, IsNext, decided_sites, decided_extents};
 
+use crate::calls::near_value;
 use crate::choice::may_take_next;
 use crate::decide::decide;
 use crate::fields::{write_ascending_decision, write_ascending_u32, write_decision};
 use crate::origin::{Origin, check_ending};
 use crate::overlap::shared_byte;
-use crate::pc32::pc32_value;
 use crate::values::Resolved;
 use std::alloc::Global;
 use wild_layout::Decision;
@@ -149,7 +149,7 @@ fn write_ascending<A: Arch>(
     let mut partner = false;
     for index in 0..relocations.len() {
         let relocation = &relocations[index];
-        let end = match pc32_value(resolved, targets, item, index, relocation, partner) {
+        let end = match near_value(resolved, targets, item, index, relocation, partner) {
             Some(value) => {
                 partner = false;
                 write_ascending_u32(end_of_last_field, relocation.offset, value, room)

@@ -1,7 +1,8 @@
-//! A table of symbol addresses for the fast path of S + A - P, where the address depends on the symbol only.
-ghost use Rattle.std.specs.Prelude.{◌≡◌, ℕ, ◌<◌, length, Some, IfOk, slice_get};
+//! A table of symbol addresses for the fast paths of S + A - P, where the address depends on the symbol only.
+ghost use Rattle.std.specs.Prelude.{◌≡◌, ℕ, ◌<◌, true, false, length, Some, IfOk, slice_get};
 ghost use Rattle.wild_sections.specs.DefiningFiles.{layout_needs_owner_files};
-ghost use Rattle.wild_sections.specs.Targets.{has_targets, may_be_merged, target_of, HasTargets, IsTarget};
+ghost use Rattle.wild_slot.specs.Treatment.{is_barred};
+ghost use Rattle.wild_sections.specs.Targets.{has_targets, may_be_merged, target_of, HasTargets, IsTarget, IsKnownTarget, IsOwnTarget};
 ghost use Rattle.wild_sections.specs.Values.{HasValues};
 
 use crate::indirect::symbol_is_ifunc;
@@ -9,13 +10,14 @@ use crate::merged::is_section_symbol;
 use crate::values::Resolved;
 use std::alloc::{AllocError, Global};
 use wild_relax::Arch;
+use wild_slot::flags_at;
 use wild_types::{Layout, Machine, SymbolIndex};
 
-/// Whether the table of addresses is used: in x86-64 outputs at a fixed address, where the value is S + A - P for every symbol.
+/// Whether the table of addresses is used: in outputs of x86-64.
 fn has_targets(layout: &Layout) -> bool
     ensures { result ≡ has_targets layout.now }
 {
-    matches!(layout.machine, Machine::X86_64) && !layout.kind.is_position_independent()
+    matches!(layout.machine, Machine::X86_64)
 }
 
 /// Whether the symbol may be the section symbol of merged strings.
@@ -77,7 +79,7 @@ pub(crate) fn targets_of(
 /// The address of a symbol in the table, if it has one there.
 #[inline(always)]
 #[tactic(auto, using(crate::proofs::TargetLemmas::target_at))]
-pub(crate) fn target_in<A: Arch>(
+fn target_in<A: Arch>(
     resolved: &Resolved<A>,
     targets: &[Option<u64>],
     symbol: SymbolIndex,
@@ -89,5 +91,57 @@ pub(crate) fn target_in<A: Arch>(
         targets[symbol.0]
     } else {
         None
+    }
+}
+
+/// Whether each field of a distance can hold the distance to a symbol: the output is at a fixed address, or the symbol is neither
+/// interposable nor another module's.
+#[inline(always)]
+#[tactic(auto, using(crate::proofs::DistanceLemmas::fixed_is_known, crate::proofs::DistanceLemmas::own_is_known))]
+fn is_known(layout: &Layout, symbol: SymbolIndex) -> bool
+    ensures { result ≡ true → (flags n : ℕ) → is_barred layout.now flags n symbol ≡ false }
+{
+    if !layout.kind.is_position_independent() {
+        return true;
+    }
+    let flags = flags_at(layout, symbol);
+    !flags.is_interposable() && !flags.is_dynamic()
+}
+
+/// The address of a symbol in the table, if each field of a distance can hold the distance to it.
+#[inline(always)]
+#[tactic(auto, using(crate::proofs::TargetLemmas::known_by))]
+pub(crate) fn known_target<A: Arch>(
+    resolved: &Resolved<A>,
+    targets: &[Option<u64>],
+    symbol: SymbolIndex,
+) -> Option<u64>
+    requires { HasTargets resolved.now.layout.now targets.now }
+    ensures { (a : ℕ) → result ≡ Some a → IsKnownTarget resolved.now.layout.now symbol a }
+{
+    let target = target_in(resolved, targets, symbol)?;
+    if is_known(resolved.layout, symbol) {
+        Some(target)
+    } else {
+        None
+    }
+}
+
+/// The address of a symbol in the table, if this output's definition is used.
+#[inline(always)]
+#[tactic(auto, using(crate::proofs::TargetLemmas::own_by))]
+pub(crate) fn own_target<A: Arch>(
+    resolved: &Resolved<A>,
+    targets: &[Option<u64>],
+    symbol: SymbolIndex,
+) -> Option<u64>
+    requires { HasTargets resolved.now.layout.now targets.now }
+    ensures { (a : ℕ) → result ≡ Some a → IsOwnTarget resolved.now.layout.now symbol a }
+{
+    let target = target_in(resolved, targets, symbol)?;
+    if flags_at(resolved.layout, symbol).is_interposable() {
+        None
+    } else {
+        Some(target)
     }
 }

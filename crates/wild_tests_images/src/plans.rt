@@ -2,7 +2,6 @@
 ghost use Rattle.std.specs.Prelude.{◌≡◌, IfOk};
 ghost use Rattle.wild_types.specs.declared.kind.Machine.TheVariants as machine;
 
-use serde_json::Value;
 use std::alloc::Global;
 use std::test::Fail;
 use std::thread::Threads;
@@ -14,8 +13,7 @@ use wild_text::read_plan;
 pub(crate) fn layout_of(alloc: Global, plan: &str) -> Result<Layout, Fail>
     ensures { IfOk result (λ l. l.machine ≡ machine.X86_64) }
 {
-    let value = Value::from_str(alloc, plan).ok().ok_or("json")?;
-    let layout = read_plan(alloc, &value).ok().ok_or("plan")?;
+    let layout = read_plan(alloc, plan.as_bytes()).ok().ok_or("plan")?;
     match layout.machine {
         Machine::X86_64 => Ok(layout),
         Machine::AArch64 => Err("machine".into()),

@@ -2,6 +2,7 @@
 #![tactic(auto)]
 
 mod answer;
+mod bytes;
 mod extras;
 mod fault;
 mod input;
@@ -9,11 +10,11 @@ mod laws;
 mod lists;
 mod members;
 mod options;
-mod ordered_members;
 mod output;
 mod place;
 mod place_lines;
 mod plan;
+mod plan_members;
 mod refusal;
 mod relink;
 mod shapes;
@@ -29,12 +30,12 @@ mod warning;
 pub use answer::{
     image_answer, no_length_answer, no_plan_answer, no_section_answer, push_counts, relink_answer,
 };
-pub use fault::PlanFault;
+pub use bytes::{read_bytes, read_plan};
+pub use fault::{InputFault, PlanFault};
 pub use laws::{parts_are_read_again, plans_are_read, spaces_have_images};
 pub use members::Planned;
 pub use place::PlaceRequest;
 pub use place_lines::{place_answer, place_refusal};
-pub use plan::read_plan;
 pub use refusal::refusal_answer;
 pub use relink::RelinkRequest;
 pub use space::SpaceRequest;

@@ -1,18 +1,18 @@
 //! The options of a link.
-ghost use Rattle.serde_json.specs.View.{view};
+ghost use Rattle.wild_json.specs.Values.{view};
 ghost use Rattle.wild_text.specs.Reads.{Gives};
 ghost use Rattle.wild_text.specs.Options.{output_options, dynamic_options, options_in};
 
 use crate::fault::PlanFault;
 use crate::members::{Planned, member, object, without_other_members};
-use serde_json::Value;
+use json::Value;
 use std::alloc::Global;
 use wild_types::Options;
 use wild_words::Items;
 
 /// Options of every output; all others are unset.
 #[tactic(auto, unfolding(crate::specs::Options::output_options))]
-fn output_options(alloc: Global, json: &Value) -> std::result::Result<Options, PlanFault>
+fn output_options(alloc: Global, json: &Value<'_>) -> std::result::Result<Options, PlanFault>
     ensures { Gives result (output_options (view json.now)) }
 {
     let relax = member(alloc, json, "relax", false)?;
@@ -42,7 +42,7 @@ fn output_options(alloc: Global, json: &Value) -> std::result::Result<Options, P
 #[tactic(auto, unfolding(crate::specs::Options::dynamic_options))]
 fn dynamic_options(
     alloc: Global,
-    json: &Value,
+    json: &Value<'_>,
     before: Options,
 ) -> std::result::Result<Options, PlanFault>
     ensures { Gives result (dynamic_options before (view json.now)) }
@@ -80,7 +80,7 @@ impl Planned for Options {
     ghost reads = { options_in };
 
     #[tactic(auto, unfolding(crate::specs::Options::options_in))]
-    fn read(alloc: Global, json: &Value) -> std::result::Result<Options, PlanFault> {
+    fn read(alloc: Global, json: &Value<'_>) -> std::result::Result<Options, PlanFault> {
         object(alloc, json)?;
         let before = output_options(alloc, json)?;
         let asked = dynamic_options(alloc, json, before)?;

@@ -1,11 +1,11 @@
 //! The input of the command `space`: images, and the answers of resolvers.
-ghost use Rattle.serde_json.specs.View.{view};
+ghost use Rattle.wild_json.specs.Values.{view};
 ghost use Rattle.wild_text.specs.Reads.{Gives};
 ghost use Rattle.wild_text.specs.Space.{named_image_in, resolver_in, images_in, space_in};
 
 use crate::fault::PlanFault;
 use crate::members::{Planned, member, members, object, without_other_members};
-use serde_json::Value;
+use json::Value;
 use std::alloc::Global;
 use wild_space::NamedImage;
 use wild_words::{Bytes, Items};
@@ -21,7 +21,7 @@ impl Planned for NamedImage {
     ghost reads = { named_image_in };
 
     #[tactic(auto, unfolding(crate::specs::Space::named_image_in))]
-    fn read(alloc: Global, json: &Value) -> std::result::Result<NamedImage, PlanFault> {
+    fn read(alloc: Global, json: &Value<'_>) -> std::result::Result<NamedImage, PlanFault> {
         members!(alloc, json; NamedImage {
             name: Bytes::new(alloc),
             bytes: Bytes::new(alloc),
@@ -35,7 +35,7 @@ impl Planned for (u64, u64) {
     ghost reads = { resolver_in };
 
     #[tactic(auto, unfolding(crate::specs::Space::resolver_in))]
-    fn read(alloc: Global, json: &Value) -> std::result::Result<(u64, u64), PlanFault> {
+    fn read(alloc: Global, json: &Value<'_>) -> std::result::Result<(u64, u64), PlanFault> {
         object(alloc, json)?;
         let address = member(alloc, json, "address", 0)?;
         let answer = member(alloc, json, "answer", 0)?;
@@ -45,7 +45,7 @@ impl Planned for (u64, u64) {
 
 /// The images, of which there has to be one.
 #[tactic(auto, unfolding(crate::specs::Space::images_in))]
-fn read_images(alloc: Global, json: &Value) -> std::result::Result<Items<NamedImage>, PlanFault>
+fn read_images(alloc: Global, json: &Value<'_>) -> std::result::Result<Items<NamedImage>, PlanFault>
     ensures { Gives result (images_in (view json.now)) }
 {
     let images: Items<NamedImage> = member(alloc, json, "images", Items::new(alloc))?;
@@ -59,7 +59,7 @@ impl Planned for SpaceRequest {
     ghost reads = { space_in };
 
     #[tactic(auto, unfolding(crate::specs::Space::space_in))]
-    fn read(alloc: Global, json: &Value) -> std::result::Result<SpaceRequest, PlanFault> {
+    fn read(alloc: Global, json: &Value<'_>) -> std::result::Result<SpaceRequest, PlanFault> {
         object(alloc, json)?;
         let images = read_images(alloc, json)?;
         let resolvers = member(alloc, json, "resolvers", Items::new(alloc))?;

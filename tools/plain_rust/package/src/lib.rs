@@ -47,15 +47,11 @@ impl fmt::Display for wild_text::PlanFault {
 
 /// The layout that a plan, a JSON text, describes.
 pub fn read_plan(plan: &[u8]) -> Result<Layout, PlanError> {
-    let value = match shim::serde_json::Value::from_slice(Global, plan) {
-        Ok(value) => value,
-        Err(error) if error.is_memory() => return Err(PlanError::OutOfMemory),
-        Err(_) => return Err(PlanError::NoJson),
-    };
-    match wild_text::read_plan(Global, &value) {
+    match wild_text::read_plan(Global, plan) {
         Ok(layout) => Ok(layout),
-        Err(wild_text::PlanFault::OutOfMemory) => Err(PlanError::OutOfMemory),
-        Err(wild_text::PlanFault::At(path)) => Err(PlanError::Wrong(path.as_str().to_string())),
+        Err(wild_text::InputFault::OutOfMemory) => Err(PlanError::OutOfMemory),
+        Err(wild_text::InputFault::NoJson) => Err(PlanError::NoJson),
+        Err(wild_text::InputFault::At(path)) => Err(PlanError::Wrong(path.as_str().to_string())),
     }
 }
 

@@ -1,7 +1,8 @@
-use Rattle.std.proofs.Common.{◌≡◌, drop}
+use Rattle.std.proofs.Common.{◌≡◌, ◌+◌, drop}
 use Rattle.wild_checker.specs.Loaded.{loaded_now}
+use Rattle.wild_checker.specs.Rewritten.{first_cursor}
 use Rattle.wild_checker.specs.Sections.{first_doubt}
 use Rattle.wild_checker.proofs.sections.first_doubt.Given as goal
 
 abbrev pub invariant-loop-i : goal.invariant-loop-i
-invariant-loop-i l = first_doubt (loaded_now l.loaded) l.file l.section l.i (drop l.i l.section.relocations) ≡ first_doubt (loaded_now l.loaded) l.file l.section 0 l.section.relocations
+invariant-loop-i l = first_doubt (loaded_now l.loaded) l.file l.section l.cursor l.i (drop l.i l.section.relocations) ≡ first_doubt (loaded_now l.loaded) l.file l.section first_cursor 0 l.section.relocations

@@ -1,16 +1,15 @@
-use Rattle.std.proofs.Common.{◌≡◌, refl, rules, subst, List, ℕ}
+use Rattle.std.proofs.Common.{◌≡◌, refl, subst, List, ℕ}
 use Rattle.std.specs.Prelude.{string_bytes}
-use Rattle.serde_json.specs.View.{view}
 use Rattle.wild_text.specs.Answer.{no_plan_text}
 use Rattle.wild_text.specs.Means.{no_json, no_plan, plan}
 use Rattle.wild_explain.specs.Explain.{Begins}
 use Rattle.wild_explain.proofs.answer.plan_answer.Goals as goal
 
-pub returns-in-Err : goal.returns-in-Err
-returns-in-Err g c = record {
+pub returns-in-Err-NoJson : goal.returns-in-Err-NoJson
+returns-in-Err-NoJson g c = record {
   meaning = no_json;
-  means = search rules;
-  told_is = (refl, c.in_ok-text-in-Err.ensures);
+  means = rw c.in-Err-NoJson.field-0-is at c.in-Err-NoJson.ensures;
+  told_is = (refl, c.in_ok-text-in-Err-NoJson.ensures);
 }
 
 pub returns-in-Err-At : goal.returns-in-Err-At
@@ -18,13 +17,13 @@ returns-in-Err-At g c =
     let same : c.as_str-in-Err-At.result.now ≡ string_bytes c.in-Err-At.path = rw c.in-Err-At.path-is at c.as_str-in-Err-At.ensures.value in
     record {
       meaning = no_plan (string_bytes c.in-Err-At.path);
-      means = (view c.in-Ok.value, c.in-Ok.ensures.ok, rw c.in-Err-At.field-0-is at c.in-Err-At.ensures);
+      means = rw c.in-Err-At.field-0-is at c.in-Err-At.ensures;
       told_is = (refl, subst (λ (p : List ℕ). Begins (no_plan_text p) (string_bytes c.in_ok-text-in-Err-At.text)) same c.in_ok-text-in-Err-At.ensures);
     }
 
 pub returns : goal.returns
 returns g c = record {
-  meaning = plan c.in-Ok-read_plan.layout;
-  means = (view c.in-Ok.value, c.in-Ok.ensures.ok, c.in-Ok-read_plan.ensures);
+  meaning = plan c.in-Ok.layout;
+  means = c.in-Ok.ensures;
   told_is = c.in_ok-answer.ensures;
 }

@@ -1,7 +1,10 @@
-use Rattle.std.proofs.Common.{◌≡◌, length, ◌∙◌, arith, rules}
+use Rattle.std.proofs.Common.{◌≡◌, length, sym, ◌∙◌, arith, rules, subst}
+use Rattle.std.specs.Prelude.{min}
 use Rattle.std.proofs.lemmas.List.{take_at}
 use Rattle.std.proofs.lemmas.Result.{err_from_is_err_and}
+use Rattle.wild_types.specs.Lookups.{image_size}
 use Rattle.wild_layout.specs.Faults.{group_errors}
+use Rattle.wild_geometry.specs.OwnedBytes.{IsPadded}
 use Rattle.wild_image.proofs.StandingLemmas.{each_file_lies}
 use Rattle.wild_image.proofs.BatchLemmas.{cut_of, joined}
 use Rattle.wild_image.proofs.OutputLemmas.{prefix_of_batches, batches_refused}
@@ -26,6 +29,8 @@ returns-clause-faults g c =
 
 pub returns-clause-image : goal.returns-clause-image
 returns-clause-image g c =
+    let l = c.args.layout.now in
     let long : length c.append_all.new.out ≡ c.in_ok-out.out.len = search rules in
     take_at c.append_all.new.out _ c.in_ok-out.out.len long
-    ∙ prefix_of_batches c.args.layout.now c.args.size c.args.batches.now c.deref_mut-2.result.now c.append_all.new.out c.requires.laid_out c.requires.batches (c.deref_mut-2.ensures.value ∙ c.in_ok-out.ensures) c.in_ok-append_all.ensures.image
+    ∙ prefix_of_batches l c.args.size c.args.batches.now c.deref_mut-2.result.now c.append_all.new.out c.requires.laid_out (c.owned_bytes_are_written.ensures l c.requires.clauses c.requires.shares) c.requires.batches
+    (subst (IsPadded l (min (image_size l) c.args.size)) (sym c.deref_mut-2.ensures.value) c.in_ok-out.ensures) c.in_ok-append_all.ensures.image

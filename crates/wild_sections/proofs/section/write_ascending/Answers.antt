@@ -39,7 +39,7 @@ loop-index-preserved g c =
     let below : c.loop-index.index < length c.args.item.now.relocations.now = omega (arith, test) in
     let listed = read_at s.relocations c.loop-index.index _ below c.index-relocations-index.is in
     let lies = subst (λ (n : ℕ). All (FieldLies l.machine n) s.relocations) (ap length c.requires.bytes) c.requires.lies in
-    elim c.match-pc32_value.branch [
+    elim c.match-near_value.branch [
       | in-Some w ↦
           (let d = w.in-Some.ensures.is w.in-Some.value refl in
           let ends = sym w.end-is ∙ c.in-Some-end.is in

@@ -1,0 +1,6 @@
+use Rattle.std.proofs.Common.{◌≡◌, drop, map}
+use Rattle.wild_checker.specs.Rewritten.{shape_of, first_shape}
+use Rattle.wild_checker.proofs.instructions.first_of.Given as goal
+
+abbrev pub invariant-loop-row : goal.invariant-loop-row
+invariant-loop-row l = first_shape l.number l.bytes l.end (map shape_of (drop l.row-index l.rows)) ≡ first_shape l.number l.bytes l.end (map shape_of l.rows)

@@ -1,0 +1,7 @@
+use Rattle.std.proofs.Common.{◌≡◌, drop}
+use Rattle.std.specs.List.{list_all}
+use Rattle.wild_image.specs.Padding.{fills_evenly, has_even_fillings}
+use Rattle.wild_image.proofs.padding.has_even_fillings.Given as goal
+
+abbrev pub invariant-loop-section : goal.invariant-loop-section
+invariant-loop-section l = list_all (fills_evenly l.layout) (drop l.section-index (drop 1 l.layout.sections)) ≡ has_even_fillings l.layout

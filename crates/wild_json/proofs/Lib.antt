@@ -1,0 +1,3 @@
+mod DataLemmas
+mod NameLemmas
+mod TextLemmas
