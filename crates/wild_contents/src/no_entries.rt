@@ -28,7 +28,7 @@ impl Test<InputRelocation> for NeedsNoEntry {
     }
 }
 
-/// Whether the relocations of a section are not read, or it holds frames, none of whose relocations has such a type.
+/// Whether the relocations of a section are not read, or it holds frames whose relocations all have other types.
 #[tactic(auto, unfolding(crate::specs::NoEntries::needs_no_entry))]
 pub(crate) fn needs_no_entry(section: &InputSection) -> bool
     ensures { result ≡ needs_no_entry section.now }

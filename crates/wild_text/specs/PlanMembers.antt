@@ -1,7 +1,7 @@
--- A plan of which some lists were read before the other members: their items one by one, as the tokens of its text come.
+-- A plan whose long lists are read before the other members: their items one by one, in the order of the text's tokens.
 --   IsNext reads depth old x new   the next value of the tokens encodes x, and the new tokens come after it
 --   members_with ls d              the layout of these lists and of the other members of a value
---   AreMembers found m             m has what the members that were found encode
+--   AreMembers found m             the members that were found encode m
 use Rattle.std.specs.Prelude.{◌≡◌, ℕ, List, [], ◌∷◌, codes, ◌||◌, Bool, false, Option, Some, None, Result, Ok}
 use Rattle.std.specs.Str.{bytes_eq}
 use Rattle.json.specs.Token.{Token}
@@ -101,7 +101,7 @@ abbrev pub IsListOf : {X : Type 0} → (Data → Result X (List ℕ)) → Option
 IsListOf read found kept None = kept ≡ found
 IsListOf read found kept (Some xs) = (d : Data) × (found ≡ Some d) × (list_in read d ≡ Ok xs)
 
--- m has what the members that were found encode: long lists, and the others as values
+-- the members that were found encode m: long lists, and the others as values
 pub record AreMembers (found : Members) (m : PlanMembers) : Type 0 where
   pub others : (k : List ℕ) → is_long k ≡ false → get_member k (members_view m.kept.items) ≡ get_member k found
   pub symbols : IsListOf symbol_in (get_member (codes "symbols") found) (get_member (codes "symbols") (members_view m.kept.items)) m.lists.symbols
