@@ -1,13 +1,7 @@
 -- The answer for a definition, by the entry that it names.
-use Rattle.std.proofs.Common.{◌≡◌, ℕ, ◌+◌, ◌<◌, List, length, refl, sym, ap, arith, subst, inl, inr}
-use Rattle.std.specs.Prelude.{Some, Result, Ok, Err, []}
-use Rattle.wild_records.specs.declared.symtab_entry.SymtabEntry.{SymtabEntry}
-use Rattle.wild_loader.specs.declared.world.Answer.{Answer}
-use Rattle.wild_space.specs.declared.binds.Definition.{Definition}
-use Rattle.wild_space.specs.declared.fault.BindFault.{BindFault}
-use Rattle.wild_space.specs.declared.image.NamedImage.{NamedImage}
-use Rattle.wild_space.specs.BindLaws.{IsBound, BindsAreFirst}
-use Rattle.wild_space.specs.Binds.{place_of, base_of, symbol_of, thread_start_of, bind, address_of, offset_of, answer_with, answer_of}
+use Rattle.wild_bound.proofs.Common.{◌≡◌, ℕ, ◌+◌, ◌<◌, List, length, refl, sym, ap, arith, subst, inl, inr, Some, Result, Ok, Err, [], SymtabEntry, Answer, Definition, BindFault, NamedImage, BindsAreFirst, place_of, symbol_of, thread_start_of, bind, address_of, offset_of, answer_of}
+use Rattle.wild_space.specs.BindLaws.{IsBound}
+use Rattle.wild_space.specs.Binds.{base_of, answer_with}
 use Rattle.wild_space.specs.Given.{◌>>=◌}
 
 -- a is the answer for definition d, by its entry

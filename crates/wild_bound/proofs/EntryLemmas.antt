@@ -1,33 +1,25 @@
 -- The fields of an own symbol's entry in the dynamic symbol table.
-use Rattle.std.proofs.Common.{◌≡◌, ℕ, zero, suc, ◌+◌, ◌-◌, ◌%◌, ◌^◌, ◌<◌, ◌⊎◌, inl, inr, Bool, true, false, if◌then◌else◌, List, [], ◌∷◌, ◌++◌, length, map, All, refl, sym, ap, ◌∙◌, arith, subst}
-use Rattle.std.specs.Prelude.{Option, Some, None, ◌==◌, ◌&&◌, nat_lt, slice_get, option_map, codes}
-use Rattle.std.proofs.lemmas.Bool.{cases_Bool, cases_lt, and_parts, ltb-true, ne_eqb}
-use Rattle.std.proofs.lemmas.List.Elements.{All-nil, All-cons}
+use Rattle.wild_bound.proofs.Common.{◌≡◌, ℕ, zero, suc, ◌+◌, ◌-◌, ◌%◌, ◌^◌, ◌<◌, ◌⊎◌, inl, inr, Bool, true, false, if◌then◌else◌, List, [], ◌∷◌, ◌++◌, length, map, All, refl, sym, ap, ◌∙◌, arith, subst, Option, Some, None, ◌==◌, ◌&&◌, nat_lt, slice_get, option_map, codes, cases_Bool, and_parts, ne_eqb, All-nil, holds_at, shn_undef, File, DynamicSymbol, Layout, Resolution, Symbol, has_flag, absolute, files_of, is_thread_symbol, IsSymbol, HasPlainEntry}
+use Rattle.std.proofs.lemmas.Bool.{cases_lt, ltb-true}
+use Rattle.std.proofs.lemmas.List.Elements.{All-cons}
 use Rattle.std.proofs.lemmas.Option.{slice_get-map}
-use Rattle.wild_words.proofs.ListLemmas.{ItemAt-within, All-flat_map, holds_at}
-use Rattle.wild_records.specs.Abi.Section.{shn_undef, shn_abs, shn_loreserve}
+use Rattle.wild_words.proofs.ListLemmas.{ItemAt-within, All-flat_map}
+use Rattle.wild_records.specs.Abi.Section.{shn_abs, shn_loreserve}
 use Rattle.wild_records.specs.SymbolSections.{split_index}
-use Rattle.wild_types.specs.declared.file.File.{File}
 use Rattle.wild_types.specs.declared.file.FileRole.{FileRole}
-use Rattle.wild_types.specs.declared.layout.DynamicSymbol.{DynamicSymbol}
-use Rattle.wild_types.specs.declared.layout.Layout.{Layout}
 use Rattle.wild_types.specs.declared.symbol.Place.{Place}
 use Rattle.wild_types.specs.declared.symbol.Place.TheVariants as at
-use Rattle.wild_types.specs.declared.symbol.Resolution.{Resolution}
-use Rattle.wild_types.specs.declared.symbol.Symbol.{Symbol}
 use Rattle.wild_types.specs.FileRoles.{is_library}
-use Rattle.wild_types.specs.Flags.{has_flag, absolute, copy_relocation, canonical_plt}
-use Rattle.wild_types.specs.Lookups.{files_of, file_of}
+use Rattle.wild_types.specs.Flags.{copy_relocation, canonical_plt}
+use Rattle.wild_types.specs.Lookups.{file_of}
 use Rattle.wild_types.specs.SymbolSlots.{plt_of}
 use Rattle.wild_needs.specs.DynamicStrings.{undefined_symbols}
 use Rattle.wild_needs.specs.DynamicSymbols.{undefined_entries, dynamic_symbols, listed as indexes_of, output_section}
 use Rattle.wild_table_formats.specs.declared.symbols.SymbolFields.{SymbolFields}
 use Rattle.wild_table_formats.specs.DynamicEntries.{NamedFields, or_none, listed, undefined}
-use Rattle.wild_table_formats.specs.DynamicFields.{own_attributes, in_section, resolved_value, is_thread_symbol, value_in, common_section, some_section, placed_fields, fields_at, canonical_fields, section_named, exported_fields_in, role_of}
+use Rattle.wild_table_formats.specs.DynamicFields.{own_attributes, in_section, resolved_value, value_in, common_section, some_section, placed_fields, fields_at, canonical_fields, section_named, exported_fields_in, role_of}
 use Rattle.wild_names.specs.Laws.{table_symbols}
 use Rattle.wild_names.proofs.NumberedLemmas.{defined_elsewhere, length-elsewhere, slice_get-second_list}
-use Rattle.wild_meaning.specs.Value.{IsSymbol}
-use Rattle.wild_bound.specs.Premises.{HasPlainEntry}
 
 -- ---- the fields
 

@@ -1,9 +1,8 @@
 -- The number of symbols that a hash table tells.
-use Rattle.std.proofs.Common.{◌≡◌, ℕ, zero, suc, ◌+◌, ◌-◌, ◌*◌, ◌/◌, ◌%◌, ◌^◌, ◌<◌, ◌≤◌, ◌⊎◌, inl, inr, true, false, if◌then◌else◌, List, [], ◌∷◌, ◌++◌, length, map, get_or, All, AllPairs, refl, sym, ap, ◌∙◌, arith, subst}
-use Rattle.std.specs.Prelude.{Ok, ◌==◌, not, nat_lt, nat_le, max}
-use Rattle.std.proofs.lemmas.Bool.{cases_Bool, eq-eqb, ne_eqb, eqb-true, lt-ltb, le-ltb, le-leb}
+use Rattle.wild_bound.proofs.Common.{◌≡◌, ℕ, zero, suc, ◌+◌, ◌-◌, ◌*◌, ◌/◌, ◌%◌, ◌^◌, ◌<◌, ◌≤◌, ◌⊎◌, inl, inr, true, false, if◌then◌else◌, List, [], ◌∷◌, ◌++◌, length, map, get_or, All, AllPairs, refl, sym, ap, ◌∙◌, arith, subst, Ok, ◌==◌, not, nat_lt, nat_le, max, cases_Bool, ne_eqb, eqb-true, All-nil, DynamicSymbol, gnu_hash_of, gnu_count, sysv_count}
+use Rattle.std.proofs.lemmas.Bool.{eq-eqb, lt-ltb, le-ltb, le-leb}
 use Rattle.std.proofs.lemmas.List.{length-append}
-use Rattle.std.proofs.lemmas.List.Elements.{All-nil, All-cons, All-head, All-tail, All-append}
+use Rattle.std.proofs.lemmas.List.Elements.{All-cons, All-head, All-tail, All-append}
 use Rattle.std.proofs.Math.Nat.{mod-lt}
 use Rattle.wild_words.specs.Words.{HasBytesAt}
 use Rattle.wild_words.specs.Record.{spell}
@@ -12,15 +11,14 @@ use Rattle.wild_words.proofs.OverlayLemmas.{HasBytesAt-inner}
 use Rattle.wild_words.proofs.RecordLemmas.{length-spell}
 use Rattle.wild_records.specs.HashTables.{gnu_hash_header_size, gnu_hash_header_fields, gnu_hash_header_at, GnuHashHeaderIsRead}
 use Rattle.wild_records.specs.declared.hash_tables.GnuHashHeader.{GnuHashHeader}
-use Rattle.wild_types.specs.declared.layout.DynamicSymbol.{DynamicSymbol}
 use Rattle.wild_hashes.specs.Laws.{IsValidGnuTable, ReadsWords}
 use Rattle.wild_hashes.specs.Reading.{read}
-use Rattle.wild_hashes.specs.Tables.{gnu_hash_of, first_in, buckets, gnu_chains, words, gnu_table, sysv_table}
+use Rattle.wild_hashes.specs.Tables.{first_in, buckets, gnu_chains, words, gnu_table, sysv_table}
 use Rattle.wild_hashes.proofs.BucketLemmas.{length-buckets, bucket_is, bucket_small}
 use Rattle.wild_hashes.proofs.ChainLemmas.{Ascends}
 use Rattle.wild_hashes.proofs.FoundLemmas.{chains_small, hash_small}
 use Rattle.wild_hashes.proofs.TableLemmas.{gnu_stands, sysv_stands, reads_word, reads_words, length-gnu_chains, length-words}
-use Rattle.wild_imports.specs.SymbolCount.{greatest_word, count_chain, count_from, gnu_count, sysv_count}
+use Rattle.wild_imports.specs.SymbolCount.{greatest_word, count_chain, count_from}
 
 -- ---- System V
 

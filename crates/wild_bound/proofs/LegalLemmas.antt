@@ -1,47 +1,26 @@
 -- The worlds of images that are bound to each other are legal.
-use Rattle.std.proofs.Common.{◌≡◌, ℕ, ℤ, zero, suc, ◌+◌, ◌-◌, ◌%◌, ◌^◌, ◌<◌, ◌≤◌, inl, true, false, List, [], ◌∷◌, length, get_or, All, refl, sym, ap, ◌∙◌, arith, subst}
-use Rattle.std.specs.Prelude.{Option, Some, None, Ok, ◌==◌, pos, slice_get}
-use Rattle.std.specs.Int.{w64}
-use Rattle.std.specs.Int.RustNames.{FitsSigned}
+use Rattle.wild_bound.proofs.Common.{◌≡◌, ℕ, ℤ, zero, suc, ◌+◌, ◌-◌, ◌%◌, ◌^◌, ◌<◌, ◌≤◌, inl, true, false, List, [], ◌∷◌, length, get_or, All, refl, sym, ap, ◌∙◌, arith, subst, Option, Some, None, Ok, ◌==◌, pos, slice_get, w64, FitsSigned, slice_get_within, holds_at, SymtabEntry, Layout, Resolution, Symbol, has_flag, absolute, is_thread_symbol, Answer, World, LayoutsAreLaidOut, bytes, IsWritten, DynamicSymbolsAreRead, well_formed, may_be_replaced, Definition, NamedImage, BindsAreFirst, place_of, count_of, bind, symbol_of, thread_start_of, address_of, offset_of, answer_of, no_answer, thread_address, bound, SymbolNumbers, AnswerNumbers}
 use Rattle.std.specs.List.{filter}
-use Rattle.std.proofs.lemmas.Option.{slice_get_within, slice_get-get_or}
-use Rattle.wild_words.proofs.ListLemmas.{holds_at}
+use Rattle.std.proofs.lemmas.Option.{slice_get-get_or}
 use Rattle.wild_records.specs.Abi.Segment.{pt_load}
 use Rattle.wild_records.specs.declared.program_header.ProgramHeader.{ProgramHeader}
-use Rattle.wild_records.specs.declared.symtab_entry.SymtabEntry.{SymtabEntry}
-use Rattle.wild_types.specs.declared.layout.Layout.{Layout}
 use Rattle.wild_types.specs.declared.section.Segment.{Segment}
-use Rattle.wild_types.specs.declared.symbol.Resolution.{Resolution}
-use Rattle.wild_types.specs.declared.symbol.Symbol.{Symbol}
-use Rattle.wild_types.specs.Flags.{has_flag, absolute, ifunc}
-use Rattle.wild_table_formats.specs.DynamicFields.{is_thread_symbol}
+use Rattle.wild_types.specs.Flags.{ifunc}
 use Rattle.wild_loader.specs.declared.memory.Memory.{Memory}
-use Rattle.wild_loader.specs.declared.world.Answer.{Answer}
-use Rattle.wild_loader.specs.declared.world.World.{World}
 use Rattle.wild_loader.specs.Load.{load}
-use Rattle.wild_layout.specs.Geometry.{LayoutsAreLaidOut}
-use Rattle.wild_layout.specs.Image.{bytes}
 use Rattle.wild_loaded.proofs.CopiedSymbols.{raw_is}
 use Rattle.wild_layout.specs.Numbers.{SymbolNumbers as ResolutionsFit}
-use Rattle.wild_names.specs.LookUpLaws.{IsWritten}
-use Rattle.wild_names.specs.ReadLaws.{DynamicSymbolsAreRead}
-use Rattle.wild_names.proofs.ShapeLemmas.{well_formed}
 use Rattle.wild_laws.specs.Laws.{ImagesAreSound}
 use Rattle.wild_laws.proofs.Symbols.{one_symbol}
-use Rattle.wild_meaning.specs.Value.{IsReplaceable, HasAnswer, may_be_replaced}
+use Rattle.wild_meaning.specs.Value.{IsReplaceable, HasAnswer}
 use Rattle.wild_meaning.specs.World.{IsFirstModule, HasResolver, IsKnownModule, IsAnswer, IsAnswered, IsOwnAnswer, first_module}
 use Rattle.wild_meaning.specs.Thread.{IsOwnDistance}
-use Rattle.wild_space.specs.declared.binds.Definition.{Definition}
-use Rattle.wild_space.specs.declared.image.NamedImage.{NamedImage}
 use Rattle.wild_space.specs.declared.space.Bound.{Bound}
-use Rattle.wild_space.specs.BindLaws.{BindsAreFirst}
-use Rattle.wild_space.specs.Binds.{place_of, base_of, base_of_image, distance_of, distance_of_image, count_of, bind, symbol_of, thread_start_of, address_of, offset_of, answer_for, answer_of, no_answer, modules_of}
-use Rattle.wild_imports.specs.Imports.{thread_address}
-use Rattle.wild_space.specs.Bound.{bound}
+use Rattle.wild_space.specs.Binds.{base_of, base_of_image, distance_of, distance_of_image, answer_for, modules_of}
 use Rattle.wild_space.specs.BoundLaws.{IsSameAnswer, IsMadeSymbol, IsMade, SpacesAreMade}
 use Rattle.wild_space.specs.Order.{bytes_at}
 use Rattle.wild_bound.specs.Legal.{BoundWorldsAreLegal, BoundImagesAreLinked}
-use Rattle.wild_bound.specs.Premises.{HasOwnSymbol, HasPair, AreIndexesInRange, SymbolNumbers, AnswerNumbers, WorldNumbers, HasLayout}
+use Rattle.wild_bound.specs.Premises.{HasOwnSymbol, HasPair, AreIndexesInRange, WorldNumbers, HasLayout}
 use Rattle.wild_bound.proofs.AnswerLemmas.{IsAnswerFor, answered, bound_inside}
 use Rattle.wild_bound.proofs.EntryLemmas.{table_entry}
 use Rattle.wild_bound.proofs.ModuleLemmas.{pair_of, pair_none, kept_pair}

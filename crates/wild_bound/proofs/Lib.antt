@@ -1,3 +1,4 @@
+pub mod Common
 pub mod ModuleLemmas
 pub mod AnswerLemmas
 pub mod EntryLemmas

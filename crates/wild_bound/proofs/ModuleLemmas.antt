@@ -1,10 +1,7 @@
 -- The modules of a world, and the distance of each.
-use Rattle.std.proofs.Common.{◌≡◌, ℕ, ℤ, zero, suc, ◌+◌, ◌<◌, ◌≤◌, List, [], ◌∷◌, length, get_or, refl, ap, arith, subst, inl, inr, Bool, true, false, All, eq-eqb}
-use Rattle.std.specs.Prelude.{pos, ◌==◌}
+use Rattle.wild_bound.proofs.Common.{◌≡◌, ℕ, ℤ, zero, suc, ◌+◌, ◌<◌, ◌≤◌, List, [], ◌∷◌, length, get_or, refl, ap, arith, subst, inl, inr, Bool, true, false, All, eq-eqb, pos, ◌==◌, cases_Bool, ne_eqb, NamedImage}
 use Rattle.std.specs.List.{filter}
-use Rattle.std.proofs.lemmas.Bool.{cases_Bool, ne_eqb}
 use Rattle.std.proofs.lemmas.List.Elements.{All-head, All-tail}
-use Rattle.wild_space.specs.declared.image.NamedImage.{NamedImage}
 use Rattle.wild_space.specs.Binds.{distance_of, modules_from, modules_of}
 
 no_pair : (xs : List NamedImage) (n : ℕ) (js : List ℕ) (key : ℕ) → key ≤ n → filter (λ (p : ℕ × ℤ). p.0 == key) (modules_from xs n js) ≡ []

@@ -2,15 +2,16 @@
 use Rattle.std.specs.Prelude.{⊤}
 use Rattle.wild_frames.specs.Table.{in_order, table_of as table_of_of_table}
 use Rattle.wild_hashes.specs.Image.{image_header, part_at, part_of}
-use Rattle.wild_hashes.specs.ImageTables.{tables_at, image_tables, text_at, symbol_in, symbol_at, find_name}
+use Rattle.wild_bound.proofs.Common.{symbol_at, find_name, gnu_hash_of, find_definition, thread_address, gnu_count, sysv_count, bytes, count_of, symbol_of, find_in, bind, thread_start_of, address_of, answer_of, bound}
+use Rattle.wild_hashes.specs.ImageTables.{tables_at, image_tables, text_at, symbol_in}
 use Rattle.wild_hashes.specs.LookUp.{chain_word, gnu_in_bucket, gnu_find, gnu_lookup, sysv_find, sysv_by, sysv_lookup}
 use Rattle.wild_hashes.specs.Reading.{string_at, read, name_offset, symbol_name}
-use Rattle.wild_hashes.specs.Tables.{sysv_hash_of, buckets, words, sysv_table, gnu_hash_of, bloom, gnu_table}
-use Rattle.wild_imports.specs.Imports.{needed_offsets, find_definition, thread_address, copies_among}
-use Rattle.wild_imports.specs.SymbolCount.{greatest_word, count_chain, gnu_count, sysv_count, section_records, dynsym_size, dynsym_count, symbol_count}
+use Rattle.wild_hashes.specs.Tables.{sysv_hash_of, buckets, words, sysv_table, bloom, gnu_table}
+use Rattle.wild_imports.specs.Imports.{needed_offsets, copies_among}
+use Rattle.wild_imports.specs.SymbolCount.{greatest_word, count_chain, section_records, dynsym_size, dynsym_count, symbol_count}
 use Rattle.wild_layout.specs.Content.{frame_bytes_of, frames_bytes}
 use Rattle.wild_layout.specs.DynamicRelocations.{section_generals, file_generals}
-use Rattle.wild_layout.specs.Image.{pieces, padding, bytes}
+use Rattle.wild_layout.specs.Image.{pieces, padding}
 use Rattle.wild_layout.specs.RelativeRelocations.{section_entries as section_entries_of_relativerelocations}
 use Rattle.wild_layout.specs.SearchTable.{search_table}
 use Rattle.wild_layout.specs.SlotBytes.{slot_words_of, slot_entries_of, stubs_of, flat_places_of}
@@ -37,8 +38,8 @@ use Rattle.wild_records.specs.Verdefs.{verdef_fields, verdaux_fields}
 use Rattle.wild_records.specs.Verneeds.{verneed_fields, vernaux_fields}
 use Rattle.wild_records.specs.Versyms.{versym_fields}
 use Rattle.wild_reloc.specs.Immediate.{insert_bits}
-use Rattle.wild_space.specs.Binds.{count_of, symbol_of, name_in, find_in, first_definition, definition_of_name, bind, thread_start_of, address_of, answer_of, later_definition, source_at, with_symbol, symbols_of, modules_from, world_of}
-use Rattle.wild_space.specs.Bound.{copies_in, none_copies, copies_of, with_image_bound, memories, source_bytes, with_bytes, with_copies, loaded_with, loaded, bound_in, bound}
+use Rattle.wild_space.specs.Binds.{name_in, first_definition, definition_of_name, later_definition, source_at, with_symbol, symbols_of, modules_from, world_of}
+use Rattle.wild_space.specs.Bound.{copies_in, none_copies, copies_of, with_image_bound, memories, source_bytes, with_bytes, with_copies, loaded_with, loaded, bound_in}
 use Rattle.wild_space.specs.Given.{steps}
 use Rattle.wild_space.specs.Names.{named_from}
 use Rattle.wild_space.specs.Order.{tables_of, target, with_targets, with_needed, walk, order_of}

@@ -1,34 +1,22 @@
 -- The answer for a symbol that is bound to itself is the output's own.
-use Rattle.std.proofs.Common.{◌≡◌, ℕ, zero, ◌+◌, ◌-◌, ◌%◌, ◌^◌, ◌<◌, inl, inr, Bool, true, false, if◌then◌else◌, List, refl, sym, ap, ◌∙◌, arith, subst}
-use Rattle.std.specs.Prelude.{Option, Some, None, Result, Ok, Err, ◌==◌, not, slice_get}
-use Rattle.std.proofs.lemmas.Bool.{cases_Bool, and_parts, eqb-true, ne_eqb, eq-eqb}
-use Rattle.wild_records.specs.Abi.Section.{shn_undef, shn_abs}
+use Rattle.wild_bound.proofs.Common.{◌≡◌, ℕ, zero, ◌+◌, ◌-◌, ◌%◌, ◌^◌, ◌<◌, inl, inr, Bool, true, false, if◌then◌else◌, List, refl, sym, ap, ◌∙◌, arith, subst, Option, Some, None, Result, Ok, Err, ◌==◌, not, slice_get, cases_Bool, and_parts, eqb-true, ne_eqb, shn_undef, SymtabEntry, Layout, Resolution, Symbol, has_flag, absolute, is_thread_symbol, World, ImageTables, find_name, symbol_at, bytes, thread_address, find_definition, AreReadBack, BindFault, NamedImage, BindsAreFirst, place_of, symbol_of, find_in, thread_start_of, address_of, offset_of, IsBoundToItself, SymbolNumbers, HasPlainEntry}
+use Rattle.std.proofs.lemmas.Bool.{eq-eqb}
+use Rattle.wild_records.specs.Abi.Section.{shn_abs}
 use Rattle.wild_records.specs.Abi.Symbol.{stt_tls, stt_gnu_ifunc, stv_default}
-use Rattle.wild_records.specs.declared.symtab_entry.SymtabEntry.{SymtabEntry}
-use Rattle.wild_types.specs.declared.layout.Layout.{Layout}
-use Rattle.wild_types.specs.declared.symbol.Resolution.{Resolution}
-use Rattle.wild_types.specs.declared.symbol.Symbol.{Symbol}
-use Rattle.wild_types.specs.Flags.{has_flag, absolute, ifunc}
+use Rattle.wild_types.specs.Flags.{ifunc}
 use Rattle.wild_table_formats.specs.DynamicEntries.{NamedFields}
-use Rattle.wild_table_formats.specs.DynamicFields.{is_thread_symbol}
-use Rattle.wild_loader.specs.declared.world.World.{World}
 use Rattle.wild_loader.specs.Changes.{first_value}
 use Rattle.wild_hashes.specs.declared.fault.ImageFault.{ImageFault}
-use Rattle.wild_hashes.specs.declared.tables.ImageTables.{ImageTables}
 use Rattle.wild_hashes.specs.Image.{◌>>>◌}
-use Rattle.wild_hashes.specs.ImageTables.{headers_of, find_name, symbol_at}
-use Rattle.wild_layout.specs.Image.{bytes}
-use Rattle.wild_imports.specs.Imports.{thread_address, definition_at, find_definition}
-use Rattle.wild_names.specs.ReadLaws.{AreReadBack, IsReadBack}
+use Rattle.wild_hashes.specs.ImageTables.{headers_of}
+use Rattle.wild_imports.specs.Imports.{definition_at}
+use Rattle.wild_names.specs.ReadLaws.{IsReadBack}
 use Rattle.wild_meaning.specs.Value.{IsValue}
-use Rattle.wild_space.specs.declared.fault.BindFault.{BindFault}
 use Rattle.wild_space.specs.declared.fault.BindFault.TheVariants as faults
-use Rattle.wild_space.specs.declared.image.NamedImage.{NamedImage}
-use Rattle.wild_space.specs.BindLaws.{IsBound, BindsAreFirst}
-use Rattle.wild_space.specs.Binds.{place_of, symbol_of, find_in, thread_start_of, is_own, address_of, offset_of}
+use Rattle.wild_space.specs.BindLaws.{IsBound}
+use Rattle.wild_space.specs.Binds.{is_own}
 use Rattle.wild_space.specs.Given.{◌>>=◌, known, look}
 use Rattle.wild_space.specs.Order.{bytes_at, bytes_of_image, tables_of}
-use Rattle.wild_bound.specs.Premises.{IsBoundToItself, SymbolNumbers, HasPlainEntry}
 use Rattle.wild_bound.proofs.EntryLemmas.{counted_value, AreUndefinedOrOwn}
 
 -- ---- what is read of the image

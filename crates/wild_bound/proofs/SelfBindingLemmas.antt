@@ -1,41 +1,28 @@
 -- Symbols that are bound to themselves, and the number of dynamic symbols.
-use Rattle.std.proofs.Common.{◌≡◌, ℕ, ◌+◌, ◌%◌, inl, inr, true, false, List, [], ◌∷◌, length, map, refl, sym, ap, ◌∙◌, arith, subst}
-use Rattle.std.specs.Prelude.{Option, Some, None, Ok, ◌==◌, slice_get, option_map}
-use Rattle.std.proofs.lemmas.Bool.{cases_Bool, ne_eqb}
+use Rattle.wild_bound.proofs.Common.{◌≡◌, ℕ, ◌+◌, ◌%◌, inl, inr, true, false, List, [], ◌∷◌, length, map, refl, sym, ap, ◌∙◌, arith, subst, Option, Some, None, Ok, ◌==◌, slice_get, option_map, cases_Bool, ne_eqb, holds_at, shn_undef, SymtabEntry, DynamicSymbol, Layout, files_of, LayoutsAreLaidOut, bytes, ImageTables, symbol_at, find_name, find_definition, IsWritten, AreReadBack, DynamicSymbolsAreRead, well_formed, NamedImage, place_of, symbol_of, find_in, bind, IsBoundToItself}
 use Rattle.std.proofs.lemmas.Option.{slice_get-map}
-use Rattle.wild_words.proofs.ListLemmas.{holds_at}
-use Rattle.wild_records.specs.Abi.Section.{shn_undef}
 use Rattle.wild_records.specs.Abi.Symbol.{stv_default}
 use Rattle.wild_records.specs.HashTables.{GnuHashHeaderFits}
-use Rattle.wild_records.specs.declared.symtab_entry.SymtabEntry.{SymtabEntry}
-use Rattle.wild_types.specs.declared.layout.DynamicSymbol.{DynamicSymbol}
-use Rattle.wild_types.specs.declared.layout.Layout.{Layout}
 use Rattle.wild_types.specs.declared.layout.GnuHash.{GnuHash}
 use Rattle.wild_types.specs.declared.part.Role.TheVariants as role
-use Rattle.wild_types.specs.Lookups.{files_of}
 use Rattle.wild_needs.specs.DynamicPlaces.{filled_part}
 use Rattle.wild_needs.specs.DynamicSymbols.{first_listed}
 use Rattle.wild_table_formats.specs.DynamicEntries.{listed}
-use Rattle.wild_layout.specs.Geometry.{IsLaidOut, LayoutsAreLaidOut}
-use Rattle.wild_layout.specs.Image.{bytes}
+use Rattle.wild_layout.specs.Geometry.{IsLaidOut}
 use Rattle.wild_hashes.specs.declared.image.Part.{Part}
-use Rattle.wild_hashes.specs.declared.tables.ImageTables.{ImageTables}
 use Rattle.wild_hashes.specs.Image.{bytes_of, bytes_or_none}
-use Rattle.wild_hashes.specs.ImageTables.{symbol_at, text_at, find_name}
+use Rattle.wild_hashes.specs.ImageTables.{text_at}
 use Rattle.wild_hashes.specs.Laws.{AreNumbered, first_named, names_of, GnuLookUpFindsTheFirst, SysvLookUpFindsTheFirst, NeighboursAscend}
 use Rattle.wild_hashes.specs.LookUp.{gnu_lookup, sysv_lookup}
 use Rattle.wild_hashes.specs.Reading.{HasNoZero}
 use Rattle.wild_hashes.specs.Tables.{gnu_header}
-use Rattle.wild_imports.specs.Imports.{find_definition}
 use Rattle.wild_names.specs.Laws.{table_symbols}
-use Rattle.wild_names.specs.LookUpLaws.{IsWritten, first_with_name}
-use Rattle.wild_names.specs.ReadLaws.{IsReadBack, AreReadBack, DynamicSymbolsAreRead}
+use Rattle.wild_names.specs.LookUpLaws.{first_with_name}
+use Rattle.wild_names.specs.ReadLaws.{IsReadBack}
 use Rattle.wild_names.proofs.NumberedLemmas.{defined_elsewhere, length-elsewhere, slice_get-second_list}
-use Rattle.wild_names.proofs.ShapeLemmas.{well_formed, gnu_laid_out}
-use Rattle.wild_space.specs.declared.image.NamedImage.{NamedImage}
-use Rattle.wild_space.specs.Binds.{place_of, symbol_of, name_in, find_in, is_own, first_definition, definition_of_name, bind}
+use Rattle.wild_names.proofs.ShapeLemmas.{gnu_laid_out}
+use Rattle.wild_space.specs.Binds.{name_in, is_own, first_definition, definition_of_name}
 use Rattle.wild_bound.specs.SelfBinding.{HasGnuTable, HasSysvTable, HasLookUpTable, IsDefined, VisibleSymbolsAreBound, FirstSymbolsAreBound}
-use Rattle.wild_bound.specs.Premises.{IsBoundToItself}
 use Rattle.wild_bound.proofs.OwnLemmas.{HasBytes, bytes_are, tables_are, symbol_is}
 
 -- the laws on which the proofs depend

@@ -1,28 +1,16 @@
 -- The number of dynamic symbols that is read of an image.
-use Rattle.std.proofs.Common.{◌≡◌, ℕ, ◌+◌, inl, inr, List, length, map, refl, sym, ap, ◌∙◌, arith}
-use Rattle.std.specs.Prelude.{None, Some, Ok}
+use Rattle.wild_bound.proofs.Common.{◌≡◌, ℕ, ◌+◌, inl, inr, List, length, map, refl, sym, ap, ◌∙◌, arith, None, Some, Ok, slice_get_within, DynamicSymbol, Layout, files_of, LayoutsAreLaidOut, bytes, ImageTables, gnu_hash_of, sysv_count, gnu_count, IsWritten, AreReadBack, DynamicSymbolsAreRead, well_formed, NamedImage, place_of, count_of}
 use Rattle.std.proofs.lemmas.List.{length-append, length-map}
-use Rattle.std.proofs.lemmas.Option.{slice_get_within}
 use Rattle.wild_records.specs.HashTables.{GnuHashHeaderFits, GnuHashHeaderIsRead}
-use Rattle.wild_types.specs.declared.layout.DynamicSymbol.{DynamicSymbol}
-use Rattle.wild_types.specs.declared.layout.Layout.{Layout}
 use Rattle.wild_types.specs.declared.part.Role.TheVariants as role
-use Rattle.wild_types.specs.Lookups.{files_of}
 use Rattle.wild_needs.specs.DynamicPlaces.{filled_part}
 use Rattle.wild_needs.specs.DynamicSymbols.{first_listed, undefined_entries, dynamic_symbols, listed as indexes_of}
-use Rattle.wild_layout.specs.Geometry.{LayoutsAreLaidOut}
-use Rattle.wild_layout.specs.Image.{bytes}
 use Rattle.wild_hashes.specs.declared.image.Part.{Part}
-use Rattle.wild_hashes.specs.declared.tables.ImageTables.{ImageTables}
 use Rattle.wild_hashes.specs.Image.{bytes_of}
 use Rattle.wild_hashes.specs.Laws.{NeighboursAscend}
-use Rattle.wild_hashes.specs.Tables.{gnu_header, gnu_hash_of, sysv_hash_of}
-use Rattle.wild_imports.specs.SymbolCount.{sysv_count, gnu_count, symbol_count}
-use Rattle.wild_names.specs.LookUpLaws.{IsWritten}
-use Rattle.wild_names.specs.ReadLaws.{AreReadBack, DynamicSymbolsAreRead}
-use Rattle.wild_names.proofs.ShapeLemmas.{well_formed, gnu_laid_out}
-use Rattle.wild_space.specs.declared.image.NamedImage.{NamedImage}
-use Rattle.wild_space.specs.Binds.{place_of, count_of}
+use Rattle.wild_hashes.specs.Tables.{gnu_header, sysv_hash_of}
+use Rattle.wild_imports.specs.SymbolCount.{symbol_count}
+use Rattle.wild_names.proofs.ShapeLemmas.{gnu_laid_out}
 use Rattle.wild_bound.specs.SelfBinding.{HasGnuTable, HasSysvTable, HasCountTable, IndexesAreInRange}
 use Rattle.wild_bound.proofs.HashTableCounts.{sysv_counted, gnu_counted, hashes_small}
 use Rattle.wild_bound.proofs.OwnLemmas.{HasBytes, bytes_are, tables_are}

@@ -1,22 +1,10 @@
 -- The value of a symbol that another module may define is that of its definition.
-use Rattle.std.proofs.Common.{◌≡◌, ℕ, ◌≤◌, inl, inr, true, false, List, [], sym, ap, ◌∙◌, arith, subst}
-use Rattle.std.specs.Prelude.{Option, Some, None, Ok}
-use Rattle.std.proofs.lemmas.Option.{slice_get_within}
-use Rattle.wild_types.specs.declared.layout.Layout.{Layout}
-use Rattle.wild_types.specs.declared.symbol.Resolution.{Resolution}
-use Rattle.wild_types.specs.declared.symbol.Symbol.{Symbol}
+use Rattle.wild_bound.proofs.Common.{◌≡◌, ℕ, ◌≤◌, inl, inr, true, false, List, [], sym, ap, ◌∙◌, arith, subst, Option, Some, None, Ok, slice_get_within, Layout, Resolution, Symbol, LayoutsAreLaidOut, Answer, World, well_formed, IsSymbol, may_be_replaced, Definition, NamedImage, BindsAreFirst, bind, no_answer}
 use Rattle.wild_layout.specs.Faults.{errors}
-use Rattle.wild_layout.specs.Geometry.{LayoutsAreLaidOut}
-use Rattle.wild_loader.specs.declared.world.Answer.{Answer}
-use Rattle.wild_loader.specs.declared.world.World.{World}
-use Rattle.wild_names.proofs.ShapeLemmas.{well_formed}
 use Rattle.wild_laws.proofs.Symbols.{one_symbol}
-use Rattle.wild_meaning.specs.Value.{IsSymbol, IsReplaceable, HasAnswer, may_be_replaced}
-use Rattle.wild_space.specs.declared.binds.Definition.{Definition}
-use Rattle.wild_space.specs.declared.image.NamedImage.{NamedImage}
-use Rattle.wild_space.specs.BindLaws.{BindsAreFirst}
+use Rattle.wild_meaning.specs.Value.{IsReplaceable, HasAnswer}
 use Rattle.wild_space.specs.BoundLaws.{SpacesAreMade}
-use Rattle.wild_space.specs.Binds.{bind, answer_for, no_answer}
+use Rattle.wild_space.specs.Binds.{answer_for}
 use Rattle.wild_bound.specs.Values.{HasBoundValue, HasLinkedValue, BoundValuesAreDefinitions}
 use Rattle.wild_bound.proofs.AnswerLemmas.{answered}
 use Rattle.wild_bound.proofs.LegalLemmas.{IsMadeWorld, made_world}

@@ -1,23 +1,18 @@
 -- The worked layouts have no faults, their numbers are in their types' ranges, and their images have these bytes.
-use Rattle.std.proofs.Common.{◌≡◌, ℕ, ◌^◌, ◌<◌, Bool, true, List, [], ◌∷◌, refl, arith, subst}
-use Rattle.std.specs.Prelude.{◌&&◌, All, nat_lt, Some}
-use Rattle.std.specs.Int.{w64}
+use Rattle.wild_bound.proofs.Common.{◌≡◌, ℕ, ◌^◌, ◌<◌, Bool, true, List, [], ◌∷◌, refl, arith, subst, ◌&&◌, All, nat_lt, Some, w64, and_parts, All-nil, Resolution, File, bytes}
 use Rattle.std.specs.List.{list_all}
-use Rattle.std.proofs.lemmas.Bool.{and_parts, ltb-true}
+use Rattle.std.proofs.lemmas.Bool.{ltb-true}
 use Rattle.std.proofs.lemmas.Int.{fits_signed_from_abs}
-use Rattle.std.proofs.lemmas.List.Elements.{All-nil, All-from_recursion, All-weaker}
+use Rattle.std.proofs.lemmas.List.Elements.{All-from_recursion, All-weaker}
 use lib.Count.{ones}
 use lib.IntN.{negsuc}
 use Rattle.wild_words.proofs.ListLemmas.{All-from_list_all}
 use Rattle.wild_records.specs.Dynamic.{DynamicEntryFits}
 use Rattle.wild_records.specs.declared.dynamic.DynamicEntry.{DynamicEntry}
 use Rattle.wild_types.specs.declared.section.Section.{Section}
-use Rattle.wild_types.specs.declared.symbol.Resolution.{Resolution}
-use Rattle.wild_types.specs.declared.file.File.{File}
 use Rattle.wild_types.specs.declared.file.Group.{Group}
 use Rattle.wild_needs.specs.Dynamic.{dynamic_entries}
 use Rattle.wild_layout.specs.Faults.{errors}
-use Rattle.wild_layout.specs.Image.{bytes}
 use Rattle.wild_layout.specs.Numbers.{NumbersFit, AddendFits, InputNumbers, SegmentNumbers, SectionNumbers, ResolutionNumbers, SymbolNumbers}
 use Rattle.wild_sample_layouts.specs.CallingPlans.{call_bytes, call_reference}
 use Rattle.wild_sample_layouts.proofs.OnLiterals.{clauses_on_literals, errors_on_literals}

@@ -1,37 +1,21 @@
 -- The worked images are bound to each other, and have all that the conditions ask for.
-use Rattle.std.proofs.Common.{◌≡◌, ℕ, zero, suc, ◌+◌, ◌^◌, ◌<◌, ◌≤◌, inr, Bool, true, false, List, [], ◌∷◌, length, refl, sym, ap, ◌∙◌, arith, subst, All}
-use Rattle.std.specs.Prelude.{ℤ, Some, None, Result, Ok, Err, ◌==◌, slice_get, codes}
-use Rattle.std.specs.Int.{w64}
-use Rattle.std.specs.Int.RustNames.{FitsSigned}
+use Rattle.wild_bound.proofs.Common.{◌≡◌, ℕ, zero, suc, ◌+◌, ◌^◌, ◌<◌, ◌≤◌, inr, Bool, true, false, List, [], ◌∷◌, length, refl, sym, ap, ◌∙◌, arith, subst, All, ℤ, Some, None, Result, Ok, Err, ◌==◌, slice_get, codes, w64, FitsSigned, eqb-true, All-nil, Layout, Resolution, Symbol, File, has_flag, Answer, World, IsSymbol, may_be_replaced, BindFault, NamedImage, place_of, count_of, bind, no_answer, bound, SymbolNumbers, HasPlainEntry, IsBoundToItself, AnswerNumbers}
 use Rattle.std.specs.List.{list_all}
-use Rattle.std.proofs.lemmas.Bool.{eqb-true}
 use Rattle.std.proofs.lemmas.Int.{fits_signed_from_abs}
-use Rattle.std.proofs.lemmas.List.Elements.{All-nil, All-from_recursion}
+use Rattle.std.proofs.lemmas.List.Elements.{All-from_recursion}
 use lib.Count.{ones}
 use lib.IntN.{pos}
 use Rattle.wild_words.proofs.Basics.{listed_passes}
 use Rattle.wild_records.specs.Abi.Segment.{pt_load}
-use Rattle.wild_types.specs.declared.layout.Layout.{Layout}
 use Rattle.wild_types.specs.declared.section.Segment.{Segment}
-use Rattle.wild_types.specs.declared.symbol.Resolution.{Resolution}
-use Rattle.wild_types.specs.declared.symbol.Symbol.{Symbol}
-use Rattle.wild_types.specs.declared.file.File.{File}
 use Rattle.wild_types.specs.declared.file.Group.{Group}
 use Rattle.wild_types.specs.ResolvedFlags.{HasItsFlags}
-use Rattle.wild_types.specs.Flags.{has_flag}
 use Rattle.wild_types.specs.Kinds.{needs_dynamic}
 use Rattle.wild_types.specs.Parts.{has_hashes}
 use Rattle.wild_layout.specs.Image.{bytes as image_bytes}
-use Rattle.wild_loader.specs.declared.world.Answer.{Answer}
-use Rattle.wild_loader.specs.declared.world.World.{World}
-use Rattle.wild_meaning.specs.Value.{IsSymbol, may_be_replaced}
 use Rattle.wild_meaning.specs.World.{IsCopied}
-use Rattle.wild_space.specs.declared.fault.BindFault.{BindFault}
-use Rattle.wild_space.specs.declared.image.NamedImage.{NamedImage}
 use Rattle.wild_space.specs.declared.space.Bound.{Bound}
-use Rattle.wild_space.specs.Binds.{place_of, count_of, bind, no_answer}
-use Rattle.wild_space.specs.Bound.{bound}
-use Rattle.wild_bound.specs.Premises.{SymbolNumbers, IsImageOf, IsPlaced, HasPair, HasOwnSymbol, HasPlainEntry, IsBoundToItself, HaveRoom, AnswerNumbers, WorldNumbers, HasLayout}
+use Rattle.wild_bound.specs.Premises.{IsImageOf, IsPlaced, HasPair, HasOwnSymbol, HaveRoom, WorldNumbers, HasLayout}
 use Rattle.wild_bound.specs.Worked.{exported_function, needed_function, library_layout, program_layout, worked_image, worked_images, worked_segments, ConditionsAreMet}
 use Rattle.wild_bound.proofs.OnImages.{bytes_on_literals, spaces_on_literals}
 use Rattle.wild_bound.proofs.WorkedBytes.{library_bytes, program_bytes}

@@ -1,6 +1,6 @@
 -- What a layout says of the worlds in which its image may be loaded.
 --   program_of l      the distance of an executable's thread-local data from the thread pointer
---   known_answers l   what is known of the answers for dynamic symbols: which are the output's own
+--   known_answers l   the answers for dynamic symbols as far as the layout fixes them: which are the output's own
 --   IsOutlineOf l o   o is the outline of a layout
 --   WorldsAreOutlined   a legal world of a layout is one of its outline
 use Rattle.std.specs.Prelude.{◌≡◌, ℕ, ◌+◌, ◌-◌, ◌%◌, ◌^◌, ◌==◌, ◌&&◌, Bool, not, if◌then◌else◌, nat_lt, List, [], ◌∷◌, length, set, replicate, Option, Some, None, min, max}
@@ -101,7 +101,7 @@ abbrev pub with_symbols : Layout → ℕ → List Symbol → List KnownAnswer �
 with_symbols l i [] known = known
 with_symbols l i (s ∷ ss) known = with_symbols l (i + 1) ss (with_symbol l i s known)
 
--- what is known of the answers for dynamic symbols (gABI, "Symbol Visibility": a symbol that is not preemptible is the component's own)
+-- the answers for dynamic symbols as far as the layout fixes them (gABI, "Symbol Visibility": a symbol that is not preemptible is the component's own)
 abbrev pub known_answers : Layout → List KnownAnswer
 known_answers l = with_symbols l 0 l.symbols (replicate (answer_count l.symbols) Foreign)
 

@@ -1,4 +1,4 @@
--- What is decided of an input section.
+-- The first changed byte of an input section, and its first reference that does not hold.
 --   changed_byte k f s        the first byte in no field and in no rewritten instruction that memory does not have in every world; fields
 --                             have to be in order
 --   doubtful_reference k f s  the first reference that does not hold in every world, or is not decided; of frames and of sections in

@@ -1,7 +1,7 @@
 -- Slots and stubs of symbols.
 --   holds_value k f i d a   the word at an address is symbol i's value in every world
---   holds_slot k f i d sort a   memory at an address has what a slot of that sort holds for symbol i
---   slot_term k f sort i    the address of the slot of a sort for symbol i, if it holds what such a slot holds
+--   holds_slot k f i d sort a   memory at an address has the content of a slot of that sort for symbol i
+--   slot_term k f sort i    the address of the slot of a sort for symbol i, if it has that content
 --   stub_term k f i         the address of symbol i's stub, if it jumps by the symbol's first slot, and that holds the symbol's value
 --   is_at_stub k f i d      the output uses the stub's address as symbol i's
 use Rattle.std.specs.Prelude.{ℕ, ◌+◌, ◌-◌, ◌^◌, ◌%◌, ◌&&◌, ◌||◌, Bool, true, false, not, ◌==◌, if◌then◌else◌, nat_lt, nat_le, slice_get, Option, Some, None, option_map, option_and_then}
@@ -101,7 +101,7 @@ holds_offset k f i d a = are_same (term_at k.memory a 8) (thread_term k f i d) |
 abbrev pub holds_descriptor : Loaded → File → ℕ → Symbol → ℕ → Bool
 holds_descriptor k f i d a = are_same (descriptor_at k.memory a) (thread_term k f i d)
 
--- memory at an address has what a slot of that sort holds for symbol i (x86-64 psABI, "Global Offset Table (GOT)"; "ELF Handling For
+-- memory at an address has the content of a slot of that sort for symbol i (x86-64 psABI, "Global Offset Table (GOT)"; "ELF Handling For
 -- Thread-Local Storage", "TLS Access Models")
 abbrev pub holds_slot : Loaded → File → ℕ → Symbol → SlotSort → ℕ → Bool
 holds_slot k f i d sorts.Address a = holds_address k f i d a

@@ -3,7 +3,7 @@
 --   in_file k f i          symbol i is one of file f
 --   raw_in k f i r         symbol i's address in the layout, from its definition's resolution r or from its place in file f
 --   symbol_term k f i      symbol i's value
---   known_answer o x           what is known of the answer for a dynamic symbol
+--   known_answer o x       the answer for a dynamic symbol, as far as the outline fixes it
 --   loaded_term k f i d    symbol i's value, also where another module may define the symbol
 --   names_no_strings k f i symbol i is not that of a section of merged strings
 use Rattle.std.specs.Prelude.{ℕ, ◌+◌, ◌%◌, ◌^◌, ◌==◌, ◌&&◌, ◌||◌, Bool, true, false, not, if◌then◌else◌, nat_lt, nat_le, length, slice_get, List, [], ◌∷◌, Option, Some, None, is_some, option_map, option_and_then}
@@ -111,7 +111,7 @@ index_of (Some r) = r.dynamic_symbol_index
 abbrev pub answer_at : ℕ → KnownAnswer → IndexedAnswer
 answer_at i a = record { index = i; answer = a }
 
--- what is known of the answer for a dynamic symbol
+-- the answer for a dynamic symbol, as far as the outline fixes it
 abbrev pub known_answer : Outline → Option ℕ → Option IndexedAnswer
 known_answer o None = None
 known_answer o (Some i) = if nat_lt i (2 ^ 32) then option_map (answer_at i) (slice_get o.symbols i) else None

@@ -93,7 +93,7 @@ fn set_own_answer(layout: &Layout, index: usize, symbol: &Symbol, answers: &mut 
     }
 }
 
-/// What is known of the answers for dynamic symbols, as many as `count`.
+/// The answers for dynamic symbols as far as the layout fixes them, as many as `count`.
 fn known_answers(
     alloc: Global,
     layout: &Layout,

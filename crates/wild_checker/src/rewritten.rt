@@ -1,7 +1,7 @@
 //! Whether code that was rewritten has the effect that the instruction of the input requires.
 //!
-//! The code in memory is read by the templates of the loader's model. Its operand is compared with the term of the instruction's slot:
-//! so code that computes an address relative to its own place is right at every base.
+//! The code in memory is read by the templates of the loader's model. Its operand is compared with the value that the instruction's slot represents,
+//! as a term: so code that computes an address relative to its own place is right at every base.
 //! A template is one instruction or a sequence; only `nop` may follow it, because a linker fills up with it.
 //! Read x86-64 psABI, "Linker Optimization", and Intel SDM, "RIP-Relative Addressing".
 ghost use Rattle.std.specs.Prelude.{◌≡◌, ◌+◌, ◌≤◌, ◌^◌, ◌%◌, ◌<◌, [], length, option_map, take, IfSome};

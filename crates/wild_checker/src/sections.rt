@@ -1,4 +1,4 @@
-//! What is decided of an input section.
+//! The first changed byte of an input section, and its first reference that does not hold.
 ghost use Rattle.std.specs.Prelude.{◌≡◌};
 ghost use Rattle.wild_checker.specs.Loaded.{loaded_now};
 ghost use Rattle.wild_checker.specs.Rewritten.{first_cursor};

@@ -211,7 +211,7 @@ fn holds_descriptor(
     )
 }
 
-/// Whether memory at an address has what a slot of that sort holds for a symbol.
+/// Whether memory at an address has the content of a slot of that sort for a symbol.
 fn holds_slot(
     loaded: &LoadedRef,
     file: &File,

@@ -187,7 +187,7 @@ pub(crate) fn symbol_term(loaded: &LoadedRef, file: &File, symbol: SymbolIndex) 
     defined_term(loaded, file, symbol, definition)
 }
 
-/// What is known of the answer for a dynamic symbol.
+/// The answer for a dynamic symbol, as far as the layout fixes it.
 #[derive(Clone, Copy)]
 pub struct IndexedAnswer {
     /// The index of the symbol.
@@ -195,7 +195,7 @@ pub struct IndexedAnswer {
     pub answer: KnownAnswer,
 }
 
-/// What is known of the answer for the dynamic symbol with an index.
+/// The answer for the dynamic symbol with an index, as far as the layout fixes it.
 fn answer_for(outline: &Outline, index: Option<u64>) -> Option<IndexedAnswer>
     ensures { result ≡ known_answer outline.now index }
 {
@@ -210,7 +210,7 @@ fn answer_for(outline: &Outline, index: Option<u64>) -> Option<IndexedAnswer>
     })
 }
 
-/// What is known of the answer for a symbol, from its definition.
+/// The answer for a symbol, by its definition, as far as the layout fixes it.
 pub(crate) fn known_answer(outline: &Outline, definition: &Symbol) -> Option<IndexedAnswer>
     ensures { result ≡ known_answer outline.now (index_of definition.now.resolution) }
 {

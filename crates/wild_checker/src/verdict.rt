@@ -120,8 +120,8 @@ fn find_verdict(alloc: Global, layout: &Layout, image: &[u8]) -> Result<Verdict,
     outlined_verdict(alloc, layout, image)
 }
 
-/// Whether an image, whoever wrote it, is right in every legal world. References whose value is the address of one of the output's own
-/// symbols, or a distance from it, are decided. An image with another one in memory is doubted there.
+/// Whether an image, whoever wrote it, is right in every legal world. References by symbols, stubs, slots, sizes and thread-local offsets
+/// are decided, and x86-64 instructions that were rewritten alone. An image with another reference in memory is doubted there.
 pub fn verify_image(alloc: Global, layout: &Layout, image: &[u8]) -> Result<Verdict, AllocError>
     ensures answer { IfOk result (λ v. IsAnswer layout.now image.now v) }
     ensures sound { IfOk result (λ v. v ≡ Yes → HoldsEverywhere layout.now image.now) }

@@ -1,27 +1,14 @@
 -- The segments carry the bytes of parts and of input sections to their addresses.
-use Rattle.std.proofs.Common.{◌≡◌, ℕ, zero, suc, ◌+◌, ◌-◌, ◌<◌, ◌≤◌, ◌==◌, nat_lt, nat_le, true, false, not, ◌&&◌, ◌||◌, List, [], ◌∷◌, length, drop, get_or, All, Option, Some, slice_get, refl, arith, subst}
-use Rattle.std.specs.List.{list_any}
-use Rattle.std.proofs.lemmas.Bool.{and_parts, and_from, leb-true, ltb-true, eqb-true, eqb-false, ne_eqb, not-true}
-use Rattle.wild_words.proofs.ListLemmas.{Found, Found-from_list_any, ItemAt-within, holds_at}
-use Rattle.wild_words.proofs.Basics.{implied, or_other}
-use Rattle.wild_records.specs.Abi.Segment.{pt_load}
-use Rattle.wild_types.specs.declared.part.Part.{Part}
-use Rattle.wild_types.specs.declared.section.Section.{Section}
-use Rattle.wild_types.specs.declared.section.Segment.{Segment}
+use Rattle.wild_geometry.proofs.Common.{◌≡◌, ℕ, zero, suc, ◌+◌, ◌-◌, ◌<◌, ◌≤◌, ◌==◌, nat_lt, nat_le, true, false, not, ◌&&◌, ◌||◌, List, [], ◌∷◌, length, drop, get_or, All, Option, Some, slice_get, refl, arith, subst, list_any, and_parts, and_from, leb-true, ltb-true, eqb-true, eqb-false, ne_eqb, not-true, Found-from_list_any, ItemAt-within, holds_at, implied, or_other, pt_load, Part, Section, Segment, Slot, InputSection, Layout, is_partial_link, allocated, flags_of, section_of_part, is_allocated_section, is_header_only, header_only, is_header_only_at, has_data, takes_file_bytes, is_loaded, is_filled, part_lies, bool_eq, part_index_fits}
+use Rattle.wild_words.proofs.ListLemmas.{Found}
 use Rattle.wild_plan_rules.specs.declared.side.ImageOrMemory.TheVariants as side
-use Rattle.wild_types.specs.declared.input.Slot.{Slot}
 use Rattle.wild_types.specs.declared.input.Slot.TheVariants as slot
-use Rattle.wild_types.specs.declared.input.InputSection.{InputSection}
-use Rattle.wild_types.specs.declared.layout.Layout.{Layout}
-use Rattle.wild_types.specs.Kinds.{is_partial_link}
-use Rattle.wild_types.specs.Lookups.{allocated, without_data, flags_of, section_of_part, is_allocated_section, is_allocated_part, is_without_data, is_header_only, header_only, is_header_only_at, fills_file, has_data, takes_file_bytes, is_loaded, is_filled}
-use Rattle.wild_plan_rules.specs.Places.{within, is_level, lies_in, lies_by, part_lies}
+use Rattle.wild_types.specs.Lookups.{without_data, is_allocated_part, is_without_data, fills_file}
+use Rattle.wild_plan_rules.specs.Places.{within, is_level, lies_in, lies_by}
 use Rattle.wild_types.specs.Parts.{is_loaded_role}
 use Rattle.wild_plan_rules.specs.Segments.{at_equal_distance, has_byte, has_file_bytes, all_below, bytes_are_loaded}
 use Rattle.wild_plan_rules.proofs.CoverLemmas.{all_below_each}
-use Rattle.wild_types.specs.FilePlaces.{bool_eq}
 use Rattle.wild_plan_rules.specs.Contents.{has_room}
-use Rattle.wild_plan_rules.specs.Indexes.{part_index_fits}
 use Rattle.wild_layout.specs.Loadable.{CarriesByte, IsMapped, IsPartMapped}
 use Rattle.wild_geometry.specs.Carried.{EachPartIsLoaded}
 use Rattle.wild_geometry.proofs.PlacedSectionLemmas.{AllClausesHold}

@@ -1,14 +1,10 @@
 -- How long it is what files and groups give to the parts.
-use Rattle.std.proofs.Common.{◌≡◌, ℕ, ◌+◌, ◌*◌, inl, inr, Bool, true, false, if◌then◌else◌, List, [], ◌∷◌, ◌++◌, length, map, get_or, None, flat_map, refl, ap, arith}
-use Rattle.std.specs.Prelude.{Option, Some, option_map, option_to_list}
-use Rattle.std.proofs.lemmas.Bool.{cases_Bool}
-use Rattle.std.proofs.lemmas.List.{length-append, length-map}
+use Rattle.wild_geometry.proofs.Common.{◌≡◌, ℕ, ◌+◌, ◌*◌, inl, inr, Bool, true, false, if◌then◌else◌, List, [], ◌∷◌, ◌++◌, length, map, get_or, None, flat_map, refl, ap, arith, Option, Some, option_map, option_to_list, cases_Bool, length-append, length-map, dynamic_entry_size, dynamic_bytes, InputRelocation, InputSection, Role, File, Group, Layout, dynamic_count, needed_entries, placed_file, placed_files, of_last_file, processed_sections, total, bytes_if_last, share, has_last, group_share, is_prelude, is_epilogue, role_place, unique_table, dynamic_room, file_content, content, slot_bytes, header_bytes}
 use Rattle.wild_words.proofs.Basics.{length-if, nil_if, flat_map-none}
-use Rattle.wild_records.specs.Dynamic.{dynamic_entry_size}
 use Rattle.wild_records.specs.SymtabEntry.{symtab_entry_size}
 use Rattle.wild_relr.proofs.SpellLemmas.{length-word_bytes}
 use Rattle.wild_table_formats.proofs.EntryLemmas.{length-rela_bytes}
-use Rattle.wild_table_formats.specs.DynamicSection.{entries_bytes, dynamic_bytes}
+use Rattle.wild_table_formats.specs.DynamicSection.{entries_bytes}
 use Rattle.wild_table_formats.proofs.DynamicLemmas.{length_entries}
 use Rattle.wild_table_formats.specs.DynamicEntries.{group_symbols}
 use Rattle.wild_table_formats.proofs.HeaderLengths.{lengths_of_headers}
@@ -17,35 +13,24 @@ use Rattle.wild_table_formats.proofs.SymbolLemmas.{length-symbol_bytes}
 use Rattle.wild_table_formats.proofs.SymtabLemmas.{length-long_indexes, length-index_bytes, length-file_side, length-table_entries}
 use Rattle.wild_table_formats.specs.TableLaws.{side_count}
 use Rattle.wild_table_formats.proofs.VersionRooms.{length-symbol_versions, length-file_definitions, length-group_needs}
-use Rattle.wild_types.specs.declared.input.InputRelocation.{InputRelocation}
-use Rattle.wild_types.specs.declared.input.InputSection.{InputSection}
-use Rattle.wild_types.specs.declared.part.Role.{Role}
 use Rattle.wild_types.specs.declared.part.Role.TheVariants as role
-use Rattle.wild_types.specs.declared.file.File.{File}
-use Rattle.wild_types.specs.declared.file.Group.{Group}
-use Rattle.wild_types.specs.declared.layout.Layout.{Layout}
-use Rattle.wild_needs.specs.Dynamic.{dynamic_count}
-use Rattle.wild_needs.specs.DynamicStrings.{file_strings, needed_entries, needed_count}
+use Rattle.wild_needs.specs.DynamicStrings.{file_strings, needed_count}
 use Rattle.wild_types.specs.Lookups.{may_have_relative}
 use Rattle.wild_needs.specs.Entries.{rela_place, rela_places, words_of, entry_count, sorted_words, dynamic_relocations, general_count}
-use Rattle.wild_placement.specs.PlacedSections.{placed_file, placed_files, of_last_file, processed_sections}
 use Rattle.wild_placement.proofs.PlacedFiles.{ReadsNoSection, placed_files_total, All-placed_files}
 use Rattle.wild_types.specs.FileSymbols.{copies_of}
-use Rattle.wild_types.specs.Lists.{total}
-use Rattle.wild_needs.specs.Needs.{bytes_per_image, dynsym_count, bytes_if_last, build_id_room, properties_room, file_table_bytes, first_share, share, has_last, last_share, group_share}
-use Rattle.wild_types.specs.FileRoles.{is_prelude, is_epilogue}
-use Rattle.wild_types.specs.Parts.{role_place}
+use Rattle.wild_needs.specs.Needs.{bytes_per_image, dynsym_count, build_id_room, properties_room, file_table_bytes, first_share, last_share}
 use Rattle.wild_needs.specs.TableSymbols.{TableSymbol, file_items, side, null_count, has_long, local_count, global_count, table_strings}
 use Rattle.wild_needs.specs.Versions.{needs_room}
 use Rattle.wild_table_formats.specs.TableEntries.{file_table, table_entries, long_indexes, index_bytes}
 use Rattle.wild_needs.specs.SlotShares.{relr_got_share}
 use Rattle.wild_needs.proofs.DynamicLemmas.{length_needed_entries}
-use Rattle.wild_layout.specs.Content.{unique_table, file_part_bytes, dynamic_room, file_content, dynamic_of, last_words, group_bytes, content}
+use Rattle.wild_layout.specs.Content.{file_part_bytes, dynamic_of, last_words, group_bytes}
 use Rattle.wild_layout.specs.Notes.{build_id_note, property_note}
 use Rattle.wild_layout.specs.DynamicRelocations.{dynamic_relocation, section_generals, copy_entry, file_generals}
 use Rattle.wild_table_formats.specs.GroupTables.{relative_entry}
 use Rattle.wild_layout.specs.RelativeRelocations.{relative_value, listed_entry, section_entries, file_entries, file_words}
-use Rattle.wild_layout.specs.SlotBytes.{slot_bytes, header_bytes, block_bytes}
+use Rattle.wild_layout.specs.SlotBytes.{block_bytes}
 use Rattle.wild_relr.specs.WriterState.{word_bytes}
 use Rattle.wild_geometry.proofs.LastGroupLemmas.{some_if}
 use Rattle.wild_geometry.proofs.FrameSections.{HasFrameRooms, placed_frame_rooms, joined_all, frames_length}

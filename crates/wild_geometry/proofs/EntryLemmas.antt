@@ -1,22 +1,11 @@
 -- The relocation entries of an executable that is loaded at its own addresses, which are found by their sections.
-use Rattle.std.proofs.Common.{◌≡◌, ℕ, zero, suc, ◌+◌, ◌-◌, ◌<◌, ◌≤◌, inl, inr, ◌==◌, Bool, true, false, not, ◌&&◌, List, [], ◌∷◌, length, drop, Option, Some, None, slice_get, refl, sym, ap, ◌∙◌, arith, subst}
-use Rattle.std.proofs.lemmas.Bool.{cases_Bool, and_parts, and_from, ltb-true, eqb-true, eqb-false, eq-eqb, not-true}
-use Rattle.std.proofs.lemmas.Option.{same_Some}
-use Rattle.wild_words.proofs.Basics.{implied}
+use Rattle.wild_geometry.proofs.Common.{◌≡◌, ℕ, zero, suc, ◌+◌, ◌-◌, ◌<◌, ◌≤◌, inl, inr, ◌==◌, Bool, true, false, not, ◌&&◌, List, [], ◌∷◌, length, drop, Option, Some, None, slice_get, refl, sym, ap, ◌∙◌, arith, subst, cases_Bool, and_parts, and_from, ltb-true, eqb-true, eqb-false, eq-eqb, not-true, same_Some, implied, Part, Role, Section, Layout, total, allocated, flags_of, has_data, is_header_only, header_only, is_header_only_at, is_allocated_section, has_role, part_with, part_lies, All-from_none_fails, None-from_fails}
 use Rattle.wild_records.specs.Abi.Section.{sht_rela}
-use Rattle.wild_types.specs.declared.part.Part.{Part}
-use Rattle.wild_types.specs.declared.part.Role.{Role}
-use Rattle.wild_types.specs.declared.section.Section.{Section}
-use Rattle.wild_types.specs.declared.layout.Layout.{Layout}
-use Rattle.wild_types.specs.Lists.{total}
-use Rattle.wild_types.specs.Lookups.{allocated, flags_of, kind_of, kind_at, without_data, has_data, is_header_only, header_only, is_header_only_at, is_allocated_section}
-use Rattle.wild_types.specs.Parts.{has_role, part_with, is_entry_role, entry_parts, bytes_in}
+use Rattle.wild_types.specs.Lookups.{kind_of, kind_at, without_data}
+use Rattle.wild_types.specs.Parts.{is_entry_role, entry_parts, bytes_in}
 use Rattle.wild_types.specs.Kinds.{is_fixed_static}
-use Rattle.wild_plan_rules.specs.Places.{part_lies}
 use Rattle.wild_plan_rules.specs.LoadedTables.{holds_entries, entries_astray, is_in_entries_section}
 use Rattle.wild_plan_rules.specs.ClauseTests.{check_entries}
-use Rattle.wild_types.proofs.ListLemmas.{All-from_none_fails}
-use Rattle.wild_plan_rules.proofs.ClauseLemmas.{None-from_fails}
 use Rattle.wild_layout.specs.Loadable.{EntriesLie, HasEntriesAlone}
 use Rattle.wild_geometry.proofs.ClauseLemmas.{Both-from_first_error}
 use Rattle.wild_geometry.proofs.PlacedSectionLemmas.{AllClausesHold}

@@ -1,18 +1,7 @@
 -- What stands once in an image is the first file's.
-use Rattle.std.proofs.Common.{◌≡◌, ◌≤◌, inl, inr, ◌==◌, Bool, true, false, ◌&&◌, List, [], ◌∷◌, ◌++◌, length, get_or, None, flat_map, refl, ◌∙◌, arith}
-use Rattle.std.proofs.lemmas.Bool.{cases_Bool, and_parts}
-use Rattle.std.proofs.lemmas.List.{append-nil}
-use Rattle.wild_types.specs.declared.part.Role.{Role}
-use Rattle.wild_types.specs.declared.file.File.{File}
-use Rattle.wild_types.specs.declared.file.Group.{Group}
-use Rattle.wild_types.specs.declared.layout.Layout.{Layout}
-use Rattle.wild_types.specs.FileRoles.{is_prelude, is_epilogue}
-use Rattle.wild_types.specs.FilePlaces.{bool_eq, file_position_fits, later_positions_fit, group_positions_fit, first_misplaced_file}
-use Rattle.wild_types.proofs.FileLemmas.{same_bool}
-use Rattle.wild_placement.specs.PlacedSections.{placed_files}
+use Rattle.wild_geometry.proofs.Common.{◌≡◌, ◌≤◌, inl, inr, ◌==◌, Bool, true, false, ◌&&◌, List, [], ◌∷◌, ◌++◌, length, get_or, None, flat_map, refl, ◌∙◌, arith, cases_Bool, and_parts, append-nil, Role, File, Group, Layout, is_prelude, is_epilogue, bool_eq, file_position_fits, later_positions_fit, group_positions_fit, first_misplaced_file, same_bool, placed_files, unique_table, file_content, content, slot_bytes, header_bytes}
 use Rattle.wild_placement.proofs.PlacedFiles.{ReadsNoSection, placed_files_same}
-use Rattle.wild_layout.specs.Content.{unique_table, file_part_bytes, file_content, group_bytes, content}
-use Rattle.wild_layout.specs.SlotBytes.{slot_bytes, header_bytes}
+use Rattle.wild_layout.specs.Content.{file_part_bytes, group_bytes}
 use Rattle.wild_geometry.proofs.ClauseLemmas.{SharesHold}
 
 -- no file and no group gives anything to the part of the role

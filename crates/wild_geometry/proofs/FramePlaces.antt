@@ -1,21 +1,9 @@
 -- The frames of a group stand in the part of frames, behind those of the groups before it.
-use Rattle.std.proofs.Common.{◌≡◌, ℕ, ◌+◌, ◌^◌, ◌<◌, ◌≤◌, List, [], ◌∷◌, length, get_or, All, Option, Some, None, refl, sym, ap, arith, subst}
-use Rattle.std.proofs.lemmas.Option.{slice_get-get_or}
-use Rattle.std.proofs.lemmas.List.Elements.{All-contains}
-use Rattle.wild_types.specs.declared.part.Part.{Part}
+use Rattle.wild_geometry.proofs.Common.{◌≡◌, ℕ, ◌+◌, ◌^◌, ◌<◌, ◌≤◌, List, [], ◌∷◌, length, get_or, All, Option, Some, None, refl, sym, ap, arith, subst, slice_get-get_or, All-contains, Part, InputSection, File, Group, Layout, total, role_place, part_with, total-prefix, kept_size, address_after, placed_sections, placed_file, file_frames, placed_from, frames_at, placed_files, share, content, table_bytes, bytes_before}
 use Rattle.wild_types.specs.declared.part.Role.TheVariants as role
-use Rattle.wild_types.specs.declared.input.InputSection.{InputSection}
-use Rattle.wild_types.specs.declared.file.File.{File}
-use Rattle.wild_types.specs.declared.file.Group.{Group}
-use Rattle.wild_types.specs.declared.layout.Layout.{Layout}
-use Rattle.wild_types.specs.Lists.{total}
-use Rattle.wild_types.specs.Parts.{role_place, part_with}
-use Rattle.wild_types.proofs.ListLemmas.{total-prefix}
-use Rattle.wild_placement.specs.FrameInputs.{kept_size}
-use Rattle.wild_placement.specs.PlacedSections.{address_after, part_address, placed_sections, placed_file, file_frames, placed_from, frames_at, placed_files}
-use Rattle.wild_needs.specs.Needs.{frame_room, share}
-use Rattle.wild_layout.specs.Content.{content}
-use Rattle.wild_layout.specs.TablePlaces.{table_bytes, bytes_before, TableLies}
+use Rattle.wild_placement.specs.PlacedSections.{part_address}
+use Rattle.wild_needs.specs.Needs.{frame_room}
+use Rattle.wild_layout.specs.TablePlaces.{TableLies}
 use Rattle.wild_geometry.proofs.PlacedSectionLemmas.{AllClausesHold}
 use Rattle.wild_geometry.proofs.FrameSections.{frame_room_is}
 use Rattle.wild_geometry.proofs.ContentLemmas.{length_joined, length-content}

@@ -1,31 +1,14 @@
 -- Frames as they stand: their fields lie in the kept bytes, which keep their length.
-use Rattle.std.proofs.Common.{◌≡◌, ℕ, ◌+◌, ◌≤◌, inr, Bool, true, false, if◌then◌else◌, List, [], ◌∷◌, length, map, get_or, All, flat_map, refl, ap, ◌∙◌, arith}
-use Rattle.std.proofs.lemmas.List.{length-append}
-use Rattle.std.proofs.lemmas.List.Elements.{All-map, All-head, All-tail}
-use Rattle.wild_words.proofs.ListLemmas.{All-flat_map}
-use Rattle.wild_types.specs.declared.input.Slot.{Slot}
+use Rattle.wild_geometry.proofs.Common.{◌≡◌, ℕ, ◌+◌, ◌≤◌, inr, Bool, true, false, if◌then◌else◌, List, [], ◌∷◌, length, map, get_or, All, flat_map, refl, ap, ◌∙◌, arith, length-append, All-map, All-head, All-tail, All-flat_map, Slot, InputRelocation, InputSection, File, Layout, is_epilogue, item_of, is_partial_link, total, is_frame, frame_bytes, with_word_order, frames_of, kept_size, moved_relocations, placed_frames, without_relocations, unread, rela_with_target, placed_by, placed_section, placed_file, bytes_if_last, frame_bytes_of, frames_bytes, FieldLies, item_bytes}
 use Rattle.wild_types.specs.declared.input.Slot.TheVariants as slot
-use Rattle.wild_types.specs.declared.input.InputRelocation.{InputRelocation}
-use Rattle.wild_types.specs.declared.input.InputSection.{InputSection}
-use Rattle.wild_types.specs.declared.file.File.{File}
-use Rattle.wild_types.specs.declared.layout.Layout.{Layout}
-use Rattle.wild_types.specs.FileRoles.{is_epilogue}
-use Rattle.wild_types.specs.Item.{item_of}
-use Rattle.wild_types.specs.Kinds.{is_partial_link}
-use Rattle.wild_types.specs.Lists.{total}
-use Rattle.wild_types.specs.Lookups.{is_frame}
 use Rattle.wild_frames.specs.declared.entry.KeptEntry.{KeptEntry}
-use Rattle.wild_frames.specs.Frames.{start, kept_in, found_in, frame_bytes}
+use Rattle.wild_frames.specs.Frames.{start, kept_in, found_in}
 use Rattle.wild_frames.proofs.EntryLemmas.{found_walked, KeptIs, each_kept, no_gaps}
 use Rattle.wild_frames.proofs.WriteLemmas.{length-entry}
-use Rattle.wild_placement.specs.ReversedWords.{with_word_order}
-use Rattle.wild_placement.specs.FrameInputs.{frames_of, kept_size}
-use Rattle.wild_placement.specs.PlacedSections.{entry_relocations, moved_relocation, moved_relocations, placed_frames, without_relocations, unread, rela_with_target, placed_by, placed_section, placed_file}
+use Rattle.wild_placement.specs.PlacedSections.{entry_relocations, moved_relocation}
 use Rattle.wild_placement.proofs.PlacedFiles.{All-sections}
-use Rattle.wild_needs.specs.Needs.{frame_room, frames_room, bytes_if_last}
-use Rattle.wild_layout.specs.Content.{frame_bytes_of, frames_bytes, end_of_frames}
-use Rattle.wild_layout.specs.SectionPlaces.{FieldLies}
-use Rattle.wild_layout.specs.Sites.{item_bytes}
+use Rattle.wild_needs.specs.Needs.{frame_room, frames_room}
+use Rattle.wild_layout.specs.Content.{end_of_frames}
 use Rattle.wild_geometry.proofs.SiteLemmas.{length-item_bytes}
 
 -- ---- one section

@@ -1,35 +1,14 @@
 -- How many bytes of the part of frames the sections of frames take.
-use Rattle.wild_types.specs.declared.file.Group.{Group}
-use Rattle.wild_types.specs.FileRoles.{is_prelude}
-use Rattle.wild_types.specs.Lists.{total}
-use Rattle.std.proofs.lemmas.List.{length-append, append-nil}
-use Rattle.std.proofs.lemmas.Bool.{and_parts, not-true}
+use Rattle.wild_geometry.proofs.Common.{Group, is_prelude, total, length-append, append-nil, and_parts, not-true, ◌≡◌, ℕ, ◌-◌, Bool, true, false, List, [], length, get_or, refl, sym, ap, ◌∙◌, arith, ◌∷◌, ◌++◌, replicate, if◌then◌else◌, All, Option, Some, None, not, slice_get, All-nil, All-head, All-tail, All-flat_map, flat_map-same, Slot, InputSection, File, Layout, item_of, is_frame, has_relocations, is_read, has_fields, frame_bytes, reversed_section, with_word_order, frames_of, kept_size, Input, placed_by, placed_section, sorted_inputs, sorted_by, sorted_in_file, sorted_in_group, files_at, sorted_input, as_loaded, unread, placed_sections, address_after, placed_files, frame_bytes_of, content, file_content, frames_bytes, item_bytes, section_bytes, SectionLies, is_own, SortedSection, overlay}
 use Rattle.std.specs.List.{flat_map}
-use Rattle.std.proofs.Common.{◌≡◌, ℕ, ◌-◌, Bool, true, false, List, [], length, get_or, refl, sym, ap, ◌∙◌, arith, ◌∷◌, ◌++◌, replicate, if◌then◌else◌}
-use Rattle.std.specs.Prelude.{All, Option, Some, None, not, slice_get}
-use Rattle.std.proofs.lemmas.List.Elements.{All-nil, All-head, All-tail}
-use Rattle.wild_words.proofs.ListLemmas.{All-flat_map, flat_map-same}
 use Rattle.wild_types.specs.declared.part.Role.TheVariants as role
-use Rattle.wild_types.specs.declared.input.Slot.{Slot}
 use Rattle.wild_types.specs.declared.input.Slot.TheVariants as slot
-use Rattle.wild_types.specs.declared.input.InputSection.{InputSection}
-use Rattle.wild_types.specs.declared.file.File.{File}
-use Rattle.wild_types.specs.declared.layout.Layout.{Layout}
-use Rattle.wild_types.specs.Item.{item_of}
-use Rattle.wild_types.specs.Lookups.{is_frame, has_relocations, is_read, has_written_relocations, has_fields}
-use Rattle.wild_frames.specs.Frames.{frame_bytes}
-use Rattle.wild_placement.specs.ReversedWords.{reversed_section, with_word_order}
-use Rattle.wild_placement.specs.FrameInputs.{frames_of, kept_size}
-use Rattle.wild_placement.specs.PlacedSections.{Input, placed_by, placed_section, sorted_inputs, sorted_by, sorted_in_file, sorted_in_group, files_at, sorted_input, as_loaded, unread, placed_sections, address_after, placed_files}
-use Rattle.wild_layout.specs.Content.{frame_bytes_of, content, file_content, frames_bytes}
-use Rattle.wild_layout.specs.Sites.{item_bytes, section_bytes, sites}
-use Rattle.wild_layout.specs.SectionPlaces.{SectionLies}
-use Rattle.wild_layout.proofs.PartialLemmas.{is_own, section_bytes_read}
+use Rattle.wild_types.specs.Lookups.{has_written_relocations}
+use Rattle.wild_layout.specs.Sites.{sites}
+use Rattle.wild_layout.proofs.PartialLemmas.{section_bytes_read}
 use Rattle.wild_geometry.proofs.SiteLemmas.{length-section_bytes}
 use Rattle.wild_geometry.proofs.FrameSections.{slot_of_unread}
 use Rattle.wild_layout.proofs.SiteLemmas.{All-one}
-use Rattle.wild_types.specs.declared.layout.SortedSection.{SortedSection}
-use Rattle.wild_words.specs.Overlay.{overlay}
 
 -- the bytes of a section that a loader may apply relocations to are its own with its sites
 pub data_bytes : (l : Layout) (f : File) (s : InputSection) → is_read s ≡ true → section_bytes l f s ≡ overlay (sites l (item_of l f s)) s.bytes

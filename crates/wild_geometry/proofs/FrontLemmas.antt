@@ -1,31 +1,13 @@
 -- What stands at the fronts of parts, as the first group gives it: merged strings, and the output's identity.
-use Rattle.std.proofs.Common.{◌≡◌, ℕ, zero, suc, ◌+◌, ◌<◌, ◌≤◌, ◌⊎◌, inl, inr, ◌==◌, Bool, true, false, not, ◌&&◌, ◌||◌, List, [], ◌∷◌, ◌++◌, length, map, get_or, All, AllPairs, Option, Some, None, slice_get, flat_map, refl, sym, ap, ◌∙◌, arith, subst}
-use Rattle.std.specs.List.{list_any, list_all}
-use Rattle.std.proofs.lemmas.Bool.{cases_Bool, and_parts, and_from, eqb-true, eqb-false, eq-eqb, ne_eqb}
-use Rattle.std.proofs.lemmas.Option.{get_or_from_slice_get, slice_get_within}
-use Rattle.std.proofs.lemmas.List.{append-nil}
+use Rattle.wild_geometry.proofs.Common.{◌≡◌, ℕ, zero, suc, ◌+◌, ◌<◌, ◌≤◌, ◌⊎◌, inl, inr, ◌==◌, Bool, true, false, not, ◌&&◌, ◌||◌, List, [], ◌∷◌, ◌++◌, length, map, get_or, All, AllPairs, Option, Some, None, slice_get, flat_map, refl, sym, ap, ◌∙◌, arith, subst, list_any, list_all, cases_Bool, and_parts, and_from, eqb-true, eqb-false, eq-eqb, ne_eqb, get_or_from_slice_get, slice_get_within, append-nil, All-nil, All-cons, All-append, All-map, AllPairs-cons, Piece, Disjoint, or_other, AllPairs-nil, AllPairs-append, AllPairs-flat_map, All-flat_map, All-from_list_all, Part, InputSection, File, Group, Layout, given, thunks_of, total, section_of_part, has_range, has_counted, has_bytes, has_range_bytes, is_filled, has_data, is_header_only_at, is_header_only_part, is_raw, section_misplaced, sections_in_ranges, some_piece, offset_in, merged_and_identity_pieces, HasRoom}
 use Rattle.std.proofs.lemmas.List.Concat.{flat_map-append}
-use Rattle.std.proofs.lemmas.List.Elements.{All-nil, All-cons, All-append, All-map}
-use Rattle.std.proofs.lemmas.List.Kept.{AllPairs-cons}
-use Rattle.wild_words.specs.Overlay.{Piece, Disjoint}
-use Rattle.wild_words.proofs.Basics.{or_other}
-use Rattle.wild_words.proofs.ListLemmas.{AllPairs-nil, AllPairs-append, AllPairs-flat_map, All-flat_map, All-from_list_all}
-use Rattle.wild_types.specs.declared.part.Part.{Part}
 use Rattle.wild_types.specs.declared.part.Role.TheVariants as role
-use Rattle.wild_types.specs.declared.input.InputSection.{InputSection}
-use Rattle.wild_types.specs.declared.file.File.{File}
-use Rattle.wild_types.specs.declared.file.Group.{Group}
 use Rattle.wild_types.specs.declared.layout.Merged.{Merged}
-use Rattle.wild_types.specs.declared.layout.Layout.{Layout}
-use Rattle.wild_types.specs.FilePlaces.{given}
-use Rattle.wild_types.specs.FileThunks.{thunks_of}
-use Rattle.wild_types.specs.Lists.{total}
-use Rattle.wild_types.specs.Lookups.{section_of_part, has_range, has_counted, has_bytes, has_range_bytes, is_filled, brings_bytes, has_data, is_header_only_at, is_header_only_part}
-use Rattle.wild_plan_rules.specs.Contents.{is_raw, holds_bytes, has_front, takes_bytes, leaves_front, file_leaves_front, group_leaves_front, section_misplaced}
+use Rattle.wild_types.specs.Lookups.{brings_bytes}
+use Rattle.wild_plan_rules.specs.Contents.{holds_bytes, has_front, takes_bytes, leaves_front, file_leaves_front, group_leaves_front}
 use Rattle.wild_plan_rules.specs.Fronts.{given_by, fills_front, merged_size, has_bytes_in_part, front_shared}
-use Rattle.wild_plan_rules.specs.Thunks.{sections_in_ranges}
-use Rattle.wild_layout.specs.Image.{some_piece, offset_in, offset_of_part, merged_bytes, front_piece, merged_and_identity_pieces}
-use Rattle.wild_layout.specs.SectionPlaces.{HasRoom, FrontLies}
+use Rattle.wild_layout.specs.Image.{offset_of_part, merged_bytes, front_piece}
+use Rattle.wild_layout.specs.SectionPlaces.{FrontLies}
 use Rattle.wild_geometry.proofs.PlacedSectionLemmas.{AllClausesHold}
 use Rattle.wild_geometry.proofs.OrderLemmas.{Follows, EndsBy-image}
 use Rattle.wild_geometry.proofs.ShareLemmas.{size_from_shares}

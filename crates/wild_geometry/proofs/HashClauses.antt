@@ -1,16 +1,11 @@
 -- What it says that the clause on hash tables holds.
-use Rattle.std.proofs.Common.{◌≡◌, ℕ, ◌+◌, ◌%◌, inl, inr, ◌==◌, ◌&&◌, nat_le, nat_lt, true, List, [], ◌∷◌, map, Option, None, Ok, refl, arith, subst}
-use Rattle.std.proofs.lemmas.Bool.{cases_Bool, and_parts, eqb-true, leb-true, le-leb, ltb-true}
+use Rattle.wild_geometry.proofs.Common.{◌≡◌, ℕ, ◌+◌, ◌%◌, inl, inr, ◌==◌, ◌&&◌, nat_le, nat_lt, true, List, [], ◌∷◌, map, Option, None, Ok, refl, arith, subst, cases_Bool, and_parts, eqb-true, leb-true, ltb-true, DynamicSymbol, Layout, first_listed, unless, fails, first_error, None-from_fails}
+use Rattle.std.proofs.lemmas.Bool.{le-leb}
 use Rattle.wild_records.specs.Hashes.{gnu_hash}
-use Rattle.wild_types.specs.declared.layout.DynamicSymbol.{DynamicSymbol}
 use Rattle.wild_types.specs.declared.layout.GnuHash.{GnuHash}
 use Rattle.wild_types.specs.declared.layout.SysvHash.{SysvHash}
-use Rattle.wild_types.specs.declared.layout.Layout.{Layout}
-use Rattle.wild_needs.specs.DynamicSymbols.{first_listed}
 use Rattle.wild_needs.specs.HashShapes.{sysv_fits, gnu_fits, gnu_shape_fits, bucket_of, bucket_below, bucket_astray}
-use Rattle.wild_types.specs.Lists.{unless}
-use Rattle.wild_plan_rules.specs.ClauseTests.{fails, first_error, check_hashes}
-use Rattle.wild_plan_rules.proofs.ClauseLemmas.{None-from_fails}
+use Rattle.wild_plan_rules.specs.ClauseTests.{check_hashes}
 use Rattle.wild_hashes.specs.Laws.{ascends, ascends_from}
 use Rattle.wild_hashes.specs.Tables.{gnu_hash_of}
 use Rattle.wild_layout.specs.HashShapes.{HasGnuShape, HasHashShapes}

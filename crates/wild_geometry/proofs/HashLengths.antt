@@ -1,17 +1,10 @@
 -- How many bytes the hash tables of the dynamic symbols have.
-use Rattle.std.proofs.Common.{◌≡◌, length, map, refl, arith}
-use Rattle.std.specs.Prelude.{Option, Some, None}
-use Rattle.std.proofs.lemmas.List.{length-append, length-map}
+use Rattle.wild_geometry.proofs.Common.{◌≡◌, length, map, refl, arith, Option, Some, None, length-append, length-map, File, DynamicSymbol, Layout, first_listed, is_epilogue, files_of}
 use Rattle.wild_words.proofs.Basics.{length-if_both}
-use Rattle.wild_types.specs.declared.file.File.{File}
-use Rattle.wild_types.specs.declared.layout.DynamicSymbol.{DynamicSymbol}
 use Rattle.wild_types.specs.declared.layout.SysvHash.{SysvHash}
 use Rattle.wild_types.specs.declared.layout.GnuHash.{GnuHash}
-use Rattle.wild_types.specs.declared.layout.Layout.{Layout}
-use Rattle.wild_needs.specs.DynamicSymbols.{undefined_entries, listed, first_listed}
-use Rattle.wild_types.specs.FileRoles.{is_epilogue}
+use Rattle.wild_needs.specs.DynamicSymbols.{undefined_entries, listed}
 use Rattle.wild_types.specs.Kinds.{needs_dynsym}
-use Rattle.wild_types.specs.Lookups.{files_of}
 use Rattle.wild_needs.specs.Needs.{sysv_room, gnu_room, last_dynamic}
 use Rattle.wild_hashes.specs.Tables.{sysv_hash_of, gnu_hash_of, gnu_header}
 use Rattle.wild_hashes.proofs.TableLemmas.{length-sysv_table, length-gnu_table}

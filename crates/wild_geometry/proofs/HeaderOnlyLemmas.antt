@@ -1,19 +1,11 @@
 -- What is not written of an image for debuggers alone.
-use Rattle.std.proofs.Common.{◌≡◌, ℕ, zero, suc, ◌<◌, inl, inr, ◌==◌, Bool, true, false, not, ◌&&◌, ◌||◌, List, [], ◌∷◌, length, get_or, take, Contains, Option, Some, None, slice_get, refl, sym, ap, ◌∙◌, arith, subst}
-use Rattle.std.specs.List.{list_any}
-use Rattle.std.proofs.lemmas.Bool.{cases_Bool, and_parts, and_from, ltb-true, eqb-true, eqb-false, eq-eqb, ne_eqb, not-true, not_from_false}
-use Rattle.wild_words.proofs.Basics.{or_other}
-use Rattle.wild_words.proofs.ListLemmas.{ItemAt-within}
+use Rattle.wild_geometry.proofs.Common.{◌≡◌, ℕ, zero, suc, ◌<◌, inl, inr, ◌==◌, Bool, true, false, not, ◌&&◌, ◌||◌, List, [], ◌∷◌, length, get_or, take, Contains, Option, Some, None, slice_get, refl, sym, ap, ◌∙◌, arith, subst, list_any, cases_Bool, and_parts, and_from, ltb-true, eqb-true, eqb-false, eq-eqb, ne_eqb, not-true, or_other, ItemAt-within, Part, Role, Section, Layout, is_partial_link, allocated, flags_of, section_of_part, is_allocated_section, has_data, is_header_only, header_only, is_header_only_at, is_header_only_part, role_place, has_role, part_with}
+use Rattle.std.proofs.lemmas.Bool.{not_from_false}
 use Rattle.wild_records.specs.Abi.Section.{sht_note}
-use Rattle.wild_types.specs.declared.part.Part.{Part}
-use Rattle.wild_types.specs.declared.part.Role.{Role}
 use Rattle.wild_types.specs.declared.part.Role.TheVariants as role
-use Rattle.wild_types.specs.declared.section.Section.{Section}
-use Rattle.wild_types.specs.declared.layout.Layout.{Layout}
-use Rattle.wild_types.specs.Kinds.{is_partial_link}
-use Rattle.wild_types.specs.Lookups.{allocated, flags_of, kind_of, kind_at, section_of_part, is_allocated_section, has_data, is_header_only, header_only, is_header_only_at, is_header_only_part}
+use Rattle.wild_types.specs.Lookups.{kind_of, kind_at}
 use Rattle.wild_types.specs.HeaderOnly.{is_header_only_role, KeepsAll}
-use Rattle.wild_types.specs.Parts.{role_place, has_role, part_with, is_loaded_role}
+use Rattle.wild_types.specs.Parts.{is_loaded_role}
 use Rattle.wild_types.proofs.PartLemmas.{not_raw}
 use Rattle.wild_plan_rules.specs.Fronts.{dynamic_is_dropped}
 use Rattle.wild_plan_rules.specs.Places.{is_in_loaded_section}

@@ -1,8 +1,6 @@
 -- Lists joined end to end, item by item with their numbers, and two such lists interleaved.
-use Rattle.std.proofs.Common.{◌≡◌, ℕ, zero, suc, ◌+◌, ◌<◌, List, [], ◌∷◌, ◌++◌, length, get_or, All, AllPairs, Contains, flat_map, refl, sym, ap, arith, subst}
-use Rattle.std.proofs.lemmas.List.Elements.{All-nil, All-append, Contains-append_left, Contains-append_right}
-use Rattle.wild_words.proofs.ListLemmas.{AllPairs-nil, AllPairs-append, All-append-left, All-append-right, AllPairs-left, AllPairs-right, AllPairs-cross}
-use Rattle.wild_layout.specs.Faults.{flat_map_from}
+use Rattle.wild_geometry.proofs.Common.{◌≡◌, ℕ, zero, suc, ◌+◌, ◌<◌, List, [], ◌∷◌, ◌++◌, length, get_or, All, AllPairs, Contains, flat_map, refl, sym, ap, arith, subst, All-nil, All-append, Contains-append_left, Contains-append_right, AllPairs-nil, AllPairs-append, All-append-left, All-append-right, flat_map_from}
+use Rattle.wild_words.proofs.ListLemmas.{AllPairs-left, AllPairs-right, AllPairs-cross}
 
 pub All-flat_map_from : {X Y : Type 0} (P : Y → Type 0) (f : ℕ → X → List Y) (i : ℕ) (xs : List X) → ((n k : ℕ) (d : X) → n ≡ i + k → k < length xs → All P (f n (get_or xs k d))) → All P (flat_map_from f i xs)
 All-flat_map_from P f i [] h = All-nil P

@@ -1,6 +1,5 @@
 -- What the judge says of a symbol, as the layout has it.
-use Rattle.std.proofs.Common.{◌≡◌, ℕ, Bool, refl, ap, ◌∙◌}
-use Rattle.wild_types.specs.declared.layout.Layout.{Layout}
+use Rattle.wild_geometry.proofs.Common.{◌≡◌, ℕ, Bool, refl, ap, ◌∙◌, Layout}
 use Rattle.wild_types.specs.declared.symbol.ValueFlags.{ValueFlags}
 use Rattle.wild_types.specs.Flags.{has_flag}
 use Rattle.wild_slot.specs.Treatment.{flags_at}

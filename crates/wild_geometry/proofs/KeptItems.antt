@@ -1,50 +1,24 @@
 -- An item that the layout keeps is that of a section as it stands.
-use Rattle.std.proofs.lemmas.Option.{slice_get-get_or}
-use Rattle.wild_layout.proofs.SiteLemmas.{Contains-flat_map}
+use Rattle.wild_geometry.proofs.Common.{slice_get-get_or, Contains-flat_map, table_bytes, content, frame_bytes_of, frames_bytes, bool_eq, file_position_fits, later_positions_fit, group_positions_fit, first_misplaced_file, ◌≡◌, ℕ, zero, suc, ◌+◌, ◌-◌, ◌%◌, ◌^◌, ◌≤◌, inl, inr, Bool, true, false, if◌then◌else◌, List, [], ◌∷◌, ◌++◌, length, take, refl, sym, ap, ◌∙◌, arith, subst, All, Contains, Option, Some, None, slice_get, not, ◌&&◌, ◌==◌, cases_Bool, and_parts, length-append, All-head, All-tail, All-contains, Contains-append_right, Contains-append_left, Contains-here, Contains-there, All-append-left, Part, Symbol, Slot, InputRelocation, InputSection, File, Group, Layout, Item, item_of, is_partial_link, total, is_read, is_frame, is_header_only_part, allocated, files_of, file_of, is_epilogue, is_prelude, part_with, field_bytes, frame_bytes, reversed_section, with_word_order, frames_of, kept_size, Input, placed_frames, placed_by, placed_section, placed_sections, placed_file, placed_from, placed_files, file_frames, frames_at, address_after, sorted_inputs, as_loaded, processed_sections, of_last_file, sorted_sections, moved_relocations, HasWords, SectionLies, IsLaidOut, Own, Ordered, IsPlacedSection}
 use Rattle.wild_records.specs.Abi.Section.{shf_write, shf_execinstr}
-use Rattle.wild_layout.specs.TablePlaces.{table_bytes}
-use Rattle.wild_layout.specs.Content.{content, frame_bytes_of, frames_bytes, end_of_frames}
-use Rattle.wild_types.specs.FilePlaces.{bool_eq, file_position_fits, later_positions_fit, group_positions_fit, first_misplaced_file}
-use Rattle.std.proofs.Common.{◌≡◌, ℕ, zero, suc, ◌+◌, ◌-◌, ◌%◌, ◌^◌, ◌≤◌, inl, inr, Bool, true, false, if◌then◌else◌, List, [], ◌∷◌, ◌++◌, length, take, refl, sym, ap, ◌∙◌, arith, subst}
-use Rattle.std.specs.Prelude.{All, Contains, Option, Some, None, slice_get, not, ◌&&◌, ◌==◌}
+use Rattle.wild_layout.specs.Content.{end_of_frames}
 use Rattle.std.specs.List.{flat_map}
-use Rattle.std.proofs.lemmas.Bool.{cases_Bool, and_parts}
-use Rattle.std.proofs.lemmas.List.{length-append}
-use Rattle.std.proofs.lemmas.List.Elements.{All-head, All-tail, All-contains, Contains-append_right, Contains-append_left}
 use std.Path.{fun_ext}
-use Rattle.wild_words.proofs.ListLemmas.{Contains-here, Contains-there, All-append-left}
-use Rattle.wild_types.specs.declared.part.Part.{Part}
 use Rattle.wild_types.specs.declared.part.Role.TheVariants as role
 use Rattle.wild_types.specs.declared.symbol.Place.{Place}
 use Rattle.wild_types.specs.declared.symbol.Place.TheVariants as at
-use Rattle.wild_types.specs.declared.symbol.Symbol.{Symbol}
-use Rattle.wild_types.specs.declared.input.Slot.{Slot}
 use Rattle.wild_types.specs.declared.input.Slot.TheVariants as slot
-use Rattle.wild_types.specs.declared.input.InputRelocation.{InputRelocation}
-use Rattle.wild_types.specs.declared.input.InputSection.{InputSection}
-use Rattle.wild_types.specs.declared.file.File.{File}
-use Rattle.wild_types.specs.declared.file.Group.{Group}
-use Rattle.wild_types.specs.declared.layout.Layout.{Layout}
-use Rattle.wild_types.specs.Item.{Item, item_of}
-use Rattle.wild_types.specs.Kinds.{is_partial_link}
-use Rattle.wild_types.specs.Lists.{total}
 use Rattle.wild_types.specs.HeaderOnly.{is_omitted}
-use Rattle.wild_types.specs.Lookups.{is_read, is_frame, is_header_only_part, is_counted, allocated, files_of, file_of, bit}
-use Rattle.wild_types.specs.FileRoles.{is_epilogue, is_prelude}
-use Rattle.wild_types.specs.Parts.{part_with}
-use Rattle.wild_types.specs.Rows.{field_bytes}
+use Rattle.wild_types.specs.Lookups.{is_counted, bit}
 use Rattle.wild_frames.specs.declared.frames.Target.{Target}
-use Rattle.wild_frames.specs.Frames.{Frames, frame_bytes}
-use Rattle.wild_placement.specs.ReversedWords.{reversed_section, with_word_order}
-use Rattle.wild_placement.specs.FrameInputs.{has_symbol, defining_file_of, target_in, target_at, symbol_target, target_by, target_of, frames_of, kept_size, section_target}
-use Rattle.wild_placement.specs.PlacedSections.{Input, placed_frames, placed_by, placed_section, placed_sections, placed_file, placed_from, placed_files, file_frames, frames_at, address_after, part_address, sorted_inputs, as_loaded, processed_sections, of_last_file, sorted_sections, frame_flags, moved_relocations}
+use Rattle.wild_frames.specs.Frames.{Frames}
+use Rattle.wild_placement.specs.FrameInputs.{has_symbol, defining_file_of, target_in, target_at, symbol_target, target_by, target_of, section_target}
+use Rattle.wild_placement.specs.PlacedSections.{part_address, frame_flags}
 use Rattle.wild_placement.proofs.PlainLemmas.{unread_linked}
-use Rattle.wild_layout.specs.SectionPlaces.{HasWords, SectionLies}
-use Rattle.wild_layout.specs.Geometry.{IsLaidOut}
 use Rattle.wild_meaning.specs.Frames.{code_in, code_at, code_by, code_of, frames_in, kept_bytes, kept_of_file, IsFrameInput, frames_item, frames_item_of, frames_address, code_section, kept_by, without, address_of_part}
 use Rattle.wild_meaning.specs.Item.{IsInput, IsLoadedSlot, IsKeptSection, placed_item, IsKept, OfSection, OfFrames}
 use Rattle.wild_meaning.proofs.BitLemmas.{alloc_bit}
-use Rattle.wild_geometry.specs.PlacedSections.{Own, Ordered, IsPlacedSection, IsPlacedItem, KeptItemsArePlaced}
+use Rattle.wild_geometry.specs.PlacedSections.{IsPlacedItem, KeptItemsArePlaced}
 use Rattle.wild_geometry.proofs.HeaderOnlyLemmas.{part_is_written, role_is_written}
 use Rattle.wild_geometry.proofs.PlacedInputs.{placed_file_of, placed_section_in, each_at}
 use Rattle.wild_geometry.proofs.ReversedItems.{turned_item}

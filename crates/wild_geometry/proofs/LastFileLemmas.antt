@@ -1,19 +1,10 @@
 -- What the groups give to the dynamic section: the entries of all libraries, and then those of the last file.
-use Rattle.std.proofs.Common.{◌≡◌, ℕ, suc, ◌+◌, ◌<◌, ◌≤◌, inl, inr, true, List, [], ◌∷◌, ◌++◌, length, get_or, flat_map, refl, sym, ◌∙◌, arith}
-use Rattle.std.specs.Prelude.{◌==◌, None}
-use Rattle.std.proofs.lemmas.Bool.{cases_Bool, eq-eqb, ne_eqb, eqb-true, eqb-false}
-use Rattle.std.proofs.lemmas.List.{append-nil, append_assoc}
+use Rattle.wild_geometry.proofs.Common.{◌≡◌, ℕ, suc, ◌+◌, ◌<◌, ◌≤◌, inl, inr, true, List, [], ◌∷◌, ◌++◌, length, get_or, flat_map, refl, sym, ◌∙◌, arith, ◌==◌, None, cases_Bool, eq-eqb, ne_eqb, eqb-true, eqb-false, append-nil, append_assoc, Group, Layout, first_misplaced_file, needed_entries, dynamic_bytes, dynamic_room, content, table_bytes, has_last}
 use Rattle.wild_types.specs.declared.part.Role.TheVariants as role
-use Rattle.wild_types.specs.declared.file.Group.{Group}
-use Rattle.wild_types.specs.declared.layout.Layout.{Layout}
-use Rattle.wild_types.specs.FilePlaces.{first_misplaced_file}
-use Rattle.wild_needs.specs.DynamicStrings.{needed_entries}
-use Rattle.wild_table_formats.specs.DynamicSection.{entries_bytes, dynamic_bytes}
+use Rattle.wild_table_formats.specs.DynamicSection.{entries_bytes}
 use Rattle.wild_table_formats.proofs.DynamicLemmas.{entries_joined}
-use Rattle.wild_layout.specs.Content.{dynamic_room, content}
-use Rattle.wild_layout.specs.TablePlaces.{table_bytes, all_needed}
+use Rattle.wild_layout.specs.TablePlaces.{all_needed}
 use Rattle.wild_geometry.proofs.ContentLemmas.{dynamic_content}
-use Rattle.wild_needs.specs.Needs.{has_last}
 use Rattle.wild_geometry.proofs.LastGroupLemmas.{has_last-group}
 
 -- groups of which the last alone has the last file

@@ -1,15 +1,5 @@
 -- The last file is the last group's.
-use Rattle.std.proofs.Common.{◌≡◌, ℕ, ◌+◌, ◌<◌, inl, inr, ◌==◌, Bool, true, false, ◌&&◌, if◌then◌else◌, List, [], ◌∷◌, length, get_or, None, refl, sym, ap, ◌∙◌, arith}
-use Rattle.std.specs.Prelude.{zero, suc}
-use Rattle.std.specs.List.{list_any}
-use Rattle.std.proofs.lemmas.Bool.{cases_Bool, and_parts, eq-eqb, ne_eqb, eqb-true, eqb-false}
-use Rattle.wild_types.specs.declared.file.File.{File}
-use Rattle.wild_types.specs.declared.file.Group.{Group}
-use Rattle.wild_types.specs.FilePlaces.{bool_eq, file_position_fits, later_positions_fit, group_positions_fit, first_misplaced_file}
-use Rattle.wild_types.specs.FileRoles.{is_prelude, is_epilogue}
-use Rattle.wild_types.specs.Lists.{total}
-use Rattle.wild_types.proofs.FileLemmas.{same_bool}
-use Rattle.wild_needs.specs.Needs.{bytes_if_last}
+use Rattle.wild_geometry.proofs.Common.{◌≡◌, ℕ, ◌+◌, ◌<◌, inl, inr, ◌==◌, Bool, true, false, ◌&&◌, if◌then◌else◌, List, [], ◌∷◌, length, get_or, None, refl, sym, ap, ◌∙◌, arith, zero, suc, list_any, cases_Bool, and_parts, eq-eqb, ne_eqb, eqb-true, eqb-false, File, Group, bool_eq, file_position_fits, later_positions_fit, group_positions_fit, first_misplaced_file, is_prelude, is_epilogue, total, same_bool, bytes_if_last}
 pub use Rattle.wild_needs.specs.Needs.{has_last}
 
 -- a number, or none

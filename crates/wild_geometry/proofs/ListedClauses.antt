@@ -1,18 +1,9 @@
 -- What it says that the clause on the dynamic symbol table holds, and the one on names.
-use Rattle.std.proofs.Common.{◌≡◌, ℕ, zero, suc, ◌+◌, inl, inr, ◌==◌, not, Bool, true, false, if◌then◌else◌, List, [], ◌∷◌, All, Option, Some, None, Ok, slice_get, refl, ap, ◌∙◌, arith, subst}
-use Rattle.std.specs.List.{list_all}
-use Rattle.std.proofs.lemmas.Bool.{cases_Bool, and_parts, eqb-true}
-use Rattle.std.proofs.lemmas.List.Elements.{All-nil, All-cons, All-weaker}
+use Rattle.wild_geometry.proofs.Common.{◌≡◌, ℕ, zero, suc, ◌+◌, inl, inr, ◌==◌, not, Bool, true, false, if◌then◌else◌, List, [], ◌∷◌, All, Option, Some, None, Ok, slice_get, refl, ap, ◌∙◌, arith, subst, list_all, cases_Bool, and_parts, eqb-true, All-nil, All-cons, All-weaker, Symbol, DynamicSymbol, Layout, first_listed, first_failing, unless, fails, All-from_none_fails, None-from_fails}
 use Rattle.wild_types.specs.declared.symbol.Resolution.{Resolution}
-use Rattle.wild_types.specs.declared.symbol.Symbol.{Symbol}
-use Rattle.wild_types.specs.declared.layout.DynamicSymbol.{DynamicSymbol}
-use Rattle.wild_types.specs.declared.layout.Layout.{Layout}
-use Rattle.wild_needs.specs.DynamicSymbols.{dynamic_symbols, is_named, has_position, dynsym_of, position_fits, misplaced, symbol_listed_fits, listed_fits, first_misplaced_listed, first_listed}
-use Rattle.wild_types.specs.Lists.{first_failing, unless}
+use Rattle.wild_needs.specs.DynamicSymbols.{dynamic_symbols, is_named, has_position, dynsym_of, position_fits, misplaced, symbol_listed_fits, listed_fits, first_misplaced_listed}
 use Rattle.wild_plan_rules.specs.ZeroFree.{name_fits, option_names_fit, section_name_fits, symbol_name_fits, group_names_fit, listed_name_fits}
-use Rattle.wild_plan_rules.specs.ClauseTests.{fails, check_dynsyms, check_names}
-use Rattle.wild_types.proofs.ListLemmas.{All-from_none_fails}
-use Rattle.wild_plan_rules.proofs.ClauseLemmas.{None-from_fails}
+use Rattle.wild_plan_rules.specs.ClauseTests.{check_dynsyms, check_names}
 use Rattle.wild_hashes.specs.Reading.{HasNoZero}
 use Rattle.wild_layout.specs.ExportedSymbols.{IsEntry, IsThere, AreExported}
 use Rattle.wild_geometry.proofs.ClauseLemmas.{Both-from_first_error}

@@ -1,20 +1,10 @@
 -- What a loader goes by stands where it looks.
-use Rattle.std.proofs.Common.{◌≡◌, ℕ, ◌+◌, ◌≤◌, inl, inr, ◌==◌, nat_le, Bool, true, false, not, ◌&&◌, ◌||◌, if◌then◌else◌, List, [], ◌∷◌, ◌++◌, find, All, Contains, Option, Some, None, refl, ap, ◌∙◌, arith, subst}
-use Rattle.std.specs.List.{list_any}
-use Rattle.std.proofs.lemmas.Bool.{cases_Bool, and_parts, leb-true, eqb-true, eqb-false, ne_eqb}
-use Rattle.std.proofs.lemmas.List.Elements.{All-nil, All-cons}
+use Rattle.wild_geometry.proofs.Common.{◌≡◌, ℕ, ◌+◌, ◌≤◌, inl, inr, ◌==◌, nat_le, Bool, true, false, not, ◌&&◌, ◌||◌, if◌then◌else◌, List, [], ◌∷◌, ◌++◌, find, All, Contains, Option, Some, None, refl, ap, ◌∙◌, arith, subst, list_any, cases_Bool, and_parts, leb-true, eqb-true, eqb-false, ne_eqb, All-nil, All-cons, Found-from_list_any, implied, or_other, pt_load, Part, Role, Segment, Layout, is_header_only_at, role_place, has_role, part_with, dynamic_count}
 use Rattle.std.proofs.lemmas.List.{nil_from_length}
-use Rattle.wild_words.proofs.ListLemmas.{Found-from_list_any}
-use Rattle.wild_words.proofs.Basics.{implied, or_other}
-use Rattle.wild_records.specs.Abi.Segment.{pt_load, pt_dynamic}
-use Rattle.wild_types.specs.declared.part.Part.{Part}
-use Rattle.wild_types.specs.declared.part.Role.{Role}
+use Rattle.wild_records.specs.Abi.Segment.{pt_dynamic}
 use Rattle.wild_types.specs.declared.part.Role.TheVariants as role
-use Rattle.wild_types.specs.declared.section.Segment.{Segment}
-use Rattle.wild_types.specs.declared.layout.Layout.{Layout}
 use Rattle.wild_types.specs.Kinds.{needs_dynamic, is_fixed_static}
-use Rattle.wild_types.specs.Lookups.{is_header_only_at}
-use Rattle.wild_types.specs.Parts.{role_place, has_role, part_with, is_table_role, is_look_up_role, has_hashes}
+use Rattle.wild_types.specs.Parts.{is_table_role, is_look_up_role, has_hashes}
 use Rattle.wild_plan_rules.specs.Places.{within}
 use Rattle.wild_plan_rules.specs.Segments.{size_in_file, is_segment_of, dynamic_astray}
 use Rattle.wild_plan_rules.specs.LoadedTables.{begins_at_end_of, entries_follow, rest_of_table, is_read_from_one_segment, holds_part, carries_part, carries_rest, carries_table, table_is_loaded}
@@ -22,7 +12,7 @@ use Rattle.wild_layout.specs.Loadable.{IsStatic, HasSegment, IsCarriedWhole, Beg
 use Rattle.wild_geometry.proofs.PlacedSectionLemmas.{AllClausesHold}
 use Rattle.wild_geometry.proofs.RoleLemmas.{FoundAt-from_find, no_count, nothing_shared}
 use Rattle.wild_records.specs.declared.dynamic.DynamicEntry.{DynamicEntry}
-use Rattle.wild_needs.specs.Dynamic.{dynamic_entries, dynamic_count}
+use Rattle.wild_needs.specs.Dynamic.{dynamic_entries}
 use Rattle.wild_loader.specs.Laws.{entries_before_null}
 use Rattle.wild_table_formats.proofs.FoundLemmas.{behind_null}
 use Rattle.wild_geometry.proofs.TableLemmas.{same_role}

@@ -1,25 +1,10 @@
 -- Sections as they stand have as many bytes as their size.
-use Rattle.std.proofs.Common.{◌≡◌, ℕ, ◌+◌, ◌*◌, ◌==◌, Bool, true, false, not, ◌||◌, if◌then◌else◌, List, length, get_or, All, Option, Some, None, slice_get, refl, sym, ap, ◌∙◌, arith, subst}
-use Rattle.std.proofs.lemmas.Bool.{eqb-true, not-true}
-use Rattle.std.proofs.lemmas.List.{length-replicate, length-map}
-use Rattle.std.proofs.lemmas.List.Elements.{All-map}
-use Rattle.wild_words.proofs.Basics.{implied}
-use Rattle.wild_words.proofs.ListLemmas.{All-from_list_all, holds_at}
-use Rattle.wild_types.specs.declared.input.Slot.{Slot}
+use Rattle.wild_geometry.proofs.Common.{◌≡◌, ℕ, ◌+◌, ◌*◌, ◌==◌, Bool, true, false, not, ◌||◌, if◌then◌else◌, List, length, get_or, All, Option, Some, None, slice_get, refl, sym, ap, ◌∙◌, arith, subst, eqb-true, not-true, length-replicate, length-map, All-map, implied, All-from_list_all, holds_at, Slot, InputRelocation, InputSection, File, Layout, is_rela, reversed_offset, reversed_section, with_word_order, rela_with_target, table_has_data, section_bytes, FieldLies, NamesSymbol, is_own}
 use Rattle.wild_types.specs.declared.input.Slot.TheVariants as slot
-use Rattle.wild_types.specs.declared.input.InputRelocation.{InputRelocation}
-use Rattle.wild_types.specs.declared.input.InputSection.{InputSection}
-use Rattle.wild_types.specs.declared.file.File.{File}
-use Rattle.wild_types.specs.declared.layout.Layout.{Layout}
-use Rattle.wild_types.specs.Lookups.{is_rela}
-use Rattle.wild_placement.specs.ReversedWords.{reversed_offset, reversed_section, with_word_order}
-use Rattle.wild_placement.specs.PlacedSections.{base_of, counted_from, relocations_at, target_relocations, rela_with_target}
-use Rattle.wild_plan_rules.specs.Partial.{is_group, has_entries, table_fits, file_tables_fit, table_has_data}
-use Rattle.wild_layout.specs.Sites.{section_bytes}
-use Rattle.wild_layout.specs.SectionPlaces.{FieldLies}
-use Rattle.wild_layout.specs.Geometry.{NamesSymbol}
+use Rattle.wild_placement.specs.PlacedSections.{base_of, counted_from, relocations_at, target_relocations}
+use Rattle.wild_plan_rules.specs.Partial.{is_group, has_entries, table_fits, file_tables_fit}
 use Rattle.wild_layout.proofs.DebugLemmas.{length-debug_bytes}
-use Rattle.wild_layout.proofs.PartialLemmas.{is_own, length-rela_bytes_of, length-group_words, section_bytes_zeros, section_bytes_debug, section_bytes_rela, section_bytes_group}
+use Rattle.wild_layout.proofs.PartialLemmas.{length-rela_bytes_of, length-group_words, section_bytes_zeros, section_bytes_debug, section_bytes_rela, section_bytes_group}
 use Rattle.wild_geometry.proofs.PlacedSectionLemmas.{AllClausesHold}
 use Rattle.wild_geometry.proofs.SiteLemmas.{length-section_bytes}
 use Rattle.wild_geometry.proofs.StandingLemmas.{EachIn}

@@ -1,8 +1,5 @@
 -- How long the notes and the search table of frames are.
-use Rattle.std.proofs.Common.{◌≡◌, ℕ, ◌+◌, ◌*◌, inl, inr, Bool, true, false, if◌then◌else◌, List, [], ◌∷◌, ◌++◌, length, map, Option, Some, None, flat_map, refl, ap, ◌∙◌, arith}
-use Rattle.std.specs.Prelude.{nat_lt}
-use Rattle.std.proofs.lemmas.Bool.{cases_Bool, ne_eqb}
-use Rattle.std.proofs.lemmas.List.{length-append, length-map}
+use Rattle.wild_geometry.proofs.Common.{◌≡◌, ℕ, ◌+◌, ◌*◌, inl, inr, Bool, true, false, if◌then◌else◌, List, [], ◌∷◌, ◌++◌, length, map, Option, Some, None, flat_map, refl, ap, ◌∙◌, arith, nat_lt, cases_Bool, ne_eqb, length-append, length-map, InputSection, File, Group, Layout, total, is_frame, frames_of, kept_size, address_after, file_frames, frames_at}
 use Rattle.wild_words.specs.Words.{word}
 use Rattle.wild_words.specs.Record.{spell}
 use Rattle.wild_words.proofs.WordLemmas.{length-word}
@@ -11,22 +8,16 @@ use Rattle.wild_records.specs.Abi.Note.{nt_gnu_property_type_0}
 use Rattle.wild_records.specs.Notes.{note_header_fields}
 use Rattle.wild_records.specs.declared.frames.EhFrameHdrEntry.{EhFrameHdrEntry}
 use Rattle.wild_records.specs.declared.notes.NoteHeader.{NoteHeader}
-use Rattle.wild_types.specs.declared.input.InputSection.{InputSection}
-use Rattle.wild_types.specs.declared.file.File.{File}
-use Rattle.wild_types.specs.declared.file.Group.{Group}
 use Rattle.wild_types.specs.declared.layout.Property.{Property}
 use Rattle.wild_types.specs.declared.layout.PropertyValue.{PropertyValue}
 use Rattle.wild_types.specs.declared.layout.PropertyValue.TheVariants as values
-use Rattle.wild_types.specs.declared.layout.Layout.{Layout}
 use Rattle.wild_types.specs.declared.part.Role.TheVariants as role
-use Rattle.wild_types.specs.Lists.{total}
-use Rattle.wild_types.specs.Lookups.{is_frame}
 use Rattle.wild_frames.specs.declared.table.Fde.{Fde}
 use Rattle.wild_frames.specs.Frames.{fdes_in}
 use Rattle.wild_frames.specs.Table.{entry_of, rank_of, header_of, put_in_order, in_order, hdr_bytes, entry_bytes, table_of}
 use Rattle.wild_frames.proofs.TableLemmas.{length-hdr, length-entry}
-use Rattle.wild_placement.specs.FrameInputs.{frames_of, kept_size, fde_count}
-use Rattle.wild_placement.specs.PlacedSections.{address_after, file_frames, frames_at, all_fdes}
+use Rattle.wild_placement.specs.FrameInputs.{fde_count}
+use Rattle.wild_placement.specs.PlacedSections.{all_fdes}
 use Rattle.wild_needs.specs.Needs.{search_table_room, build_id_room, property_room, properties_room}
 use Rattle.wild_layout.specs.Notes.{gnu_note, build_id_note, value_bytes, property_bytes, property_note}
 use Rattle.wild_layout.specs.SearchTable.{fde_at, section_fdes, sections_fdes, files_fdes, group_fdes, layout_fdes, address_of_role, search_table}

@@ -1,26 +1,5 @@
 -- All that files own: input sections as their rooms, what stands at the fronts of parts, and thunks, each apart from the others.
-use Rattle.std.proofs.Common.{◌≡◌, ℕ, ◌+◌, ◌<◌, ◌≤◌, inl, inr, ◌==◌, Bool, true, false, ◌&&◌, if◌then◌else◌, List, [], ◌∷◌, length, map, get_or, All, AllPairs, None, slice_get, flat_map, refl, sym, ap, ◌∙◌, arith, subst}
-use Rattle.std.proofs.lemmas.Bool.{cases_Bool, and_parts, and_from, eq-eqb}
-use Rattle.std.proofs.lemmas.List.{append-nil}
-use Rattle.std.proofs.lemmas.List.Elements.{All-nil, All-append}
-use Rattle.wild_words.specs.Overlay.{Piece, Disjoint}
-use Rattle.wild_words.specs.declared.extents.Extent.{Extent}
-use Rattle.wild_words.proofs.ListLemmas.{All-flat_map, All-optional, flat_map-flat_map, flat_map-same}
-use Rattle.wild_types.specs.declared.input.InputSection.{InputSection}
-use Rattle.wild_types.specs.declared.file.File.{File}
-use Rattle.wild_types.specs.declared.file.Group.{Group}
-use Rattle.wild_types.specs.declared.layout.Thunk.{Thunk}
-use Rattle.wild_types.specs.declared.layout.Layout.{Layout}
-use Rattle.wild_types.specs.FilePlaces.{given, bool_eq, file_position_fits, later_positions_fit, group_positions_fit, first_misplaced_file}
-use Rattle.wild_types.specs.FileRoles.{is_prelude, is_epilogue}
-use Rattle.wild_types.specs.FileThunks.{thunks_of}
-use Rattle.wild_types.specs.Lookups.{has_range_bytes, is_filled, is_header_only_part, image_size, files_of}
-use Rattle.wild_types.proofs.FileLemmas.{same_bool}
-use Rattle.wild_plan_rules.specs.Thunks.{sections_in_ranges}
-use Rattle.wild_layout.specs.Sites.{extent_of}
-use Rattle.wild_layout.specs.Thunks.{thunk_bytes}
-use Rattle.wild_layout.specs.Image.{thunk_piece, thunk_pieces, of_first_file, merged_and_identity_pieces, owned_pieces}
-use Rattle.wild_layout.proofs.ThunkLemmas.{length-thunk_bytes}
+use Rattle.wild_geometry.proofs.Common.{◌≡◌, ℕ, ◌+◌, ◌<◌, ◌≤◌, inl, inr, ◌==◌, Bool, true, false, ◌&&◌, if◌then◌else◌, List, [], ◌∷◌, length, map, get_or, All, AllPairs, None, slice_get, flat_map, refl, sym, ap, ◌∙◌, arith, subst, cases_Bool, and_parts, and_from, eq-eqb, append-nil, All-nil, All-append, Piece, Disjoint, Extent, All-flat_map, All-optional, flat_map-flat_map, flat_map-same, InputSection, File, Group, Thunk, Layout, given, bool_eq, file_position_fits, later_positions_fit, group_positions_fit, first_misplaced_file, is_prelude, is_epilogue, thunks_of, has_range_bytes, is_filled, is_header_only_part, image_size, files_of, same_bool, sections_in_ranges, extent_of, thunk_bytes, thunk_piece, thunk_pieces, of_first_file, merged_and_identity_pieces, owned_pieces, length-thunk_bytes}
 use Rattle.wild_geometry.proofs.InterleaveLemmas.{AllPairs-two, All-two}
 use Rattle.wild_geometry.proofs.PlacedSectionLemmas.{AllClausesHold}
 use Rattle.wild_geometry.proofs.OrderLemmas.{Follows}

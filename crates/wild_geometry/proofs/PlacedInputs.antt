@@ -1,21 +1,10 @@
 -- The sections of a layout as they stand, group by group and file by file.
-use Rattle.wild_placement.specs.FrameInputs.{kept_size}
-use Rattle.std.proofs.Common.{◌≡◌, ℕ, zero, suc, ◌<◌, inl, inr, Bool, true, false, List, [], ◌∷◌, ◌++◌, length, get_or, refl, sym, ap, ◌∙◌, arith, subst}
-use Rattle.std.specs.Prelude.{All, Contains, if◌then◌else◌, map}
+use Rattle.wild_geometry.proofs.Common.{kept_size, ◌≡◌, ℕ, zero, suc, ◌<◌, inl, inr, Bool, true, false, List, [], ◌∷◌, ◌++◌, length, get_or, refl, sym, ap, ◌∙◌, arith, subst, All, Contains, if◌then◌else◌, map, All-contains, Contains-append_left, Contains-append_right, Contains-here, Contains-there, flat_map-same, flat_map-flat_map, InputSection, File, Group, Layout, is_epilogue, with_word_order, Input, placed_file, placed_from, placed_files, file_frames, frames_at, address_after, sorted_inputs, sorted_sections, of_last_file, processed_sections, placed_section, placed_sections, Contains-flat_map, Own, Ordered, IsPlacedSection}
 use Rattle.std.specs.List.{flat_map}
-use Rattle.std.proofs.lemmas.List.Elements.{All-contains, Contains-append_left, Contains-append_right, Contains-append_cases}
+use Rattle.std.proofs.lemmas.List.Elements.{Contains-append_cases}
 use Rattle.wild_words.proofs.Basics.{Contains-map, Contains-from_flat_map}
-use Rattle.wild_words.proofs.ListLemmas.{Contains-here, Contains-there, flat_map-same, flat_map-flat_map}
-use Rattle.wild_types.specs.declared.input.InputSection.{InputSection}
-use Rattle.wild_types.specs.declared.file.File.{File}
-use Rattle.wild_types.specs.declared.file.Group.{Group}
-use Rattle.wild_types.specs.declared.layout.Layout.{Layout}
-use Rattle.wild_types.specs.FileRoles.{is_epilogue}
-use Rattle.wild_placement.specs.ReversedWords.{with_word_order}
-use Rattle.wild_placement.specs.PlacedSections.{Input, placed_file, placed_from, placed_files, file_frames, frames_at, address_after, sorted_inputs, sorted_sections, of_last_file, processed_sections, placed_section, placed_sections}
 use Rattle.wild_layout.specs.Geometry.{EachSection}
-use Rattle.wild_layout.proofs.SiteLemmas.{Contains-flat_map}
-use Rattle.wild_geometry.specs.PlacedSections.{IsSectionOfFile, Own, Ordered, IsPlacedSection}
+use Rattle.wild_geometry.specs.PlacedSections.{IsSectionOfFile}
 
 -- ---- files
 

@@ -1,28 +1,13 @@
 -- A placed section that is loaded is an input section of the layout.
-use Rattle.std.proofs.Common.{◌≡◌, ℕ, zero, suc, ◌<◌, true, false, not, List, [], ◌∷◌, length, get_or, refl, sym, ap, ◌∙◌, arith, subst}
-use Rattle.std.specs.Prelude.{Option, Some, None, All, Contains, slice_get}
-use Rattle.std.proofs.lemmas.Bool.{and_parts, not-true}
-use Rattle.std.proofs.lemmas.List.Elements.{All-nil, All-contains}
+use Rattle.wild_geometry.proofs.Common.{◌≡◌, ℕ, zero, suc, ◌<◌, true, false, not, List, [], ◌∷◌, length, get_or, refl, sym, ap, ◌∙◌, arith, subst, Option, Some, None, All, Contains, slice_get, and_parts, not-true, All-nil, All-contains, Contains-here, Contains-there, All-flat_map, Slot, InputSection, File, Group, SortedSection, Layout, is_partial_link, is_read, is_frame, is_loaded, has_relocations, allocated, kept_size, with_word_order, Input, placed_frames, rela_with_target, placed_by, placed_section, placed_sections, placed_file, placed_from, placed_files, file_frames, frames_at, address_after, sorted_inputs, sorted_input, sorted_by, sorted_in_file, sorted_in_group, files_at, as_loaded, unread, Own, Ordered, IsPlacedSection}
 use Rattle.wild_words.proofs.Basics.{listed_at}
-use Rattle.wild_words.proofs.ListLemmas.{Contains-here, Contains-there, All-flat_map}
-use Rattle.wild_types.specs.declared.input.Slot.{Slot}
 use Rattle.wild_types.specs.declared.input.Slot.TheVariants as slot
-use Rattle.wild_types.specs.declared.input.InputSection.{InputSection}
-use Rattle.wild_types.specs.declared.file.File.{File}
-use Rattle.wild_types.specs.declared.file.Group.{Group}
-use Rattle.wild_types.specs.declared.layout.SortedSection.{SortedSection}
-use Rattle.wild_types.specs.declared.layout.Layout.{Layout}
-use Rattle.wild_types.specs.Kinds.{is_partial_link}
 use Rattle.wild_types.specs.HeaderOnly.{KeepsAll}
-use Rattle.wild_types.specs.Lookups.{is_read, is_frame, is_loaded, has_relocations, allocated}
-use Rattle.wild_placement.specs.FrameInputs.{kept_size}
-use Rattle.wild_placement.specs.ReversedWords.{with_word_order}
-use Rattle.wild_placement.specs.PlacedSections.{Input, placed_frames, rela_with_target, placed_by, placed_section, placed_sections, placed_file, placed_from, placed_files, file_frames, frames_at, address_after, sorted_inputs, sorted_input, sorted_by, sorted_in_file, sorted_in_group, files_at, as_loaded, unread}
 use Rattle.wild_placement.proofs.PlainLemmas.{unread_linked}
 use Rattle.wild_layout.proofs.SiteLemmas.{All-one}
 use Rattle.wild_meaning.specs.Item.{IsInput, IsLoadedSlot, IsKeptSection}
 use Rattle.wild_meaning.proofs.BitLemmas.{bit_alloc}
-use Rattle.wild_geometry.specs.PlacedSections.{IsSectionOfFile, Own, Ordered, IsPlacedSection}
+use Rattle.wild_geometry.specs.PlacedSections.{IsSectionOfFile}
 use Rattle.wild_geometry.proofs.KeptItems.{loaded_same, turned_fields}
 
 -- ---- a file's own sections

@@ -1,27 +1,17 @@
 -- What it says that the clauses on input sections, indexes, fields and thunks hold; and all that a layout is laid out by.
-use Rattle.std.proofs.Common.{◌≡◌, ℕ, true, List, [], All, Option, Some, None, Ok, refl, subst}
-use Rattle.std.proofs.lemmas.Bool.{and_parts}
-use Rattle.wild_types.specs.declared.kind.Machine.{Machine}
+use Rattle.wild_geometry.proofs.Common.{◌≡◌, ℕ, true, List, [], All, Option, Some, None, Ok, refl, subst, and_parts, Machine, Thunk, Layout, first_failing, unless, files_of, part_out_of_order, section_misplaced, length_fits, fields_lie, part_index_fits, symbol_misfit, group_indexes_fit, fails, check_indexes, table_has_data, first_clause, All-from_none_fails, None-from_fails, flat_map_from, part_errors}
 use Rattle.wild_types.specs.declared.kind.Machine.TheVariants as machine
-use Rattle.wild_types.specs.declared.layout.Thunk.{Thunk}
-use Rattle.wild_types.specs.declared.layout.Layout.{Layout}
-use Rattle.wild_types.specs.Lists.{first_failing, unless}
-use Rattle.wild_types.specs.Lookups.{files_of}
-use Rattle.wild_plan_rules.specs.Places.{part_out_of_order}
-use Rattle.wild_plan_rules.specs.Contents.{addresses, each_section, section_misplaced, sorted_named_once, length_fits, part_is_raw, merged_is_raw, identity_is_raw, primary_fits, front_is_free, allocation_agrees, bytes_take_room, fields_lie, tlsld_fits, tls_fits}
+use Rattle.wild_plan_rules.specs.Contents.{addresses, each_section, sorted_named_once, part_is_raw, merged_is_raw, identity_is_raw, primary_fits, front_is_free, allocation_agrees, bytes_take_room, tlsld_fits, tls_fits}
 use Rattle.wild_plan_rules.specs.MisplacedSections.{misplaced_owner, misplaced_place}
 use Rattle.wild_plan_rules.specs.GroupStarts.{start_places, no_starts, start_astray}
-use Rattle.wild_plan_rules.specs.Indexes.{part_index_fits, primary_is_there, thunks_are_there, symbol_misfit, group_indexes_fit, listed_misfit, sorted_is_there, merged_is_there, identity_is_there, entry_is_there, definition_is_own, range_out_of_order}
+use Rattle.wild_plan_rules.specs.Indexes.{primary_is_there, thunks_are_there, listed_misfit, sorted_is_there, merged_is_there, identity_is_there, entry_is_there, definition_is_own, range_out_of_order}
 use Rattle.wild_types.specs.FileSymbols.{first_double_copy}
 use Rattle.wild_plan_rules.specs.VersionTables.{parent_is_there}
 use Rattle.wild_plan_rules.specs.Fronts.{reversed_fits, merged_fits, identity_fills, front_shared, identity_is_alone, keeps_tables, dynamic_is_dropped, headers_are_kept}
-use Rattle.wild_plan_rules.specs.ClauseTests.{fails, check_inputs, check_indexes, check_fields, check_thunks, check_tls, check_starts, check_reversed, check_partial, check_fronts}
+use Rattle.wild_plan_rules.specs.ClauseTests.{check_inputs, check_fields, check_thunks, check_tls, check_starts, check_reversed, check_partial, check_fronts}
 use Rattle.wild_plan_rules.specs.Thunks.{ascends, thunks_misplaced, block_lost, machine_takes}
-use Rattle.wild_plan_rules.specs.Partial.{has_no_segments, has_no_slot, has_no_pair, has_no_thunks, lists_no_symbols, has_no_index, is_no_debug, is_of_kind, tables_fit, group_fits_members, table_has_data}
-use Rattle.wild_plan_rules.specs.WellFormed.{first_clause}
-use Rattle.wild_types.proofs.ListLemmas.{All-from_none_fails}
-use Rattle.wild_plan_rules.proofs.ClauseLemmas.{None-from_fails, None-from_map}
-use Rattle.wild_layout.specs.Faults.{flat_map_from, part_errors}
+use Rattle.wild_plan_rules.specs.Partial.{has_no_segments, has_no_slot, has_no_pair, has_no_thunks, lists_no_symbols, has_no_index, is_no_debug, is_of_kind, tables_fit, group_fits_members}
+use Rattle.wild_plan_rules.proofs.ClauseLemmas.{None-from_map}
 use Rattle.wild_layout.specs.Geometry.{DefinitionsAreFinal}
 use Rattle.wild_layout.specs.SlotOrder.{SlotsFollow, EachAgrees}
 use Rattle.wild_layout.specs.ExportedSymbols.{AreExported}

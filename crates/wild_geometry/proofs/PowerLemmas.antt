@@ -1,9 +1,7 @@
 -- A number of which one bit is set is a power of two.
-use Rattle.std.proofs.Common.{◌≡◌, ℕ, zero, suc, ◌+◌, ◌-◌, ◌*◌, ◌/◌, ◌%◌, ◌^◌, ◌≤◌, inl, inr, true, false, ap, ◌∙◌, arith}
-use Rattle.std.specs.Prelude.{count_ones, nat_lt, ◌==◌}
-use Rattle.std.specs.Int.{is_power_of_two, IsPowerOfTwo}
+use Rattle.wild_geometry.proofs.Common.{◌≡◌, ℕ, zero, suc, ◌+◌, ◌-◌, ◌*◌, ◌/◌, ◌%◌, ◌^◌, ◌≤◌, inl, inr, true, false, ap, ◌∙◌, arith, count_ones, nat_lt, ◌==◌, is_power_of_two, cases_Bool, eqb-true, ltb-true}
+use Rattle.std.specs.Int.{IsPowerOfTwo}
 use Rattle.std.specs.Int.Count.{ones_step}
-use Rattle.std.proofs.lemmas.Bool.{cases_Bool, eqb-true, ltb-true}
 use Rattle.std.proofs.lemmas.Bool.Decides.{nat_tests}
 use Rattle.std.proofs.lemmas.Nat.{zero_from_ones, ones_le_self, pow-add}
 use Rattle.std.proofs.Math.Nat.{mul-mod_left}

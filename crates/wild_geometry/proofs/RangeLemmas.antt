@@ -1,12 +1,6 @@
 -- The ranges of symbols ascend, so each symbol of a range is found in its own file.
-use Rattle.std.proofs.Common.{◌≡◌, ℕ, zero, suc, ◌+◌, ◌<◌, ◌≤◌, inl, inr, ◌==◌, true, ◌&&◌, List, [], ◌∷◌, ◌++◌, length, get_or, Contains, Option, Some, None, option_and_then, refl, sym, ap, ◌∙◌, arith, subst}
-use Rattle.std.specs.Prelude.{nat_le, nat_lt}
-use Rattle.std.proofs.lemmas.Bool.{cases_Bool, and_parts, leb-true, ltb-true, eqb-true}
-use Rattle.wild_types.specs.declared.file.File.{File}
-use Rattle.wild_types.specs.declared.file.Group.{Group}
-use Rattle.wild_types.specs.declared.layout.Layout.{Layout}
+use Rattle.wild_geometry.proofs.Common.{◌≡◌, ℕ, zero, suc, ◌+◌, ◌<◌, ◌≤◌, inl, inr, ◌==◌, true, ◌&&◌, List, [], ◌∷◌, ◌++◌, length, get_or, Contains, Option, Some, None, option_and_then, refl, sym, ap, ◌∙◌, arith, subst, nat_le, nat_lt, cases_Bool, and_parts, leb-true, ltb-true, eqb-true, File, Group, Layout, files_of, file_of}
 use Rattle.wild_types.specs.Lists.{through}
-use Rattle.wild_types.specs.Lookups.{files_of, file_of}
 use Rattle.wild_placement.specs.FrameInputs.{has_symbol}
 use Rattle.wild_plan_rules.specs.Indexes.{range_follows, or_place, range_out_of_order}
 

@@ -1,11 +1,7 @@
 -- What the slot of a section says of its relocations.
-use Rattle.std.proofs.Common.{◌≡◌, true, false, refl}
-use Rattle.std.specs.Prelude.{not, ◌&&◌}
-use Rattle.std.proofs.lemmas.Bool.{and_parts}
-use Rattle.wild_types.specs.declared.input.Slot.{Slot}
+use Rattle.wild_geometry.proofs.Common.{◌≡◌, true, false, refl, not, ◌&&◌, and_parts, Slot, InputSection, is_read, is_loaded, is_frame, has_relocations, has_fields}
 use Rattle.wild_types.specs.declared.input.Slot.TheVariants as slot
-use Rattle.wild_types.specs.declared.input.InputSection.{InputSection}
-use Rattle.wild_types.specs.Lookups.{is_read, has_written_relocations, is_loaded, is_frame, is_debug, has_relocations, has_fields}
+use Rattle.wild_types.specs.Lookups.{has_written_relocations, is_debug}
 
 -- where a loader may apply relocations, they are written
 fields_of : (k : Slot) → has_relocations k ≡ true → has_fields k ≡ true

@@ -1,17 +1,8 @@
 -- A section whose words are reversed is the item that the layout is to keep of it.
-use Rattle.std.proofs.Common.{◌≡◌, ℕ, zero, suc, ◌+◌, ◌-◌, ◌*◌, ◌/◌, ◌%◌, ◌<◌, ◌≤◌, Bool, true, false, if◌then◌else◌, List, [], ◌∷◌, ◌++◌, length, map, get_or, refl, sym, ap, ◌∙◌, arith, subst}
-use Rattle.std.specs.Prelude.{All, slice_range, slice_index, take, drop}
+use Rattle.wild_geometry.proofs.Common.{◌≡◌, ℕ, zero, suc, ◌+◌, ◌-◌, ◌*◌, ◌/◌, ◌%◌, ◌<◌, ◌≤◌, Bool, true, false, if◌then◌else◌, List, [], ◌∷◌, ◌++◌, length, map, get_or, refl, sym, ap, ◌∙◌, arith, subst, All, slice_range, slice_index, take, drop, All-head, All-tail, InputRelocation, InputSection, Machine, Item, item_of, File, Layout, reversed_offset, reversed_section, with_word_order, HasWords}
 use Rattle.std.specs.List.{flat_map, range_with_len}
 use Rattle.std.proofs.lemmas.List.{map-append}
-use Rattle.std.proofs.lemmas.List.Elements.{All-head, All-tail}
-use Rattle.wild_types.specs.declared.input.InputRelocation.{InputRelocation}
-use Rattle.wild_types.specs.declared.input.InputSection.{InputSection}
-use Rattle.wild_types.specs.declared.kind.Machine.{Machine}
-use Rattle.wild_types.specs.Item.{Item, item_of}
-use Rattle.wild_types.specs.declared.file.File.{File}
-use Rattle.wild_types.specs.declared.layout.Layout.{Layout}
-use Rattle.wild_placement.specs.ReversedWords.{word_from_end, reversed_word_bytes, reversed_offset, reversed_section, with_word_order}
-use Rattle.wild_layout.specs.SectionPlaces.{HasWords}
+use Rattle.wild_placement.specs.ReversedWords.{word_from_end, reversed_word_bytes}
 use Rattle.wild_meaning.specs.Item.{input_offset_of, reversed_bytes, reversed_relocation, placed_item}
 
 -- ---- bytes

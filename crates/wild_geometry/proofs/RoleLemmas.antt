@@ -1,34 +1,15 @@
 -- The parts of roles hold what the groups give to them.
-use Rattle.std.proofs.Common.{◌≡◌, ℕ, zero, suc, ◌+◌, ◌-◌, ◌*◌, ◌<◌, ◌≤◌, inl, inr, ◌==◌, ◌||◌, Bool, true, false, List, [], ◌∷◌, length, get_or, take, find, Contains, Some, None, flat_map, refl, sym, ap, ◌∙◌, arith, subst}
-use Rattle.std.specs.List.{list_any}
-use Rattle.std.proofs.lemmas.Bool.{cases_Bool, eqb-true, eqb-false, eq-eqb}
-use Rattle.std.proofs.lemmas.Option.{same_Some}
-use Rattle.std.proofs.lemmas.List.Elements.{Contains-append_left}
+use Rattle.wild_geometry.proofs.Common.{◌≡◌, ℕ, zero, suc, ◌+◌, ◌-◌, ◌*◌, ◌<◌, ◌≤◌, inl, inr, ◌==◌, ◌||◌, Bool, true, false, List, [], ◌∷◌, length, get_or, take, find, Contains, Some, None, flat_map, refl, sym, ap, ◌∙◌, arith, subst, list_any, cases_Bool, eqb-true, eqb-false, eq-eqb, same_Some, Contains-append_left, Piece, ItemAt-within, holds_at, Part, Role, Group, Layout, given, has_last, group_share, total, is_header_only_at, dynamic_count, dynamic_entry_size, dynamic_bytes, role_place, has_role, part_with, total-prefix, dynamic_room, content, table_bytes, bytes_before, shares_before, table_piece, table_pieces, owned_pieces, group_pieces, pieces}
 use Rattle.std.proofs.lemmas.List.{nil_from_length}
-use Rattle.wild_words.specs.Overlay.{Piece}
-use Rattle.wild_words.proofs.ListLemmas.{ItemAt-within, holds_at}
-use Rattle.wild_types.specs.declared.part.Part.{Part}
-use Rattle.wild_types.specs.declared.part.Role.{Role}
 use Rattle.wild_types.specs.declared.part.Role.TheVariants as role
-use Rattle.wild_types.specs.declared.file.Group.{Group}
-use Rattle.wild_types.specs.declared.layout.Layout.{Layout}
-use Rattle.wild_types.specs.FilePlaces.{given}
 use Rattle.wild_plan_rules.specs.Contents.{has_share_for_each_part}
-use Rattle.wild_needs.specs.Needs.{has_last, total_share, group_share}
+use Rattle.wild_needs.specs.Needs.{total_share}
 use Rattle.wild_plan_rules.specs.Counts.{role_has_needed_part}
-use Rattle.wild_types.specs.Lists.{total}
-use Rattle.wild_types.specs.Lookups.{is_header_only_at}
-use Rattle.wild_needs.specs.Dynamic.{dynamic_count}
 use Rattle.wild_types.specs.Shares.{part_of_role, part_of, given_by, share_of}
-use Rattle.wild_records.specs.Dynamic.{dynamic_entry_size}
-use Rattle.wild_table_formats.specs.DynamicSection.{dynamic_bytes}
 use Rattle.wild_table_formats.proofs.DynamicLemmas.{lengths}
-use Rattle.wild_types.specs.Parts.{role_place, has_role, part_with}
-use Rattle.wild_types.proofs.ListLemmas.{total-prefix}
 use Rattle.wild_types.proofs.PartLemmas.{not_raw}
-use Rattle.wild_layout.specs.Content.{last_file_room, dynamic_room, content}
-use Rattle.wild_layout.specs.TablePlaces.{table_bytes, bytes_before, TableLies, HasTable}
-use Rattle.wild_layout.specs.Image.{shares_before, table_piece, table_pieces, owned_pieces, group_pieces, pieces}
+use Rattle.wild_layout.specs.Content.{last_file_room}
+use Rattle.wild_layout.specs.TablePlaces.{TableLies, HasTable}
 use Rattle.wild_geometry.proofs.PlacedSectionLemmas.{AllClausesHold}
 use Rattle.wild_geometry.proofs.InterleaveLemmas.{Contains-flat_map_from}
 use Rattle.wild_geometry.proofs.OrderLemmas.{Takes, EndsBy-image}

@@ -1,26 +1,11 @@
 -- Where pieces stand, whatever their bytes are: input sections as the room that they take of the image.
-use Rattle.std.proofs.Common.{◌≡◌, ℕ, ◌+◌, ◌<◌, ◌≤◌, ◌⊎◌, Bool, true, false, if◌then◌else◌, List, [], ◌∷◌, ◌++◌, length, map, get_or, All, AllPairs, replicate, slice_get, flat_map, refl, sym, ap, ◌∙◌, arith, subst}
-use Rattle.std.proofs.lemmas.List.{length-replicate, length-map, get_or-map, map-append, append_assoc}
+use Rattle.wild_geometry.proofs.Common.{◌≡◌, ℕ, ◌+◌, ◌<◌, ◌≤◌, ◌⊎◌, Bool, true, false, if◌then◌else◌, List, [], ◌∷◌, ◌++◌, length, map, get_or, All, AllPairs, replicate, slice_get, flat_map, refl, sym, ap, ◌∙◌, arith, subst, length-replicate, length-map, append_assoc, All-head, All-tail, Piece, Disjoint, Extent, flat_map-flat_map, Slot, InputSection, File, Group, Layout, is_epilogue, is_filled, is_loaded, is_rela, has_range, files_of, with_word_order, Input, unread, rela_with_target, placed_by, placed_section, placed_sections, placed_file, placed_files, sorted_inputs, of_last_file, sections_in_ranges, offset_in, of_first_file, merged_and_identity_pieces, thunk_pieces, owned_pieces, section_bytes, extent_of}
+use Rattle.std.proofs.lemmas.List.{get_or-map, map-append}
 use Rattle.std.proofs.lemmas.List.Concat.{flat_map-append}
-use Rattle.std.proofs.lemmas.List.Elements.{All-head, All-tail}
-use Rattle.wild_words.specs.Overlay.{Piece, Disjoint}
-use Rattle.wild_words.specs.declared.extents.Extent.{Extent}
 use Rattle.wild_words.proofs.Basics.{map-flat_map}
-use Rattle.wild_words.proofs.ListLemmas.{flat_map-flat_map}
-use Rattle.wild_types.specs.declared.input.Slot.{Slot}
 use Rattle.wild_types.specs.declared.input.Slot.TheVariants as slot
-use Rattle.wild_types.specs.declared.input.InputSection.{InputSection}
-use Rattle.wild_types.specs.declared.file.File.{File}
-use Rattle.wild_types.specs.declared.file.Group.{Group}
-use Rattle.wild_types.specs.declared.layout.Layout.{Layout}
-use Rattle.wild_types.specs.FileRoles.{is_epilogue}
-use Rattle.wild_types.specs.Lookups.{is_filled, is_loaded, is_rela, has_range, files_of}
-use Rattle.wild_placement.specs.ReversedWords.{with_word_order}
-use Rattle.wild_placement.specs.PlacedSections.{Input, unread, rela_with_target, placed_by, placed_section, placed_sections, placed_file, placed_files, sorted_inputs, of_last_file}
 use Rattle.wild_placement.proofs.PlacedFiles.{joined_sections, joined_placed_files}
-use Rattle.wild_plan_rules.specs.Thunks.{sections_in_ranges}
-use Rattle.wild_layout.specs.Image.{offset_in, section_piece, section_pieces, of_first_file, sorted_piece, merged_and_identity_pieces, thunk_pieces, file_pieces, owned_pieces}
-use Rattle.wild_layout.specs.Sites.{section_bytes, extent_of}
+use Rattle.wild_layout.specs.Image.{section_piece, section_pieces, sorted_piece, file_pieces}
 use Rattle.wild_geometry.proofs.StandingLemmas.{EachIn}
 use Rattle.wild_geometry.proofs.SectionLemmas.{Known, is_whole}
 use Rattle.wild_geometry.proofs.StayLemmas.{IsAt, Turns, turns, turns_unread, is_turned}

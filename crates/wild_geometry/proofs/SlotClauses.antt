@@ -1,21 +1,13 @@
 -- What it says that the clauses on slots and on flags hold.
-use Rattle.std.proofs.Common.{◌≡◌, ℕ, zero, suc, ◌+◌, ◌<◌, inl, inr, Bool, true, false, All, List, [], ◌∷◌, length, get_or, Option, Some, None, Ok, refl, sym, ap, ◌∙◌, arith, subst}
-use Rattle.std.specs.Prelude.{◌==◌, ◌&&◌, ◌||◌, not, if◌then◌else◌, is_some, option_and_then, unwrap_or, slice_get}
-use Rattle.std.proofs.lemmas.Bool.{cases_Bool, eq-eqb, eqb-true}
-use Rattle.std.proofs.lemmas.Option.{get_or_from_slice_get, slice_get_within}
-use Rattle.wild_words.proofs.ListLemmas.{holds_at}
-use Rattle.wild_types.specs.declared.layout.Layout.{Layout}
-use Rattle.wild_types.specs.declared.symbol.Symbol.{Symbol}
-use Rattle.wild_types.specs.Lookups.{canonical, files_of}
-use Rattle.wild_types.specs.Lists.{first_failing, unless}
+use Rattle.wild_geometry.proofs.Common.{◌≡◌, ℕ, zero, suc, ◌+◌, ◌<◌, inl, inr, Bool, true, false, All, List, [], ◌∷◌, length, get_or, Option, Some, None, Ok, refl, sym, ap, ◌∙◌, arith, subst, ◌==◌, ◌&&◌, ◌||◌, not, if◌then◌else◌, is_some, option_and_then, slice_get, cases_Bool, eq-eqb, eqb-true, get_or_from_slice_get, slice_get_within, holds_at, Layout, Symbol, files_of, first_failing, unless, fails, check_indexes, part_index_fits, symbol_misfit, group_indexes_fit, All-from_none_fails, None-from_fails}
+use Rattle.std.specs.Prelude.{unwrap_or}
+use Rattle.wild_types.specs.Lookups.{canonical}
 use Rattle.wild_plan_rules.specs.SlotPlaces.{slots_astray, slot_is_even, block_needs_relr, block_has_base, pair_follows, pair_follows_by}
 use Rattle.wild_plan_rules.specs.SlotFlags.{is_tested, first_tested_failing, dynamic_is_interposable, stub_is_value, stub_has_slot, one_slot_for_address, thread_slot_alone, resolver_is_own, slot_agrees, resolver_moves, second_slot_fits}
-use Rattle.wild_plan_rules.specs.ClauseTests.{fails, check_indexes, check_slots, check_slot_flags}
-use Rattle.wild_plan_rules.specs.Indexes.{part_index_fits, primary_is_there, thunks_are_there, symbol_misfit, group_indexes_fit, listed_misfit, sorted_is_there, merged_is_there, identity_is_there, entry_is_there, definition_is_own, defines_itself}
+use Rattle.wild_plan_rules.specs.ClauseTests.{check_slots, check_slot_flags}
+use Rattle.wild_plan_rules.specs.Indexes.{primary_is_there, thunks_are_there, listed_misfit, sorted_is_there, merged_is_there, identity_is_there, entry_is_there, definition_is_own, defines_itself}
 use Rattle.wild_types.specs.FileSymbols.{first_double_copy}
 use Rattle.wild_plan_rules.specs.VersionTables.{parent_is_there}
-use Rattle.wild_types.proofs.ListLemmas.{All-from_none_fails}
-use Rattle.wild_plan_rules.proofs.ClauseLemmas.{None-from_fails}
 use Rattle.wild_layout.specs.Geometry.{DefinitionsAreFinal}
 use Rattle.wild_layout.specs.SlotOrder.{SlotsFollow, FlagsAgree, EachAgrees, SlotsAreInOrder}
 use Rattle.wild_geometry.proofs.ClauseLemmas.{Both-from_first_error, holds_from_unless, NoneFails-from_first_clause, SharesHold-from_check}

@@ -1,28 +1,20 @@
 -- How long it is what slots and stubs give to the parts.
-use Rattle.std.proofs.Common.{◌≡◌, ℕ, ◌+◌, ◌*◌, inl, inr, List, [], ◌∷◌, length, flat_map, refl, ◌∙◌, arith, if◌then◌else◌}
-use Rattle.std.proofs.lemmas.Bool.{cases_Bool}
-use Rattle.std.proofs.lemmas.List.{length-append}
+use Rattle.wild_geometry.proofs.Common.{◌≡◌, ℕ, ◌+◌, ◌*◌, inl, inr, List, [], ◌∷◌, length, flat_map, refl, ◌∙◌, arith, if◌then◌else◌, cases_Bool, length-append, Role, File, Group, Symbol, Layout, total, slot_bytes, header_bytes}
 use Rattle.wild_records.specs.Relocations.{rela_size}
 use Rattle.wild_relr.specs.WriterState.{word_bytes}
 use Rattle.wild_relr.proofs.SpellLemmas.{length-word_bytes}
-use Rattle.wild_types.specs.declared.part.Role.{Role}
 use Rattle.wild_types.specs.declared.part.Role.TheVariants as role
-use Rattle.wild_types.specs.declared.file.File.{File}
-use Rattle.wild_types.specs.declared.file.Group.{Group}
-use Rattle.wild_types.specs.declared.symbol.Symbol.{Symbol}
-use Rattle.wild_types.specs.declared.layout.Layout.{Layout}
 use Rattle.wild_slot.specs.declared.slot_parts.WordPart.{WordPart}
 use Rattle.wild_slot.specs.declared.slot_parts.WordPart.TheVariants as words
 use Rattle.wild_slot.specs.declared.slot_parts.EntryPart.{EntryPart}
 use Rattle.wild_slot.specs.declared.slot_parts.EntryPart.TheVariants as entries
-use Rattle.wild_types.specs.Lists.{total}
 use Rattle.wild_needs.specs.SlotShares.{word_size, stub_size, words_in, entries_in, header_words, block_words, slot_share, header_share, relr_got_share}
 use Rattle.wild_types.specs.FileSymbols.{own_symbols}
 use Rattle.wild_types.proofs.ListLemmas.{total-none}
 use Rattle.wild_slot.specs.SymbolWords.{slots_of}
 use Rattle.wild_table_formats.specs.RelativeEntries.{rela_bytes}
 use Rattle.wild_table_formats.proofs.EntryLemmas.{length-rela_bytes}
-use Rattle.wild_layout.specs.SlotBytes.{symbol_entries, stub_bytes, relr_slots_in, slot_words_of, slot_entries_of, stubs_of, flat_places_of, slot_bytes, storage_entries, header_bytes, block_bytes}
+use Rattle.wild_layout.specs.SlotBytes.{symbol_entries, stub_bytes, relr_slots_in, slot_words_of, slot_entries_of, stubs_of, flat_places_of, storage_entries, block_bytes}
 use Rattle.wild_slot.proofs.StubLemmas.{length-stub_of}
 
 -- a multiple of the length of lists joined end to end

@@ -1,16 +1,6 @@
 -- Each section that is in a given order is named in it.
-use Rattle.std.proofs.Common.{◌≡◌, ℕ, zero, suc, ◌+◌, ◌<◌, inl, inr, ◌==◌, true, ◌&&◌, List, [], ◌∷◌, length, get_or, Contains, Option, Some, None, slice_get, flat_map, refl, sym, ap, ◌∙◌, arith, subst}
-use Rattle.std.proofs.lemmas.Bool.{cases_Bool, and_parts, eqb-true}
-use Rattle.std.proofs.lemmas.Option.{slice_get-get_or}
-use Rattle.wild_words.proofs.ListLemmas.{Contains-here, Contains-there}
-use Rattle.std.proofs.lemmas.List.Elements.{Contains-append_left, Contains-append_right}
+use Rattle.wild_geometry.proofs.Common.{◌≡◌, ℕ, zero, suc, ◌+◌, ◌<◌, inl, inr, ◌==◌, true, ◌&&◌, List, [], ◌∷◌, length, get_or, Contains, Option, Some, None, slice_get, flat_map, refl, sym, ap, ◌∙◌, arith, subst, cases_Bool, and_parts, eqb-true, slice_get-get_or, Contains-here, Contains-there, Contains-append_left, Contains-append_right, InputSection, File, Group, SortedSection, Layout, Input, as_loaded, unread, sorted_by, sorted_in_file, sorted_in_group, files_at, sorted_input, sorted_inputs}
 use Rattle.wild_types.specs.declared.input.Slot.TheVariants as slot
-use Rattle.wild_types.specs.declared.input.InputSection.{InputSection}
-use Rattle.wild_types.specs.declared.file.File.{File}
-use Rattle.wild_types.specs.declared.file.Group.{Group}
-use Rattle.wild_types.specs.declared.layout.SortedSection.{SortedSection}
-use Rattle.wild_types.specs.declared.layout.Layout.{Layout}
-use Rattle.wild_placement.specs.PlacedSections.{Input, as_loaded, unread, sorted_by, sorted_in_file, sorted_in_group, files_at, sorted_input, sorted_inputs}
 use Rattle.wild_plan_rules.specs.Contents.{names_section, times_named, is_named_once, sections_named_once, files_named_once, sorted_named_once}
 
 -- ---- what the clause says of a section

@@ -1,18 +1,6 @@
 -- The input sections that stand in the ranges of files: each file's own, and the sorted ones behind those of the last file.
-use Rattle.std.proofs.Common.{◌≡◌, ℕ, Bool, true, false, if◌then◌else◌, List, [], map, get_or, All, Option, Some, None, slice_get, flat_map, refl}
-use Rattle.std.proofs.lemmas.List.Elements.{All-nil, All-cons, All-append, All-map}
-use Rattle.wild_words.proofs.ListLemmas.{All-flat_map, All-from_flat_map, holds_at}
-use Rattle.wild_types.specs.declared.input.Slot.{Slot}
+use Rattle.wild_geometry.proofs.Common.{◌≡◌, ℕ, Bool, true, false, if◌then◌else◌, List, [], map, get_or, All, Option, Some, None, slice_get, flat_map, refl, All-nil, All-cons, All-append, All-map, All-flat_map, All-from_flat_map, holds_at, Slot, InputSection, File, Group, SortedSection, Layout, is_epilogue, is_loaded, Input, as_loaded, unread, sorted_by, sorted_in_file, sorted_in_group, files_at, sorted_input, sorted_inputs, of_last_file, sections_in_ranges}
 use Rattle.wild_types.specs.declared.input.Slot.TheVariants as slot
-use Rattle.wild_types.specs.declared.input.InputSection.{InputSection}
-use Rattle.wild_types.specs.declared.file.File.{File}
-use Rattle.wild_types.specs.declared.file.Group.{Group}
-use Rattle.wild_types.specs.declared.layout.SortedSection.{SortedSection}
-use Rattle.wild_types.specs.declared.layout.Layout.{Layout}
-use Rattle.wild_types.specs.FileRoles.{is_epilogue}
-use Rattle.wild_types.specs.Lookups.{is_loaded}
-use Rattle.wild_placement.specs.PlacedSections.{Input, as_loaded, unread, sorted_by, sorted_in_file, sorted_in_group, files_at, sorted_input, sorted_inputs, of_last_file}
-use Rattle.wild_plan_rules.specs.Thunks.{sections_in_ranges}
 use Rattle.wild_geometry.proofs.RunLemmas.{sections_in}
 
 -- the input sections, in the order of processing

@@ -1,23 +1,9 @@
 -- The strings of a group begin behind those of the groups before it, in each of the two tables of strings, and so do its frames.
-use Rattle.std.proofs.Common.{◌≡◌, ℕ, zero, suc, ◌+◌, ◌<◌, inl, inr, ◌==◌, true, false, List, [], ◌∷◌, length, get_or, take, Option, Some, None, slice_get, refl, sym, ap, ◌∙◌, arith, subst}
+use Rattle.wild_geometry.proofs.Common.{◌≡◌, ℕ, zero, suc, ◌+◌, ◌<◌, inl, inr, ◌==◌, true, false, List, [], ◌∷◌, length, get_or, take, Option, Some, None, slice_get, refl, sym, ap, ◌∙◌, arith, subst, cases_Bool, and_parts, eqb-true, ne_eqb, get_or_from_slice_get, slice_get_within, ItemAt-within, Part, Role, Group, Layout, given, total, group_share, role_place, has_role, part_with, total-prefix, content, bytes_before}
 use Rattle.std.specs.List.{position_from}
-use Rattle.std.proofs.lemmas.Bool.{cases_Bool, and_parts, eqb-true, ne_eqb}
-use Rattle.std.proofs.lemmas.Option.{get_or_from_slice_get, slice_get_within}
-use Rattle.wild_words.proofs.ListLemmas.{ItemAt-within}
-use Rattle.wild_types.specs.declared.part.Part.{Part}
-use Rattle.wild_types.specs.declared.part.Role.{Role}
 use Rattle.wild_types.specs.declared.part.Role.TheVariants as role
-use Rattle.wild_types.specs.declared.file.Group.{Group}
-use Rattle.wild_types.specs.declared.layout.Layout.{Layout}
 use Rattle.wild_plan_rules.specs.declared.group_starts.Starts.{Starts}
-use Rattle.wild_types.specs.FilePlaces.{given}
 use Rattle.wild_plan_rules.specs.GroupStarts.{group_share_at, place_with, start_places, no_starts, starts_after_group, begins_at, start_astray}
-use Rattle.wild_types.specs.Lists.{total}
-use Rattle.wild_needs.specs.Needs.{group_share}
-use Rattle.wild_types.specs.Parts.{role_place, has_role, part_with}
-use Rattle.wild_types.proofs.ListLemmas.{total-prefix}
-use Rattle.wild_layout.specs.Content.{content}
-use Rattle.wild_layout.specs.TablePlaces.{bytes_before}
 use Rattle.wild_geometry.proofs.ContentLemmas.{length-content}
 use Rattle.wild_geometry.proofs.PlacedSectionLemmas.{AllClausesHold}
 use Rattle.wild_geometry.proofs.RoleLemmas.{nothing_shared}

@@ -1,33 +1,16 @@
 -- Input sections as they stand: what is known of the plan's holds of them.
-use Rattle.std.proofs.Common.{◌≡◌, ℕ, ◌+◌, ◌%◌, ◌^◌, ◌≤◌, inl, inr, ◌==◌, nat_le, nat_lt, Bool, true, false, not, ◌&&◌, ◌||◌, if◌then◌else◌, List, [], ◌∷◌, length, map, get_or, All, refl, sym, ap, ◌∙◌, arith, subst}
-use Rattle.std.specs.List.{filter, list_all}
-use Rattle.std.proofs.lemmas.Bool.{cases_Bool, and_parts, eqb-true}
-use Rattle.std.proofs.lemmas.List.Elements.{All-nil, All-cons, All-head, All-tail, All-append, All-map}
-use Rattle.wild_words.proofs.Basics.{implied}
-use Rattle.wild_words.proofs.ListLemmas.{All-from_list_all, All-flat_map, All-append-left, All-append-right}
-use Rattle.wild_types.specs.declared.input.Slot.{Slot}
+use Rattle.wild_geometry.proofs.Common.{◌≡◌, ℕ, ◌+◌, ◌%◌, ◌^◌, ◌≤◌, inl, inr, ◌==◌, nat_le, nat_lt, Bool, true, false, not, ◌&&◌, ◌||◌, if◌then◌else◌, List, [], ◌∷◌, length, map, get_or, All, refl, sym, ap, ◌∙◌, arith, subst, list_all, cases_Bool, and_parts, eqb-true, All-nil, All-cons, All-head, All-tail, All-append, All-map, implied, All-from_list_all, All-flat_map, All-append-left, All-append-right, Slot, InputRelocation, InputSection, File, Group, Layout, is_epilogue, total, is_partial_link, is_loaded, is_frame, is_discarded, is_rela, has_counted, has_range, is_filled, has_data, is_header_only_part, field_bytes, reversed_offset, reversed_section, with_word_order, frames_of, kept_size, Input, moved_relocations, placed_frames, without_relocations, unread, rela_with_target, placed_by, placed_section, placed_sections, placed_file, file_frames, frames_at, placed_files, sorted_inputs, sorted_sections, of_last_file, processed_sections, may_lack_bytes, sections_in_ranges, NamesSymbol, FieldLies}
+use Rattle.std.specs.List.{filter}
 use Rattle.wild_types.specs.declared.input.Slot.TheVariants as slot
-use Rattle.wild_types.specs.declared.input.InputRelocation.{InputRelocation}
-use Rattle.wild_types.specs.declared.input.InputSection.{InputSection}
-use Rattle.wild_types.specs.declared.file.File.{File}
-use Rattle.wild_types.specs.declared.file.Group.{Group}
-use Rattle.wild_types.specs.declared.layout.Layout.{Layout}
-use Rattle.wild_types.specs.FileRoles.{is_epilogue}
-use Rattle.wild_types.specs.Lists.{total}
-use Rattle.wild_types.specs.Kinds.{is_partial_link}
-use Rattle.wild_types.specs.Lookups.{is_loaded, is_frame, is_discarded, is_rela, has_counted, has_range, is_filled, has_data, is_header_only_part, section_of}
-use Rattle.wild_types.specs.Rows.{field_bytes}
+use Rattle.wild_types.specs.Lookups.{section_of}
 use Rattle.wild_frames.specs.Frames.{kept_in}
-use Rattle.wild_placement.specs.ReversedWords.{reversed_word_bytes, reversed_offset, reversed_section, with_word_order}
-use Rattle.wild_placement.specs.FrameInputs.{frames_of, kept_size}
-use Rattle.wild_placement.specs.PlacedSections.{Input, entry_relocations, moved_relocation, moved_relocations, placed_frames, without_relocations, unread, rela_with_target, placed_by, placed_section, placed_sections, placed_file, file_frames, frames_at, placed_files, sorted_inputs, sorted_sections, of_last_file, processed_sections}
+use Rattle.wild_placement.specs.ReversedWords.{reversed_word_bytes}
+use Rattle.wild_placement.specs.PlacedSections.{entry_relocations, moved_relocation}
 use Rattle.wild_placement.proofs.PlacedFiles.{All-low_sections, All-low_files}
 use Rattle.wild_placement.proofs.ReversedBytes.{length-reversed_word_bytes}
-use Rattle.wild_plan_rules.specs.Contents.{may_lack_bytes}
 use Rattle.wild_plan_rules.specs.Fronts.{is_whole_word}
-use Rattle.wild_plan_rules.specs.Thunks.{sections_in_ranges}
-use Rattle.wild_layout.specs.Geometry.{NamesSymbol, EachSection}
-use Rattle.wild_layout.specs.SectionPlaces.{FieldLies, IsWord}
+use Rattle.wild_layout.specs.Geometry.{EachSection}
+use Rattle.wild_layout.specs.SectionPlaces.{IsWord}
 use Rattle.wild_geometry.proofs.StandingLemmas.{EachStanding, sorted_loaded}
 use Rattle.wild_geometry.proofs.SectionLemmas.{Holds, Known, is_whole, length_of_data, not_discarded, known_unread}
 use Rattle.wild_geometry.proofs.FrameSections.{slot_of_unread}

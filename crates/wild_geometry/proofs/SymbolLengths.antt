@@ -1,16 +1,7 @@
 -- How many entries files have in the dynamic symbol table, and how many libraries they are.
-use Rattle.std.proofs.Common.{◌≡◌, ℕ, ◌+◌, inl, inr, Bool, true, false, if◌then◌else◌, List, [], ◌∷◌, length, refl, arith}
-use Rattle.std.proofs.lemmas.Bool.{cases_Bool}
-use Rattle.std.proofs.lemmas.List.{length-append, length-map}
-use Rattle.wild_types.specs.declared.symbol.Symbol.{Symbol}
-use Rattle.wild_types.specs.declared.file.File.{File}
-use Rattle.wild_types.specs.declared.file.Group.{Group}
-use Rattle.wild_types.specs.declared.layout.DynamicSymbol.{DynamicSymbol}
-use Rattle.wild_types.specs.declared.layout.Layout.{Layout}
+use Rattle.wild_geometry.proofs.Common.{◌≡◌, ℕ, ◌+◌, inl, inr, Bool, true, false, if◌then◌else◌, List, [], ◌∷◌, length, refl, arith, cases_Bool, length-append, length-map, Symbol, File, Group, DynamicSymbol, Layout, is_prelude, is_epilogue, total}
 use Rattle.wild_needs.specs.DynamicStrings.{undefined_symbols, entry_names, next_dynstr}
-use Rattle.wild_types.specs.FileRoles.{is_prelude, is_epilogue}
 use Rattle.wild_types.specs.Kinds.{needs_dynsym}
-use Rattle.wild_types.specs.Lists.{total}
 use Rattle.wild_needs.specs.Needs.{dynsym_count}
 use Rattle.wild_table_formats.specs.DynamicEntries.{listed, undefined, file_symbols, entry_at, no_fields, entries_at, null_entries, offset_after_lead, file_entries, entries_from, group_symbols}
 use Rattle.wild_table_formats.proofs.EntryLengths.{length-entries_at}

@@ -1,26 +1,10 @@
 -- What the groups give to the parts lies in the image, each piece apart from the others.
-use Rattle.std.proofs.Common.{◌≡◌, ℕ, zero, suc, ◌+◌, ◌<◌, ◌≤◌, inl, inr, ◌==◌, Bool, true, false, not, if◌then◌else◌, List, [], ◌∷◌, length, map, get_or, All, AllPairs, Contains, Some, slice_get, flat_map, refl, sym, ap, ◌∙◌, arith, subst}
-use Rattle.std.proofs.lemmas.Bool.{cases_Bool, cases_order, and_parts, and_from, or_cases, leb-true, eqb-true, eqb-false}
-use Rattle.std.proofs.lemmas.Option.{slice_get-get_or, same_Some}
-use Rattle.wild_words.proofs.ListLemmas.{All-flat_map, All-optional}
+use Rattle.wild_geometry.proofs.Common.{◌≡◌, ℕ, zero, suc, ◌+◌, ◌<◌, ◌≤◌, inl, inr, ◌==◌, Bool, true, false, not, if◌then◌else◌, List, [], ◌∷◌, length, map, get_or, All, AllPairs, Contains, Some, slice_get, flat_map, refl, sym, ap, ◌∙◌, arith, subst, cases_Bool, and_parts, and_from, or_cases, leb-true, eqb-true, eqb-false, slice_get-get_or, same_Some, All-flat_map, All-optional, Piece, Disjoint, AreDisjoint, Part, Group, Layout, is_filled, has_data, is_header_only_at, image_size, files_of, given, role_place, has_role, total-prefix, ends_low, sorted_inputs, content, some_piece, shares_before, table_piece, table_pieces, owned_pieces, pieces, flat_map_from, extent_of, thunk_bytes, HasRoom}
+use Rattle.std.proofs.lemmas.Bool.{cases_order}
 use Rattle.wild_words.proofs.OrderLemmas.{Disjoint-flip}
-use Rattle.wild_words.specs.Overlay.{Piece, Disjoint, AreDisjoint}
-use Rattle.wild_types.specs.declared.part.Part.{Part}
 use Rattle.wild_types.specs.declared.part.Role.TheVariants as role
-use Rattle.wild_types.specs.declared.file.Group.{Group}
-use Rattle.wild_types.specs.declared.layout.Layout.{Layout}
-use Rattle.wild_types.specs.Lookups.{is_filled, has_data, is_header_only_at, image_size, files_of}
-use Rattle.wild_types.specs.FilePlaces.{given}
-use Rattle.wild_types.specs.Parts.{role_place, has_role}
-use Rattle.wild_types.proofs.ListLemmas.{total-prefix}
-use Rattle.wild_plan_rules.specs.Places.{takes_room, ends_low}
-use Rattle.wild_placement.specs.PlacedSections.{sorted_inputs}
-use Rattle.wild_layout.specs.Content.{content}
-use Rattle.wild_layout.specs.Image.{some_piece, shares_before, table_piece, table_pieces, owned_pieces, pieces}
-use Rattle.wild_layout.specs.Faults.{flat_map_from}
-use Rattle.wild_layout.specs.Sites.{extent_of}
-use Rattle.wild_layout.specs.Thunks.{thunk_bytes}
-use Rattle.wild_layout.specs.SectionPlaces.{PartLies, HasRoom}
+use Rattle.wild_plan_rules.specs.Places.{takes_room}
+use Rattle.wild_layout.specs.SectionPlaces.{PartLies}
 use Rattle.wild_geometry.proofs.InterleaveLemmas.{All-flat_map_from, AllPairs-flat_map_from, All-both, AllPairs-both}
 use Rattle.wild_geometry.proofs.PlacedSectionLemmas.{AllClausesHold}
 use Rattle.wild_geometry.proofs.OrderLemmas.{Takes, EndsBy-image, Follows, PartsFollow-from_order}

@@ -1,33 +1,12 @@
 -- Where thunks stand: in the primary part, apart from each other and from all input sections.
-use Rattle.std.proofs.Common.{◌≡◌, ℕ, zero, suc, ◌+◌, ◌-◌, ◌<◌, ◌≤◌, inl, inr, ◌==◌, Bool, true, false, not, ◌&&◌, if◌then◌else◌, List, [], ◌∷◌, length, map, get_or, All, AllPairs, Contains, Option, Some, None, slice_get, flat_map, refl, sym, ap, ◌∙◌, arith, subst}
+use Rattle.wild_geometry.proofs.Common.{◌≡◌, ℕ, zero, suc, ◌+◌, ◌-◌, ◌<◌, ◌≤◌, inl, inr, ◌==◌, Bool, true, false, not, ◌&&◌, if◌then◌else◌, List, [], ◌∷◌, length, map, get_or, All, AllPairs, Contains, Option, Some, None, slice_get, flat_map, refl, sym, ap, ◌∙◌, arith, subst, list_any, cases_Bool, and_parts, and_from, eqb-true, ne_eqb, ltb-true, get_or_from_slice_get, slice_get_within, slice_get-get_or, same_Some, All-nil, All-cons, All-head, All-tail, All-weaker, Piece, Disjoint, implied, AllPairs-nil, All-flat_map, AllPairs-flat_map, All-from_flat_map, holds_at, Found-from_list_any, Machine, Part, File, Group, Thunk, Layout, is_partial_link, thunk_size, thunks_of, is_filled, image_size, is_allocated_section, section_of_part, has_data, is_header_only_at, is_header_only_part, given, is_raw, section_misplaced, part_index_fits, part_lies, thunk_bytes, thunk_piece, HasRoom, length-thunk_bytes}
 use Rattle.std.specs.Prelude.{unwrap_or}
-use Rattle.std.specs.List.{list_any}
-use Rattle.std.proofs.lemmas.Bool.{cases_Bool, and_parts, and_from, eqb-true, ne_eqb, ltb-true}
-use Rattle.std.proofs.lemmas.Option.{get_or_from_slice_get, slice_get_within, slice_get-get_or, same_Some}
-use Rattle.std.proofs.lemmas.List.Elements.{All-nil, All-cons, All-head, All-tail, All-weaker}
-use Rattle.wild_words.specs.Overlay.{Piece, Disjoint}
-use Rattle.wild_words.proofs.Basics.{implied}
-use Rattle.wild_words.proofs.ListLemmas.{AllPairs-nil, All-flat_map, AllPairs-flat_map, All-from_flat_map, holds_at, Found-from_list_any}
-use Rattle.wild_types.specs.declared.kind.Machine.{Machine}
 use Rattle.wild_types.specs.declared.kind.Machine.TheVariants as machine
-use Rattle.wild_types.specs.declared.part.Part.{Part}
-use Rattle.wild_types.specs.declared.file.File.{File}
-use Rattle.wild_types.specs.declared.file.Group.{Group}
-use Rattle.wild_types.specs.declared.layout.Thunk.{Thunk}
-use Rattle.wild_types.specs.declared.layout.Layout.{Layout}
-use Rattle.wild_types.specs.Kinds.{is_partial_link}
-use Rattle.wild_types.specs.FileThunks.{thunk_size, block_of, thunks_of}
-use Rattle.wild_types.specs.Lookups.{is_filled, image_size, is_allocated_section, section_of_part, has_data, is_header_only_at, is_header_only_part}
-use Rattle.wild_types.specs.FilePlaces.{given}
-use Rattle.wild_plan_rules.specs.Contents.{is_raw, holds_thunks, section_misplaced}
-use Rattle.wild_plan_rules.specs.Indexes.{part_index_fits}
-use Rattle.wild_plan_rules.specs.Places.{part_lies}
+use Rattle.wild_types.specs.FileThunks.{block_of}
+use Rattle.wild_plan_rules.specs.Contents.{holds_thunks}
 use Rattle.wild_plan_rules.specs.Thunks.{is_used, has_thunks, misplaced_from, misplaced_in, owns, is_owned, block_lost, machine_takes}
-use Rattle.wild_layout.specs.Thunks.{thunk_bytes}
-use Rattle.wild_layout.specs.Image.{thunk_offset, thunk_piece, unless_omitted}
-use Rattle.wild_layout.specs.SectionPlaces.{HasRoom}
+use Rattle.wild_layout.specs.Image.{thunk_offset, unless_omitted}
 use Rattle.wild_layout.specs.ThunkPlaces.{ThunkLies, IsOwned}
-use Rattle.wild_layout.proofs.ThunkLemmas.{length-thunk_bytes}
 use Rattle.wild_geometry.proofs.PlacedSectionLemmas.{AllClausesHold}
 use Rattle.wild_geometry.proofs.OrderLemmas.{Follows, EndsBy-image}
 use Rattle.wild_geometry.proofs.ShareLemmas.{size_from_shares}

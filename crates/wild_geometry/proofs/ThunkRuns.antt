@@ -1,23 +1,8 @@
 -- Thunks stand behind the sections of their files in the primary part, apart from each other and beside all sections.
-use Rattle.std.proofs.Common.{◌≡◌, ℕ, ◌+◌, ◌*◌, ◌<◌, ◌≤◌, ◌⊎◌, inl, inr, ◌==◌, nat_le, Bool, true, false, ◌&&◌, if◌then◌else◌, List, [], ◌∷◌, ◌++◌, length, get_or, All, AllPairs, Option, Some, None, flat_map, refl, sym, arith, subst}
-use Rattle.std.specs.Prelude.{Result, Ok, Err}
-use Rattle.std.proofs.lemmas.Bool.{cases_Bool, and_parts, leb-true, eqb-true}
-use Rattle.std.proofs.lemmas.List.{append-nil}
-use Rattle.std.proofs.lemmas.List.Elements.{All-nil, All-cons, All-head, All-tail, All-weaker, All-append}
-use Rattle.std.proofs.lemmas.List.Kept.{AllPairs-cons}
-use Rattle.wild_words.proofs.ListLemmas.{AllPairs-nil, AllPairs-append, All-append-left, All-append-right}
-use Rattle.wild_types.specs.declared.input.InputSection.{InputSection}
-use Rattle.wild_types.specs.declared.file.File.{File}
-use Rattle.wild_types.specs.declared.file.Group.{Group}
-use Rattle.wild_types.specs.declared.layout.Thunk.{Thunk}
-use Rattle.wild_types.specs.declared.layout.Layout.{Layout}
-use Rattle.wild_types.specs.Lists.{total}
-use Rattle.wild_types.specs.Lookups.{has_range_bytes}
-use Rattle.wild_types.specs.FilePlaces.{given}
-use Rattle.wild_types.specs.FileThunks.{thunk_size, thunks_of}
-use Rattle.wild_plan_rules.specs.Contents.{ends_of, parts_placed, section_misplaced}
+use Rattle.wild_geometry.proofs.Common.{◌≡◌, ℕ, ◌+◌, ◌*◌, ◌<◌, ◌≤◌, ◌⊎◌, inl, inr, ◌==◌, nat_le, Bool, true, false, ◌&&◌, if◌then◌else◌, List, [], ◌∷◌, ◌++◌, length, get_or, All, AllPairs, Option, Some, None, flat_map, refl, sym, arith, subst, Result, Ok, Err, cases_Bool, and_parts, leb-true, eqb-true, append-nil, All-nil, All-cons, All-head, All-tail, All-weaker, All-append, AllPairs-cons, AllPairs-nil, AllPairs-append, All-append-left, All-append-right, InputSection, File, Group, Thunk, Layout, total, has_range_bytes, given, thunk_size, thunks_of, section_misplaced, sections_in_ranges}
+use Rattle.wild_plan_rules.specs.Contents.{ends_of, parts_placed}
 use Rattle.wild_plan_rules.specs.SlotPlaces.{and_then, walk}
-use Rattle.wild_plan_rules.specs.Thunks.{sections_in_ranges, is_used, next_code, are_consecutive_from, block_step, section_step, file_step, or_next, misplaced_from}
+use Rattle.wild_plan_rules.specs.Thunks.{is_used, next_code, are_consecutive_from, block_step, section_step, file_step, or_next, misplaced_from}
 use Rattle.wild_plan_rules.proofs.BlockLemmas.{length-ends_of, get_or-ends_of}
 use Rattle.wild_geometry.proofs.RunLemmas.{sections_in, Owns, From, To, Run-from_group, each_part_placed}
 

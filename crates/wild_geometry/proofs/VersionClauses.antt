@@ -1,20 +1,10 @@
 -- What it says that the clause on versions holds.
-use Rattle.std.proofs.Common.{◌≡◌, ℕ, zero, suc, ◌+◌, ◌<◌, inl, inr, true, List, [], ◌∷◌, Option, Some, None, Ok, slice_get, refl, ap, arith}
-use Rattle.std.specs.Prelude.{nat_lt}
-use Rattle.std.specs.List.{list_any}
-use Rattle.std.proofs.lemmas.Bool.{cases_Bool, and_parts, ltb-true}
-use Rattle.std.proofs.lemmas.Option.{same_Some}
-use Rattle.wild_types.specs.declared.part.Part.{Part}
-use Rattle.wild_types.specs.declared.part.Role.{Role}
+use Rattle.wild_geometry.proofs.Common.{◌≡◌, ℕ, zero, suc, ◌+◌, ◌<◌, inl, inr, true, List, [], ◌∷◌, Option, Some, None, Ok, slice_get, refl, ap, arith, nat_lt, list_any, cases_Bool, and_parts, ltb-true, same_Some, Part, Role, Layout, unless, has_role, part_with, fails, first_error, None-from_fails}
 use Rattle.wild_types.specs.declared.part.Role.TheVariants as role
 use Rattle.wild_types.specs.declared.layout.VersionDefinition.{VersionDefinition}
-use Rattle.wild_types.specs.declared.layout.Layout.{Layout}
-use Rattle.wild_types.specs.Lists.{unless}
-use Rattle.wild_types.specs.Parts.{has_role, part_with}
 use Rattle.wild_needs.specs.Versions.{need_count}
 use Rattle.wild_plan_rules.specs.VersionTables.{parent_fits, parent_astray, some_definition, definition_astray, mark_astray, versions_agree}
-use Rattle.wild_plan_rules.specs.ClauseTests.{fails, first_error, check_versions}
-use Rattle.wild_plan_rules.proofs.ClauseLemmas.{None-from_fails}
+use Rattle.wild_plan_rules.specs.ClauseTests.{check_versions}
 use Rattle.wild_layout.specs.VersionOrder.{ParentsStand, HasVersionsInOrder}
 use Rattle.wild_geometry.proofs.ClauseLemmas.{Both-from_first_error}
 

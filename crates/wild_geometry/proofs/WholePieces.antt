@@ -1,22 +1,9 @@
 -- What stands once in the image stands where its part does.
-use Rattle.std.proofs.Common.{◌≡◌, ℕ, ◌+◌, ◌<◌, ◌≤◌, inl, inr, ◌==◌, Bool, true, false, not, ◌&&◌, List, length, get_or, Contains, refl, ap, ◌∙◌, arith, subst}
-use Rattle.std.proofs.lemmas.Bool.{cases_Bool, eqb-true, eqb-false}
-use Rattle.std.proofs.lemmas.List.Elements.{Contains-append_left}
-use Rattle.wild_words.proofs.Basics.{implied}
-use Rattle.wild_words.proofs.ListLemmas.{ItemAt-within}
+use Rattle.wild_geometry.proofs.Common.{◌≡◌, ℕ, ◌+◌, ◌<◌, ◌≤◌, inl, inr, ◌==◌, Bool, true, false, not, ◌&&◌, List, length, get_or, Contains, refl, ap, ◌∙◌, arith, subst, cases_Bool, eqb-true, eqb-false, Contains-append_left, implied, ItemAt-within, Part, Role, Group, Layout, is_partial_link, image_size, is_header_only_at, has_role, unique_table, content, shares_before, table_piece, table_pieces, owned_pieces, group_pieces, pieces}
 use Rattle.wild_records.specs.FileHeader.{file_header_size}
-use Rattle.wild_types.specs.declared.part.Part.{Part}
-use Rattle.wild_types.specs.declared.part.Role.{Role}
 use Rattle.wild_types.specs.declared.part.Role.TheVariants as role
-use Rattle.wild_types.specs.declared.file.Group.{Group}
-use Rattle.wild_types.specs.declared.layout.Layout.{Layout}
-use Rattle.wild_types.specs.Kinds.{is_partial_link}
-use Rattle.wild_types.specs.Lookups.{image_size, is_header_only_at}
-use Rattle.wild_types.specs.Parts.{has_role}
 use Rattle.wild_plan_rules.specs.Fronts.{is_header_role}
 use Rattle.wild_table_formats.specs.Headers.{offset_of_role, program_header_bytes}
-use Rattle.wild_layout.specs.Content.{unique_table, content}
-use Rattle.wild_layout.specs.Image.{shares_before, table_piece, table_pieces, owned_pieces, group_pieces, pieces}
 use Rattle.wild_layout.specs.TablePlaces.{IsPiece, HasTables}
 use Rattle.wild_geometry.proofs.InterleaveLemmas.{Contains-flat_map_from}
 use Rattle.wild_geometry.proofs.PlacedSectionLemmas.{AllClausesHold}

@@ -1,42 +1,16 @@
 -- Each byte that has an owner is in a piece. So the image does not depend on what is there before the pieces are written.
-use Rattle.std.proofs.Common.{◌≡◌, ℕ, suc, ◌+◌, ◌-◌, ◌<◌, ◌≤◌, ◌⊎◌, inl, inr, ◌==◌, Bool, true, false, not, ◌&&◌, ◌||◌, if◌then◌else◌, nat_le, nat_lt, List, [], ◌∷◌, length, map, take, get_or, All, Contains, slice_get, flat_map, refl, sym, ◌∙◌, arith, subst}
-use Rattle.std.specs.Prelude.{slice_index}
-use Rattle.std.specs.List.{list_any}
-use Rattle.std.proofs.lemmas.Bool.{cases_Bool, cases_lt, and_parts, and_from, or_cases, false_from_ne_true, not-true, leb-true, ltb-true, eqb-true, eqb-false}
-use Rattle.std.proofs.lemmas.List.{length-append, ext_get_or}
-use Rattle.std.proofs.lemmas.List.Elements.{All-cons, All-head, All-tail, All-contains, Contains-append_left, Contains-append_right}
+use Rattle.wild_geometry.proofs.Common.{◌≡◌, ℕ, suc, ◌+◌, ◌-◌, ◌<◌, ◌≤◌, ◌⊎◌, inl, inr, ◌==◌, Bool, true, false, not, ◌&&◌, ◌||◌, if◌then◌else◌, nat_le, nat_lt, List, [], ◌∷◌, length, map, take, get_or, All, Contains, slice_get, flat_map, refl, sym, ◌∙◌, arith, subst, slice_index, list_any, cases_Bool, and_parts, and_from, or_cases, not-true, leb-true, ltb-true, eqb-true, eqb-false, length-append, All-cons, All-head, All-tail, All-contains, Contains-append_left, Contains-append_right, Piece, overlay, AreDisjoint, Extent, Found-from_list_any, All-append-left, All-append-right, All-flat_map, All-from_flat_map, Part, Slot, InputSection, File, Group, Thunk, Layout, thunk_size, thunks_of, is_partial_link, total, has_data, has_range, has_counted, has_bytes, has_range_bytes, is_filled, takes_file_bytes, is_header_only_at, is_header_only_part, image_size, files_of, role_place, has_role, Input, without_relocations, unread, as_loaded, sorted_inputs, of_last_file, sections_in_ranges, extent_of, content, thunk_bytes, flat_map_from, IsLaidOut, offset_in, thunk_piece, thunk_pieces, some_piece, of_first_file, merged_and_identity_pieces, table_pieces, owned_pieces, group_pieces, pieces, Contains-flat_map, length-thunk_bytes}
+use Rattle.std.proofs.lemmas.Bool.{cases_lt, false_from_ne_true}
+use Rattle.std.proofs.lemmas.List.{ext_get_or}
 use Rattle.wild_words.specs.Words.{place}
-use Rattle.wild_words.specs.Overlay.{Piece, overlay, AreDisjoint}
-use Rattle.wild_words.specs.declared.extents.Extent.{Extent}
 use Rattle.wild_words.proofs.Basics.{All-each, Contains-from_flat_map, Contains-map, slice_get_inside}
-use Rattle.wild_words.proofs.ListLemmas.{Found-from_list_any, All-append-left, All-append-right, All-flat_map, All-from_flat_map}
 use Rattle.wild_words.proofs.OverlayLemmas.{length-place, place-below, place-inside, place-above, length-overlay}
-use Rattle.wild_types.specs.declared.part.Part.{Part}
 use Rattle.wild_types.specs.declared.part.Role.TheVariants as role
-use Rattle.wild_types.specs.declared.input.Slot.{Slot}
 use Rattle.wild_types.specs.declared.input.Slot.TheVariants as slot
-use Rattle.wild_types.specs.declared.input.InputSection.{InputSection}
-use Rattle.wild_types.specs.declared.file.File.{File}
-use Rattle.wild_types.specs.declared.file.Group.{Group}
-use Rattle.wild_types.specs.declared.layout.Thunk.{Thunk}
 use Rattle.wild_types.specs.declared.layout.Merged.{Merged}
-use Rattle.wild_types.specs.declared.layout.Layout.{Layout}
-use Rattle.wild_types.specs.FileThunks.{thunk_size, thunks_of}
-use Rattle.wild_types.specs.Kinds.{is_partial_link}
-use Rattle.wild_types.specs.Lists.{total}
-use Rattle.wild_types.specs.Lookups.{has_data, has_range, has_counted, has_bytes, has_range_bytes, is_filled, brings_bytes, takes_file_bytes, is_header_only_at, is_header_only_part, image_size, files_of}
-use Rattle.wild_types.specs.Parts.{role_place, has_role}
-use Rattle.wild_placement.specs.PlacedSections.{Input, without_relocations, unread, as_loaded, sorted_inputs, of_last_file}
-use Rattle.wild_plan_rules.specs.Thunks.{sections_in_ranges}
-use Rattle.wild_layout.specs.Sites.{extent_of}
-use Rattle.wild_layout.specs.Content.{content}
-use Rattle.wild_layout.specs.Thunks.{thunk_bytes}
-use Rattle.wild_layout.specs.Faults.{flat_map_from}
-use Rattle.wild_layout.specs.Geometry.{IsLaidOut}
-use Rattle.wild_layout.specs.Image.{offset_in, thunk_offset, thunk_piece, thunk_pieces, offset_of_part, some_piece, merged_bytes, front_piece, of_first_file, merged_and_identity_pieces, table_pieces, owned_pieces, group_pieces, pieces, is_within, part_owns, section_owns, thunk_owns, front_owns, merged_and_identity_owns, file_owns, group_owns, is_owned, padding, bytes}
+use Rattle.wild_types.specs.Lookups.{brings_bytes}
+use Rattle.wild_layout.specs.Image.{thunk_offset, offset_of_part, merged_bytes, front_piece, is_within, part_owns, section_owns, thunk_owns, front_owns, merged_and_identity_owns, file_owns, group_owns, is_owned, padding, bytes}
 use Rattle.wild_layout.proofs.LayoutLemmas.{length-padding}
-use Rattle.wild_layout.proofs.SiteLemmas.{Contains-flat_map}
-use Rattle.wild_layout.proofs.ThunkLemmas.{length-thunk_bytes}
 use Rattle.wild_geometry.specs.OwnedBytes.{IsPadded}
 use Rattle.wild_geometry.proofs.InterleaveLemmas.{Contains-flat_map_from}
 use Rattle.wild_geometry.proofs.PlacedSectionLemmas.{AllClausesHold}

@@ -1,37 +1,21 @@
 -- On AArch64 a `bl` or a `b` that a reference fills goes to what stands for the symbol, or to a thunk that goes on there.
-use Rattle.std.proofs.Common.{◌≡◌, ℕ, ◌+◌, ◌%◌, ◌^◌, ◌<◌, ◌≤◌, ◌⊎◌, inl, inr, true, List, [], ◌∷◌, length, slice_range, refl, sym, ap, ◌∙◌, arith, subst}
-use Rattle.std.specs.Prelude.{Option, Some, None, Contains}
+use Rattle.wild_laws.proofs.Common.{◌≡◌, ℕ, ◌+◌, ◌%◌, ◌^◌, ◌<◌, ◌≤◌, ◌⊎◌, inl, inr, true, List, [], ◌∷◌, length, slice_range, refl, sym, ap, ◌∙◌, arith, subst, Option, Some, None, Contains, length-range, Machine, InputRelocation, Layout, Item, is_listed, Formula, formula, StubDistance, Memory, World, Deed, Call, Jump, matches_cells, branch_types, place_at, formula_of, Instruction, instructions_of, demand_of, reads, reads_without_calls, IsInstruction, DoesDemanded, ReferenceHolds, bit_code}
 use Rattle.std.specs.Int.{w64, cast_unsigned}
 use Rattle.wild_words.specs.Words.{number}
-use Rattle.wild_words.proofs.Basics.{length-range}
 use Rattle.wild_records.specs.Abi.Relocation.{r_aarch64_jump26, r_aarch64_call26}
-use Rattle.wild_types.specs.declared.kind.Machine.{Machine}
 use Rattle.wild_types.specs.declared.kind.Machine.TheVariants as machine
-use Rattle.wild_types.specs.declared.input.InputRelocation.{InputRelocation}
-use Rattle.wild_types.specs.declared.layout.Layout.{Layout}
-use Rattle.wild_types.specs.Item.{Item}
-use Rattle.wild_reloc.specs.BarredTypes.{is_listed}
-use Rattle.wild_reloc.specs.Formula.{Formula, formula, StubDistance, Bits, Imm26Field, WithinPower}
+use Rattle.wild_reloc.specs.Formula.{Bits, Imm26Field, WithinPower}
 use Rattle.wild_reloc.specs.FormulaAArch64.{aarch64_formula}
 use Rattle.wild_aarch64.specs.Immediate.{immediate, Imm26}
 use Rattle.wild_aarch64.specs.Slice.{bits}
 use Rattle.wild_aarch64.specs.Effect.{words_of}
 use Rattle.wild_aarch64.proofs.ReadLemmas.{reads_b, reads_bl}
-use Rattle.wild_loader.specs.declared.memory.Memory.{Memory}
-use Rattle.wild_loader.specs.declared.world.World.{World}
-use Rattle.wild_loader.specs.declared.instruction.Deed.{Deed}
-use Rattle.wild_loader.specs.declared.instruction.Deed.TheVariants.{Call, Jump}
-use Rattle.wild_loader.specs.Instruction.{matches_cells}
 use Rattle.wild_loader.specs.InstructionAArch64.{demand_aarch64}
 use Rattle.wild_meaning.specs.WordsAArch64.{is_filled}
-use Rattle.wild_meaning.specs.ReferentAArch64.{IsUndefinedWeak, branch_types, own_place}
-use Rattle.wild_meaning.specs.Item.{place_at}
-use Rattle.wild_meaning.specs.Field.{formula_of}
+use Rattle.wild_meaning.specs.ReferentAArch64.{IsUndefinedWeak, own_place}
 use Rattle.wild_meaning.specs.Formula.{IsTarget, IsReferent, IsReferentOnAArch64}
-use Rattle.wild_meaning.specs.Sequence.{Target, Instruction, of_word, bytes_of, instructions_of}
-use Rattle.wild_meaning.specs.Template.{field_origin, demand_of, reads, reads_without_calls, IsInstruction, DoesDemanded, IsBranchReferent}
-use Rattle.wild_meaning.specs.Reference.{ReferenceHolds}
-use Rattle.wild_meaning.proofs.BitLemmas.{bit_code}
+use Rattle.wild_meaning.specs.Sequence.{Target, of_word, bytes_of}
+use Rattle.wild_meaning.specs.Template.{field_origin, IsBranchReferent}
 use Rattle.wild_meaning.proofs.StringLemmas.{referent_by, branch_stands, goes_to_none}
 use Rattle.wild_meaning.proofs.InstructionsAArch64.{IsAlone, alone_template, alone_only}
 use Rattle.wild_laws.specs.FirstTypes.{IsBranchWord}

@@ -1,24 +1,9 @@
 -- On x86-64 a direct call or jump that a reference fills goes to what stands for the symbol.
-use Rattle.std.proofs.Common.{◌≡◌, ℕ, ◌+◌, inl, inr, length, slice_range, refl, sym, ap, ◌∙◌, arith, subst}
-use Rattle.std.specs.Prelude.{Some, slice_index}
+use Rattle.wild_laws.proofs.Common.{◌≡◌, ℕ, ◌+◌, inl, inr, length, slice_range, refl, sym, ap, ◌∙◌, arith, subst, Some, slice_index, eqb-false, Machine, InputRelocation, Layout, StubDistance, Memory, World, Deed, Call, Jump, Instruction, Item, place_at, demand_of, reads, IsInstruction, DoesDemanded, ReferenceHolds, IsBranch, IsThreadCall}
 use Rattle.std.specs.Int.{w64, cast_unsigned}
-use Rattle.std.proofs.lemmas.Bool.{eqb-false}
-use Rattle.wild_types.specs.declared.kind.Machine.{Machine}
 use Rattle.wild_types.specs.declared.kind.Machine.TheVariants as machine
-use Rattle.wild_types.specs.declared.input.InputRelocation.{InputRelocation}
-use Rattle.wild_types.specs.declared.layout.Layout.{Layout}
-use Rattle.wild_reloc.specs.Formula.{StubDistance}
-use Rattle.wild_loader.specs.declared.memory.Memory.{Memory}
-use Rattle.wild_loader.specs.declared.world.World.{World}
-use Rattle.wild_loader.specs.declared.instruction.Deed.{Deed}
-use Rattle.wild_loader.specs.declared.instruction.Deed.TheVariants.{Call, Jump}
-use Rattle.wild_meaning.specs.Sequence.{Instruction}
-use Rattle.wild_types.specs.Item.{Item}
-use Rattle.wild_meaning.specs.Item.{place_at}
-use Rattle.wild_meaning.specs.Template.{field_origin, demand_of, reads, IsInstruction, DoesDemanded, IsBranchReferent}
-use Rattle.wild_meaning.specs.Reference.{ReferenceHolds}
+use Rattle.wild_meaning.specs.Template.{field_origin, IsBranchReferent}
 use Rattle.wild_meaning.proofs.SymbolLemmas.{referent_stands}
-use Rattle.wild_laws.specs.FirstTypes.{IsBranch, IsThreadCall}
 use Rattle.wild_laws.specs.FirstPath.{BranchReaches, branch_size, IsBranchedTo}
 use Rattle.wild_laws.proofs.Readers.{does_so, once_more}
 use Rattle.wild_laws.proofs.SequencesX86_64.{direct}

@@ -1,28 +1,15 @@
 -- On x86-64 bytes in no field are the input's, the opcodes of calls and jumps too.
-use Rattle.std.proofs.Common.{◌≡◌, ℕ, zero, suc, ◌+◌, ◌<◌, ◌≤◌, ◌⊎◌, inl, inr, length, get_or, slice_range, refl, sym, ap, ◌∙◌, arith, subst}
-use Rattle.std.specs.Prelude.{Option, Some, None, Contains, slice_index, nat_lt, ◌==◌}
-use Rattle.std.proofs.lemmas.Bool.{cases_Bool, eqb-true, eqb-false, ltb-true, ltb-false}
-use Rattle.std.proofs.lemmas.List.Elements.{All-contains}
+use Rattle.wild_laws.proofs.Common.{◌≡◌, ℕ, zero, suc, ◌+◌, ◌<◌, ◌≤◌, ◌⊎◌, inl, inr, length, get_or, slice_range, refl, sym, ap, ◌∙◌, arith, subst, Option, Some, None, Contains, slice_index, nat_lt, ◌==◌, cases_Bool, eqb-true, eqb-false, All-contains, Machine, InputRelocation, Layout, Formula, formula, Distance, StubDistance, Plain, Memory, World, Deed, Call, Jump, Effect, Instruction, size_of, IsOwnByte, Item, place_at, formula_of, InNoField, demand_of, reads, reads_without_calls, IsInstruction, IsTemplate, ReferenceHolds, ItemHolds, HasFirstTypes, IsBranch}
+use Rattle.std.proofs.lemmas.Bool.{ltb-true, ltb-false}
 use Rattle.wild_records.specs.Abi.Relocation.{r_x86_64_pc32, r_x86_64_plt32}
-use Rattle.wild_types.specs.declared.kind.Machine.{Machine}
 use Rattle.wild_types.specs.declared.kind.Machine.TheVariants as machine
-use Rattle.wild_types.specs.declared.input.InputRelocation.{InputRelocation}
-use Rattle.wild_types.specs.declared.layout.Layout.{Layout}
-use Rattle.wild_reloc.specs.Formula.{Formula, formula, Distance, StubDistance, Plain, Signed}
+use Rattle.wild_reloc.specs.Formula.{Signed}
 use Rattle.wild_reloc.specs.FormulaX86_64.{x86_64_formula}
-use Rattle.wild_loader.specs.declared.memory.Memory.{Memory}
-use Rattle.wild_loader.specs.declared.world.World.{World}
 use Rattle.wild_loader.specs.Memory.{byte_in}
-use Rattle.wild_loader.specs.declared.instruction.Deed.{Deed}
-use Rattle.wild_loader.specs.declared.instruction.Deed.TheVariants.{Call, Jump}
-use Rattle.wild_loader.specs.Instruction.{Effect}
-use Rattle.wild_meaning.specs.Sequence.{Instruction, size_of, IsOwnByte}
-use Rattle.wild_types.specs.Item.{Item}
-use Rattle.wild_meaning.specs.Item.{place_at}
-use Rattle.wild_meaning.specs.Field.{formula_of, form_width, InNoField, IsInputByte}
-use Rattle.wild_meaning.specs.Template.{effect_of, demand_of, reads, reads_without_calls, IsInstruction, IsTemplate, DoesWith}
-use Rattle.wild_meaning.specs.Reference.{ReferenceHolds, LinkedHolds, ItemHolds}
-use Rattle.wild_laws.specs.FirstTypes.{branch_types, HasFirstTypes, IsBranch}
+use Rattle.wild_meaning.specs.Field.{form_width, IsInputByte}
+use Rattle.wild_meaning.specs.Template.{effect_of, DoesWith}
+use Rattle.wild_meaning.specs.Reference.{LinkedHolds}
+use Rattle.wild_laws.specs.FirstTypes.{branch_types}
 use Rattle.wild_laws.specs.FirstPath.{EachIsChecked}
 use Rattle.wild_laws.proofs.Readers.{with_too}
 use Rattle.wild_laws.proofs.SequencesX86_64.{direct}

@@ -1,29 +1,17 @@
 -- On x86-64: the call or the jump that a reference of a first type fills, in the input and in memory.
-use Rattle.std.proofs.Common.{◌≡◌, ℕ, ◌+◌, ◌%◌, ◌^◌, ◌<◌, ◌≤◌, ◌⊎◌, inl, inr, Bool, true, false, List, [], ◌∷◌, ◌++◌, length, get_or, slice_range, refl, sym, ap, ◌∙◌, arith, subst, eq-eqb}
-use Rattle.std.specs.Prelude.{Option, Some, None, Contains, slice_index, option_map, option_and_then, not, ◌||◌, ◌==◌, nat_le}
-use Rattle.std.specs.List.{list_all}
-use Rattle.std.proofs.lemmas.Bool.{cases_Bool, and_parts, eqb-true, not-true}
-use Rattle.wild_words.proofs.Basics.{listed_at, length-range, range_byte, listed_passes}
-use Rattle.wild_types.specs.declared.kind.Machine.{Machine}
+use Rattle.wild_laws.proofs.Common.{◌≡◌, ℕ, ◌+◌, ◌%◌, ◌^◌, ◌<◌, ◌≤◌, ◌⊎◌, inl, inr, Bool, true, false, List, [], ◌∷◌, ◌++◌, length, get_or, slice_range, refl, sym, ap, ◌∙◌, arith, subst, eq-eqb, Option, Some, None, Contains, slice_index, option_map, option_and_then, not, ◌||◌, ◌==◌, nat_le, list_all, cases_Bool, and_parts, eqb-true, length-range, listed_passes, Machine, InputRelocation, Layout, Cell, Is, Deed, Call, Jump, Effect, matches_cells, meaning_x86_64, Instruction, size_of, IsOwnByte, instructions_of, Item, InNoField, IsInstruction, IsTemplate, bit_code, HasFirstTypes, IsBranch, IsThreadCall}
+use Rattle.std.proofs.lemmas.Bool.{not-true}
+use Rattle.wild_words.proofs.Basics.{listed_at, range_byte}
 use Rattle.wild_types.specs.declared.kind.Machine.TheVariants as machine
-use Rattle.wild_types.specs.declared.input.InputRelocation.{InputRelocation}
-use Rattle.wild_types.specs.declared.layout.Layout.{Layout}
-use Rattle.wild_loader.specs.declared.instruction.Cell.{Cell}
-use Rattle.wild_loader.specs.declared.instruction.Cell.TheVariants.{Is}
 use Rattle.wild_loader.specs.declared.instruction.Action.{Action}
-use Rattle.wild_loader.specs.declared.instruction.Deed.{Deed}
-use Rattle.wild_loader.specs.declared.instruction.Deed.TheVariants.{Call, Jump}
-use Rattle.wild_loader.specs.Instruction.{Template, Reader, Effect, exact_cells, field, matches_cells, template_fills, first_meaning, effect, with_value, as_value}
+use Rattle.wild_loader.specs.Instruction.{Template, Reader, exact_cells, field, template_fills, first_meaning, effect, with_value, as_value}
 use Rattle.wild_loader.specs.ThreadCodeX86_64.{nop_byte}
-use Rattle.wild_loader.specs.InstructionX86_64.{templates_x86_64, meaning_x86_64, effect_x86_64}
-use Rattle.wild_meaning.specs.Sequence.{Instruction, size_of, IsOwnByte, instructions_of}
-use Rattle.wild_types.specs.Item.{Item}
+use Rattle.wild_loader.specs.InstructionX86_64.{templates_x86_64, effect_x86_64}
 use Rattle.wild_meaning.specs.Item.{IsReference}
-use Rattle.wild_meaning.specs.Field.{InNoField}
-use Rattle.wild_meaning.specs.Template.{IsInstruction, IsSequence, IsTemplate}
+use Rattle.wild_meaning.specs.Template.{IsSequence}
 use Rattle.wild_meaning.proofs.PairLemmas.{IsGetterCall, IsDouble, as_its_call, as_double}
-use Rattle.wild_meaning.proofs.BitLemmas.{code_bit, bit_code}
-use Rattle.wild_laws.specs.FirstTypes.{addresses_x86_64, first_types, branch_types, thread_types, HasFirstTypes, IsBranch, IsThreadCall}
+use Rattle.wild_meaning.proofs.BitLemmas.{code_bit}
+use Rattle.wild_laws.specs.FirstTypes.{addresses_x86_64, first_types, branch_types, thread_types}
 use Rattle.wild_laws.proofs.SequencesX86_64.{is_first, is_thread, thread, one_of, first_number_is_thread, calling, direct, by_instruction}
 
 -- ---- bytes

@@ -2,23 +2,18 @@
 use Rattle.wild_geometry.proofs.ReadLemmas.{read_fields, read_written, read_plain}
 use Rattle.wild_placement.proofs.PlainLemmas.{unread_linked}
 use Rattle.wild_types.specs.Kinds.{is_partial_link}
-use Rattle.std.proofs.lemmas.Bool.{and_parts}
-use Rattle.std.proofs.Common.{◌≡◌, ℕ, zero, suc, ◌+◌, ◌<◌, Bool, true, false, List, [], ◌∷◌, length, get_or, refl, sym, ap, ◌∙◌, arith, subst}
-use Rattle.std.specs.Prelude.{Option, Some, None, Result, Ok, Err, All, Contains, slice_get, if◌then◌else◌}
+use Rattle.wild_laws.proofs.Common.{and_parts, ◌≡◌, ℕ, zero, suc, ◌+◌, ◌<◌, Bool, true, false, List, [], ◌∷◌, length, get_or, refl, sym, ap, ◌∙◌, arith, subst, Option, Some, None, Result, Ok, Err, All, Contains, slice_get, if◌then◌else◌, All-contains, InputRelocation, InputSection, Layout, Item, IsLaidOut}
 use Rattle.std.specs.List.{flat_map, range_with_len}
-use Rattle.std.proofs.lemmas.List.Elements.{All-nil, All-cons, All-head, All-tail, All-contains}
+use Rattle.std.proofs.lemmas.List.Elements.{All-nil, All-cons, All-head, All-tail}
 use Rattle.wild_words.proofs.Basics.{slice_get_inside, range-Contains, Contains-from_flat_map}
 use Rattle.wild_words.proofs.ListLemmas.{nil_parts, All-append-left}
 use Rattle.wild_types.specs.declared.fault.At.{At}
 use Rattle.wild_types.specs.declared.fault.Error.{Error}
 use Rattle.wild_types.specs.declared.fault.Fault.{Fault}
 use Rattle.wild_types.specs.declared.input.Slot.TheVariants as slot
-use Rattle.wild_types.specs.declared.input.InputRelocation.{InputRelocation}
-use Rattle.wild_types.specs.declared.input.InputSection.{InputSection}
 use Rattle.wild_types.specs.declared.file.File.{File}
 use Rattle.wild_types.specs.declared.file.Group.{Group}
-use Rattle.wild_types.specs.declared.layout.Layout.{Layout}
-use Rattle.wild_types.specs.Item.{Item, item_of, block_for}
+use Rattle.wild_types.specs.Item.{item_of, block_for}
 use Rattle.wild_types.specs.FileRoles.{is_epilogue}
 use Rattle.wild_types.specs.HeaderOnly.{is_omitted}
 use Rattle.wild_types.specs.Lookups.{is_read, is_counted, is_frame}
@@ -30,7 +25,6 @@ use Rattle.wild_layout.specs.Decide.{decide}
 use Rattle.wild_layout.specs.Sites.{MovesApart}
 use Rattle.wild_layout.specs.Faults.{flat_map_from, group_errors, file_errors, files_errors, sections_errors, section_errors, placed_section_errors, item_errors, sorted_errors, sorted_errors_of, bad_frames, refusal_of, refusal_at, relocation_errors, at_offset}
 use Rattle.wild_layout.specs.SectionPlaces.{FieldLies, SectionLies, HasWords}
-use Rattle.wild_layout.specs.Geometry.{IsLaidOut}
 use Rattle.wild_layout.proofs.SiteLemmas.{sites_apart}
 use Rattle.wild_layout.proofs.MovedSites.{placed_section_moves, turned_or_stays}
 use Rattle.wild_layout.proofs.FaultLemmas.{no_overlap, sections_of_file, sorted_of_file, files_of_group}

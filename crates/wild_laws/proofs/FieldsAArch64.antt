@@ -1,32 +1,19 @@
 -- On AArch64: the field of a number in data reads as its formula, and bytes in no field are the input's.
-use Rattle.std.proofs.Common.{◌≡◌, ℕ, zero, suc, ◌+◌, ◌*◌, ◌<◌, ◌≤◌, ◌⊎◌, inl, inr, Bool, true, false, List, [], ◌∷◌, length, get_or, refl, sym, ap, ◌∙◌, arith, subst, eqb-true}
-use Rattle.std.specs.Prelude.{◌&&◌, ◌||◌, ◌==◌, Option, Some, None, Contains}
-use Rattle.std.specs.List.{list_all}
-use Rattle.std.proofs.lemmas.Bool.{and_parts, or_cases}
-use Rattle.std.proofs.lemmas.List.Elements.{All-contains}
-use Rattle.wild_words.proofs.Basics.{listed_at, listed_passes}
+use Rattle.wild_laws.proofs.Common.{◌≡◌, ℕ, zero, suc, ◌+◌, ◌*◌, ◌<◌, ◌≤◌, ◌⊎◌, inl, inr, Bool, true, false, List, [], ◌∷◌, length, get_or, refl, sym, ap, ◌∙◌, arith, subst, ◌&&◌, ◌||◌, ◌==◌, Option, Some, None, Contains, list_all, and_parts, All-contains, listed_passes, Machine, InputRelocation, Layout, Item, is_listed, SymbolAddress, Distance, Formula, formula, Plain, Memory, World, branch_types, formula_of, InNoField, Instruction, size_of, instructions_of, IsInstruction, IsTemplate, ReferenceHolds, ItemHolds, HasFirstTypes, HasFormula}
+use Rattle.std.proofs.Common.{eqb-true}
+use Rattle.std.proofs.lemmas.Bool.{or_cases}
+use Rattle.wild_words.proofs.Basics.{listed_at}
 use Rattle.wild_records.specs.Abi.Relocation.{r_aarch64_abs64, r_aarch64_abs32, r_aarch64_abs16, r_aarch64_prel64, r_aarch64_prel32, r_aarch64_prel16, r_aarch64_tlsdesc_call}
-use Rattle.wild_types.specs.declared.kind.Machine.{Machine}
 use Rattle.wild_types.specs.declared.kind.Machine.TheVariants as machine
-use Rattle.wild_types.specs.declared.input.InputRelocation.{InputRelocation}
-use Rattle.wild_types.specs.declared.layout.Layout.{Layout}
-use Rattle.wild_types.specs.Item.{Item}
-use Rattle.wild_reloc.specs.BarredTypes.{is_listed}
-use Rattle.wild_reloc.specs.Formula.{SymbolAddress, Distance, Formula, formula, Full, Plain, Either}
+use Rattle.wild_reloc.specs.Formula.{Full, Either}
 use Rattle.wild_reloc.specs.FormulaAArch64.{aarch64_formula}
-use Rattle.wild_loader.specs.declared.memory.Memory.{Memory}
-use Rattle.wild_loader.specs.declared.world.World.{World}
-use Rattle.wild_meaning.specs.ReferentAArch64.{branch_types}
-use Rattle.wild_meaning.specs.Field.{formula_of, form_width, InNoField, IsInputByte}
-use Rattle.wild_meaning.specs.Sequence.{Partner, Instruction, size_of, instructions_of}
+use Rattle.wild_meaning.specs.Field.{form_width, IsInputByte}
+use Rattle.wild_meaning.specs.Sequence.{Partner}
 use Rattle.wild_meaning.specs.Partners.{HasPartners}
-use Rattle.wild_meaning.specs.Template.{IsInstruction, IsTemplate}
-use Rattle.wild_meaning.specs.Reference.{ReferenceHolds, ItemHolds}
 use Rattle.wild_meaning.proofs.AmongLemmas.{Among}
 use Rattle.wild_meaning.proofs.OneReference.{fills}
 use Rattle.wild_meaning.proofs.InstructionsAArch64.{Nothing, takes, single_is, sequence_is}
-use Rattle.wild_laws.specs.FirstTypes.{addresses_aarch64, HasFirstTypes}
-use Rattle.wild_laws.specs.FirstPath.{HasFormula}
+use Rattle.wild_laws.specs.FirstTypes.{addresses_aarch64}
 use Rattle.wild_laws.proofs.FirstNames.{IsKnown, plain_has}
 
 -- ---- the types of addresses and distances

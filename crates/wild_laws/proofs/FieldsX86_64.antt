@@ -1,23 +1,11 @@
 -- On x86-64 the field of a reference in no call and no jump reads as its formula.
-use Rattle.std.proofs.Common.{◌≡◌, ℕ, zero, suc, ◌<◌, inl, inr, length, get_or, refl, sym, ◌∙◌, arith, subst}
-use Rattle.std.specs.Prelude.{Some, Contains}
+use Rattle.wild_laws.proofs.Common.{◌≡◌, ℕ, zero, suc, ◌<◌, inl, inr, length, get_or, refl, sym, ◌∙◌, arith, subst, Some, Contains, Machine, InputRelocation, Layout, SymbolAddress, Distance, Formula, formula, Plain, Memory, World, Call, Jump, Instruction, Item, formula_of, IsInstruction, ReferenceHolds, HasFormula}
 use Rattle.wild_records.specs.Abi.Relocation.{r_x86_64_64, r_x86_64_pc32, r_x86_64_32, r_x86_64_32s, r_x86_64_16, r_x86_64_pc16, r_x86_64_8, r_x86_64_pc8, r_x86_64_pc64}
-use Rattle.wild_types.specs.declared.kind.Machine.{Machine}
 use Rattle.wild_types.specs.declared.kind.Machine.TheVariants as machine
-use Rattle.wild_types.specs.declared.input.InputRelocation.{InputRelocation}
-use Rattle.wild_types.specs.declared.layout.Layout.{Layout}
-use Rattle.wild_reloc.specs.Formula.{SymbolAddress, Distance, Formula, formula, Full, Plain, Signed, Unsigned, Either}
+use Rattle.wild_reloc.specs.Formula.{Full, Signed, Unsigned, Either}
 use Rattle.wild_reloc.specs.FormulaX86_64.{x86_64_formula}
-use Rattle.wild_loader.specs.declared.memory.Memory.{Memory}
-use Rattle.wild_loader.specs.declared.world.World.{World}
-use Rattle.wild_loader.specs.declared.instruction.Deed.TheVariants.{Call, Jump}
-use Rattle.wild_meaning.specs.Sequence.{Instruction}
-use Rattle.wild_types.specs.Item.{Item}
-use Rattle.wild_meaning.specs.Field.{formula_of}
-use Rattle.wild_meaning.specs.Template.{IsInstruction}
-use Rattle.wild_meaning.specs.Reference.{HoldsPlain, ReferenceHolds}
+use Rattle.wild_meaning.specs.Reference.{HoldsPlain}
 use Rattle.wild_laws.specs.FirstTypes.{addresses_x86_64, IsBranchField}
-use Rattle.wild_laws.specs.FirstPath.{HasFormula}
 use Rattle.wild_laws.proofs.FirstNames.{IsKnown, plain_has}
 use Rattle.wild_laws.proofs.CodeX86_64.{IsFirst, template_direct, is_branch, IsCallOrJump}
 

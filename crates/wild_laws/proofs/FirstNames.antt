@@ -1,23 +1,14 @@
 -- What a formula gives of an address or a distance, and what that is of a symbol that no resolver answers for.
-use Rattle.std.proofs.Common.{◌≡◌, ℕ, ◌+◌, ◌-◌, ◌%◌, ◌^◌, ◌⊎◌, inl, inr, Bool, false, true, refl, sym, ap, ◌∙◌, subst, arith}
-use Rattle.std.specs.Prelude.{Option, Some, None}
-use Rattle.wild_types.specs.declared.kind.Machine.{Machine}
+use Rattle.wild_laws.proofs.Common.{◌≡◌, ℕ, ◌+◌, ◌-◌, ◌%◌, ◌^◌, ◌⊎◌, inl, inr, Bool, false, true, refl, sym, ap, ◌∙◌, subst, arith, Option, Some, None, Machine, InputRelocation, Layout, is_listed, SymbolAddress, Distance, StubDistance, Memory, World, Item, place_at, branch_types, HasFormula}
 use Rattle.wild_types.specs.declared.kind.Machine.TheVariants as machine
-use Rattle.wild_types.specs.declared.input.InputRelocation.{InputRelocation}
-use Rattle.wild_types.specs.declared.layout.Layout.{Layout}
 use Rattle.wild_types.specs.Flags.{ifunc}
-use Rattle.wild_reloc.specs.BarredTypes.{is_listed}
-use Rattle.wild_reloc.specs.Formula.{Value, SymbolAddress, Distance, StubDistance, StubFromTable}
-use Rattle.wild_loader.specs.declared.memory.Memory.{Memory}
-use Rattle.wild_loader.specs.declared.world.World.{World}
+use Rattle.wild_reloc.specs.Formula.{Value, StubFromTable}
 use Rattle.wild_meaning.specs.Value.{HasFlag, HasOwnValue, IsReplaceable, with_base}
 use Rattle.wild_meaning.specs.Denotes.{HasStub, IsAddressOf, Denotes}
-use Rattle.wild_types.specs.Item.{Item}
-use Rattle.wild_meaning.specs.Item.{place_at}
-use Rattle.wild_meaning.specs.ReferentAArch64.{IsUndefinedWeak, branch_types, own_place}
+use Rattle.wild_meaning.specs.ReferentAArch64.{IsUndefinedWeak, own_place}
 use Rattle.wild_meaning.specs.Formula.{IsSymbolAddress, IsTarget, Gives, TakesAddress, IsReferent, IsReferentOnMachine, IsReferentOnX86_64, IsReferentOnAArch64}
 use Rattle.wild_meaning.specs.Reference.{HoldsPlain}
-use Rattle.wild_laws.specs.FirstPath.{IsAddress, IsGoal, Demands, NamesAreAddresses, RepresentsSymbol, IsNamed, HasFormula}
+use Rattle.wild_laws.specs.FirstPath.{IsAddress, IsGoal, Demands, NamesAreAddresses, RepresentsSymbol, IsNamed}
 use Rattle.wild_laws.proofs.Symbols.{own_value, plain_value}
 
 -- ---- symbols

@@ -1,24 +1,13 @@
 -- The meaning of all layouts gives what is told by fields, calls and jumps, and other bytes.
-use Rattle.std.proofs.Common.{◌≡◌, true, false, inl, inr, refl, sym, ◌∙◌, subst}
-use Rattle.std.specs.Prelude.{Option, Some, Contains, slice_get}
-use Rattle.wild_types.specs.declared.kind.Machine.{Machine}
+use Rattle.wild_laws.proofs.Common.{◌≡◌, true, false, inl, inr, refl, sym, ◌∙◌, subst, Option, Some, Contains, slice_get, Machine, InputRelocation, InputSection, Layout, Formula, Memory, World, Item, formula_of, ReferenceHolds, ItemHolds, HasFirstTypes, IsThreadCall}
 use Rattle.wild_types.specs.declared.kind.Machine.TheVariants as machine
-use Rattle.wild_types.specs.declared.input.InputRelocation.{InputRelocation}
-use Rattle.wild_types.specs.declared.input.InputSection.{InputSection}
-use Rattle.wild_types.specs.declared.layout.Layout.{Layout}
 use Rattle.wild_types.specs.declared.part.Part.{Part}
 use Rattle.wild_types.specs.Lookups.{section_of_part, is_header_only_at, is_header_only_part}
-use Rattle.wild_reloc.specs.Formula.{Formula}
-use Rattle.wild_loader.specs.declared.memory.Memory.{Memory}
-use Rattle.wild_loader.specs.declared.world.World.{World}
-use Rattle.wild_types.specs.Item.{Item}
 use Rattle.wild_meaning.specs.Item.{IsLoadedSlot, IsKept, OfSection, placed_item}
 use Rattle.wild_meaning.specs.Section.{IsHeaderOnly}
-use Rattle.wild_meaning.specs.Field.{formula_of}
-use Rattle.wild_meaning.specs.Reference.{ReferenceHolds, ItemHolds}
 use Rattle.wild_meaning.proofs.BitLemmas.{bit_alloc}
 use Rattle.wild_geometry.proofs.HeaderOnlyLemmas.{test_from_IsHollow}
-use Rattle.wild_laws.specs.FirstTypes.{IsLoadedSection, IsRelocated, address_types, HasFirstTypes, IsCall, IsJump, IsBranchField, IsSlotCall, IsSlotJump, IsThreadCall, GivesThreadAddress}
+use Rattle.wild_laws.specs.FirstTypes.{IsLoadedSection, IsRelocated, address_types, IsCall, IsJump, IsBranchField, IsSlotCall, IsSlotJump, GivesThreadAddress}
 use Rattle.wild_laws.specs.FirstPath.{IsFollowed, HoldsByForms, HoldsByFields, HasValueOf, HasInstruction, DoesInstruction, MeaningGivesForms, MeaningGivesFields}
 use Rattle.wild_laws.proofs.Readers.{does_so}
 use Rattle.wild_laws.proofs.CodeX86_64.{of_address}

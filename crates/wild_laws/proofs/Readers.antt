@@ -1,22 +1,12 @@
 -- What code reads that calls no function, other code reads too.
-use Rattle.std.proofs.Common.{◌≡◌, ℕ, ◌%◌, ◌^◌, List, arith}
-use Rattle.std.specs.Prelude.{Option, Some, None, option_map, option_and_then}
-use Rattle.wild_types.specs.declared.kind.Machine.{Machine}
+use Rattle.wild_laws.proofs.Common.{◌≡◌, ℕ, ◌%◌, ◌^◌, List, arith, Option, Some, None, option_map, option_and_then, Machine, InputRelocation, Layout, Memory, World, Effect, meaning_x86_64, Instruction, Item, place_at, reads, reads_without_calls, DoesDemanded}
 use Rattle.wild_types.specs.declared.kind.Machine.TheVariants as machine
-use Rattle.wild_types.specs.declared.input.InputRelocation.{InputRelocation}
-use Rattle.wild_types.specs.declared.layout.Layout.{Layout}
-use Rattle.wild_loader.specs.declared.memory.Memory.{Memory}
-use Rattle.wild_loader.specs.declared.world.World.{World}
 use Rattle.wild_loader.specs.declared.instruction.Operand.{Operand}
 use Rattle.wild_loader.specs.declared.instruction.Operand.TheVariants.{Number, Word, Pair, Offset}
 use Rattle.wild_loader.specs.declared.instruction.Action.{Action}
-use Rattle.wild_loader.specs.Instruction.{Effect, effect, with_value}
-use Rattle.wild_loader.specs.InstructionX86_64.{meaning_x86_64}
+use Rattle.wild_loader.specs.Instruction.{effect, with_value}
 use Rattle.wild_loader.specs.InstructionAArch64.{meaning_aarch64}
-use Rattle.wild_meaning.specs.Sequence.{Instruction}
-use Rattle.wild_types.specs.Item.{Item}
-use Rattle.wild_meaning.specs.Item.{place_at}
-use Rattle.wild_meaning.specs.Template.{effect_of, reads, reads_without_calls, DoesWith, DoesDemanded}
+use Rattle.wild_meaning.specs.Template.{effect_of, DoesWith}
 
 -- what such code reads, other code reads too
 read_too : (w : World) (m : Memory) (p : Operand) (f : ℕ → Effect) (e : Effect) → option_map f (reads_without_calls w m p) ≡ Some e → option_map f (reads w m p) ≡ Some e

@@ -1,19 +1,13 @@
 -- Instructions that relocations fill: of the first types the direct call and the direct jump alone; behind the opcode of a call or a jump
 -- through a slot these two alone; and of a sequence's first field those that ask for a thread address.
-use Rattle.std.proofs.Common.{◌≡◌, ℕ, zero, suc, ◌-◌, ◌<◌, ◌≤◌, ◌⊎◌, inl, inr, Bool, true, false, List, [], ◌∷◌, length, get_or, refl, sym, ap, ◌∙◌, arith, subst, eq-eqb}
-use Rattle.std.specs.Prelude.{Contains, not, ◌&&◌, ◌||◌, ◌==◌, nat_le, nat_lt, drop}
-use Rattle.std.specs.List.{list_all, list_any}
-use Rattle.std.proofs.lemmas.Bool.{cases_Bool, and_parts, eqb-true, ltb-true, leb-true}
-use Rattle.wild_words.proofs.Basics.{listed_passes, implied}
+use Rattle.wild_laws.proofs.Common.{◌≡◌, ℕ, zero, suc, ◌-◌, ◌<◌, ◌≤◌, ◌⊎◌, inl, inr, Bool, true, false, List, [], ◌∷◌, length, get_or, refl, sym, ap, ◌∙◌, arith, subst, eq-eqb, Contains, not, ◌&&◌, ◌||◌, ◌==◌, nat_le, nat_lt, drop, list_all, cases_Bool, and_parts, eqb-true, listed_passes, Cell, Is, Deed, Call, Jump, matches_cells, Instruction, size_of, instructions_of}
+use Rattle.std.specs.List.{list_any}
+use Rattle.std.proofs.lemmas.Bool.{ltb-true, leb-true}
+use Rattle.wild_words.proofs.Basics.{implied}
 use Rattle.wild_types.specs.declared.kind.Machine.TheVariants as machine
-use Rattle.wild_loader.specs.declared.instruction.Cell.{Cell}
-use Rattle.wild_loader.specs.declared.instruction.Cell.TheVariants.{Is}
 use Rattle.wild_loader.specs.declared.instruction.Operand.TheVariants.{Number, Word}
-use Rattle.wild_loader.specs.declared.instruction.Deed.{Deed}
-use Rattle.wild_loader.specs.declared.instruction.Deed.TheVariants.{Call, Jump}
-use Rattle.wild_loader.specs.Instruction.{matches_cells}
 use Rattle.wild_loader.specs.CodeX86_64.{branch}
-use Rattle.wild_meaning.specs.Sequence.{Instruction, Partner, Target, TargetInSlot, size_of, of_field, instructions_of}
+use Rattle.wild_meaning.specs.Sequence.{Partner, Target, TargetInSlot, of_field}
 use Rattle.wild_meaning.proofs.PairLemmas.{are_several, the_one}
 use Rattle.wild_laws.specs.FirstTypes.{first_types, branch_types, slot_types, thread_types, call_types}
 

@@ -1,28 +1,13 @@
 -- On x86-64: the call or the jump through a slot that a reference fills, and that its code goes to what comes to the symbol.
-use Rattle.std.proofs.Common.{◌≡◌, ℕ, zero, suc, ◌+◌, ◌-◌, ◌%◌, ◌^◌, ◌<◌, ◌≤◌, ◌⊎◌, inl, inr, true, false, List, [], ◌∷◌, ◌++◌, length, get_or, slice_range, refl, sym, ap, ◌∙◌, arith, subst, eq-eqb}
-use Rattle.std.specs.Prelude.{Some, Contains, slice_index, not, ◌&&◌, ◌==◌}
-use Rattle.std.proofs.lemmas.Bool.{and_parts, eqb-true, not-true, eqb-false}
-use Rattle.wild_words.proofs.Basics.{length-range, range_byte, listed_passes}
-use Rattle.wild_types.specs.declared.kind.Machine.{Machine}
+use Rattle.wild_laws.proofs.Common.{◌≡◌, ℕ, zero, suc, ◌+◌, ◌-◌, ◌%◌, ◌^◌, ◌<◌, ◌≤◌, ◌⊎◌, inl, inr, true, false, List, [], ◌∷◌, ◌++◌, length, get_or, slice_range, refl, sym, ap, ◌∙◌, arith, subst, eq-eqb, Some, Contains, slice_index, not, ◌&&◌, ◌==◌, and_parts, eqb-true, eqb-false, length-range, listed_passes, Machine, InputRelocation, Layout, Memory, World, Cell, Is, Deed, Call, Jump, matches_cells, meaning_x86_64, Instruction, size_of, IsOwnByte, instructions_of, Item, place_at, InNoField, demand_of, reads, IsInstruction, IsTemplate, DoesDemanded, ReferenceHolds, bit_code, IsThreadCall}
+use Rattle.std.proofs.lemmas.Bool.{not-true}
+use Rattle.wild_words.proofs.Basics.{range_byte}
 use Rattle.wild_types.specs.declared.kind.Machine.TheVariants as machine
-use Rattle.wild_types.specs.declared.input.InputRelocation.{InputRelocation}
-use Rattle.wild_types.specs.declared.layout.Layout.{Layout}
-use Rattle.wild_loader.specs.declared.memory.Memory.{Memory}
-use Rattle.wild_loader.specs.declared.world.World.{World}
-use Rattle.wild_loader.specs.declared.instruction.Cell.{Cell}
-use Rattle.wild_loader.specs.declared.instruction.Cell.TheVariants.{Is}
-use Rattle.wild_loader.specs.declared.instruction.Deed.{Deed}
-use Rattle.wild_loader.specs.declared.instruction.Deed.TheVariants.{Call, Jump}
-use Rattle.wild_loader.specs.Instruction.{exact_cells, field, matches_cells, as_value}
-use Rattle.wild_loader.specs.InstructionX86_64.{meaning_x86_64, effect_x86_64}
-use Rattle.wild_meaning.specs.Sequence.{Instruction, TargetInSlot, size_of, IsOwnByte, instructions_of}
-use Rattle.wild_types.specs.Item.{Item}
-use Rattle.wild_meaning.specs.Item.{place_at}
-use Rattle.wild_meaning.specs.Field.{InNoField}
-use Rattle.wild_meaning.specs.Template.{HasOriginAddend, demand_of, reads, IsInstruction, IsTemplate, DoesDemanded}
-use Rattle.wild_meaning.specs.Reference.{ReferenceHolds}
-use Rattle.wild_meaning.proofs.BitLemmas.{bit_code}
-use Rattle.wild_laws.specs.FirstTypes.{slot_types, IsSlotBranch, IsThreadCall}
+use Rattle.wild_loader.specs.Instruction.{exact_cells, field, as_value}
+use Rattle.wild_loader.specs.InstructionX86_64.{effect_x86_64}
+use Rattle.wild_meaning.specs.Sequence.{TargetInSlot}
+use Rattle.wild_meaning.specs.Template.{HasOriginAddend}
+use Rattle.wild_laws.specs.FirstTypes.{slot_types, IsSlotBranch}
 use Rattle.wild_laws.specs.FirstPath.{SlotBranchReaches}
 use Rattle.wild_laws.proofs.FirstNames.{target_reached}
 use Rattle.wild_laws.proofs.SequencesX86_64.{is_thread, is_slot, through, IsThrough, is_through}

@@ -1,18 +1,14 @@
 -- The stubs and thunks of a loaded image go on to their slots and targets.
 use Rattle.wild_meaning.proofs.OutputLemmas.{not_partial}
-use Rattle.std.proofs.Common.{◌≡◌, [], sym, ◌∙◌, subst}
-use Rattle.std.specs.Prelude.{Ok}
-use Rattle.wild_types.specs.declared.layout.Layout.{Layout}
+use Rattle.wild_laws.proofs.Common.{◌≡◌, [], sym, ◌∙◌, subst, Ok, Layout, IsLaidOut, laid_out, Memory, World}
 use Rattle.wild_types.specs.HeaderOnly.{KeepsAll}
 use Rattle.wild_types.specs.ResolvedFlags.{HaveTheirFlags}
 use Rattle.wild_layout.specs.Faults.{errors}
-use Rattle.wild_layout.specs.Geometry.{IsLaidOut, LayoutsAreLaidOut}
+use Rattle.wild_layout.specs.Geometry.{LayoutsAreLaidOut}
 use Rattle.wild_layout.specs.Image.{bytes}
 use Rattle.wild_layout.specs.Numbers.{NumbersFit}
-use Rattle.wild_layout.proofs.FaultLemmas.{no_group_errors, laid_out}
+use Rattle.wild_layout.proofs.FaultLemmas.{no_group_errors}
 use Rattle.wild_loader.specs.Load.{load}
-use Rattle.wild_loader.specs.declared.memory.Memory.{Memory}
-use Rattle.wild_loader.specs.declared.world.World.{World}
 use Rattle.wild_meaning.specs.World.{IsLoadable, IsLegal}
 use Rattle.wild_geometry.specs.Carried.{PartsAreLoaded}
 use Rattle.wild_loaded.specs.Laws.{SlotsAreThere}

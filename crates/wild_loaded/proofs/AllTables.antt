@@ -1,41 +1,13 @@
 -- What the tables of a layout fill is known and lies beside each other.
-use Rattle.wild_geometry.proofs.PlacedInputs.{all_sections, input_of, each_at}
+use Rattle.wild_loaded.proofs.Common.{all_sections, input_of, each_at, ◌≡◌, ℕ, ◌+◌, ◌^◌, ◌<◌, ◌≤◌, true, List, [], ◌++◌, get_or, refl, sym, arith, subst, All, AllPairs, Contains, ◌≢◌, IsPermutation, flat_map, All-nil, All-cons, All-append, get_or_default, not_empty, AllPairs-nil, All-append-right, AllPairs-append, All-flat_map, AllPairs-flat_map, Rela, Role, InputSection, Layout, KeepsAll, is_loaded_role, not_hollow_role, word_size, start_of, NumbersFit, flat_map_from, group_errors, SectionLies, IsLaidOut, places, Memory, World, IsLoadable, IsLegal, IsPastFileBytes, end_of, Ascend, image_memory, EachDecided, HasWholeSlots, tables_of, SegmentsAreLoadable}
 use Rattle.wild_loaded.proofs.SectionsDisjoint.{section_apart}
-use Rattle.std.proofs.Common.{◌≡◌, ℕ, ◌+◌, ◌^◌, ◌<◌, ◌≤◌, true, List, [], ◌++◌, get_or, refl, sym, arith, subst}
-use Rattle.std.specs.Prelude.{All, AllPairs, Contains, ◌≢◌, IsPermutation}
-use Rattle.std.specs.List.{flat_map}
-use Rattle.std.proofs.lemmas.List.Elements.{All-nil, All-cons, All-append}
-use Rattle.std.proofs.lemmas.List.{get_or_default}
-use Rattle.wild_words.proofs.Basics.{not_empty}
-use Rattle.wild_words.proofs.ListLemmas.{AllPairs-nil, All-append-right, AllPairs-append, All-flat_map, AllPairs-flat_map}
-use Rattle.wild_records.specs.declared.relocations.Rela.{Rela}
-use Rattle.wild_types.specs.declared.part.Role.{Role}
 use Rattle.wild_types.specs.declared.part.Role.TheVariants as role
 use Rattle.wild_slot.specs.declared.slot_parts.WordPart.TheVariants as words
-use Rattle.wild_types.specs.declared.input.InputSection.{InputSection}
-use Rattle.wild_types.specs.declared.layout.Layout.{Layout}
-use Rattle.wild_types.specs.HeaderOnly.{KeepsAll}
-use Rattle.wild_types.specs.Parts.{is_loaded_role}
-use Rattle.wild_types.proofs.LookupLemmas.{not_hollow_role}
-use Rattle.wild_needs.specs.SlotShares.{word_size}
-use Rattle.wild_plan_rules.specs.SlotPlaces.{start_of}
-use Rattle.wild_layout.specs.Numbers.{NumbersFit}
-use Rattle.wild_layout.specs.Faults.{flat_map_from, group_errors}
-use Rattle.wild_layout.specs.SectionPlaces.{SectionLies}
-use Rattle.wild_layout.specs.Geometry.{IsLaidOut}
 use Rattle.wild_relr.specs.RunWords.{RelrSlotIsARun}
 use Rattle.wild_table_formats.specs.EntryLaws.{PlacesAreLoaded}
-use Rattle.wild_loader.specs.Places.{places}
-use Rattle.wild_loader.specs.declared.memory.Memory.{Memory}
-use Rattle.wild_loader.specs.declared.world.World.{World}
-use Rattle.wild_meaning.specs.World.{IsLoadable, IsLegal, IsPastFileBytes}
-use Rattle.wild_slots.specs.Order.{end_of}
-use Rattle.wild_slots.specs.AscendingPlaces.{Ascend, PlacesAscend}
+use Rattle.wild_slots.specs.AscendingPlaces.{PlacesAscend}
 use Rattle.wild_slots.specs.Blocks.{BlocksAreWhole}
-use Rattle.wild_loaded.specs.Memory.{image_memory, EachDecided}
-use Rattle.wild_loaded.specs.WholeSlots.{HasWholeSlots}
-use Rattle.wild_loaded.specs.Tables.{tables_of}
-use Rattle.wild_loaded.specs.Laws.{SectionsAreInSegments, SegmentsAreLoadable}
+use Rattle.wild_loaded.specs.Laws.{SectionsAreInSegments}
 use Rattle.wild_loaded.proofs.PartsHeld.{placed}
 use Rattle.wild_loaded.proofs.SlotSites.{all_sites}
 use Rattle.wild_loaded.specs.FilledLaws.{TablesAreMade}

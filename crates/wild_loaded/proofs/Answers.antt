@@ -1,20 +1,10 @@
 -- What a legal world answers: dynamic symbols by their index, thread-local modules, and resolvers.
-use Rattle.std.proofs.Common.{◌≡◌, ℕ, ◌^◌, ◌<◌, ◌⊎◌, inl, inr, false, length, refl, sym, arith, subst}
-use Rattle.std.specs.Prelude.{Some, Ok, ◌==◌, slice_get}
-use Rattle.std.specs.Int.{w64, cast_unsigned}
-use Rattle.std.proofs.lemmas.Bool.{cases_Bool, eqb-true}
-use Rattle.std.proofs.lemmas.List.Elements.{All-contains}
-use Rattle.std.proofs.lemmas.Option.{slice_get_within}
-use Rattle.wild_words.proofs.Basics.{slice_get_inside, listed_at}
-use Rattle.wild_types.specs.declared.symbol.Resolution.{Resolution}
-use Rattle.wild_types.specs.declared.symbol.Symbol.{Symbol}
-use Rattle.wild_types.specs.declared.layout.Layout.{Layout}
+use Rattle.wild_loaded.proofs.Common.{◌≡◌, ℕ, ◌^◌, ◌<◌, ◌⊎◌, inl, inr, false, length, refl, sym, arith, subst, Some, Ok, ◌==◌, slice_get, w64, cases_Bool, eqb-true, All-contains, slice_get_within, listed_at, Resolution, Symbol, Layout, IsLaidOut, Answer, World, IsLegal, IsAnsweredOnce}
+use Rattle.std.specs.Int.{cast_unsigned}
+use Rattle.wild_words.proofs.Basics.{slice_get_inside}
 use Rattle.wild_needs.specs.DynamicSymbols.{dynamic_symbols}
-use Rattle.wild_layout.specs.Geometry.{IsLaidOut}
-use Rattle.wild_loader.specs.declared.world.Answer.{Answer}
-use Rattle.wild_loader.specs.declared.world.World.{World}
 use Rattle.wild_loader.specs.Changes.{answer_at, module_and_offset, distance_of}
-use Rattle.wild_meaning.specs.World.{IsLegal, IsAnsweredOnce, IsAnswer, IsAnswered}
+use Rattle.wild_meaning.specs.World.{IsAnswer, IsAnswered}
 use Rattle.wild_meaning.proofs.WorldLemmas.{first_filtered, distance_known}
 
 -- ---- pairs by their keys

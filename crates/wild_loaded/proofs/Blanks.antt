@@ -1,37 +1,12 @@
 -- Input sections without data, in sections that have bytes in the file: their bytes are zeros, and stay so.
-use Rattle.wild_meaning.proofs.OutputLemmas.{not_partial}
-use Rattle.std.specs.List.{flat_map}
+use Rattle.wild_loaded.proofs.Common.{not_partial, flat_map, IsPlacedSection, listed_section, ◌≡◌, ℕ, ◌+◌, ◌<◌, ◌≤◌, ◌==◌, Bool, true, false, not, ◌&&◌, List, [], length, replicate, refl, sym, ap, ◌∙◌, arith, subst, Option, Some, All, if◌then◌else◌, option_to_list, ne_eqb, length-replicate, get_or-replicate, All-nil, Part, Section, InputRelocation, InputSection, File, Layout, section_of_part, has_data, is_header_only_part, is_loaded, is_filled, allocated, section_bytes, bytes, IsLaidOut, Memory, World, byte_in, BytesAreLoaded, IsLoadable, alloc_bit, IsStored, image_memory, Filled, BlanksAreStored}
 use Rattle.wild_placement.specs.PlacedSections.{as_loaded}
-use Rattle.wild_geometry.specs.PlacedSections.{IsPlacedSection}
 use Rattle.wild_geometry.proofs.HeaderOnlyLemmas.{part_is_written}
-use Rattle.wild_geometry.proofs.PlacedInputs.{listed_section}
 use Rattle.wild_geometry.proofs.KeptItems.{input_stands, turned_fields}
-use Rattle.std.proofs.Common.{◌≡◌, ℕ, ◌+◌, ◌<◌, ◌≤◌, ◌==◌, Bool, true, false, not, ◌&&◌, List, [], length, replicate, refl, sym, ap, ◌∙◌, arith, subst}
-use Rattle.std.specs.Prelude.{Option, Some, All, if◌then◌else◌, option_to_list}
-use Rattle.std.proofs.lemmas.Bool.{ne_eqb}
-use Rattle.std.proofs.lemmas.List.{length-replicate, get_or-replicate}
-use Rattle.std.proofs.lemmas.List.Elements.{All-nil}
-use Rattle.wild_types.specs.declared.part.Part.{Part}
-use Rattle.wild_types.specs.declared.section.Section.{Section}
 use Rattle.wild_types.specs.declared.input.Slot.TheVariants as slot
-use Rattle.wild_types.specs.declared.input.InputRelocation.{InputRelocation}
-use Rattle.wild_types.specs.declared.input.InputSection.{InputSection}
-use Rattle.wild_types.specs.declared.file.File.{File}
-use Rattle.wild_types.specs.declared.layout.Layout.{Layout}
-use Rattle.wild_types.specs.Lookups.{without_data, section_of, section_of_part, has_data, is_header_only_part, is_loaded, is_filled, allocated, has_relocations}
-use Rattle.wild_layout.specs.Sites.{section_bytes}
-use Rattle.wild_layout.specs.Image.{bytes}
-use Rattle.wild_layout.specs.Geometry.{IsLaidOut}
-use Rattle.wild_loader.specs.declared.memory.Memory.{Memory}
-use Rattle.wild_loader.specs.declared.world.World.{World}
-use Rattle.wild_loader.specs.Memory.{byte_in}
-use Rattle.wild_loader.specs.SegmentLaws.{BytesAreLoaded}
+use Rattle.wild_types.specs.Lookups.{without_data, section_of, has_relocations}
 use Rattle.wild_meaning.specs.Section.{IsHeaderOnly, HasFileBytes}
-use Rattle.wild_meaning.specs.World.{IsLoadable}
 use Rattle.wild_meaning.specs.LinkedImage.{IsSectionWithoutData}
-use Rattle.wild_meaning.proofs.BitLemmas.{alloc_bit}
-use Rattle.wild_loaded.specs.Memory.{IsStored, image_memory, Filled}
-use Rattle.wild_loaded.specs.Laws.{BlanksAreStored}
 use Rattle.wild_loaded.proofs.SectionBytesInMemory.{kept_carried, filled_held}
 use Rattle.wild_loaded.proofs.Fillings.{Misses}
 use Rattle.wild_loaded.proofs.MadeChanges.{IsMovedImage, kept_at}

@@ -1,39 +1,15 @@
 -- Symbols that are copied into the output: their addresses, their answers, and what their entries make a loader do.
-use Rattle.std.proofs.Common.{◌≡◌, ℕ, ◌%◌, ◌^◌, ◌<◌, ◌⊎◌, inl, inr, true, refl, sym, ap, ◌∙◌, arith, subst}
-use Rattle.std.specs.Prelude.{Option, Some, None, Result, Ok, Err, All, [], unwrap_or, slice_get}
-use Rattle.std.proofs.lemmas.List.Elements.{All-contains}
-use Rattle.wild_types.specs.declared.fault.Fault.{Fault}
-use Rattle.wild_types.specs.declared.kind.Machine.{Machine}
+use Rattle.wild_loaded.proofs.Common.{◌≡◌, ℕ, ◌%◌, ◌^◌, ◌<◌, ◌⊎◌, inl, inr, true, refl, sym, ap, ◌∙◌, arith, subst, Option, Some, None, Result, Ok, Err, All, [], unwrap_or, slice_get, All-contains, Fault, Machine, File, Group, Resolution, Symbol, Layout, copies_of, is_library, canonical, type_of, flat_map_from, group_errors, IsLaidOut, entry_for, copy_entry, value_or_0, index_of, raw_value, Answer, World, kind_of, change_of, IsLegal, IsCopied, HasCopy, canonical_is, processor_of, facts_of}
 use Rattle.wild_reloc.specs.declared.dynamic.DynamicRelocationKind.TheVariants.{Copy}
-use Rattle.wild_types.specs.declared.file.File.{File}
-use Rattle.wild_types.specs.declared.file.Group.{Group}
-use Rattle.wild_types.specs.declared.symbol.Resolution.{Resolution}
-use Rattle.wild_types.specs.declared.symbol.Symbol.{Symbol}
-use Rattle.wild_types.specs.declared.layout.Layout.{Layout}
-use Rattle.wild_types.specs.FileSymbols.{copies_of}
-use Rattle.wild_types.specs.FileRoles.{is_library}
-use Rattle.wild_types.specs.Lookups.{canonical}
-use Rattle.wild_slot.specs.SlotParts.{type_of}
-use Rattle.wild_layout.specs.Faults.{flat_map_from, copy_fault, group_errors}
-use Rattle.wild_layout.specs.Geometry.{IsLaidOut}
-use Rattle.wild_layout.specs.DynamicRelocations.{entry_for, copy_entry}
-use Rattle.wild_layout.specs.RelativeRelocations.{value_or_0}
+use Rattle.wild_layout.specs.Faults.{copy_fault}
 use Rattle.wild_layout.specs.SymbolValues.{raw_address}
-use Rattle.wild_layout.specs.SlotValues.{index_of}
-use Rattle.wild_types.specs.Addresses.{raw_value}
 use Rattle.wild_layout.proofs.FaultLemmas.{CanBeCopied, copies_of_groups}
-use Rattle.wild_loader.specs.declared.world.Answer.{Answer}
-use Rattle.wild_loader.specs.declared.world.World.{World}
-use Rattle.wild_loader.specs.Changes.{kind_of, change_of}
 use Rattle.wild_meaning.specs.Value.{IsResolved, IsUnresolved, IsLocatedAt, HasRaw, HasAnswer}
-use Rattle.wild_meaning.specs.World.{IsLegal, IsCopied, HasCopy}
-use Rattle.wild_meaning.proofs.SymbolLemmas.{canonical_is, own_definition}
+use Rattle.wild_meaning.proofs.SymbolLemmas.{own_definition}
 use Rattle.wild_loaded.specs.StoredTables.{Copies}
 use Rattle.wild_loaded.specs.Laws.{CopiesAreThere}
 use Rattle.wild_loaded.proofs.Answers.{symbol_answer, index_small}
 use Rattle.wild_loaded.proofs.LeftFields.{IsIndexed, indexed}
-use Rattle.wild_meaning.specs.LinkedImage.{processor_of}
-use Rattle.wild_geometry.proofs.MachineLemmas.{facts_of}
 use Rattle.wild_loader.specs.declared.kind.DynamicKind.TheVariants as kinds
 
 -- ---- definitions

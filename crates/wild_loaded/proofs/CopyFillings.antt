@@ -1,44 +1,17 @@
 -- The bytes of symbols that are copied: they lie behind file bytes, those of one symbol beside those of another.
-use Rattle.std.proofs.Common.{◌≡◌, ℕ, ◌+◌, ◌-◌, ◌^◌, ◌<◌, ◌≤◌, ◌⊎◌, inl, inr, Bool, true, false, not, List, [], ◌∷◌, ◌++◌, length, get_or, map, replicate, refl, sym, ap, ◌∙◌, arith, subst, append_assoc}
-use Rattle.std.specs.Prelude.{Some, None, Result, Ok, Err, All, AllPairs, Contains, ◌≢◌, if◌then◌else◌, ◌==◌, slice_index}
-use Rattle.std.specs.List.{flat_map, list_any}
-use Rattle.std.proofs.lemmas.Bool.{cases_Bool, eq-eqb, and_parts, not-true}
-use Rattle.std.proofs.lemmas.List.{append-nil, get_or-replicate, length-replicate}
-use Rattle.std.proofs.lemmas.List.Elements.{All-nil, All-cons, All-head, All-tail, All-map, All-contains}
-use Rattle.std.proofs.lemmas.List.Kept.{AllPairs-cons}
-use Rattle.wild_words.proofs.Basics.{All-each, Contains-from_flat_map, map-flat_map}
-use Rattle.wild_words.proofs.ListLemmas.{AllPairs-nil, AllPairs-head, AllPairs-tail, AllPairs-append, flat_map-flat_map}
-use Rattle.wild_records.specs.Abi.Segment.{pt_load}
-use Rattle.wild_records.specs.declared.relocations.Rela.{Rela}
-use Rattle.wild_types.specs.declared.section.Segment.{Segment}
-use Rattle.wild_types.specs.declared.file.File.{File}
-use Rattle.wild_types.specs.declared.file.Group.{Group}
-use Rattle.wild_types.specs.declared.layout.Layout.{Layout}
-use Rattle.wild_types.specs.FileSymbols.{copies_of, copied_definitions, are_distinct_from, first_double_copy}
-use Rattle.wild_types.specs.FileRoles.{is_library}
-use Rattle.wild_types.specs.Lookups.{canonical}
+use Rattle.wild_loaded.proofs.Common.{◌≡◌, ℕ, ◌+◌, ◌-◌, ◌^◌, ◌<◌, ◌≤◌, ◌⊎◌, inl, inr, Bool, true, false, not, List, [], ◌∷◌, ◌++◌, length, get_or, map, replicate, refl, sym, ap, ◌∙◌, arith, subst, append_assoc, Some, None, Result, Ok, Err, All, AllPairs, Contains, ◌≢◌, if◌then◌else◌, ◌==◌, slice_index, flat_map, cases_Bool, and_parts, not-true, append-nil, get_or-replicate, length-replicate, All-nil, All-cons, All-head, All-tail, All-map, All-contains, AllPairs-cons, All-each, map-flat_map, AllPairs-nil, AllPairs-head, AllPairs-tail, AllPairs-append, flat_map-flat_map, pt_load, Rela, Segment, File, Group, Layout, copies_of, is_library, canonical, NumbersFit, flat_map_from, group_errors, IsLaidOut, copy_entry, Change, Answer, World, change_of, size_of, kind_of, byte_in, loaded_at, IsLegal, IsPastFileBytes, IsCopied, HasCopy, IsLoadable, canonical_is, image_memory, ZerosAreStored, EntriesHaveChanges, processor_of}
+use Rattle.std.specs.List.{list_any}
+use Rattle.std.proofs.lemmas.Bool.{eq-eqb}
+use Rattle.wild_words.proofs.Basics.{Contains-from_flat_map}
+use Rattle.wild_types.specs.FileSymbols.{copied_definitions, are_distinct_from, first_double_copy}
 use Rattle.wild_types.proofs.FileLemmas.{library_role}
-use Rattle.wild_layout.specs.Numbers.{NumbersFit}
-use Rattle.wild_layout.specs.Faults.{flat_map_from, group_errors}
-use Rattle.wild_layout.specs.Geometry.{IsLaidOut}
-use Rattle.wild_layout.specs.DynamicRelocations.{copy_entry}
-use Rattle.wild_loader.specs.declared.change.Change.{Change}
 use Rattle.wild_loader.specs.declared.change.Change.TheVariants as changes
 use Rattle.wild_loader.specs.declared.fault.LoadFault.{LoadFault}
 use Rattle.wild_loader.specs.declared.kind.DynamicKind.TheVariants as kinds
-use Rattle.wild_loader.specs.declared.world.Answer.{Answer}
-use Rattle.wild_loader.specs.declared.world.World.{World}
-use Rattle.wild_loader.specs.Changes.{change_of, size_of, kind_of}
-use Rattle.wild_loader.specs.Memory.{byte_in}
-use Rattle.wild_loader.specs.Relocate.{loaded_at}
-use Rattle.wild_meaning.specs.World.{IsLegal, IsPastFileBytes, IsCopied, HasCopy, IsLoadable}
-use Rattle.wild_meaning.proofs.SymbolLemmas.{canonical_is}
-use Rattle.wild_loaded.specs.Memory.{image_memory}
 use Rattle.wild_loaded.specs.StoredTables.{Copies}
-use Rattle.wild_loaded.specs.Laws.{ZerosAreStored, EntriesHaveChanges, CopiesAreThere}
+use Rattle.wild_loaded.specs.Laws.{CopiesAreThere}
 use Rattle.wild_loaded.proofs.PairLemmas.{AllPairs-fewer, All-unmap}
 use Rattle.wild_loaded.proofs.Fillings.{Filling, general_of, DoNotOverlap, IsKnown, place_loaded}
-use Rattle.wild_meaning.specs.LinkedImage.{processor_of}
 use Rattle.wild_loader.specs.declared.memory.Machine.{Machine as Processor}
 use Rattle.wild_loaded.proofs.Loads.{image_machine}
 

@@ -1,45 +1,22 @@
 -- The image for debuggers alone is loaded: of no table that a loader applies is anything written.
-use Rattle.std.proofs.Common.{◌≡◌, ℕ, ◌+◌, ◌/◌, ◌<◌, ◌^◌, Bool, true, if◌then◌else◌, List, [], ◌∷◌, length, get_or, refl, sym, ap, ◌∙◌, arith, subst}
-use Rattle.std.specs.Prelude.{Option, Some, None, Ok, All}
-use Rattle.std.proofs.lemmas.List.Elements.{All-nil, All-cons, All-contains, All-map}
-use Rattle.wild_records.specs.Abi.Section.{sht_rela, sht_nobits}
-use Rattle.wild_records.specs.Dynamic.{dynamic_entry_size, DynamicEntryFits}
-use Rattle.wild_records.specs.Relocations.{RelaFits}
-use Rattle.wild_records.specs.declared.program_header.ProgramHeader.{ProgramHeader}
-use Rattle.wild_types.specs.declared.part.Part.{Part}
+use Rattle.wild_loaded.proofs.Common.{◌≡◌, ℕ, ◌+◌, ◌/◌, ◌<◌, ◌^◌, Bool, true, if◌then◌else◌, List, [], ◌∷◌, length, get_or, refl, sym, ap, ◌∙◌, arith, subst, Option, Some, None, Ok, All, All-nil, All-cons, All-contains, All-map, sht_nobits, dynamic_entry_size, RelaFits, ProgramHeader, Part, Section, Layout, Item, image_size, is_header_only, part_with, file_header, program_header, null_header, section_header, info_at, computed_infos, headers_from, section_headers_of, bytes, SegmentLoads, NumbersFit, IsLaidOut, Run, World, machine_of, value_of_tag, IsStatic, IsLoadable, IsLegal, alloc_bit, not_partial, HasItem, SegmentsAreLoadable, SectionsAreStored, ZerosAreStored, BlanksAreStored, FileBytesAreStored, TextsAreStored, headers_of, image_memory, EachDecided}
+use Rattle.wild_records.specs.Abi.Section.{sht_rela}
+use Rattle.wild_records.specs.Dynamic.{DynamicEntryFits}
 use Rattle.wild_types.specs.declared.part.Role.TheVariants as role
-use Rattle.wild_types.specs.declared.section.Section.{Section}
-use Rattle.wild_types.specs.declared.layout.Layout.{Layout}
-use Rattle.wild_types.specs.Item.{Item}
-use Rattle.wild_types.specs.Lookups.{image_size, is_header_only}
-use Rattle.wild_types.specs.Parts.{part_with}
-use Rattle.wild_table_formats.specs.Headers.{file_header, program_header, null_header, section_header, info_at, computed_infos, headers_from, section_headers_of}
-use Rattle.wild_layout.specs.Image.{bytes}
-use Rattle.wild_layout.specs.Loadable.{SegmentLoads}
-use Rattle.wild_layout.specs.Numbers.{NumbersFit}
-use Rattle.wild_layout.specs.Geometry.{IsLaidOut}
 use Rattle.wild_loader.specs.declared.memory.Machine.{Machine}
-use Rattle.wild_loader.specs.declared.memory.Run.{Run}
-use Rattle.wild_loader.specs.declared.world.World.{World}
-use Rattle.wild_loader.specs.Headers.{machine_of}
 use Rattle.wild_loader.specs.Load.{load}
 use Rattle.wild_loader.specs.Memory.{memory_of}
 use Rattle.wild_loader.specs.Relocate.{relocate, add_all, apart, notes}
 use Rattle.wild_loader.specs.Places.{places_from}
 use Rattle.wild_words.specs.Extents.{least_extent}
 use Rattle.wild_loader.specs.Runs.{overlay_runs}
-use Rattle.wild_loader.specs.Tables.{value_of_tag}
 use Rattle.wild_loader.specs.SegmentLaws.{loaded_runs}
-use Rattle.wild_loader.specs.Laws.{HasDynamic, HasTables, HasNoEntries, IsStatic, DynamicImagesAreLoaded, PlainImagesAreLoaded}
+use Rattle.wild_loader.specs.Laws.{HasDynamic, HasTables, HasNoEntries, DynamicImagesAreLoaded, PlainImagesAreLoaded}
 use Rattle.wild_meaning.specs.Section.{IsForDebuggers}
-use Rattle.wild_meaning.specs.World.{IsLoadable, IsLegal}
 use Rattle.wild_meaning.specs.Item.{IsKept}
-use Rattle.wild_meaning.proofs.BitLemmas.{alloc_bit}
-use Rattle.wild_meaning.proofs.OutputLemmas.{not_partial}
-use Rattle.wild_geometry.specs.Loaded.{HasItem, InFile}
+use Rattle.wild_geometry.specs.Loaded.{InFile}
 use Rattle.wild_geometry.proofs.KeptItems.{kept_items_placed}
-use Rattle.wild_loaded.specs.Laws.{HeadersAreThere, SegmentsAreLoadable, SectionsAreStored, ZerosAreStored, BlanksAreStored, FileBytesAreStored, TextsAreStored}
-use Rattle.wild_loaded.specs.Memory.{headers_of, image_memory, EachDecided}
+use Rattle.wild_loaded.specs.Laws.{HeadersAreThere}
 use Rattle.wild_loaded.specs.LoadedMemoryLaws.{DebugImagesAreLoaded}
 use Rattle.wild_loaded.proofs.DynamicSections.{first_header, segment_place, first_listed}
 use Rattle.wild_loaded.proofs.HeadersFit.{uncompressed_flags-alloc}

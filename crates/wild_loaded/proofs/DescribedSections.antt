@@ -1,33 +1,16 @@
 -- The section headers of an image are those of the layout's sections.
-use Rattle.std.proofs.Common.{◌≡◌, ℕ, suc, ◌+◌, ◌*◌, ◌<◌, ◌≤◌, inl, inr, Bool, true, false, List, [], ◌∷◌, length, refl, sym, ap, ◌∙◌, arith, subst}
-use Rattle.std.specs.Prelude.{◌==◌, if◌then◌else◌, All, Some, Ok, slice_get}
-use Rattle.std.specs.List.{flat_map}
-use Rattle.std.proofs.lemmas.Bool.{cases_Bool, ne_eqb}
-use Rattle.wild_words.specs.Words.{HasBytesAt}
+use Rattle.wild_loaded.proofs.Common.{◌≡◌, ℕ, suc, ◌+◌, ◌*◌, ◌<◌, ◌≤◌, inl, inr, Bool, true, false, List, [], ◌∷◌, length, refl, sym, ap, ◌∙◌, arith, subst, ◌==◌, if◌then◌else◌, All, Some, Ok, slice_get, flat_map, cases_Bool, ne_eqb, HasBytesAt, sht_nobits, shf_alloc, ProgramHeader, SectionHeader, Section, Layout, is_header_only, file_header, section_header, section_headers_of, length-section_headers_of, bytes, NumbersFit, IsLaidOut, HasHeaders, IsLoadable, not_partial}
 use Rattle.wild_words.proofs.Basics.{length-flat_map_each}
-use Rattle.wild_records.specs.Abi.Section.{sht_nobits, shf_alloc}
 use Rattle.wild_records.specs.SectionHeader.{section_header_size, section_header_at, SectionHeaderFits, SectionHeaderIsRead}
 use Rattle.wild_records.specs.declared.file_header.FileHeader.{FileHeader}
-use Rattle.wild_records.specs.declared.program_header.ProgramHeader.{ProgramHeader}
-use Rattle.wild_records.specs.declared.section_header.SectionHeader.{SectionHeader}
 use Rattle.wild_types.specs.declared.part.Role.TheVariants as role
-use Rattle.wild_types.specs.declared.section.Section.{Section}
-use Rattle.wild_types.specs.declared.layout.Layout.{Layout}
-use Rattle.wild_types.specs.Lookups.{is_header_only}
-use Rattle.wild_table_formats.specs.Headers.{file_header, section_header, section_headers_of}
-use Rattle.wild_table_formats.proofs.HeaderLengths.{length-section_headers_of}
-use Rattle.wild_layout.specs.Image.{bytes}
-use Rattle.wild_layout.specs.Numbers.{NumbersFit}
-use Rattle.wild_layout.specs.Geometry.{IsLaidOut}
 use Rattle.wild_loader.specs.Headers.{section_count, sections}
-use Rattle.wild_loader.specs.SegmentLaws.{HasHeaders, first_size, section_bytes}
+use Rattle.wild_loader.specs.SegmentLaws.{first_size, section_bytes}
 use Rattle.wild_loader.proofs.RecordLists.{length-section, section-first, sections-read}
 use Rattle.wild_loader.proofs.TableLemmas.{lies-table}
 use Rattle.wild_geometry.proofs.HeaderOnlyLemmas.{IsHeaderOnlySection-from_test, test_from_IsHeaderOnlySection}
 use Rattle.wild_meaning.specs.Section.{IsHeaderOnlySection}
 use Rattle.wild_meaning.specs.SectionHeaders.{DescribesSection, DescribesSections}
-use Rattle.wild_meaning.specs.World.{IsLoadable}
-use Rattle.wild_meaning.proofs.OutputLemmas.{not_partial}
 use Rattle.wild_loaded.proofs.HeadersFit.{uncompressed_flags-alloc}
 use Rattle.wild_loaded.proofs.Loads.{has_headers}
 use Rattle.wild_loaded.proofs.SectionTable.{header_behind}

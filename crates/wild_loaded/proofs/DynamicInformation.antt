@@ -1,56 +1,31 @@
 -- The dynamic section tells a dynamic linker what it is to do.
-use Rattle.wild_placement.specs.PlacedSections.{placed_files}
-use Rattle.std.proofs.Common.{◌≡◌, ◌≢◌, ℕ, zero, suc, ◌+◌, ◌-◌, ◌*◌, ◌/◌, ◌%◌, ◌<◌, ◌≤◌, inl, inr, Bool, true, false, not, ◌&&◌, List, [], ◌∷◌, ◌++◌, length, replicate, refl, sym, ap, ◌∙◌, arith, subst}
-use Rattle.std.specs.Prelude.{Option, Some, None, Ok, All, bit_or, option_map, if◌then◌else◌, ◌==◌, slice_get}
-use Rattle.std.specs.List.{flat_map}
+use Rattle.wild_loaded.proofs.Common.{placed_files, ◌≡◌, ◌≢◌, ℕ, zero, suc, ◌+◌, ◌-◌, ◌*◌, ◌/◌, ◌%◌, ◌<◌, ◌≤◌, inl, inr, Bool, true, false, not, ◌&&◌, List, [], ◌∷◌, ◌++◌, length, replicate, refl, sym, ap, ◌∙◌, arith, subst, Option, Some, None, Ok, All, bit_or, option_map, if◌then◌else◌, ◌==◌, slice_get, flat_map, ne_eqb, All-flat_map, dynamic_entry_size, DynamicEntry, ProgramHeader, Rela, Part, Role, File, Group, Layout, KeepsAll, is_executable, is_position_independent, needs_dynamic, part_with, dynamic_number, dynamic_entry, bytes, NumbersFit, IsLaidOut, table_bytes, Tables, kind_of, IsTableOf, entries_before_null, rela_bytes, word_bytes, value_of_tag, Relative, facts_of, processor_of, HasWholeSlots, TablesAreFound, relative_entries, tables_of, headers_of}
 use Rattle.std.specs.Int.{bit_at}
-use Rattle.std.proofs.lemmas.Bool.{ne_eqb}
 use Rattle.std.proofs.lemmas.Nat.Bits.{bit_at-lt, bit_at_or}
 use Rattle.wild_words.proofs.Basics.{slice_get_inside, length-flat_map_each}
-use Rattle.wild_words.proofs.ListLemmas.{All-flat_map, holds_at}
+use Rattle.wild_words.proofs.ListLemmas.{holds_at}
 use Rattle.wild_records.specs.Abi.Dynamic.{dt_pltrel, dt_jmprel, dt_pltrelsz, dt_hash, dt_gnu_hash, dt_strtab, dt_symtab, dt_rela, dt_relasz, dt_relaent, dt_syment, dt_flags, dt_relr, dt_relrsz, dt_relrent, dt_relacount, dt_flags_1, dt_versym, dt_verdef, dt_verneed, df_bind_now, df_1_now, df_static_tls, df_textrel, df_origin, df_1_pie, df_1_origin, df_1_nodelete, df_1_interpose}
-use Rattle.wild_records.specs.Dynamic.{dynamic_entry_size, DynamicEntryIsRead}
+use Rattle.wild_records.specs.Dynamic.{DynamicEntryIsRead}
 use Rattle.wild_records.specs.Relocations.{rela_size, relr_size, RelaIsRead, RelrIsRead}
 use Rattle.wild_records.specs.SymtabEntry.{symtab_entry_size}
-use Rattle.wild_records.specs.declared.dynamic.DynamicEntry.{DynamicEntry}
-use Rattle.wild_records.specs.declared.program_header.ProgramHeader.{ProgramHeader}
-use Rattle.wild_records.specs.declared.relocations.Rela.{Rela}
-use Rattle.wild_types.specs.declared.part.Part.{Part}
-use Rattle.wild_types.specs.declared.part.Role.{Role}
 use Rattle.wild_types.specs.declared.part.Role.TheVariants as role
-use Rattle.wild_types.specs.declared.file.File.{File}
-use Rattle.wild_types.specs.declared.file.Group.{Group}
-use Rattle.wild_types.specs.declared.layout.Layout.{Layout}
-use Rattle.wild_types.specs.HeaderOnly.{KeepsAll}
-use Rattle.wild_types.specs.Kinds.{is_executable, is_shared_object, is_position_independent, needs_dynamic}
-use Rattle.wild_types.specs.Parts.{part_with}
+use Rattle.wild_types.specs.Kinds.{is_shared_object}
 use Rattle.wild_needs.specs.declared.dynamic.DynamicTag.{DynamicTag}
 use Rattle.wild_needs.specs.declared.dynamic.DynamicTag.TheVariants as tags
-use Rattle.wild_needs.specs.Dynamic.{dynamic_number, dynamic_entry, dynamic_flags, dynamic_flags_1, dynamic_count, flag}
+use Rattle.wild_needs.specs.Dynamic.{dynamic_flags, dynamic_flags_1, dynamic_count, flag}
 use Rattle.wild_needs.specs.DynamicPlaces.{section_named, part_address, part_size, if_present, filled_part, unless_empty, first_entries, relative_count}
-use Rattle.wild_layout.specs.Image.{bytes}
-use Rattle.wild_layout.specs.Numbers.{NumbersFit}
-use Rattle.wild_layout.specs.Geometry.{IsLaidOut}
-use Rattle.wild_layout.specs.TablePlaces.{table_bytes, all_needed}
+use Rattle.wild_layout.specs.TablePlaces.{all_needed}
 use Rattle.wild_loader.specs.declared.kind.DynamicKind.TheVariants as kinds
-use Rattle.wild_loader.specs.declared.tables.Tables.{Tables}
-use Rattle.wild_loader.specs.Changes.{kind_of}
-use Rattle.wild_loader.specs.Laws.{IsTableOf, entries_before_null}
-use Rattle.wild_loader.specs.SegmentLaws.{rela_bytes, word_bytes, AreLoadable}
-use Rattle.wild_loader.specs.Tables.{first_dynamic as found_dynamic, value_of_tag, section_of, named_tables}
+use Rattle.wild_loader.specs.SegmentLaws.{AreLoadable}
+use Rattle.wild_loader.specs.Tables.{first_dynamic as found_dynamic, section_of, named_tables}
 use Rattle.wild_loader.proofs.RecordLists.{length-rela, length-word_bytes}
 use Rattle.wild_loader.proofs.TableLemmas.{section-found, named-found}
 use Rattle.wild_table_formats.specs.DynamicSection.{null_entry, dynamic_records, NeededAreOfLibraries, EntriesAreFound}
-use Rattle.wild_reloc.specs.declared.dynamic.DynamicRelocationKind.TheVariants.{Relative}
-use Rattle.wild_geometry.proofs.MachineLemmas.{facts_of}
 use Rattle.wild_meaning.specs.Section.{IsSet}
 use Rattle.wild_meaning.specs.Segments.{headers_in}
-use Rattle.wild_meaning.specs.LinkedImage.{processor_of}
 use Rattle.wild_meaning.specs.DynamicSection.{IsFlagged, HasCompanionTag, IsRelativeAt, AreRelativeFirst, HasWholeSize, LeadsToPart, LeadsToTables, LeadsToFunctions, InformsLinker}
-use Rattle.wild_loaded.specs.WholeSlots.{HasWholeSlots}
-use Rattle.wild_loaded.specs.Laws.{HasEntries, DynamicSectionsAreThere, TablesAreFound}
-use Rattle.wild_loaded.specs.Tables.{relative_entries, tables_of, HasTablesIn}
-use Rattle.wild_loaded.specs.Memory.{headers_of}
+use Rattle.wild_loaded.specs.Laws.{HasEntries, DynamicSectionsAreThere}
+use Rattle.wild_loaded.specs.Tables.{HasTablesIn}
 use Rattle.wild_loaded.proofs.TableBytes.{all_relatives, all_generals, relatives_are}
 use Rattle.wild_loaded.proofs.TablesFit.{of_file}
 use Rattle.wild_loaded.proofs.OneValues.{fewer, one_value_each}

@@ -1,45 +1,21 @@
 -- The dynamic section of an image, and the tables that it names.
 use Rattle.wild_loaded.proofs.KindLemmas.{dynamic_whole}
-use Rattle.std.proofs.Common.{◌≡◌, ℕ, suc, ◌+◌, ◌-◌, ◌*◌, ◌/◌, ◌≤◌, inl, inr, Bool, true, if◌then◌else◌, List, [], ◌∷◌, ◌++◌, length, map, replicate, refl, sym, ap, ◌∙◌, arith, subst}
-use Rattle.std.specs.Prelude.{Option, Some, None, Contains, ◌==◌}
-use Rattle.std.specs.List.{flat_map}
-use Rattle.std.proofs.lemmas.Bool.{cases_Bool}
-use Rattle.std.proofs.lemmas.List.{length-append, length-replicate}
-use Rattle.std.proofs.lemmas.List.Elements.{All-nil, All-append, All-contains}
-use Rattle.wild_words.specs.Words.{HasBytesAt}
+use Rattle.wild_loaded.proofs.Common.{◌≡◌, ℕ, suc, ◌+◌, ◌-◌, ◌*◌, ◌/◌, ◌≤◌, inl, inr, Bool, true, if◌then◌else◌, List, [], ◌∷◌, ◌++◌, length, map, replicate, refl, sym, ap, ◌∙◌, arith, subst, Option, Some, None, Contains, ◌==◌, flat_map, cases_Bool, length-append, length-replicate, All-nil, All-append, All-contains, HasBytesAt, dynamic_entry_size, DynamicEntry, ProgramHeader, Part, Segment, Layout, dynamic_number, dynamic_entry, part_with, KeepsAll, needs_dynamic, not_hollow_at, image_size, program_header, bytes, NumbersFit, SegmentLoads, table_bytes, IsLaidOut, TablesStand, value_of_tag, word_bytes, rela_bytes, IsTableOf, entries_before_null, PairIsPlaced, HasWholeSlots, TablesAreFound, tables_of}
 use Rattle.wild_words.proofs.OverlayLemmas.{HasBytesAt-inner}
 use Rattle.wild_records.specs.Abi.Segment.{pt_dynamic}
-use Rattle.wild_records.specs.Dynamic.{dynamic_entry_size, DynamicEntryFits}
-use Rattle.wild_records.specs.declared.dynamic.DynamicEntry.{DynamicEntry}
-use Rattle.wild_records.specs.declared.program_header.ProgramHeader.{ProgramHeader}
-use Rattle.wild_types.specs.declared.part.Part.{Part}
+use Rattle.wild_records.specs.Dynamic.{DynamicEntryFits}
 use Rattle.wild_types.specs.declared.part.Role.TheVariants as role
-use Rattle.wild_types.specs.declared.section.Segment.{Segment}
-use Rattle.wild_types.specs.declared.layout.Layout.{Layout}
 use Rattle.wild_needs.specs.declared.dynamic.DynamicTag.TheVariants as tags
-use Rattle.wild_needs.specs.Dynamic.{dynamic_number, dynamic_entry, dynamic_flags, dynamic_entries, dynamic_count}
-use Rattle.wild_types.specs.Parts.{part_with}
-use Rattle.wild_types.specs.HeaderOnly.{KeepsAll}
-use Rattle.wild_types.specs.Kinds.{needs_dynamic}
-use Rattle.wild_types.proofs.LookupLemmas.{not_hollow_at}
-use Rattle.wild_types.specs.Lookups.{image_size}
-use Rattle.wild_table_formats.specs.Headers.{program_header}
-use Rattle.wild_layout.specs.Image.{bytes}
-use Rattle.wild_layout.specs.Numbers.{NumbersFit}
-use Rattle.wild_layout.specs.Loadable.{SegmentLoads, first_dynamic}
-use Rattle.wild_layout.specs.TablePlaces.{table_bytes, all_needed}
-use Rattle.wild_layout.specs.Geometry.{IsLaidOut, TablesStand}
+use Rattle.wild_needs.specs.Dynamic.{dynamic_flags, dynamic_entries, dynamic_count}
+use Rattle.wild_layout.specs.Loadable.{first_dynamic}
+use Rattle.wild_layout.specs.TablePlaces.{all_needed}
 use Rattle.wild_layout.specs.Content.{dynamic_room}
-use Rattle.wild_loader.specs.Tables.{first_dynamic as found_dynamic, value_of_tag}
-use Rattle.wild_loader.specs.SegmentLaws.{word_bytes, rela_bytes}
-use Rattle.wild_loader.specs.Laws.{HasDynamic, HasTables, IsTableOf, entries_before_null}
+use Rattle.wild_loader.specs.Tables.{first_dynamic as found_dynamic}
+use Rattle.wild_loader.specs.Laws.{HasDynamic, HasTables}
 use Rattle.wild_table_formats.specs.DynamicSection.{dynamic_records, dynamic_bytes, entries_bytes, IsNeeded, NeededAreOfLibraries, LengthsOfRecords, RecordsAreInOrder, RecordsFit, EntriesAreFound, TablesAreNamed}
 use Rattle.wild_relr.specs.Laws.{WordsFit}
 use Rattle.wild_loader.proofs.TableLemmas.{no_tag}
-use Rattle.wild_slots.specs.SlotPlaces.{PairIsPlaced}
-use Rattle.wild_loaded.specs.WholeSlots.{HasWholeSlots}
-use Rattle.wild_loaded.specs.Laws.{DynamicSectionsAreThere, TablesAreFound}
-use Rattle.wild_loaded.specs.Tables.{tables_of}
+use Rattle.wild_loaded.specs.Laws.{DynamicSectionsAreThere}
 use Rattle.wild_loaded.proofs.Loads.{length-bytes}
 use Rattle.wild_loaded.proofs.TablesFit.{entries_fit, jumps_fit, words_fit}
 use Rattle.wild_loaded.proofs.PairPlace.{pair_low}

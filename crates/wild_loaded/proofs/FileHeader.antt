@@ -1,37 +1,19 @@
 -- What the file header and the program headers tell.
-use Rattle.std.proofs.Common.{◌≡◌, ℕ, ◌/◌, ◌%◌, inl, inr, Bool, true, false, List, [], ◌∷◌, map, refl, sym, ap, ◌∙◌, arith, subst}
-use Rattle.std.specs.Prelude.{All, Option, Some, None, unwrap_or, option_map, slice_get, if◌then◌else◌, ◌==◌}
-use Rattle.std.proofs.lemmas.Bool.{cases_Bool, eqb-true, eqb-false, ne_eqb}
-use Rattle.std.proofs.lemmas.List.Elements.{All-head, All-tail}
-use Rattle.wild_records.specs.Abi.Segment.{pt_load, pt_gnu_stack, pf_x}
-use Rattle.wild_records.specs.FileHeader.{FileHeaderIsRead, file_header_at, file_header_size}
+use Rattle.wild_loaded.proofs.Common.{◌≡◌, ℕ, ◌/◌, ◌%◌, inl, inr, Bool, true, false, List, [], ◌∷◌, map, refl, sym, ap, ◌∙◌, arith, subst, All, Option, Some, None, unwrap_or, option_map, slice_get, if◌then◌else◌, ◌==◌, cases_Bool, eqb-true, eqb-false, ne_eqb, All-head, All-tail, pt_load, file_header_size, ProgramHeader, Segment, Resolution, Symbol, Layout, raw_value, has_flag, ifunc, canonical, flags_at, file_header, program_header, section_headers_of, bytes, HasHeaders, IsLoadable, canonical_is, not_partial, headers_of}
+use Rattle.wild_records.specs.Abi.Segment.{pt_gnu_stack, pf_x}
+use Rattle.wild_records.specs.FileHeader.{FileHeaderIsRead, file_header_at}
 use Rattle.wild_records.specs.ProgramHeader.{ProgramHeaderIsRead, program_header_size}
 use Rattle.wild_records.specs.SectionHeader.{SectionHeaderIsRead}
-use Rattle.wild_records.specs.declared.program_header.ProgramHeader.{ProgramHeader}
-use Rattle.wild_types.specs.declared.section.Segment.{Segment}
-use Rattle.wild_types.specs.declared.symbol.Resolution.{Resolution}
-use Rattle.wild_types.specs.declared.symbol.Symbol.{Symbol}
 use Rattle.wild_types.specs.declared.symbol.ValueFlags.{ValueFlags}
 use Rattle.wild_types.specs.declared.layout.Entry.{Entry}
 use Rattle.wild_types.specs.declared.layout.Entry.TheVariants as entry
-use Rattle.wild_types.specs.declared.layout.Layout.{Layout}
-use Rattle.wild_types.specs.Addresses.{raw_value}
 use Rattle.wild_needs.specs.EntryPoint.{entry_point, without_warning, entry_by, entry_value}
-use Rattle.wild_types.specs.Flags.{has_flag, ifunc}
-use Rattle.wild_types.specs.Lookups.{canonical}
-use Rattle.wild_slot.specs.Treatment.{flags_at}
-use Rattle.wild_table_formats.specs.Headers.{entry_address, file_type, file_header, with_execute, program_header, section_headers_of}
-use Rattle.wild_layout.specs.Image.{bytes}
+use Rattle.wild_table_formats.specs.Headers.{entry_address, file_type, with_execute}
 use Rattle.wild_layout.specs.Loadable.{IsPaged}
-use Rattle.wild_loader.specs.SegmentLaws.{HasHeaders}
 use Rattle.wild_loader.proofs.RecordLists.{programs-read}
 use Rattle.wild_meaning.specs.Segments.{headers_in, DescribesSegment, DescribeSegments}
 use Rattle.wild_meaning.specs.LinkedImage.{HasStandardFields, HasResolvedAddress}
-use Rattle.wild_meaning.specs.World.{IsLoadable}
-use Rattle.wild_meaning.proofs.SymbolLemmas.{canonical_is}
-use Rattle.wild_meaning.proofs.OutputLemmas.{not_partial}
 use Rattle.wild_loaded.specs.Laws.{HeadersDescribeOutput}
-use Rattle.wild_loaded.specs.Memory.{headers_of}
 use Rattle.wild_loaded.proofs.FileType.{kind_fits, movable_type}
 use Rattle.wild_loaded.proofs.Loads.{has_headers}
 use Rattle.wild_loaded.proofs.DescribedSections.{sections_described}

@@ -1,12 +1,11 @@
 -- The file types of outputs that are loaded.
-use Rattle.std.proofs.Common.{◌≡◌, ◌^◌, ◌<◌, ◌⊎◌, inl, inr, true, false, refl, arith}
+use Rattle.wild_loaded.proofs.Common.{◌≡◌, ◌^◌, ◌<◌, ◌⊎◌, inl, inr, true, false, refl, arith, needs_dynamic, is_fixed_static, IsLoadable}
 use Rattle.wild_records.specs.Abi.Header.{et_exec, et_dyn}
 use Rattle.wild_types.specs.declared.kind.RelocationModel.TheVariants as model
 use Rattle.wild_types.specs.declared.kind.OutputKind.{OutputKind}
 use Rattle.wild_types.specs.declared.kind.OutputKind.TheVariants as output
-use Rattle.wild_types.specs.Kinds.{needs_dynamic, is_fixed_static}
 use Rattle.wild_table_formats.specs.Headers.{file_type}
-use Rattle.wild_meaning.specs.World.{IsFixed, IsMovable, IsLoadable}
+use Rattle.wild_meaning.specs.World.{IsFixed, IsMovable}
 
 pub kind_fits : (k : OutputKind) → IsFixed k → file_type k ≡ et_exec
 kind_fits (output.StaticExecutable model.NonRelocatable) h = refl

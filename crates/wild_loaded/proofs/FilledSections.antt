@@ -1,35 +1,14 @@
 -- What relocations have tables fill lies in kept sections, beside each other.
-use Rattle.wild_geometry.proofs.PlacedInputs.{all_sections, input_of}
-use Rattle.wild_meaning.specs.World.{IsLoadable}
-use Rattle.wild_geometry.specs.PlacedSections.{IsPlacedSection, IsKeptPlacedSection}
-use Rattle.std.proofs.Common.{◌≡◌, ℕ, zero, suc, ◌+◌, ◌<◌, ◌≤◌, ◌⊎◌, inl, inr, Bool, true, false, not, List, [], ◌∷◌, length, get_or, refl, sym, ap, ◌∙◌, arith, subst}
-use Rattle.std.specs.Prelude.{Option, Some, None, All, AllPairs, Contains, option_to_list, if◌then◌else◌, slice_get}
-use Rattle.std.specs.List.{flat_map, range_with_len}
+use Rattle.wild_loaded.proofs.Common.{all_sections, input_of, IsLoadable, IsPlacedSection, IsKeptPlacedSection, ◌≡◌, ℕ, zero, suc, ◌+◌, ◌<◌, ◌≤◌, ◌⊎◌, inl, inr, Bool, true, false, not, List, [], ◌∷◌, length, get_or, refl, sym, ap, ◌∙◌, arith, subst, Option, Some, None, All, AllPairs, Contains, option_to_list, if◌then◌else◌, slice_get, flat_map, range_with_len, slice_get-get_or, and_parts, not-true, Piece, Disjoint, All-each, AllPairs-nil, Between, AllPairs-flat_map, Slot, InputRelocation, InputSection, item_with, block_for, File, Layout, KeepsAll, is_loaded, is_read, field_site, site, FieldLies, IsLaidOut, site_written, HasDecision, IsStored, EachDecided}
 use Rattle.std.proofs.lemmas.List.FromFn.{get_or-range_with_len, length-range_with_len}
-use Rattle.std.proofs.lemmas.Option.{slice_get-get_or}
-use Rattle.std.proofs.lemmas.Bool.{and_parts, not-true}
-use Rattle.wild_words.specs.Overlay.{Piece, Disjoint}
-use Rattle.wild_words.proofs.Basics.{All-each, Contains-from_flat_map}
-use Rattle.wild_words.proofs.ListLemmas.{AllPairs-nil, Between, AllPairs-flat_map, AllPairs-from_flat_map, holds_at}
-use Rattle.wild_types.specs.declared.input.Slot.{Slot}
+use Rattle.wild_words.proofs.Basics.{Contains-from_flat_map}
+use Rattle.wild_words.proofs.ListLemmas.{AllPairs-from_flat_map, holds_at}
 use Rattle.wild_types.specs.declared.input.Slot.TheVariants as slot
-use Rattle.wild_types.specs.declared.input.InputRelocation.{InputRelocation}
-use Rattle.wild_types.specs.declared.input.InputSection.{InputSection}
-use Rattle.wild_types.specs.Item.{item_with, block_for}
-use Rattle.wild_types.specs.declared.file.File.{File}
-use Rattle.wild_types.specs.declared.layout.Layout.{Layout}
-use Rattle.wild_types.specs.HeaderOnly.{KeepsAll}
-use Rattle.wild_types.specs.Lookups.{is_loaded, is_read}
 use Rattle.wild_types.proofs.LookupLemmas.{not_dropped}
-use Rattle.wild_layout.specs.Sites.{field_site, site}
-use Rattle.wild_layout.specs.SectionPlaces.{FieldLies}
-use Rattle.wild_layout.specs.Geometry.{IsLaidOut}
 use Rattle.wild_layout.proofs.DecideLemmas.{field_has_bytes}
-use Rattle.wild_layout.proofs.SiteLemmas.{site_written, length-field_site, field_lies}
+use Rattle.wild_layout.proofs.SiteLemmas.{length-field_site, field_lies}
 use Rattle.wild_meaning.specs.Item.{IsInput, IsLoadedSlot, IsKeptSection}
 use Rattle.wild_meaning.proofs.BitLemmas.{bit_alloc}
-use Rattle.wild_geometry.specs.Loaded.{HasDecision}
-use Rattle.wild_loaded.specs.Memory.{IsStored, EachDecided}
 use Rattle.wild_loaded.specs.Laws.{SectionsAreInSegments}
 use Rattle.wild_loaded.proofs.Fillings.{Filling, DoNotOverlap}
 use Rattle.wild_loaded.proofs.KeptSections.{IsKeptWell, kept_well}

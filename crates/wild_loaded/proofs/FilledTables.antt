@@ -1,34 +1,15 @@
 -- Tables whose fillings are known and lie beside each other make known changes, of which no two share a byte.
-use Rattle.std.proofs.Common.{◌≡◌, ℕ, ◌+◌, ◌-◌, ◌%◌, ◌^◌, ◌<◌, ◌≤◌, ◌⊎◌, inl, inr, List, [], ◌∷◌, ◌++◌, length, get_or, map, refl, sym, ap, ◌∙◌, arith, subst, append_assoc}
-use Rattle.std.specs.Prelude.{All, AllPairs, Some, Ok, IsPermutation, nat_lt, max, min}
-use Rattle.std.specs.List.{flat_map}
-use Rattle.std.proofs.lemmas.Bool.{cases_Bool, cases_lt, ltb-true}
-use Rattle.std.proofs.lemmas.List.{map-append}
-use Rattle.std.proofs.lemmas.List.Elements.{All-map, All-nil, All-cons, All-head, All-tail, All-append}
-use Rattle.std.proofs.lemmas.List.Sorted.{All-permutation, IsPermutation-trans, IsPermutation-map, IsPermutation-append, IsPermutation-append_right}
-use Rattle.std.proofs.lemmas.List.Kept.{AllPairs-cons}
-use Rattle.wild_words.specs.Words.{word, number}
-use Rattle.wild_words.proofs.WordLemmas.{number-word, length-word}
-use Rattle.wild_words.proofs.Basics.{map-flat_map}
-use Rattle.wild_words.proofs.ListLemmas.{AllPairs-nil, AllPairs-head, AllPairs-tail, flat_map-same}
-use Rattle.wild_records.specs.declared.relocations.Rela.{Rela}
-use Rattle.wild_loader.specs.declared.change.Change.{Change}
+use Rattle.wild_loaded.proofs.Common.{◌≡◌, ℕ, ◌+◌, ◌-◌, ◌%◌, ◌^◌, ◌<◌, ◌≤◌, ◌⊎◌, inl, inr, List, [], ◌∷◌, ◌++◌, length, get_or, map, refl, sym, ap, ◌∙◌, arith, subst, append_assoc, All, AllPairs, Some, Ok, IsPermutation, nat_lt, max, min, flat_map, cases_Bool, cases_lt, map-append, All-map, All-nil, All-cons, All-head, All-tail, All-append, All-permutation, IsPermutation-trans, IsPermutation-map, IsPermutation-append, IsPermutation-append_right, AllPairs-cons, word, number, number-word, length-word, map-flat_map, AllPairs-nil, AllPairs-head, AllPairs-tail, flat_map-same, Rela, Change, DynamicKind, Memory, Run, Tables, World, kind_of, change_of, size_of, patch_over, Holds, places, loaded_at, DoesNotOverlap, OrderDoesNotMatter, patches_of, place_change, entry_change}
+use Rattle.std.proofs.lemmas.Bool.{ltb-true}
 use Rattle.wild_loader.specs.declared.change.Change.TheVariants as changes
 use Rattle.wild_loader.specs.declared.change.Patch.{Patch}
-use Rattle.wild_loader.specs.declared.kind.DynamicKind.{DynamicKind}
-use Rattle.wild_loader.specs.declared.memory.Memory.{Memory}
-use Rattle.wild_loader.specs.declared.memory.Run.{Run}
-use Rattle.wild_loader.specs.declared.tables.Tables.{Tables}
-use Rattle.wild_loader.specs.declared.world.World.{World}
-use Rattle.wild_loader.specs.Changes.{kind_of, change_of, size_of, patch_over}
-use Rattle.wild_loader.specs.Memory.{Holds, number_in}
-use Rattle.wild_loader.specs.Places.{places}
-use Rattle.wild_loader.specs.Relocate.{loaded_at, rela_patch, place_patch, runs_of_patches}
-use Rattle.wild_loader.specs.SegmentLaws.{DoesNotOverlap, IsOutsideRun}
+use Rattle.wild_loader.specs.Memory.{number_in}
+use Rattle.wild_loader.specs.Relocate.{rela_patch, place_patch, runs_of_patches}
+use Rattle.wild_loader.specs.SegmentLaws.{IsOutsideRun}
 use Rattle.wild_loader.specs.Laws.{NumbersAreRead}
-use Rattle.wild_loader.specs.EntryLaws.{PlacesAddBase, EntriesMakeChanges, OrderDoesNotMatter, HasMade, patches_of}
+use Rattle.wild_loader.specs.EntryLaws.{PlacesAddBase, EntriesMakeChanges, HasMade}
 use Rattle.wild_loader.proofs.EntryLemmas.{length-after}
-use Rattle.wild_loaded.specs.Words.{number_or, value_at, place_change, patch_or, entry_change}
+use Rattle.wild_loaded.specs.Words.{number_or, value_at, patch_or}
 use Rattle.wild_loaded.proofs.Permuted.{flat_map-parts}
 use Rattle.wild_loaded.proofs.Fillings.{Table, PackedTable, RelativeTable, GeneralTable, JumpTable, Filling, Misses, DoNotOverlap, HasChange, HasWord, Makes, IsKnown, loaded_is, packed_in, relative_in, general_in, jump_in}
 

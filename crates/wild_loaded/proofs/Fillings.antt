@@ -1,17 +1,7 @@
 -- What the tables of an image fill: places of packed words, and those of entries, each with as many bytes as it changes.
-use Rattle.std.proofs.Common.{◌≡◌, ℕ, ◌+◌, ◌^◌, ◌<◌, ◌≤◌, List, [], ◌∷◌, length, arith}
-use Rattle.std.specs.Prelude.{Some, Ok}
-use Rattle.std.specs.Int.{w64, cast_signed}
-use Rattle.wild_words.specs.Words.{word}
-use Rattle.wild_records.specs.declared.relocations.Rela.{Rela}
-use Rattle.wild_loader.specs.declared.change.Change.{Change}
-use Rattle.wild_loader.specs.declared.kind.DynamicKind.{DynamicKind}
+use Rattle.wild_loaded.proofs.Common.{◌≡◌, ℕ, ◌+◌, ◌^◌, ◌<◌, ◌≤◌, List, [], ◌∷◌, length, arith, Some, Ok, w64, word, Rela, Change, DynamicKind, Memory, World, kind_of, change_of, size_of, Holds, loaded_at}
+use Rattle.std.specs.Int.{cast_signed}
 use Rattle.wild_loader.specs.declared.memory.Machine.{Machine as Processor}
-use Rattle.wild_loader.specs.declared.memory.Memory.{Memory}
-use Rattle.wild_loader.specs.declared.world.World.{World}
-use Rattle.wild_loader.specs.Changes.{kind_of, change_of, size_of}
-use Rattle.wild_loader.specs.Memory.{Holds}
-use Rattle.wild_loader.specs.Relocate.{loaded_at}
 
 -- ---- fillings
 

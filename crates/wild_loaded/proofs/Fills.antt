@@ -1,34 +1,14 @@
 -- What the entries of slots make a loader do in a legal world.
-use Rattle.std.proofs.Common.{◌≡◌, ℕ, ◌+◌, ◌%◌, ◌^◌, ◌<◌, inl, inr, refl, sym, arith, subst}
-use Rattle.std.specs.Prelude.{Some, Contains, slice_get, Ok}
-use Rattle.std.specs.Int.{w64}
-use Rattle.std.proofs.lemmas.Int.{of_z-to_z}
-use Rattle.std.proofs.lemmas.List.Elements.{All-contains}
-use Rattle.wild_words.proofs.Basics.{listed_at}
-use Rattle.wild_reloc.specs.declared.dynamic.DynamicRelocationKind.{DynamicRelocationKind}
-use Rattle.wild_reloc.specs.declared.dynamic.DynamicRelocationKind.TheVariants.{Absolute, Copy, GotEntry, JumpSlot, Relative, DtpMod, DtpOff, TpOff, TlsDesc, Irelative}
-use Rattle.wild_types.specs.declared.symbol.Symbol.{Symbol}
-use Rattle.wild_types.specs.declared.layout.Layout.{Layout}
-use Rattle.wild_slot.specs.declared.slot.SlotEntry.{SlotEntry}
-use Rattle.wild_slot.specs.declared.slot.SlotWord.{SlotWord}
+use Rattle.wild_loaded.proofs.Common.{◌≡◌, ℕ, ◌+◌, ◌%◌, ◌^◌, ◌<◌, inl, inr, refl, sym, arith, subst, Some, Contains, slice_get, Ok, w64, of_z-to_z, All-contains, listed_at, DynamicRelocationKind, Absolute, Relative, DtpMod, Irelative, Symbol, Layout, SlotEntry, SlotWord, slots_of, storage_words, NumbersFit, SymbolNumbers, IsLaidOut, entry_with, World, Change, change_of, processor_of, IsLegal, IsAnsweredOnce, entry_in, HasWholeSlots, FillsWords, FillsSlot}
+use Rattle.wild_reloc.specs.declared.dynamic.DynamicRelocationKind.TheVariants.{Copy, GotEntry, JumpSlot, DtpOff, TpOff, TlsDesc}
 use Rattle.wild_types.specs.ResolvedFlags.{HasItsFlags}
-use Rattle.wild_slot.specs.SymbolWords.{slots_of}
-use Rattle.wild_needs.specs.SlotShares.{storage_words}
-use Rattle.wild_layout.specs.Numbers.{NumbersFit, SymbolNumbers}
-use Rattle.wild_layout.specs.Geometry.{IsLaidOut}
-use Rattle.wild_geometry.specs.Loaded.{entry_with}
-use Rattle.wild_loader.specs.declared.world.World.{World}
 use Rattle.wild_loader.specs.declared.memory.Machine.{Machine as Processor}
 use Rattle.wild_loader.specs.declared.memory.Machine.TheVariants as processors
-use Rattle.wild_loader.specs.declared.change.Change.{Change}
 use Rattle.wild_loader.specs.declared.change.Change.TheVariants as changes
-use Rattle.wild_loader.specs.Changes.{change_of, sum_with_addend}
-use Rattle.wild_meaning.specs.LinkedImage.{processor_of}
+use Rattle.wild_loader.specs.Changes.{sum_with_addend}
 use Rattle.wild_geometry.specs.EntryKinds.{address_kind}
-use Rattle.wild_meaning.specs.World.{IsLegal, HasResolver, IsAnsweredOnce}
-use Rattle.wild_slots.specs.Entries.{NamesSymbols, NamesModules, NamesItself, NamesResolver, IsKnownEntry, entry_in, EntriesAreKnown}
-use Rattle.wild_loaded.specs.WholeSlots.{HasWholeSlots}
-use Rattle.wild_loaded.specs.StoredTables.{FillsWords, FillsSlot}
+use Rattle.wild_meaning.specs.World.{HasResolver}
+use Rattle.wild_slots.specs.Entries.{NamesSymbols, NamesModules, NamesItself, NamesResolver, IsKnownEntry, EntriesAreKnown}
 use Rattle.wild_loaded.proofs.Answers.{answered, IsGiven, symbol_answer, index_small, IsKnownPair, known_pair}
 
 abbrev entry : DynamicRelocationKind → ℕ → ℕ → SlotEntry

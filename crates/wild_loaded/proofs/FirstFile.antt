@@ -1,23 +1,11 @@
 -- What the first file alone has stands once: in lists, and in tables.
-use Rattle.std.proofs.Common.{◌≡◌, ℕ, ◌≤◌, inl, inr, ◌==◌, Bool, true, false, ◌&&◌, List, [], ◌∷◌, ◌++◌, length, None, flat_map, refl, ◌∙◌, arith}
-use Rattle.std.specs.Prelude.{◌+◌, if◌then◌else◌, Contains}
-use Rattle.std.proofs.lemmas.Bool.{cases_Bool, and_parts}
-use Rattle.std.proofs.lemmas.List.{append-nil}
-use Rattle.wild_words.proofs.ListLemmas.{Contains-here, flat_map-same}
-use Rattle.wild_types.specs.declared.part.Role.{Role}
+use Rattle.wild_loaded.proofs.Common.{◌≡◌, ℕ, ◌≤◌, inl, inr, ◌==◌, Bool, true, false, ◌&&◌, List, [], ◌∷◌, ◌++◌, length, None, refl, ◌∙◌, arith, ◌+◌, if◌then◌else◌, Contains, cases_Bool, and_parts, append-nil, flat_map-same, Role, File, Group, Layout, is_prelude, is_epilogue, placed_files, content, file_content, table_bytes, IsLaidOut, placed_files_same_all}
+use Rattle.std.proofs.Common.{flat_map}
+use Rattle.wild_words.proofs.ListLemmas.{Contains-here}
 use Rattle.wild_types.specs.declared.part.Role.TheVariants as role
-use Rattle.wild_types.specs.declared.file.File.{File}
-use Rattle.wild_types.specs.declared.file.Group.{Group}
-use Rattle.wild_types.specs.declared.layout.Layout.{Layout}
-use Rattle.wild_types.specs.FileRoles.{is_prelude, is_epilogue}
 use Rattle.wild_types.specs.FilePlaces.{bool_eq, file_position_fits, later_positions_fit, group_positions_fit, first_misplaced_file}
 use Rattle.wild_types.proofs.FileLemmas.{same_bool}
-use Rattle.wild_placement.specs.PlacedSections.{placed_files}
-use Rattle.wild_layout.specs.Content.{content, file_content}
 use Rattle.wild_layout.specs.SearchTable.{search_table}
-use Rattle.wild_layout.specs.TablePlaces.{table_bytes}
-use Rattle.wild_layout.specs.Geometry.{IsLaidOut}
-use Rattle.wild_geometry.proofs.PlacedInputs.{placed_files_same_all}
 
 -- the first file has xs, the others have nothing
 abbrev pub once : {X : Type 0} → List X → File → List X

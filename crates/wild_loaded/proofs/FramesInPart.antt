@@ -1,45 +1,25 @@
 -- Sections of frames stand in the part of frames one behind the other, where their addresses tell.
-use Rattle.std.proofs.Common.{◌≡◌, ℕ, zero, suc, ◌+◌, ◌-◌, ◌%◌, ◌^◌, ◌<◌, ◌≤◌, ◌⊎◌, inl, inr, Bool, true, false, if◌then◌else◌, List, [], ◌∷◌, ◌++◌, length, take, get_or, refl, sym, ap, ◌∙◌, arith, subst}
-use Rattle.std.specs.Prelude.{All, AllPairs, Contains, Option, Some, None, slice_get, not, ◌&&◌, ◌==◌, map, ⊤}
-use Rattle.std.specs.List.{flat_map}
-use Rattle.std.proofs.lemmas.Bool.{cases_Bool, and_parts, ne_eqb}
-use Rattle.std.proofs.lemmas.List.{length-append, append-nil}
-use Rattle.std.proofs.lemmas.List.Elements.{All-nil, All-cons, All-head, All-tail, All-append, All-weaker, All-contains}
-use Rattle.wild_words.specs.Words.{HasBytesAt}
-use Rattle.wild_words.proofs.ListLemmas.{AllPairs-nil, AllPairs-append, All-append-left, All-flat_map, All-append-right, flat_map-same}
+use Rattle.wild_loaded.proofs.Common.{◌≡◌, ℕ, zero, suc, ◌+◌, ◌-◌, ◌%◌, ◌^◌, ◌<◌, ◌≤◌, ◌⊎◌, inl, inr, Bool, true, false, if◌then◌else◌, List, [], ◌∷◌, ◌++◌, length, take, get_or, refl, sym, ap, ◌∙◌, arith, subst, All, AllPairs, Contains, Option, Some, None, slice_get, not, ◌&&◌, ◌==◌, map, ⊤, flat_map, cases_Bool, and_parts, ne_eqb, length-append, append-nil, All-nil, All-cons, All-head, All-tail, All-append, All-weaker, All-contains, HasBytesAt, AllPairs-nil, AllPairs-append, All-append-left, All-flat_map, All-append-right, flat_map-same, Part, Slot, InputSection, File, Group, Layout, item_of, is_epilogue, is_prelude, is_frame, is_read, part_with, placed_file, placed_files, sorted_inputs, sorted_sections, of_last_file, processed_sections, start_of, address_of_part, content, file_content, SectionLies, IsLaidOut, table_bytes, all_sections, IsLocatedAt}
 use Rattle.wild_words.proofs.RecordLemmas.{HasBytesAt-front, HasBytesAt-after, HasBytesAt-whole}
-use Rattle.wild_types.specs.declared.part.Part.{Part}
 use Rattle.wild_types.specs.declared.part.Role.TheVariants as role
-use Rattle.wild_types.specs.declared.input.Slot.{Slot}
 use Rattle.wild_types.specs.declared.input.Slot.TheVariants as slot
-use Rattle.wild_types.specs.declared.input.InputSection.{InputSection}
-use Rattle.wild_types.specs.declared.file.File.{File}
-use Rattle.wild_types.specs.declared.file.Group.{Group}
-use Rattle.wild_types.specs.declared.layout.Layout.{Layout}
-use Rattle.wild_types.specs.Item.{item_of}
 use Rattle.wild_types.specs.FilePlaces.{later_positions_fit, group_positions_fit, first_misplaced_file, bool_eq, file_position_fits}
-use Rattle.wild_types.specs.FileRoles.{is_epilogue, is_prelude}
 use Rattle.wild_types.specs.Lists.{total}
-use Rattle.wild_types.specs.Lookups.{is_frame, is_read}
-use Rattle.wild_types.specs.Parts.{part_with}
 use Rattle.wild_types.proofs.LookupLemmas.{read_if}
 use Rattle.wild_frames.specs.Frames.{frame_bytes}
 use Rattle.wild_placement.specs.ReversedWords.{reversed_section, with_word_order}
 use Rattle.wild_placement.specs.FrameInputs.{frames_of, kept_size}
-use Rattle.wild_placement.specs.PlacedSections.{Input, placed_frames, placed_by, placed_section, placed_sections, placed_file, placed_from, placed_files, file_frames, frames_at, address_after, part_address, sorted_inputs, sorted_sections, of_last_file, processed_sections, sorted_by, sorted_in_file, sorted_in_group, files_at, sorted_input, as_loaded}
-use Rattle.wild_plan_rules.specs.SlotPlaces.{start_of, address_of_part}
-use Rattle.wild_layout.specs.Content.{content, file_content, frame_bytes_of, frames_bytes, end_of_frames}
+use Rattle.wild_placement.specs.PlacedSections.{Input, placed_frames, placed_by, placed_section, placed_sections, placed_from, file_frames, frames_at, address_after, part_address, sorted_by, sorted_in_file, sorted_in_group, files_at, sorted_input, as_loaded}
+use Rattle.wild_layout.specs.Content.{frame_bytes_of, frames_bytes, end_of_frames}
 use Rattle.wild_layout.specs.Sites.{item_bytes}
-use Rattle.wild_layout.specs.SectionPlaces.{SectionLies}
-use Rattle.wild_layout.specs.Geometry.{EachSection, IsLaidOut}
-use Rattle.wild_layout.specs.TablePlaces.{table_bytes, bytes_before}
+use Rattle.wild_layout.specs.Geometry.{EachSection}
+use Rattle.wild_layout.specs.TablePlaces.{bytes_before}
 use Rattle.wild_geometry.proofs.SiteLemmas.{length-section_bytes}
 use Rattle.wild_geometry.proofs.FrameSizes.{HasKeptSize, NoFrame, Frames, turned_slot, placed_section_has_kept_size, frame_item, no_item, length-frame_item, IsLoadedInput, sorted_loaded, group_given}
-use Rattle.wild_geometry.proofs.PlacedInputs.{sections_of, all_sections}
+use Rattle.wild_geometry.proofs.PlacedInputs.{sections_of}
 use Rattle.wild_layout.proofs.SiteLemmas.{All-one}
 use Rattle.wild_types.specs.declared.layout.SortedSection.{SortedSection}
 use Rattle.wild_loaded.proofs.TableRanges.{table_ends}
-use Rattle.wild_slots.specs.SlotPlaces.{IsLocatedAt}
 
 -- ---- runs of frames
 

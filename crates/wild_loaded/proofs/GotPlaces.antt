@@ -1,32 +1,11 @@
 -- The words of the table of slots ascend, those of the pair that stands once ahead of all others.
-use Rattle.std.proofs.Common.{◌≡◌, ℕ, ◌+◌, ◌*◌, ◌≤◌, Bool, true, false, List, [], ◌∷◌, ◌++◌, length, replicate, refl, sym, ap, ◌∙◌, arith, subst}
-use Rattle.std.specs.Prelude.{Option, Some, None, All, AllPairs, if◌then◌else◌, unwrap_or, slice_get}
-use Rattle.std.proofs.lemmas.List.{length-append, length-replicate}
-use Rattle.std.proofs.lemmas.List.Concat.{flat_map-append}
-use Rattle.std.proofs.lemmas.List.Elements.{All-nil, All-cons, All-append}
-use Rattle.std.proofs.lemmas.List.Kept.{AllPairs-cons}
+use Rattle.wild_loaded.proofs.Common.{◌≡◌, ℕ, ◌+◌, ◌*◌, ◌≤◌, Bool, true, false, List, [], ◌∷◌, ◌++◌, length, replicate, refl, sym, ap, ◌∙◌, arith, subst, Option, Some, None, All, AllPairs, if◌then◌else◌, unwrap_or, slice_get, length-append, length-replicate, flat_map-append, All-nil, All-cons, All-append, AllPairs-cons, SlotWord, Number, Address, InRelrGot, General, Plt, Layout, is_executable, setting_of, minus, next, word_size, storage_at, storage_words, start_of, IsLaidOut, World, word, length-word, AllPairs-nil, AllPairs-append, end_of, Ascend, place_in, IsLocatedAt, IsWordStored, SlotsAreStored}
 use Rattle.wild_reloc.specs.declared.dynamic.DynamicRelocationKind.TheVariants as entry_kinds
 use Rattle.wild_types.specs.declared.part.Role.TheVariants as role
-use Rattle.wild_slot.specs.declared.slot.SlotWord.{SlotWord}
-use Rattle.wild_slot.specs.declared.slot.SlotWord.TheVariants.{Number, Address, InRelrGot, General, Plt}
 use Rattle.wild_slot.specs.declared.slot_parts.WordPart.TheVariants as words
-use Rattle.wild_types.specs.declared.layout.Layout.{Layout}
-use Rattle.wild_types.specs.Kinds.{is_executable}
-use Rattle.wild_slot.specs.Slots.{setting_of}
-use Rattle.wild_slot.specs.Storage.{minus}
-use Rattle.wild_slot.specs.SlotParts.{next, slot_words}
-use Rattle.wild_needs.specs.SlotShares.{word_size, storage_at, storage_words}
-use Rattle.wild_plan_rules.specs.SlotPlaces.{start_of, first_free}
-use Rattle.wild_layout.specs.Geometry.{IsLaidOut}
-use Rattle.wild_loader.specs.declared.world.World.{World}
-use Rattle.wild_words.specs.Words.{word}
-use Rattle.wild_words.proofs.WordLemmas.{length-word}
-use Rattle.wild_words.proofs.ListLemmas.{AllPairs-nil, AllPairs-append}
-use Rattle.wild_slots.specs.Order.{end_of}
-use Rattle.wild_slots.specs.AscendingPlaces.{LiesWithin, Ascend, place_in, PlacesAscend}
-use Rattle.wild_slots.specs.SlotPlaces.{IsLocatedAt}
-use Rattle.wild_loaded.specs.StoredTables.{IsWordStored}
-use Rattle.wild_loaded.specs.Laws.{SlotsAreStored}
+use Rattle.wild_slot.specs.SlotParts.{slot_words}
+use Rattle.wild_plan_rules.specs.SlotPlaces.{first_free}
+use Rattle.wild_slots.specs.AscendingPlaces.{LiesWithin, PlacesAscend}
 use Rattle.wild_loaded.proofs.SlotSites.{of_site, sites_at, all_sites}
 use Rattle.wild_loaded.proofs.SlotFillings.{pair_sites, got_sites, made_of, words_by_sites}
 use Rattle.wild_loaded.proofs.SlotsKnown.{IsFilledSlots}

@@ -1,32 +1,23 @@
 -- The headers of an image have their fields' ranges, and the loader takes them.
-use Rattle.wild_types.specs.Kinds.{is_partial_link}
-use Rattle.std.proofs.Common.{◌≡◌, ℕ, suc, ◌+◌, ◌-◌, ◌*◌, ◌/◌, ◌%◌, ◌^◌, ◌<◌, ◌≤◌, inl, inr, Bool, true, false, List, [], ◌∷◌, length, max, refl, sym, ap, ◌∙◌, arith}
-use Rattle.std.specs.Prelude.{All, if◌then◌else◌, ◌==◌, nat_lt}
+use Rattle.wild_loaded.proofs.Common.{is_partial_link, ◌≡◌, ℕ, suc, ◌+◌, ◌-◌, ◌*◌, ◌/◌, ◌%◌, ◌^◌, ◌<◌, ◌≤◌, inl, inr, Bool, true, false, List, [], ◌∷◌, length, max, refl, sym, ap, ◌∙◌, arith, All, if◌then◌else◌, ◌==◌, nat_lt, cases_Bool, eqb-true, All-cons, sht_nobits, shf_alloc, pt_load, file_header_size, Part, Section, Segment, Layout, is_header_only, file_header, program_header, null_header, computed_infos, info_at, section_header, headers_from, section_headers_of, NumbersFit, IsLoadable, length-section_headers_of, facts_of}
 use Rattle.std.specs.Int.RustNames.{bit_and}
-use Rattle.std.proofs.lemmas.Bool.{cases_Bool, eqb-true, ltb-true}
+use Rattle.std.proofs.lemmas.Bool.{ltb-true}
 use Rattle.std.proofs.lemmas.Nat.Bits.{and_pow}
-use Rattle.std.proofs.lemmas.List.Elements.{All-cons}
-use Rattle.wild_records.specs.Abi.Section.{sht_nobits, shf_compressed, shn_loreserve, shf_alloc}
-use Rattle.wild_records.specs.Abi.Segment.{pt_load, pt_gnu_stack, pf_x}
-use Rattle.wild_records.specs.FileHeader.{FileHeaderFits, file_header_size}
+use Rattle.wild_records.specs.Abi.Section.{shf_compressed, shn_loreserve}
+use Rattle.wild_records.specs.Abi.Segment.{pt_gnu_stack, pf_x}
+use Rattle.wild_records.specs.FileHeader.{FileHeaderFits}
 use Rattle.wild_records.specs.ProgramHeader.{ProgramHeaderFits, program_header_size}
 use Rattle.wild_records.specs.SectionHeader.{SectionHeaderFits}
-use Rattle.wild_types.specs.declared.part.Part.{Part}
 use Rattle.wild_types.specs.declared.part.Role.TheVariants as role
-use Rattle.wild_types.specs.declared.section.Section.{Section}
-use Rattle.wild_types.specs.declared.section.Segment.{Segment}
-use Rattle.wild_types.specs.declared.layout.Layout.{Layout}
 use Rattle.wild_types.specs.Lists.{total}
-use Rattle.wild_types.specs.Lookups.{bit, is_header_only}
+use Rattle.wild_types.specs.Lookups.{bit}
 use Rattle.wild_needs.specs.Versions.{need_count}
-use Rattle.wild_table_formats.specs.Headers.{number_or_escape, or_none, name_table, section_of_role, file_header, with_execute, program_header, null_header, uncompressed_flags, computed_infos, local_symbols, info_at, section_header, headers_from, section_headers_of}
-use Rattle.wild_layout.specs.Numbers.{NumbersFit, SegmentNumbers, SectionNumbers}
-use Rattle.wild_meaning.specs.World.{IsLoadable}
+use Rattle.wild_table_formats.specs.Headers.{number_or_escape, or_none, name_table, section_of_role, with_execute, uncompressed_flags, local_symbols}
+use Rattle.wild_layout.specs.Numbers.{SegmentNumbers, SectionNumbers}
 use Rattle.wild_loaded.proofs.FileType.{type_known, type_fits}
 use Rattle.wild_loader.specs.Headers.{is_loadable_header}
 use Rattle.wild_loader.specs.SegmentLaws.{section_header_count, first_size}
-use Rattle.wild_table_formats.proofs.HeaderLengths.{length-section_headers_of, role_below}
-use Rattle.wild_geometry.proofs.MachineLemmas.{facts_of}
+use Rattle.wild_table_formats.proofs.HeaderLengths.{role_below}
 
 -- ---- bits
 

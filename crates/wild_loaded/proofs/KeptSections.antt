@@ -1,16 +1,7 @@
 -- What is known of a kept section of a layout that is laid out and decided.
 use Rattle.wild_geometry.proofs.ReadLemmas.{read_fields, read_written}
-use Rattle.std.proofs.Common.{◌≡◌, ℕ, length, refl, sym, subst}
-use Rattle.std.specs.Prelude.{All}
-use Rattle.wild_types.specs.declared.input.InputSection.{InputSection}
-use Rattle.wild_types.specs.Item.{item_with, block_for}
-use Rattle.wild_types.specs.declared.layout.Layout.{Layout}
-use Rattle.wild_layout.specs.SectionPlaces.{FieldLies, SectionLies}
-use Rattle.wild_layout.specs.Geometry.{IsLaidOut}
+use Rattle.wild_loaded.proofs.Common.{◌≡◌, ℕ, length, refl, sym, subst, All, InputSection, item_with, block_for, Layout, FieldLies, SectionLies, IsLaidOut, EachDecided, IsKeptPlacedSection, each_at}
 use Rattle.wild_geometry.specs.Loaded.{IsDecided}
-use Rattle.wild_loaded.specs.Memory.{EachDecided}
-use Rattle.wild_geometry.specs.PlacedSections.{IsKeptPlacedSection}
-use Rattle.wild_geometry.proofs.PlacedInputs.{each_at}
 
 -- what is known of a kept section of a layout that is laid out and decided, with the block of thunks that its file has for it
 pub record IsKeptWell (l : Layout) (block : ℕ) (s : InputSection) : Type 0 where

@@ -1,8 +1,7 @@
 -- What kinds of output are, as their tests say.
-use Rattle.std.proofs.Common.{◌≡◌, true, false, refl}
+use Rattle.wild_loaded.proofs.Common.{◌≡◌, true, false, refl, needs_dynamic, is_fixed_static, is_partial_link}
 use Rattle.wild_types.specs.declared.kind.OutputKind.{OutputKind}
 use Rattle.wild_types.specs.declared.kind.OutputKind.TheVariants as output
-use Rattle.wild_types.specs.Kinds.{needs_dynamic, is_fixed_static, is_partial_link}
 
 -- an output with a dynamic section is no relocatable object
 pub dynamic_whole : (k : OutputKind) → needs_dynamic k ≡ true → is_partial_link k ≡ false

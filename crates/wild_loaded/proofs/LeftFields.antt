@@ -1,53 +1,22 @@
 -- What the entries of fields make a loader do in a legal world, and what these fields are in the file.
-use Rattle.std.proofs.Common.{◌≡◌, ℕ, ◌+◌, ◌%◌, ◌^◌, ◌<◌, inl, inr, Bool, true, false, List, replicate, refl, sym, arith, subst}
-use Rattle.std.specs.Prelude.{Option, Some, None, Result, Ok, Err, option_map, option_and_then, ◌==◌, ◌&&◌, slice_get}
-use Rattle.std.specs.Int.{w64}
-use Rattle.std.proofs.lemmas.Bool.{cases_Bool}
-use Rattle.std.proofs.lemmas.Int.{of_z-to_z}
-use Rattle.std.proofs.lemmas.List.Elements.{All-contains}
-use Rattle.wild_words.specs.Words.{word}
-use Rattle.wild_words.proofs.WordLemmas.{length-word}
-use Rattle.wild_words.proofs.Basics.{listed_at}
-use Rattle.wild_types.specs.declared.fault.Fault.{Fault}
+use Rattle.wild_loaded.proofs.Common.{◌≡◌, ℕ, ◌+◌, ◌%◌, ◌^◌, ◌<◌, inl, inr, Bool, true, false, List, replicate, refl, sym, arith, subst, Option, Some, None, Result, Ok, Err, option_map, option_and_then, ◌==◌, ◌&&◌, slice_get, w64, cases_Bool, of_z-to_z, All-contains, word, length-word, listed_at, Fault, Machine, InputRelocation, Item, Resolution, Symbol, Layout, Treatment, has_flag, ifunc, is_position_independent, allocated, canonical, type_of, flags_at, treatment, size_width, Absolute, Irelative, RelocationSize, ByteSize, Eight, DynamicField, addend_bits, decided, index_of, decided_address, NumbersFit, SymbolNumbers, IsLaidOut, decided_left, entry_with, facts_of, processor_of, World, kind_of, change_of, IsLegal, IsAnsweredOnce}
 use Rattle.wild_types.specs.declared.fault.Missing.TheVariants as missing
-use Rattle.wild_types.specs.declared.kind.Machine.{Machine}
-use Rattle.wild_types.specs.declared.input.InputRelocation.{InputRelocation}
-use Rattle.wild_types.specs.Item.{Item}
-use Rattle.wild_types.specs.declared.symbol.Resolution.{Resolution}
-use Rattle.wild_types.specs.declared.symbol.Symbol.{Symbol}
 use Rattle.wild_types.specs.declared.symbol.ValueFlags.{ValueFlags}
-use Rattle.wild_types.specs.declared.layout.Layout.{Layout}
-use Rattle.wild_slot.specs.declared.treatment.Treatment.{Treatment}
 use Rattle.wild_slot.specs.declared.treatment.Treatment.TheVariants as treatments
 use Rattle.wild_needs.specs.Entries.{has_dynamic_entry}
-use Rattle.wild_types.specs.Flags.{has_flag, ifunc}
-use Rattle.wild_types.specs.Kinds.{is_position_independent}
-use Rattle.wild_types.specs.Lookups.{writable, allocated, canonical}
-use Rattle.wild_slot.specs.SlotParts.{type_of}
-use Rattle.wild_slot.specs.Treatment.{flags_at, treatment}
-use Rattle.wild_reloc.specs.Field.{size_width, size_written}
-use Rattle.wild_reloc.specs.declared.dynamic.DynamicRelocationKind.TheVariants.{Absolute, Irelative}
+use Rattle.wild_types.specs.Lookups.{writable}
+use Rattle.wild_reloc.specs.Field.{size_written}
 use Rattle.wild_reloc.specs.declared.info.RelocationKindInfo.{RelocationKindInfo}
-use Rattle.wild_reloc.specs.declared.info.RelocationSize.{RelocationSize}
-use Rattle.wild_reloc.specs.declared.info.RelocationSize.TheVariants.{ByteSize}
-use Rattle.wild_reloc.specs.declared.info.Width.TheVariants.{Four, Eight}
-use Rattle.wild_layout.specs.declared.decision.Decision.TheVariants.{DynamicField}
-use Rattle.wild_layout.specs.Decide.{addend_bits, dynamic_decision, ifunc_decision, decide_by, decided}
+use Rattle.wild_reloc.specs.declared.info.Width.TheVariants.{Four}
+use Rattle.wild_layout.specs.Decide.{dynamic_decision, ifunc_decision, decide_by}
 use Rattle.wild_layout.specs.SymbolValues.{resolved_address}
-use Rattle.wild_layout.specs.SlotValues.{index_of, decided_address}
-use Rattle.wild_layout.specs.Numbers.{NumbersFit, SymbolNumbers}
-use Rattle.wild_layout.specs.Geometry.{IsLaidOut}
-use Rattle.wild_layout.proofs.DecideLemmas.{sized_left, decided_left, known_indirect, known_extent}
-use Rattle.wild_geometry.specs.Loaded.{entry_with}
+use Rattle.wild_layout.proofs.DecideLemmas.{sized_left, known_indirect, known_extent}
 use Rattle.wild_geometry.specs.MachineFacts.{StoresSize}
-use Rattle.wild_geometry.proofs.MachineLemmas.{facts_of}
-use Rattle.wild_meaning.specs.LinkedImage.{processor_of}
 use Rattle.wild_loader.specs.declared.memory.Machine.{Machine as Processor}
-use Rattle.wild_loader.specs.declared.world.World.{World}
 use Rattle.wild_loader.specs.declared.change.Change.TheVariants as changes
 use Rattle.wild_loader.specs.declared.kind.DynamicKind.TheVariants as kinds
-use Rattle.wild_loader.specs.Changes.{kind_of, change_of, sum_with_addend}
-use Rattle.wild_meaning.specs.World.{IsLegal, HasResolver, IsAnsweredOnce}
+use Rattle.wild_loader.specs.Changes.{sum_with_addend}
+use Rattle.wild_meaning.specs.World.{HasResolver}
 use Rattle.wild_loaded.specs.StoredTables.{FillsField}
 use Rattle.wild_loaded.proofs.Answers.{answered, IsGiven, symbol_answer, index_small}
 

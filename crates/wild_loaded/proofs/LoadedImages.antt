@@ -1,46 +1,21 @@
 -- The image of a layout is loaded: its addresses move, what is left to entries is filled, and nothing else changes.
-use Rattle.wild_meaning.proofs.OutputLemmas.{not_partial}
+use Rattle.wild_loaded.proofs.Common.{not_partial, ◌≡◌, ℕ, ◌+◌, Bool, true, false, [], length, refl, sym, ap, ◌∙◌, arith, subst, Some, Ok, Contains, if◌then◌else◌, All-contains, Contains-append_right, Contains-map, Layout, copies_of, is_library, KeepsAll, needs_dynamic, file_header, section_headers_of, bytes, copy_entry, Contains-flat_map, Memory, Answer, World, byte_in, Holds, loaded_at, section_relas, patches_of, OrderDoesNotMatter, NumbersFit, IsLaidOut, IsLoadable, IsLegal, IsPastFileBytes, IsCopied, HasCopy, image_memory, headers_of, HasWholeSlots, tables_of, SegmentsAreLoadable, TablesAreFound, place_change, entry_change, Item, block_for, HasItem}
 use Rattle.wild_geometry.proofs.KeptItems.{kept_items_placed}
 use Rattle.wild_geometry.specs.PlacedSections.{KeptItemsArePlaced}
-use Rattle.std.proofs.Common.{◌≡◌, ℕ, ◌+◌, Bool, true, false, [], length, refl, sym, ap, ◌∙◌, arith, subst}
-use Rattle.std.specs.Prelude.{Some, Ok, Contains, if◌then◌else◌}
-use Rattle.std.proofs.lemmas.List.Elements.{All-contains, Contains-append_right}
-use Rattle.wild_words.proofs.Basics.{Contains-map}
 use Rattle.wild_types.specs.declared.file.FileRole.{FileRole}
 use Rattle.wild_types.specs.declared.file.FileRole.TheVariants as file_role
-use Rattle.wild_types.specs.declared.layout.Layout.{Layout}
-use Rattle.wild_types.specs.FileSymbols.{copies_of}
-use Rattle.wild_types.specs.FileRoles.{is_library}
-use Rattle.wild_types.specs.HeaderOnly.{KeepsAll}
-use Rattle.wild_types.specs.Kinds.{needs_dynamic}
-use Rattle.wild_table_formats.specs.Headers.{file_header, section_headers_of}
-use Rattle.wild_layout.specs.Image.{bytes}
-use Rattle.wild_layout.specs.DynamicRelocations.{copy_entry}
-use Rattle.wild_layout.proofs.SiteLemmas.{Contains-flat_map}
 use Rattle.wild_loader.specs.declared.change.Change.TheVariants as changes
 use Rattle.wild_loader.specs.declared.kind.DynamicKind.TheVariants as kinds
-use Rattle.wild_loader.specs.declared.memory.Memory.{Memory}
-use Rattle.wild_loader.specs.declared.world.Answer.{Answer}
-use Rattle.wild_loader.specs.declared.world.World.{World}
 use Rattle.wild_loader.specs.Load.{load}
-use Rattle.wild_loader.specs.Memory.{byte_in, Holds}
-use Rattle.wild_loader.specs.Relocate.{loaded_at, memory_with_patches}
-use Rattle.wild_loader.specs.Laws.{section_relas, DynamicImagesAreLoaded, StaticImagesAreLoaded}
-use Rattle.wild_loader.specs.EntryLaws.{patches_of, TablesAreApplied, OrderDoesNotMatter}
+use Rattle.wild_loader.specs.Relocate.{memory_with_patches}
+use Rattle.wild_loader.specs.Laws.{DynamicImagesAreLoaded, StaticImagesAreLoaded}
+use Rattle.wild_loader.specs.EntryLaws.{TablesAreApplied}
 use Rattle.wild_loader.proofs.ImageLemmas.{no-dynamic}
-use Rattle.wild_layout.specs.Numbers.{NumbersFit}
-use Rattle.wild_layout.specs.Geometry.{IsLaidOut}
-use Rattle.wild_meaning.specs.World.{IsLoadable, IsLegal, IsPastFileBytes, IsCopied, HasCopy}
 use Rattle.wild_meaning.specs.LinkedImage.{IsNotCopied}
-use Rattle.wild_loaded.specs.Memory.{image_memory, headers_of}
-use Rattle.wild_loaded.specs.WholeSlots.{HasWholeSlots}
-use Rattle.wild_loaded.specs.Tables.{tables_of}
-use Rattle.wild_loaded.specs.Laws.{HeadersAreThere, SegmentsAreLoadable, TablesAreFound, SectionTablesAreFound}
-use Rattle.wild_loaded.specs.Words.{place_change, entry_change}
+use Rattle.wild_loaded.specs.Laws.{HeadersAreThere, SectionTablesAreFound}
 use Rattle.wild_loaded.specs.FilledLaws.{AreMade, TablesAreMade}
 use Rattle.wild_loaded.proofs.Fillings.{IsKnown, place_loaded}
-use Rattle.wild_types.specs.Item.{Item, block_for}
-use Rattle.wild_geometry.specs.Loaded.{HasItem, InMemory}
+use Rattle.wild_geometry.specs.Loaded.{InMemory}
 use Rattle.wild_meaning.specs.Item.{IsKept}
 use Rattle.wild_loaded.proofs.KeptSections.{kept_well}
 use Rattle.wild_loaded.proofs.FilledSections.{have_places}

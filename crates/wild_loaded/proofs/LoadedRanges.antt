@@ -1,17 +1,6 @@
 -- Runs of bytes of the image that segments carry to their addresses: where the file shares no byte, memory shares none.
-use Rattle.wild_meaning.proofs.OutputLemmas.{not_partial}
-use Rattle.std.proofs.Common.{◌≡◌, ℕ, ◌+◌, ◌-◌, ◌<◌, ◌≤◌, ◌⊎◌, inl, inr, length, get_or, sym, ap, ◌∙◌, arith, subst}
-use Rattle.std.specs.Prelude.{Contains}
-use Rattle.std.proofs.lemmas.Bool.{cases_lt}
-use Rattle.std.proofs.lemmas.List.Elements.{All-contains}
-use Rattle.std.proofs.lemmas.List.{get_or_default}
-use Rattle.wild_records.specs.Abi.Segment.{pt_load}
-use Rattle.wild_types.specs.declared.section.Segment.{Segment}
-use Rattle.wild_types.specs.declared.layout.Layout.{Layout}
-use Rattle.wild_types.specs.Lookups.{image_size}
-use Rattle.wild_layout.specs.Loadable.{SegmentLoads, Ascends, CarriesByte}
-use Rattle.wild_layout.specs.Geometry.{IsLaidOut}
-use Rattle.wild_meaning.specs.World.{IsPastFileBytes, IsLoadable}
+use Rattle.wild_loaded.proofs.Common.{not_partial, ◌≡◌, ℕ, ◌+◌, ◌-◌, ◌<◌, ◌≤◌, ◌⊎◌, inl, inr, length, get_or, sym, ap, ◌∙◌, arith, subst, Contains, cases_lt, All-contains, get_or_default, pt_load, Segment, Layout, image_size, SegmentLoads, CarriesByte, IsLaidOut, IsPastFileBytes, IsLoadable}
+use Rattle.wild_layout.specs.Loadable.{Ascends}
 use Rattle.wild_loaded.proofs.Fillings.{Filling, Misses, DoNotOverlap}
 
 -- ---- ranges of bytes that segments carry

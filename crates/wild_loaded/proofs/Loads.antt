@@ -1,42 +1,19 @@
 -- The image of a laid out layout is loaded.
-use Rattle.wild_types.specs.Kinds.{is_partial_link}
-use Rattle.wild_meaning.proofs.OutputLemmas.{not_partial}
-use Rattle.std.proofs.Common.{◌≡◌, ℕ, zero, suc, ◌+◌, ◌-◌, ◌^◌, ◌<◌, ◌≤◌, inl, inr, List, [], ◌∷◌, length, get_or, map, refl, sym, ap, ◌∙◌, arith, subst}
-use Rattle.std.specs.Prelude.{AllPairs, Bool, Contains, if◌then◌else◌, All}
-use Rattle.std.specs.List.{flat_map}
-use Rattle.std.proofs.lemmas.Bool.{cases_lt}
+use Rattle.wild_loaded.proofs.Common.{is_partial_link, not_partial, ◌≡◌, ℕ, zero, suc, ◌+◌, ◌-◌, ◌^◌, ◌<◌, ◌≤◌, inl, inr, List, [], ◌∷◌, length, get_or, map, refl, sym, ap, ◌∙◌, arith, subst, AllPairs, Bool, Contains, if◌then◌else◌, All, flat_map, cases_lt, flat_map-map, All-map, file_header_size, pt_load, HasBytesAt, Piece, AreDisjoint, length-overlay, ProgramHeader, Segment, Layout, image_size, file_header, program_header, section_headers_of, bytes, pieces, NumbersFit, SegmentLoads, IsLaidOut, IsLegal, World, HasHeaders, IsStatic, length-section_headers_of, image_memory, processor_of, facts_of}
 use Rattle.std.proofs.lemmas.List.{length-map}
-use Rattle.std.proofs.lemmas.List.Folds.{flat_map-map}
-use Rattle.std.proofs.lemmas.List.Elements.{All-map}
-use Rattle.wild_records.specs.FileHeader.{file_header_size}
-use Rattle.wild_records.specs.Abi.Segment.{pt_load}
-use Rattle.wild_words.specs.Words.{HasBytesAt}
 use Rattle.wild_words.specs.Record.{spell}
-use Rattle.wild_words.specs.Overlay.{Piece, AreDisjoint}
-use Rattle.wild_words.proofs.OverlayLemmas.{HasBytesAt-overlay, overlay-outside, length-overlay}
+use Rattle.wild_words.proofs.OverlayLemmas.{HasBytesAt-overlay, overlay-outside}
 use Rattle.wild_records.specs.ProgramHeader.{ProgramHeaderFits, program_header_fields}
-use Rattle.wild_records.specs.declared.program_header.ProgramHeader.{ProgramHeader}
 use Rattle.wild_types.specs.declared.part.Role.TheVariants as role
-use Rattle.wild_types.specs.declared.section.Segment.{Segment}
-use Rattle.wild_types.specs.declared.layout.Layout.{Layout}
-use Rattle.wild_types.specs.Lookups.{image_size}
-use Rattle.wild_table_formats.specs.Headers.{file_header, program_header, section_headers_of, name_table, offset_of_role, file_header_bytes, program_header_bytes, section_header_bytes}
-use Rattle.wild_layout.specs.Image.{bytes, pieces, padding}
-use Rattle.wild_layout.specs.Numbers.{NumbersFit}
-use Rattle.wild_layout.specs.Loadable.{SegmentLoads, IsStatic as StaticSegment, Ascends}
+use Rattle.wild_table_formats.specs.Headers.{name_table, offset_of_role, file_header_bytes, program_header_bytes, section_header_bytes}
+use Rattle.wild_layout.specs.Image.{padding}
+use Rattle.wild_layout.specs.Loadable.{IsStatic as StaticSegment, Ascends}
 use Rattle.wild_layout.specs.TablePlaces.{IsPiece}
-use Rattle.wild_layout.specs.Geometry.{IsLaidOut}
-use Rattle.wild_meaning.specs.World.{IsLoadable as IsLoadableKind, IsLegal}
-use Rattle.wild_loader.specs.declared.world.World.{World}
-use Rattle.wild_loader.specs.SegmentLaws.{HasHeaders, IsLoadable, AreLoadable, Ascends as HeadersAscend}
-use Rattle.wild_loader.specs.Laws.{IsStatic}
-use Rattle.wild_table_formats.proofs.HeaderLengths.{length-section_headers_of}
+use Rattle.wild_meaning.specs.World.{IsLoadable as IsLoadableKind}
+use Rattle.wild_loader.specs.SegmentLaws.{IsLoadable, AreLoadable, Ascends as HeadersAscend}
 use Rattle.wild_layout.proofs.LayoutLemmas.{length-padding}
 use Rattle.wild_loaded.specs.Owners.{HasOneOwnerEach}
-use Rattle.wild_loaded.specs.Memory.{image_memory}
 use Rattle.wild_loaded.proofs.HeadersFit.{file_header_fits, name_table_below, program_header_fits, section_headers_fit, headers_told}
-use Rattle.wild_meaning.specs.LinkedImage.{processor_of}
-use Rattle.wild_geometry.proofs.MachineLemmas.{facts_of}
 
 -- ---- owners
 

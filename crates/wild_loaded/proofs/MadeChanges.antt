@@ -1,28 +1,10 @@
 -- What applying the tables of an image made of the bytes that they fill, and of all others.
-use Rattle.std.proofs.Common.{◌≡◌, ℕ, ◌+◌, ◌%◌, ◌^◌, ◌<◌, List, ◌++◌, length, refl, sym, ap, ◌∙◌, arith, subst}
-use Rattle.std.specs.Prelude.{⊤, Some, All, Contains}
-use Rattle.std.specs.List.{flat_map}
-use Rattle.std.proofs.lemmas.List.Elements.{All-contains, Contains-append_left, Contains-append_right}
+use Rattle.wild_loaded.proofs.Common.{◌≡◌, ℕ, ◌+◌, ◌%◌, ◌^◌, ◌<◌, List, ◌++◌, length, refl, sym, ap, ◌∙◌, arith, subst, ⊤, Some, All, Contains, flat_map, All-contains, Contains-append_left, Contains-append_right, word, number, number-word, Rela, Layout, Contains-flat_map, Change, Memory, World, kind_of, size_of, patch_over, Holds, byte_in, places, loaded_at, processor_of, image_memory, BlanksAreStored, FileBytesAreStored, TextsAreStored, tables_of, place_change, entry_change}
 use Rattle.std.proofs.lemmas.List.Sorted.{Contains-permutation}
-use Rattle.wild_words.specs.Words.{word, number}
-use Rattle.wild_words.proofs.WordLemmas.{number-word}
-use Rattle.wild_records.specs.declared.relocations.Rela.{Rela}
-use Rattle.wild_types.specs.declared.layout.Layout.{Layout}
-use Rattle.wild_layout.proofs.SiteLemmas.{Contains-flat_map}
-use Rattle.wild_loader.specs.declared.change.Change.{Change}
 use Rattle.wild_loader.specs.declared.memory.Machine.{Machine as Processor}
-use Rattle.wild_loader.specs.declared.memory.Memory.{Memory}
-use Rattle.wild_loader.specs.declared.world.World.{World}
-use Rattle.wild_loader.specs.Changes.{kind_of, size_of, patch_over}
-use Rattle.wild_loader.specs.Memory.{Holds, byte_in}
-use Rattle.wild_loader.specs.Places.{places}
-use Rattle.wild_loader.specs.Relocate.{loaded_at}
-use Rattle.wild_meaning.specs.LinkedImage.{processor_of}
 use Rattle.wild_slots.specs.SlotPlaces.{SlotsArePlaced}
-use Rattle.wild_loaded.specs.Memory.{image_memory}
-use Rattle.wild_loaded.specs.Laws.{BlanksAreStored, FileBytesAreStored, ThunksAreThere, TextsAreStored}
-use Rattle.wild_loaded.specs.Tables.{tables_of}
-use Rattle.wild_loaded.specs.Words.{value_at, place_change, entry_change}
+use Rattle.wild_loaded.specs.Laws.{ThunksAreThere}
+use Rattle.wild_loaded.specs.Words.{value_at}
 use Rattle.wild_loaded.proofs.Fillings.{Table, PackedTable, RelativeTable, GeneralTable, JumpTable, Filling, Misses, IsKnown, packed_at, packed_in, relative_in, general_in, jump_in}
 use Rattle.wild_loaded.proofs.FilledTables.{AreSorted, value_is, entry_made, entry_is, all_elsewhere}
 use Rattle.wild_loaded.proofs.Loads.{image_machine}

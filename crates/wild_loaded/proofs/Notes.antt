@@ -1,32 +1,18 @@
 -- What a loader notes of descriptors, and the tables of an image in whatever order a loader finds them.
-use Rattle.std.proofs.Common.{◌≡◌, ℕ, zero, suc, ◌+◌, ◌<◌, ◌≤◌, ◌⊎◌, inl, inr, List, [], ◌∷◌, ◌++◌, length, get_or, map, refl, sym, ap, ◌∙◌, arith, subst}
-use Rattle.std.specs.Prelude.{Option, Some, None, Ok, All, AllPairs, Contains, IsPermutation}
-use Rattle.std.proofs.lemmas.Bool.{eq-eqb, ne_eqb}
-use Rattle.std.proofs.lemmas.List.{map-append, append-nil}
-use Rattle.std.proofs.lemmas.List.Elements.{All-nil, All-head, All-tail, All-append, All-map, All-contains, Contains-append_left, Contains-append_right}
-use Rattle.std.proofs.lemmas.List.Sorted.{All-permutation, IsPermutation-sym, IsPermutation-map}
-use Rattle.wild_words.proofs.Basics.{All-each, Contains-map}
-use Rattle.wild_words.proofs.ListLemmas.{AllPairs-head, AllPairs-tail}
-use Rattle.wild_records.specs.declared.relocations.Rela.{Rela}
-use Rattle.wild_loader.specs.declared.change.Change.{Change}
+use Rattle.wild_loaded.proofs.Common.{◌≡◌, ℕ, zero, suc, ◌+◌, ◌<◌, ◌≤◌, ◌⊎◌, inl, inr, List, [], ◌∷◌, ◌++◌, length, get_or, map, refl, sym, ap, ◌∙◌, arith, subst, Option, Some, None, Ok, All, AllPairs, Contains, IsPermutation, ne_eqb, map-append, append-nil, All-nil, All-head, All-tail, All-append, All-map, All-contains, Contains-append_left, Contains-append_right, All-permutation, IsPermutation-sym, IsPermutation-map, All-each, Contains-map, AllPairs-head, AllPairs-tail, Rela, Change, Memory, Run, Tables, World, kind_of, change_of, size_of, patch_over, byte_in, Holds, places, loaded_at, DoesNotOverlap, patches_of, OrderDoesNotMatter, place_change, entry_change}
+use Rattle.std.proofs.lemmas.Bool.{eq-eqb}
 use Rattle.wild_loader.specs.declared.change.Change.TheVariants as changes
 use Rattle.wild_loader.specs.declared.change.Patch.{Patch}
 use Rattle.wild_loader.specs.declared.fault.LoadFault.TheVariants as faults
-use Rattle.wild_loader.specs.declared.memory.Memory.{Memory}
-use Rattle.wild_loader.specs.declared.memory.Run.{Run}
-use Rattle.wild_loader.specs.declared.tables.Tables.{Tables}
-use Rattle.wild_loader.specs.declared.world.World.{World}
 use Rattle.wild_loader.specs.Outcome.{known}
 use Rattle.wild_loader.specs.Runs.{read_bytes}
-use Rattle.wild_loader.specs.Changes.{kind_of, change_of, size_of, patch_over, patch_at, first_value}
-use Rattle.wild_loader.specs.Memory.{byte_in, Holds}
-use Rattle.wild_loader.specs.Places.{places, places_from}
-use Rattle.wild_loader.specs.Relocate.{loaded_at, rela_patch, place_patch, runs_of_patches, memory_with_patches, notes, relocate}
-use Rattle.wild_loader.specs.SegmentLaws.{DoesNotOverlap, IsOutsideRun}
-use Rattle.wild_loader.specs.EntryLaws.{HasMade, patches_of, TablesAreApplied, OrderDoesNotMatter}
+use Rattle.wild_loader.specs.Changes.{patch_at, first_value}
+use Rattle.wild_loader.specs.Places.{places_from}
+use Rattle.wild_loader.specs.Relocate.{rela_patch, place_patch, runs_of_patches, memory_with_patches, notes, relocate}
+use Rattle.wild_loader.specs.SegmentLaws.{IsOutsideRun}
+use Rattle.wild_loader.specs.EntryLaws.{HasMade, TablesAreApplied}
 use Rattle.wild_loader.proofs.EntryLemmas.{stepped, same-ok, read-bytes}
 use Rattle.wild_loader.proofs.OverlaidBytes.{elsewhere}
-use Rattle.wild_loaded.specs.Words.{place_change, entry_change}
 use Rattle.wild_loaded.proofs.PairLemmas.{All-unmap}
 use Rattle.wild_loaded.specs.LoadedMemory.{IsMade}
 

@@ -1,17 +1,6 @@
 -- A number among the words of slots: no entry fills a byte of it, or it is the second word of a descriptor.
-use Rattle.std.proofs.Common.{◌≡◌, ℕ, zero, suc, ◌+◌, ◌<◌, ◌≤◌, ◌⊎◌, inl, inr, Bool, true, false, List, [], ◌∷◌, ◌++◌, length, get_or, refl, sym, ap, ◌∙◌, arith, subst}
-use Rattle.std.specs.Prelude.{Option, Some, None, All, Contains, option_to_list}
-use Rattle.std.proofs.lemmas.List.Elements.{All-nil, All-cons, All-append, All-contains, Contains-append_right}
-use Rattle.wild_slot.specs.declared.slot.SlotEntry.{SlotEntry}
-use Rattle.wild_slot.specs.declared.slot.SlotWord.{SlotWord}
-use Rattle.wild_slot.specs.declared.slot.SlotWord.TheVariants.{Number, Address, InRelrGot, General, Plt}
+use Rattle.wild_loaded.proofs.Common.{◌≡◌, ℕ, zero, suc, ◌+◌, ◌<◌, ◌≤◌, ◌⊎◌, inl, inr, Bool, true, false, List, [], ◌∷◌, ◌++◌, length, get_or, refl, sym, ap, ◌∙◌, arith, subst, Option, Some, None, All, Contains, option_to_list, All-nil, All-cons, All-append, All-contains, Contains-append_right, SlotEntry, SlotWord, Number, Address, InRelrGot, General, Plt, Layout, is_packed, next, Contains-flat_map, Ascend, place_in, entry_in, filled_width}
 use Rattle.wild_slot.specs.declared.slot_parts.WordPart.TheVariants as words
-use Rattle.wild_types.specs.declared.layout.Layout.{Layout}
-use Rattle.wild_slot.specs.SlotParts.{is_packed, next}
-use Rattle.wild_layout.proofs.SiteLemmas.{Contains-flat_map}
-use Rattle.wild_slots.specs.AscendingPlaces.{Ascend, place_in}
-use Rattle.wild_slots.specs.Entries.{entry_in}
-use Rattle.wild_loaded.specs.StoredTables.{filled_width}
 use Rattle.wild_loaded.proofs.SlotSites.{SlotSite, of_site}
 use Rattle.wild_loaded.proofs.Fillings.{Filling}
 use Rattle.wild_loaded.proofs.SlotFillings.{address_filling, slot_filling, made_of}

@@ -1,22 +1,14 @@
 -- Entries of one tag in the dynamic section have one value, and a DT_NULL is after them.
-use Rattle.std.proofs.Common.{◌≡◌, ◌≢◌, ℕ, zero, suc, ◌+◌, ◌-◌, ◌<◌, ◌≤◌, inl, inr, ◌==◌, Bool, true, false, List, [], ◌∷◌, ◌++◌, length, get_or, take, replicate, refl, sym, ap, ◌∙◌, arith, subst}
-use Rattle.std.specs.Prelude.{Option, Some, None, All, Contains, if◌then◌else◌, flat_map}
-use Rattle.std.proofs.lemmas.Bool.{cases_Bool, eqb-false, ne_eqb}
-use Rattle.std.proofs.lemmas.List.{length-append, length-replicate, get_or-replicate, append_assoc}
-use Rattle.std.proofs.lemmas.List.Elements.{All-nil, All-cons, All-head, All-tail, All-append, All-contains}
+use Rattle.wild_loaded.proofs.Common.{◌≡◌, ◌≢◌, ℕ, zero, suc, ◌+◌, ◌-◌, ◌<◌, ◌≤◌, inl, inr, ◌==◌, Bool, true, false, List, [], ◌∷◌, ◌++◌, length, get_or, take, replicate, refl, sym, ap, ◌∙◌, arith, subst, Option, Some, None, All, Contains, if◌then◌else◌, cases_Bool, eqb-false, ne_eqb, length-append, length-replicate, get_or-replicate, All-nil, All-cons, All-head, All-tail, All-append, All-contains, All-flat_map, DynamicEntry, Layout, needs_dynamic, dynamic_number, dynamic_entry, entries_before_null, value_of_tag}
+use Rattle.std.specs.Prelude.{flat_map}
+use Rattle.std.proofs.lemmas.List.{append_assoc}
 use Rattle.std.proofs.lemmas.Grind.{flat_map-append}
-use Rattle.wild_words.proofs.ListLemmas.{All-flat_map}
 use Rattle.wild_records.specs.Abi.Dynamic.{dt_null, dt_needed, dt_soname, dt_rpath, dt_runpath, dt_auxiliary}
-use Rattle.wild_records.specs.declared.dynamic.DynamicEntry.{DynamicEntry}
 use Rattle.wild_needs.specs.declared.dynamic.DynamicTag.{DynamicTag}
 use Rattle.wild_needs.specs.declared.dynamic.DynamicTag.TheVariants as tags
-use Rattle.wild_types.specs.declared.layout.Layout.{Layout}
-use Rattle.wild_types.specs.Kinds.{needs_dynamic}
-use Rattle.wild_needs.specs.Dynamic.{dynamic_number, dynamic_entry, entry_of, entry_with, all_tags, tag_entries, dynamic_entries}
+use Rattle.wild_needs.specs.Dynamic.{entry_of, entry_with, all_tags, tag_entries, dynamic_entries}
 use Rattle.wild_needs.specs.DynamicStrings.{NamedString, named, auxiliary_strings, offset_after_string, named_strings, string_entries, string_start}
 use Rattle.wild_table_formats.specs.DynamicSection.{null_entry, IsNeeded}
-use Rattle.wild_loader.specs.Laws.{entries_before_null}
-use Rattle.wild_loader.specs.Tables.{value_of_tag}
 use Rattle.wild_meaning.specs.DynamicSection.{HasOneValue}
 
 -- ---- what is before DT_NULL

@@ -1,23 +1,8 @@
 -- Bytes that no table of the image fills.
-use Rattle.wild_geometry.proofs.PlacedInputs.{all_sections}
+use Rattle.wild_loaded.proofs.Common.{all_sections, ◌≡◌, ℕ, ◌+◌, ◌<◌, ◌≤◌, ◌⊎◌, inl, inr, true, List, ◌++◌, length, get_or, refl, arith, All, Contains, All-append, All-map, get_or_default, not_empty, All-each, All-flat_map, Role, InputSection, Layout, is_loaded_role, not_hollow_role, Memory, World, IsPastFileBytes, IsStored}
 use Rattle.wild_loaded.proofs.SectionsDisjoint.{section_apart}
-use Rattle.std.proofs.Common.{◌≡◌, ℕ, ◌+◌, ◌<◌, ◌≤◌, ◌⊎◌, inl, inr, true, List, ◌++◌, length, get_or, refl, arith}
-use Rattle.std.specs.Prelude.{All, Contains}
-use Rattle.std.proofs.lemmas.List.Elements.{All-append, All-map}
-use Rattle.std.proofs.lemmas.List.{get_or_default}
-use Rattle.wild_words.proofs.Basics.{not_empty, All-each}
-use Rattle.wild_words.proofs.ListLemmas.{All-flat_map}
-use Rattle.wild_types.specs.declared.part.Role.{Role}
 use Rattle.wild_types.specs.declared.part.Role.TheVariants as role
-use Rattle.wild_types.specs.declared.input.InputSection.{InputSection}
-use Rattle.wild_types.specs.declared.layout.Layout.{Layout}
-use Rattle.wild_types.specs.Parts.{is_loaded_role}
-use Rattle.wild_types.proofs.LookupLemmas.{not_hollow_role}
-use Rattle.wild_loader.specs.declared.memory.Memory.{Memory}
-use Rattle.wild_loader.specs.declared.world.World.{World}
-use Rattle.wild_meaning.specs.World.{IsPastFileBytes}
 use Rattle.wild_meaning.specs.LinkedImage.{IsNotCopied}
-use Rattle.wild_loaded.specs.Memory.{IsStored}
 use Rattle.wild_loaded.proofs.Fillings.{Filling, Misses, general_of, place_entry}
 use Rattle.wild_loaded.proofs.LoadedRanges.{LoadedRange, IsCarriedRange, AreDisjointRanges, disjoint_ranges_flip, misses_across, misses_past_file_bytes}
 use Rattle.wild_loaded.proofs.SectionsApart.{range_of_section, stored_section_is_carried}

@@ -1,46 +1,16 @@
 -- The words of packed places: a loader finds the places of addresses and of slots in them, and no others.
-use Rattle.wild_types.specs.FileRoles.{is_epilogue}
+use Rattle.wild_loaded.proofs.Common.{is_epilogue, all_sections, by_files, placed_files_same_all, IsLaidOut, placed_file, placed_files, processed_sections, of_last_file, sorted_sections, has_last, ◌≡◌, ℕ, suc, ◌+◌, ◌%◌, ◌^◌, ◌<◌, ◌≤◌, ◌⊎◌, inl, inr, Bool, true, false, List, [], ◌∷◌, ◌++◌, get_or, map, refl, sym, ap, ◌∙◌, arith, subst, append_assoc, Some, None, All, AllPairs, Contains, ◌≢◌, IsPermutation, option_to_list, if◌then◌else◌, ◌&&◌, ◌==◌, ◌||◌, flat_map, cases_Bool, eqb-true, append-nil, get_or_default, flat_map-append, flat_map-map, All-nil, All-cons, All-append, All-map, All-contains, All-permutation, IsPermutation-sym, IsPermutation-trans, IsPermutation-map, IsPermutation-append_right, IsPermutation-append_comm, AllPairs-cons, All-flat_map, AllPairs-nil, AllPairs-head, AllPairs-tail, flat_map-same, flat_map-flat_map, InputRelocation, InputSection, SlotWord, Number, Address, InRelrGot, General, Plt, File, Group, Layout, place_of, packs, is_relative, relr_place, relr_places, is_packed, relr_slot_place, relr_got_place, block_of, group_relr_got, file_words, flat_places_of, places, Run, DoesNotOverlap, OrderDoesNotMatter, packed_words_of_file, group_words, tables_of}
 use Rattle.wild_loaded.proofs.FramesInPart.{LastAlone, groups_alone}
-use Rattle.wild_geometry.proofs.PlacedInputs.{all_sections, by_files, placed_files_same_all}
-use Rattle.wild_layout.specs.Geometry.{IsLaidOut}
-use Rattle.wild_placement.specs.PlacedSections.{placed_file, placed_files, processed_sections, of_last_file, sorted_sections}
-use Rattle.wild_needs.specs.Needs.{has_last}
-use Rattle.std.proofs.Common.{◌≡◌, ℕ, suc, ◌+◌, ◌%◌, ◌^◌, ◌<◌, ◌≤◌, ◌⊎◌, inl, inr, Bool, true, false, List, [], ◌∷◌, ◌++◌, get_or, map, refl, sym, ap, ◌∙◌, arith, subst, append_assoc}
-use Rattle.std.specs.Prelude.{Some, None, All, AllPairs, Contains, ◌≢◌, IsPermutation, option_to_list, if◌then◌else◌, ◌&&◌, ◌==◌, ◌||◌}
-use Rattle.std.specs.List.{flat_map, list_any}
-use Rattle.std.proofs.lemmas.Bool.{cases_Bool, eqb-true}
-use Rattle.std.proofs.lemmas.List.{append-nil, get_or_default}
-use Rattle.std.proofs.lemmas.List.Concat.{flat_map-append}
-use Rattle.std.proofs.lemmas.List.Folds.{flat_map-map}
-use Rattle.std.proofs.lemmas.List.Elements.{All-nil, All-cons, All-append, All-map, All-contains}
-use Rattle.std.proofs.lemmas.List.Sorted.{All-permutation, IsPermutation-sym, IsPermutation-trans, IsPermutation-append_left, IsPermutation-map, IsPermutation-append_right, IsPermutation-append_comm}
-use Rattle.std.proofs.lemmas.List.Kept.{AllPairs-cons}
-use Rattle.wild_words.proofs.ListLemmas.{All-flat_map, AllPairs-nil, AllPairs-head, AllPairs-tail, flat_map-same, flat_map-flat_map}
-use Rattle.wild_types.specs.declared.input.InputRelocation.{InputRelocation}
-use Rattle.wild_types.specs.declared.input.InputSection.{InputSection}
-use Rattle.wild_slot.specs.declared.slot.SlotWord.{SlotWord}
-use Rattle.wild_slot.specs.declared.slot.SlotWord.TheVariants.{Number, Address, InRelrGot, General, Plt}
+use Rattle.std.specs.List.{list_any}
+use Rattle.std.proofs.lemmas.List.Sorted.{IsPermutation-append_left}
 use Rattle.wild_needs.specs.declared.slot_shares.RelrGot.{RelrGot}
-use Rattle.wild_types.specs.declared.file.File.{File}
-use Rattle.wild_types.specs.declared.file.Group.{Group}
-use Rattle.wild_types.specs.declared.layout.Layout.{Layout}
-use Rattle.wild_types.specs.Lookups.{place_of, packs, may_have_relative}
-use Rattle.wild_needs.specs.Entries.{is_relative, relr_place, relr_places}
-use Rattle.wild_slot.specs.SlotParts.{is_packed, relr_slot_place}
-use Rattle.wild_needs.specs.SlotShares.{relr_got_place, block_of, group_relr_got}
+use Rattle.wild_types.specs.Lookups.{may_have_relative}
 use Rattle.wild_relr.specs.RunWords.{Piece, Places, packed, words_of, words_of_piece, places_of_pieces, places_of_piece, slots, IsEven, RelrSlotIsARun, after_relr_slot, after_run, nothing}
 use Rattle.wild_relr.specs.RunWords as relr
 use Rattle.wild_relr.specs.Encoding.{State}
-use Rattle.wild_layout.specs.RelativeRelocations.{file_words}
-use Rattle.wild_layout.specs.SlotBytes.{flat_places_of}
-use Rattle.wild_loader.specs.Places.{places}
-use Rattle.wild_loader.specs.declared.memory.Run.{Run}
-use Rattle.wild_loader.specs.SegmentLaws.{DoesNotOverlap}
-use Rattle.wild_loader.specs.EntryLaws.{OrderDoesNotMatter}
 use Rattle.wild_loader.proofs.OverlaidBytes.{elsewhere}
 use Rattle.wild_table_formats.specs.EntryLaws.{PlacesAreLoaded}
 use Rattle.wild_slots.specs.Blocks.{IsWhole}
-use Rattle.wild_loaded.specs.Tables.{packed_words_of_file, group_words, tables_of}
 use Rattle.wild_loaded.proofs.SlotSites.{of_site, file_sites, flat_by_sites, block_by_sites, all_by_sites, groups_by_sites, all_sites}
 use Rattle.wild_loaded.proofs.PairLemmas.{All-unmap}
 use Rattle.wild_loaded.proofs.Permuted.{flat_map-parts, nested-parts}

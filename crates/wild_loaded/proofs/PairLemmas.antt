@@ -1,10 +1,6 @@
 -- Lists of which each two items are related, joined end to end.
-use Rattle.std.proofs.Common.{◌≡◌, ℕ, ◌+◌, ◌⊎◌, inl, inr, List, [], ◌∷◌, ◌++◌, get_or, map, sym, subst}
-use Rattle.std.specs.Prelude.{All, AllPairs}
-use Rattle.std.specs.List.{flat_map}
-use Rattle.std.proofs.lemmas.List.Elements.{All-nil, All-cons, All-head, All-tail, All-append}
-use Rattle.wild_words.proofs.ListLemmas.{AllPairs-nil, All-append-left, All-append-right, AllPairs-left, AllPairs-right, AllPairs-cross, AllPairs-append}
-use Rattle.wild_layout.specs.Faults.{flat_map_from}
+use Rattle.wild_loaded.proofs.Common.{◌≡◌, ℕ, ◌+◌, ◌⊎◌, inl, inr, List, [], ◌∷◌, ◌++◌, get_or, map, sym, subst, All, AllPairs, flat_map, All-nil, All-cons, All-head, All-tail, All-append, AllPairs-nil, All-append-left, All-append-right, AllPairs-append, flat_map_from}
+use Rattle.wild_words.proofs.ListLemmas.{AllPairs-left, AllPairs-right, AllPairs-cross}
 
 -- ---- lists of lists
 

@@ -1,15 +1,6 @@
 -- Where the pair of the output's own thread-local data stands.
-use Rattle.std.proofs.Common.{◌≡◌, ℕ, ◌+◌, ◌^◌, ◌<◌, ◌≤◌, List, length, refl, ap, arith, subst}
-use Rattle.std.specs.Prelude.{Option, Some, None}
-use Rattle.wild_types.specs.declared.part.Part.{Part}
+use Rattle.wild_loaded.proofs.Common.{◌≡◌, ℕ, ◌+◌, ◌^◌, ◌<◌, ◌≤◌, List, length, refl, ap, arith, subst, Option, Some, None, Part, Layout, part_with, address_of_part, start_of, IsLaidOut, end_of, PairIsPlaced, HasWholeSlots}
 use Rattle.wild_types.specs.declared.part.Role.TheVariants as role
-use Rattle.wild_types.specs.declared.layout.Layout.{Layout}
-use Rattle.wild_types.specs.Parts.{part_with}
-use Rattle.wild_plan_rules.specs.SlotPlaces.{address_of_part, start_of}
-use Rattle.wild_layout.specs.Geometry.{IsLaidOut}
-use Rattle.wild_slots.specs.Order.{end_of}
-use Rattle.wild_slots.specs.SlotPlaces.{PairIsPlaced}
-use Rattle.wild_loaded.specs.WholeSlots.{HasWholeSlots}
 use Rattle.wild_loaded.proofs.TablesFit.{PairIsLow}
 
 -- the table of slots ends below 2^64

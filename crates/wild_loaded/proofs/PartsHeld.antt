@@ -1,36 +1,8 @@
 -- The tables of slots and stubs in the memory of an image that no entry has changed.
-use Rattle.std.proofs.Common.{◌≡◌, ℕ, zero, suc, ◌+◌, ◌-◌, ◌^◌, ◌<◌, ◌≤◌, true, false, List, [], ◌∷◌, length, map, refl, sym, ap, ◌∙◌, arith, subst}
-use Rattle.std.specs.Prelude.{Option, Some, None, nat_le, ◌&&◌, slice_get, slice_index}
-use Rattle.std.proofs.lemmas.List.Elements.{All-contains}
-use Rattle.wild_records.specs.Abi.Segment.{pt_load}
-use Rattle.wild_words.specs.Words.{HasBytesAt}
+use Rattle.wild_loaded.proofs.Common.{◌≡◌, ℕ, zero, suc, ◌+◌, ◌-◌, ◌^◌, ◌<◌, ◌≤◌, true, false, List, [], ◌∷◌, length, map, refl, sym, ap, ◌∙◌, arith, subst, Option, Some, None, nat_le, ◌&&◌, slice_get, slice_index, All-contains, pt_load, HasBytesAt, Contains-map, Part, Role, Segment, InputSection, Layout, is_header_only_role, image_size, section_of_part, is_header_only_at, role_place, is_loaded_role, part_with, address_of_part, start_of, file_header, program_header, bytes, offset_in, SegmentLoads, CarriesByte, table_bytes, IsLaidOut, TablesStand, Memory, World, machine_of, Holds, byte_in, BytesAreLoaded, IsLoadable, IsLegal, not_partial, IsLocatedAt, image_memory, PartsAreStored}
 use Rattle.wild_words.proofs.OverlayLemmas.{HasBytesAt-inner}
-use Rattle.wild_words.proofs.Basics.{Contains-map}
-use Rattle.wild_types.specs.declared.part.Part.{Part}
-use Rattle.wild_types.specs.declared.part.Role.{Role}
 use Rattle.wild_types.specs.declared.part.Role.TheVariants as role
-use Rattle.wild_types.specs.declared.section.Segment.{Segment}
-use Rattle.wild_types.specs.declared.input.InputSection.{InputSection}
-use Rattle.wild_types.specs.declared.layout.Layout.{Layout}
-use Rattle.wild_types.specs.HeaderOnly.{is_header_only_role}
-use Rattle.wild_types.specs.Lookups.{image_size, section_of_part, is_header_only_at}
-use Rattle.wild_types.specs.Parts.{role_place, is_loaded_role, part_with}
-use Rattle.wild_plan_rules.specs.SlotPlaces.{address_of_part, start_of}
-use Rattle.wild_table_formats.specs.Headers.{file_header, program_header}
-use Rattle.wild_layout.specs.Image.{bytes, offset_in}
-use Rattle.wild_layout.specs.Loadable.{SegmentLoads, CarriesByte, IsCarried, IsPartCarried, IsPartMapped}
-use Rattle.wild_layout.specs.TablePlaces.{table_bytes}
-use Rattle.wild_layout.specs.Geometry.{IsLaidOut, TablesStand}
-use Rattle.wild_loader.specs.declared.memory.Memory.{Memory}
-use Rattle.wild_loader.specs.declared.world.World.{World}
-use Rattle.wild_loader.specs.Headers.{machine_of}
-use Rattle.wild_loader.specs.Memory.{Holds, byte_in}
-use Rattle.wild_loader.specs.SegmentLaws.{BytesAreLoaded}
-use Rattle.wild_meaning.specs.World.{IsLoadable, IsLegal}
-use Rattle.wild_meaning.proofs.OutputLemmas.{not_partial}
-use Rattle.wild_slots.specs.SlotPlaces.{IsLocatedAt}
-use Rattle.wild_loaded.specs.Memory.{image_memory}
-use Rattle.wild_loaded.specs.Laws.{PartsAreStored}
+use Rattle.wild_layout.specs.Loadable.{IsCarried, IsPartCarried, IsPartMapped}
 use Rattle.wild_loaded.proofs.Loads.{are_loadable, kind_is, header_from, header_to, header_distance}
 
 -- ---- bytes

@@ -1,8 +1,5 @@
 -- Lists that differ in their order: what is made of each item in parts, part by part.
-use Rattle.std.proofs.Common.{List, [], ◌∷◌, ◌++◌}
-use Rattle.std.specs.Prelude.{IsPermutation}
-use Rattle.std.specs.List.{flat_map}
-use Rattle.std.proofs.lemmas.List.Sorted.{IsPermutation-refl, IsPermutation-trans, IsPermutation-append, IsPermutation-append_right}
+use Rattle.wild_loaded.proofs.Common.{List, [], ◌∷◌, ◌++◌, IsPermutation, flat_map, IsPermutation-refl, IsPermutation-trans, IsPermutation-append, IsPermutation-append_right}
 use Rattle.wild_words.proofs.Basics.{middle_exchanged}
 
 pub flat_map-each : {X Y : Type 0} (f g : X → List Y) (xs : List X) → ((x : X) → IsPermutation (f x) (g x)) → IsPermutation (flat_map f xs) (flat_map g xs)

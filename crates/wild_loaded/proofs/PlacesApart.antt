@@ -1,20 +1,8 @@
 -- Places of eight bytes in kept sections lie beside each other in memory.
-use Rattle.wild_meaning.specs.World.{IsLoadable}
+use Rattle.wild_loaded.proofs.Common.{IsLoadable, all_sections, ◌≡◌, ℕ, ◌+◌, ◌<◌, ◌≤◌, ◌⊎◌, inl, inr, List, length, get_or, sym, ap, ◌∙◌, arith, subst, All, AllPairs, Contains, flat_map, cases_lt, get_or_default, not_empty, All-flat_map, AllPairs-flat_map, InputSection, Layout, KeepsAll, IsLaidOut, IsStored}
 use Rattle.wild_loaded.proofs.SectionsDisjoint.{AreAside, sections_aside}
-use Rattle.wild_geometry.proofs.PlacedInputs.{all_sections}
-use Rattle.std.proofs.Common.{◌≡◌, ℕ, ◌+◌, ◌<◌, ◌≤◌, ◌⊎◌, inl, inr, List, length, get_or, sym, ap, ◌∙◌, arith, subst}
-use Rattle.std.specs.Prelude.{All, AllPairs, Contains}
-use Rattle.std.specs.List.{flat_map}
-use Rattle.std.proofs.lemmas.Bool.{cases_lt}
-use Rattle.std.proofs.lemmas.List.{get_or_default}
-use Rattle.wild_words.proofs.Basics.{not_empty}
-use Rattle.wild_words.proofs.ListLemmas.{All-flat_map, at_places, AllPairs-flat_map}
-use Rattle.wild_types.specs.declared.input.InputSection.{InputSection}
-use Rattle.wild_types.specs.declared.layout.Layout.{Layout}
-use Rattle.wild_types.specs.HeaderOnly.{KeepsAll}
-use Rattle.wild_layout.specs.Geometry.{IsLaidOut}
+use Rattle.wild_words.proofs.ListLemmas.{at_places}
 use Rattle.wild_loaded.proofs.Fillings.{Filling, Misses, DoNotOverlap}
-use Rattle.wild_loaded.specs.Memory.{IsStored}
 use Rattle.wild_loaded.proofs.LoadedRanges.{LiesIn, fillings_disjoint, misses_across, disjoint_ranges_flip}
 use Rattle.wild_loaded.proofs.SectionsApart.{range_of_section, stored_section_is_carried}
 

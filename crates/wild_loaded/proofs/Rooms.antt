@@ -1,24 +1,14 @@
 -- Where what files own stands, whatever its bytes are: sections as the room that they take of the image.
-use Rattle.std.proofs.Common.{◌≡◌, ℕ, ◌+◌, Bool, true, false, if◌then◌else◌, List, [], ◌∷◌, ◌++◌, length, map, All, slice_get, flat_map, refl, sym, ap, ◌∙◌}
-use Rattle.std.proofs.lemmas.List.{map-append, append_assoc}
-use Rattle.std.proofs.lemmas.List.Concat.{flat_map-append}
-use Rattle.std.proofs.lemmas.List.Elements.{All-head, All-tail, All-weaker}
+use Rattle.wild_loaded.proofs.Common.{◌≡◌, ℕ, ◌+◌, Bool, true, false, if◌then◌else◌, List, [], ◌∷◌, ◌++◌, length, map, All, slice_get, refl, sym, ap, ◌∙◌, map-append, flat_map-append, All-head, All-tail, All-weaker, map-flat_map, All-append-left, All-append-right, All-flat_map, flat_map-flat_map, InputSection, File, Layout, is_epilogue, is_filled, placed_files, sorted_inputs, sorted_sections, of_last_file, processed_sections, SectionLies, offset_in, section_pieces, sorted_piece, thunk_pieces, of_first_file, merged_and_identity_pieces, file_pieces, owned_pieces, Piece, section_bytes, length-room, room_of, section_room}
+use Rattle.std.proofs.Common.{flat_map}
+use Rattle.std.proofs.lemmas.List.{append_assoc}
 use Rattle.wild_words.specs.declared.extents.Extent.{Extent}
-use Rattle.wild_words.proofs.Basics.{map-flat_map}
-use Rattle.wild_words.proofs.ListLemmas.{All-append-left, All-append-right, All-flat_map, flat_map-flat_map}
-use Rattle.wild_types.specs.declared.input.InputSection.{InputSection}
-use Rattle.wild_types.specs.declared.file.File.{File}
-use Rattle.wild_types.specs.declared.layout.Layout.{Layout}
-use Rattle.wild_types.specs.FileRoles.{is_epilogue}
-use Rattle.wild_types.specs.Lookups.{is_filled}
 use Rattle.wild_placement.specs.ReversedWords.{with_word_order}
-use Rattle.wild_placement.specs.PlacedSections.{Input, placed_files, sorted_inputs, sorted_sections, of_last_file, processed_sections}
-use Rattle.wild_layout.specs.SectionPlaces.{SectionLies}
+use Rattle.wild_placement.specs.PlacedSections.{Input}
 use Rattle.wild_layout.specs.Geometry.{EachSection}
-use Rattle.wild_layout.specs.Image.{offset_in, section_piece, section_pieces, sorted_piece, thunk_pieces, of_first_file, merged_and_identity_pieces, file_pieces, owned_pieces}
-use Rattle.wild_words.specs.Overlay.{Piece}
-use Rattle.wild_layout.specs.Sites.{section_bytes, extent_of}
-use Rattle.wild_geometry.proofs.Rooms.{length-room, same_items, room_of, section_room}
+use Rattle.wild_layout.specs.Image.{section_piece}
+use Rattle.wild_layout.specs.Sites.{extent_of}
+use Rattle.wild_geometry.proofs.Rooms.{same_items}
 
 -- ---- pieces at the same places
 

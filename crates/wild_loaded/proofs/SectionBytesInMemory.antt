@@ -1,46 +1,20 @@
 -- The bytes of kept sections in the memory of an image that no entry has changed.
 use Rattle.wild_geometry.proofs.ReadLemmas.{loaded_is, read_loaded, read_written}
-use Rattle.wild_meaning.proofs.OutputLemmas.{not_partial}
-use Rattle.std.specs.List.{flat_map}
-use Rattle.wild_loaded.specs.Laws.{PartsAreStored}
-use Rattle.wild_slots.specs.SlotPlaces.{IsLocatedAt}
-use Rattle.wild_placement.specs.PlacedSections.{placed_files, sorted_inputs, of_last_file}
+use Rattle.wild_loaded.proofs.Common.{not_partial, flat_map, PartsAreStored, IsLocatedAt, placed_files, sorted_inputs, of_last_file, each_at, listed_section, IsPlacedSection, IsKeptPlacedSection, file_place, ◌≡◌, ℕ, zero, suc, ◌+◌, ◌-◌, ◌^◌, ◌<◌, ◌≤◌, inl, inr, Bool, true, false, List, [], ◌∷◌, length, get_or, refl, sym, arith, subst, ◌++◌, Contains, Some, slice_get, slice_index, if◌then◌else◌, ◌==◌, ◌&&◌, not, cases_Bool, eqb-true, and_parts, not-true, Contains-append_left, Contains-append_right, HasBytesAt, Piece, AreDisjoint, length-overlay, Segment, InputSection, item_of, File, Layout, is_header_only_role, is_filled, is_header_only_part, is_loaded, is_read, is_frame, allocated, sites, section_bytes, bytes, pieces, section_pieces, thunk_pieces, file_pieces, table_pieces, owned_pieces, group_pieces, offset_in, sorted_piece, of_first_file, merged_and_identity_pieces, SectionLies, CarriesByte, IsLaidOut, flat_map_from, IsLegal, IsLoadable, World, Memory, Holds, byte_in, BytesAreLoaded, IsStored, image_memory, Filled, Framed, Contains-flat_map}
 use Rattle.wild_loaded.proofs.TableRanges.{range_of_role, role_there}
 use Rattle.wild_loaded.proofs.FramesInPart.{frames_stand, never_framed}
 use Rattle.wild_loaded.proofs.SectionsDisjoint.{frame_inside}
 use Rattle.wild_loaded.proofs.SectionsApart.{filled_place}
 use Rattle.wild_geometry.proofs.FrameSizes.{data_bytes}
-use Rattle.wild_geometry.proofs.PlacedInputs.{each_at, listed_section}
-use Rattle.wild_geometry.specs.PlacedSections.{IsSectionOfFile, Own, Ordered, IsPlacedSection, IsKeptPlacedSection, file_place}
-use Rattle.std.proofs.Common.{◌≡◌, ℕ, zero, suc, ◌+◌, ◌-◌, ◌^◌, ◌<◌, ◌≤◌, inl, inr, Bool, true, false, List, [], ◌∷◌, length, get_or, refl, sym, arith, subst, ◌++◌}
-use Rattle.std.specs.Prelude.{Contains, Some, slice_get, slice_index, if◌then◌else◌, ◌==◌, ◌&&◌, not}
-use Rattle.std.proofs.lemmas.Bool.{cases_Bool, eqb-true, and_parts, not-true}
-use Rattle.std.proofs.lemmas.List.Elements.{Contains-append_left, Contains-append_right}
-use Rattle.wild_words.specs.Words.{HasBytesAt}
-use Rattle.wild_words.specs.Overlay.{Piece, overlay, AreDisjoint}
-use Rattle.wild_words.proofs.OverlayLemmas.{length-overlay}
-use Rattle.wild_types.specs.declared.section.Segment.{Segment}
+use Rattle.wild_geometry.specs.PlacedSections.{IsSectionOfFile, Own, Ordered}
+use Rattle.wild_words.specs.Overlay.{overlay}
 use Rattle.wild_types.specs.declared.part.Role.TheVariants as role
 use Rattle.wild_types.specs.declared.input.Slot.TheVariants as slot
-use Rattle.wild_types.specs.declared.input.InputSection.{InputSection}
-use Rattle.wild_types.specs.Item.{item_of}
-use Rattle.wild_types.specs.declared.file.File.{File}
-use Rattle.wild_types.specs.declared.layout.Layout.{Layout}
-use Rattle.wild_types.specs.HeaderOnly.{is_header_only_role, is_omitted}
-use Rattle.wild_types.specs.Lookups.{has_range_bytes, is_filled, is_header_only_part, is_loaded, is_read, is_frame, has_relocations, allocated}
-use Rattle.wild_layout.specs.Sites.{sites, section_bytes, item_bytes}
-use Rattle.wild_layout.specs.Image.{bytes, pieces, section_piece, section_pieces, thunk_pieces, file_pieces, table_pieces, owned_pieces, group_pieces, offset_in, sorted_piece, of_first_file, merged_and_identity_pieces}
-use Rattle.wild_layout.specs.SectionPlaces.{SectionLies}
-use Rattle.wild_layout.specs.Loadable.{IsMapped, IsCarried, CarriesByte}
-use Rattle.wild_layout.specs.Geometry.{IsLaidOut}
-use Rattle.wild_layout.specs.Faults.{flat_map_from}
-use Rattle.wild_meaning.specs.World.{IsLegal, IsLoadable}
-use Rattle.wild_loader.specs.declared.world.World.{World}
-use Rattle.wild_loader.specs.declared.memory.Memory.{Memory}
-use Rattle.wild_loader.specs.Memory.{Holds, byte_in}
-use Rattle.wild_loader.specs.SegmentLaws.{BytesAreLoaded}
-use Rattle.wild_loaded.specs.Memory.{IsStored, image_memory, Filled, Framed}
-use Rattle.wild_layout.proofs.SiteLemmas.{Contains-flat_map}
+use Rattle.wild_types.specs.HeaderOnly.{is_omitted}
+use Rattle.wild_types.specs.Lookups.{has_range_bytes, has_relocations}
+use Rattle.wild_layout.specs.Sites.{item_bytes}
+use Rattle.wild_layout.specs.Image.{section_piece}
+use Rattle.wild_layout.specs.Loadable.{IsMapped, IsCarried}
 use Rattle.wild_loaded.proofs.PartsHeld.{byte_stands, byte_carried, byte_below, IsHeldAt, stands_held}
 use Rattle.wild_loaded.proofs.Loads.{piece_stands}
 

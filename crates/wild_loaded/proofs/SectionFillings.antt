@@ -1,43 +1,20 @@
 -- What relocations have tables fill: addresses that move with the base, and fields that are left to entries.
 use Rattle.wild_layout.specs.Merged.{address_for}
-use Rattle.std.proofs.Common.{◌≡◌, ℕ, inl, inr, Bool, true, false, not, List, [], ◌∷◌, map, refl, sym, ap, ◌∙◌}
-use Rattle.std.specs.Prelude.{Option, Some, None, Result, Ok, Err, option_to_list, option_map, if◌then◌else◌, ◌&&◌, ◌==◌, slice_get}
-use Rattle.std.specs.List.{flat_map, filter}
-use Rattle.std.proofs.lemmas.Bool.{cases_Bool}
+use Rattle.wild_loaded.proofs.Common.{◌≡◌, ℕ, inl, inr, Bool, true, false, not, List, [], ◌∷◌, map, refl, sym, ap, ◌∙◌, Option, Some, None, Result, Ok, Err, option_to_list, option_map, if◌then◌else◌, ◌&&◌, ◌==◌, slice_get, flat_map, cases_Bool, flat_map-same, flat_map-flat_map, Rela, Fault, InputRelocation, InputSection, Item, item_with, Layout, Treatment, place_of, packs, is_read, allocated, is_relative, relr_place, relr_places, has_flag, is_position_independent, type_of, flags_at, treatment, size_width, Absolute, Irelative, RelocationSize, ByteSize, Eight, Decision, RelativeAddress, DynamicField, decided_address, index_of, addend_bits, decided, entry_for, section_generals, relative_value, listed_entry, section_entries, IsMoved, decided_left, relative_entry}
+use Rattle.std.specs.List.{filter}
 use Rattle.wild_words.proofs.Basics.{flat_map-none}
-use Rattle.wild_words.proofs.ListLemmas.{flat_map-same, flat_map-flat_map}
-use Rattle.wild_records.specs.declared.relocations.Rela.{Rela}
-use Rattle.wild_types.specs.declared.fault.Fault.{Fault}
-use Rattle.wild_types.specs.declared.input.InputRelocation.{InputRelocation}
-use Rattle.wild_types.specs.declared.input.InputSection.{InputSection}
-use Rattle.wild_types.specs.Item.{Item, item_with}
-use Rattle.wild_types.specs.declared.layout.Layout.{Layout}
-use Rattle.wild_slot.specs.declared.treatment.Treatment.{Treatment}
 use Rattle.wild_slot.specs.declared.treatment.Treatment.TheVariants as treatments
-use Rattle.wild_types.specs.Lookups.{place_of, packs, is_read, allocated}
-use Rattle.wild_needs.specs.Entries.{is_base_relative, is_relative, relr_place, relative_items, relr_places, has_dynamic_entry, dynamic_relocations}
-use Rattle.wild_types.specs.Flags.{has_flag, absolute}
-use Rattle.wild_types.specs.Kinds.{is_position_independent}
-use Rattle.wild_slot.specs.SlotParts.{type_of}
-use Rattle.wild_slot.specs.Treatment.{flags_at, treatment}
+use Rattle.wild_needs.specs.Entries.{is_base_relative, relative_items, has_dynamic_entry, dynamic_relocations}
+use Rattle.wild_types.specs.Flags.{absolute}
 use Rattle.wild_types.specs.Rows.{row_of}
-use Rattle.wild_reloc.specs.Field.{field_width, size_width}
-use Rattle.wild_reloc.specs.declared.dynamic.DynamicRelocationKind.TheVariants.{Absolute, Irelative}
-use Rattle.wild_reloc.specs.declared.info.RelocationSize.{RelocationSize}
-use Rattle.wild_reloc.specs.declared.info.RelocationSize.TheVariants.{ByteSize}
-use Rattle.wild_reloc.specs.declared.info.Width.TheVariants.{Eight}
-use Rattle.wild_layout.specs.declared.decision.Decision.{Decision}
-use Rattle.wild_layout.specs.declared.decision.Decision.TheVariants.{RelativeAddress, DynamicField}
+use Rattle.wild_reloc.specs.Field.{field_width}
 use Rattle.wild_layout.specs.SymbolValues.{sum}
-use Rattle.wild_layout.specs.SlotValues.{decided_address, index_of}
-use Rattle.wild_layout.specs.Decide.{addend_bits, relative_decision, dynamic_decision, ifunc_decision, decide_by, decided, decide}
-use Rattle.wild_layout.specs.DynamicRelocations.{entry_for, dynamic_relocation_by, dynamic_relocation, section_generals}
-use Rattle.wild_layout.specs.RelativeRelocations.{relative_value, listed_entry, section_entries}
+use Rattle.wild_layout.specs.Decide.{relative_decision, dynamic_decision, ifunc_decision, decide_by, decide}
+use Rattle.wild_layout.specs.DynamicRelocations.{dynamic_relocation_by, dynamic_relocation}
 use Rattle.wild_layout.specs.Sites.{Written, written_by}
 use Rattle.wild_slot.proofs.TreatmentLemmas.{known_moved}
-use Rattle.wild_layout.proofs.DecideLemmas.{HasField, IsMoved, sized_left, decided_moved, decided_left, moved_has}
+use Rattle.wild_layout.proofs.DecideLemmas.{HasField, sized_left, decided_moved, moved_has}
 use Rattle.wild_layout.proofs.DecisionLemmas.{decide_base_relative, decide_symbolic, decide_indirect, decide_extent}
-use Rattle.wild_table_formats.specs.GroupTables.{relative_entry}
 use Rattle.wild_loaded.proofs.Fillings.{Filling, packed_at, relative_of, general_of, packed_in, relative_in, general_in, jump_in}
 
 -- ---- fillings

@@ -1,42 +1,18 @@
 -- The entries of an image without a dynamic section, by the sections that have them.
-use Rattle.wild_types.specs.HeaderOnly.{KeepsAll}
-use Rattle.wild_types.proofs.LookupLemmas.{not_hollow, not_hollow_at}
+use Rattle.wild_loaded.proofs.Common.{KeepsAll, not_hollow_at, ◌≡◌, ℕ, zero, suc, ◌+◌, ◌*◌, ◌/◌, ◌%◌, ◌<◌, ◌≤◌, ◌⊎◌, inl, inr, Bool, true, false, not, List, [], ◌∷◌, ◌++◌, length, get_or, All, refl, sym, ap, ◌∙◌, arith, subst, Option, Some, None, Contains, IsPermutation, ◌&&◌, ◌==◌, if◌then◌else◌, slice_get, flat_map, cases_Bool, cases_lt, eqb-true, eqb-false, append-nil, length-append, All-nil, All-append, All-contains, IsPermutation-refl, IsPermutation-trans, IsPermutation-append, IsPermutation-append_comm, slice_get-get_or, flat_map-append, HasBytesAt, sht_nobits, shf_alloc, RelaFits, Rela, SectionHeader, Part, Role, Section, Layout, allocated, is_header_only, is_header_only_at, has_data, takes_file_bytes, role_place, has_role, part_with, is_fixed_static, not_raw, null_header, info_at, section_header, headers_from, section_headers_of, computed_infos, bytes, table_bytes, IsLaidOut, TablesStand, rela_bytes, section_relas, length-section_headers_of, alloc_bit}
+use Rattle.wild_types.proofs.LookupLemmas.{not_hollow}
 use Rattle.wild_loaded.proofs.KindLemmas.{fixed_whole}
-use Rattle.std.proofs.Common.{◌≡◌, ℕ, zero, suc, ◌+◌, ◌*◌, ◌/◌, ◌%◌, ◌<◌, ◌≤◌, ◌⊎◌, inl, inr, Bool, true, false, not, List, [], ◌∷◌, ◌++◌, length, get_or, All, refl, sym, ap, ◌∙◌, arith, subst}
-use Rattle.std.specs.Prelude.{Option, Some, None, Contains, IsPermutation, ◌&&◌, ◌==◌, if◌then◌else◌, slice_get}
-use Rattle.std.specs.List.{flat_map, filter}
-use Rattle.std.proofs.lemmas.Bool.{cases_Bool, cases_lt, eqb-true, eqb-false}
-use Rattle.std.proofs.lemmas.List.{append-nil, length-append}
-use Rattle.std.proofs.lemmas.List.Elements.{All-nil, All-append, All-contains}
-use Rattle.std.proofs.lemmas.List.Sorted.{IsPermutation-refl, IsPermutation-trans, IsPermutation-append, IsPermutation-append_comm}
-use Rattle.std.proofs.lemmas.Option.{slice_get-get_or}
-use Rattle.std.proofs.lemmas.List.Concat.{flat_map-append}
-use Rattle.wild_words.specs.Words.{HasBytesAt}
+use Rattle.std.specs.List.{filter}
 use Rattle.wild_words.proofs.Basics.{middle_exchanged}
-use Rattle.wild_records.specs.Abi.Section.{sht_rela, sht_nobits, shf_alloc}
-use Rattle.wild_records.specs.Relocations.{rela_size, rela_at, RelaFits}
-use Rattle.wild_records.specs.declared.relocations.Rela.{Rela}
-use Rattle.wild_records.specs.declared.section_header.SectionHeader.{SectionHeader}
-use Rattle.wild_types.specs.declared.part.Part.{Part}
-use Rattle.wild_types.specs.declared.part.Role.{Role}
+use Rattle.wild_records.specs.Abi.Section.{sht_rela}
+use Rattle.wild_records.specs.Relocations.{rela_size, rela_at}
 use Rattle.wild_types.specs.declared.part.Role.TheVariants as role
-use Rattle.wild_types.specs.declared.section.Section.{Section}
-use Rattle.wild_types.specs.declared.layout.Layout.{Layout}
-use Rattle.wild_types.specs.Lookups.{allocated, is_header_only, is_header_only_at, has_data, takes_file_bytes}
-use Rattle.wild_types.specs.Parts.{role_place, has_role, part_with, is_entry_role, bytes_in}
-use Rattle.wild_types.specs.Kinds.{is_fixed_static}
-use Rattle.wild_types.proofs.PartLemmas.{not_raw}
-use Rattle.wild_table_formats.specs.Headers.{null_header, info_at, section_header, headers_from, section_headers_of, computed_infos}
-use Rattle.wild_layout.specs.Image.{bytes}
+use Rattle.wild_types.specs.Parts.{is_entry_role, bytes_in}
 use Rattle.wild_layout.specs.SectionPlaces.{RangesApart}
-use Rattle.wild_layout.specs.TablePlaces.{table_bytes}
-use Rattle.wild_layout.specs.Geometry.{IsLaidOut, TablesStand}
 use Rattle.wild_table_formats.specs.EntryLaws.{EntriesAreRead, LengthsOfEntries}
 use Rattle.wild_loader.specs.Tables.{has_entries, relas_at}
-use Rattle.wild_loader.specs.SegmentLaws.{rela_bytes}
-use Rattle.wild_loader.specs.Laws.{HoldsEntries, HasSectionTables, section_relas}
-use Rattle.wild_table_formats.proofs.HeaderLengths.{length-section_headers_of}
-use Rattle.wild_meaning.proofs.BitLemmas.{alloc_bit, bit_alloc}
+use Rattle.wild_loader.specs.Laws.{HoldsEntries, HasSectionTables}
+use Rattle.wild_meaning.proofs.BitLemmas.{bit_alloc}
 use Rattle.wild_loaded.proofs.HeadersFit.{uncompressed_flags-alloc}
 use Rattle.wild_loaded.proofs.TableBytes.{stands_joined}
 

@@ -1,32 +1,14 @@
 -- No two kept sections share a byte of the file.
-use Rattle.std.proofs.Common.{◌≡◌, inl, inr, Bool, true, false, List, [], ◌∷◌, length, refl, sym, ap, ◌∙◌, arith, subst}
-use Rattle.std.specs.Prelude.{All, AllPairs, Contains, slice_get, if◌then◌else◌, not}
-use Rattle.std.specs.List.{flat_map}
-use Rattle.std.proofs.lemmas.Bool.{and_parts}
-use Rattle.std.proofs.lemmas.List.Elements.{All-weaker}
-use Rattle.wild_words.specs.Overlay.{Piece, Disjoint}
-use Rattle.wild_words.proofs.ListLemmas.{Between, AllPairs-from_flat_map, flat_map-flat_map}
+use Rattle.wild_loaded.proofs.Common.{◌≡◌, inl, inr, Bool, true, false, List, [], ◌∷◌, length, refl, sym, ap, ◌∙◌, arith, subst, All, AllPairs, Contains, slice_get, if◌then◌else◌, not, flat_map, and_parts, All-weaker, Piece, Disjoint, Between, flat_map-flat_map, Slot, InputSection, File, Group, Layout, is_filled, is_frame, is_header_only_part, part_with, placed_files, processed_sections, pieces, thunk_pieces, of_first_file, merged_and_identity_pieces, table_pieces, owned_pieces, offset_in, SectionLies, IsLaidOut, file_place, IsStored, Contains-flat_map, all_sections, by_files, input_of, room_of, length-room, section_room}
+use Rattle.wild_words.proofs.ListLemmas.{AllPairs-from_flat_map}
 use Rattle.wild_words.proofs.OrderLemmas.{Disjoint-flip}
 use Rattle.wild_types.specs.declared.part.Role.TheVariants as role
-use Rattle.wild_types.specs.declared.input.Slot.{Slot}
 use Rattle.wild_types.specs.declared.input.Slot.TheVariants as slot
-use Rattle.wild_types.specs.declared.input.InputSection.{InputSection}
-use Rattle.wild_types.specs.declared.file.File.{File}
-use Rattle.wild_types.specs.declared.file.Group.{Group}
-use Rattle.wild_types.specs.declared.layout.Layout.{Layout}
-use Rattle.wild_types.specs.Lookups.{has_range_bytes, is_filled, is_frame, is_header_only_part, has_bytes, has_range}
-use Rattle.wild_types.specs.Parts.{part_with}
-use Rattle.wild_placement.specs.PlacedSections.{placed_files, processed_sections}
-use Rattle.wild_layout.specs.Image.{pieces, thunk_pieces, of_first_file, merged_and_identity_pieces, table_pieces, owned_pieces, offset_in}
-use Rattle.wild_layout.specs.SectionPlaces.{SectionLies}
-use Rattle.wild_layout.specs.Geometry.{IsLaidOut}
-use Rattle.wild_geometry.specs.PlacedSections.{file_place}
-use Rattle.wild_loaded.specs.Memory.{IsStored}
+use Rattle.wild_types.specs.Lookups.{has_range_bytes, has_bytes, has_range}
 use Rattle.wild_loaded.proofs.LoadedRanges.{LoadedRange, IsCarriedRange, AreDisjointRanges}
 use Rattle.wild_loaded.proofs.PairLemmas.{AllPairs-after, AllPairs-first, AllPairs-across, All-second}
-use Rattle.wild_layout.proofs.SiteLemmas.{Contains-flat_map}
-use Rattle.wild_geometry.proofs.PlacedInputs.{all_sections, by_files, input_of, in_processed}
-use Rattle.wild_geometry.proofs.Rooms.{room_of, length-room, section_room, apart_at}
+use Rattle.wild_geometry.proofs.PlacedInputs.{in_processed}
+use Rattle.wild_geometry.proofs.Rooms.{apart_at}
 use Rattle.wild_loaded.proofs.Rooms.{HasSize, lies_size, rooms_in, file_rooms, once_and_thunks, stood_files, rooms_stand}
 
 -- ---- rooms

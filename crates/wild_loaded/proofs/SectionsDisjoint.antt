@@ -1,30 +1,9 @@
 -- Kept sections share no byte of the file, frames included, and none with a table.
 use Rattle.wild_placement.specs.PlacedSections.{part_address}
-use Rattle.std.proofs.lemmas.List.{get_or_default}
-use Rattle.std.proofs.lemmas.List.Elements.{All-contains}
-use Rattle.std.proofs.Common.{◌≡◌, ◌+◌, ◌-◌, ◌≤◌, inl, inr, true, length, get_or, refl, ap, ◌∙◌, arith}
-use Rattle.std.specs.Prelude.{AllPairs, Contains, Option, Some, None, slice_get, if◌then◌else◌, Bool}
-use Rattle.wild_words.specs.Overlay.{Disjoint}
-use Rattle.wild_words.proofs.ListLemmas.{Between}
-use Rattle.wild_types.specs.declared.part.Part.{Part}
-use Rattle.wild_types.specs.declared.part.Role.{Role}
+use Rattle.wild_loaded.proofs.Common.{get_or_default, All-contains, ◌≡◌, ◌+◌, ◌-◌, ◌≤◌, inl, inr, true, length, get_or, refl, ap, ◌∙◌, arith, AllPairs, Contains, Option, Some, None, slice_get, if◌then◌else◌, Bool, Disjoint, Between, Part, Role, InputSection, Layout, KeepsAll, is_frame, part_with, is_loaded_role, role_place, start_of, address_of_part, offset_in, SectionLies, IsLaidOut, table_bytes, file_place, IsStored, HasPlace, Filled, Framed, all_sections, each_at, input_of, section_room}
 use Rattle.wild_types.specs.declared.part.Role.TheVariants as role
-use Rattle.wild_types.specs.declared.input.InputSection.{InputSection}
-use Rattle.wild_types.specs.declared.layout.Layout.{Layout}
-use Rattle.wild_types.specs.HeaderOnly.{KeepsAll}
-use Rattle.wild_types.specs.Lookups.{is_frame}
-use Rattle.wild_types.specs.Parts.{part_with, is_loaded_role, role_place}
-use Rattle.wild_plan_rules.specs.SlotPlaces.{start_of, address_of_part}
-use Rattle.wild_layout.specs.Image.{offset_in}
-use Rattle.wild_layout.specs.SectionPlaces.{SectionLies}
-use Rattle.wild_layout.specs.Geometry.{IsLaidOut}
-use Rattle.wild_layout.specs.TablePlaces.{table_bytes}
-use Rattle.wild_geometry.specs.PlacedSections.{file_place}
-use Rattle.wild_loaded.specs.Memory.{IsStored, HasPlace, Filled, Framed}
 use Rattle.wild_loaded.proofs.PartsHeld.{placed}
 use Rattle.wild_loaded.proofs.LoadedRanges.{LoadedRange, AreDisjointRanges, disjoint_ranges_flip}
-use Rattle.wild_geometry.proofs.PlacedInputs.{all_sections, each_at, input_of}
-use Rattle.wild_geometry.proofs.Rooms.{section_room}
 use Rattle.wild_loaded.proofs.SectionsApart.{range_of_section, section_rooms_apart, filled_apart}
 use Rattle.wild_loaded.proofs.FramesInPart.{FramesBeside, FrameWithin, frames_lie, frames_beside, part_base}
 use Rattle.wild_loaded.proofs.TableRanges.{range_of_role, range_of_part, any_roles_apart, filled_apart_from, table_ends}

@@ -1,56 +1,18 @@
 -- The bytes that tables fill in kept sections, before any entry is applied.
-use Rattle.wild_geometry.proofs.PlacedInputs.{all_sections, input_of}
-use Rattle.std.proofs.Common.{◌≡◌, ℕ, ◌+◌, ◌%◌, ◌^◌, ◌<◌, ◌≤◌, Bool, true, false, length, replicate, refl, sym, ap, ◌∙◌, arith, subst, List}
-use Rattle.std.specs.Prelude.{Some, Ok, All}
-use Rattle.std.proofs.lemmas.List.{length-replicate}
-use Rattle.wild_words.specs.Words.{word}
-use Rattle.wild_words.proofs.WordLemmas.{length-word}
-use Rattle.wild_words.proofs.Basics.{All-each}
-use Rattle.wild_words.proofs.ListLemmas.{All-flat_map}
-use Rattle.wild_records.specs.declared.relocations.Rela.{Rela}
-use Rattle.wild_reloc.specs.Field.{size_width}
-use Rattle.wild_reloc.specs.declared.info.RelocationSize.{RelocationSize}
-use Rattle.wild_types.specs.declared.input.InputRelocation.{InputRelocation}
-use Rattle.wild_types.specs.declared.input.InputSection.{InputSection}
-use Rattle.wild_types.specs.Item.{item_with, block_for}
-use Rattle.wild_types.specs.declared.layout.Layout.{Layout}
-use Rattle.wild_types.specs.HeaderOnly.{KeepsAll}
-use Rattle.wild_types.specs.Lookups.{place_of}
-use Rattle.wild_layout.specs.declared.decision.Decision.{Decision}
-use Rattle.wild_layout.specs.declared.decision.Decision.TheVariants.{Nothing, Field, RelativeAddress, DynamicField, Rewritten, Partner}
-use Rattle.wild_layout.specs.Numbers.{NumbersFit}
-use Rattle.wild_layout.specs.Geometry.{IsLaidOut}
-use Rattle.wild_layout.specs.Decide.{decided}
-use Rattle.wild_layout.specs.DynamicRelocations.{entry_for}
-use Rattle.wild_layout.specs.RelativeRelocations.{relative_value}
-use Rattle.wild_layout.proofs.DecideLemmas.{IsMoved}
-use Rattle.wild_meaning.specs.World.{IsLegal, IsLoadable}
-use Rattle.wild_table_formats.specs.GroupTables.{relative_entry}
-use Rattle.wild_geometry.proofs.MachineLemmas.{facts_of}
-use Rattle.wild_meaning.specs.LinkedImage.{processor_of}
+use Rattle.wild_loaded.proofs.Common.{all_sections, input_of, ◌≡◌, ℕ, ◌+◌, ◌%◌, ◌^◌, ◌<◌, ◌≤◌, Bool, true, false, length, replicate, refl, sym, ap, ◌∙◌, arith, subst, List, Some, Ok, All, length-replicate, word, length-word, All-each, All-flat_map, Rela, size_width, RelocationSize, InputRelocation, InputSection, item_with, block_for, Layout, KeepsAll, place_of, Decision, Field, RelativeAddress, DynamicField, NumbersFit, IsLaidOut, decided, entry_for, relative_value, IsMoved, IsLegal, IsLoadable, relative_entry, facts_of, processor_of, Change, DynamicKind, World, kind_of, change_of, size_of, Holds, loaded_at, HasDecision, entry_with, HasItem, image_memory, EachDecided, SectionsAreStored, EntriesHaveChanges, of_z-to_z, w64, Relative}
+use Rattle.wild_layout.specs.declared.decision.Decision.TheVariants.{Nothing, Rewritten, Partner}
 use Rattle.wild_loaded.proofs.Loads.{image_machine}
-use Rattle.wild_loader.specs.declared.change.Change.{Change}
 use Rattle.wild_loader.specs.declared.change.Change.TheVariants as changes
-use Rattle.wild_loader.specs.declared.kind.DynamicKind.{DynamicKind}
 use Rattle.wild_loader.specs.declared.kind.DynamicKind.TheVariants as kinds
-use Rattle.wild_loader.specs.declared.world.World.{World}
-use Rattle.wild_loader.specs.Changes.{kind_of, change_of, size_of}
-use Rattle.wild_loader.specs.Memory.{Holds}
-use Rattle.wild_loader.specs.Relocate.{loaded_at}
 use Rattle.wild_loader.specs.FilledLaws.{RelativesStoreWords}
-use Rattle.wild_geometry.specs.Loaded.{IsDecided, HasDecision, number_at, entry_with, MakesChange, stored_bytes, HasItem, InFile}
-use Rattle.wild_loaded.specs.Memory.{image_memory, EachDecided}
+use Rattle.wild_geometry.specs.Loaded.{IsDecided, number_at, MakesChange, stored_bytes, InFile}
 use Rattle.wild_loaded.specs.StoredTables.{FillsField}
-use Rattle.wild_loaded.specs.Laws.{SectionsAreStored, EntriesHaveChanges}
 use Rattle.wild_loaded.proofs.Fillings.{Filling, general_of, HasChange, HasWord, IsKnown, place_loaded}
 use Rattle.wild_loaded.proofs.PlacesApart.{all_places}
 use Rattle.wild_loaded.proofs.SectionFillings.{moved_filling, section_fillings, Fills}
 use Rattle.wild_loaded.proofs.KeptSections.{IsKeptWell}
 use Rattle.wild_loaded.proofs.FilledSections.{IsFilledThere, width_some, filling_known, filled_there, place_sum}
 use Rattle.wild_loader.specs.declared.memory.Machine.{Machine as Processor}
-use Rattle.std.proofs.lemmas.Int.{of_z-to_z}
-use Rattle.std.specs.Int.{w64}
-use Rattle.wild_reloc.specs.declared.dynamic.DynamicRelocationKind.TheVariants.{Relative}
 
 -- ---- the changes of entries
 

@@ -1,50 +1,19 @@
 -- A kept section after a loader applied the tables of an image.
-use Rattle.wild_geometry.proofs.PlacedInputs.{all_sections, listed_section}
-use Rattle.std.proofs.Common.{◌≡◌, ℕ, ◌+◌, ◌%◌, ◌^◌, ◌<◌, ◌≤◌, ◌⊎◌, inl, inr, Bool, true, false, List, [], ◌∷◌, ◌++◌, length, get_or, refl, sym, ap, ◌∙◌, arith, subst}
-use Rattle.std.specs.Prelude.{Option, Some, Ok, Result, All, Contains, option_to_list, if◌then◌else◌, slice_index}
-use Rattle.std.specs.List.{flat_map, range_with_len}
-use Rattle.std.proofs.lemmas.Bool.{cases_lt}
-use Rattle.std.proofs.lemmas.List.Elements.{All-contains, Contains-append_left}
+use Rattle.wild_loaded.proofs.Common.{all_sections, listed_section, ◌≡◌, ℕ, ◌+◌, ◌%◌, ◌^◌, ◌<◌, ◌≤◌, ◌⊎◌, inl, inr, Bool, true, false, List, [], ◌∷◌, ◌++◌, length, get_or, refl, sym, ap, ◌∙◌, arith, subst, Option, Some, Ok, Result, All, Contains, option_to_list, if◌then◌else◌, slice_index, flat_map, range_with_len, cases_lt, All-contains, Contains-append_left, slice_get_within, word, Piece, Disjoint, listed_at, All-each, Fault, InputRelocation, InputSection, item_with, File, Layout, place_of, size_width, RelocationSize, ByteSize, Eight, Decision, Field, RelativeAddress, DynamicField, entry_for, value_or_0, relative_value, field_site, site, sites, FieldLies, IsMoved, decided_left, Contains-flat_map, site_written, relative_entry, Change, Memory, World, Holds, byte_in, loaded_at, HasDecision, HasItem, image_memory, processor_of}
 use Rattle.std.proofs.lemmas.List.FromFn.{get_or-range_with_len, length-range_with_len}
-use Rattle.std.proofs.lemmas.Option.{slice_get_within}
-use Rattle.wild_words.specs.Words.{word}
-use Rattle.wild_words.specs.Overlay.{Piece, Disjoint}
-use Rattle.wild_words.proofs.Basics.{listed_at, All-each}
 use Rattle.wild_words.proofs.ListLemmas.{All-from_flat_map}
 use Rattle.wild_words.proofs.OrderLemmas.{Outside}
-use Rattle.wild_types.specs.declared.fault.Fault.{Fault}
-use Rattle.wild_types.specs.declared.input.InputRelocation.{InputRelocation}
-use Rattle.wild_types.specs.declared.input.InputSection.{InputSection}
-use Rattle.wild_types.specs.Item.{item_with}
-use Rattle.wild_types.specs.declared.file.File.{File}
-use Rattle.wild_types.specs.declared.layout.Layout.{Layout}
-use Rattle.wild_types.specs.Lookups.{place_of}
-use Rattle.wild_reloc.specs.Field.{size_width}
-use Rattle.wild_reloc.specs.declared.info.RelocationSize.{RelocationSize}
-use Rattle.wild_reloc.specs.declared.info.RelocationSize.TheVariants.{ByteSize}
-use Rattle.wild_reloc.specs.declared.info.Width.TheVariants.{Eight}
-use Rattle.wild_layout.specs.declared.decision.Decision.{Decision}
-use Rattle.wild_layout.specs.declared.decision.Decision.TheVariants.{Nothing, Field, RelativeAddress, DynamicField, Rewritten, Partner}
+use Rattle.wild_layout.specs.declared.decision.Decision.TheVariants.{Nothing, Rewritten, Partner}
 use Rattle.wild_relax.specs.declared.row.Row.{Row}
 use Rattle.wild_layout.specs.SymbolValues.{sum}
 use Rattle.wild_layout.specs.Decide.{decide}
-use Rattle.wild_layout.specs.DynamicRelocations.{entry_for}
-use Rattle.wild_layout.specs.RelativeRelocations.{value_or_0, relative_value}
-use Rattle.wild_layout.specs.Sites.{field_site, template_site, site, sites}
-use Rattle.wild_layout.specs.SectionPlaces.{FieldLies}
-use Rattle.wild_layout.proofs.DecideLemmas.{HasField, IsMoved, moved_has, decided_moved, decided_left, field_has_bytes}
+use Rattle.wild_layout.specs.Sites.{template_site}
+use Rattle.wild_layout.proofs.DecideLemmas.{HasField, moved_has, decided_moved, field_has_bytes}
 use Rattle.wild_layout.proofs.DecisionLemmas.{decide_moved, decide_left, IsOfRow}
-use Rattle.wild_layout.proofs.SiteLemmas.{Contains-flat_map, site_written, site_rewritten, field_lies}
-use Rattle.wild_table_formats.specs.GroupTables.{relative_entry}
-use Rattle.wild_loader.specs.declared.change.Change.{Change}
+use Rattle.wild_layout.proofs.SiteLemmas.{site_rewritten, field_lies}
 use Rattle.wild_loader.specs.declared.change.Change.TheVariants as changes
-use Rattle.wild_loader.specs.declared.memory.Memory.{Memory}
-use Rattle.wild_loader.specs.declared.world.World.{World}
 use Rattle.wild_loader.specs.Changes.{bytes_after}
-use Rattle.wild_loader.specs.Memory.{Holds, byte_in}
-use Rattle.wild_loader.specs.Relocate.{loaded_at}
-use Rattle.wild_geometry.specs.Loaded.{InNoSite, InMemory, HasDecision, ReadsFilledField, stored_bytes, HasItem}
-use Rattle.wild_loaded.specs.Memory.{image_memory}
+use Rattle.wild_geometry.specs.Loaded.{InNoSite, InMemory, ReadsFilledField, stored_bytes}
 use Rattle.wild_loaded.proofs.Fillings.{Filling, Misses, IsKnown, packed_at, relative_of, general_of, place_loaded}
 use Rattle.wild_loaded.proofs.KeptSections.{IsKeptWell}
 use Rattle.wild_loaded.proofs.SectionFillings.{section_filling, section_fillings, Fills, moved_given, left_given}
@@ -54,7 +23,6 @@ use Rattle.wild_loaded.proofs.TableLists.{sections_filled, slots_filled, blocks_
 use Rattle.wild_loaded.proofs.CopyFillings.{copies_filled}
 use Rattle.wild_loaded.proofs.MadeChanges.{IsMovedImage, kept_at, packed_made, made_over}
 use Rattle.wild_loaded.proofs.OutsideTables.{section_misses}
-use Rattle.wild_meaning.specs.LinkedImage.{processor_of}
 
 -- ---- bytes that no entry touches
 

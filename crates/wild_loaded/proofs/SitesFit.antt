@@ -1,23 +1,11 @@
 -- The places of slots have 64 bits, and so have the words that pack a block of them.
-use Rattle.std.proofs.Common.{◌≡◌, ℕ, zero, suc, ◌-◌, ◌*◌, ◌^◌, ◌<◌, ◌≤◌, Bool, true, false, List, [], ◌∷◌, get_or, refl, arith}
-use Rattle.std.specs.Prelude.{Option, Some, None, All, min, unwrap_or, if◌then◌else◌, ◌==◌, ◌||◌}
-use Rattle.std.proofs.lemmas.List.Elements.{All-nil, All-cons, All-head, All-tail}
+use Rattle.wild_loaded.proofs.Common.{◌≡◌, ℕ, zero, suc, ◌-◌, ◌*◌, ◌^◌, ◌<◌, ◌≤◌, Bool, true, false, List, [], ◌∷◌, get_or, refl, arith, Option, Some, None, All, min, unwrap_or, if◌then◌else◌, ◌==◌, ◌||◌, All-nil, All-cons, All-head, All-tail, All-flat_map, File, Group, SlotWord, Resolution, Symbol, Layout, next, slots_address, own_symbols, slots_of, SymbolNumbers}
 use Rattle.std.proofs.Math.Nat.{pow-le-pow_right}
-use Rattle.wild_words.proofs.ListLemmas.{All-flat_map}
 use Rattle.wild_relr.specs.Laws.{IsWord}
 use Rattle.wild_relr.specs.RunWords.{bitmaps, bitmap_count, block}
-use Rattle.wild_types.specs.declared.file.File.{File}
-use Rattle.wild_types.specs.declared.file.Group.{Group}
-use Rattle.wild_slot.specs.declared.slot.SlotWord.{SlotWord}
-use Rattle.wild_types.specs.declared.symbol.Resolution.{Resolution}
-use Rattle.wild_types.specs.declared.symbol.Symbol.{Symbol}
-use Rattle.wild_types.specs.declared.layout.Layout.{Layout}
-use Rattle.wild_slot.specs.SlotParts.{next}
-use Rattle.wild_types.specs.SymbolSlots.{resolved_got, slots_address}
-use Rattle.wild_types.specs.FileSymbols.{own_symbols}
+use Rattle.wild_types.specs.SymbolSlots.{resolved_got}
 use Rattle.wild_types.proofs.FileLemmas.{All-own}
-use Rattle.wild_slot.specs.SymbolWords.{slots_of}
-use Rattle.wild_layout.specs.Numbers.{ResolutionNumbers, SymbolNumbers}
+use Rattle.wild_layout.specs.Numbers.{ResolutionNumbers}
 use Rattle.wild_loaded.proofs.SlotNumbers.{WordFits, words_fit}
 use Rattle.wild_loaded.proofs.SlotSites.{SlotSite, sites_at, symbol_sites, file_sites, group_sites}
 

@@ -1,31 +1,9 @@
 -- The words of slots after a loader applied the tables of an image.
-use Rattle.std.proofs.Common.{◌≡◌, ℕ, ◌+◌, ◌-◌, ◌%◌, ◌^◌, ◌<◌, ◌≤◌, ◌⊎◌, inl, inr, Bool, true, false, List, ◌++◌, length, get_or, refl, sym, ap, ◌∙◌, arith, subst}
-use Rattle.std.specs.Prelude.{Option, Some, All, Contains, option_to_list, if◌then◌else◌, Ok}
-use Rattle.std.proofs.lemmas.List.Elements.{All-contains, Contains-append_left, Contains-append_right}
-use Rattle.wild_words.specs.Words.{word}
-use Rattle.wild_words.proofs.WordLemmas.{length-word}
-use Rattle.wild_records.specs.declared.relocations.Rela.{Rela}
+use Rattle.wild_loaded.proofs.Common.{◌≡◌, ℕ, ◌+◌, ◌-◌, ◌%◌, ◌^◌, ◌<◌, ◌≤◌, ◌⊎◌, inl, inr, Bool, true, false, List, ◌++◌, length, get_or, refl, sym, ap, ◌∙◌, arith, subst, Option, Some, All, Contains, option_to_list, if◌then◌else◌, Ok, All-contains, Contains-append_left, Contains-append_right, word, length-word, Rela, SlotEntry, SlotWord, Number, Address, InRelrGot, General, Plt, Layout, is_packed, entry_at, address_entry, start_of, Contains-flat_map, Change, Memory, World, patch_over, change_of, Holds, byte_in, loaded_at, end_of, entry_in, IsLocatedAt, image_memory, IsWordStored, filled_width, FillsWords, FillsSlot, processor_of, entry_with}
 use Rattle.wild_types.specs.declared.part.Role.TheVariants as role
-use Rattle.wild_slot.specs.declared.slot.SlotEntry.{SlotEntry}
-use Rattle.wild_slot.specs.declared.slot.SlotWord.{SlotWord}
-use Rattle.wild_slot.specs.declared.slot.SlotWord.TheVariants.{Number, Address, InRelrGot, General, Plt}
-use Rattle.wild_types.specs.declared.layout.Layout.{Layout}
-use Rattle.wild_slot.specs.SlotParts.{is_packed, entry_at, address_entry}
-use Rattle.wild_plan_rules.specs.SlotPlaces.{start_of}
-use Rattle.wild_layout.proofs.SiteLemmas.{Contains-flat_map}
-use Rattle.wild_loader.specs.declared.change.Change.{Change}
 use Rattle.wild_loader.specs.declared.change.Change.TheVariants as changes
-use Rattle.wild_loader.specs.declared.memory.Memory.{Memory}
-use Rattle.wild_loader.specs.declared.world.World.{World}
-use Rattle.wild_loader.specs.Changes.{bytes_after, patch_over, first_value, change_of}
-use Rattle.wild_loader.specs.Memory.{Holds, byte_in}
-use Rattle.wild_loader.specs.Relocate.{loaded_at}
+use Rattle.wild_loader.specs.Changes.{bytes_after, first_value}
 use Rattle.wild_geometry.specs.Slots.{IsWordAfterChange, IsFilledBy, IsLoadedWord}
-use Rattle.wild_slots.specs.Order.{end_of}
-use Rattle.wild_slots.specs.Entries.{entry_in}
-use Rattle.wild_slots.specs.SlotPlaces.{IsLocatedAt}
-use Rattle.wild_loaded.specs.Memory.{image_memory}
-use Rattle.wild_loaded.specs.StoredTables.{IsWordStored, filled_width, FillsWords, FillsSlot}
 use Rattle.wild_loaded.proofs.SlotSites.{SlotSite, of_site, all_sites}
 use Rattle.wild_loaded.proofs.Fillings.{Table, GeneralTable, JumpTable, Filling, Misses, packed_at, relative_of, place_loaded}
 use Rattle.wild_loaded.proofs.SectionsKnown.{relative_makes}
@@ -40,10 +18,8 @@ use Rattle.wild_loaded.proofs.AllTables.{slots_of_well}
 use Rattle.wild_loaded.proofs.MadeChanges.{IsMovedImage, HasEntry, kept_at, packed_made, made_over}
 use Rattle.wild_loaded.proofs.OutsideTables.{got_misses}
 use Rattle.wild_loaded.proofs.NumbersKept.{IsClear, IsSecond, all_kept}
-use Rattle.wild_meaning.specs.LinkedImage.{processor_of}
 use Rattle.wild_loader.specs.declared.memory.Machine.{Machine as Processor}
 use Rattle.wild_geometry.specs.EntryKinds.{loaded_kind}
-use Rattle.wild_geometry.specs.Loaded.{entry_with}
 
 -- what a loader made of the word of a site
 pub record IsLoadedSite (w : World) (m : Memory) (at : ℕ) (d : SlotWord) : Type 0 where

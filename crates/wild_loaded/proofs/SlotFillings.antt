@@ -1,31 +1,10 @@
 -- What the words of slots have tables fill, by table.
-use Rattle.std.proofs.Common.{◌≡◌, ℕ, Bool, true, false, List, [], ◌∷◌, ◌++◌, refl, sym, ap, ◌∙◌}
-use Rattle.std.specs.Prelude.{⊤, Option, Some, None, All, option_to_list, if◌then◌else◌, unwrap_or}
-use Rattle.std.specs.List.{flat_map}
-use Rattle.std.proofs.lemmas.List.Elements.{All-nil, All-cons, All-head, All-tail}
-use Rattle.wild_words.proofs.ListLemmas.{flat_map-same, flat_map-flat_map}
-use Rattle.wild_records.specs.declared.relocations.Rela.{Rela}
-use Rattle.wild_reloc.specs.declared.dynamic.DynamicRelocationKind.TheVariants.{DtpMod}
-use Rattle.wild_slot.specs.declared.slot.SlotWord.{SlotWord}
-use Rattle.wild_slot.specs.declared.slot.SlotWord.TheVariants.{Number, Address, InRelrGot, General, Plt}
+use Rattle.wild_loaded.proofs.Common.{◌≡◌, ℕ, Bool, true, false, List, [], ◌∷◌, ◌++◌, refl, sym, ap, ◌∙◌, ⊤, Option, Some, None, All, option_to_list, if◌then◌else◌, unwrap_or, flat_map, All-nil, All-cons, All-head, All-tail, flat_map-same, flat_map-flat_map, Rela, DtpMod, SlotWord, Number, Address, InRelrGot, General, Plt, Symbol, File, Group, Layout, is_executable, setting_of, minus, next, is_packed, entry_of, entry_at, address_entry, relr_slot_place, own_symbols, slots_of, slots_address, storage_at, storage_words, relr_got_place, storage_entries, place_in, filled_width}
 use Rattle.wild_slot.specs.declared.slot_parts.EntryPart.TheVariants as entries
 use Rattle.wild_slot.specs.declared.slot_parts.WordPart.{WordPart}
-use Rattle.wild_types.specs.declared.symbol.Symbol.{Symbol}
-use Rattle.wild_types.specs.declared.file.File.{File}
-use Rattle.wild_types.specs.declared.file.Group.{Group}
-use Rattle.wild_types.specs.declared.layout.Layout.{Layout}
-use Rattle.wild_types.specs.Kinds.{is_executable}
-use Rattle.wild_slot.specs.Slots.{setting_of}
-use Rattle.wild_slot.specs.Storage.{minus}
-use Rattle.wild_slot.specs.SlotParts.{next, at_places, is_packed, entry_of, entry_at, address_entry, relr_slot_place}
-use Rattle.wild_types.specs.FileSymbols.{own_symbols}
-use Rattle.wild_slot.specs.SymbolWords.{slots_of}
-use Rattle.wild_types.specs.SymbolSlots.{slots_address}
-use Rattle.wild_needs.specs.SlotShares.{storage_at, storage_words, relr_got_place}
-use Rattle.wild_layout.specs.SlotBytes.{storage_entries}
+use Rattle.wild_slot.specs.SlotParts.{at_places}
 use Rattle.wild_slots.specs.Order.{group_symbols, written_symbols}
-use Rattle.wild_slots.specs.AscendingPlaces.{place_in, word_places}
-use Rattle.wild_loaded.specs.StoredTables.{filled_width}
+use Rattle.wild_slots.specs.AscendingPlaces.{word_places}
 use Rattle.wild_loaded.proofs.SlotSites.{SlotSite, of_site, sites_at, symbol_sites, file_sites, group_sites, all_sites, by_sites}
 use Rattle.wild_loaded.proofs.Fillings.{Filling, JumpTable, packed_at, relative_of, general_of, packed_in, relative_in, general_in, jump_in}
 

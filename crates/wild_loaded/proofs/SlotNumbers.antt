@@ -1,24 +1,11 @@
 -- The numbers in words of slots have 64 bits.
-use Rattle.std.proofs.Common.{◌≡◌, ℕ, ◌^◌, ◌<◌, [], ◌∷◌, refl, arith}
-use Rattle.std.specs.Prelude.{Option, Some, None, All, not, ◌==◌, ◌&&◌, if◌then◌else◌}
-use Rattle.std.proofs.lemmas.List.Elements.{All-nil, All-cons, All-append}
-use Rattle.wild_words.proofs.Basics.{of_if}
-use Rattle.wild_reloc.specs.declared.dynamic.DynamicRelocationKind.TheVariants.{DtpMod}
-use Rattle.wild_slot.specs.declared.slot.SlotWord.{SlotWord}
-use Rattle.wild_slot.specs.declared.slot.SlotWord.TheVariants.{Number, Address, InRelrGot, General, Plt}
-use Rattle.wild_slot.specs.declared.slot.Setting.{Setting}
-use Rattle.wild_types.specs.declared.symbol.Resolution.{Resolution}
-use Rattle.wild_types.specs.declared.symbol.Symbol.{Symbol}
-use Rattle.wild_types.specs.declared.layout.Layout.{Layout}
-use Rattle.wild_types.specs.Flags.{has_flag, interposable, has_link_time_address, dynamic, ifunc, got_tls_offset, got_tls_module, got_tls_descriptor, canonical_plt, ifunc_got_for_address, canonical_plt_got_for_address}
-use Rattle.wild_types.specs.Kinds.{is_executable, is_static_executable, is_position_independent}
-use Rattle.wild_slot.specs.Storage.{minus, is_outside}
+use Rattle.wild_loaded.proofs.Common.{◌≡◌, ℕ, ◌^◌, ◌<◌, [], ◌∷◌, refl, arith, Option, Some, None, All, not, ◌==◌, ◌&&◌, if◌then◌else◌, All-nil, All-cons, All-append, of_if, DtpMod, SlotWord, Number, Address, InRelrGot, General, Plt, Setting, Resolution, Symbol, Layout, has_flag, ifunc, is_executable, is_position_independent, minus, slot, setting_of, items_at, slots_of, resolved_slots, storage_at, storage_words, distance_if_too_far, SymbolNumbers}
+use Rattle.wild_types.specs.Flags.{interposable, has_link_time_address, dynamic, got_tls_offset, got_tls_module, got_tls_descriptor, canonical_plt, ifunc_got_for_address, canonical_plt_got_for_address}
+use Rattle.wild_types.specs.Kinds.{is_static_executable}
+use Rattle.wild_slot.specs.Storage.{is_outside}
 use Rattle.wild_types.specs.SymbolSlots.{has_dynamic_symbol, has_thread_slot}
-use Rattle.wild_slot.specs.Slots.{slot, setting_of, slot_items, items_at, number, offset_item, module_item, module_offset, module_offset_item, described, descriptor_item, offset_items, module_items, descriptor_items, plain_item, stub_items, stub_address, ifunc_address_items, canonical_address_items, thread_items, address_items, is_replaceable, storage_pair}
-use Rattle.wild_slot.specs.SymbolWords.{slots_of, resolved_slots}
-use Rattle.wild_needs.specs.SlotShares.{storage_at, storage_words}
-use Rattle.wild_slot.specs.MachineStub.{distance_if_too_far}
-use Rattle.wild_layout.specs.Numbers.{ResolutionNumbers, SymbolNumbers}
+use Rattle.wild_slot.specs.Slots.{slot_items, number, offset_item, module_item, module_offset, module_offset_item, described, descriptor_item, offset_items, module_items, descriptor_items, plain_item, stub_items, stub_address, ifunc_address_items, canonical_address_items, thread_items, address_items, is_replaceable, storage_pair}
+use Rattle.wild_layout.specs.Numbers.{ResolutionNumbers}
 use Rattle.wild_slots.proofs.ItemLemmas.{ItemHas, All-words, of_named, of_where, of_one, of_stub}
 
 -- what stands in the word, or what a loader makes it of

@@ -1,20 +1,8 @@
 -- The words of slots with their places, of which each table of a layout is made.
-use Rattle.std.proofs.Common.{◌≡◌, ℕ, zero, suc, ◌+◌, ◌*◌, ◌%◌, ◌^◌, ◌<◌, List, [], ◌∷◌, ◌++◌, length, get_or, refl, sym, ap, ◌∙◌, arith}
-use Rattle.std.specs.Prelude.{Option, Some, Contains, option_to_list, slice_get}
-use Rattle.std.specs.List.{flat_map}
-use Rattle.wild_words.proofs.ListLemmas.{flat_map-same, flat_map-flat_map}
-use Rattle.wild_types.specs.declared.file.File.{File}
-use Rattle.wild_types.specs.declared.file.Group.{Group}
-use Rattle.wild_types.specs.declared.symbol.Symbol.{Symbol}
-use Rattle.wild_types.specs.declared.layout.Layout.{Layout}
-use Rattle.wild_slot.specs.declared.slot.SlotWord.{SlotWord}
-use Rattle.wild_slot.specs.declared.slot_parts.EntryPart.{EntryPart}
-use Rattle.wild_slot.specs.SlotParts.{next, at_places, entry_of, relr_slot_place}
-use Rattle.wild_types.specs.FileSymbols.{own_symbols}
-use Rattle.wild_slot.specs.SymbolWords.{slots_of}
-use Rattle.wild_types.specs.SymbolSlots.{slots_address}
-use Rattle.wild_needs.specs.SlotShares.{relr_got_place, relr_got_places, group_relr_got}
-use Rattle.wild_layout.specs.SlotBytes.{symbol_entries, relr_slots_in, slot_entries_of, flat_places_of}
+use Rattle.wild_loaded.proofs.Common.{◌≡◌, ℕ, zero, suc, ◌+◌, ◌*◌, ◌%◌, ◌^◌, ◌<◌, List, [], ◌∷◌, ◌++◌, length, get_or, refl, sym, ap, ◌∙◌, arith, Option, Some, Contains, option_to_list, slice_get, flat_map, flat_map-same, flat_map-flat_map, File, Group, Symbol, Layout, SlotWord, EntryPart, next, entry_of, relr_slot_place, own_symbols, slots_of, slots_address, relr_got_place, group_relr_got, slot_entries_of, flat_places_of}
+use Rattle.wild_slot.specs.SlotParts.{at_places}
+use Rattle.wild_needs.specs.SlotShares.{relr_got_places}
+use Rattle.wild_layout.specs.SlotBytes.{symbol_entries, relr_slots_in}
 
 -- ---- sites
 

@@ -1,42 +1,16 @@
 -- The words and stubs of symbols in the memory of an image that no entry has changed.
-use Rattle.std.proofs.Common.{◌≡◌, ℕ, zero, suc, ◌+◌, ◌*◌, ◌^◌, ◌<◌, ◌≤◌, Bool, true, false, List, [], ◌∷◌, length, refl, sym, ap, ◌∙◌, arith, subst}
-use Rattle.std.specs.Prelude.{Option, All, Some, None, unwrap_or, if◌then◌else◌, slice_get}
-use Rattle.std.proofs.lemmas.List.Elements.{All-contains}
-use Rattle.wild_words.specs.Words.{word}
-use Rattle.wild_words.proofs.WordLemmas.{length-word}
+use Rattle.wild_loaded.proofs.Common.{◌≡◌, ℕ, zero, suc, ◌+◌, ◌*◌, ◌^◌, ◌<◌, ◌≤◌, Bool, true, false, List, [], ◌∷◌, length, refl, sym, ap, ◌∙◌, arith, subst, Option, All, Some, None, unwrap_or, if◌then◌else◌, slice_get, All-contains, word, length-word, of_if, listed_at, Setting, SlotWord, Number, Address, InRelrGot, General, Plt, File, Group, Symbol, Layout, KeepsAll, is_executable, is_loaded_role, not_hollow_role, minus, setting_of, is_packed, got_of, slots_address, word_size, storage_at, storage_words, own_symbols, slots_of, NumbersFit, SymbolNumbers, IsLaidOut, World, IsLoadable, IsLegal, IsLocatedAt, PairIsPlaced, HasWholeSlots, IsWordStored, PartsAreStored, SlotsAreStored}
 use Rattle.wild_words.proofs.RecordLemmas.{HasBytesAt-left, HasBytesAt-right}
-use Rattle.wild_words.proofs.Basics.{of_if, listed_at}
 use Rattle.wild_relr.specs.WriterState.{word_bytes}
-use Rattle.wild_slot.specs.declared.slot.Setting.{Setting}
-use Rattle.wild_slot.specs.declared.slot.SlotWord.{SlotWord}
-use Rattle.wild_slot.specs.declared.slot.SlotWord.TheVariants.{Number, Address, InRelrGot, General, Plt}
 use Rattle.wild_slot.specs.declared.slot_parts.WordPart.{WordPart}
 use Rattle.wild_slot.specs.declared.slot_parts.WordPart.TheVariants as words
 use Rattle.wild_types.specs.declared.part.Role.TheVariants as role
-use Rattle.wild_types.specs.declared.file.File.{File}
-use Rattle.wild_types.specs.declared.file.Group.{Group}
-use Rattle.wild_types.specs.declared.symbol.Symbol.{Symbol}
-use Rattle.wild_types.specs.declared.layout.Layout.{Layout}
-use Rattle.wild_types.specs.HeaderOnly.{KeepsAll}
-use Rattle.wild_types.specs.Kinds.{is_executable}
-use Rattle.wild_types.specs.Parts.{is_loaded_role}
-use Rattle.wild_types.proofs.LookupLemmas.{not_hollow_role}
-use Rattle.wild_slot.specs.Storage.{minus}
-use Rattle.wild_slot.specs.Slots.{setting_of, storage_pair}
-use Rattle.wild_slot.specs.SlotParts.{is_packed, word_of, slot_words}
-use Rattle.wild_types.specs.SymbolSlots.{got_of, plt_of, slots_address}
-use Rattle.wild_needs.specs.SlotShares.{word_size, storage_at, storage_words}
-use Rattle.wild_types.specs.FileSymbols.{own_symbols}
-use Rattle.wild_slot.specs.SymbolWords.{slots_of}
-use Rattle.wild_layout.specs.Numbers.{NumbersFit, SymbolNumbers}
-use Rattle.wild_layout.specs.Geometry.{IsLaidOut}
+use Rattle.wild_slot.specs.Slots.{storage_pair}
+use Rattle.wild_slot.specs.SlotParts.{word_of, slot_words}
+use Rattle.wild_types.specs.SymbolSlots.{plt_of}
 use Rattle.wild_layout.specs.SlotBytes.{stub_bytes}
-use Rattle.wild_loader.specs.declared.world.World.{World}
-use Rattle.wild_meaning.specs.World.{IsLoadable, IsLegal}
-use Rattle.wild_slots.specs.SlotPlaces.{part_of_word, role_of_words, IsLocatedAt, WordIsPlaced, SlotsArePlaced, EachWordIsPlaced, StubsAreThere, PairIsPlaced}
-use Rattle.wild_loaded.specs.WholeSlots.{HasWholeSlots}
-use Rattle.wild_loaded.specs.StoredTables.{IsWordStored, IsStubStored}
-use Rattle.wild_loaded.specs.Laws.{PartsAreStored, SlotsAreStored}
+use Rattle.wild_slots.specs.SlotPlaces.{part_of_word, role_of_words, WordIsPlaced, SlotsArePlaced, EachWordIsPlaced, StubsAreThere}
+use Rattle.wild_loaded.specs.StoredTables.{IsStubStored}
 use Rattle.wild_loaded.proofs.PartsHeld.{stands_held, stands_inner}
 use Rattle.wild_loaded.proofs.SlotNumbers.{WordFits, own_module, words_fit, storage_fits}
 use Rattle.wild_slot.specs.MachineStub.{stub_in}

@@ -1,65 +1,22 @@
 -- What the words of slots have tables fill: where it lies, and what memory has there before any entry is applied.
-use Rattle.std.proofs.Common.{◌≡◌, ℕ, ◌+◌, ◌-◌, ◌*◌, ◌%◌, ◌^◌, ◌<◌, ◌≤◌, ◌⊎◌, inl, inr, Bool, true, false, List, [], ◌∷◌, ◌++◌, length, get_or, refl, sym, ap, ◌∙◌, arith, subst}
-use Rattle.std.specs.Prelude.{⊤, Option, Some, None, All, AllPairs, Contains, option_to_list, if◌then◌else◌, slice_get, slice_index, unwrap_or}
-use Rattle.std.proofs.lemmas.Bool.{cases_lt}
-use Rattle.std.proofs.lemmas.List.{get_or_append_left, get_or-append_right, length-append}
-use Rattle.std.proofs.lemmas.List.Elements.{All-nil, All-cons, All-head, All-tail, All-contains, All-append}
-use Rattle.std.proofs.lemmas.Option.{slice_get-get_or}
-use Rattle.std.proofs.lemmas.List.Kept.{AllPairs-cons}
-use Rattle.wild_words.specs.Words.{word}
-use Rattle.wild_words.proofs.ListLemmas.{All-flat_map, AllPairs-nil, AllPairs-head, All-append-left, All-append-right, AllPairs-right}
-use Rattle.wild_words.proofs.WordLemmas.{length-word}
-use Rattle.wild_words.proofs.Basics.{listed_at, All-each}
-use Rattle.wild_records.specs.declared.relocations.Rela.{Rela}
-use Rattle.wild_reloc.specs.declared.dynamic.DynamicRelocationKind.{DynamicRelocationKind}
+use Rattle.wild_loaded.proofs.Common.{◌≡◌, ℕ, ◌+◌, ◌-◌, ◌*◌, ◌%◌, ◌^◌, ◌<◌, ◌≤◌, ◌⊎◌, inl, inr, Bool, true, false, List, [], ◌∷◌, ◌++◌, length, get_or, refl, sym, ap, ◌∙◌, arith, subst, ⊤, Option, Some, None, All, AllPairs, Contains, option_to_list, if◌then◌else◌, slice_get, slice_index, unwrap_or, cases_lt, get_or_append_left, length-append, All-nil, All-cons, All-head, All-tail, All-contains, All-append, slice_get-get_or, AllPairs-cons, word, All-flat_map, AllPairs-nil, AllPairs-head, All-append-left, All-append-right, length-word, listed_at, All-each, Rela, DynamicRelocationKind, SlotEntry, SlotWord, Number, Address, InRelrGot, General, Plt, Resolution, Symbol, File, Layout, KeepsAll, is_executable, minus, slot, setting_of, items_at, is_packed, entry_at, address_entry, next, got_of, slots_address, word_size, storage_at, storage_words, relr_got_place, own_symbols, slots_of, resolved_slots, distance_if_too_far, NumbersFit, SymbolNumbers, IsLaidOut, Change, Memory, World, size_of, Holds, byte_in, loaded_at, IsLoadable, IsLegal, Ascend, place_in, image_memory, HasWholeSlots, IsWordStored, filled_width, FillsWords, FillsSlot, SlotsAreStored, EntriesHaveChanges, entry_in, processor_of, facts_of, entry_with}
+use Rattle.std.proofs.lemmas.List.{get_or-append_right}
+use Rattle.wild_words.proofs.ListLemmas.{AllPairs-right}
 use Rattle.wild_reloc.specs.declared.dynamic.DynamicRelocationKind.TheVariants as entry_kinds
-use Rattle.wild_slot.specs.declared.slot.SlotEntry.{SlotEntry}
-use Rattle.wild_slot.specs.declared.slot.SlotWord.{SlotWord}
-use Rattle.wild_slot.specs.declared.slot.SlotWord.TheVariants.{Number, Address, InRelrGot, General, Plt}
 use Rattle.wild_slot.specs.declared.slot_parts.WordPart.TheVariants as words
-use Rattle.wild_types.specs.declared.symbol.Resolution.{Resolution}
-use Rattle.wild_types.specs.declared.symbol.Symbol.{Symbol}
-use Rattle.wild_types.specs.declared.file.File.{File}
-use Rattle.wild_types.specs.declared.layout.Layout.{Layout}
-use Rattle.wild_types.specs.HeaderOnly.{KeepsAll}
-use Rattle.wild_types.specs.Kinds.{is_executable}
-use Rattle.wild_slot.specs.Storage.{minus}
-use Rattle.wild_slot.specs.Slots.{slot, setting_of, with_items, items_at, no_slot}
-use Rattle.wild_slot.specs.SlotParts.{is_packed, entry_at, address_entry, next}
-use Rattle.wild_types.specs.SymbolSlots.{got_of, slots_address}
-use Rattle.wild_needs.specs.SlotShares.{word_size, storage_at, storage_words, relr_got_place}
-use Rattle.wild_types.specs.FileSymbols.{own_symbols}
+use Rattle.wild_slot.specs.Slots.{with_items, no_slot}
 use Rattle.wild_types.proofs.FileLemmas.{All-own}
-use Rattle.wild_slot.specs.SymbolWords.{slots_of, resolved_slots}
-use Rattle.wild_slot.specs.MachineStub.{distance_if_too_far}
-use Rattle.wild_layout.specs.Numbers.{NumbersFit, SymbolNumbers}
-use Rattle.wild_layout.specs.Geometry.{IsLaidOut}
-use Rattle.wild_loader.specs.declared.change.Change.{Change}
 use Rattle.wild_loader.specs.declared.change.Change.TheVariants as changes
-use Rattle.wild_loader.specs.declared.memory.Memory.{Memory}
-use Rattle.wild_loader.specs.declared.world.World.{World}
-use Rattle.wild_loader.specs.Changes.{size_of}
-use Rattle.wild_loader.specs.Memory.{Holds, byte_in}
-use Rattle.wild_loader.specs.Relocate.{loaded_at}
-use Rattle.wild_meaning.specs.World.{IsLoadable, IsLegal}
-use Rattle.wild_slots.specs.AscendingPlaces.{LiesWithin, Ascend, place_in}
-use Rattle.wild_loaded.specs.Memory.{image_memory}
-use Rattle.wild_loaded.specs.WholeSlots.{HasWholeSlots}
-use Rattle.wild_loaded.specs.StoredTables.{IsWordStored, filled_width, FillsWords, FillsSlot}
-use Rattle.wild_loaded.specs.Laws.{SlotsAreStored, EntriesHaveChanges}
+use Rattle.wild_slots.specs.AscendingPlaces.{LiesWithin}
 use Rattle.wild_loaded.proofs.SitesFit.{slots_low}
 use Rattle.wild_loaded.proofs.SlotNumbers.{WordFits, words_fit, storage_fits}
-use Rattle.wild_slots.specs.Entries.{entry_in}
 use Rattle.wild_loaded.proofs.SlotSites.{SlotSite, of_site, sites_at, symbol_sites, file_sites, group_sites, all_sites, site_of}
 use Rattle.wild_loaded.proofs.Fillings.{Table, PackedTable, RelativeTable, GeneralTable, JumpTable, Filling, Makes, place_entry, packed_at, relative_of, general_of, HasChange, HasWord, IsKnown, place_loaded}
 use Rattle.wild_loaded.proofs.SectionsKnown.{change_elsewhere, MakesThat, has_change, RelativeLaws, relative_makes}
 use Rattle.wild_loaded.proofs.SlotFillings.{address_filling, slot_filling, block_filling, pair_sites, got_sites, made_of}
 use Rattle.wild_loaded.proofs.SlotsSpaced.{IsNarrow, IsNumber, SitesSpaced}
-use Rattle.wild_meaning.specs.LinkedImage.{processor_of}
 use Rattle.wild_loader.specs.declared.memory.Machine.{Machine as Processor}
-use Rattle.wild_geometry.proofs.MachineLemmas.{facts_of}
 use Rattle.wild_geometry.specs.EntryKinds.{loaded_kind}
-use Rattle.wild_geometry.specs.Loaded.{entry_with}
 
 -- ---- sites
 

@@ -1,30 +1,11 @@
 -- Slots and stubs in the memory of an image whose tables were applied.
-use Rattle.std.proofs.Common.{◌≡◌, ℕ, zero, suc, ◌+◌, ◌-◌, ◌*◌, ◌%◌, ◌^◌, ◌<◌, List, [], ◌∷◌, get_or, refl, ap, ◌∙◌, arith, subst}
-use Rattle.std.specs.Prelude.{Option, Some, None, All, Contains, slice_get, unwrap_or}
-use Rattle.std.proofs.lemmas.List.Elements.{All-contains, Contains-append_left, Contains-append_right}
-use Rattle.std.proofs.lemmas.Option.{slice_get-get_or, slice_get_within, get_or_from_slice_get}
-use Rattle.wild_words.specs.Words.{word, number}
-use Rattle.wild_words.proofs.WordLemmas.{number-word, length-word}
-use Rattle.wild_words.proofs.Basics.{listed_at}
+use Rattle.wild_loaded.proofs.Common.{◌≡◌, ℕ, zero, suc, ◌+◌, ◌-◌, ◌*◌, ◌%◌, ◌^◌, ◌<◌, List, [], ◌∷◌, get_or, refl, ap, ◌∙◌, arith, subst, Option, Some, None, All, Contains, slice_get, unwrap_or, All-contains, Contains-append_left, Contains-append_right, slice_get-get_or, slice_get_within, word, number, number-word, length-word, listed_at, File, Group, SlotWord, Symbol, Layout, next, got_of, slots_address, own_symbols, slots_of, storage_words, SymbolNumbers, Contains-flat_map, Memory, World, Holds, byte_in, image_memory}
+use Rattle.std.proofs.lemmas.Option.{get_or_from_slice_get}
 use Rattle.wild_types.specs.declared.part.Role.TheVariants as role
-use Rattle.wild_types.specs.declared.file.File.{File}
-use Rattle.wild_types.specs.declared.file.Group.{Group}
-use Rattle.wild_slot.specs.declared.slot.SlotWord.{SlotWord}
-use Rattle.wild_types.specs.declared.symbol.Symbol.{Symbol}
-use Rattle.wild_types.specs.declared.layout.Layout.{Layout}
-use Rattle.wild_slot.specs.SlotParts.{next}
-use Rattle.wild_types.specs.SymbolSlots.{got_of, plt_of, slots_address}
-use Rattle.wild_types.specs.FileSymbols.{own_symbols}
-use Rattle.wild_slot.specs.SymbolWords.{slots_of}
-use Rattle.wild_needs.specs.SlotShares.{storage_words}
-use Rattle.wild_layout.specs.Numbers.{SymbolNumbers}
-use Rattle.wild_layout.proofs.SiteLemmas.{Contains-flat_map}
-use Rattle.wild_loader.specs.declared.memory.Memory.{Memory}
-use Rattle.wild_loader.specs.declared.world.World.{World}
-use Rattle.wild_loader.specs.Memory.{Holds, byte_in, number_in}
+use Rattle.wild_types.specs.SymbolSlots.{plt_of}
+use Rattle.wild_loader.specs.Memory.{number_in}
 use Rattle.wild_loader.specs.Laws.{NumbersAreRead}
 use Rattle.wild_geometry.specs.Slots.{IsLoadedWord, HasSlots}
-use Rattle.wild_loaded.specs.Memory.{image_memory}
 use Rattle.wild_loaded.proofs.SitesFit.{slots_low}
 use Rattle.wild_loaded.proofs.SlotSites.{SlotSite, sites_at, symbol_sites, file_sites, group_sites, all_sites}
 use Rattle.wild_loaded.proofs.SlotFillings.{IsPairWord, pair_words, pair_sites}

@@ -1,31 +1,14 @@
 -- A word that an entry fills is followed by a number wherever that entry fills two words.
-use Rattle.std.proofs.Common.{◌≡◌, ℕ, ◌⊎◌, inl, inr, Bool, true, false, List, [], ◌∷◌, ◌++◌, refl, sym, ap, ◌∙◌, subst, append_assoc}
-use Rattle.std.specs.Prelude.{⊤, All, unwrap_or, Option, Some, None, if◌then◌else◌, ◌==◌, ◌&&◌, not}
-use Rattle.std.specs.List.{flat_map}
-use Rattle.std.proofs.lemmas.List.Elements.{All-head, All-tail}
-use Rattle.wild_reloc.specs.declared.dynamic.DynamicRelocationKind.{DynamicRelocationKind}
-use Rattle.wild_reloc.specs.declared.dynamic.DynamicRelocationKind.TheVariants.{GotEntry, JumpSlot, DtpMod, TpOff}
-use Rattle.wild_types.specs.declared.symbol.Resolution.{Resolution}
-use Rattle.wild_types.specs.declared.symbol.Symbol.{Symbol}
-use Rattle.wild_types.specs.declared.layout.Layout.{Layout}
-use Rattle.wild_slot.specs.declared.slot.Setting.{Setting}
+use Rattle.wild_loaded.proofs.Common.{◌≡◌, ℕ, ◌⊎◌, inl, inr, Bool, true, false, List, [], ◌∷◌, ◌++◌, refl, sym, ap, ◌∙◌, subst, append_assoc, ⊤, All, unwrap_or, Option, Some, None, if◌then◌else◌, ◌==◌, ◌&&◌, not, flat_map, All-head, All-tail, DynamicRelocationKind, DtpMod, Resolution, Symbol, Layout, Setting, SlotWord, Number, Address, InRelrGot, General, Plt, has_flag, ifunc, is_executable, is_position_independent, slots_address, setting_of, items_at, slot, next, own_symbols, slots_of, resolved_slots, storage_words, distance_if_too_far, filled_width}
+use Rattle.wild_reloc.specs.declared.dynamic.DynamicRelocationKind.TheVariants.{GotEntry, JumpSlot, TpOff}
 use Rattle.wild_slot.specs.declared.slot.SlotFault.{SlotFault}
 use Rattle.wild_slot.specs.declared.slot.SlotItem.{SlotItem}
 use Rattle.wild_slot.specs.declared.slot.SlotItem.TheVariants.{Word, Stub, Fault}
-use Rattle.wild_slot.specs.declared.slot.SlotWord.{SlotWord}
-use Rattle.wild_slot.specs.declared.slot.SlotWord.TheVariants.{Number, Address, InRelrGot, General, Plt}
-use Rattle.wild_types.specs.Flags.{has_flag, interposable, has_link_time_address, dynamic, ifunc, got_tls_offset, got_tls_module, got_tls_descriptor, canonical_plt, ifunc_got_for_address, canonical_plt_got_for_address}
-use Rattle.wild_types.specs.Kinds.{is_executable, is_position_independent}
+use Rattle.wild_types.specs.Flags.{interposable, has_link_time_address, dynamic, got_tls_offset, got_tls_module, got_tls_descriptor, canonical_plt, ifunc_got_for_address, canonical_plt_got_for_address}
 use Rattle.wild_slot.specs.Storage.{is_outside}
-use Rattle.wild_types.specs.SymbolSlots.{has_dynamic_symbol, has_thread_slot, slots_address}
-use Rattle.wild_slot.specs.Slots.{SlotContent, no_slot, add_item, with_item, with_items, setting_of, number, general, plt, named, items_if, offset_item, module_item, module_offset, module_offset_item, descriptor_item, offset_items, module_items, descriptor_items, stub_item, stub_items, stub_address, ifunc_address_items, canonical_address_items, thread_items, address_items, items_at, slot}
-use Rattle.wild_slot.specs.SlotParts.{next}
-use Rattle.wild_types.specs.FileSymbols.{own_symbols}
-use Rattle.wild_slot.specs.SymbolWords.{slots_of, resolved_slots}
-use Rattle.wild_needs.specs.SlotShares.{storage_words}
-use Rattle.wild_slot.specs.MachineStub.{distance_if_too_far}
+use Rattle.wild_types.specs.SymbolSlots.{has_dynamic_symbol, has_thread_slot}
+use Rattle.wild_slot.specs.Slots.{SlotContent, no_slot, add_item, with_item, with_items, number, general, plt, named, items_if, offset_item, module_item, module_offset, module_offset_item, descriptor_item, offset_items, module_items, descriptor_items, stub_item, stub_items, stub_address, ifunc_address_items, canonical_address_items, thread_items, address_items}
 use Rattle.wild_slot.proofs.SlotLemmas.{items_joined}
-use Rattle.wild_loaded.specs.StoredTables.{filled_width}
 use Rattle.wild_loaded.proofs.SlotSites.{SlotSite, sites_at, symbol_sites, file_sites, group_sites, all_sites}
 use Rattle.wild_loaded.proofs.SlotFillings.{IsPairWord, pair_words, pair_sites, got_sites}
 

@@ -1,49 +1,23 @@
 -- The tables of an output at its own addresses: nothing moves, and its sections have all entries.
-use Rattle.wild_meaning.proofs.OutputLemmas.{not_partial}
-use Rattle.wild_needs.specs.Needs.{has_last}
-use Rattle.wild_placement.specs.PlacedSections.{placed_files, processed_sections, sorted_sections}
-use Rattle.std.proofs.Common.{◌≡◌, ℕ, zero, suc, ◌+◌, ◌<◌, ◌≤◌, inl, inr, false, List, [], ◌∷◌, ◌++◌, length, get_or, refl, sym, ap, ◌∙◌, arith, subst, Bool, true}
-use Rattle.std.specs.Prelude.{AllPairs, IsPermutation, slice_index, if◌then◌else◌}
-use Rattle.std.specs.List.{flat_map}
-use Rattle.std.proofs.lemmas.Bool.{cases_lt}
-use Rattle.std.proofs.lemmas.List.{length-append, get_or_append_left}
-use Rattle.std.proofs.lemmas.List.Elements.{All-map}
-use Rattle.wild_words.specs.Words.{word}
+use Rattle.wild_loaded.proofs.Common.{not_partial, has_last, placed_files, processed_sections, sorted_sections, ◌≡◌, ℕ, zero, suc, ◌+◌, ◌<◌, ◌≤◌, inl, inr, false, List, [], ◌∷◌, ◌++◌, length, get_or, refl, sym, ap, ◌∙◌, arith, subst, Bool, true, AllPairs, IsPermutation, slice_index, if◌then◌else◌, flat_map, cases_lt, length-append, get_or_append_left, All-map, word, Piece, Disjoint, length-word, Rela, SectionHeader, InputSection, Section, Group, Layout, relr_place, relr_places, sorted_words, is_position_independent, group_relr_got, block_of, block_words, file_header, null_header, headers_from, computed_infos, program_header, section_headers_of, pieces, listed_entry, section_entries, slot_entries_of, flat_places_of, IsLaidOut, TablesStand, rela_bytes, IsStatic, section_relas, PairIsPlaced, packed_words_of_file, group_words, relative_entries, tables_of, words_of_last}
 use Rattle.wild_words.specs.Record.{spell}
-use Rattle.wild_words.specs.Overlay.{Piece, Disjoint}
 use Rattle.wild_words.proofs.RecordLemmas.{HasBytesAt-field}
-use Rattle.wild_words.proofs.WordLemmas.{length-word}
 use Rattle.wild_words.proofs.Basics.{flat_map-none}
 use Rattle.wild_records.specs.Abi.Header.{elfmag}
 use Rattle.wild_records.specs.FileHeader.{file_header_fields}
 use Rattle.wild_records.specs.SectionHeader.{section_header_fields}
-use Rattle.wild_records.specs.declared.relocations.Rela.{Rela}
-use Rattle.wild_records.specs.declared.section_header.SectionHeader.{SectionHeader}
 use Rattle.wild_relr.specs.RunWords.{packed_on, packed, block}
 use Rattle.wild_records.proofs.FileHeaderLemmas.{length-file_header}
 use Rattle.wild_types.specs.declared.part.Role.TheVariants as role
-use Rattle.wild_types.specs.declared.input.InputSection.{InputSection}
-use Rattle.wild_types.specs.declared.section.Section.{Section}
 use Rattle.wild_slot.specs.declared.slot_parts.EntryPart.TheVariants as entries
-use Rattle.wild_types.specs.declared.file.Group.{Group}
-use Rattle.wild_types.specs.declared.layout.Layout.{Layout}
-use Rattle.wild_needs.specs.Entries.{relr_place, relr_places, words_of, sorted_words}
-use Rattle.wild_types.specs.Kinds.{is_position_independent}
+use Rattle.wild_needs.specs.Entries.{words_of}
 use Rattle.wild_types.proofs.LookupLemmas.{plain_still}
-use Rattle.wild_needs.specs.SlotShares.{group_relr_got, block_of, words_of_relr_got, block_words}
+use Rattle.wild_needs.specs.SlotShares.{words_of_relr_got}
 use Rattle.wild_needs.proofs.ShareLemmas.{no_moved}
 use Rattle.wild_table_formats.proofs.HeaderLemmas.{length-section_header}
-use Rattle.wild_table_formats.specs.Headers.{file_header, null_header, headers_from, computed_infos, program_header, section_headers_of, offset_of_role, file_header_bytes, section_header_bytes}
-use Rattle.wild_layout.specs.Image.{pieces}
-use Rattle.wild_layout.specs.RelativeRelocations.{listed_entry, section_entries}
-use Rattle.wild_layout.specs.SlotBytes.{slot_entries_of, flat_places_of}
-use Rattle.wild_layout.specs.Geometry.{IsLaidOut, TablesStand}
-use Rattle.wild_loader.specs.SegmentLaws.{rela_bytes}
-use Rattle.wild_loader.specs.Laws.{IsStatic, section_relas}
+use Rattle.wild_table_formats.specs.Headers.{offset_of_role, file_header_bytes, section_header_bytes}
 use Rattle.wild_table_formats.specs.EntryLaws.{LengthsOfEntries, EntriesAreRead}
 use Rattle.wild_slots.specs.Entries.{MovesNothing, FixedOutputsMoveNothing}
-use Rattle.wild_slots.specs.SlotPlaces.{PairIsPlaced}
-use Rattle.wild_loaded.specs.Tables.{packed_words_of_file, group_words, relative_entries, tables_of, words_of_last}
 use Rattle.wild_loaded.specs.Laws.{SectionTablesAreFound}
 use Rattle.wild_loaded.proofs.FileType.{plain_fixed}
 use Rattle.wild_loaded.proofs.Loads.{segment_static}

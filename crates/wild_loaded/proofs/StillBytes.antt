@@ -1,33 +1,10 @@
 -- The bytes of the file that no table fills.
-use Rattle.std.proofs.Common.{◌≡◌, ℕ, ◌+◌, ◌-◌, inl, inr, true, false, get_or, refl, sym, ◌∙◌, arith, subst}
-use Rattle.std.specs.Prelude.{Option, Some, None, All, Contains}
-use Rattle.std.proofs.lemmas.Bool.{cases_Bool, eqb-true}
-use Rattle.wild_words.proofs.Basics.{All-each}
-use Rattle.wild_words.proofs.ListLemmas.{All-flat_map}
-use Rattle.wild_types.specs.declared.part.Part.{Part}
-use Rattle.wild_types.specs.declared.part.Role.{Role}
+use Rattle.wild_loaded.proofs.Common.{◌≡◌, ℕ, ◌+◌, ◌-◌, inl, inr, true, false, get_or, refl, sym, ◌∙◌, arith, subst, Option, Some, None, All, Contains, cases_Bool, eqb-true, All-each, All-flat_map, Part, Role, InputSection, Layout, block_for, KeepsAll, is_frame, is_read, allocated, has_role, part_with, IsLaidOut, bytes, Memory, World, byte_in, BytesAreLoaded, IsLoadable, not_partial, IsPlacedSection, all_sections, input_of, FileBytesAreStored}
 use Rattle.wild_types.specs.declared.part.Role.TheVariants as role
-use Rattle.wild_types.specs.declared.input.InputSection.{InputSection}
-use Rattle.wild_types.specs.declared.layout.Layout.{Layout}
-use Rattle.wild_types.specs.Item.{block_for}
-use Rattle.wild_types.specs.HeaderOnly.{KeepsAll}
-use Rattle.wild_types.specs.Lookups.{is_frame, is_read, allocated}
-use Rattle.wild_types.specs.Parts.{has_role, part_with}
-use Rattle.wild_layout.specs.Geometry.{IsLaidOut}
-use Rattle.wild_layout.specs.Image.{bytes}
-use Rattle.wild_loader.specs.declared.memory.Memory.{Memory}
-use Rattle.wild_loader.specs.declared.world.World.{World}
-use Rattle.wild_loader.specs.Memory.{byte_in}
-use Rattle.wild_loader.specs.SegmentLaws.{BytesAreLoaded}
-use Rattle.wild_meaning.specs.World.{IsLoadable}
 use Rattle.wild_meaning.specs.Unfilled.{IsFileByte, IsUnfilled, IsOutside, is_filled_role}
-use Rattle.wild_meaning.proofs.OutputLemmas.{not_partial}
-use Rattle.wild_geometry.specs.PlacedSections.{IsPlacedSection}
 use Rattle.wild_geometry.proofs.RoleLemmas.{FoundAt-from_find}
 use Rattle.wild_geometry.proofs.TableLemmas.{same_role}
-use Rattle.wild_geometry.proofs.PlacedInputs.{all_sections, input_of}
 use Rattle.wild_geometry.proofs.PlacedOrigins.{kept_origin}
-use Rattle.wild_loaded.specs.Laws.{FileBytesAreStored}
 use Rattle.wild_loaded.proofs.Fillings.{Filling, Misses}
 use Rattle.wild_loaded.proofs.LoadedRanges.{LoadedRange, LiesIn}
 use Rattle.wild_loaded.proofs.PartsHeld.{byte_carried}

@@ -1,32 +1,12 @@
 -- Kept sections in the memory of an image that no entry has changed: their fields, what is rewritten, their other bytes, and zeros.
-use Rattle.std.proofs.Common.{◌≡◌, ℕ, ◌+◌, ◌≤◌, List, [], ◌∷◌, length, refl, sym, ap, ◌∙◌, arith, subst}
-use Rattle.std.specs.Prelude.{Some, Contains, if◌then◌else◌, slice_get, slice_range}
-use Rattle.std.specs.List.{range_with_len}
-use Rattle.std.proofs.lemmas.Option.{slice_get_within}
-use Rattle.wild_words.specs.Words.{word, HasBytesAt}
-use Rattle.wild_words.specs.Overlay.{Piece, overlay, AreDisjoint}
-use Rattle.wild_words.proofs.OverlayLemmas.{HasBytesAt-overlay, overlay-outside, length-overlay}
-use Rattle.wild_words.proofs.Basics.{range-Contains, Contains-map}
-use Rattle.wild_types.specs.declared.section.Segment.{Segment}
-use Rattle.wild_types.specs.declared.input.InputRelocation.{InputRelocation}
-use Rattle.wild_types.specs.Item.{Item, item_of}
-use Rattle.wild_types.specs.declared.layout.Layout.{Layout}
-use Rattle.wild_reloc.specs.Field.{size_width}
-use Rattle.wild_reloc.specs.declared.info.RelocationSize.TheVariants.{ByteSize}
-use Rattle.wild_reloc.specs.declared.info.Width.TheVariants.{Eight}
-use Rattle.wild_table_formats.specs.Headers.{file_header, program_header}
-use Rattle.wild_layout.specs.declared.decision.Decision.{Decision}
-use Rattle.wild_layout.specs.declared.decision.Decision.TheVariants.{Field, RelativeAddress, DynamicField}
-use Rattle.wild_layout.specs.Sites.{Written, written_by, field_site, template_site, site, sites}
-use Rattle.wild_layout.specs.Image.{bytes}
+use Rattle.wild_loaded.proofs.Common.{◌≡◌, ℕ, ◌+◌, ◌≤◌, List, [], ◌∷◌, length, refl, sym, ap, ◌∙◌, arith, subst, Some, Contains, if◌then◌else◌, slice_get, slice_range, range_with_len, slice_get_within, word, HasBytesAt, Piece, AreDisjoint, length-overlay, Contains-map, Segment, InputRelocation, Item, item_of, Layout, size_width, ByteSize, Eight, file_header, program_header, Decision, Field, RelativeAddress, DynamicField, field_site, site, sites, bytes, Contains-flat_map, site_written, machine_of, byte_in, BytesAreLoaded, HasDecision, image_memory, headers_of, SectionsAreStored, ZerosAreStored, PartsAreStored}
+use Rattle.wild_words.specs.Overlay.{overlay}
+use Rattle.wild_words.proofs.OverlayLemmas.{HasBytesAt-overlay, overlay-outside}
+use Rattle.wild_words.proofs.Basics.{range-Contains}
+use Rattle.wild_layout.specs.Sites.{Written, written_by, template_site}
 use Rattle.wild_layout.proofs.DecisionLemmas.{decide_left}
-use Rattle.wild_layout.proofs.SiteLemmas.{Contains-flat_map, site_written, site_rewritten}
-use Rattle.wild_loader.specs.Headers.{machine_of}
-use Rattle.wild_loader.specs.Memory.{byte_in}
-use Rattle.wild_loader.specs.SegmentLaws.{BytesAreLoaded, ZerosAreLoaded}
-use Rattle.wild_geometry.specs.Loaded.{HasDecision}
-use Rattle.wild_loaded.specs.Memory.{image_memory, headers_of}
-use Rattle.wild_loaded.specs.Laws.{SectionsAreStored, ZerosAreStored, PartsAreStored}
+use Rattle.wild_layout.proofs.SiteLemmas.{site_rewritten}
+use Rattle.wild_loader.specs.SegmentLaws.{ZerosAreLoaded}
 use Rattle.wild_loaded.proofs.LeftFields.{left_zeroed}
 use Rattle.wild_loaded.proofs.PartsHeld.{Holds-inner}
 use Rattle.wild_loaded.proofs.SectionBytesInMemory.{section_held, section_ends}

@@ -1,51 +1,17 @@
 -- The bytes of the tables that fill addresses and slots, and where a loader finds them.
 use Rattle.wild_loaded.proofs.KindLemmas.{dynamic_whole}
-use Rattle.wild_needs.specs.Entries.{sorted_words}
-use Rattle.wild_needs.specs.Needs.{has_last}
-use Rattle.wild_placement.specs.PlacedSections.{placed_files}
-use Rattle.std.proofs.Common.{◌≡◌, ℕ, zero, suc, ◌+◌, ◌-◌, ◌^◌, ◌<◌, ◌≤◌, inl, inr, Bool, true, false, List, [], ◌∷◌, ◌++◌, length, map, min, refl, sym, ap, ◌∙◌, arith, subst}
-use Rattle.std.specs.Prelude.{Option, Some, None, Contains, slice_index, if◌then◌else◌, ◌==◌}
-use Rattle.std.specs.List.{flat_map}
+use Rattle.wild_loaded.proofs.Common.{sorted_words, has_last, placed_files, ◌≡◌, ℕ, zero, suc, ◌+◌, ◌-◌, ◌^◌, ◌<◌, ◌≤◌, inl, inr, Bool, true, false, List, [], ◌∷◌, ◌++◌, length, map, min, refl, sym, ap, ◌∙◌, arith, subst, Option, Some, None, Contains, slice_index, if◌then◌else◌, ◌==◌, flat_map, cases_lt, eqb-true, HasBytesAt, Part, Role, Segment, File, Group, Layout, needs_dynamic, is_prelude, image_size, KeepsAll, role_place, part_with, not_hollow_at, program_header, block_words, Rela, file_generals, file_entries, file_words, slot_entries_of, flat_places_of, storage_entries, file_content, content, bytes, SegmentLoads, table_bytes, IsLaidOut, TablesStand, word_bytes, rela_bytes, IsTableOf, All-contains, append-nil, length-append, get_or_append_left, flat_map-append, Contains-map, flat_map-same, flat_map-flat_map, packed_words_of_file, group_words, relative_entries, other_entries, tables_of, words_of_last}
 use Rattle.std.specs.Option.{option_or}
-use Rattle.std.proofs.lemmas.Bool.{cases_lt, eqb-true}
-use Rattle.wild_words.specs.Words.{HasBytesAt}
 use Rattle.wild_needs.specs.declared.dynamic.DynamicTag.TheVariants as tags
-use Rattle.wild_types.specs.declared.part.Part.{Part}
-use Rattle.wild_types.specs.declared.part.Role.{Role}
 use Rattle.wild_types.specs.declared.part.Role.TheVariants as role
-use Rattle.wild_types.specs.declared.section.Segment.{Segment}
-use Rattle.wild_types.specs.declared.file.File.{File}
-use Rattle.wild_types.specs.declared.file.Group.{Group}
-use Rattle.wild_types.specs.declared.layout.Layout.{Layout}
 use Rattle.wild_needs.specs.Dynamic as dynamic
 use Rattle.wild_needs.specs.DynamicPlaces as dynamic_places
-use Rattle.wild_types.specs.Kinds.{needs_dynamic}
-use Rattle.wild_types.specs.FileRoles.{is_prelude}
-use Rattle.wild_types.specs.Lookups.{image_size}
-use Rattle.wild_types.specs.HeaderOnly.{KeepsAll}
-use Rattle.wild_types.specs.Parts.{role_place, part_with, is_table_role}
-use Rattle.wild_types.proofs.LookupLemmas.{not_hollow_at}
-use Rattle.wild_table_formats.specs.Headers.{program_header}
+use Rattle.wild_types.specs.Parts.{is_table_role}
 use Rattle.wild_slot.specs.declared.slot_parts.EntryPart.TheVariants as entries
-use Rattle.wild_needs.specs.SlotShares.{block_words}
-use Rattle.wild_records.specs.declared.relocations.Rela.{Rela}
-use Rattle.wild_layout.specs.DynamicRelocations.{file_generals}
-use Rattle.wild_layout.specs.RelativeRelocations.{file_entries, file_words}
-use Rattle.wild_layout.specs.SlotBytes.{slot_entries_of, flat_places_of, storage_entries}
-use Rattle.wild_layout.specs.Content.{file_content, content, last_words}
-use Rattle.wild_layout.specs.Image.{bytes}
-use Rattle.wild_layout.specs.Loadable.{SegmentLoads}
-use Rattle.wild_layout.specs.TablePlaces.{table_bytes}
-use Rattle.wild_layout.specs.Geometry.{IsLaidOut, TablesStand}
-use Rattle.wild_loader.specs.SegmentLaws.{word_bytes, rela_bytes}
-use Rattle.wild_loader.specs.Laws.{IsLocatedAt, IsTableOf}
+use Rattle.wild_layout.specs.Content.{last_words}
+use Rattle.wild_loader.specs.Laws.{IsLocatedAt}
 use Rattle.wild_loader.specs.Tables.{offset_in}
-use Rattle.std.proofs.lemmas.List.Elements.{All-contains}
-use Rattle.std.proofs.lemmas.List.{append-nil, append_assoc, length-append, get_or_append_left, get_or-append_right, nil_from_length}
-use Rattle.std.proofs.lemmas.List.Concat.{flat_map-append}
-use Rattle.wild_words.proofs.Basics.{Contains-map}
-use Rattle.wild_words.proofs.ListLemmas.{flat_map-same, flat_map-flat_map}
-use Rattle.wild_loaded.specs.Tables.{packed_words_of_file, group_words, relative_entries, other_entries, tables_of, words_of_last}
+use Rattle.std.proofs.lemmas.List.{append_assoc, get_or-append_right, nil_from_length}
 use Rattle.wild_loaded.proofs.Loads.{kind_is, header_from, header_to}
 
 -- ---- bytes

@@ -1,32 +1,9 @@
 -- What the tables of a layout fill, as one list, and that it has what each table has.
-use Rattle.wild_placement.specs.PlacedSections.{placed_file, placed_files, processed_sections}
-use Rattle.wild_geometry.proofs.PlacedInputs.{all_sections, by_files, placed_files_same_all}
-use Rattle.std.proofs.Common.{◌≡◌, ℕ, List, [], ◌∷◌, ◌++◌, map, refl, sym, ap, ◌∙◌, subst, append_assoc}
-use Rattle.std.specs.Prelude.{IsPermutation}
-use Rattle.std.specs.List.{flat_map}
-use Rattle.std.proofs.lemmas.List.{append-nil}
-use Rattle.std.proofs.lemmas.List.Concat.{flat_map-append, flat_map_single}
-use Rattle.std.proofs.lemmas.List.Folds.{flat_map-map}
-use Rattle.std.proofs.lemmas.List.Sorted.{IsPermutation-refl, IsPermutation-sym, IsPermutation-trans, IsPermutation-append, IsPermutation-append_left, IsPermutation-append_right, IsPermutation-append_comm}
-use Rattle.wild_words.proofs.Basics.{map-flat_map}
-use Rattle.wild_words.proofs.ListLemmas.{flat_map-same, flat_map-flat_map}
-use Rattle.wild_records.specs.declared.relocations.Rela.{Rela}
-use Rattle.wild_types.specs.declared.input.InputSection.{InputSection}
-use Rattle.wild_slot.specs.declared.slot_parts.EntryPart.{EntryPart}
+use Rattle.wild_loaded.proofs.Common.{placed_file, placed_files, processed_sections, all_sections, by_files, placed_files_same_all, ◌≡◌, ℕ, List, [], ◌∷◌, ◌++◌, map, refl, sym, ap, ◌∙◌, subst, append_assoc, IsPermutation, flat_map, append-nil, flat_map-append, flat_map-map, IsPermutation-refl, IsPermutation-sym, IsPermutation-trans, IsPermutation-append, IsPermutation-append_right, IsPermutation-append_comm, map-flat_map, flat_map-same, flat_map-flat_map, Rela, InputSection, EntryPart, File, Group, Layout, relr_places, copies_of, entry_of, relr_slot_place, relr_got_place, IsLaidOut, section_entries, file_entries, section_generals, copy_entry, file_generals, slot_entries_of, storage_entries, World, relative_entries, other_entries, tables_of}
+use Rattle.std.proofs.lemmas.List.Concat.{flat_map_single}
+use Rattle.std.proofs.lemmas.List.Sorted.{IsPermutation-append_left}
 use Rattle.wild_slot.specs.declared.slot_parts.EntryPart.TheVariants as entries
-use Rattle.wild_types.specs.declared.file.File.{File}
-use Rattle.wild_types.specs.declared.file.Group.{Group}
-use Rattle.wild_types.specs.declared.layout.Layout.{Layout}
-use Rattle.wild_needs.specs.Entries.{relr_places}
-use Rattle.wild_types.specs.FileSymbols.{copies_of}
-use Rattle.wild_slot.specs.SlotParts.{entry_of, relr_slot_place}
-use Rattle.wild_needs.specs.SlotShares.{relr_got_place}
-use Rattle.wild_layout.specs.Geometry.{IsLaidOut}
-use Rattle.wild_layout.specs.RelativeRelocations.{section_entries, file_entries}
-use Rattle.wild_layout.specs.DynamicRelocations.{section_generals, copy_entry, file_generals}
-use Rattle.wild_layout.specs.SlotBytes.{slot_entries_of, storage_entries}
-use Rattle.wild_loader.specs.declared.world.World.{World}
-use Rattle.wild_loaded.specs.Tables.{relative_entries, entries_of_first_file, other_entries, tables_of}
+use Rattle.wild_loaded.specs.Tables.{entries_of_first_file}
 use Rattle.wild_loaded.proofs.SlotSites.{of_site, entries_by_sites, all_sites, all_by_sites}
 use Rattle.wild_loaded.proofs.Permuted.{nested-parts}
 use Rattle.wild_loaded.proofs.Fillings.{Filling, packed_in, relative_in, general_in, jump_in}

@@ -1,25 +1,7 @@
 -- The parts of slots and stubs in memory: they share no byte with each other, nor with an input section.
-use Rattle.std.proofs.Common.{◌≡◌, ℕ, ◌+◌, ◌-◌, ◌^◌, ◌≤◌, inl, inr, Bool, true, false, List, length, refl, sym, ap, ◌∙◌, arith, subst}
-use Rattle.std.specs.Prelude.{Option, Some, None, All, AllPairs, Contains, slice_get, ◌&&◌, not}
-use Rattle.std.proofs.lemmas.List.Elements.{All-contains}
-use Rattle.std.proofs.lemmas.Option.{slice_get-get_or}
-use Rattle.wild_types.specs.declared.part.Part.{Part}
-use Rattle.wild_types.specs.declared.part.Role.{Role}
+use Rattle.wild_loaded.proofs.Common.{◌≡◌, ℕ, ◌+◌, ◌-◌, ◌^◌, ◌≤◌, inl, inr, Bool, true, false, List, length, refl, sym, ap, ◌∙◌, arith, subst, Option, Some, None, All, AllPairs, Contains, slice_get, ◌&&◌, not, All-contains, slice_get-get_or, Part, Role, InputSection, Layout, is_header_only_role, KeepsAll, has_data, is_header_only_at, takes_file_bytes, is_filled, not_hollow_at, not_raw, role_place, has_role, is_loaded_role, part_with, address_of_part, start_of, offset_in, SectionLies, IsLaidOut, IsLoadable, end_of, IsLocatedAt}
 use Rattle.wild_types.specs.declared.part.Role.TheVariants as role
-use Rattle.wild_types.specs.declared.input.InputSection.{InputSection}
-use Rattle.wild_types.specs.declared.layout.Layout.{Layout}
-use Rattle.wild_types.specs.HeaderOnly.{is_header_only_role, KeepsAll}
-use Rattle.wild_types.specs.Lookups.{has_data, is_header_only_at, takes_file_bytes, is_filled}
-use Rattle.wild_types.proofs.LookupLemmas.{not_hollow_at}
-use Rattle.wild_types.proofs.PartLemmas.{not_raw}
-use Rattle.wild_types.specs.Parts.{role_place, has_role, is_loaded_role, part_with}
-use Rattle.wild_plan_rules.specs.SlotPlaces.{address_of_part, start_of}
-use Rattle.wild_layout.specs.Image.{offset_in}
-use Rattle.wild_layout.specs.SectionPlaces.{SectionLies, HasRoom, RangesApart}
-use Rattle.wild_layout.specs.Geometry.{IsLaidOut}
-use Rattle.wild_meaning.specs.World.{IsLoadable}
-use Rattle.wild_slots.specs.Order.{end_of}
-use Rattle.wild_slots.specs.SlotPlaces.{IsLocatedAt}
+use Rattle.wild_layout.specs.SectionPlaces.{HasRoom, RangesApart}
 use Rattle.wild_loaded.proofs.PartsHeld.{placed, written_part, part_carried}
 use Rattle.wild_loaded.proofs.Fillings.{Filling, DoNotOverlap}
 use Rattle.wild_loaded.proofs.LoadedRanges.{LoadedRange, IsCarriedRange, AreDisjointRanges, LiesIn}

@@ -1,59 +1,26 @@
 -- The numbers of the tables: each entry and each word has its range.
-use Rattle.wild_needs.specs.Needs.{has_last}
-use Rattle.wild_placement.specs.PlacedSections.{placed_files, processed_sections, sorted_sections}
-use Rattle.std.proofs.Common.{◌≡◌, ℕ, ◌+◌, ◌%◌, ◌^◌, ◌<◌, ◌≤◌, inl, inr, Bool, true, false, not, List, [], ◌∷◌, ◌++◌, map, get_or, refl, sym, arith, subst}
-use Rattle.std.specs.Prelude.{Option, Some, None, All, unwrap_or, option_to_list, option_map, option_and_then, if◌then◌else◌, ◌&&◌, slice_get}
-use Rattle.std.specs.List.{flat_map}
-use Rattle.std.specs.Int.{w64, cast_signed}
+use Rattle.wild_loaded.proofs.Common.{has_last, placed_files, processed_sections, sorted_sections, ◌≡◌, ℕ, ◌+◌, ◌%◌, ◌^◌, ◌<◌, ◌≤◌, inl, inr, Bool, true, false, not, List, [], ◌∷◌, ◌++◌, map, get_or, refl, sym, arith, subst, Option, Some, None, All, unwrap_or, option_to_list, option_map, option_and_then, if◌then◌else◌, ◌&&◌, slice_get, flat_map, w64, cases_lt, All-nil, All-cons, All-head, All-tail, All-append, All-map, All-contains, All-flat_map, of_if, listed_at, RelaFits, Rela, Machine, InputRelocation, InputSection, File, Group, Resolution, Symbol, Layout, SlotEntry, SlotWord, Number, Address, InRelrGot, General, Plt, EntryPart, Treatment, place_of, packs, canonical, is_relative, relr_place, relr_places, sorted_words, copies_of, is_prelude, next, is_packed, type_of, entry_at, entry_of, address_entry, relr_slot_place, relr_got_place, block_of, group_relr_got, block_words, storage_words, treatment, addend_bits, entry_for, section_generals, copy_entry, file_generals, value_or_0, relative_value, listed_entry, section_entries, file_entries, file_words, SymbolNumbers, slot_entries_of, flat_places_of, storage_entries, decided_address, raw_value, relative_entry, packed_words_of_file, group_words, relative_entries, other_entries, tables_of, words_of_last, facts_of}
+use Rattle.std.specs.Int.{cast_signed}
 use Rattle.std.specs.Int.RustNames.{FitsSigned}
-use Rattle.std.proofs.lemmas.Bool.{cases_lt}
 use Rattle.std.proofs.lemmas.Int.{ints}
-use Rattle.std.proofs.lemmas.List.Elements.{All-nil, All-cons, All-head, All-tail, All-append, All-map, All-contains}
-use Rattle.wild_words.proofs.ListLemmas.{All-flat_map}
-use Rattle.wild_words.proofs.Basics.{of_if, listed_at}
-use Rattle.wild_records.specs.Relocations.{RelaFits}
-use Rattle.wild_records.specs.declared.relocations.Rela.{Rela}
 use Rattle.wild_reloc.specs.declared.dynamic.DynamicRelocationKind.TheVariants as entry_kinds
 use Rattle.wild_types.specs.declared.fault.Missing.TheVariants as missing
-use Rattle.wild_types.specs.declared.kind.Machine.{Machine}
-use Rattle.wild_types.specs.declared.input.InputRelocation.{InputRelocation}
-use Rattle.wild_types.specs.declared.input.InputSection.{InputSection}
-use Rattle.wild_types.specs.declared.file.File.{File}
-use Rattle.wild_types.specs.declared.file.Group.{Group}
 use Rattle.wild_types.specs.declared.symbol.Place.{Place}
 use Rattle.wild_types.specs.declared.symbol.Place.TheVariants as at
-use Rattle.wild_types.specs.declared.symbol.Resolution.{Resolution}
-use Rattle.wild_types.specs.declared.symbol.Symbol.{Symbol}
-use Rattle.wild_types.specs.declared.layout.Layout.{Layout}
-use Rattle.wild_slot.specs.declared.slot.SlotEntry.{SlotEntry}
-use Rattle.wild_slot.specs.declared.slot.SlotWord.{SlotWord}
-use Rattle.wild_slot.specs.declared.slot.SlotWord.TheVariants.{Number, Address, InRelrGot, General, Plt}
-use Rattle.wild_slot.specs.declared.slot_parts.EntryPart.{EntryPart}
 use Rattle.wild_slot.specs.declared.slot_parts.EntryPart.TheVariants as entries
-use Rattle.wild_slot.specs.declared.treatment.Treatment.{Treatment}
 use Rattle.wild_slot.specs.declared.treatment.Treatment.TheVariants as treatments
-use Rattle.wild_types.specs.Lookups.{place_of, packs, may_have_relative, canonical, has_address, files_of, file_of}
-use Rattle.wild_needs.specs.Entries.{is_relative, relr_place, relr_places, words_of, dynamic_relocations, sorted_words}
-use Rattle.wild_types.specs.FileSymbols.{copies_of}
-use Rattle.wild_types.specs.FileRoles.{is_prelude}
-use Rattle.wild_slot.specs.SlotParts.{next, is_packed, type_of, entry_at, entry_of, slot_entries, address_entry, relr_slot_place}
-use Rattle.wild_needs.specs.SlotShares.{relr_got_place, first_place, block_of, group_relr_got, block_words, storage_words}
-use Rattle.wild_slot.specs.Treatment.{treatment}
+use Rattle.wild_types.specs.Lookups.{may_have_relative, has_address, files_of, file_of}
+use Rattle.wild_needs.specs.Entries.{words_of, dynamic_relocations}
+use Rattle.wild_slot.specs.SlotParts.{slot_entries}
+use Rattle.wild_needs.specs.SlotShares.{first_place}
 use Rattle.wild_relr.specs.Laws.{IsWord, WordsFit}
-use Rattle.wild_layout.specs.Decide.{addend_bits}
-use Rattle.wild_layout.specs.DynamicRelocations.{entry_for, index_or_zero, dynamic_relocation_by, dynamic_relocation, section_generals, copy_entry, file_generals}
-use Rattle.wild_layout.specs.RelativeRelocations.{value_or_0, relative_value, listed_entry, section_entries, file_entries, file_words}
-use Rattle.wild_layout.specs.Numbers.{SymbolNumbers}
-use Rattle.wild_layout.specs.SlotBytes.{slot_entries_of, flat_places_of, storage_entries}
+use Rattle.wild_layout.specs.DynamicRelocations.{index_or_zero, dynamic_relocation_by, dynamic_relocation}
 use Rattle.wild_layout.specs.SymbolValues.{resolved_address, raw_address}
-use Rattle.wild_layout.specs.SlotValues.{decided_address}
-use Rattle.wild_types.specs.Addresses.{address_in_section, address_in_file, address_at, placed_value, resolved_or, raw_value}
-use Rattle.wild_table_formats.specs.GroupTables.{relative_entry}
-use Rattle.wild_loaded.specs.Tables.{packed_words_of_file, group_words, relative_entries, entries_of_first_file, other_entries, tables_of, words_of_last}
+use Rattle.wild_types.specs.Addresses.{address_in_section, address_in_file, address_at, placed_value, resolved_or}
+use Rattle.wild_loaded.specs.Tables.{entries_of_first_file}
 use Rattle.wild_loaded.proofs.SlotNumbers.{WordFits}
 use Rattle.wild_loaded.proofs.SlotSites.{SlotSite, of_site, file_sites, group_sites, entries_by_sites, flat_by_sites, block_by_sites}
 use Rattle.wild_loaded.proofs.SitesFit.{SiteFits, sites_fit, group_sites_fit, block_fits}
-use Rattle.wild_geometry.proofs.MachineLemmas.{facts_of}
 
 -- ---- each entry
 

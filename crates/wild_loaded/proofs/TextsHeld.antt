@@ -1,44 +1,17 @@
 -- Merged strings and the path of the interpreter in the memory of an image: as the file has them, whatever its tables fill.
-use Rattle.std.proofs.Common.{◌≡◌, ℕ, ◌+◌, ◌-◌, ◌<◌, ◌≤◌, inl, inr, ◌==◌, Bool, true, false, not, List, [], ◌∷◌, ◌++◌, length, Some, flat_map, refl, sym, ap, ◌∙◌, arith, subst}
-use Rattle.std.specs.Prelude.{All, Contains, Option, if◌then◌else◌, slice_index, slice_get}
-use Rattle.std.proofs.lemmas.Bool.{and_from, ne_eqb}
-use Rattle.std.proofs.lemmas.List.Elements.{All-contains, Contains-append_left, Contains-append_right}
-use Rattle.wild_words.proofs.Basics.{listed_at}
-use Rattle.wild_words.specs.Words.{HasBytesAt}
-use Rattle.wild_words.specs.Overlay.{Piece, Disjoint}
-use Rattle.wild_types.specs.declared.part.Part.{Part}
-use Rattle.wild_types.specs.declared.part.Role.{Role}
+use Rattle.wild_loaded.proofs.Common.{◌≡◌, ℕ, ◌+◌, ◌-◌, ◌<◌, ◌≤◌, inl, inr, ◌==◌, Bool, true, false, not, List, [], ◌∷◌, ◌++◌, length, Some, refl, sym, ap, ◌∙◌, arith, subst, All, Contains, Option, if◌then◌else◌, slice_index, slice_get, ne_eqb, All-contains, Contains-append_left, Contains-append_right, listed_at, HasBytesAt, Piece, Disjoint, Part, Role, InputSection, Segment, Layout, KeepsAll, section_of_part, is_header_only_at, is_header_only_part, has_data, takes_file_bytes, is_filled, is_loaded_role, role_place, has_role, part_with, not_raw, placed_file, placed_files, of_last_file, sorted_inputs, IsLaidOut, TablesStand, bytes, pieces, section_pieces, sorted_piece, thunk_pieces, file_pieces, table_pieces, owned_pieces, group_pieces, of_first_file, merged_and_identity_pieces, offset_in, CarriesByte, Contains-flat_map, Memory, World, Holds, byte_in, BytesAreLoaded, IsLegal, IsLoadable, alloc_bit, not_partial, file_place, all_sections, room_of, length-room, image_memory, IsStored, HasPlace, Filled, Framed, TextsAreStored}
+use Rattle.std.proofs.Common.{flat_map}
+use Rattle.std.proofs.lemmas.Bool.{and_from}
 use Rattle.wild_types.specs.declared.part.Role.TheVariants as role
-use Rattle.wild_types.specs.declared.input.InputSection.{InputSection}
-use Rattle.wild_types.specs.declared.section.Segment.{Segment}
 use Rattle.wild_types.specs.declared.layout.Merged.{Merged}
-use Rattle.wild_types.specs.declared.layout.Layout.{Layout}
-use Rattle.wild_types.specs.HeaderOnly.{KeepsAll}
-use Rattle.wild_types.specs.Lookups.{section_of_part, is_allocated_section, is_header_only_at, is_header_only_part, has_data, takes_file_bytes, is_filled}
-use Rattle.wild_types.specs.Parts.{is_loaded_role, role_place, has_role, part_with}
-use Rattle.wild_types.proofs.PartLemmas.{not_raw}
-use Rattle.wild_placement.specs.PlacedSections.{placed_file, placed_files, of_last_file, sorted_inputs}
-use Rattle.wild_layout.specs.Geometry.{IsLaidOut, TablesStand}
-use Rattle.wild_layout.specs.Image.{bytes, pieces, section_pieces, sorted_piece, thunk_pieces, file_pieces, table_pieces, owned_pieces, group_pieces, of_first_file, merged_and_identity_pieces, merged_bytes, front_piece, offset_of_part, offset_in}
-use Rattle.wild_layout.specs.Loadable.{CarriesByte}
+use Rattle.wild_types.specs.Lookups.{is_allocated_section}
+use Rattle.wild_layout.specs.Image.{merged_bytes, front_piece, offset_of_part}
 use Rattle.wild_layout.specs.SectionPlaces.{FrontLies, HasRoom}
-use Rattle.wild_layout.proofs.SiteLemmas.{Contains-flat_map}
-use Rattle.wild_loader.specs.declared.memory.Memory.{Memory}
-use Rattle.wild_loader.specs.declared.world.World.{World}
-use Rattle.wild_loader.specs.Memory.{Holds, byte_in}
-use Rattle.wild_loader.specs.SegmentLaws.{BytesAreLoaded}
 use Rattle.wild_meaning.specs.Section.{IsAllocatedPart, IsHeaderOnly}
-use Rattle.wild_meaning.specs.World.{IsLegal, IsLoadable}
 use Rattle.wild_meaning.specs.LinkedImage.{HoldsTexts}
-use Rattle.wild_meaning.proofs.BitLemmas.{alloc_bit}
-use Rattle.wild_meaning.proofs.OutputLemmas.{not_partial}
 use Rattle.wild_geometry.specs.Carried.{IsPartLoaded, EachPartIsLoaded}
-use Rattle.wild_geometry.specs.PlacedSections.{file_place}
 use Rattle.wild_geometry.proofs.HeaderOnlyLemmas.{part_is_written}
-use Rattle.wild_geometry.proofs.PlacedInputs.{all_sections, placed_file_of}
-use Rattle.wild_geometry.proofs.Rooms.{room_of, length-room}
-use Rattle.wild_loaded.specs.Memory.{image_memory, IsStored, HasPlace, Filled, Framed}
-use Rattle.wild_loaded.specs.Laws.{TextsAreStored}
+use Rattle.wild_geometry.proofs.PlacedInputs.{placed_file_of}
 use Rattle.wild_loaded.proofs.FirstFile.{first_file, interpreter_bytes}
 use Rattle.wild_loaded.proofs.LoadedRanges.{LoadedRange, IsCarriedRange, AreDisjointRanges, disjoint_ranges_flip}
 use Rattle.wild_loaded.proofs.Loads.{piece_stands}

@@ -1,44 +1,21 @@
 -- Thunks in the memory of an image: as the file has them, whatever its tables fill.
-use Rattle.wild_words.proofs.ListLemmas.{flat_map-flat_map}
-use Rattle.wild_placement.specs.PlacedSections.{placed_file, placed_files, of_last_file, sorted_inputs}
-use Rattle.wild_geometry.specs.PlacedSections.{file_place}
+use Rattle.wild_loaded.proofs.Common.{flat_map-flat_map, placed_file, placed_files, of_last_file, sorted_inputs, file_place, all_sections, placed_files_same_all, room_of, length-room, ◌≡◌, ℕ, ◌+◌, ◌<◌, inl, inr, Bool, true, if◌then◌else◌, List, [], length, Some, refl, sym, ap, ◌∙◌, arith, subst, ◌++◌, All, Contains, Result, slice_index, slice_get, All-contains, Contains-append_right, HasBytesAt, Piece, Disjoint, Fault, Role, InputSection, File, Group, Layout, KeepsAll, is_filled, is_loaded_role, bytes, pieces, section_pieces, thunk_pieces, file_pieces, table_pieces, owned_pieces, group_pieces, sorted_piece, of_first_file, merged_and_identity_pieces, offset_in, IsLaidOut, Contains-flat_map, Memory, World, Holds, byte_in, BytesAreLoaded, IsLegal, IsLoadable, IsStored, image_memory, HasPlace, Filled, Framed}
 use Rattle.wild_loaded.proofs.SectionsDisjoint.{inside_apart, frame_inside}
-use Rattle.wild_geometry.proofs.PlacedInputs.{all_sections, placed_file_of, placed_files_same_all}
-use Rattle.wild_geometry.proofs.Rooms.{room_of, length-room}
+use Rattle.wild_geometry.proofs.PlacedInputs.{placed_file_of}
 use Rattle.wild_loaded.proofs.Rooms.{rooms_in, stood_files}
-use Rattle.std.proofs.Common.{◌≡◌, ℕ, ◌+◌, ◌<◌, inl, inr, Bool, true, if◌then◌else◌, List, [], length, Some, flat_map, refl, sym, ap, ◌∙◌, arith, subst, ◌++◌}
-use Rattle.std.specs.Prelude.{All, Contains, Result, slice_index, slice_get}
-use Rattle.std.proofs.lemmas.List.Elements.{All-contains, Contains-append_right}
-use Rattle.wild_words.specs.Words.{HasBytesAt}
-use Rattle.wild_words.specs.Overlay.{Piece, Disjoint}
-use Rattle.wild_types.specs.declared.fault.Fault.{Fault}
-use Rattle.wild_types.specs.declared.part.Role.{Role}
+use Rattle.std.proofs.Common.{flat_map}
 use Rattle.wild_types.specs.declared.part.Role.TheVariants as role
-use Rattle.wild_types.specs.declared.input.InputSection.{InputSection}
-use Rattle.wild_types.specs.declared.file.File.{File}
-use Rattle.wild_types.specs.declared.file.Group.{Group}
 use Rattle.wild_types.specs.declared.layout.Thunk.{Thunk}
-use Rattle.wild_types.specs.declared.layout.Layout.{Layout}
 use Rattle.wild_types.specs.FileThunks.{thunk_size, thunks_of}
-use Rattle.wild_types.specs.HeaderOnly.{KeepsAll}
 use Rattle.wild_types.proofs.LookupLemmas.{not_hollow_part}
-use Rattle.wild_types.specs.Lookups.{is_filled, files_of}
-use Rattle.wild_types.specs.Parts.{is_loaded_role}
+use Rattle.wild_types.specs.Lookups.{files_of}
 use Rattle.wild_relax.specs.ThunkAArch64.{thunk_aarch64}
 use Rattle.wild_layout.specs.Thunks.{thunk_target, target_or_zero, thunk_bytes}
-use Rattle.wild_layout.specs.Image.{bytes, pieces, section_pieces, thunk_offset, thunk_piece, thunk_pieces, file_pieces, table_pieces, owned_pieces, group_pieces, sorted_piece, of_first_file, merged_and_identity_pieces, offset_in}
+use Rattle.wild_layout.specs.Image.{thunk_offset, thunk_piece}
 use Rattle.wild_layout.specs.ThunkPlaces.{ThunkLies}
-use Rattle.wild_layout.specs.Geometry.{IsLaidOut}
 use Rattle.wild_layout.proofs.FaultLemmas.{CanGoOn, thunks_of_groups}
-use Rattle.wild_layout.proofs.SiteLemmas.{Contains-flat_map}
 use Rattle.wild_layout.proofs.ThunkLemmas.{length-thunk, length-thunk_bytes, GoesOnTo, goes_on}
-use Rattle.wild_loader.specs.declared.memory.Memory.{Memory}
-use Rattle.wild_loader.specs.declared.world.World.{World}
-use Rattle.wild_loader.specs.Memory.{Holds, byte_in}
-use Rattle.wild_loader.specs.SegmentLaws.{BytesAreLoaded}
-use Rattle.wild_meaning.specs.World.{IsLegal, IsLoadable}
 use Rattle.wild_geometry.specs.Thunks.{HasThunks}
-use Rattle.wild_loaded.specs.Memory.{IsStored, image_memory, HasPlace, Filled, Framed}
 use Rattle.wild_loaded.specs.Laws.{ThunksAreThere}
 use Rattle.wild_loaded.proofs.SectionBytesInMemory.{Contains-flat_map_from}
 use Rattle.wild_loaded.proofs.PartsHeld.{byte_stands, byte_carried}

@@ -1,8 +1,7 @@
 -- What holds of those elements of a list that pass a test.
 --   Among test P xs   P holds of each of them, as a tuple
 --   pick ..           and so of the one at hand
-use Rattle.std.proofs.Common.{◌≡◌, ℕ, zero, suc, ◌<◌, Bool, true, false, List, [], ◌∷◌, length, ap, ◌∙◌, subst, arith}
-use Rattle.std.specs.Prelude.{Contains, slice_index_or}
+use Rattle.wild_meaning.proofs.Common.{◌≡◌, ℕ, zero, suc, ◌<◌, Bool, true, false, List, [], ◌∷◌, length, ap, ◌∙◌, subst, arith, Contains, slice_index_or}
 
 abbrev pub both : Bool → Type 0 → Type 0 → Type 0
 both true A B = A × B

@@ -1,15 +1,11 @@
 -- Flags of sections, as the writer tests them and as the reader does.
-use Rattle.std.proofs.Common.{◌≡◌, ℕ, ◌*◌, ◌/◌, ◌%◌, ◌⊎◌, inl, inr, true, refl, arith}
+use Rattle.wild_meaning.proofs.Common.{◌≡◌, ℕ, ◌*◌, ◌/◌, ◌%◌, ◌⊎◌, inl, inr, true, refl, arith, eqb-true, shf_execinstr, InputSection, Layout, IsSet}
 use Rattle.std.specs.Int.RustNames.{bit_and}
 use Rattle.std.proofs.lemmas.Nat.Bits.{and_pow}
-use Rattle.std.proofs.lemmas.Bool.{eqb-true}
-use Rattle.wild_records.specs.Abi.Section.{shf_alloc, shf_execinstr, shf_write, shf_tls}
+use Rattle.wild_records.specs.Abi.Section.{shf_alloc, shf_write, shf_tls}
 use Rattle.wild_types.specs.Lookups.{bit, allocated, executable, has_counted, is_counted, writable, thread_local}
 use Rattle.wild_types.specs.declared.input.Slot.{Slot}
 use Rattle.wild_types.specs.declared.input.Slot.TheVariants as slot
-use Rattle.wild_types.specs.declared.input.InputSection.{InputSection}
-use Rattle.wild_types.specs.declared.layout.Layout.{Layout}
-use Rattle.wild_meaning.specs.Section.{IsSet}
 use Rattle.wild_meaning.specs.Item.{IsLoadedSlot, IsKeptSection}
 
 pub alloc_bit : (f : ℕ) → IsSet f shf_alloc → allocated f ≡ true

@@ -1,31 +1,15 @@
 -- Wrong code of the worked program without a dynamic linker is refused.
-use Rattle.std.proofs.Common.{◌≡◌, ℕ, ◌+◌, ◌-◌, ◌%◌, ◌^◌, inl, inr, true, false, List, [], ◌∷◌, refl, sym, ap, ◌∙◌, subst, arith}
-use Rattle.std.specs.Prelude.{Option, Some, slice_range, option_map}
-use Rattle.wild_words.specs.Words.{number}
-use Rattle.wild_records.specs.Abi.Relocation.{r_x86_64_plt32, r_x86_64_pc32, r_x86_64_rex_gotpcrelx, r_x86_64_gotpc32_tlsdesc}
-use Rattle.wild_reloc.specs.Formula.{Formula, formula, StubDistance, SlotDistance, AddressSlot, ThreadOffset, Descriptor, Plain, Signed}
-use Rattle.wild_reloc.specs.FormulaX86_64.{x86_64_formula}
+use Rattle.wild_meaning.proofs.Common.{◌≡◌, ℕ, ◌+◌, ◌-◌, ◌%◌, ◌^◌, inl, inr, true, false, List, [], ◌∷◌, refl, sym, ap, ◌∙◌, subst, arith, Option, Some, slice_range, option_map, number, r_x86_64_gotpc32_tlsdesc, Formula, formula, StubDistance, SlotDistance, AddressSlot, ThreadOffset, Descriptor, Plain, Signed, x86_64_formula, Symbol, has_flag, Memory, Holds, Number, Word, Deed, Set, Call, Jump, Reader, matches_cells, as_value, with_value, meaning_x86_64, effect_x86_64, IsKept, OfSection, InNoField, Gives, HasSlotAddress, ReadsOffsetSlots, ReferenceHolds, Instruction, Target, Described, size_of, instructions_of, IsInstruction, IsTemplate, DoesDemanded, Refuses, static_pie, static_pie_world, branch_code, load_code, described_code, thread_symbol, MemoryHas}
+use Rattle.wild_records.specs.Abi.Relocation.{r_x86_64_plt32, r_x86_64_pc32, r_x86_64_rex_gotpcrelx}
 use Rattle.wild_types.specs.declared.kind.Machine.TheVariants as machine
-use Rattle.wild_types.specs.declared.symbol.Symbol.{Symbol}
-use Rattle.wild_types.specs.Flags.{has_flag}
-use Rattle.wild_loader.specs.declared.memory.Memory.{Memory}
-use Rattle.wild_loader.specs.Memory.{Holds}
-use Rattle.wild_loader.specs.declared.instruction.Operand.TheVariants.{Number, Word}
-use Rattle.wild_loader.specs.declared.instruction.Deed.{Deed}
-use Rattle.wild_loader.specs.declared.instruction.Deed.TheVariants.{Set, Add, Subtract, Compare, Call, Jump}
-use Rattle.wild_loader.specs.Instruction.{Reader, matches_cells, as_value, with_value}
-use Rattle.wild_loader.specs.InstructionX86_64.{meaning_x86_64, effect_x86_64}
+use Rattle.wild_loader.specs.declared.instruction.Deed.TheVariants.{Add, Subtract, Compare}
 use Rattle.wild_loader.specs.CodeX86_64.{rex, with_slot, branch}
-use Rattle.wild_meaning.specs.Item.{IsKept, OfSection}
-use Rattle.wild_meaning.specs.Field.{InNoField}
-use Rattle.wild_meaning.specs.Formula.{Gives}
-use Rattle.wild_meaning.specs.Slot.{has_slot_of, HasSlotAddress, HasSlot}
-use Rattle.wild_meaning.specs.Reference.{IsOffsetSlot, ReadsOffsetSlots, ReferenceHolds}
-use Rattle.wild_meaning.specs.Sequence.{Instruction, Target, AddressInSlot, Described, size_of, of_field, instructions_of}
-use Rattle.wild_meaning.specs.Template.{IsDescribed, IsInstruction, IsTemplate, DoesDemanded}
-use Rattle.wild_meaning.specs.Worked.Builders.{Refuses}
-use Rattle.wild_meaning.specs.Worked.Static.{static_pie, static_pie_world, branch_code, branch_item, branch_reference, load_code, load_item, load_reference, described_code, described_item, described_reference, thread_symbol}
-use Rattle.wild_meaning.specs.Worked.StaticRefusals.{MemoryHas, another_branch, load_one_byte_off, descriptor_load, load_of_data}
+use Rattle.wild_meaning.specs.Slot.{has_slot_of, HasSlot}
+use Rattle.wild_meaning.specs.Reference.{IsOffsetSlot}
+use Rattle.wild_meaning.specs.Sequence.{AddressInSlot, of_field}
+use Rattle.wild_meaning.specs.Template.{IsDescribed}
+use Rattle.wild_meaning.specs.Worked.Static.{branch_item, branch_reference, load_item, load_reference, described_item, described_reference}
+use Rattle.wild_meaning.specs.Worked.StaticRefusals.{another_branch, load_one_byte_off, descriptor_load, load_of_data}
 use Rattle.wild_meaning.proofs.SymbolUnique.{denoted, defining_symbol_is}
 use Rattle.wild_meaning.proofs.EffectLemmas.{meant}
 use Rattle.wild_meaning.proofs.AmongLemmas.{Among}

@@ -1,18 +1,8 @@
 -- The worked worlds of the program with a copied symbol are legal, whether or not it has room for the symbol.
-use Rattle.std.proofs.Common.{◌≡◌, ℕ, zero, suc, ◌+◌, ◌^◌, ◌<◌, ◌≤◌, inl, inr, Bool, false, List, [], ◌∷◌, refl, sym, ap, ◌∙◌, subst, arith}
-use Rattle.std.specs.Prelude.{Some, None, All, Contains, slice_index_or}
-use Rattle.std.proofs.lemmas.List.Elements.{All-nil, All-from_recursion, All-contains}
-use Rattle.wild_records.specs.Abi.Segment.{pt_load}
-use Rattle.wild_types.specs.declared.section.Segment.{Segment}
+use Rattle.wild_meaning.proofs.Common.{◌≡◌, ℕ, zero, suc, ◌+◌, ◌^◌, ◌<◌, ◌≤◌, inl, inr, Bool, false, List, [], ◌∷◌, refl, sym, ap, ◌∙◌, subst, arith, Some, None, All, Contains, slice_index_or, All-nil, All-from_recursion, All-contains, pt_load, Segment, File, Group, has_flag, ifunc, absolute, Answer, IsDefinedBy, IsReplaceable, HasRaw, HasFlag, HasAnswer, HasResolver, IsAnswer, IsAnswered, IsKnownModule, IsCopied, IsPastFileBytes, group_of, copying_layout, copying_world, copied_symbol, start_symbol, copied_answer}
 use Rattle.wild_types.specs.declared.file.FileRole.TheVariants as file_role
-use Rattle.wild_types.specs.declared.file.File.{File}
-use Rattle.wild_types.specs.declared.file.Group.{Group}
-use Rattle.wild_types.specs.Flags.{has_flag, ifunc, absolute}
-use Rattle.wild_loader.specs.declared.world.Answer.{Answer}
-use Rattle.wild_meaning.specs.Value.{IsDefinedBy, IsReplaceable, HasRaw, HasFlag, HasAnswer}
-use Rattle.wild_meaning.specs.World.{HasResolver, IsAnswer, IsAnswered, IsOwnAnswer, IsKnownModule, IsCopied, HasCopy, HasRoomFor, IsPastFileBytes, IsLegal}
-use Rattle.wild_meaning.specs.Worked.Builders.{group_of}
-use Rattle.wild_meaning.specs.Worked.Copy.{copying_with, copying_layout, copying_room, copying_object, copying_library, copying_world, copied_symbol, start_symbol, null_answer, answer_with, copied_answer, copied_bytes, world_with, roomless_layout}
+use Rattle.wild_meaning.specs.World.{IsOwnAnswer, HasCopy, HasRoomFor, IsLegal}
+use Rattle.wild_meaning.specs.Worked.Copy.{copying_with, copying_room, copying_object, copying_library, null_answer, answer_with, copied_bytes, world_with, roomless_layout}
 use Rattle.wild_meaning.specs.Worked.CopyRefusals.{CopyingWorldIsLegal, RoomlessWorldIsLegal}
 use Rattle.wild_meaning.proofs.SymbolUnique.{only, raw_of, answer_is, no_answer, defined_is}
 use Rattle.wild_meaning.proofs.Legal.{not_indirect, no_index, one_index}

@@ -1,45 +1,16 @@
 -- The image of the worked program with a copied symbol is linked in its world.
-use Rattle.std.proofs.Common.{if◌then◌else◌, Bool, ◌≡◌, ℕ, zero, suc, ◌+◌, ◌-◌, ◌<◌, ◌≤◌, ◌⊎◌, inl, inr, ◌==◌, true, false, List, [], ◌∷◌, refl, sym, ap, ◌∙◌, subst, arith, ◌++◌}
-use Rattle.std.specs.Prelude.{Some, None, Contains, All, slice_index_or, replicate}
-use Rattle.std.proofs.lemmas.Bool.{eqb-false}
+use Rattle.wild_meaning.proofs.Common.{if◌then◌else◌, Bool, ◌≡◌, ℕ, zero, suc, ◌+◌, ◌-◌, ◌<◌, ◌≤◌, ◌⊎◌, inl, inr, ◌==◌, true, false, List, [], ◌∷◌, refl, sym, ap, ◌∙◌, subst, arith, ◌++◌, Some, None, Contains, All, slice_index_or, replicate, eqb-false, All-from_recursion, All-contains, pos, number, word, spell, HasBytesAt-left, r_x86_64_64, pt_gnu_stack, file_header_fields, ProgramHeader, formula, SymbolAddress, Full, InputRelocation, InputSection, File, Group, has_flag, Answer, byte_in, Holds, first_dynamic, HasValue, IsPastFileBytes, Item, item_of, item_with, IsInput, IsKept, OfSection, OfFrames, UsesOwnSymbolOnly, ReferenceHolds, ItemHolds, headers_in, DescribeSegments, IsSectionWithoutData, DescribesOutput, reference, group_of, copying_layout, copying_world, copied_symbol, start_symbol, copied_answer, program_header_fields, dt_pltrelsz, dt_relrsz, rela_size, relr_size}
 use Rattle.std.proofs.lemmas.List.{get_or-replicate}
-use Rattle.std.proofs.lemmas.List.Elements.{All-from_recursion, All-contains}
-use lib.IntN.{pos}
-use Rattle.wild_words.specs.Words.{number, word}
-use Rattle.wild_words.specs.Record.{spell}
-use Rattle.wild_words.proofs.RecordLemmas.{HasBytesAt-left}
-use Rattle.wild_records.specs.Abi.Relocation.{r_x86_64_64}
-use Rattle.wild_records.specs.Abi.Segment.{pt_gnu_stack}
-use Rattle.wild_records.specs.FileHeader.{file_header_fields}
-use Rattle.wild_records.specs.declared.program_header.ProgramHeader.{ProgramHeader}
-use Rattle.wild_reloc.specs.Formula.{formula, SymbolAddress, Full}
-use Rattle.wild_types.specs.declared.input.InputRelocation.{InputRelocation}
-use Rattle.wild_types.specs.declared.input.InputSection.{InputSection}
-use Rattle.wild_types.specs.declared.file.File.{File}
-use Rattle.wild_types.specs.declared.file.Group.{Group}
 use Rattle.wild_types.specs.declared.layout.Entry.TheVariants as entry
-use Rattle.wild_types.specs.Flags.{has_flag}
-use Rattle.wild_loader.specs.declared.world.Answer.{Answer}
 use Rattle.wild_loader.specs.declared.memory.Machine.TheVariants as processors
-use Rattle.wild_loader.specs.Memory.{byte_in, Holds}
-use Rattle.wild_loader.specs.Tables.{first_dynamic}
-use Rattle.wild_meaning.specs.Value.{HasValue}
 use Rattle.wild_meaning.specs.Section.{HasFileBytes}
-use Rattle.wild_meaning.specs.World.{HasCopy, IsPastFileBytes}
-use Rattle.wild_types.specs.Item.{Item, item_of, item_with}
-use Rattle.wild_meaning.specs.Item.{IsInput, IsKept, OfSection, OfFrames}
-use Rattle.wild_meaning.specs.Reference.{UsesOwnSymbolOnly, ReferenceHolds, ItemHolds}
-use Rattle.wild_meaning.specs.Segments.{headers_in, DescribeSegments}
+use Rattle.wild_meaning.specs.World.{HasCopy}
 use Rattle.wild_meaning.specs.DynamicSection.{InformsLinker}
-use Rattle.wild_meaning.specs.LinkedImage.{IsSectionWithoutData, IsNotCopied, HasResolvedAddress, DescribesOutput}
-use Rattle.wild_meaning.specs.Worked.Builders.{reference, group_of}
-use Rattle.wild_meaning.specs.Worked.Copy.{copying_layout, copying_data, copying_item, copying_blank, copying_object, copying_library, copying_world, copied_symbol, start_symbol, copied_answer, copied_bytes}
+use Rattle.wild_meaning.specs.LinkedImage.{IsNotCopied, HasResolvedAddress}
+use Rattle.wild_meaning.specs.Worked.Copy.{copying_data, copying_item, copying_blank, copying_object, copying_library, copied_bytes}
 use Rattle.wild_meaning.specs.Worked.CopyImage.{copying_image, copying_rest, copying_memory, copying_header, copying_third, copying_words, copying_tables}
 use Rattle.wild_meaning.specs.Worked.CopyRefusals.{CopyingImageIsLinked}
-use Rattle.wild_records.specs.ProgramHeader.{program_header_fields}
 use Rattle.wild_meaning.proofs.SectionHeaderLemmas.{no_sections}
-use Rattle.wild_records.specs.Abi.Dynamic.{dt_pltrelsz, dt_relrsz}
-use Rattle.wild_records.specs.Relocations.{rela_size, relr_size}
 use Rattle.wild_meaning.proofs.DynamicLemmas.{whole_size, no_size, one_value_each, no_tables, no_functions}
 use Rattle.wild_meaning.proofs.FileBytes.{HasLoadedBytes, file_byte_held}
 use Rattle.wild_meaning.proofs.SymbolUnique.{only, raw_of, IsUnstubbed, no_stubs}

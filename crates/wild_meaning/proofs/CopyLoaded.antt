@@ -1,24 +1,12 @@
 -- What a loader makes of the image of the worked program with a copied symbol.
-use Rattle.std.proofs.Common.{◌≡◌, [], ◌∷◌, refl}
-use Rattle.std.specs.Prelude.{List, Ok, Some, None}
-use Rattle.wild_words.specs.Words.{word, number}
-use Rattle.wild_words.specs.Extents.{least_extent}
-use Rattle.wild_records.specs.Abi.Dynamic.{dt_jmprel, dt_symtab, dt_relaent, dt_flags, dt_relr, dt_relrsz, dt_pltrelsz, dt_relacount, dt_flags_1}
-use Rattle.wild_records.specs.FileHeader.{file_header_fields, file_header_at}
-use Rattle.wild_records.specs.ProgramHeader.{program_header_fields, program_header_at}
+use Rattle.wild_meaning.proofs.Common.{◌≡◌, [], ◌∷◌, refl, List, Ok, Some, None, word, number, least_extent, dt_jmprel, dt_symtab, dt_relr, dt_relrsz, dt_pltrelsz, file_header_fields, file_header_at, program_header_fields, program_header_at, rela_size, DynamicEntry, header, program_headers, load_segment, load_segments, segments, first_dynamic, value_of_tag, tables, section_of, places_from, overlay_runs, kind_of, add_all, apart, notes, relocate, load, image_at, image_with, headers_in, copying_world}
+use Rattle.wild_records.specs.Abi.Dynamic.{dt_relaent, dt_flags, dt_relacount, dt_flags_1}
 use Rattle.wild_records.specs.Dynamic.{dynamic_entry_at}
-use Rattle.wild_records.specs.Relocations.{rela_at, rela_size}
-use Rattle.wild_records.specs.declared.dynamic.DynamicEntry.{DynamicEntry}
-use Rattle.wild_loader.specs.Headers.{header, program_headers}
-use Rattle.wild_loader.specs.Segments.{load_segment, load_segments, segments}
-use Rattle.wild_loader.specs.Tables.{first_dynamic, dynamic_entries, value_of_tag, span_at, table_of, named_tables, dynamic_tables, tables, relas_at, words_at, section_of}
-use Rattle.wild_loader.specs.Places.{places_from}
-use Rattle.wild_loader.specs.Runs.{overlay_runs, put_byte, put_bytes, read_bytes}
-use Rattle.wild_loader.specs.Changes.{kind_of, change_of, patch_at}
-use Rattle.wild_loader.specs.Relocate.{rela_patch, add_all, apart, notes, relocate}
-use Rattle.wild_loader.specs.Load.{load, image_at, image_with}
-use Rattle.wild_meaning.specs.Segments.{headers_in}
-use Rattle.wild_meaning.specs.Worked.Copy.{copying_world}
+use Rattle.wild_records.specs.Relocations.{rela_at}
+use Rattle.wild_loader.specs.Tables.{dynamic_entries, span_at, table_of, named_tables, dynamic_tables, relas_at, words_at}
+use Rattle.wild_loader.specs.Runs.{put_byte, put_bytes, read_bytes}
+use Rattle.wild_loader.specs.Changes.{change_of, patch_at}
+use Rattle.wild_loader.specs.Relocate.{rela_patch}
 use Rattle.wild_meaning.specs.Worked.CopyImage.{copying_image, copying_first, copying_second, copying_third, copying_memory}
 use Rattle.wild_meaning.proofs.DynamicLemmas.{one_entry}
 

@@ -1,31 +1,15 @@
 -- Wrong images of the worked program with a copied symbol are refused.
-use Rattle.std.proofs.Common.{◌≡◌, inl, inr, true, false, refl, sym, ap, ◌∙◌, arith}
-use Rattle.std.specs.Prelude.{◌≢◌, Some}
-use lib.IntN.{pos}
-use Rattle.wild_records.specs.Abi.Relocation.{r_x86_64_none, r_x86_64_64}
-use Rattle.wild_records.specs.Abi.Section.{shf_execinstr}
-use Rattle.wild_records.specs.FileHeader.{FileHeaderIsRead}
-use Rattle.wild_records.specs.declared.file_header.FileHeader.{FileHeader}
-use Rattle.wild_reloc.specs.Formula.{formula, SymbolAddress, Full, Value}
-use Rattle.wild_reloc.specs.FormulaX86_64.{x86_64_formula}
-use Rattle.wild_types.specs.Flags.{has_flag}
+use Rattle.wild_meaning.proofs.Common.{◌≡◌, inl, inr, true, false, refl, sym, ap, ◌∙◌, arith, ◌≢◌, Some, pos, r_x86_64_none, r_x86_64_64, shf_execinstr, FileHeaderIsRead, FileHeader, formula, SymbolAddress, Full, Value, x86_64_formula, has_flag, byte_in, IsSet, IsPastFileBytes, IsKept, OfSection, IsSectionWithoutData, reference, copying_layout, copying_world, copied_symbol, start_symbol, copied_answer, TakesString, InputRelocation}
 use Rattle.wild_loader.specs.declared.memory.Machine.TheVariants as processors
-use Rattle.wild_loader.specs.Memory.{byte_in}
-use Rattle.wild_meaning.specs.Section.{IsSet}
-use Rattle.wild_meaning.specs.World.{IsPastFileBytes}
-use Rattle.wild_meaning.specs.Item.{IsKept, OfSection}
-use Rattle.wild_meaning.specs.LinkedImage.{IsSectionWithoutData, IsNotCopied, HasResolvedAddress}
-use Rattle.wild_meaning.specs.Worked.Builders.{reference}
-use Rattle.wild_meaning.specs.Worked.Copy.{copying_layout, copying_room, copying_data, copying_item, copying_blank, copying_world, copied_symbol, start_symbol, copied_answer}
+use Rattle.wild_meaning.specs.LinkedImage.{IsNotCopied, HasResolvedAddress}
+use Rattle.wild_meaning.specs.Worked.Copy.{copying_room, copying_data, copying_item, copying_blank}
 use Rattle.wild_meaning.specs.Worked.CopyRefusals.{WrongCopyIsRefused, WrongZeroIsRefused, WrongPlaceOfCopyIsRefused, WrongMachineIsRefused, WrongHeadersAreRefused}
 use Rattle.wild_meaning.proofs.SymbolUnique.{IsPlainOwn, denoted}
 use Rattle.wild_meaning.proofs.Read.{full_of}
 use Rattle.wild_meaning.proofs.Refused.{value_there}
 use Rattle.wild_meaning.proofs.CopyLegal.{has_copy, copy_is}
-use Rattle.wild_meaning.specs.Formula.{TakesString}
 use Rattle.wild_meaning.proofs.StringLemmas.{nothing_named}
 use Rattle.wild_meaning.proofs.SymbolLemmas.{referent_stands}
-use Rattle.wild_types.specs.declared.input.InputRelocation.{InputRelocation}
 
 pub wrong_copy : WrongCopyIsRefused
 wrong_copy image h x =

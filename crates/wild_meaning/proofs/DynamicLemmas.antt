@@ -1,20 +1,10 @@
 -- Dynamic sections of worked images, whose layouts have no table that an entry must lead to.
-use Rattle.std.proofs.Common.{◌≡◌, ◌≢◌, ◌==◌, inl, inr, false, ℕ, ◌/◌, ◌%◌, ◌<◌, ◌≤◌, List, [], ◌∷◌, length, refl, sym, ap, ◌∙◌, subst, arith}
-use Rattle.std.specs.Prelude.{Option, Some, None, All, Contains, codes}
-use Rattle.std.proofs.lemmas.Bool.{eqb-false}
-use Rattle.std.proofs.lemmas.List.Elements.{All-from_recursion, All-contains}
-use Rattle.wild_records.specs.Abi.Dynamic.{dt_needed, dt_auxiliary, dt_pltrelsz, dt_hash, dt_gnu_hash, dt_jmprel, dt_strtab, dt_symtab, dt_relasz, dt_init, dt_fini, dt_preinit_array, dt_preinit_arraysz, dt_init_array, dt_init_arraysz, dt_fini_array, dt_fini_arraysz, dt_relr, dt_relrsz, dt_versym, dt_verdef, dt_verneed}
+use Rattle.wild_meaning.proofs.Common.{◌≡◌, ◌≢◌, ◌==◌, inl, inr, false, ℕ, ◌/◌, ◌%◌, ◌<◌, ◌≤◌, List, [], ◌∷◌, length, refl, sym, ap, ◌∙◌, subst, arith, Option, Some, None, All, Contains, codes, eqb-false, All-from_recursion, All-contains, dt_pltrelsz, dt_jmprel, dt_symtab, dt_relr, dt_relrsz, rela_size, relr_size, DynamicEntry, Part, Section, Segment, Layout, value_of_tag}
+use Rattle.wild_records.specs.Abi.Dynamic.{dt_needed, dt_auxiliary, dt_hash, dt_gnu_hash, dt_strtab, dt_relasz, dt_init, dt_fini, dt_preinit_array, dt_preinit_arraysz, dt_init_array, dt_init_arraysz, dt_fini_array, dt_fini_arraysz, dt_versym, dt_verdef, dt_verneed}
 use Rattle.wild_records.specs.Abi.Segment.{pt_dynamic}
-use Rattle.wild_records.specs.Relocations.{rela_size, relr_size}
-use Rattle.wild_records.specs.declared.dynamic.DynamicEntry.{DynamicEntry}
-use Rattle.wild_types.specs.declared.part.Part.{Part}
 use Rattle.wild_types.specs.declared.part.Role.{Role}
 use Rattle.wild_types.specs.declared.part.Role.TheVariants as role
-use Rattle.wild_types.specs.declared.section.Section.{Section}
-use Rattle.wild_types.specs.declared.section.Segment.{Segment}
-use Rattle.wild_types.specs.declared.layout.Layout.{Layout}
 use Rattle.wild_types.specs.Parts.{part_with}
-use Rattle.wild_loader.specs.Tables.{value_of_tag}
 use Rattle.wild_meaning.specs.Segments.{HasDynamicLinker, HasDynamicSection}
 use Rattle.wild_meaning.proofs.SymbolUnique.{only}
 use Rattle.wild_meaning.specs.DynamicSection.{HasWholeSize, HasOneValue, LeadsToPart, LeadsToTables, LeadsToFunctions, address_of_section, size_of_section}

@@ -1,18 +1,8 @@
 -- What is known of code that does what is demanded.
 --   IsMeant ..     the value that is demanded, and the loaded bytes with their effect
 --   meant ..       so it is where code does what is demanded
-use Rattle.std.proofs.Common.{◌≡◌, ℕ, List, length}
-use Rattle.std.specs.Prelude.{Some}
-use Rattle.wild_types.specs.declared.input.InputRelocation.{InputRelocation}
-use Rattle.wild_types.specs.declared.layout.Layout.{Layout}
-use Rattle.wild_loader.specs.declared.memory.Memory.{Memory}
-use Rattle.wild_loader.specs.declared.world.World.{World}
-use Rattle.wild_loader.specs.Memory.{Holds}
-use Rattle.wild_loader.specs.Instruction.{Reader, Effect}
-use Rattle.wild_meaning.specs.Sequence.{Instruction, size_of}
-use Rattle.wild_types.specs.Item.{Item}
-use Rattle.wild_meaning.specs.Item.{place_at}
-use Rattle.wild_meaning.specs.Template.{Demands, IsDemanded, old_bytes, effect_of, DoesDemanded}
+use Rattle.wild_meaning.proofs.Common.{◌≡◌, ℕ, List, length, Some, InputRelocation, Layout, Memory, World, Holds, Reader, Effect, Instruction, size_of, Item, place_at, IsDemanded, old_bytes, effect_of, DoesDemanded}
+use Rattle.wild_meaning.specs.Template.{Demands}
 
 pub record IsMeant (read : Reader) (l : Layout) (w : World) (m : Memory) (item : Item) (first : InputRelocation) (start : ℕ) (o : Instruction) : Type 0 where
   pub value : ℕ

@@ -1,14 +1,7 @@
 -- Memory that has the file bytes of segments.
-use Rattle.std.proofs.Common.{◌≡◌, ℕ, ◌+◌, ◌-◌, ◌<◌, ◌≤◌, List, [], ◌∷◌, length, take, drop, get_or, sym, ap, ◌∙◌, subst, arith}
-use Rattle.std.specs.Prelude.{All, Some, slice_index}
+use Rattle.wild_meaning.proofs.Common.{◌≡◌, ℕ, ◌+◌, ◌-◌, ◌<◌, ◌≤◌, List, [], ◌∷◌, length, take, drop, get_or, sym, ap, ◌∙◌, subst, arith, All, Some, slice_index, All-contains, pt_load, Segment, Layout, Memory, byte_in, bytes_in}
 use Rattle.std.proofs.lemmas.List.{get_or-take, get_or-drop}
-use Rattle.std.proofs.lemmas.List.Elements.{All-contains}
 use Rattle.wild_words.specs.Words.{HasBytesAt}
-use Rattle.wild_records.specs.Abi.Segment.{pt_load}
-use Rattle.wild_types.specs.declared.section.Segment.{Segment}
-use Rattle.wild_types.specs.declared.layout.Layout.{Layout}
-use Rattle.wild_loader.specs.declared.memory.Memory.{Memory}
-use Rattle.wild_loader.specs.Memory.{byte_in, bytes_in}
 use Rattle.wild_meaning.specs.Unfilled.{IsFileByte}
 use Rattle.wild_meaning.proofs.Read.{held_from}
 

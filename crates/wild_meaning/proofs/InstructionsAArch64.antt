@@ -4,16 +4,9 @@
 --   sequence_is      the sequences that have a type
 --   alone_template   the instruction of a type that fills one alone, where it stands
 --   alone_only       and no other is a reference's of that type
-use Rattle.std.proofs.Common.{◌≡◌, ℕ, zero, suc, ◌+◌, ◌<◌, ◌≤◌, inl, inr, Bool, true, false, List, [], ◌∷◌, length, get_or, refl, sym, ap, ◌∙◌, subst, arith}
-use Rattle.std.specs.Prelude.{◌&&◌, ◌||◌, ◌++◌, ◌==◌, Contains}
-use Rattle.wild_types.specs.declared.kind.Machine.{Machine}
+use Rattle.wild_meaning.proofs.Common.{◌≡◌, ℕ, zero, suc, ◌+◌, ◌<◌, ◌≤◌, inl, inr, Bool, true, false, List, [], ◌∷◌, length, get_or, refl, sym, ap, ◌∙◌, subst, arith, ◌&&◌, ◌||◌, ◌++◌, ◌==◌, Contains, Machine, InputRelocation, Layout, Item, Partner, Instruction, size_of, instructions_of, IsInstruction, IsSequence, IsOfSequence, IsTemplate}
 use Rattle.wild_types.specs.declared.kind.Machine.TheVariants as machine
-use Rattle.wild_types.specs.declared.input.InputRelocation.{InputRelocation}
-use Rattle.wild_types.specs.declared.layout.Layout.{Layout}
-use Rattle.wild_types.specs.Item.{Item}
-use Rattle.wild_meaning.specs.Sequence.{Partner, Instruction, size_of, instructions_of}
 use Rattle.wild_meaning.specs.Partners.{HasPartners}
-use Rattle.wild_meaning.specs.Template.{IsInstruction, IsSequence, IsOfSequence, IsTemplate}
 use Rattle.wild_meaning.proofs.AmongLemmas.{Among, pick}
 use Rattle.wild_meaning.proofs.OneReference.{has, has_is, fills, fills_is}
 use Rattle.wild_meaning.proofs.PairLemmas.{are_several, some}

@@ -1,11 +1,5 @@
 -- What legal worlds have of a symbol that is told by its flags and its index.
-use Rattle.std.proofs.Common.{◌≡◌, ℕ, ◌<◌, true, false, length, sym, ◌∙◌, arith}
-use Rattle.std.specs.Prelude.{Option, Some, None, option_and_then}
-use Rattle.wild_types.specs.declared.symbol.Resolution.{Resolution}
-use Rattle.wild_types.specs.declared.symbol.Symbol.{Symbol}
-use Rattle.wild_types.specs.Flags.{has_flag, ifunc}
-use Rattle.wild_loader.specs.declared.world.World.{World}
-use Rattle.wild_meaning.specs.World.{HasResolver, IsAnswered}
+use Rattle.wild_meaning.proofs.Common.{◌≡◌, ℕ, ◌<◌, true, false, length, sym, ◌∙◌, arith, Option, Some, None, option_and_then, Resolution, Symbol, has_flag, ifunc, World, HasResolver, IsAnswered}
 
 -- no resolver answers for it
 pub not_indirect : (w : World) (s : Symbol) → has_flag s.flags ifunc ≡ false → HasResolver w s

@@ -1,3 +1,4 @@
+pub mod Common
 pub mod StringLemmas
 pub mod SymbolLemmas
 pub mod WorldLemmas

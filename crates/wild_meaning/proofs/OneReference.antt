@@ -1,31 +1,11 @@
 -- Code with one reference: which instruction it is, and that it is refused where it does something else.
 --   single_refused    a reference of code with one reference is refused where the loaded bytes do something else
-use Rattle.std.proofs.Common.{◌≡◌, ℕ, zero, suc, ◌+◌, ◌<◌, ◌≤◌, ◌⊎◌, inl, inr, Bool, true, false, List, [], ◌∷◌, length, get_or, refl, sym, ap, ◌∙◌, subst, arith, eq-eqb}
-use Rattle.std.specs.Prelude.{◌==◌, ◌&&◌, ◌||◌, not, nat_le, Some, None, Contains, slice_get, slice_range, slice_index_or}
-use Rattle.std.specs.List.{list_all}
+use Rattle.wild_meaning.proofs.Common.{◌≡◌, ℕ, zero, suc, ◌+◌, ◌<◌, ◌≤◌, ◌⊎◌, inl, inr, Bool, true, false, List, [], ◌∷◌, length, get_or, refl, sym, ap, ◌∙◌, subst, arith, eq-eqb, ◌==◌, ◌&&◌, ◌||◌, not, nat_le, Some, None, Contains, slice_get, slice_range, slice_index_or, list_all, All-from_recursion, Machine, InputRelocation, Layout, Formula, Memory, World, Holds, Action, Number, Word, Deed, Reader, Effect, matches_cells, Item, place_at, form_width, formula_of, InNoField, Instruction, Partner, size_of, instructions_of, IsInstruction, IsTemplate, reads, reads_without_calls, DoesDemanded, ReadsOffsetSlots, ReferenceHolds}
 use Rattle.std.proofs.lemmas.Bool.{leb-true, le-leb}
 use Rattle.std.proofs.lemmas.Option.{slice_get_past}
-use Rattle.std.proofs.lemmas.List.Elements.{All-from_recursion}
-use Rattle.wild_types.specs.declared.kind.Machine.{Machine}
 use Rattle.wild_types.specs.declared.kind.Machine.TheVariants as machine
-use Rattle.wild_types.specs.declared.input.InputRelocation.{InputRelocation}
-use Rattle.wild_types.specs.declared.layout.Layout.{Layout}
-use Rattle.wild_reloc.specs.Formula.{Formula}
-use Rattle.wild_loader.specs.declared.memory.Memory.{Memory}
-use Rattle.wild_loader.specs.declared.world.World.{World}
-use Rattle.wild_loader.specs.Memory.{Holds}
 use Rattle.wild_loader.proofs.HeldBytes.{held-first, held-rest}
-use Rattle.wild_loader.specs.declared.instruction.Action.{Action}
-use Rattle.wild_loader.specs.declared.instruction.Operand.TheVariants.{Number, Word}
-use Rattle.wild_loader.specs.declared.instruction.Deed.{Deed}
-use Rattle.wild_loader.specs.Instruction.{Reader, Effect, matches_cells}
-use Rattle.wild_types.specs.Item.{Item}
 use Rattle.wild_meaning.specs.Jump.{meaning_of}
-use Rattle.wild_meaning.specs.Item.{place_at}
-use Rattle.wild_meaning.specs.Field.{form_width, formula_of, InNoField}
-use Rattle.wild_meaning.specs.Sequence.{Instruction, Partner, size_of, instructions_of}
-use Rattle.wild_meaning.specs.Template.{IsInstruction, IsTemplate, reads, reads_without_calls, DoesDemanded}
-use Rattle.wild_meaning.specs.Reference.{ReadsOffsetSlots, ReferenceHolds}
 use Rattle.wild_meaning.proofs.AmongLemmas.{Among, pick}
 use Rattle.wild_meaning.proofs.PairLemmas.{as_pair}
 

@@ -1,10 +1,9 @@
 -- Kinds of output, as the judge and as the writer name them.
-use Rattle.std.proofs.Common.{◌≡◌, true, refl, inl, inr, false}
-use Rattle.wild_types.specs.declared.kind.OutputKind.{OutputKind}
+use Rattle.wild_meaning.proofs.Common.{◌≡◌, true, refl, inl, inr, false, OutputKind, IsExecutable}
 use Rattle.wild_types.specs.Kinds.{is_executable, is_position_independent, is_partial_link}
 use Rattle.wild_types.specs.declared.kind.OutputKind.TheVariants as output
 use Rattle.wild_types.specs.declared.kind.RelocationModel.TheVariants as model
-use Rattle.wild_meaning.specs.World.{IsExecutable, IsFixed, IsLoadable, IsMovable}
+use Rattle.wild_meaning.specs.World.{IsFixed, IsLoadable, IsMovable}
 
 pub executable_is : (k : OutputKind) → IsExecutable k → is_executable k ≡ true
 executable_is (output.StaticExecutable any) h = refl

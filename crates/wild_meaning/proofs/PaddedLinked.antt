@@ -1,40 +1,11 @@
 -- The image of the worked program whose one input section has no data is linked in its world.
-use Rattle.std.proofs.Common.{◌≡◌, ℕ, ◌+◌, ◌<◌, true, false, List, [], ◌∷◌, refl, sym, ap, ◌∙◌, subst, arith}
-use Rattle.std.specs.Prelude.{Ok, Some, None, Contains, replicate, All}
-use Rattle.std.proofs.lemmas.List.Elements.{All-from_recursion, All-contains}
+use Rattle.wild_meaning.proofs.Common.{◌≡◌, ℕ, ◌+◌, ◌<◌, true, false, List, [], ◌∷◌, refl, sym, ap, ◌∙◌, subst, arith, Ok, Some, None, Contains, replicate, All, All-from_recursion, All-contains, word, number, spell, least_extent, HasBytesAt-left, pt_gnu_stack, file_header_fields, file_header_at, program_header_fields, program_header_at, ProgramHeader, File, Group, InputSection, Item, byte_in, Holds, header, program_headers, sections, load_segment, load_segments, segments, first_dynamic, section_entries, section_tables, tables, places_from, overlay_runs, add_all, apart, notes, relocate, load, image_at, image_with, IsCopied, IsInput, IsKept, OfSection, OfFrames, ItemHolds, headers_in, DescribeSegments, DescribesSections, IsSectionWithoutData, DescribesOutput, file_of, group_of, static_pie_world}
 use Rattle.std.proofs.lemmas.List.{get_or-replicate}
-use Rattle.wild_words.specs.Words.{word, number}
-use Rattle.wild_words.specs.Record.{spell}
-use Rattle.wild_words.specs.Extents.{least_extent}
-use Rattle.wild_words.proofs.RecordLemmas.{HasBytesAt-left}
-use Rattle.wild_records.specs.Abi.Segment.{pt_gnu_stack}
-use Rattle.wild_records.specs.FileHeader.{file_header_fields, file_header_at}
 use Rattle.wild_records.specs.SectionHeader.{section_header_fields, section_header_at}
-use Rattle.wild_records.specs.ProgramHeader.{program_header_fields, program_header_at}
-use Rattle.wild_records.specs.declared.program_header.ProgramHeader.{ProgramHeader}
 use Rattle.wild_types.specs.declared.file.FileRole.TheVariants as file_role
-use Rattle.wild_types.specs.declared.file.File.{File}
-use Rattle.wild_types.specs.declared.file.Group.{Group}
-use Rattle.wild_types.specs.declared.input.InputSection.{InputSection}
 use Rattle.wild_types.specs.declared.input.Slot.TheVariants as slot
 use Rattle.wild_types.specs.declared.layout.Entry.TheVariants as entry
-use Rattle.wild_types.specs.Item.{Item}
-use Rattle.wild_loader.specs.Memory.{byte_in, Holds}
-use Rattle.wild_loader.specs.Headers.{header, program_headers, section_headers, sections}
-use Rattle.wild_loader.specs.Segments.{load_segment, load_segments, segments}
-use Rattle.wild_loader.specs.Tables.{first_dynamic, section_entries, section_tables, tables}
-use Rattle.wild_loader.specs.Places.{places_from}
-use Rattle.wild_loader.specs.Runs.{overlay_runs}
-use Rattle.wild_loader.specs.Relocate.{add_all, apart, notes, relocate}
-use Rattle.wild_loader.specs.Load.{load, image_at, image_with}
-use Rattle.wild_meaning.specs.World.{IsCopied}
-use Rattle.wild_meaning.specs.Item.{IsInput, IsKept, OfSection, OfFrames}
-use Rattle.wild_meaning.specs.Reference.{ItemHolds}
-use Rattle.wild_meaning.specs.Segments.{headers_in, DescribeSegments}
-use Rattle.wild_meaning.specs.SectionHeaders.{DescribesSections}
-use Rattle.wild_meaning.specs.LinkedImage.{IsSectionWithoutData, DescribesOutput}
-use Rattle.wild_meaning.specs.Worked.Builders.{file_of, group_of}
-use Rattle.wild_meaning.specs.Worked.Static.{static_pie_world}
+use Rattle.wild_loader.specs.Headers.{section_headers}
 use Rattle.wild_meaning.specs.Worked.StaticImage.{padded_header, padded_section_header, static_segment, padded_image, padded_rest, padded_memory}
 use Rattle.wild_meaning.specs.Worked.StaticRefusals.{padded_section, padded_blank, padded_thread, padded_layout, PaddedImageIsLinked}
 use Rattle.wild_meaning.proofs.SectionHeaderLemmas.{one_section}

@@ -6,20 +6,12 @@
 --   sequence_of          and such a pair is a sequence
 --   counts_four          what fields count from
 --   counts_by_slot       instructions that count from their own place go through a slot
-use Rattle.std.proofs.Common.{◌≡◌, ℕ, zero, suc, ◌+◌, ◌<◌, ◌⊎◌, inl, inr, Bool, true, false, List, [], ◌∷◌, length, get_or, refl, sym, ap, ◌∙◌, subst, arith}
-use Rattle.std.specs.Prelude.{Some, Contains, slice_get}
-use Rattle.wild_records.specs.Abi.Relocation.{r_x86_64_tlsgd, r_x86_64_tlsld}
-use Rattle.wild_types.specs.declared.kind.Machine.{Machine}
+use Rattle.wild_meaning.proofs.Common.{◌≡◌, ℕ, zero, suc, ◌+◌, ◌<◌, ◌⊎◌, inl, inr, Bool, true, false, List, [], ◌∷◌, length, get_or, refl, sym, ap, ◌∙◌, subst, arith, Some, Contains, slice_get, r_x86_64_tlsgd, r_x86_64_tlsld, Machine, InputRelocation, Layout, ifunc, IsExecutable, HasFlag, Item, Target, SymbolPair, Described, FieldBits, Partner, Instruction, of_symbol, by_call, by_slot, by_distance, instructions_of, IsInstruction, IsSequence, IsOfSequence}
 use Rattle.wild_types.specs.declared.kind.Machine.TheVariants as machine
-use Rattle.wild_types.specs.declared.input.InputRelocation.{InputRelocation}
-use Rattle.wild_types.specs.declared.layout.Layout.{Layout}
-use Rattle.wild_types.specs.Flags.{ifunc, non_interposable}
-use Rattle.wild_meaning.specs.World.{IsExecutable}
-use Rattle.wild_meaning.specs.Value.{HasFlag}
-use Rattle.wild_types.specs.Item.{Item}
-use Rattle.wild_meaning.specs.Sequence.{Sort, Target, TargetInSlot, AddressInSlot, OffsetInSlot, SymbolPair, OwnPair, Described, DescribedCall, Address, FieldBits, Named, Getter, Partner, Condition, Instruction, of_output, of_symbol, by_call, by_slot, by_distance, instructions_of}
+use Rattle.wild_types.specs.Flags.{non_interposable}
+use Rattle.wild_meaning.specs.Sequence.{Sort, TargetInSlot, AddressInSlot, OffsetInSlot, OwnPair, DescribedCall, Address, Named, Getter, Condition, of_output}
 use Rattle.wild_meaning.specs.Partners.{NamesGetter, HasCallAddend, NamesRequiredSymbol, HasPartner, HasPartners, AreMet}
-use Rattle.wild_meaning.specs.Template.{IsInstruction, IsSequence, IsOfSequence, field_origin}
+use Rattle.wild_meaning.specs.Template.{field_origin}
 use Rattle.wild_meaning.specs.Reference.{CountsFromPlace}
 use Rattle.wild_meaning.proofs.AmongLemmas.{Among, pick}
 

@@ -1,13 +1,7 @@
 -- Input sections as they stand in the output.
-use Rattle.std.proofs.Common.{◌≡◌, ◌++◌, List, ◌∷◌, false, refl, sym, subst, arith}
-use Rattle.std.specs.Prelude.{Contains}
+use Rattle.wild_meaning.proofs.Common.{◌≡◌, ◌++◌, List, ◌∷◌, false, refl, sym, subst, arith, Contains, InputSection, File, Layout, item_of, IsInput, placed_item}
 use Rattle.std.proofs.lemmas.List.Elements.{Contains-append_right}
-use Rattle.wild_types.specs.declared.input.InputSection.{InputSection}
-use Rattle.wild_types.specs.declared.file.File.{File}
-use Rattle.wild_types.specs.declared.layout.Layout.{Layout}
-use Rattle.wild_types.specs.Item.{item_of}
 use Rattle.wild_meaning.specs.Frames.{IsFrameInput}
-use Rattle.wild_meaning.specs.Item.{IsInput, placed_item}
 
 -- one whose words are not reversed stands as it is
 pub stood_plain : (l : Layout) (f : File) (s : InputSection) → s.reversed ≡ false → placed_item l f s ≡ item_of l f s

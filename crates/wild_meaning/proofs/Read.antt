@@ -1,17 +1,8 @@
 -- What a field in memory reads as.
-use Rattle.std.proofs.Common.{◌≡◌, ℕ, zero, suc, ◌+◌, ◌*◌, ◌^◌, ◌<◌, inl, inr, List, [], ◌∷◌, length, refl, sym, ap, ◌∙◌, subst, arith}
-use Rattle.std.specs.Prelude.{Option, Some, None, nat_lt, slice_index, option_and_then, option_map}
-use Rattle.std.proofs.lemmas.Bool.{cases_Bool, ltb-true}
-use Rattle.wild_words.specs.Words.{number}
-use Rattle.wild_reloc.specs.Formula.{Plain, Full, Signed, sign_extended}
-use Rattle.wild_types.specs.declared.input.InputRelocation.{InputRelocation}
-use Rattle.wild_loader.specs.declared.memory.Memory.{Memory}
-use Rattle.wild_loader.specs.declared.world.World.{World}
-use Rattle.wild_loader.specs.Memory.{byte_in, bytes_in, number_in, Holds}
+use Rattle.wild_meaning.proofs.Common.{◌≡◌, ℕ, zero, suc, ◌+◌, ◌*◌, ◌^◌, ◌<◌, inl, inr, List, [], ◌∷◌, length, refl, sym, ap, ◌∙◌, subst, arith, Option, Some, None, nat_lt, slice_index, option_and_then, option_map, cases_Bool, number, Plain, Full, Signed, InputRelocation, Memory, World, byte_in, bytes_in, number_in, Holds, Item, place_at, FieldReads}
+use Rattle.std.proofs.lemmas.Bool.{ltb-true}
+use Rattle.wild_reloc.specs.Formula.{sign_extended}
 use Rattle.wild_loader.proofs.HeldBytes.{number-held}
-use Rattle.wild_types.specs.Item.{Item}
-use Rattle.wild_meaning.specs.Item.{place_at}
-use Rattle.wild_meaning.specs.Field.{FieldReads}
 
 pub number_of : (m : Memory) (a n x : ℕ) (bs : List ℕ) → length bs ≡ n → Holds m a bs → number_in m a n ≡ Some x → number bs ≡ x
 number_of m a n x bs long held h =

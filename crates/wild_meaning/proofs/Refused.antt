@@ -1,23 +1,7 @@
 -- What memory has of a reference in data: its field reads as its formula.
-use Rattle.std.proofs.Common.{◌≡◌, ℕ, inl, inr, true, false, sym, ◌∙◌, subst}
-use Rattle.std.specs.Prelude.{◌≢◌, Some, Contains}
-use Rattle.wild_records.specs.Abi.Relocation.{r_x86_64_none}
-use Rattle.wild_records.specs.Abi.Section.{shf_execinstr}
-use Rattle.wild_reloc.specs.Formula.{Formula}
-use Rattle.wild_types.specs.declared.input.InputRelocation.{InputRelocation}
-use Rattle.wild_types.specs.declared.symbol.Symbol.{Symbol}
-use Rattle.wild_types.specs.declared.layout.Layout.{Layout}
-use Rattle.wild_types.specs.Flags.{has_flag, absolute}
-use Rattle.wild_loader.specs.declared.memory.Memory.{Memory}
-use Rattle.wild_loader.specs.declared.world.World.{World}
-use Rattle.wild_meaning.specs.Section.{IsSet, IsForDebuggers}
-use Rattle.wild_meaning.specs.Value.{HasFlag, IsReplaceable, may_be_replaced}
-use Rattle.wild_types.specs.Item.{Item}
-use Rattle.wild_meaning.specs.Field.{formula_of, FieldReads}
-use Rattle.wild_meaning.specs.Formula.{Gives}
-use Rattle.wild_meaning.specs.Sequence.{Instruction}
-use Rattle.wild_meaning.specs.Template.{IsTemplate}
-use Rattle.wild_meaning.specs.Reference.{HoldsPlain, ReferenceHolds, IsCheckedAtZeroOnly, UsesOwnSymbolOnly, UsesOwnDefinition, ItemHolds}
+use Rattle.wild_meaning.proofs.Common.{◌≡◌, ℕ, inl, inr, true, false, sym, ◌∙◌, subst, ◌≢◌, Some, Contains, r_x86_64_none, shf_execinstr, Formula, InputRelocation, Symbol, Layout, has_flag, absolute, Memory, World, IsSet, HasFlag, IsReplaceable, may_be_replaced, Item, formula_of, FieldReads, Gives, Instruction, IsTemplate, ReferenceHolds, UsesOwnSymbolOnly, UsesOwnDefinition, ItemHolds}
+use Rattle.wild_meaning.specs.Section.{IsForDebuggers}
+use Rattle.wild_meaning.specs.Reference.{HoldsPlain, IsCheckedAtZeroOnly}
 use Rattle.wild_meaning.proofs.SymbolUnique.{defining_symbol, flag_of, owner_of}
 
 -- ---- which references are asked

@@ -1,12 +1,8 @@
 -- Symbols that another module's may stand for.
-use Rattle.std.proofs.Common.{◌≡◌, inl, inr, Bool, true, false, refl, arith}
-use Rattle.std.specs.Prelude.{◌&&◌, ◌||◌, not}
-use Rattle.wild_types.specs.declared.kind.OutputKind.{OutputKind}
+use Rattle.wild_meaning.proofs.Common.{◌≡◌, inl, inr, Bool, true, false, refl, arith, ◌&&◌, ◌||◌, not, OutputKind, has_flag, may_be_replaced, shared_layout, shared_world, open_symbol}
 use Rattle.wild_types.specs.declared.kind.OutputKind.TheVariants as output
 use Rattle.wild_types.specs.declared.symbol.ValueFlags.{ValueFlags}
-use Rattle.wild_types.specs.Flags.{has_flag, dynamic, copy_relocation, export_dynamic, non_interposable}
-use Rattle.wild_meaning.specs.Value.{may_be_replaced}
-use Rattle.wild_meaning.specs.Worked.Shared.{shared_layout, shared_world, open_symbol}
+use Rattle.wild_types.specs.Flags.{dynamic, copy_relocation, export_dynamic, non_interposable}
 use Rattle.wild_meaning.specs.Worked.ReplaceableSymbols.{DynamicIsReplaceable, ExportedIsReplaceable, AnswersAreTaken}
 use Rattle.wild_meaning.proofs.SymbolUnique.{other_value}
 use Rattle.wild_meaning.proofs.SharedRefused.{open_is}

@@ -1,12 +1,7 @@
 -- Section headers of worked images.
-use Rattle.std.proofs.Common.{◌≡◌, ℕ, zero, suc, ◌+◌, ◌≤◌, List, [], ◌∷◌, length, refl, sym, ap, ◌∙◌, subst, arith}
-use Rattle.std.specs.Prelude.{◌==◌, if◌then◌else◌, Some, None, Ok, slice_get}
-use Rattle.wild_records.specs.declared.file_header.FileHeader.{FileHeader}
+use Rattle.wild_meaning.proofs.Common.{◌≡◌, ℕ, zero, suc, ◌+◌, ◌≤◌, List, [], ◌∷◌, length, refl, sym, ap, ◌∙◌, subst, arith, ◌==◌, if◌then◌else◌, Some, None, Ok, slice_get, FileHeader, Section, Layout, sections, DescribesSections}
 use Rattle.wild_records.specs.declared.section_header.SectionHeader.{SectionHeader}
-use Rattle.wild_types.specs.declared.section.Section.{Section}
-use Rattle.wild_types.specs.declared.layout.Layout.{Layout}
-use Rattle.wild_loader.specs.Headers.{sections}
-use Rattle.wild_meaning.specs.SectionHeaders.{DescribesSection, DescribesSections}
+use Rattle.wild_meaning.specs.SectionHeaders.{DescribesSection}
 
 -- an image without section headers describes a layout without sections
 pub no_sections : (l : Layout) (image : List ℕ) (e : FileHeader) → l.sections ≡ [] → e.section_offset ≡ 0 → DescribesSections l image e

@@ -1,35 +1,19 @@
 -- Wrong headers and wrong dynamic sections are refused.
-use Rattle.std.proofs.Common.{◌≡◌, ◌≢◌, ◌==◌, false, ℕ, zero, suc, inl, inr, [], ◌∷◌, List, length, refl, sym, ap, ◌∙◌, subst, arith}
-use Rattle.std.specs.Prelude.{Option, Some, None, Ok, option_map, ◌<◌, ◌/◌, slice_get}
-use Rattle.std.proofs.lemmas.Bool.{eqb-false}
+use Rattle.wild_meaning.proofs.Common.{◌≡◌, ◌≢◌, ◌==◌, false, ℕ, zero, suc, inl, inr, [], ◌∷◌, List, length, refl, sym, ap, ◌∙◌, subst, arith, Option, Some, None, Ok, option_map, ◌<◌, ◌/◌, slice_get, eqb-false, pt_load, pt_gnu_stack, FileHeaderIsRead, file_header_at, program_header_at, DynamicEntry, FileHeader, ProgramHeader, Section, OutputKind, Segment, Layout, kind_of, program_headers, section_of, IsSet, headers_in, DescribeSegments, DescribesSections, DescribesOutput, static_pie}
 use Rattle.wild_records.specs.Abi.Dynamic.{df_bind_now}
 use Rattle.wild_records.specs.Abi.Header.{et_exec}
-use Rattle.wild_records.specs.Abi.Segment.{pt_load, pt_tls, pt_gnu_stack}
-use Rattle.wild_records.specs.FileHeader.{FileHeaderIsRead, file_header_at}
-use Rattle.wild_records.specs.ProgramHeader.{program_header_at}
-use Rattle.wild_records.specs.declared.dynamic.DynamicEntry.{DynamicEntry}
-use Rattle.wild_records.specs.declared.file_header.FileHeader.{FileHeader}
-use Rattle.wild_records.specs.declared.program_header.ProgramHeader.{ProgramHeader}
+use Rattle.wild_records.specs.Abi.Segment.{pt_tls}
 use Rattle.wild_records.specs.declared.relocations.Rela.{Rela}
 use Rattle.wild_records.specs.declared.section_header.SectionHeader.{SectionHeader}
-use Rattle.wild_types.specs.declared.section.Section.{Section}
-use Rattle.wild_types.specs.declared.kind.OutputKind.{OutputKind}
 use Rattle.wild_types.specs.declared.kind.OutputKind.TheVariants as output
 use Rattle.wild_types.specs.declared.kind.RelocationModel.TheVariants as model
-use Rattle.wild_types.specs.declared.section.Segment.{Segment}
-use Rattle.wild_types.specs.declared.layout.Layout.{Layout}
 use Rattle.wild_loader.specs.declared.kind.DynamicKind.TheVariants as kinds
-use Rattle.wild_loader.specs.Changes.{kind_of}
-use Rattle.wild_loader.specs.Headers.{program_headers}
-use Rattle.wild_loader.specs.Tables.{section_of}
-use Rattle.wild_meaning.specs.Section.{IsSet}
-use Rattle.wild_meaning.specs.Segments.{headers_in, DescribesSegment, DescribeSegments, HasDynamicLinker, HasDynamicSection}
+use Rattle.wild_meaning.specs.Segments.{DescribesSegment, HasDynamicLinker, HasDynamicSection}
 use Rattle.wild_meaning.specs.World.{IsLoadable}
-use Rattle.wild_meaning.specs.SectionHeaders.{DescribesSection, DescribesSections}
+use Rattle.wild_meaning.specs.SectionHeaders.{DescribesSection}
 use Rattle.wild_meaning.specs.DynamicSection.{DescribesTables}
-use Rattle.wild_meaning.specs.LinkedImage.{HasStandardFields, DescribesOutput, processor_of}
+use Rattle.wild_meaning.specs.LinkedImage.{HasStandardFields, processor_of}
 use Rattle.wild_meaning.specs.Worked.Builders.{loaded_segment}
-use Rattle.wild_meaning.specs.Worked.Static.{static_pie}
 use Rattle.wild_meaning.specs.Worked.SegmentRefusals.{unpaged_layout, HasSegment, HasSection, IsDynamic, WrongSegmentsAreRefused, WrongStacksAreRefused, OtherPlacesAreRefused, WrongFieldsAreRefused, WrongSectionsAreRefused, NoDynamicIsRefused, WrongEntriesAreRefused, OwnSectionsAreJudged}
 
 -- one segment that is told

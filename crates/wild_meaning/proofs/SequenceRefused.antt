@@ -1,30 +1,11 @@
 -- A sequence of which one instruction was rewritten, and the call left, is refused; so is one with another offset.
-use Rattle.std.proofs.Common.{◌≡◌, ℕ, zero, suc, ◌+◌, ◌<◌, ◌≤◌, ◌⊎◌, inl, inr, true, false, List, [], ◌∷◌, refl, sym, ap, ◌∙◌, subst, arith}
-use Rattle.std.specs.Prelude.{◌-◌, ◌%◌, ◌^◌, Option, Some, None, option_map, slice_get, slice_range}
-use Rattle.wild_words.specs.Words.{number}
-use Rattle.std.proofs.lemmas.List.Elements.{All-from_recursion}
-use Rattle.wild_records.specs.Abi.Relocation.{r_x86_64_plt32, r_x86_64_tlsgd}
-use Rattle.wild_reloc.specs.Formula.{Formula, formula, StubDistance, SlotDistance, ModulePair, Plain, Signed}
-use Rattle.wild_reloc.specs.FormulaX86_64.{x86_64_formula}
+use Rattle.wild_meaning.proofs.Common.{◌≡◌, ℕ, zero, suc, ◌+◌, ◌<◌, ◌≤◌, ◌⊎◌, inl, inr, true, false, List, [], ◌∷◌, refl, sym, ap, ◌∙◌, subst, arith, ◌-◌, ◌%◌, ◌^◌, Option, Some, None, option_map, slice_get, slice_range, number, All-from_recursion, r_x86_64_tlsgd, Formula, formula, StubDistance, SlotDistance, ModulePair, Plain, Signed, x86_64_formula, InputRelocation, has_flag, ifunc, Memory, Holds, Reader, matches_cells, as_value, with_value, SetThreadAddress, Number, meaning_x86_64, effect_x86_64, HasFlag, IsKept, OfSection, form_width, InNoField, Instruction, SymbolPair, size_of, of_symbol, by_call, by_slot, by_distance, instructions_of, IsInstruction, IsSequence, IsTemplate, reads, reads_without_calls, DoesDemanded, ReferenceHolds, Refuses, static_pie, static_pie_world, general_code, thread_symbol, getter_symbol, MemoryHas}
+use Rattle.wild_records.specs.Abi.Relocation.{r_x86_64_plt32}
 use Rattle.wild_types.specs.declared.kind.Machine.TheVariants as machine
-use Rattle.wild_types.specs.declared.input.InputRelocation.{InputRelocation}
-use Rattle.wild_types.specs.Flags.{has_flag, ifunc}
-use Rattle.wild_loader.specs.declared.memory.Memory.{Memory}
-use Rattle.wild_loader.specs.Memory.{Holds}
-use Rattle.wild_loader.specs.Instruction.{Reader, matches_cells, as_value, with_value}
-use Rattle.wild_loader.specs.declared.instruction.Deed.TheVariants.{SetThreadAddress}
-use Rattle.wild_loader.specs.declared.instruction.Operand.TheVariants.{Number}
-use Rattle.wild_loader.specs.InstructionX86_64.{meaning_x86_64, effect_x86_64}
 use Rattle.wild_loader.specs.ThreadCodeX86_64.{general_call, general_slot_call, far_pair_call}
-use Rattle.wild_meaning.specs.Value.{HasFlag}
-use Rattle.wild_meaning.specs.Item.{IsKept, OfSection}
-use Rattle.wild_meaning.specs.Field.{form_width, InNoField}
-use Rattle.wild_meaning.specs.Sequence.{Instruction, SymbolPair, size_of, of_sequence, of_symbol, by_call, by_slot, by_distance, instructions_of}
-use Rattle.wild_meaning.specs.Template.{IsInstruction, IsSequence, IsTemplate, reads, reads_without_calls, DoesDemanded}
-use Rattle.wild_meaning.specs.Reference.{ReferenceHolds}
-use Rattle.wild_meaning.specs.Worked.Builders.{Refuses}
-use Rattle.wild_meaning.specs.Worked.Static.{static_pie, static_pie_world, general_code, general_item, pair_reference, getter_reference, thread_symbol, getter_symbol}
-use Rattle.wild_meaning.specs.Worked.StaticRefusals.{MemoryHas, half_sequence, another_offset}
+use Rattle.wild_meaning.specs.Sequence.{of_sequence}
+use Rattle.wild_meaning.specs.Worked.Static.{general_item, pair_reference, getter_reference}
+use Rattle.wild_meaning.specs.Worked.StaticRefusals.{half_sequence, another_offset}
 use Rattle.wild_meaning.proofs.EffectLemmas.{meant}
 use Rattle.wild_meaning.proofs.AmongLemmas.{Among, pick}
 use Rattle.wild_meaning.proofs.OneReference.{has, has_is, fills, fills_is, effect_with, value_in, ReadsNumbers, same_bytes}

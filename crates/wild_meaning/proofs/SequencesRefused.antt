@@ -1,34 +1,14 @@
 -- Thread-local code of x86-64, in any layout, that does not do what is demanded.
-use Rattle.std.proofs.Common.{◌≡◌, ℕ, zero, suc, ◌+◌, ◌%◌, ◌^◌, ◌<◌, ◌≤◌, ◌⊎◌, inl, inr, Bool, true, false, List, [], ◌∷◌, get_or, refl, sym, ap, ◌∙◌, subst, arith}
-use Rattle.std.specs.Prelude.{◌==◌, if◌then◌else◌, Option, Some, None, Contains, option_map, slice_get, slice_range}
-use Rattle.std.specs.Int.{w64, cast_unsigned}
-use Rattle.std.proofs.lemmas.List.Elements.{All-from_recursion}
-use Rattle.wild_words.specs.Words.{number}
-use Rattle.wild_records.specs.Abi.Relocation.{r_x86_64_tlsgd, r_x86_64_tlsld, r_x86_64_tlsdesc_call}
-use Rattle.wild_reloc.specs.Formula.{Formula, formula, NoValue, NoField}
-use Rattle.wild_reloc.specs.FormulaX86_64.{x86_64_formula}
-use Rattle.wild_types.specs.declared.kind.Machine.{Machine}
+use Rattle.wild_meaning.proofs.Common.{◌≡◌, ℕ, zero, suc, ◌+◌, ◌%◌, ◌^◌, ◌<◌, ◌≤◌, ◌⊎◌, inl, inr, Bool, true, false, List, [], ◌∷◌, get_or, refl, sym, ap, ◌∙◌, subst, arith, ◌==◌, if◌then◌else◌, Option, Some, None, Contains, option_map, slice_get, slice_range, w64, cast_unsigned, All-from_recursion, number, r_x86_64_tlsgd, r_x86_64_tlsld, Formula, formula, x86_64_formula, Machine, OutputKind, InputRelocation, Layout, Item, Memory, World, Holds, Deed, SetThreadAddress, Number, Reader, Effect, matches_cells, as_value, with_value, meaning_x86_64, effect_x86_64, place_at, form_width, formula_of, InNoField, Instruction, SymbolPair, size_of, of_symbol, by_call, by_slot, by_distance, instructions_of, IsInstruction, IsSequence, IsTemplate, IsDemanded, demand_of, effect_of, reads, reads_without_calls, DoesDemanded}
+use Rattle.wild_records.specs.Abi.Relocation.{r_x86_64_tlsdesc_call}
+use Rattle.wild_reloc.specs.Formula.{NoValue, NoField}
 use Rattle.wild_types.specs.declared.kind.Machine.TheVariants as machine
-use Rattle.wild_types.specs.declared.kind.OutputKind.{OutputKind}
 use Rattle.wild_types.specs.declared.kind.OutputKind.TheVariants as output
-use Rattle.wild_types.specs.declared.input.InputRelocation.{InputRelocation}
-use Rattle.wild_types.specs.declared.layout.Layout.{Layout}
-use Rattle.wild_types.specs.Item.{Item}
-use Rattle.wild_loader.specs.declared.memory.Memory.{Memory}
-use Rattle.wild_loader.specs.declared.world.World.{World}
-use Rattle.wild_loader.specs.Memory.{Holds}
-use Rattle.wild_loader.specs.declared.instruction.Deed.{Deed}
-use Rattle.wild_loader.specs.declared.instruction.Deed.TheVariants.{SetThreadAddress, CallDescriptor, Nothing}
-use Rattle.wild_loader.specs.declared.instruction.Operand.TheVariants.{Number}
-use Rattle.wild_loader.specs.Instruction.{Reader, Effect, matches_cells, as_value, with_value}
-use Rattle.wild_loader.specs.InstructionX86_64.{meaning_x86_64, effect_x86_64}
+use Rattle.wild_loader.specs.declared.instruction.Deed.TheVariants.{CallDescriptor, Nothing}
 use Rattle.wild_loader.specs.ThreadCodeX86_64.{general_slot_call, far_pair_call, local_call, local_slot_call}
-use Rattle.wild_meaning.specs.Item.{place_at}
-use Rattle.wild_meaning.specs.Field.{form_width, formula_of, InNoField}
 use Rattle.wild_meaning.specs.Formula.{KnowsOffsets, HasOffsetMode}
-use Rattle.wild_meaning.specs.Sequence.{Instruction, SymbolPair, OwnPair, DescribedCall, size_of, described_call, of_sequence, of_symbol, of_output, by_call, by_slot, by_distance, instructions_of}
+use Rattle.wild_meaning.specs.Sequence.{OwnPair, DescribedCall, described_call, of_sequence, of_output}
 use Rattle.wild_meaning.specs.Partners.{HasCallAddend}
-use Rattle.wild_meaning.specs.Template.{IsInstruction, IsSequence, IsTemplate, IsDemanded, demand_of, effect_of, reads, reads_without_calls, DoesDemanded}
 use Rattle.wild_meaning.specs.Reference.{HoldsWithSequence}
 use Rattle.wild_meaning.specs.Worked.SequenceRefusals.{call_reference, call_item, RemovedCallsAreRefused, far_code, far_reference, far_getter, far_item, far_sequence, another_base, OtherBasesAreRefused, near_code, near_reference, near_getter, near_item, near_sequence, KeptCallsAreRefused, OtherAddendsAreNoCalls}
 use Rattle.wild_meaning.proofs.EffectLemmas.{meant}

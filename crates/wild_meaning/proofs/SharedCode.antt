@@ -1,24 +1,10 @@
 -- Code of the worked shared object that is given an offset where it asks for a descriptor is refused.
-use Rattle.std.proofs.Common.{◌≡◌, ℕ, ◌+◌, ◌-◌, ◌%◌, ◌^◌, inl, inr, true, false, List, [], ◌∷◌, refl, sym, ap, ◌∙◌, subst, arith}
-use Rattle.std.specs.Prelude.{Option, Some, None, ◌==◌, if◌then◌else◌, option_map}
-use Rattle.std.proofs.lemmas.Bool.{cases_Bool, eqb-true}
-use Rattle.wild_words.specs.Words.{number}
-use Rattle.wild_records.specs.Abi.Relocation.{r_x86_64_gotpc32_tlsdesc}
-use Rattle.wild_reloc.specs.Formula.{Descriptor}
+use Rattle.wild_meaning.proofs.Common.{◌≡◌, ℕ, ◌+◌, ◌-◌, ◌%◌, ◌^◌, inl, inr, true, false, List, [], ◌∷◌, refl, sym, ap, ◌∙◌, subst, arith, Option, Some, None, ◌==◌, if◌then◌else◌, option_map, cases_Bool, eqb-true, number, r_x86_64_gotpc32_tlsdesc, Descriptor, Memory, Holds, first_value, Number, Set, Reader, as_value, with_value, meaning_x86_64, effect_x86_64, IsKept, OfSection, InNoField, Instruction, Described, instructions_of, IsInstruction, IsTemplate, DoesDemanded, shared_layout, shared_world, shared_code}
 use Rattle.wild_types.specs.declared.kind.Machine.TheVariants as machine
-use Rattle.wild_loader.specs.declared.memory.Memory.{Memory}
-use Rattle.wild_loader.specs.Memory.{Holds}
-use Rattle.wild_loader.specs.Changes.{first_value}
-use Rattle.wild_loader.specs.declared.instruction.Operand.TheVariants.{Number}
-use Rattle.wild_loader.specs.declared.instruction.Deed.TheVariants.{Set}
-use Rattle.wild_loader.specs.Instruction.{Reader, as_value, with_value}
-use Rattle.wild_loader.specs.InstructionX86_64.{meaning_x86_64, effect_x86_64}
 use Rattle.wild_loader.specs.CodeX86_64.{rex, with_slot}
-use Rattle.wild_meaning.specs.Item.{IsKept, OfSection}
-use Rattle.wild_meaning.specs.Field.{InNoField}
-use Rattle.wild_meaning.specs.Sequence.{Instruction, Described, of_field, instructions_of}
-use Rattle.wild_meaning.specs.Template.{IsDescribed, IsInstruction, IsTemplate, DoesDemanded}
-use Rattle.wild_meaning.specs.Worked.Shared.{shared_layout, shared_world, shared_code, code_item, shared_reference}
+use Rattle.wild_meaning.specs.Sequence.{of_field}
+use Rattle.wild_meaning.specs.Template.{IsDescribed}
+use Rattle.wild_meaning.specs.Worked.Shared.{code_item, shared_reference}
 use Rattle.wild_meaning.specs.Worked.SharedRefusals.{WrongCodeOfLibraryIsRefused, offset_load}
 use Rattle.wild_meaning.proofs.EffectLemmas.{meant}
 use Rattle.wild_meaning.proofs.SlotPlaces.{slot_holds}

@@ -1,17 +1,6 @@
 -- The worked world of the shared object is legal.
-use Rattle.std.proofs.Common.{◌≡◌, ℕ, zero, suc, ◌+◌, ◌^◌, ◌<◌, ◌≤◌, true, false, [], ◌∷◌, refl, ap, ◌∙◌, arith}
-use Rattle.std.specs.Prelude.{Some, None, All}
-use Rattle.std.proofs.lemmas.List.Elements.{All-nil, All-from_recursion}
-use Rattle.wild_records.specs.Abi.Segment.{pt_load}
-use Rattle.wild_types.specs.declared.section.Segment.{Segment}
+use Rattle.wild_meaning.proofs.Common.{◌≡◌, ℕ, zero, suc, ◌+◌, ◌^◌, ◌<◌, ◌≤◌, true, false, [], ◌∷◌, refl, ap, ◌∙◌, arith, Some, None, All, All-nil, All-from_recursion, pt_load, Segment, File, has_flag, ifunc, Answer, IsReplaceable, HasAnswer, HasResolver, IsAnswer, IsAnswered, IsKnownModule, IsCopied, file_of, group_of, shared_layout, shared_data, shared_code, shared_near, shared_world, answer_of_module, own_symbol, open_symbol, own_thread, other_thread, stubbed_function}
 use Rattle.wild_types.specs.declared.file.FileRole.TheVariants as file_role
-use Rattle.wild_types.specs.declared.file.File.{File}
-use Rattle.wild_types.specs.Flags.{has_flag, ifunc}
-use Rattle.wild_loader.specs.declared.world.Answer.{Answer}
-use Rattle.wild_meaning.specs.Value.{IsReplaceable, HasAnswer}
-use Rattle.wild_meaning.specs.World.{HasResolver, IsAnswer, IsAnswered, IsKnownModule, IsCopied}
-use Rattle.wild_meaning.specs.Worked.Builders.{file_of, group_of}
-use Rattle.wild_meaning.specs.Worked.Shared.{shared_layout, shared_data, shared_code, shared_near, shared_world, answer_of_module, own_symbol, open_symbol, own_thread, other_thread, stubbed_function}
 use Rattle.wild_meaning.specs.Worked.SharedRefusals.{SharedWorldIsLegal}
 use Rattle.wild_meaning.proofs.SymbolUnique.{only, owner_of, no_answer}
 use Rattle.wild_meaning.proofs.Legal.{not_indirect, no_index, one_index}

@@ -1,60 +1,27 @@
 -- The image of the worked shared object is linked in its world.
-use Rattle.std.proofs.Common.{◌==◌, ◌≡◌, ℕ, zero, suc, ◌+◌, ◌-◌, ◌%◌, ◌^◌, ◌<◌, ◌≤◌, ◌⊎◌, inl, inr, true, false, List, [], ◌∷◌, length, refl, sym, ap, ◌∙◌, subst, arith, ◌++◌}
-use Rattle.std.specs.Prelude.{Some, None, Contains, All, slice_index, replicate}
-use Rattle.std.proofs.lemmas.Bool.{eqb-false}
-use Rattle.std.proofs.lemmas.List.Elements.{All-from_recursion, All-contains}
-use lib.IntN.{pos}
-use Rattle.wild_words.specs.Words.{number, word}
-use Rattle.wild_words.specs.Record.{spell}
-use Rattle.wild_words.proofs.RecordLemmas.{HasBytesAt-left}
-use Rattle.wild_records.specs.Abi.Relocation.{r_x86_64_64, r_x86_64_gotpcrel64, r_x86_64_tpoff64, r_x86_64_dtpoff64, r_x86_64_size64, r_x86_64_tlsgd, r_x86_64_tlsld, r_x86_64_gottpoff, r_x86_64_gotpc32_tlsdesc}
-use Rattle.wild_records.specs.Abi.Segment.{pt_gnu_stack}
-use Rattle.wild_records.specs.FileHeader.{file_header_fields}
-use Rattle.wild_records.specs.declared.program_header.ProgramHeader.{ProgramHeader}
-use Rattle.wild_reloc.specs.Formula.{Formula, formula, SlotDistance, AddressSlot, ThreadOffset, ModulePair, OwnModulePair, Descriptor, SymbolAddress, Distance, PointerOffset, ModuleOffset, Size, Full, Plain, Signed, sign_extended}
-use Rattle.wild_reloc.specs.FormulaX86_64.{x86_64_formula}
+use Rattle.wild_meaning.proofs.Common.{◌==◌, ◌≡◌, ℕ, zero, suc, ◌+◌, ◌-◌, ◌%◌, ◌^◌, ◌<◌, ◌≤◌, ◌⊎◌, inl, inr, true, false, List, [], ◌∷◌, length, refl, sym, ap, ◌∙◌, subst, arith, ◌++◌, Some, None, Contains, All, slice_index, replicate, eqb-false, All-from_recursion, All-contains, pos, number, word, spell, HasBytesAt-left, r_x86_64_64, r_x86_64_tpoff64, r_x86_64_dtpoff64, r_x86_64_tlsgd, r_x86_64_tlsld, r_x86_64_gotpc32_tlsdesc, pt_gnu_stack, file_header_fields, ProgramHeader, Formula, formula, SlotDistance, AddressSlot, ThreadOffset, ModulePair, OwnModulePair, Descriptor, SymbolAddress, Distance, PointerOffset, ModuleOffset, Full, Plain, Signed, x86_64_formula, File, Group, InputRelocation, InputSection, Symbol, has_flag, Item, Answer, Set, byte_in, bytes_in, number_in, Holds, HasStub, meaning_x86_64, effect_x86_64, first_dynamic, IsDefinedBy, IsSymbol, IsReplaceable, HasAnswer, HasValue, HasThreadOffset, IsInput, IsKept, OfSection, OfFrames, place_at, placed_item, FieldReads, Gives, reads_without_calls, Number, UsesOwnDefinition, UsesOwnSymbolOnly, IsOutsideReferences, ReferenceHolds, ItemHolds, ReadsOffsetSlots, headers_in, DescribeSegments, IsSectionWithoutData, DescribesOutput, reference, file_of, group_of, shared_layout, shared_world, shared_data, shared_item, shared_code, shared_near, answer_of_module, own_symbol, open_symbol, own_thread, other_thread, stubbed_function, own_offset, program_header_fields, dt_pltrelsz, dt_relrsz, rela_size, relr_size}
+use Rattle.wild_records.specs.Abi.Relocation.{r_x86_64_gotpcrel64, r_x86_64_size64, r_x86_64_gottpoff}
+use Rattle.wild_reloc.specs.Formula.{Size, sign_extended}
 use Rattle.wild_types.specs.declared.file.FileRole.TheVariants as file_role
-use Rattle.wild_types.specs.declared.file.File.{File}
-use Rattle.wild_types.specs.declared.file.Group.{Group}
-use Rattle.wild_types.specs.declared.input.InputRelocation.{InputRelocation}
-use Rattle.wild_types.specs.declared.input.InputSection.{InputSection}
 use Rattle.wild_types.specs.declared.input.Slot.TheVariants as slot
 use Rattle.wild_types.specs.declared.layout.Entry.TheVariants as entry
-use Rattle.wild_types.specs.declared.symbol.Symbol.{Symbol}
-use Rattle.wild_types.specs.Flags.{has_flag}
-use Rattle.wild_types.specs.Item.{Item}
 use Rattle.wild_loader.specs.declared.memory.Machine.TheVariants as processors
-use Rattle.wild_loader.specs.declared.world.Answer.{Answer}
-use Rattle.wild_loader.specs.declared.instruction.Deed.TheVariants.{Set}
-use Rattle.wild_loader.specs.Memory.{byte_in, bytes_in, number_in, Holds}
 use Rattle.wild_loader.specs.Instruction.{signed_32, jump_through}
 use Rattle.wild_loader.specs.StepLawsX86_64.{stub_bytes}
 use Rattle.wild_loader.proofs.StepLemmas.{stub-held}
-use Rattle.wild_meaning.specs.Denotes.{HasStub, IsStub}
-use Rattle.wild_loader.specs.InstructionX86_64.{meaning_x86_64, effect_x86_64}
-use Rattle.wild_loader.specs.Tables.{first_dynamic}
-use Rattle.wild_meaning.specs.Value.{IsDefinedBy, IsSymbol, IsReplaceable, HasAnswer, HasOwnValue, HasValue}
-use Rattle.wild_meaning.specs.Thread.{HasThreadOffset}
+use Rattle.wild_meaning.specs.Denotes.{IsStub}
+use Rattle.wild_meaning.specs.Value.{HasOwnValue}
 use Rattle.wild_meaning.specs.Slot.{IsSlotOf}
-use Rattle.wild_meaning.specs.Item.{IsInput, IsReference, IsKept, OfSection, OfFrames, place_at, placed_item}
-use Rattle.wild_meaning.specs.Field.{FieldReads}
-use Rattle.wild_meaning.specs.Formula.{Gives}
-use Rattle.wild_meaning.specs.Template.{reads_without_calls}
+use Rattle.wild_meaning.specs.Item.{IsReference}
 use Rattle.wild_types.specs.declared.kind.Machine.TheVariants as machine
-use Rattle.wild_loader.specs.declared.instruction.Operand.TheVariants.{Number}
-use Rattle.wild_meaning.specs.Reference.{UsesOwnDefinition, UsesOwnSymbolOnly, IsOutsideReferences, ReferenceHolds, LinkedHolds, ItemHolds, ReadsOffsetSlots}
-use Rattle.wild_meaning.specs.Segments.{headers_in, DescribeSegments}
+use Rattle.wild_meaning.specs.Reference.{LinkedHolds}
 use Rattle.wild_meaning.specs.DynamicSection.{InformsLinker}
-use Rattle.wild_meaning.specs.LinkedImage.{IsSectionWithoutData, DescribesOutput}
-use Rattle.wild_meaning.specs.Worked.Builders.{reference, file_of, group_of, loaded_segment}
-use Rattle.wild_meaning.specs.Worked.Shared.{shared_layout, shared_world, shared_data, shared_item, shared_bytes, shared_code, code_item, shared_reference, shared_near, near_item, near_reference, answer_of_module, own_symbol, open_symbol, own_thread, other_thread, stubbed_function}
+use Rattle.wild_meaning.specs.Worked.Builders.{loaded_segment}
+use Rattle.wild_meaning.specs.Worked.Shared.{shared_bytes, code_item, shared_reference, near_item, near_reference}
 use Rattle.wild_meaning.specs.Worked.SharedImage.{shared_image, shared_rest, shared_memory, shared_header, shared_third, shared_front, shared_back}
-use Rattle.wild_meaning.specs.Worked.SharedRefusals.{own_offset, other_offset, ChangedTableIsRefused, SharedImageIsLinked}
-use Rattle.wild_records.specs.ProgramHeader.{program_header_fields}
+use Rattle.wild_meaning.specs.Worked.SharedRefusals.{other_offset, ChangedTableIsRefused, SharedImageIsLinked}
 use Rattle.wild_meaning.specs.Unfilled.{IsUnfilled}
 use Rattle.wild_meaning.proofs.SectionHeaderLemmas.{no_sections}
-use Rattle.wild_records.specs.Abi.Dynamic.{dt_pltrelsz, dt_relrsz}
-use Rattle.wild_records.specs.Relocations.{rela_size, relr_size}
 use Rattle.wild_meaning.proofs.DynamicLemmas.{whole_size, no_size, one_value_each, no_tables, no_functions}
 use Rattle.wild_meaning.proofs.FileBytes.{HasLoadedBytes, file_byte_held}
 use Rattle.wild_meaning.proofs.SymbolUnique.{only, IsPlainOwn, IsAnsweredAs, stub_of, stub_is}

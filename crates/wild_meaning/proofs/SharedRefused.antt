@@ -1,34 +1,18 @@
 -- Wrong slots, addresses, offsets, sizes and bytes of the worked shared object are refused.
-use Rattle.std.proofs.Common.{◌≡◌, ℕ, ◌+◌, ◌-◌, ◌^◌, ◌<◌, ◌≤◌, ◌⊎◌, inl, inr, true, false, refl, sym, ap, ◌∙◌, arith, subst}
-use Rattle.std.specs.Prelude.{◌≢◌, Some, Ok, Contains, Option, option_and_then}
-use Rattle.std.proofs.lemmas.List.Elements.{All-from_recursion}
-use lib.IntN.{pos}
-use Rattle.wild_records.specs.Abi.Relocation.{r_x86_64_none, r_x86_64_64, r_x86_64_pc64, r_x86_64_gotpcrel64, r_x86_64_tpoff64, r_x86_64_dtpoff64, r_x86_64_size64, r_x86_64_tlsgd, r_x86_64_tlsld, r_x86_64_gottpoff, r_x86_64_gotpc32_tlsdesc}
-use Rattle.wild_records.specs.Abi.Section.{shf_execinstr}
-use Rattle.wild_reloc.specs.Formula.{Formula, formula, SlotDistance, AddressSlot, ThreadOffset, ModulePair, OwnModulePair, Descriptor, SymbolAddress, Distance, PointerOffset, ModuleOffset, Size, Full, Plain, Signed, Value, Slot}
-use Rattle.wild_reloc.specs.FormulaX86_64.{x86_64_formula}
+use Rattle.wild_meaning.proofs.Common.{◌≡◌, ℕ, ◌+◌, ◌-◌, ◌^◌, ◌<◌, ◌≤◌, ◌⊎◌, inl, inr, true, false, refl, sym, ap, ◌∙◌, arith, subst, ◌≢◌, Some, Ok, Contains, Option, option_and_then, All-from_recursion, pos, r_x86_64_none, r_x86_64_64, r_x86_64_tpoff64, r_x86_64_dtpoff64, r_x86_64_tlsgd, r_x86_64_tlsld, r_x86_64_gotpc32_tlsdesc, shf_execinstr, Formula, formula, SlotDistance, AddressSlot, ThreadOffset, ModulePair, OwnModulePair, Descriptor, SymbolAddress, Distance, PointerOffset, ModuleOffset, Full, Plain, Signed, Value, Slot, x86_64_formula, InputRelocation, Resolution, Symbol, has_flag, ifunc, absolute, Memory, Answer, byte_in, IsSet, IsKept, OfSection, form_width, FieldReads, InNoField, ItemHolds, IsOutsideReferences, UsesOwnDefinition, UsesOwnSymbolOnly, IsSlot, HasSlotAddress, reference, shared_layout, shared_data, shared_item, shared_near, shared_world, answer_of_module, own_symbol, open_symbol, own_thread, other_thread, Refused, own_offset, HasWrongNumber, TakesString}
+use Rattle.wild_records.specs.Abi.Relocation.{r_x86_64_pc64, r_x86_64_gotpcrel64, r_x86_64_size64, r_x86_64_gottpoff}
+use Rattle.wild_reloc.specs.Formula.{Size}
 use Rattle.wild_types.specs.declared.kind.Machine.TheVariants as machine
-use Rattle.wild_types.specs.declared.input.InputRelocation.{InputRelocation}
-use Rattle.wild_types.specs.declared.symbol.Resolution.{Resolution}
-use Rattle.wild_types.specs.declared.symbol.Symbol.{Symbol}
-use Rattle.wild_types.specs.Flags.{has_flag, ifunc, absolute}
-use Rattle.wild_loader.specs.declared.memory.Memory.{Memory}
-use Rattle.wild_loader.specs.declared.world.Answer.{Answer}
-use Rattle.wild_loader.specs.Memory.{byte_in}
-use Rattle.wild_meaning.specs.Section.{IsSet}
-use Rattle.wild_meaning.specs.Item.{IsKept, OfSection}
-use Rattle.wild_meaning.specs.Field.{form_width, FieldReads, InNoField}
-use Rattle.wild_meaning.specs.Reference.{ItemHolds, IsOutsideReferences, UsesOwnDefinition, UsesOwnSymbolOnly, HoldsLinked, LinkedHolds}
-use Rattle.wild_meaning.specs.Slot.{IsSlot, offset_from_first, has_slot_of, HasSlotAddress}
-use Rattle.wild_meaning.specs.Worked.Builders.{reference}
-use Rattle.wild_meaning.specs.Worked.Shared.{shared_layout, shared_data, shared_item, shared_near, near_item, near_reference, shared_references, shared_world, answer_of_module, own_symbol, open_symbol, own_thread, other_thread}
-use Rattle.wild_meaning.specs.Worked.SharedRefusals.{NamesAnother, NamesElsewhere, WrongSlotsAreRefused, WrongAddressesAreRefused, WrongOffsetsAreRefused, WrongSizeIsRefused, WrongByteIsRefused, WrongOwnDistanceIsRefused, Refused, own_offset, other_offset, SlotsNeedTheirFlags}
-use Rattle.wild_meaning.specs.Worked.Refusals.{HasWrongNumber, NamesWrongWord}
+use Rattle.wild_meaning.specs.Reference.{HoldsLinked, LinkedHolds}
+use Rattle.wild_meaning.specs.Slot.{offset_from_first, has_slot_of}
+use Rattle.wild_meaning.specs.Worked.Shared.{near_item, near_reference, shared_references}
+use Rattle.wild_meaning.specs.Worked.SharedRefusals.{NamesAnother, NamesElsewhere, WrongSlotsAreRefused, WrongAddressesAreRefused, WrongOffsetsAreRefused, WrongSizeIsRefused, WrongByteIsRefused, WrongOwnDistanceIsRefused, other_offset, SlotsNeedTheirFlags}
+use Rattle.wild_meaning.specs.Worked.Refusals.{NamesWrongWord}
 use Rattle.wild_meaning.proofs.SymbolUnique.{defining_symbol_is, stub_of, own_value_of, IsPlainOwn, IsAnsweredAs, denoted, other_denoted, own_offset as own_offset_is, other_offset as other_offset_is, other_size, somewhere, defining_symbol}
 use Rattle.wild_meaning.proofs.Read.{full_of, signed_of, word_below, same_word}
 use Rattle.wild_meaning.proofs.SlotPlaces.{slot_holds}
 use Rattle.wild_meaning.proofs.Refused.{HasValueThere, value_there, no_template, not_excepted}
-use Rattle.wild_meaning.specs.Formula.{TakesString, GivesLinked}
+use Rattle.wild_meaning.specs.Formula.{GivesLinked}
 use Rattle.wild_meaning.proofs.StringLemmas.{nothing_named}
 use Rattle.wild_meaning.proofs.SymbolLemmas.{referent_stands, in_slot_denotes}
 

@@ -1,25 +1,11 @@
 -- Wrong stubs of the worked shared object are refused.
-use Rattle.std.proofs.Common.{◌≡◌, ℕ, ◌+◌, ◌%◌, ◌^◌, ◌⊎◌, inl, inr, Bool, true, false, List, refl, sym, ap, ◌∙◌, arith, subst}
-use Rattle.std.specs.Prelude.{Option, Some, option_and_then}
-use Rattle.wild_words.specs.Words.{number}
-use Rattle.wild_types.specs.declared.symbol.Resolution.{Resolution}
-use Rattle.wild_types.specs.declared.symbol.Symbol.{Symbol}
-use Rattle.wild_types.specs.Flags.{has_flag, absolute, ifunc}
-use Rattle.wild_loader.specs.declared.memory.Memory.{Memory}
-use Rattle.wild_loader.specs.declared.instruction.Action.{Action}
-use Rattle.wild_loader.specs.declared.instruction.Operand.TheVariants.{Word}
+use Rattle.wild_meaning.proofs.Common.{◌≡◌, ℕ, ◌+◌, ◌%◌, ◌^◌, ◌⊎◌, inl, inr, Bool, true, false, List, refl, sym, ap, ◌∙◌, arith, subst, Option, Some, option_and_then, number, Resolution, Symbol, has_flag, absolute, ifunc, Memory, Action, Word, meaning_x86_64, HasRaw, HasFlag, HasValue, HasStub, IsAddressStub, IsReferent, InputRelocation, Item, SymbolAddress, HasWrongNumber, shared_layout, shared_world, stubbed_function, Refused}
 use Rattle.wild_loader.specs.Instruction.{jump_through}
-use Rattle.wild_loader.specs.InstructionX86_64.{meaning_x86_64}
-use Rattle.wild_meaning.specs.Value.{IsValue, HasRaw, HasFlag, HasValue}
-use Rattle.wild_meaning.specs.Denotes.{HasStub, IsStub, IsAddressStub, IsAddressOf}
-use Rattle.wild_meaning.specs.Formula.{IsSymbolAddress, IsReferent}
-use Rattle.wild_types.specs.declared.input.InputRelocation.{InputRelocation}
-use Rattle.wild_types.specs.Item.{Item}
-use Rattle.wild_reloc.specs.Formula.{SymbolAddress}
+use Rattle.wild_meaning.specs.Value.{IsValue}
+use Rattle.wild_meaning.specs.Denotes.{IsStub, IsAddressOf}
+use Rattle.wild_meaning.specs.Formula.{IsSymbolAddress}
 use Rattle.wild_meaning.specs.LinkedImage.{IsLinked}
-use Rattle.wild_meaning.specs.Worked.Refusals.{HasWrongNumber}
-use Rattle.wild_meaning.specs.Worked.Shared.{shared_layout, shared_world, stubbed_function}
-use Rattle.wild_meaning.specs.Worked.SharedRefusals.{Refused, stub_by_another_word, JumpsByAnotherWord, WrongStubsAreRefused}
+use Rattle.wild_meaning.specs.Worked.SharedRefusals.{stub_by_another_word, JumpsByAnotherWord, WrongStubsAreRefused}
 use Rattle.wild_meaning.proofs.SymbolUnique.{defining_symbol_is, flag_of, owner_of, raw_of, stub_is}
 use Rattle.wild_meaning.proofs.SymbolLemmas.{referent_address}
 use Rattle.wild_meaning.proofs.SharedRefused.{no_string}

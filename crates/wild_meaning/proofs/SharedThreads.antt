@@ -1,18 +1,8 @@
 -- Wrong pairs and descriptors of the worked shared object are refused.
-use Rattle.std.proofs.Common.{◌≡◌, ℕ, ◌+◌, ◌-◌, ◌^◌, ◌<◌, ◌⊎◌, inl, inr, List, [], ◌∷◌, refl, sym, ap, ◌∙◌, arith}
-use Rattle.std.specs.Prelude.{◌==◌, if◌then◌else◌, Some, None, Ok}
-use Rattle.std.proofs.lemmas.Bool.{cases_Bool, eqb-true}
-use lib.IntN.{pos}
-use Rattle.wild_records.specs.Abi.Relocation.{r_x86_64_tlsgd, r_x86_64_tlsld, r_x86_64_gotpc32_tlsdesc}
-use Rattle.wild_reloc.specs.Formula.{ModulePair, OwnModulePair, Descriptor}
-use Rattle.wild_loader.specs.declared.memory.Memory.{Memory}
-use Rattle.wild_loader.specs.Memory.{number_in}
-use Rattle.wild_loader.specs.Changes.{distance_of, first_value}
-use Rattle.wild_meaning.specs.Worked.Builders.{reference}
-use Rattle.wild_meaning.specs.Worked.Shared.{shared_layout, shared_item, shared_world, own_thread}
+use Rattle.wild_meaning.proofs.Common.{◌≡◌, ℕ, ◌+◌, ◌-◌, ◌^◌, ◌<◌, ◌⊎◌, inl, inr, List, [], ◌∷◌, refl, sym, ap, ◌∙◌, arith, ◌==◌, if◌then◌else◌, Some, None, Ok, cases_Bool, eqb-true, pos, r_x86_64_tlsgd, r_x86_64_tlsld, r_x86_64_gotpc32_tlsdesc, ModulePair, OwnModulePair, Descriptor, Memory, number_in, distance_of, first_value, reference, shared_layout, shared_item, shared_world, own_thread, Refused, own_offset}
 use Rattle.wild_meaning.specs.Slot.{IsPair}
 use Rattle.wild_meaning.specs.Worked.Refusals.{NamesWrongModule, NamesWrongDescriptor}
-use Rattle.wild_meaning.specs.Worked.SharedRefusals.{WrongModulesAreRefused, WrongDescriptorsAreRefused, Refused, own_offset}
+use Rattle.wild_meaning.specs.Worked.SharedRefusals.{WrongModulesAreRefused, WrongDescriptorsAreRefused}
 use Rattle.wild_meaning.proofs.SymbolUnique.{own_offset as own_offset_is, other_offset as other_offset_is, somewhere}
 use Rattle.wild_meaning.proofs.Read.{signed_of, word_below, same_word}
 use Rattle.wild_meaning.proofs.SlotPlaces.{slot_holds}

@@ -1,44 +1,11 @@
 -- The image of the worked program without a dynamic linker is linked in its world.
-use Rattle.std.proofs.Common.{◌==◌, if◌then◌else◌, Bool, ◌≡◌, ℕ, zero, suc, ◌+◌, ◌-◌, ◌%◌, ◌^◌, ◌<◌, ◌≤◌, ◌⊎◌, inl, inr, true, false, List, [], ◌∷◌, length, refl, sym, ap, ◌∙◌, subst, arith}
-use Rattle.std.specs.Prelude.{Some, None, Contains, All, slice_index}
-use Rattle.std.proofs.lemmas.List.Elements.{All-from_recursion, All-contains}
-use lib.IntN.{pos}
-use Rattle.wild_words.specs.Words.{number, word}
-use Rattle.wild_words.specs.Record.{spell}
-use Rattle.wild_words.proofs.RecordLemmas.{HasBytesAt-left}
-use Rattle.wild_records.specs.Abi.Relocation.{r_x86_64_64, r_x86_64_tpoff64}
-use Rattle.wild_records.specs.Abi.Segment.{pt_gnu_stack}
-use Rattle.wild_records.specs.FileHeader.{file_header_fields}
-use Rattle.wild_records.specs.declared.program_header.ProgramHeader.{ProgramHeader}
-use Rattle.wild_reloc.specs.Formula.{Formula, formula, SymbolAddress, PointerOffset, Full, StubDistance}
-use Rattle.wild_reloc.specs.FormulaX86_64.{x86_64_formula}
+use Rattle.wild_meaning.proofs.Common.{◌==◌, if◌then◌else◌, Bool, ◌≡◌, ℕ, zero, suc, ◌+◌, ◌-◌, ◌%◌, ◌^◌, ◌<◌, ◌≤◌, ◌⊎◌, inl, inr, true, false, List, [], ◌∷◌, length, refl, sym, ap, ◌∙◌, subst, arith, Some, None, Contains, All, slice_index, All-from_recursion, All-contains, pos, number, word, spell, HasBytesAt-left, r_x86_64_64, r_x86_64_tpoff64, pt_gnu_stack, file_header_fields, ProgramHeader, Formula, formula, SymbolAddress, PointerOffset, Full, StubDistance, x86_64_formula, File, Group, InputRelocation, InputSection, Symbol, has_flag, byte_in, Holds, Call, Set, SetThreadAddress, as_value, meaning_x86_64, effect_x86_64, IsDefinedBy, IsSymbol, HasValue, HasThreadOffset, Item, item_of, item_with, IsInput, IsKept, OfSection, OfFrames, DoesDemanded, reads_without_calls, Number, ReadsOffsetSlots, UsesOwnSymbolOnly, IsOutsideReferences, ReferenceHolds, ItemHolds, headers_in, DescribeSegments, IsSectionWithoutData, DescribesOutput, reference, file_of, group_of, static_pie, static_pie_world, branch_code, load_code, general_code, described_code, static_data, first_function, second_function, thread_symbol, getter_symbol, program_header_fields}
 use Rattle.wild_types.specs.declared.file.FileRole.TheVariants as file_role
-use Rattle.wild_types.specs.declared.file.File.{File}
-use Rattle.wild_types.specs.declared.file.Group.{Group}
-use Rattle.wild_types.specs.declared.input.InputRelocation.{InputRelocation}
-use Rattle.wild_types.specs.declared.input.InputSection.{InputSection}
 use Rattle.wild_types.specs.declared.layout.Entry.TheVariants as entry
-use Rattle.wild_types.specs.declared.symbol.Symbol.{Symbol}
-use Rattle.wild_types.specs.Flags.{has_flag}
-use Rattle.wild_loader.specs.Memory.{byte_in, Holds}
-use Rattle.wild_loader.specs.declared.instruction.Deed.TheVariants.{Call, Set, SetThreadAddress}
-use Rattle.wild_loader.specs.Instruction.{as_value}
-use Rattle.wild_loader.specs.InstructionX86_64.{meaning_x86_64, effect_x86_64}
-use Rattle.wild_meaning.specs.Value.{IsDefinedBy, IsSymbol, HasValue}
-use Rattle.wild_meaning.specs.Thread.{HasThreadOffset}
-use Rattle.wild_types.specs.Item.{Item, item_of, item_with}
-use Rattle.wild_meaning.specs.Item.{IsInput, IsKept, OfSection, OfFrames}
-use Rattle.wild_meaning.specs.Template.{DoesDemanded, reads_without_calls}
 use Rattle.wild_types.specs.declared.kind.Machine.TheVariants as machine
-use Rattle.wild_loader.specs.declared.instruction.Operand.TheVariants.{Number}
-use Rattle.wild_meaning.specs.Reference.{ReadsOffsetSlots, UsesOwnSymbolOnly, IsOutsideReferences, ReferenceHolds, ItemHolds}
-use Rattle.wild_meaning.specs.Segments.{headers_in, DescribeSegments}
-use Rattle.wild_meaning.specs.LinkedImage.{IsSectionWithoutData, DescribesOutput}
-use Rattle.wild_meaning.specs.Worked.Builders.{reference, file_of, group_of}
-use Rattle.wild_meaning.specs.Worked.Static.{static_pie, static_pie_world, branch_code, branch_item, branch_reference, load_code, load_item, load_reference, general_code, general_item, pair_reference, getter_reference, described_code, described_item, described_reference, static_data, static_item, first_function, second_function, thread_symbol, getter_symbol}
+use Rattle.wild_meaning.specs.Worked.Static.{branch_item, branch_reference, load_item, load_reference, general_item, pair_reference, getter_reference, described_item, described_reference, static_item}
 use Rattle.wild_meaning.specs.Worked.StaticImage.{static_image, static_rest, static_memory, static_header, static_content}
 use Rattle.wild_meaning.specs.Worked.StaticRefusals.{StaticImageIsLinked}
-use Rattle.wild_records.specs.ProgramHeader.{program_header_fields}
 use Rattle.wild_meaning.proofs.SectionHeaderLemmas.{no_sections}
 use Rattle.wild_meaning.proofs.DynamicLemmas.{no_dynamic_section}
 use Rattle.wild_meaning.proofs.FileBytes.{HasLoadedBytes, file_byte_held}

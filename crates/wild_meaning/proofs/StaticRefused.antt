@@ -1,34 +1,13 @@
 -- Wrong data of the worked program without a dynamic linker are refused.
-use Rattle.std.proofs.Common.{◌≡◌, ℕ, ◌-◌, ◌^◌, ◌<◌, inr, true, false, [], ◌∷◌, refl, sym, ap, ◌∙◌, arith}
-use Rattle.std.specs.Prelude.{◌≢◌, Some, Contains}
-use lib.IntN.{pos}
-use Rattle.wild_records.specs.Abi.Relocation.{r_x86_64_none, r_x86_64_64, r_x86_64_tpoff64}
-use Rattle.wild_records.specs.Abi.Section.{shf_execinstr}
-use Rattle.wild_records.specs.FileHeader.{FileHeaderIsRead}
-use Rattle.wild_records.specs.declared.file_header.FileHeader.{FileHeader}
-use Rattle.wild_reloc.specs.Formula.{Formula, formula, SymbolAddress, PointerOffset, Full, Value}
-use Rattle.wild_reloc.specs.FormulaX86_64.{x86_64_formula}
-use Rattle.wild_types.specs.declared.input.InputRelocation.{InputRelocation}
+use Rattle.wild_meaning.proofs.Common.{◌≡◌, ℕ, ◌-◌, ◌^◌, ◌<◌, inr, true, false, [], ◌∷◌, refl, sym, ap, ◌∙◌, arith, ◌≢◌, Some, Contains, pos, r_x86_64_none, r_x86_64_64, r_x86_64_tpoff64, shf_execinstr, FileHeaderIsRead, FileHeader, Formula, formula, SymbolAddress, PointerOffset, Full, Value, x86_64_formula, InputRelocation, File, has_flag, Memory, byte_in, IsSet, IsCopied, Item, IsKept, OfSection, ItemHolds, ReferenceHolds, IsSectionWithoutData, Refuses, reference, file_of, group_of, static_pie, static_pie_world, static_data, first_function, second_function, thread_symbol, HasWrongNumber, HasThreadOffset, TakesString}
 use Rattle.wild_types.specs.declared.file.FileRole.TheVariants as file_role
-use Rattle.wild_types.specs.declared.file.File.{File}
-use Rattle.wild_types.specs.Flags.{has_flag}
-use Rattle.wild_loader.specs.declared.memory.Memory.{Memory}
-use Rattle.wild_loader.specs.Memory.{byte_in}
-use Rattle.wild_meaning.specs.Section.{IsSet, HasFileBytes}
-use Rattle.wild_meaning.specs.World.{IsCopied}
-use Rattle.wild_types.specs.Item.{Item}
-use Rattle.wild_meaning.specs.Item.{IsKept, OfSection}
-use Rattle.wild_meaning.specs.Reference.{ItemHolds, ReferenceHolds}
-use Rattle.wild_meaning.specs.LinkedImage.{IsSectionWithoutData}
-use Rattle.wild_meaning.specs.Worked.Builders.{Refuses, reference, file_of, group_of}
-use Rattle.wild_meaning.specs.Worked.Static.{static_pie, static_pie_world, static_data, static_item, first_function, second_function, thread_symbol}
-use Rattle.wild_meaning.specs.Worked.Refusals.{HasWrongNumber, HasWrongByte}
+use Rattle.wild_meaning.specs.Section.{HasFileBytes}
+use Rattle.wild_meaning.specs.Worked.Static.{static_item}
+use Rattle.wild_meaning.specs.Worked.Refusals.{HasWrongByte}
 use Rattle.wild_meaning.specs.Worked.StaticRefusals.{padded_layout, padded_section, padded_blank, padded_thread, WrongDataAreRefused, WrongBlankIsRefused}
-use Rattle.wild_meaning.specs.Thread.{HasThreadOffset}
 use Rattle.wild_meaning.proofs.SymbolUnique.{only, IsPlainOwn, denoted, own_offset, somewhere}
 use Rattle.wild_meaning.proofs.Read.{full_of}
 use Rattle.wild_meaning.proofs.Refused.{HasValueThere, value_there, not_excepted, not_alone}
-use Rattle.wild_meaning.specs.Formula.{TakesString}
 use Rattle.wild_meaning.proofs.StringLemmas.{nothing_named}
 use Rattle.wild_meaning.proofs.SymbolLemmas.{referent_stands}
 

@@ -1,21 +1,10 @@
 -- References to symbols that stand for no merged strings: what stands for the symbol is what is asked.
-use Rattle.std.proofs.Common.{◌≡◌, ℕ, ◌%◌, inl, inr, true, sym, ◌∙◌, subst}
-use Rattle.std.specs.Prelude.{Bool, not, ◌==◌, Some, None}
-use Rattle.std.specs.List.{list_all}
+use Rattle.wild_meaning.proofs.Common.{◌≡◌, ℕ, ◌%◌, inl, inr, true, sym, ◌∙◌, subst, Bool, not, ◌==◌, Some, None, list_all, Value, Formula, StubDistance, InputRelocation, Symbol, Layout, Machine, Memory, World, Item, TakesString, IsReferent, formula_of}
 use Rattle.wild_words.proofs.Basics.{listed_at, listed_passes}
 use Rattle.wild_records.specs.Abi.Symbol.{stt_section}
-use Rattle.wild_reloc.specs.Formula.{Value, Formula, StubDistance}
-use Rattle.wild_types.specs.declared.input.InputRelocation.{InputRelocation}
-use Rattle.wild_types.specs.declared.symbol.Symbol.{Symbol}
-use Rattle.wild_types.specs.declared.layout.Layout.{Layout}
-use Rattle.wild_types.specs.declared.kind.Machine.{Machine}
-use Rattle.wild_loader.specs.declared.memory.Memory.{Memory}
-use Rattle.wild_loader.specs.declared.world.World.{World}
-use Rattle.wild_types.specs.Item.{Item}
 use Rattle.wild_meaning.specs.Strings.{NamesStrings}
-use Rattle.wild_meaning.specs.Formula.{TakesString, IsReferent, IsReferentOnMachine}
+use Rattle.wild_meaning.specs.Formula.{IsReferentOnMachine}
 use Rattle.wild_meaning.specs.Template.{GoesToString, IsBranchReferent}
-use Rattle.wild_meaning.specs.Field.{formula_of}
 
 -- a symbol that stands for no section
 abbrev pub is_no_section : Symbol → Bool

@@ -1,48 +1,14 @@
 -- The image of the worked program with merged strings is linked in its world, which is legal.
-use Rattle.std.proofs.Common.{◌≡◌, ℕ, zero, suc, ◌+◌, ◌^◌, ◌<◌, ◌≤◌, ◌⊎◌, inl, inr, true, false, List, [], ◌∷◌, length, refl, sym, ap, ◌∙◌, subst, arith}
-use Rattle.std.specs.Prelude.{Ok, Some, None, Contains, All, slice_get, slice_index}
-use Rattle.std.proofs.lemmas.List.Elements.{All-nil, All-from_recursion, All-contains}
-use Rattle.wild_words.specs.Words.{word, number}
-use Rattle.wild_words.specs.Record.{spell}
-use Rattle.wild_words.specs.Extents.{least_extent}
-use Rattle.wild_words.proofs.RecordLemmas.{HasBytesAt-left}
-use Rattle.wild_records.specs.Abi.Segment.{pt_load, pt_gnu_stack}
-use Rattle.wild_records.specs.FileHeader.{file_header_fields, file_header_at}
+use Rattle.wild_meaning.proofs.Common.{◌≡◌, ℕ, zero, suc, ◌+◌, ◌^◌, ◌<◌, ◌≤◌, ◌⊎◌, inl, inr, true, false, List, [], ◌∷◌, length, refl, sym, ap, ◌∙◌, subst, arith, Ok, Some, None, Contains, All, slice_get, slice_index, All-nil, All-from_recursion, All-contains, word, number, spell, least_extent, HasBytesAt-left, pt_load, pt_gnu_stack, file_header_fields, file_header_at, program_header_fields, program_header_at, ProgramHeader, formula, SymbolAddress, Full, Part, Segment, File, Group, InputRelocation, InputSection, has_flag, ifunc, Item, Answer, byte_in, Holds, header, program_headers, sections, load_segment, load_segments, segments, first_dynamic, section_entries, section_tables, tables, places_from, overlay_runs, add_all, apart, notes, relocate, load, image_at, image_with, IsDefinedBy, HasValue, HasAnswer, HasResolver, IsAnswer, IsAnswered, IsKnownModule, IsCopied, IsInput, IsKept, OfSection, OfFrames, placed_item, UsesOwnSymbolOnly, IsOutsideReferences, ReferenceHolds, ItemHolds, headers_in, DescribeSegments, DescribesSections, IsSectionWithoutData, DescribesOutput, group_of, static_pie_world, second_function}
 use Rattle.wild_records.specs.SectionHeader.{section_header_fields, section_header_at}
-use Rattle.wild_records.specs.ProgramHeader.{program_header_fields, program_header_at}
-use Rattle.wild_records.specs.declared.program_header.ProgramHeader.{ProgramHeader}
-use Rattle.wild_reloc.specs.Formula.{formula, SymbolAddress, Full}
-use Rattle.wild_types.specs.declared.part.Part.{Part}
 use Rattle.wild_types.specs.declared.part.Role.TheVariants as role
-use Rattle.wild_types.specs.declared.section.Segment.{Segment}
 use Rattle.wild_types.specs.declared.file.FileRole.TheVariants as file_role
-use Rattle.wild_types.specs.declared.file.File.{File}
-use Rattle.wild_types.specs.declared.file.Group.{Group}
-use Rattle.wild_types.specs.declared.input.InputRelocation.{InputRelocation}
-use Rattle.wild_types.specs.declared.input.InputSection.{InputSection}
 use Rattle.wild_types.specs.declared.input.Slot.TheVariants as slot
 use Rattle.wild_types.specs.declared.layout.Entry.TheVariants as entry
 use Rattle.wild_types.specs.declared.layout.Merged.{Merged}
-use Rattle.wild_types.specs.Flags.{has_flag, ifunc}
-use Rattle.wild_types.specs.Item.{Item}
-use Rattle.wild_loader.specs.declared.world.Answer.{Answer}
-use Rattle.wild_loader.specs.Memory.{byte_in, Holds}
-use Rattle.wild_loader.specs.Headers.{header, program_headers, section_headers, sections}
-use Rattle.wild_loader.specs.Segments.{load_segment, load_segments, segments}
-use Rattle.wild_loader.specs.Tables.{first_dynamic, section_entries, section_tables, tables}
-use Rattle.wild_loader.specs.Places.{places_from}
-use Rattle.wild_loader.specs.Runs.{overlay_runs}
-use Rattle.wild_loader.specs.Relocate.{add_all, apart, notes, relocate}
-use Rattle.wild_loader.specs.Load.{load, image_at, image_with}
-use Rattle.wild_meaning.specs.Value.{IsDefinedBy, HasValue, HasAnswer}
-use Rattle.wild_meaning.specs.World.{HasResolver, IsAnswer, IsAnswered, IsKnownModule, IsCopied}
-use Rattle.wild_meaning.specs.Item.{IsLoadedSlot, IsInput, IsKept, OfSection, OfFrames, placed_item}
-use Rattle.wild_meaning.specs.Reference.{UsesOwnSymbolOnly, IsOutsideReferences, ReferenceHolds, ItemHolds}
-use Rattle.wild_meaning.specs.Segments.{headers_in, DescribeSegments}
-use Rattle.wild_meaning.specs.SectionHeaders.{DescribesSections}
-use Rattle.wild_meaning.specs.LinkedImage.{IsSectionWithoutData, string_bytes, DescribesOutput}
-use Rattle.wild_meaning.specs.Worked.Builders.{group_of}
-use Rattle.wild_meaning.specs.Worked.Static.{static_pie_world, second_function}
+use Rattle.wild_loader.specs.Headers.{section_headers}
+use Rattle.wild_meaning.specs.Item.{IsLoadedSlot}
+use Rattle.wild_meaning.specs.LinkedImage.{string_bytes}
 use Rattle.wild_meaning.specs.Worked.Strings.{null_section, allocated_section, string_section, string_symbol, string_reference, pointer_data, reversed_data, strings_file, strings_layout, pointer_item, reversed_item, strings_memory, part_at, merged_texts, path_text, strings_content}
 use Rattle.wild_meaning.specs.Worked.StringImage.{strings_image, strings_rest, strings_header, strings_segment, strings_null, strings_section}
 use Rattle.wild_meaning.specs.Worked.StringRefusals.{StringsWorldIsLegal, StringsImageIsLinked}

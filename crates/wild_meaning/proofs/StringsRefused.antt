@@ -1,38 +1,20 @@
 -- Of the worked program with merged strings: a string is found by the byte that a reference names, and reversed words stand with their references.
-use Rattle.std.proofs.Common.{◌≡◌, ℕ, ◌+◌, ◌-◌, ◌%◌, ◌^◌, ◌<◌, ◌≤◌, inl, inr, true, false, List, [], ◌∷◌, ◌++◌, refl, sym, ap, ◌∙◌, subst, arith, ◌⊎◌}
-use Rattle.std.specs.Prelude.{All, Some, slice_get}
-use Rattle.std.proofs.lemmas.List.Elements.{All-nil, All-head, All-from_recursion}
-use lib.IntN.{pos}
-use Rattle.wild_words.specs.Words.{number}
-use Rattle.wild_records.specs.Abi.Relocation.{r_x86_64_64}
-use Rattle.wild_reloc.specs.Formula.{Formula, formula, SymbolAddress, Full}
-use Rattle.wild_types.specs.declared.part.Part.{Part}
+use Rattle.wild_meaning.proofs.Common.{◌≡◌, ℕ, ◌+◌, ◌-◌, ◌%◌, ◌^◌, ◌<◌, ◌≤◌, inl, inr, true, false, List, [], ◌∷◌, ◌++◌, refl, sym, ap, ◌∙◌, subst, arith, ◌⊎◌, All, Some, slice_get, All-nil, All-from_recursion, pos, number, r_x86_64_64, Formula, formula, SymbolAddress, Full, Part, Symbol, InputRelocation, InputSection, File, has_flag, byte_in, IsKept, OfSection, TakesString, IsReferent, ReferenceHolds, IsOutsideReferences, Refuses, reference, static_pie_world, second_function, HasWrongNumber, InNoField, formula_of, form_width}
+use Rattle.std.proofs.lemmas.List.Elements.{All-head}
 use Rattle.wild_types.specs.declared.part.Role.TheVariants as role
 use Rattle.wild_types.specs.declared.symbol.Place.TheVariants as at
-use Rattle.wild_types.specs.declared.symbol.Symbol.{Symbol}
-use Rattle.wild_types.specs.declared.input.InputRelocation.{InputRelocation}
-use Rattle.wild_types.specs.declared.input.InputSection.{InputSection}
 use Rattle.wild_types.specs.declared.input.MergedString.{MergedString}
-use Rattle.wild_types.specs.declared.file.File.{File}
-use Rattle.wild_types.specs.Flags.{has_flag}
 use Rattle.wild_types.specs.Lookups as lookups
-use Rattle.wild_loader.specs.Memory.{byte_in}
 use Rattle.wild_meaning.specs.Section.{IsAllocatedPart}
-use Rattle.wild_meaning.specs.Item.{IsKept, OfSection}
 use Rattle.wild_meaning.specs.Strings.{HasStrings, NamesStrings, IsStringAt, byte_of_reference, IsString}
-use Rattle.wild_meaning.specs.Formula.{TakesString, IsReferent}
-use Rattle.wild_meaning.specs.Reference.{ReferenceHolds, IsOutsideReferences}
-use Rattle.wild_meaning.specs.Worked.Builders.{Refuses, reference}
-use Rattle.wild_meaning.specs.Worked.Static.{static_pie_world, second_function}
 use Rattle.wild_meaning.specs.Worked.Strings.{first_string, second_string, string_section, string_symbol, string_reference, pointer_data, reversed_data, strings_file, strings_layout, pointer_item, reversed_item, strings_memory, allocated_section, part_at, merged_texts}
-use Rattle.wild_meaning.specs.Worked.Refusals.{HasWrongNumber, HasWrongByte}
+use Rattle.wild_meaning.specs.Worked.Refusals.{HasWrongByte}
 use Rattle.wild_meaning.specs.Worked.StringRefusals.{StringsAreJudged, ReversedWordsAreJudged, TextsAreJudged}
 use Rattle.wild_meaning.proofs.SymbolUnique.{IsPlainOwn, denoted}
 use Rattle.wild_meaning.proofs.Read.{full_of, held_from}
 use Rattle.wild_meaning.proofs.Refused.{value_there, no_template}
 use Rattle.wild_meaning.proofs.StaticRefused.{address_formula, no_code, refers}
 use Rattle.wild_meaning.proofs.SymbolLemmas.{referent_stands}
-use Rattle.wild_meaning.specs.Field.{InNoField, formula_of, form_width}
 
 -- ---- the strings
 

@@ -1,24 +1,16 @@
 -- The definition of a symbol, as the judge and as the writer find it.
-use Rattle.std.proofs.Common.{◌≡◌, ℕ, ◌⊎◌, inl, inr, refl, sym, ap, ◌∙◌, subst}
-use Rattle.std.specs.Prelude.{Option, Some, None, option_and_then, unwrap_or, slice_get}
-use Rattle.wild_reloc.specs.Formula.{Value, Distance, StubDistance, StubFromTable}
-use Rattle.wild_types.specs.declared.kind.Machine.{Machine}
+use Rattle.wild_meaning.proofs.Common.{◌≡◌, ℕ, ◌⊎◌, inl, inr, refl, sym, ap, ◌∙◌, subst, Option, Some, None, option_and_then, slice_get, Value, Distance, StubDistance, Machine, InputRelocation, Symbol, Layout, World, Memory, IsDefinedBy, Item, TakesString, IsReferent}
+use Rattle.std.specs.Prelude.{unwrap_or}
+use Rattle.wild_reloc.specs.Formula.{StubFromTable}
 use Rattle.wild_types.specs.declared.kind.Machine.TheVariants as machine
-use Rattle.wild_types.specs.declared.input.InputRelocation.{InputRelocation}
-use Rattle.wild_types.specs.declared.symbol.Symbol.{Symbol}
-use Rattle.wild_types.specs.declared.layout.Layout.{Layout}
 use Rattle.wild_types.specs.Lookups.{canonical}
-use Rattle.wild_loader.specs.declared.world.World.{World}
-use Rattle.wild_loader.specs.declared.memory.Memory.{Memory}
 use Rattle.wild_loader.specs.Reach.{ReachesWithin}
 use Rattle.wild_meaning.specs.Jump.{GoesTo}
-use Rattle.wild_meaning.specs.Value.{IsDefinedBy}
-use Rattle.wild_types.specs.Item.{Item}
 use Rattle.wild_meaning.specs.Denotes.{IsAddressOf, Denotes}
 use Rattle.wild_meaning.specs.ReferentAArch64.{IsOneAddress, RepresentsOnAArch64}
 use Rattle.wild_meaning.specs.Slot.{IsInAddressSlot}
 use Rattle.wild_meaning.specs.Template.{IsSlotAddress}
-use Rattle.wild_meaning.specs.Formula.{IsSymbolAddress, IsTarget, IsOwnTarget, TakesAddress, TakesString, IsReferentOnX86_64, IsReferent, IsOwnReferent}
+use Rattle.wild_meaning.specs.Formula.{IsSymbolAddress, IsTarget, IsOwnTarget, TakesAddress, IsReferentOnX86_64, IsOwnReferent}
 use Rattle.wild_meaning.proofs.StringLemmas.{referent_by}
 
 -- the symbol that defines another is the one that the layout looks up

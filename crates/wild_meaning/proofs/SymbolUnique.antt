@@ -1,20 +1,12 @@
 -- What a layout tells of a symbol is one thing: by its definition, which is told.
-use Rattle.std.proofs.Common.{◌≡◌, ℕ, zero, suc, ◌+◌, ◌-◌, ◌%◌, ◌^◌, ◌<◌, ◌⊎◌, inl, inr, Bool, true, false, [], ◌∷◌, length, refl, sym, ap, ◌∙◌, subst, arith}
-use Rattle.std.specs.Prelude.{Option, Some, None, Ok, Contains, All, slice_get, slice_index_or, option_and_then, unwrap_or}
-use Rattle.wild_types.specs.declared.symbol.Resolution.{Resolution}
-use Rattle.wild_types.specs.declared.symbol.Symbol.{Symbol}
-use Rattle.wild_types.specs.declared.layout.Layout.{Layout}
-use Rattle.wild_types.specs.Flags.{has_flag, absolute, ifunc}
+use Rattle.wild_meaning.proofs.Common.{◌≡◌, ℕ, zero, suc, ◌+◌, ◌-◌, ◌%◌, ◌^◌, ◌<◌, ◌⊎◌, inl, inr, Bool, true, false, [], ◌∷◌, length, refl, sym, ap, ◌∙◌, subst, arith, Option, Some, None, Ok, Contains, All, slice_get, slice_index_or, option_and_then, Resolution, Symbol, Layout, has_flag, absolute, ifunc, World, Answer, Memory, distance_of, IsSymbol, IsDefinedBy, HasRaw, HasFlag, HasAnswer, HasValue, IsReplaceable, may_be_replaced, HasStub, HasThreadOffset}
+use Rattle.std.specs.Prelude.{unwrap_or}
 use Rattle.wild_types.specs.SymbolSlots.{resolved_plt, plt_of}
 use Rattle.wild_words.proofs.ListLemmas.{holds_at}
-use Rattle.wild_loader.specs.declared.world.World.{World}
-use Rattle.wild_loader.specs.declared.world.Answer.{Answer}
-use Rattle.wild_loader.specs.declared.memory.Memory.{Memory}
-use Rattle.wild_loader.specs.Changes.{distance_of}
 use Rattle.wild_types.specs.declared.symbol.Place.TheVariants as at
-use Rattle.wild_meaning.specs.Value.{IsSymbol, IsDefinedBy, IsResolved, IsUnresolved, IsLocatedAt, HasRaw, HasFlag, HasOwnValue, HasAnswer, HasValue, HasSize, IsUndefined, IsReplaceable, IsValue, may_be_replaced}
-use Rattle.wild_meaning.specs.Denotes.{HasStub, Denotes}
-use Rattle.wild_meaning.specs.Thread.{HasOwnOffset, HasThreadOffset}
+use Rattle.wild_meaning.specs.Value.{IsResolved, IsUnresolved, IsLocatedAt, HasOwnValue, HasSize, IsUndefined, IsValue}
+use Rattle.wild_meaning.specs.Denotes.{Denotes}
+use Rattle.wild_meaning.specs.Thread.{HasOwnOffset}
 
 -- the one element of a list
 pub only : {X : Type 0} (a x : X) → Contains (a ∷ []) x → a ≡ x

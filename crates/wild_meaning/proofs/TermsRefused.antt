@@ -1,32 +1,14 @@
 -- Fields of data that hold another number than their type's expression are refused.
-use Rattle.std.proofs.Common.{◌≡◌, ℕ, ◌+◌, ◌-◌, ◌/◌, ◌%◌, ◌^◌, ◌≤◌, inl, inr, List, [], ◌∷◌, length, refl, sym, ap, ◌∙◌, subst, arith}
-use Rattle.std.specs.Prelude.{◌≢◌, if◌then◌else◌, Option, Some, None, slice_range}
-use Rattle.std.specs.Int.{w64, cast_unsigned}
-use Rattle.wild_words.specs.Words.{number}
-use Rattle.wild_records.specs.Abi.Relocation.{r_x86_64_32, r_x86_64_got64, r_x86_64_gotoff64, r_x86_64_gotpc64, r_x86_64_pltoff64, r_x86_64_dtpoff64, r_aarch64_adr_prel_pg_hi21, r_aarch64_adr_got_page, r_aarch64_ld64_gotpage_lo15, r_aarch64_ldst32_abs_lo12_nc}
-use Rattle.wild_reloc.specs.Formula.{Formula, formula, Value, SymbolAddress, SymbolPart, PageDistance, FromTable, StubFromTable, TableDistance, SlotPageDistance, SlotFromTable, SlotFromTablePage, AddressSlot, ModuleOffset, Plain, Unsigned, Full, Field, AdrField, Imm12Field, Check, NoCheck, BelowPower, WithinPower, Bits, ReadsBits, immediate}
-use Rattle.wild_reloc.specs.FormulaX86_64.{x86_64_formula}
-use Rattle.wild_reloc.specs.FormulaAArch64.{aarch64_formula}
-use Rattle.wild_types.specs.declared.kind.Machine.{Machine}
+use Rattle.wild_meaning.proofs.Common.{◌≡◌, ℕ, ◌+◌, ◌-◌, ◌/◌, ◌%◌, ◌^◌, ◌≤◌, inl, inr, List, [], ◌∷◌, length, refl, sym, ap, ◌∙◌, subst, arith, ◌≢◌, if◌then◌else◌, Option, Some, None, slice_range, w64, cast_unsigned, number, r_x86_64_dtpoff64, r_aarch64_adr_got_page, Formula, formula, Value, SymbolAddress, SymbolPart, PageDistance, SlotPageDistance, AddressSlot, ModuleOffset, Plain, Full, AdrField, Imm12Field, NoCheck, WithinPower, Bits, x86_64_formula, aarch64_formula, Machine, OutputKind, InputRelocation, Layout, Item, Memory, World, number_in, place_at, formula_of, FieldReads, IsExecutable, HasValue, IsAddressStub, HasThreadOffset, IsSlot, IsReferent, IsReferentOnAArch64, IsSum}
+use Rattle.wild_records.specs.Abi.Relocation.{r_x86_64_32, r_x86_64_got64, r_x86_64_gotoff64, r_x86_64_gotpc64, r_x86_64_pltoff64, r_aarch64_adr_prel_pg_hi21, r_aarch64_ld64_gotpage_lo15, r_aarch64_ldst32_abs_lo12_nc}
+use Rattle.wild_reloc.specs.Formula.{FromTable, StubFromTable, TableDistance, SlotFromTable, SlotFromTablePage, Unsigned, Field, Check, BelowPower, ReadsBits, immediate}
 use Rattle.wild_types.specs.declared.kind.Machine.TheVariants as machine
-use Rattle.wild_types.specs.declared.kind.OutputKind.{OutputKind}
 use Rattle.wild_types.specs.declared.kind.OutputKind.TheVariants as output
-use Rattle.wild_types.specs.declared.input.InputRelocation.{InputRelocation}
-use Rattle.wild_types.specs.declared.layout.Layout.{Layout}
-use Rattle.wild_types.specs.Item.{Item}
-use Rattle.wild_loader.specs.declared.memory.Memory.{Memory}
-use Rattle.wild_loader.specs.declared.world.World.{World}
-use Rattle.wild_loader.specs.Memory.{number_in}
-use Rattle.wild_meaning.specs.Item.{place_at}
-use Rattle.wild_meaning.specs.Field.{formula_of, FieldReads}
 use Rattle.wild_reloc.specs.BarredTypes.{is_listed}
-use Rattle.wild_meaning.specs.World.{IsExecutable}
-use Rattle.wild_meaning.specs.Value.{HasValue}
-use Rattle.wild_meaning.specs.Denotes.{IsAddressStub}
-use Rattle.wild_meaning.specs.Thread.{HasThreadOffset, IsOffsetBase}
-use Rattle.wild_meaning.specs.Slot.{IsSlotOf, IsSlot}
+use Rattle.wild_meaning.specs.Thread.{IsOffsetBase}
+use Rattle.wild_meaning.specs.Slot.{IsSlotOf}
 use Rattle.wild_meaning.specs.ReferentAArch64.{IsUndefinedWeak, branch_types, own_place, IsOneAddress}
-use Rattle.wild_meaning.specs.Formula.{table_at, page_of, IsOffset, IsReferent, IsReferentOnX86_64, IsReferentOnAArch64, IsSum}
+use Rattle.wild_meaning.specs.Formula.{table_at, page_of, IsOffset, IsReferentOnX86_64}
 use Rattle.wild_meaning.specs.Worked.TermRefusals.{HoldsInData, HasImmediate, HoldsPage, page_bits, WrongTermsAreRefused, WrongPagesAreRefused, CutNumbersAreRefused, OtherBitsAreRefused}
 use Rattle.wild_meaning.proofs.Read.{full_of, number_of}
 use Rattle.wild_meaning.proofs.Refused.{HasValueThere, data_there}

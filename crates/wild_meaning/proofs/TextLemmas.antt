@@ -1,11 +1,6 @@
 -- Layouts without merged strings, and without the path of an interpreter, have none in memory.
-use Rattle.std.proofs.Common.{◌≡◌, ℕ, ◌+◌, ◌<◌, List, [], length, subst, arith}
-use Rattle.std.specs.Prelude.{Contains}
-use Rattle.wild_types.specs.declared.layout.Layout.{Layout}
+use Rattle.wild_meaning.proofs.Common.{◌≡◌, ℕ, ◌+◌, ◌<◌, List, [], length, subst, arith, Contains, Layout, Memory, World, Holds}
 use Rattle.wild_types.specs.declared.layout.Merged.{Merged}
-use Rattle.wild_loader.specs.declared.memory.Memory.{Memory}
-use Rattle.wild_loader.specs.declared.world.World.{World}
-use Rattle.wild_loader.specs.Memory.{Holds}
 use Rattle.wild_meaning.specs.LinkedImage.{HoldsTexts}
 
 no_merged : (gs : List Merged) (g : Merged) → gs ≡ [] → Contains gs g → ⊥

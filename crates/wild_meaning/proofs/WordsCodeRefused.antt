@@ -1,42 +1,17 @@
 -- Wrong code of the worked program of AArch64 is refused.
-use Rattle.std.proofs.Common.{◌≡◌, ℕ, ◌+◌, ◌%◌, ◌/◌, ◌^◌, inl, inr, true, false, List, [], ◌∷◌, length, refl, sym, ap, ◌∙◌, subst, arith}
-use Rattle.std.specs.Prelude.{◌-◌, Option, Some, None, option_map}
-use Rattle.std.specs.Int.{w64, cast_unsigned}
-use Rattle.wild_words.specs.Words.{word, number}
-use Rattle.wild_reloc.specs.Formula.{Slot, Formula, formula, SlotAddress, AddressSlot, ModulePair, OwnModulePair, ThreadOffset, Descriptor, StubDistance, PageDistance, Imm12Field, NoCheck, Bits}
-use Rattle.wild_records.specs.Abi.Relocation.{r_aarch64_ld64_got_lo12_nc, r_aarch64_tlsdesc_ld64_lo12}
-use Rattle.wild_reloc.specs.FormulaAArch64.{aarch64_formula}
-use Rattle.wild_types.specs.declared.symbol.Resolution.{Resolution}
-use Rattle.wild_types.specs.declared.symbol.Symbol.{Symbol}
-use Rattle.wild_types.specs.Flags.{has_flag}
-use Rattle.wild_types.specs.declared.input.InputRelocation.{InputRelocation}
-use Rattle.wild_aarch64.specs.Immediate.{insert_bits}
-use Rattle.wild_aarch64.specs.Code.{read, read_address, read_access, read_vector_access, read_literal, read_transfer, read_condition}
+use Rattle.wild_meaning.proofs.Common.{◌≡◌, ℕ, ◌+◌, ◌%◌, ◌/◌, ◌^◌, inl, inr, true, false, List, [], ◌∷◌, length, refl, sym, ap, ◌∙◌, subst, arith, ◌-◌, Option, Some, None, option_map, w64, cast_unsigned, word, number, Slot, Formula, formula, SlotAddress, AddressSlot, ModulePair, OwnModulePair, ThreadOffset, Descriptor, StubDistance, PageDistance, Imm12Field, NoCheck, Bits, r_aarch64_ld64_got_lo12_nc, aarch64_formula, Resolution, Symbol, has_flag, InputRelocation, insert_bits, read, read_address, read_access, read_vector_access, read_literal, read_transfer, read_condition, Memory, Holds, Number, Word, Call, Jump, Set, Reader, with_value, step, Action, jumps, thunks-read, Item, IsKept, OfSection, HasSlotAddress, IsSlot, IsReferent, IsReferentOnAArch64, Gives, Instruction, descriptor_call_words, address_pair_words, IsTemplate, old_bytes, reads, reads_without_calls, DoesDemanded, ReadsOffsetSlots, ReferenceHolds, ItemHolds, Refuses, words_static, words_world, near_function, local_data, slot_code, slot_item, slot_low_reference, call_code, call_item, call_reference, past_code, past_item, past_reference, descriptor_code, descriptor_item, descriptor_page, descriptor_load, kept_code, kept_item, page_reference, low_reference, MemoryHas}
+use Rattle.wild_records.specs.Abi.Relocation.{r_aarch64_tlsdesc_ld64_lo12}
 use Rattle.wild_loader.specs.declared.memory.Machine.TheVariants as processors
-use Rattle.wild_loader.specs.declared.memory.Memory.{Memory}
-use Rattle.wild_loader.specs.Memory.{Holds}
-use Rattle.wild_loader.specs.declared.instruction.Operand.TheVariants.{Number, Word}
-use Rattle.wild_loader.specs.declared.instruction.Deed.TheVariants.{Call, Jump, Set, Load}
-use Rattle.wild_loader.specs.Instruction.{Reader, with_value}
+use Rattle.wild_loader.specs.declared.instruction.Deed.TheVariants.{Load}
 use Rattle.wild_loader.specs.InstructionAArch64.{meaning_aarch64, effect_aarch64, demand_aarch64}
-use Rattle.wild_loader.specs.Effect.{step}
-use Rattle.wild_loader.specs.declared.instruction.Action.{Action}
 use Rattle.wild_meaning.specs.Jump.{GoesTo}
 use Rattle.wild_types.specs.FileThunks.{thunk_size}
-use Rattle.wild_loader.specs.StepLawsAArch64.{jumps}
 use Rattle.wild_loader.proofs.HeldBytes.{held-rest}
-use Rattle.wild_loader.proofs.StepLemmasAArch64.{thunks-read}
-use Rattle.wild_types.specs.Item.{Item}
-use Rattle.wild_meaning.specs.Item.{IsReference, IsKept, OfSection}
-use Rattle.wild_meaning.specs.Slot.{offset_from_first, HasSlotAddress, HasSlot, IsSlot}
-use Rattle.wild_meaning.specs.Formula.{IsReferent, IsReferentOnAArch64, Gives}
-use Rattle.wild_meaning.specs.Sequence.{Instruction, descriptor_call_words, address_pair_words}
+use Rattle.wild_meaning.specs.Item.{IsReference}
+use Rattle.wild_meaning.specs.Slot.{offset_from_first, HasSlot}
 use Rattle.wild_meaning.specs.WordsAArch64.{effect_with as asked_of}
-use Rattle.wild_meaning.specs.Template.{IsTemplate, IsFieldBits, bits_of, old_bytes, reads, reads_without_calls, DoesDemanded}
-use Rattle.wild_meaning.specs.Reference.{IsOffsetSlot, ReadsOffsetSlots, ReferenceHolds, ItemHolds}
-use Rattle.wild_meaning.specs.Worked.Builders.{Refuses}
-use Rattle.wild_meaning.specs.Worked.AArch64.{words_static, words_world, near_function, local_data, slot_code, slot_item, slot_low_reference, call_code, call_item, call_reference, past_code, past_item, past_reference, descriptor_code, descriptor_item, descriptor_page, descriptor_load, kept_code, kept_item, page_reference, low_reference}
-use Rattle.wild_meaning.specs.Worked.StaticRefusals.{MemoryHas}
+use Rattle.wild_meaning.specs.Template.{IsFieldBits, bits_of}
+use Rattle.wild_meaning.specs.Reference.{IsOffsetSlot}
 use Rattle.wild_meaning.specs.Worked.ImageRefusalsAArch64.{HasBoth, slot_behind, call_of_thunk, far_thunk, stored_thunk, next_call_of_thunk, right_thunk, half_call, low_half, load_of_word, address_past, WrongCodeOfWordsIsRefused}
 use Rattle.wild_meaning.proofs.SymbolUnique.{denoted, value_of, defining_symbol_is, own_offset, somewhere, IsPlainOwn}
 use Rattle.wild_meaning.proofs.EffectLemmas.{meant}

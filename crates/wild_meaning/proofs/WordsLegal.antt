@@ -1,17 +1,7 @@
 -- The world of the worked program of AArch64 is legal.
-use Rattle.std.proofs.Common.{◌≡◌, ℕ, ◌+◌, ◌^◌, ◌≤◌, false, [], ◌∷◌, refl, ap, ◌∙◌, arith}
-use Rattle.std.specs.Prelude.{Some, None}
-use Rattle.std.proofs.lemmas.List.Elements.{All-nil, All-from_recursion}
-use Rattle.wild_records.specs.Abi.Segment.{pt_load}
-use Rattle.wild_types.specs.declared.section.Segment.{Segment}
+use Rattle.wild_meaning.proofs.Common.{◌≡◌, ℕ, ◌+◌, ◌^◌, ◌≤◌, false, [], ◌∷◌, refl, ap, ◌∙◌, arith, Some, None, All-nil, All-from_recursion, pt_load, Segment, File, has_flag, ifunc, Answer, HasAnswer, HasResolver, IsAnswer, IsAnswered, IsKnownModule, IsCopied, file_of, group_of, words_static, words_world, slot_code, call_code, past_code, descriptor_code, kept_code, near_function, local_data}
 use Rattle.wild_types.specs.declared.file.FileRole.TheVariants as file_role
-use Rattle.wild_types.specs.declared.file.File.{File}
-use Rattle.wild_types.specs.Flags.{has_flag, ifunc}
-use Rattle.wild_loader.specs.declared.world.Answer.{Answer}
-use Rattle.wild_meaning.specs.Value.{HasAnswer}
-use Rattle.wild_meaning.specs.World.{HasResolver, IsAnswer, IsAnswered, IsKnownModule, IsCopied}
-use Rattle.wild_meaning.specs.Worked.Builders.{file_of, group_of}
-use Rattle.wild_meaning.specs.Worked.AArch64.{words_static, words_world, address_code, slot_code, call_code, past_code, descriptor_code, kept_code, near_function, local_data}
+use Rattle.wild_meaning.specs.Worked.AArch64.{address_code}
 use Rattle.wild_meaning.specs.Worked.ImageRefusalsAArch64.{WordsWorldIsLegal}
 use Rattle.wild_meaning.proofs.SymbolUnique.{only}
 use Rattle.wild_meaning.proofs.Legal.{not_indirect, no_index}

@@ -1,53 +1,19 @@
 -- The image of the worked program of AArch64 is linked in its world.
-use Rattle.std.proofs.Common.{◌==◌, if◌then◌else◌, Bool, ◌≡◌, ℕ, zero, suc, ◌+◌, ◌%◌, ◌^◌, ◌<◌, ◌≤◌, ◌⊎◌, inl, inr, true, false, List, [], ◌∷◌, length, refl, sym, ap, ◌∙◌, subst, arith}
-use Rattle.std.specs.Prelude.{Some, None, Contains, All, slice_index}
+use Rattle.wild_meaning.proofs.Common.{◌==◌, if◌then◌else◌, Bool, ◌≡◌, ℕ, zero, suc, ◌+◌, ◌%◌, ◌^◌, ◌<◌, ◌≤◌, ◌⊎◌, inl, inr, true, false, List, [], ◌∷◌, length, refl, sym, ap, ◌∙◌, subst, arith, Some, None, Contains, All, slice_index, All-from_recursion, All-contains, word, number, spell, HasBytesAt-left, pt_gnu_stack, file_header_fields, ProgramHeader, SymbolPart, formula, PageDistance, StubDistance, SlotAddress, SlotPageDistance, AddressSlot, AdrField, Imm12Field, NoCheck, WithinPower, Bits, File, Group, InputRelocation, InputSection, Symbol, has_flag, insert_bits, read, read_address, read_access, read_vector_access, read_literal, read_transfer, read_condition, byte_in, Holds, Call, Set, Jump, Number, step, jumps, thunks-read, IsDefinedBy, IsSymbol, IsReplaceable, HasValue, HasThreadOffset, IsAddressStub, IsReferent, IsSum, Gives, IsSlot, Item, item_of, item_with, IsInput, IsKept, OfSection, OfFrames, Instruction, descriptor_call_words, address_pair_words, DoesDemanded, effect_of, demand_of, old_bytes, reads, reads_without_calls, ReadsOffsetSlots, UsesOwnSymbolOnly, IsOutsideReferences, ReferenceHolds, ItemHolds, headers_in, DescribeSegments, IsSectionWithoutData, DescribesOutput, file_of, group_of, words_static, words_world, near_function, local_data, page_reference, low_reference, slot_code, slot_item, slot_low_reference, call_code, call_item, call_reference, past_code, past_item, past_reference, kept_code, kept_item, descriptor_code, descriptor_item, descriptor_page, descriptor_load, program_header_fields}
 use Rattle.std.specs.List.{flat_map}
-use Rattle.std.proofs.lemmas.List.Elements.{All-from_recursion, All-contains}
-use Rattle.wild_words.specs.Words.{word, number}
-use Rattle.wild_words.specs.Record.{spell}
-use Rattle.wild_words.proofs.RecordLemmas.{HasBytesAt-left}
-use Rattle.wild_records.specs.Abi.Segment.{pt_gnu_stack}
-use Rattle.wild_records.specs.FileHeader.{file_header_fields}
-use Rattle.wild_records.specs.declared.program_header.ProgramHeader.{ProgramHeader}
-use Rattle.wild_reloc.specs.Formula.{SymbolPart, formula, PageDistance, StubDistance, SlotAddress, SlotPageDistance, AddressSlot, AdrField, Imm12Field, Imm26Field, NoCheck, WithinPower, Bits}
+use Rattle.wild_reloc.specs.Formula.{Imm26Field}
 use Rattle.wild_types.specs.declared.file.FileRole.TheVariants as file_role
-use Rattle.wild_types.specs.declared.file.File.{File}
-use Rattle.wild_types.specs.declared.file.Group.{Group}
-use Rattle.wild_types.specs.declared.input.InputRelocation.{InputRelocation}
-use Rattle.wild_types.specs.declared.input.InputSection.{InputSection}
 use Rattle.wild_types.specs.declared.layout.Entry.TheVariants as entry
-use Rattle.wild_types.specs.declared.symbol.Symbol.{Symbol}
-use Rattle.wild_types.specs.Flags.{has_flag}
-use Rattle.wild_aarch64.specs.Immediate.{insert_bits}
-use Rattle.wild_aarch64.specs.Code.{read, read_address, read_access, read_vector_access, read_literal, read_transfer, read_condition}
-use Rattle.wild_loader.specs.Memory.{byte_in, Holds}
 use Rattle.wild_types.specs.FileThunks.{thunk_size}
-use Rattle.wild_loader.specs.declared.instruction.Deed.TheVariants.{Call, Set, Load, Jump}
-use Rattle.wild_loader.specs.declared.instruction.Operand.TheVariants.{Number}
+use Rattle.wild_loader.specs.declared.instruction.Deed.TheVariants.{Load}
 use Rattle.wild_loader.specs.InstructionAArch64.{meaning_aarch64}
-use Rattle.wild_loader.specs.Effect.{step}
-use Rattle.wild_loader.specs.StepLawsAArch64.{jumps}
 use Rattle.wild_meaning.specs.Jump.{JumpsBy}
-use Rattle.wild_loader.proofs.StepLemmasAArch64.{thunks-read}
-use Rattle.wild_meaning.specs.Value.{IsDefinedBy, IsSymbol, IsReplaceable, HasValue}
-use Rattle.wild_meaning.specs.Thread.{HasThreadOffset}
-use Rattle.wild_meaning.specs.Denotes.{IsAddressStub}
-use Rattle.wild_meaning.specs.Formula.{IsReferent, IsSum, Gives}
-use Rattle.wild_meaning.specs.Slot.{IsSlot}
-use Rattle.wild_types.specs.Item.{Item, item_of, item_with}
-use Rattle.wild_meaning.specs.Item.{IsInput, IsKept, OfSection, OfFrames}
-use Rattle.wild_meaning.specs.Sequence.{Instruction, IsOwnByte, descriptor_call_words, address_pair_words}
-use Rattle.wild_meaning.specs.Template.{DoesDemanded, effect_of, demand_of, old_bytes, reads, reads_without_calls}
+use Rattle.wild_meaning.specs.Sequence.{IsOwnByte}
 use Rattle.wild_meaning.specs.WordsAArch64.{effect_with as asked_of}
 use Rattle.wild_meaning.specs.Field.{IsInputByte}
-use Rattle.wild_meaning.specs.Reference.{ReadsOffsetSlots, UsesOwnSymbolOnly, IsOutsideReferences, ReferenceHolds, ItemHolds}
-use Rattle.wild_meaning.specs.Segments.{headers_in, DescribeSegments}
-use Rattle.wild_meaning.specs.LinkedImage.{IsSectionWithoutData, DescribesOutput}
-use Rattle.wild_meaning.specs.Worked.Builders.{file_of, group_of}
-use Rattle.wild_meaning.specs.Worked.AArch64.{words_static, words_world, near_function, local_data, address_code, address_item, page_reference, low_reference, slot_code, slot_item, slot_page_reference, slot_low_reference, call_code, call_item, call_reference, past_code, past_item, past_reference, kept_code, kept_item, descriptor_code, descriptor_item, descriptor_page, descriptor_load, descriptor_low, descriptor_call}
+use Rattle.wild_meaning.specs.Worked.AArch64.{address_code, address_item, slot_page_reference, descriptor_low, descriptor_call}
 use Rattle.wild_meaning.specs.Worked.AArch64Image.{words_image, words_rest, words_memory, words_header, words_content}
 use Rattle.wild_meaning.specs.Worked.ImageRefusalsAArch64.{WordsImageIsLinked}
-use Rattle.wild_records.specs.ProgramHeader.{program_header_fields}
 use Rattle.wild_meaning.proofs.SectionHeaderLemmas.{no_sections}
 use Rattle.wild_meaning.proofs.DynamicLemmas.{no_dynamic_section}
 use Rattle.wild_meaning.proofs.FileBytes.{HasLoadedBytes, file_byte_held}

@@ -1,39 +1,19 @@
 -- Words of AArch64 code that do what is demanded, and words that do not.
-use Rattle.std.proofs.Common.{◌≡◌, ℕ, ◌+◌, ◌-◌, ◌%◌, ◌^◌, ◌<◌, ◌≤◌, inl, inr, List, [], ◌∷◌, length, refl, sym, ap, ◌∙◌, subst, arith}
-use Rattle.std.specs.Prelude.{◌≢◌, Option, Some, None, option_map}
-use Rattle.std.specs.Int.{w64, cast_unsigned}
+use Rattle.wild_meaning.proofs.Common.{◌≡◌, ℕ, ◌+◌, ◌-◌, ◌%◌, ◌^◌, ◌<◌, ◌≤◌, inl, inr, List, [], ◌∷◌, length, refl, sym, ap, ◌∙◌, subst, arith, ◌≢◌, Option, Some, None, option_map, w64, cast_unsigned, word, number, Machine, InputRelocation, Layout, r_aarch64_adr_got_page, r_aarch64_ld64_got_lo12_nc, Value, SymbolPart, Distance, SlotAddress, SlotPageDistance, AddressSlot, AdrField, Imm12Field, NoCheck, WithinPower, Bits, Formula, formula, aarch64_formula, insert_bits, read, read_address, read_access, read_vector_access, read_literal, read_transfer, read_condition, Memory, World, Set, number_in, Holds, Reader, Effect, step, jumps, thunks-read, Item, place_at, formula_of, FieldReads, Gives, IsSum, IsReferent, IsReferentOnAArch64, FieldBits, Instruction, size_of, descriptor_call_words, address_pair_words, reads, reads_without_calls, effect_of, demand_of, IsDemanded, old_bytes, DoesDemanded, ReferenceHolds}
 use Rattle.std.specs.List.{flat_map}
-use Rattle.wild_words.specs.Words.{word, number}
-use Rattle.wild_types.specs.declared.kind.Machine.{Machine}
 use Rattle.wild_types.specs.declared.kind.Machine.TheVariants as machine
-use Rattle.wild_types.specs.declared.input.InputRelocation.{InputRelocation}
-use Rattle.wild_types.specs.declared.layout.Layout.{Layout}
-use Rattle.wild_records.specs.Abi.Relocation.{r_aarch64_movw_uabs_g0, r_aarch64_adr_prel_lo21, r_aarch64_adr_got_page, r_aarch64_ld64_got_lo12_nc}
-use Rattle.wild_reloc.specs.Formula.{Value, SymbolPart, Distance, SlotAddress, SlotPageDistance, AddressSlot, Field, AdrField, Imm12Field, Imm16Field, Check, NoCheck, BelowPower, WithinPower, Passes, Bits, Formula, formula}
-use Rattle.wild_reloc.specs.FormulaAArch64.{aarch64_formula}
-use Rattle.wild_aarch64.specs.Immediate.{insert_bits}
-use Rattle.wild_aarch64.specs.Code.{read, read_address, read_access, read_vector_access, read_literal, read_transfer, read_condition}
+use Rattle.wild_records.specs.Abi.Relocation.{r_aarch64_movw_uabs_g0, r_aarch64_adr_prel_lo21}
+use Rattle.wild_reloc.specs.Formula.{Field, Imm16Field, Check, BelowPower, Passes}
 use Rattle.wild_loader.specs.declared.memory.Machine as processor
 use Rattle.wild_loader.specs.declared.memory.Machine.TheVariants as processors
-use Rattle.wild_loader.specs.declared.memory.Memory.{Memory}
-use Rattle.wild_loader.specs.declared.world.World.{World}
 use Rattle.wild_loader.specs.declared.effect.Effect as running
-use Rattle.wild_loader.specs.declared.instruction.Deed.TheVariants.{Set}
-use Rattle.wild_loader.specs.Memory.{number_in, Holds}
-use Rattle.wild_loader.specs.Instruction.{Reader, Effect}
 use Rattle.wild_loader.specs.InstructionAArch64.{effect_aarch64, demand_aarch64}
-use Rattle.wild_loader.specs.Effect.{words_at, step, step_of, step_aarch64}
+use Rattle.wild_loader.specs.Effect.{words_at, step_of, step_aarch64}
 use Rattle.wild_loader.specs.Reach.{jump_target, Reaches, JumpsTo, ReachesWithin}
-use Rattle.wild_loader.specs.StepLawsAArch64.{jumps}
-use Rattle.wild_loader.proofs.StepLemmasAArch64.{thunks-read, jumps-reach}
-use Rattle.wild_types.specs.Item.{Item}
-use Rattle.wild_meaning.specs.Item.{place_at}
-use Rattle.wild_meaning.specs.Field.{formula_of, FieldReads}
-use Rattle.wild_meaning.specs.Formula.{Gives, IsSum, IsReferent, IsReferentOnAArch64}
+use Rattle.wild_loader.proofs.StepLemmasAArch64.{jumps-reach}
 use Rattle.wild_meaning.specs.WordsAArch64.{effect_with as asked_of}
-use Rattle.wild_meaning.specs.Sequence.{FieldBits, Instruction, of_word, size_of, descriptor_call_words, offset_pair_words, address_pair_words}
-use Rattle.wild_meaning.specs.Template.{reads, reads_without_calls, effect_of, demand_of, CanHave, IsDemanded, old_bytes, DoesWith, DoesDemanded}
-use Rattle.wild_meaning.specs.Reference.{ReferenceHolds}
+use Rattle.wild_meaning.specs.Sequence.{of_word, offset_pair_words}
+use Rattle.wild_meaning.specs.Template.{CanHave, DoesWith}
 use Rattle.wild_meaning.specs.Worked.RefusalsAArch64.{Does, DoesNot, call_item, slot_item, pair_item, move_item, move_word, RightWordsDo, WrongWordsAreRefused, CutBitsAreRefused, SlotAddendsAreRefused, PairsAreExcepted, ThunksAreJudged}
 use Rattle.wild_meaning.proofs.InstructionsAArch64.{IsAlone, alone_only}
 use Rattle.wild_meaning.proofs.WordsTemplates.{slot_page_formula, slot_low_formula, slot_page_alone, slot_low_alone}

@@ -1,23 +1,14 @@
 -- The instructions of the worked program of AArch64, and the formulas of its relocation types.
-use Rattle.std.proofs.Common.{◌≡◌, ℕ, zero, suc, ◌+◌, ◌<◌, ◌≤◌, ◌⊎◌, inl, inr, true, false, List, [], ◌∷◌, refl, sym, ap, ◌∙◌, subst, arith}
-use Rattle.std.specs.Prelude.{Some, None, Contains, slice_get}
-use Rattle.std.proofs.lemmas.List.Elements.{All-from_recursion}
-use Rattle.wild_words.specs.Words.{number}
-use Rattle.wild_records.specs.Abi.Relocation.{r_aarch64_adr_prel_pg_hi21, r_aarch64_add_abs_lo12_nc, r_aarch64_adr_got_page, r_aarch64_ld64_got_lo12_nc, r_aarch64_call26, r_aarch64_tlsdesc_adr_page21, r_aarch64_tlsdesc_ld64_lo12, r_aarch64_tlsdesc_add_lo12, r_aarch64_tlsdesc_call}
-use Rattle.wild_reloc.specs.Formula.{Formula, formula, SymbolPart, PageDistance, StubDistance, SlotAddress, SlotPageDistance, AddressSlot, Descriptor, NoValue, AdrField, Imm12Field, Imm26Field, NoCheck, WithinPower, NoField, Bits, Value}
-use Rattle.wild_reloc.specs.FormulaAArch64.{aarch64_formula}
-use Rattle.wild_types.specs.declared.input.InputRelocation.{InputRelocation}
-use Rattle.wild_types.specs.Flags.{has_flag, undefined_weak}
-use Rattle.wild_aarch64.specs.Code.{read, read_address, read_access, read_vector_access, read_literal, read_transfer, read_condition}
+use Rattle.wild_meaning.proofs.Common.{◌≡◌, ℕ, zero, suc, ◌+◌, ◌<◌, ◌≤◌, ◌⊎◌, inl, inr, true, false, List, [], ◌∷◌, refl, sym, ap, ◌∙◌, subst, arith, Some, None, Contains, slice_get, All-from_recursion, number, r_aarch64_adr_got_page, r_aarch64_ld64_got_lo12_nc, Formula, formula, SymbolPart, PageDistance, StubDistance, SlotAddress, SlotPageDistance, AddressSlot, Descriptor, AdrField, Imm12Field, NoCheck, WithinPower, Bits, Value, aarch64_formula, InputRelocation, has_flag, read, read_address, read_access, read_vector_access, read_literal, read_transfer, read_condition, form_width, InNoField, Target, FieldBits, Instruction, descriptor_call_words, address_pair_words, IsInstruction, IsSequence, IsOfSequence, IsTemplate, words_static, near_function, local_data, page_reference, low_reference, slot_item, slot_low_reference, call_item, call_reference, past_item, past_reference, kept_item, descriptor_item, descriptor_page, descriptor_load, TakesString}
+use Rattle.wild_records.specs.Abi.Relocation.{r_aarch64_adr_prel_pg_hi21, r_aarch64_add_abs_lo12_nc, r_aarch64_call26, r_aarch64_tlsdesc_adr_page21, r_aarch64_tlsdesc_ld64_lo12, r_aarch64_tlsdesc_add_lo12, r_aarch64_tlsdesc_call}
+use Rattle.wild_reloc.specs.Formula.{NoValue, Imm26Field, NoField}
+use Rattle.wild_types.specs.Flags.{undefined_weak}
 use Rattle.wild_meaning.specs.ReferentAArch64.{IsUndefinedWeak}
-use Rattle.wild_meaning.specs.Field.{form_width, InNoField}
-use Rattle.wild_meaning.specs.Sequence.{Target, FieldBits, Instruction, of_word, descriptor_call_words, address_pair_words}
-use Rattle.wild_meaning.specs.Template.{IsInstruction, IsSequence, IsOfSequence, IsTemplate}
-use Rattle.wild_meaning.specs.Worked.AArch64.{words_static, near_function, local_data, address_item, page_reference, low_reference, slot_item, slot_page_reference, slot_low_reference, call_item, call_reference, past_item, past_reference, kept_item, descriptor_item, descriptor_page, descriptor_load, descriptor_low, descriptor_call}
+use Rattle.wild_meaning.specs.Sequence.{of_word}
+use Rattle.wild_meaning.specs.Worked.AArch64.{address_item, slot_page_reference, descriptor_low, descriptor_call}
 use Rattle.wild_meaning.proofs.SymbolUnique.{flag_of, IsPlainOwn}
 use Rattle.wild_meaning.proofs.PairLemmas.{only_one}
 use Rattle.wild_meaning.proofs.InstructionsAArch64.{IsAlone, single_is, alone_template, sequence_is}
-use Rattle.wild_meaning.specs.Formula.{TakesString}
 use Rattle.wild_meaning.proofs.StringLemmas.{nothing_named}
 
 -- ---- symbols

@@ -1,12 +1,10 @@
 -- Words of AArch64 that are no instruction of a reference.
-use Rattle.std.proofs.Common.{◌≡◌, ℕ, Bool, true, false, [], ◌∷◌, refl, eqb-true}
-use Rattle.std.specs.Prelude.{◌==◌, ◌&&◌, ◌||◌, map}
-use Rattle.std.specs.List.{list_all}
+use Rattle.wild_meaning.proofs.Common.{◌≡◌, ℕ, Bool, true, false, [], ◌∷◌, refl, ◌==◌, ◌&&◌, ◌||◌, map, list_all, read}
+use Rattle.std.proofs.Common.{eqb-true}
 use Rattle.std.proofs.lemmas.Bool.{and_parts}
 use Rattle.wild_aarch64.specs.Slice.{bits, has_fixed_bits}
 use Rattle.wild_aarch64.specs.Forms.{add, add_shifted, movn, adrp}
 use Rattle.wild_aarch64.specs.FilledForms.{forms_filled}
-use Rattle.wild_aarch64.specs.Code.{read}
 use Rattle.wild_aarch64.specs.Machine.{run}
 use Rattle.wild_aarch64.specs.Effect.{shapes}
 use Rattle.wild_aarch64.specs.Template.{codes_of, begins, register_in}

@@ -1,15 +1,7 @@
 -- What a world has of its modules, and its memory at places.
-use Rattle.std.proofs.Common.{◌≡◌, ℕ, inl, inr, List, [], ◌∷◌, ap, refl, ◌+◌, ◌*◌, ◌^◌, ◌<◌, Option, None, arith, subst}
-use Rattle.std.specs.Prelude.{Some, ◌==◌, Ok, option_and_then, option_map}
+use Rattle.wild_meaning.proofs.Common.{◌≡◌, ℕ, inl, inr, List, [], ◌∷◌, ap, refl, ◌+◌, ◌*◌, ◌^◌, ◌<◌, Option, None, arith, subst, Some, ◌==◌, Ok, option_and_then, option_map, cases_Bool, w64, cast_unsigned, first_value, distance_of, World, Memory, byte_in, number_in, IsKnownModule}
 use Rattle.std.specs.List.{filter}
-use Rattle.std.proofs.lemmas.Bool.{cases_Bool}
-use Rattle.std.specs.Int.{w64, cast_unsigned}
-use Rattle.wild_loader.specs.Changes.{first_value, distance_of}
-use Rattle.wild_loader.specs.declared.world.World.{World}
-use Rattle.wild_loader.specs.declared.memory.Memory.{Memory}
-use Rattle.wild_loader.specs.Memory.{byte_in, number_in}
 use Rattle.wild_loader.proofs.MappedSegments.{byte_below}
-use Rattle.wild_meaning.specs.World.{IsKnownModule}
 use Rattle.wild_meaning.specs.Slot.{HasWord}
 
 -- the one pair of a key is the first

@@ -1,7 +1,5 @@
 -- Two lists whose items belong together, one by one; and records that stand one behind the other.
-use Rattle.std.proofs.Common.{◌≡◌, ℕ, zero, suc, ◌+◌, ◌*◌, List, [], ◌∷◌, ◌++◌, length, Some, slice_get, flat_map, refl, ap, arith, subst}
-use Rattle.std.proofs.lemmas.Option.{same_Some}
-use Rattle.wild_words.specs.Words.{HasBytesAt}
+use Rattle.wild_names.proofs.Common.{◌≡◌, ℕ, zero, suc, ◌+◌, ◌*◌, List, [], ◌∷◌, ◌++◌, length, Some, slice_get, flat_map, refl, ap, arith, subst, same_Some, HasBytesAt}
 use Rattle.wild_words.proofs.RecordLemmas.{HasBytesAt-left, HasBytesAt-right}
 
 -- ---- two lists

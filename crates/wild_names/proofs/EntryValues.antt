@@ -1,33 +1,22 @@
 -- What entries of the symbol table tell of symbols that stand in sections, in none, and nowhere in the object.
-use Rattle.std.proofs.Common.{◌≡◌, ℕ, ◌+◌, ◌-◌, ◌%◌, ◌^◌, ◌<◌, ◌≤◌, inl, inr, ◌==◌, Bool, true, false, [], ◌∷◌, ◌++◌, length, refl, sym, ap, ◌∙◌, arith, subst}
-use Rattle.std.specs.Prelude.{Option, Some, None, is_some, Ok, nat_lt, if◌then◌else◌, ◌&&◌, slice_get}
-use Rattle.std.proofs.lemmas.Bool.{cases_Bool, ne_eqb, ltb-true}
+use Rattle.wild_names.proofs.Common.{◌≡◌, ℕ, ◌+◌, ◌-◌, ◌%◌, ◌^◌, ◌<◌, ◌≤◌, inl, inr, ◌==◌, Bool, true, false, [], ◌∷◌, ◌++◌, length, refl, sym, ap, ◌∙◌, arith, subst, Option, Some, None, is_some, Ok, nat_lt, if◌then◌else◌, ◌&&◌, slice_get, cases_Bool, ne_eqb, File, FileRole, Part, InputSection, Symbol, Layout, is_library, is_partial_link, section_of, files_of, base_of, output_section, TableFields, NamedEntry, table_attributes, table_by, IsLaidOut}
+use Rattle.std.proofs.lemmas.Bool.{ltb-true}
 use Rattle.wild_words.proofs.ListLemmas.{holds_at}
 use Rattle.wild_records.specs.Abi.Section.{shn_undef, shn_abs, shn_loreserve, shn_xindex}
 use Rattle.wild_records.specs.SymbolSections.{split_index}
 use Rattle.wild_types.specs.declared.kind.OutputKind.{OutputKind}
 use Rattle.wild_types.specs.declared.kind.OutputKind.TheVariants as output
-use Rattle.wild_types.specs.declared.file.File.{File}
-use Rattle.wild_types.specs.declared.file.FileRole.{FileRole}
-use Rattle.wild_types.specs.declared.part.Part.{Part}
-use Rattle.wild_types.specs.declared.input.InputSection.{InputSection}
 use Rattle.wild_types.specs.declared.symbol.Place.TheVariants as at
-use Rattle.wild_types.specs.declared.symbol.Symbol.{Symbol}
-use Rattle.wild_types.specs.declared.layout.Layout.{Layout}
 use Rattle.wild_types.specs.Addresses.{raw_value}
-use Rattle.wild_types.specs.FileRoles.{is_library}
 use Rattle.wild_types.specs.Flags.{has_flag, ifunc}
-use Rattle.wild_types.specs.Kinds.{is_partial_link, has_fixed_load_address}
-use Rattle.wild_types.specs.Lookups.{section_of, section_of_part, files_of, file_of}
+use Rattle.wild_types.specs.Kinds.{has_fixed_load_address}
+use Rattle.wild_types.specs.Lookups.{section_of_part, file_of}
 use Rattle.wild_types.specs.SymbolSlots.{plt_of}
-use Rattle.wild_placement.specs.PlacedSections.{base_of}
-use Rattle.wild_needs.specs.DynamicSymbols.{output_section, section_of_input}
+use Rattle.wild_needs.specs.DynamicSymbols.{section_of_input}
 use Rattle.wild_table_formats.specs.declared.symbols.SymbolAttributes.{SymbolAttributes}
-use Rattle.wild_table_formats.specs.declared.symbols.TableFields.{TableFields}
 use Rattle.wild_table_formats.specs.DynamicFields.{is_thread_symbol, some_section, has_stub_address}
-use Rattle.wild_table_formats.specs.TableEntries.{NamedEntry, in_table_section, counted_from, table_value, table_attributes, table_at, table_by}
+use Rattle.wild_table_formats.specs.TableEntries.{in_table_section, counted_from, table_value, table_at}
 use Rattle.wild_table_formats.specs.SectionSymbols.{symbol_section}
-use Rattle.wild_layout.specs.Geometry.{IsLaidOut}
 use Rattle.wild_names.specs.Links.{Link, entry_value, IsInObjectSection}
 
 -- ---- entries

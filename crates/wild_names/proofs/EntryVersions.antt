@@ -1,15 +1,8 @@
 -- A version for each entry of the dynamic symbol table.
-use Rattle.std.proofs.Common.{◌≡◌, ℕ, Bool, true, false, if◌then◌else◌, List, [], ◌∷◌, length, map, refl, sym, ◌∙◌, arith}
+use Rattle.wild_names.proofs.Common.{◌≡◌, ℕ, Bool, true, false, if◌then◌else◌, List, [], ◌∷◌, length, map, refl, sym, ◌∙◌, arith, length-append, length-map, SymtabEntry, File, Layout, next_dynstr, undefined_symbols, is_prelude, is_epilogue, needs_dynsym, listed, undefined, no_fields, entry_at, group_symbols, version_of, exported_version}
 use Rattle.std.specs.List.{flat_map}
-use Rattle.std.proofs.lemmas.List.{length-append, length-map}
-use Rattle.wild_records.specs.declared.symtab_entry.SymtabEntry.{SymtabEntry}
-use Rattle.wild_types.specs.declared.file.File.{File}
-use Rattle.wild_types.specs.declared.layout.Layout.{Layout}
-use Rattle.wild_needs.specs.DynamicStrings.{next_dynstr, undefined_symbols}
-use Rattle.wild_types.specs.FileRoles.{is_prelude, is_epilogue}
-use Rattle.wild_types.specs.Kinds.{needs_dynsym}
-use Rattle.wild_table_formats.specs.DynamicEntries.{listed, undefined, no_fields, entry_at, entries_at, null_entries, file_symbols, offset_after_lead, file_entries, entries_from, group_symbols}
-use Rattle.wild_table_formats.specs.SymbolVersions.{version_of, exported_version, null_versions, entry_versions, file_versions, group_versions}
+use Rattle.wild_table_formats.specs.DynamicEntries.{entries_at, null_entries, file_symbols, offset_after_lead, file_entries, entries_from}
+use Rattle.wild_table_formats.specs.SymbolVersions.{null_versions, entry_versions, file_versions, group_versions}
 use Rattle.wild_names.specs.VersionNames.{EachEntryHasAVersion}
 use Rattle.wild_table_formats.proofs.VersionRooms.{either_beside}
 use Rattle.wild_table_formats.proofs.EntryLengths.{length-entries_at}

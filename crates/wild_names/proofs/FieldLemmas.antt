@@ -1,16 +1,8 @@
 -- Where a layout has no faults each symbol of the table of all symbols has its fields.
 use Rattle.wild_placement.specs.PlacedSections.{frames_at}
-use Rattle.std.proofs.Common.{◌≡◌, ℕ, ◌++◌, [], All, None, Result, Ok, Err, refl, ap}
-use Rattle.std.proofs.lemmas.List.Elements.{All-contains}
+use Rattle.wild_names.proofs.Common.{◌≡◌, ℕ, ◌++◌, [], All, None, Result, Ok, Err, refl, ap, All-contains, Fault, File, Group, Layout, TableSymbol, file_items, TableFields, table_fields, table_fields_or_null, flat_map_from, group_errors}
 use Rattle.wild_words.proofs.Basics.{All-from_nothing}
-use Rattle.wild_types.specs.declared.fault.Fault.{Fault}
-use Rattle.wild_types.specs.declared.file.File.{File}
-use Rattle.wild_types.specs.declared.file.Group.{Group}
-use Rattle.wild_types.specs.declared.layout.Layout.{Layout}
-use Rattle.wild_needs.specs.TableSymbols.{TableSymbol, file_items}
-use Rattle.wild_table_formats.specs.declared.symbols.TableFields.{TableFields}
-use Rattle.wild_table_formats.specs.TableEntries.{table_fields, table_fields_or_null}
-use Rattle.wild_layout.specs.Faults.{flat_map_from, at_file, exported_errors, symtab_entry_fault, table_error, table_errors, group_errors, files_errors}
+use Rattle.wild_layout.specs.Faults.{at_file, exported_errors, symtab_entry_fault, table_error, table_errors, files_errors}
 use Rattle.wild_layout.proofs.FaultLemmas.{first_empty, rest_empty, All-from_none, no_fault, no_group_errors}
 use Rattle.wild_names.specs.FieldLaws.{HasTableFields, TableSymbolsHaveFields, entry_with}
 

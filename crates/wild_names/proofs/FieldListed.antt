@@ -1,24 +1,14 @@
 -- Where a layout has no faults each symbol that other modules see has its fields: what one lacks is a fault of the last file.
-use Rattle.std.proofs.Common.{◌≡◌, ℕ, ◌+◌, ◌<◌, ◌≤◌, ◌==◌, ◌&&◌, Bool, true, if◌then◌else◌, List, [], ◌∷◌, length, get_or, All, Option, Some, None, Result, Ok, Err, slice_get, flat_map, refl, ap, ◌∙◌, arith, subst}
-use Rattle.std.proofs.lemmas.Bool.{eq-eqb}
-use Rattle.std.proofs.lemmas.List.Elements.{All-contains}
+use Rattle.wild_names.proofs.Common.{◌≡◌, ℕ, ◌+◌, ◌<◌, ◌≤◌, ◌==◌, ◌&&◌, Bool, true, if◌then◌else◌, List, [], ◌∷◌, length, get_or, All, Option, Some, None, Result, Ok, Err, slice_get, flat_map, refl, ap, ◌∙◌, arith, subst, eq-eqb, All-contains, Fault, Symbol, File, Group, DynamicSymbol, Layout, is_epilogue, needs_dynsym, errors, group_errors, IsLaidOut, laid_out}
 use Rattle.wild_words.proofs.ListLemmas.{Found-from_list_any}
 use Rattle.wild_words.proofs.Basics.{All-from_nothing}
-use Rattle.wild_types.specs.declared.fault.Fault.{Fault}
-use Rattle.wild_types.specs.declared.symbol.Symbol.{Symbol}
-use Rattle.wild_types.specs.declared.file.File.{File}
-use Rattle.wild_types.specs.declared.file.Group.{Group}
-use Rattle.wild_types.specs.declared.layout.DynamicSymbol.{DynamicSymbol}
-use Rattle.wild_types.specs.declared.layout.Layout.{Layout}
-use Rattle.wild_types.specs.FileRoles.{is_epilogue}
-use Rattle.wild_types.specs.Kinds.{needs_dynsym}
 use Rattle.wild_table_formats.specs.declared.symbols.SymbolFields.{SymbolFields}
 use Rattle.wild_table_formats.specs.DynamicEntries.{listed_of, or_none}
 use Rattle.wild_table_formats.specs.DynamicFields.{exported_symbol_fields}
-use Rattle.wild_layout.specs.Faults.{errors, at_file, entry_fault, exported_error, exported_errors, group_errors}
-use Rattle.wild_layout.specs.Geometry.{IsLaidOut, LayoutsAreLaidOut}
+use Rattle.wild_layout.specs.Faults.{at_file, entry_fault, exported_error, exported_errors}
+use Rattle.wild_layout.specs.Geometry.{LayoutsAreLaidOut}
 use Rattle.wild_layout.specs.ExportedSymbols.{IsThere}
-use Rattle.wild_layout.proofs.FaultLemmas.{All-from_none, no_fault, no_group_errors, laid_out}
+use Rattle.wild_layout.proofs.FaultLemmas.{All-from_none, no_fault, no_group_errors}
 use Rattle.wild_geometry.proofs.LastGroupLemmas.{has_last, has_last-group}
 use Rattle.wild_names.specs.FieldLaws.{HasListedFields, ListedSymbolsHaveFields, listed_with}
 use Rattle.wild_names.proofs.FieldLemmas.{none_of_listed}

@@ -1,48 +1,27 @@
 -- The parts of a look-up in the image of a layout without faults.
 use Rattle.wild_loaded.proofs.KindLemmas.{dynamic_whole}
-use Rattle.std.proofs.Common.{◌≡◌, ◌≢◌, ℕ, zero, suc, ◌-◌, ◌/◌, ◌<◌, ◌≤◌, ◌==◌, inl, inr, Bool, true, false, List, [], ◌∷◌, ◌++◌, length, replicate, Some, None, Ok, get_or, refl, sym, ap, ◌∙◌, arith, subst}
-use Rattle.std.specs.Prelude.{Contains, nat_le}
-use Rattle.std.specs.List.{list_any}
-use Rattle.std.proofs.lemmas.Bool.{cases_Bool, le-leb, ne_eqb}
-use Rattle.std.proofs.lemmas.List.Elements.{All-contains}
-use Rattle.wild_records.specs.Abi.Dynamic.{dt_hash, dt_gnu_hash, dt_symtab, dt_strtab, dt_strsz}
-use Rattle.wild_records.specs.declared.dynamic.DynamicEntry.{DynamicEntry}
-use Rattle.wild_records.specs.declared.program_header.ProgramHeader.{ProgramHeader}
+use Rattle.wild_names.proofs.Common.{◌≡◌, ◌≢◌, ℕ, zero, suc, ◌-◌, ◌/◌, ◌<◌, ◌≤◌, ◌==◌, inl, inr, Bool, true, false, List, [], ◌∷◌, ◌++◌, length, replicate, Some, None, Ok, get_or, refl, sym, ap, ◌∙◌, arith, subst, Contains, nat_le, list_any, cases_Bool, le-leb, ne_eqb, All-contains, dt_hash, dt_gnu_hash, DynamicEntry, ProgramHeader, Part, Role, Layout, first_listed, needs_dynamic, role_place, part_with, not_hollow_at, section_headers_of, all_needed, IsLaidOut, TablesStand, bytes, is_loadable_header, HasHeaders, entries_before_null, value_of_tag, tables_of, bytes_or_none, AreNumbered, ImageLaws, NameLaws}
+use Rattle.wild_records.specs.Abi.Dynamic.{dt_symtab, dt_strtab, dt_strsz}
 use Rattle.wild_needs.specs.declared.dynamic.DynamicTag.{DynamicTag}
 use Rattle.wild_needs.specs.declared.dynamic.DynamicTag.TheVariants as tags
 use Rattle.wild_types.specs.declared.kind.OutputKind.{OutputKind}
 use Rattle.wild_types.specs.declared.kind.OutputKind.TheVariants as output
 use Rattle.wild_types.specs.declared.kind.RelocationModel.TheVariants as model
-use Rattle.wild_types.specs.declared.part.Part.{Part}
-use Rattle.wild_types.specs.declared.part.Role.{Role}
 use Rattle.wild_types.specs.declared.part.Role.TheVariants as role
-use Rattle.wild_types.specs.declared.layout.Layout.{Layout}
 use Rattle.wild_needs.specs.Dynamic.{dynamic_number, dynamic_entry, dynamic_count}
 use Rattle.wild_needs.specs.DynamicPlaces.{part_address, part_size, filled_part, unless_empty}
-use Rattle.wild_needs.specs.DynamicSymbols.{first_listed}
 use Rattle.wild_types.specs.HeaderOnly.{KeepsAll}
-use Rattle.wild_types.specs.Kinds.{needs_dynamic}
 use Rattle.wild_types.specs.Lookups.{image_size}
-use Rattle.wild_types.specs.Parts.{role_place, part_with, is_hash_role, is_look_up_role, has_hashes}
-use Rattle.wild_types.proofs.LookupLemmas.{not_hollow_at}
-use Rattle.wild_table_formats.specs.Headers.{file_header, section_headers_of}
+use Rattle.wild_types.specs.Parts.{is_hash_role, is_look_up_role, has_hashes}
+use Rattle.wild_table_formats.specs.Headers.{file_header}
 use Rattle.wild_table_formats.specs.DynamicSection.{dynamic_records, null_entry}
 use Rattle.wild_layout.specs.Loadable.{SegmentLoads}
-use Rattle.wild_layout.specs.TablePlaces.{all_needed}
-use Rattle.wild_layout.specs.Geometry.{IsLaidOut, TablesStand}
-use Rattle.wild_layout.specs.Image.{bytes}
-use Rattle.wild_loader.specs.Headers.{is_loadable_header}
-use Rattle.wild_loader.specs.SegmentLaws.{HasHeaders}
-use Rattle.wild_loader.specs.Laws.{entries_before_null}
-use Rattle.wild_loader.specs.Tables.{value_of_tag}
 use Rattle.wild_meaning.specs.World.{IsLoadable}
 use Rattle.wild_hashes.specs.declared.image.Part.{Part as Found}
 use Rattle.wild_hashes.specs.declared.image.Parts.{Parts}
-use Rattle.wild_hashes.specs.Image.{part_of, strings_of, parts_by, tables_of, bytes_or_none}
-use Rattle.wild_hashes.specs.Laws.{AreNumbered}
+use Rattle.wild_hashes.specs.Image.{part_of, strings_of, parts_by}
 use Rattle.wild_loaded.specs.Laws.{HasEntries}
 use Rattle.wild_loaded.specs.Memory.{headers_of}
-use Rattle.wild_names.specs.LowerLaws.{ImageLaws, NameLaws}
 use Rattle.wild_names.specs.LookUpLaws.{IsWritten}
 use Rattle.wild_names.proofs.ImageTables.{parts_told}
 use Rattle.wild_names.proofs.NumberedLemmas.{are_numbered}

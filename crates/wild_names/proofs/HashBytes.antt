@@ -1,25 +1,10 @@
 -- The last file alone gives the hash tables.
-use Rattle.wild_placement.specs.PlacedSections.{placed_files}
-use Rattle.wild_geometry.proofs.PlacedInputs.{placed_files_same}
-use Rattle.std.proofs.Common.{◌≡◌, ℕ, ◌+◌, ◌≤◌, inl, inr, ◌==◌, Bool, true, false, ◌&&◌, if◌then◌else◌, List, [], ◌∷◌, ◌++◌, length, map, Some, None, flat_map, refl, ap, ◌∙◌, arith}
-use Rattle.std.proofs.lemmas.Bool.{cases_Bool, and_parts, ne_eqb}
-use Rattle.std.proofs.lemmas.List.{append-nil}
+use Rattle.wild_names.proofs.Common.{placed_files, placed_files_same, ◌≡◌, ℕ, ◌+◌, ◌≤◌, inl, inr, ◌==◌, Bool, true, false, ◌&&◌, if◌then◌else◌, List, [], ◌∷◌, ◌++◌, length, map, Some, None, flat_map, refl, ap, ◌∙◌, arith, cases_Bool, and_parts, ne_eqb, append-nil, File, Group, Layout, bool_eq, file_position_fits, later_positions_fit, group_positions_fit, first_misplaced_file, first_listed, is_prelude, is_epilogue, needs_dynsym, same_bool, file_content, content, table_bytes, IsLaidOut, sysv_hash_of, gnu_hash_of, gnu_header, gnu_table, sysv_table}
 use Rattle.wild_words.proofs.Basics.{no_bytes}
-use Rattle.wild_types.specs.declared.file.File.{File}
-use Rattle.wild_types.specs.declared.file.Group.{Group}
 use Rattle.wild_types.specs.declared.part.Role.TheVariants as role
 use Rattle.wild_types.specs.declared.layout.GnuHash.{GnuHash}
 use Rattle.wild_types.specs.declared.layout.SysvHash.{SysvHash}
-use Rattle.wild_types.specs.declared.layout.Layout.{Layout}
-use Rattle.wild_types.specs.FilePlaces.{bool_eq, file_position_fits, later_positions_fit, group_positions_fit, first_misplaced_file}
-use Rattle.wild_needs.specs.DynamicSymbols.{first_listed}
-use Rattle.wild_types.specs.FileRoles.{is_prelude, is_epilogue}
-use Rattle.wild_types.specs.Kinds.{needs_dynsym}
-use Rattle.wild_types.proofs.FileLemmas.{same_bool}
-use Rattle.wild_layout.specs.Content.{file_content, content, of_last, sysv_bytes, gnu_bytes}
-use Rattle.wild_layout.specs.TablePlaces.{table_bytes}
-use Rattle.wild_layout.specs.Geometry.{IsLaidOut}
-use Rattle.wild_hashes.specs.Tables.{sysv_hash_of, gnu_hash_of, gnu_header, gnu_table, sysv_table}
+use Rattle.wild_layout.specs.Content.{of_last, sysv_bytes, gnu_bytes}
 
 -- each file gives these bytes where it is the last one, and else none
 abbrev pub GivenByLast : (File → List ℕ) → List ℕ → Type 0

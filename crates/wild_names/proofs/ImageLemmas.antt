@@ -1,39 +1,14 @@
 -- Both tables in the image: each entry stands where it is counted, and each name where its entry tells.
-use Rattle.wild_placement.specs.PlacedSections.{placed_files}
-use Rattle.std.proofs.Common.{◌≡◌, ℕ, suc, ◌+◌, ◌*◌, ◌^◌, ◌<◌, ◌≤◌, true, false, List, [], ◌∷◌, ◌++◌, length, map, replicate, option_map, Some, None, slice_get, flat_map, refl, sym, ap, ◌∙◌, arith, subst}
-use Rattle.std.proofs.lemmas.List.{length-append, length-map}
-use Rattle.std.proofs.lemmas.Option.{slice_get-map}
-use Rattle.wild_words.specs.Words.{HasBytesAt, word}
-use Rattle.wild_words.specs.Record.{spell}
-use Rattle.wild_words.proofs.OverlayLemmas.{HasBytesAt-inner}
+use Rattle.wild_names.proofs.Common.{placed_files, ◌≡◌, ℕ, suc, ◌+◌, ◌*◌, ◌^◌, ◌<◌, ◌≤◌, true, false, List, [], ◌∷◌, ◌++◌, length, map, replicate, option_map, Some, None, slice_get, flat_map, refl, sym, ap, ◌∙◌, arith, subst, length-append, length-map, slice_get-map, HasBytesAt, word, spell, HasBytesAt-inner, flat_map-same, flat_map-flat_map, nil_if, SymtabEntry, DynamicEntry, symtab_entry_fields, Part, Role, File, Group, Layout, is_prelude, needs_dynamic, role_place, part_with, string, symbol_bytes, NamedFields, entry_at, no_fields, group_symbols, length-symbol_bytes, file_content, content, table_bytes, all_needed, IsLaidOut, TablesStand, bytes, HasEntry, table_symbols}
 use Rattle.wild_words.proofs.RecordLemmas.{HasBytesAt-left}
-use Rattle.wild_words.proofs.ListLemmas.{flat_map-same, flat_map-flat_map}
-use Rattle.wild_words.proofs.Basics.{nil_if}
-use Rattle.wild_records.specs.declared.symtab_entry.SymtabEntry.{SymtabEntry}
-use Rattle.wild_records.specs.declared.dynamic.DynamicEntry.{DynamicEntry}
 use Rattle.wild_records.specs.Dynamic.{dynamic_entry_fields}
-use Rattle.wild_records.specs.SymtabEntry.{symtab_entry_fields}
-use Rattle.wild_types.specs.declared.part.Part.{Part}
-use Rattle.wild_types.specs.declared.part.Role.{Role}
 use Rattle.wild_types.specs.declared.part.Role.TheVariants as role
-use Rattle.wild_types.specs.declared.file.File.{File}
-use Rattle.wild_types.specs.declared.file.Group.{Group}
-use Rattle.wild_types.specs.declared.layout.Layout.{Layout}
-use Rattle.wild_types.specs.FileRoles.{is_prelude}
-use Rattle.wild_types.specs.Kinds.{needs_dynamic}
 use Rattle.wild_types.specs.Lookups.{is_header_only_at}
-use Rattle.wild_types.specs.Parts.{role_place, part_with}
-use Rattle.wild_table_formats.specs.Strings.{string}
-use Rattle.wild_table_formats.specs.Symbols.{symbol_bytes}
-use Rattle.wild_table_formats.specs.DynamicEntries.{NamedFields, entry_at, no_fields, group_symbols}
-use Rattle.wild_table_formats.proofs.SymbolLemmas.{length-symbol, length-symbol_bytes}
+use Rattle.wild_table_formats.proofs.SymbolLemmas.{length-symbol}
 use Rattle.wild_table_formats.proofs.DynamicLemmas.{length_entry}
 use Rattle.wild_table_formats.specs.DynamicSection.{entries_bytes, dynamic_bytes}
-use Rattle.wild_layout.specs.Content.{file_content, dynamic_room, content}
-use Rattle.wild_layout.specs.TablePlaces.{table_bytes, all_needed}
-use Rattle.wild_layout.specs.Geometry.{IsLaidOut, TablesStand}
-use Rattle.wild_layout.specs.Image.{bytes}
-use Rattle.wild_names.specs.Laws.{IsNamed, HasEntry, HasLibrary, SymbolsAreInTable, LibrariesAreNamed, table_symbols, libraries}
+use Rattle.wild_layout.specs.Content.{dynamic_room}
+use Rattle.wild_names.specs.Laws.{IsNamed, HasLibrary, SymbolsAreInTable, LibrariesAreNamed, libraries}
 use Rattle.wild_names.proofs.BesideLemmas.{Belong, HasBeside, belong-length, belongs_at, HasBytesAt-record}
 use Rattle.wild_names.proofs.LibraryLemmas.{NamesLibrary, libraries_belong}
 use Rattle.wild_names.proofs.OrderLemmas.{items_of_all}

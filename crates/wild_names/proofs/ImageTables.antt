@@ -1,23 +1,18 @@
 -- The parts of a look-up in an image whose headers and dynamic section stand.
-use Rattle.std.proofs.Common.{◌≡◌, ℕ, ◌+◌, ◌*◌, ◌/◌, inl, inr, true, List, length, refl, ap, arith}
-use Rattle.std.specs.Prelude.{◌==◌, nat_le, Ok}
-use Rattle.std.proofs.lemmas.Bool.{cases_Bool, eqb-true, le-leb}
+use Rattle.wild_names.proofs.Common.{◌≡◌, ℕ, ◌+◌, ◌*◌, ◌/◌, inl, inr, true, List, length, refl, ap, arith, ◌==◌, nat_le, Ok, cases_Bool, eqb-true, le-leb, DynamicEntry, ProgramHeader, SectionHeader, is_loadable_header, HasHeaders, entries_before_null, value_of_tag, tables_of}
 use Rattle.wild_words.proofs.Basics.{length-flat_map_each}
 use Rattle.wild_records.specs.Dynamic.{dynamic_entry_size}
 use Rattle.wild_records.specs.FileHeader.{file_header_size, file_header_at}
 use Rattle.wild_records.specs.ProgramHeader.{program_header_size}
-use Rattle.wild_records.specs.declared.dynamic.DynamicEntry.{DynamicEntry}
 use Rattle.wild_records.specs.declared.file_header.FileHeader.{FileHeader}
-use Rattle.wild_records.specs.declared.program_header.ProgramHeader.{ProgramHeader}
-use Rattle.wild_records.specs.declared.section_header.SectionHeader.{SectionHeader}
 use Rattle.wild_records.proofs.FileHeaderLemmas.{length-file_header}
-use Rattle.wild_loader.specs.Headers.{is_loadable_header, program_headers}
-use Rattle.wild_loader.specs.SegmentLaws.{HasHeaders, program_bytes}
-use Rattle.wild_loader.specs.Laws.{HasDynamic, entries_before_null}
-use Rattle.wild_loader.specs.Tables.{dynamic_entries, first_dynamic, value_of_tag}
+use Rattle.wild_loader.specs.Headers.{program_headers}
+use Rattle.wild_loader.specs.SegmentLaws.{program_bytes}
+use Rattle.wild_loader.specs.Laws.{HasDynamic}
+use Rattle.wild_loader.specs.Tables.{dynamic_entries, first_dynamic}
 use Rattle.wild_loader.proofs.RecordLists.{length-program, programs-read, dynamics-read}
 use Rattle.wild_loader.proofs.TableLemmas.{nothing-read}
-use Rattle.wild_hashes.specs.Image.{image_header, dynamic_in, parts_by, tables_of}
+use Rattle.wild_hashes.specs.Image.{image_header, dynamic_in, parts_by}
 use Rattle.wild_names.specs.LowerLaws.{RecordLaws}
 
 -- ---- headers

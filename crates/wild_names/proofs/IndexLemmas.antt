@@ -1,47 +1,28 @@
 -- The longer section indexes: each entry of the table of all symbols has its own, in order.
-use Rattle.wild_types.specs.Kinds.{is_partial_link}
-use Rattle.wild_needs.specs.declared.table.SymtabName.{SymtabName}
+use Rattle.wild_names.proofs.Common.{is_partial_link, SymtabName, TableFields, Result, Some, InputSection, Fault, output_section, placed_files, placed_file, placed_files_same, ◌≡◌, ℕ, ◌*◌, inl, inr, Bool, true, false, if◌then◌else◌, List, [], ◌∷◌, length, map, filter, find, flat_map, option_map, slice_get, refl, sym, ap, ◌∙◌, arith, subst, ◌++◌, zero, suc, list_any, cases_Bool, append-nil, length-map, slice_get-map, HasBytesAt, word, flat_map-flat_map, flat_map-same, nil_if, Part, Role, File, Group, Layout, is_prelude, role_place, part_with, file_items, TableSymbol, section_of, NamedEntry, file_table, group_table, is_side, table_fields, named_entry, null_entries, fields_of, table_by, table_fields_or_null, content, file_content, table_bytes, TablesStand, fields_of_entry, side_symbols, side_table}
 use Rattle.wild_needs.specs.declared.table.SymtabName.TheVariants as named
-use Rattle.wild_table_formats.specs.declared.symbols.TableFields.{TableFields}
-use Rattle.std.specs.Prelude.{Result, Some}
 use Rattle.wild_types.specs.declared.symbol.Place.{Place}
 use Rattle.wild_types.specs.declared.symbol.Place.TheVariants as places
 use Rattle.wild_types.specs.declared.input.Slot.{Slot}
 use Rattle.wild_types.specs.declared.input.Slot.TheVariants as slot
-use Rattle.wild_types.specs.declared.input.InputSection.{InputSection}
-use Rattle.wild_types.specs.declared.fault.Fault.{Fault}
-use Rattle.wild_needs.specs.DynamicSymbols.{output_section, section_of_input}
+use Rattle.wild_needs.specs.DynamicSymbols.{section_of_input}
 use Rattle.wild_placement.specs.FrameInputs.{kept_size}
 use Rattle.wild_placement.specs.ReversedWords.{reversed_section, with_word_order}
-use Rattle.wild_placement.specs.PlacedSections.{without_relocations, unread, placed_files, placed_file, placed_section, placed_sections, placed_by, address_after}
-use Rattle.wild_geometry.proofs.PlacedInputs.{placed_files_same}
-use Rattle.std.proofs.Common.{◌≡◌, ℕ, ◌*◌, inl, inr, Bool, true, false, if◌then◌else◌, List, [], ◌∷◌, length, map, filter, find, flat_map, option_map, Some, slice_get, refl, sym, ap, ◌∙◌, arith, subst, ◌++◌, zero, suc}
-use Rattle.std.specs.List.{list_any}
-use Rattle.std.proofs.lemmas.Bool.{cases_Bool, or_left}
-use Rattle.std.proofs.lemmas.List.{append-nil, length-map}
+use Rattle.wild_placement.specs.PlacedSections.{without_relocations, unread, placed_section, placed_sections, placed_by, address_after}
+use Rattle.std.proofs.lemmas.Bool.{or_left}
 use Rattle.std.proofs.lemmas.List.Folds.{flat_map-map}
-use Rattle.std.proofs.lemmas.Option.{slice_get-map}
-use Rattle.wild_words.specs.Words.{HasBytesAt, word}
-use Rattle.wild_words.proofs.ListLemmas.{filter-flat_map, flat_map-flat_map, flat_map-same, holds_at}
+use Rattle.wild_words.proofs.ListLemmas.{filter-flat_map, holds_at}
 use Rattle.wild_words.proofs.WordLemmas.{length-word}
-use Rattle.wild_words.proofs.Basics.{nil_if, map-flat_map}
-use Rattle.wild_types.specs.declared.part.Part.{Part}
-use Rattle.wild_types.specs.declared.part.Role.{Role}
+use Rattle.wild_words.proofs.Basics.{map-flat_map}
 use Rattle.wild_types.specs.declared.part.Role.TheVariants as role
-use Rattle.wild_types.specs.declared.file.File.{File}
-use Rattle.wild_types.specs.declared.file.Group.{Group}
-use Rattle.wild_types.specs.declared.layout.Layout.{Layout}
-use Rattle.wild_types.specs.FileRoles.{is_prelude}
-use Rattle.wild_types.specs.Parts.{has_role, role_place, part_with}
-use Rattle.wild_needs.specs.TableSymbols.{has_long, file_items, TableSymbol, item_name, is_local}
-use Rattle.wild_types.specs.Lookups.{has_many_sections, section_of}
-use Rattle.wild_table_formats.specs.TableEntries.{NamedEntry, file_table, group_table, index_bytes, is_side, long_indexes, table_fields, named_entry, null_entries, fields_of, table_by, table_fields_or_null}
+use Rattle.wild_types.specs.Parts.{has_role}
+use Rattle.wild_needs.specs.TableSymbols.{has_long, item_name, is_local}
+use Rattle.wild_types.specs.Lookups.{has_many_sections}
+use Rattle.wild_table_formats.specs.TableEntries.{index_bytes, long_indexes}
 use Rattle.wild_table_formats.specs.TableLaws.{IndexesHave4Bytes}
-use Rattle.wild_layout.specs.Content.{content, file_content, indexes_of}
-use Rattle.wild_layout.specs.TablePlaces.{table_bytes}
-use Rattle.wild_layout.specs.Geometry.{TablesStand}
-use Rattle.wild_names.specs.Laws.{EntryFields, fields_of_entry, side_symbols}
-use Rattle.wild_names.specs.IndexLaws.{HasIndex, LongIndexesAreWritten, index_role, side_table}
+use Rattle.wild_layout.specs.Content.{indexes_of}
+use Rattle.wild_names.specs.Laws.{EntryFields}
+use Rattle.wild_names.specs.IndexLaws.{HasIndex, LongIndexesAreWritten, index_role}
 use Rattle.wild_names.proofs.BesideLemmas.{HasBytesAt-record}
 use Rattle.wild_names.proofs.ImageLemmas.{in_image}
 use Rattle.wild_names.proofs.ShortEntries.{EntryIsShort, short_side}

@@ -1,39 +1,14 @@
 -- How many local symbols the table of all symbols has: as many as its part has room for, and fewer than 2^32.
-use Rattle.wild_layout.specs.Geometry.{IsLaidOut}
-use Rattle.wild_types.specs.Lookups.{has_symtab}
-use Rattle.wild_types.specs.Kinds.{is_partial_link}
-use Rattle.wild_words.proofs.ListLemmas.{All-flat_map}
-use Rattle.std.proofs.lemmas.Bool.{cases_Bool}
-use Rattle.std.specs.Prelude.{All, Option, Some, None, is_some, option_to_list, if◌then◌else◌, ◌&&◌}
-use Rattle.wild_geometry.proofs.PlacedInputs.{placed_files_same}
-use Rattle.wild_placement.specs.PlacedSections.{placed_files, placed_file}
-use Rattle.std.proofs.Common.{◌≡◌, ℕ, suc, ◌+◌, ◌*◌, ◌/◌, ◌%◌, ◌^◌, ◌<◌, ◌≤◌, inl, inr, Bool, not, true, false, get_or, ◌++◌, List, [], ◌∷◌, length, map, filter, flat_map, refl, sym, ap, ◌∙◌, arith, subst}
-use Rattle.std.proofs.lemmas.List.{length-append, length-map}
-use Rattle.std.proofs.lemmas.List.Elements.{All-contains, All-nil, All-cons, All-head, All-tail, All-append, All-map}
+use Rattle.wild_names.proofs.Common.{IsLaidOut, has_symtab, is_partial_link, All-flat_map, cases_Bool, All, Option, Some, None, is_some, option_to_list, if◌then◌else◌, ◌&&◌, placed_files_same, placed_files, placed_file, ◌≡◌, ℕ, suc, ◌+◌, ◌*◌, ◌/◌, ◌%◌, ◌^◌, ◌<◌, ◌≤◌, inl, inr, Bool, not, true, false, get_or, ◌++◌, List, [], ◌∷◌, length, map, filter, flat_map, refl, sym, ap, ◌∙◌, arith, subst, length-append, length-map, All-contains, All-nil, All-cons, All-head, All-tail, All-append, All-map, spell, FieldsAreRead, HasBytesAt, nil_if, Part, File, Group, Layout, is_prelude, total, share, group_share, file_items, section_symbols, symbol_bytes, NamedEntry, is_side, group_table, null_entry, null_entries, section_entry, named_entry, file_table, length-symbol_bytes, file_content, content, bytes, fields_of_entry, side_symbols}
 use Rattle.std.proofs.lemmas.List.Filters.{length-filter_both}
-use Rattle.wild_words.specs.Record.{spell, FieldsAreRead}
-use Rattle.wild_words.specs.Words.{HasBytesAt}
-use Rattle.wild_words.proofs.Basics.{nil_if}
 use Rattle.wild_records.specs.SectionHeader.{section_header_fields}
-use Rattle.wild_types.specs.declared.part.Part.{Part}
 use Rattle.wild_types.specs.declared.part.Role.TheVariants as role
-use Rattle.wild_types.specs.declared.file.File.{File}
-use Rattle.wild_types.specs.declared.file.Group.{Group}
-use Rattle.wild_types.specs.declared.layout.Layout.{Layout}
 use Rattle.wild_needs.specs.DynamicStrings.{text_room}
-use Rattle.wild_types.specs.FileRoles.{is_prelude}
-use Rattle.wild_types.specs.Lists.{total}
-use Rattle.wild_needs.specs.Needs.{share, group_share}
-use Rattle.wild_needs.specs.TableSymbols.{table_strings, file_items, section_symbols}
-use Rattle.wild_table_formats.specs.Symbols.{symbol_bytes}
-use Rattle.wild_table_formats.specs.TableEntries.{NamedEntry, is_side, group_table, table_entries, null_entry, null_entries, section_entry, named_entry, file_table}
+use Rattle.wild_needs.specs.TableSymbols.{table_strings}
+use Rattle.wild_table_formats.specs.TableEntries.{table_entries}
 use Rattle.wild_table_formats.specs.TableLaws.{LengthsOfSides, NamesOfGroups, names_of}
-use Rattle.wild_table_formats.proofs.SymbolLemmas.{length-symbol_bytes}
 use Rattle.wild_table_formats.specs.Headers.{null_header, local_symbols}
 use Rattle.wild_table_formats.specs.HeaderLaws.{SectionHeadersAreRead}
-use Rattle.wild_layout.specs.Content.{file_content, content}
-use Rattle.wild_layout.specs.Image.{bytes}
-use Rattle.wild_names.specs.Laws.{fields_of_entry, side_symbols}
 use Rattle.wild_names.specs.FieldLaws.{LocalSymbolsAreCounted}
 use Rattle.wild_names.proofs.ImageLemmas.{none_joined}
 use Rattle.wild_names.proofs.InfoLemmas.{section_is, size_is, offset_is, elsewhere, locals_told, info_of, header_at, header_in_image, info_read}

@@ -1,24 +1,15 @@
 -- What the header of a section tells by its parts, and that it is read in the image.
-use Rattle.std.proofs.Common.{◌≡◌, ℕ, zero, suc, ◌+◌, ◌*◌, ◌%◌, ◌^◌, ◌<◌, ◌≤◌, inl, inr, ◌==◌, Bool, true, false, if◌then◌else◌, List, [], ◌∷◌, length, get_or, Option, Some, None, refl, sym, ap, ◌∙◌, arith, subst}
-use Rattle.std.proofs.lemmas.Bool.{cases_Bool, eq-eqb, ne_eqb}
-use Rattle.std.proofs.lemmas.Option.{same_Some}
-use Rattle.wild_words.specs.Words.{HasBytesAt}
-use Rattle.wild_words.specs.Record.{spell, FieldsAreRead}
+use Rattle.wild_names.proofs.Common.{◌≡◌, ℕ, zero, suc, ◌+◌, ◌*◌, ◌%◌, ◌^◌, ◌<◌, ◌≤◌, inl, inr, ◌==◌, Bool, true, false, if◌then◌else◌, List, [], ◌∷◌, length, get_or, Option, Some, None, refl, sym, ap, ◌∙◌, arith, subst, cases_Bool, eq-eqb, ne_eqb, same_Some, HasBytesAt, spell, FieldsAreRead, HasBytesAt-inner, SectionHeader, Part, Role, Layout, part_with, section_headers_of, IsLaidOut, bytes}
 use Rattle.wild_words.specs.Overlay.{AreDisjoint}
-use Rattle.wild_words.proofs.OverlayLemmas.{HasBytesAt-overlay, HasBytesAt-inner}
+use Rattle.wild_words.proofs.OverlayLemmas.{HasBytesAt-overlay}
 use Rattle.wild_records.specs.SectionHeader.{section_header_fields, section_header_at}
-use Rattle.wild_records.specs.declared.section_header.SectionHeader.{SectionHeader}
-use Rattle.wild_types.specs.declared.part.Part.{Part}
-use Rattle.wild_types.specs.declared.part.Role.{Role}
 use Rattle.wild_types.specs.declared.part.Role.TheVariants as role
 use Rattle.wild_types.specs.declared.section.Section.{Section}
-use Rattle.wild_types.specs.declared.layout.Layout.{Layout}
-use Rattle.wild_types.specs.Parts.{has_role, part_with}
-use Rattle.wild_table_formats.specs.Headers.{offset_of_role, section_of_role, size_of_role, null_header, local_symbols, computed_infos, info_at, section_header, headers_from, section_headers_of, section_header_bytes}
+use Rattle.wild_types.specs.Parts.{has_role}
+use Rattle.wild_table_formats.specs.Headers.{offset_of_role, section_of_role, size_of_role, null_header, local_symbols, computed_infos, info_at, section_header, headers_from, section_header_bytes}
 use Rattle.wild_table_formats.specs.HeaderLaws.{SectionHeadersAreRead}
 use Rattle.wild_table_formats.proofs.HeaderLemmas.{length-section_header}
-use Rattle.wild_layout.specs.Geometry.{IsLaidOut}
-use Rattle.wild_layout.specs.Image.{bytes, pieces, padding}
+use Rattle.wild_layout.specs.Image.{pieces, padding}
 use Rattle.wild_layout.proofs.LayoutLemmas.{length-padding}
 
 -- ---- the part of a role

@@ -1,4 +1,5 @@
 pub mod BesideLemmas
+pub mod Common
 pub mod RunLemmas
 pub mod SymbolLemmas
 pub mod ListOrder

@@ -1,24 +1,10 @@
 -- The entries of libraries, and the names that they tell.
-use Rattle.std.proofs.Common.{◌≡◌, ℕ, inl, inr, Bool, true, if◌then◌else◌, List, [], ◌∷◌, ◌++◌, filter, flat_map, refl, sym, ap, ◌∙◌, subst}
-use Rattle.std.proofs.lemmas.Bool.{cases_Bool}
-use Rattle.wild_words.specs.Words.{HasBytesAt}
-use Rattle.wild_words.proofs.RecordLemmas.{HasBytesAt-front}
+use Rattle.wild_names.proofs.Common.{◌≡◌, ℕ, inl, inr, Bool, true, if◌then◌else◌, List, [], ◌∷◌, ◌++◌, filter, flat_map, refl, sym, ap, ◌∙◌, subst, cases_Bool, HasBytesAt, HasBytesAt-front, DynamicEntry, File, Group, Layout, next_dynstr, dynstr_prefix_strings, entry_names, file_strings, is_library, needs_dynamic, files_of, version_names, string, string_bytes, table_bytes, all_needed, IsLaidOut}
 use Rattle.wild_records.specs.Abi.Dynamic.{dt_needed}
-use Rattle.wild_records.specs.declared.dynamic.DynamicEntry.{DynamicEntry}
 use Rattle.wild_types.specs.declared.part.Role.TheVariants as role
 use Rattle.wild_types.specs.declared.file.FileRole.TheVariants as file_role
-use Rattle.wild_types.specs.declared.file.File.{File}
-use Rattle.wild_types.specs.declared.file.Group.{Group}
-use Rattle.wild_types.specs.declared.layout.Layout.{Layout}
-use Rattle.wild_needs.specs.DynamicStrings.{next_dynstr, dynstr_prefix_strings, entry_names, file_strings, needed_of, needed_from, needed_entries}
-use Rattle.wild_types.specs.FileRoles.{is_library}
-use Rattle.wild_types.specs.Kinds.{needs_dynamic}
-use Rattle.wild_types.specs.Lookups.{files_of}
+use Rattle.wild_needs.specs.DynamicStrings.{needed_of, needed_from, needed_entries}
 use Rattle.wild_types.proofs.FileLemmas.{library_role}
-use Rattle.wild_needs.specs.Versions.{version_names}
-use Rattle.wild_table_formats.specs.Strings.{string, string_bytes}
-use Rattle.wild_layout.specs.TablePlaces.{table_bytes, all_needed}
-use Rattle.wild_layout.specs.Geometry.{IsLaidOut}
 use Rattle.wild_names.specs.Laws.{libraries}
 use Rattle.wild_names.proofs.BesideLemmas.{Belong}
 use Rattle.wild_names.proofs.RunLemmas.{strings_of, gathered, files_belong, groups_belong, strings_are_short}

@@ -1,20 +1,7 @@
 -- What files give, in their order: the first file has what stands in front, and the last one what stands behind all.
-use Rattle.std.proofs.Common.{◌≡◌, ℕ, ◌+◌, ◌≤◌, inl, inr, ◌==◌, Bool, true, false, ◌&&◌, List, [], ◌∷◌, ◌++◌, length, filter, None, flat_map, refl, sym, ap, ◌∙◌, arith, subst}
-use Rattle.std.proofs.lemmas.Bool.{cases_Bool, and_parts, ne_eqb}
-use Rattle.std.proofs.lemmas.List.{append_assoc, append-nil}
-use Rattle.std.proofs.lemmas.Grind.{flat_map-append}
-use Rattle.wild_types.specs.declared.file.FileRole.{FileRole}
+use Rattle.wild_names.proofs.Common.{◌≡◌, ℕ, ◌+◌, ◌≤◌, inl, inr, ◌==◌, Bool, true, false, ◌&&◌, List, [], ◌∷◌, ◌++◌, length, filter, None, flat_map, refl, sym, ap, ◌∙◌, arith, subst, cases_Bool, and_parts, ne_eqb, append-nil, flat_map-append, FileRole, File, Group, Symbol, range_of, bool_eq, file_position_fits, later_positions_fit, group_positions_fit, first_misplaced_file, undefined_symbols, is_undefined_entry, is_prelude, is_epilogue, files_of, same_bool}
+use Rattle.std.proofs.lemmas.List.{append_assoc}
 use Rattle.wild_types.specs.declared.file.FileRole.TheVariants as file_role
-use Rattle.wild_types.specs.declared.file.File.{File}
-use Rattle.wild_types.specs.declared.file.Group.{Group}
-use Rattle.wild_types.specs.declared.symbol.Symbol.{Symbol}
-use Rattle.wild_types.specs.FileSymbols.{range_of}
-use Rattle.wild_types.specs.FilePlaces.{bool_eq, file_position_fits, later_positions_fit, group_positions_fit, first_misplaced_file}
-use Rattle.wild_needs.specs.DynamicStrings.{undefined_symbols}
-use Rattle.wild_needs.specs.DynamicSymbols.{is_undefined_entry}
-use Rattle.wild_types.specs.FileRoles.{is_prelude, is_epilogue}
-use Rattle.wild_types.specs.Lookups.{files_of}
-use Rattle.wild_types.proofs.FileLemmas.{same_bool}
 
 -- what files give, and what of it is their own; what stands in front of that of the first file, and behind that of the last one
 pub record InOrder (Y : Type 0) : Type 0 where

@@ -1,24 +1,12 @@
 -- Look-ups in the image of a layout without faults.
-use Rattle.std.proofs.Common.{◌≡◌, ℕ, ◌≤◌, false, List, length, map, Some, None, Ok, refl, sym, ap, arith, subst, add-zero}
-use Rattle.wild_words.specs.Words.{HasBytesAt, word}
-use Rattle.wild_records.specs.Abi.Dynamic.{dt_hash, dt_gnu_hash}
+use Rattle.wild_names.proofs.Common.{◌≡◌, ℕ, ◌≤◌, false, List, length, map, Some, None, Ok, refl, sym, ap, arith, subst, add-zero, HasBytesAt, word, dt_hash, dt_gnu_hash, Part, Role, Layout, first_listed, role_place, part_with, not_hollow_at, table_bytes, IsLaidOut, TablesStand, bytes, bytes_of, bytes_or_none, tables_of, AreNumbered, sysv_hash_of, gnu_hash_of, gnu_header, gnu_table, sysv_table, ImageLaws, NameLaws}
 use Rattle.wild_records.specs.HashTables.{gnu_hash_header_fields, GnuHashHeaderFits}
 use Rattle.wild_records.specs.declared.hash_tables.GnuHashHeader.{GnuHashHeader}
-use Rattle.wild_types.specs.declared.part.Part.{Part}
-use Rattle.wild_types.specs.declared.part.Role.{Role}
 use Rattle.wild_types.specs.declared.part.Role.TheVariants as role
-use Rattle.wild_types.specs.declared.layout.Layout.{Layout}
-use Rattle.wild_needs.specs.DynamicSymbols.{first_listed}
 use Rattle.wild_types.specs.Lookups.{is_header_only_at}
-use Rattle.wild_types.specs.Parts.{role_place, part_with}
-use Rattle.wild_types.proofs.LookupLemmas.{not_hollow_at}
-use Rattle.wild_layout.specs.TablePlaces.{table_bytes}
-use Rattle.wild_layout.specs.Geometry.{IsLaidOut, TablesStand}
-use Rattle.wild_layout.specs.Image.{bytes}
-use Rattle.wild_hashes.specs.Image.{bytes_of, bytes_or_none, gnu_lookup_in, sysv_lookup_in, tables_of}
-use Rattle.wild_hashes.specs.Laws.{AreNumbered, first_named, names_of, NeighboursAscend, GnuLookUpInImagesFindsTheFirst, SysvLookUpInImagesFindsTheFirst}
-use Rattle.wild_hashes.specs.Tables.{sysv_hash_of, gnu_hash_of, gnu_header, gnu_table, sysv_table, words}
-use Rattle.wild_names.specs.LowerLaws.{ImageLaws, NameLaws}
+use Rattle.wild_hashes.specs.Image.{gnu_lookup_in, sysv_lookup_in}
+use Rattle.wild_hashes.specs.Laws.{first_named, names_of, NeighboursAscend, GnuLookUpInImagesFindsTheFirst, SysvLookUpInImagesFindsTheFirst}
+use Rattle.wild_hashes.specs.Tables.{words}
 use Rattle.wild_names.specs.LookUpLaws.{first_with_name, SysvLookUpsFind, GnuLookUpsFind, LookUpsWithoutTable}
 use Rattle.wild_names.proofs.FoundParts.{is_read, HasParts, has_parts, no_parts, sysv_told, gnu_told}
 use Rattle.wild_names.proofs.HashBytes.{sysv_stands, gnu_stands}

@@ -1,31 +1,15 @@
 -- The names of versions stand where their records tell.
-use Rattle.std.proofs.Common.{◌≡◌, ℕ, zero, suc, ◌+◌, ◌^◌, ◌<◌, ◌==◌, Bool, true, false, if◌then◌else◌, List, [], ◌∷◌, ◌++◌, length, get_or, refl, sym, ap, ◌∙◌, arith, subst}
-use Rattle.std.specs.Prelude.{Option, Some, None}
-use Rattle.std.proofs.lemmas.Bool.{ne_eqb}
-use Rattle.std.proofs.lemmas.List.{length-append}
-use Rattle.std.proofs.lemmas.Grind.{flat_map-append}
-use Rattle.wild_words.specs.Words.{HasBytesAt}
-use Rattle.wild_words.proofs.RecordLemmas.{HasBytesAt-front, HasBytesAt-after}
+use Rattle.wild_names.proofs.Common.{◌≡◌, ℕ, zero, suc, ◌+◌, ◌^◌, ◌<◌, ◌==◌, Bool, true, false, if◌then◌else◌, List, [], ◌∷◌, ◌++◌, length, get_or, refl, sym, ap, ◌∙◌, arith, subst, Option, Some, None, ne_eqb, length-append, flat_map-append, HasBytesAt, HasBytesAt-front, HasBytesAt-after, File, FileRole, NeededVersion, VersionNeeds, Layout, offset_after_string, dynstr_prefix_strings, entry_names, file_strings, string_start, is_epilogue, is_library, needs_dynsym, total, needs_of, version_names, string, string_bytes, name_at, offset_after_entry_names, definition_offsets, NeedsAreNamed}
 use Rattle.wild_records.specs.Abi.Dynamic.{dt_soname}
-use Rattle.wild_types.specs.declared.file.File.{File}
-use Rattle.wild_types.specs.declared.file.FileRole.{FileRole}
 use Rattle.wild_types.specs.declared.file.FileRole.TheVariants as file_role
-use Rattle.wild_types.specs.declared.file.NeededVersion.{NeededVersion}
-use Rattle.wild_types.specs.declared.file.VersionNeeds.{VersionNeeds}
-use Rattle.wild_types.specs.declared.layout.Layout.{Layout}
 use Rattle.wild_types.specs.declared.layout.VersionDefinition.{VersionDefinition}
 use Rattle.wild_types.specs.declared.options.Options.{Options}
-use Rattle.wild_needs.specs.DynamicStrings.{text_room, offset_after_string, named, auxiliary_strings, path_number, option_strings, named_strings, texts_of, dynamic_strings, dynstr_prefix_strings, entry_names, file_strings, string_start}
-use Rattle.wild_types.specs.FileRoles.{is_epilogue, is_library}
-use Rattle.wild_types.specs.Kinds.{needs_dynsym}
-use Rattle.wild_types.specs.Lists.{total}
+use Rattle.wild_needs.specs.DynamicStrings.{text_room, named, auxiliary_strings, path_number, option_strings, named_strings, texts_of, dynamic_strings}
 use Rattle.wild_types.proofs.FileLemmas.{last_role}
-use Rattle.wild_needs.specs.Versions.{needed_names, definition_names, need_names, own_names, needs_of, version_names}
-use Rattle.wild_table_formats.specs.Strings.{string, string_bytes}
-use Rattle.wild_table_formats.specs.VersionChain.{name_at}
+use Rattle.wild_needs.specs.Versions.{needed_names, definition_names, need_names, own_names}
 use Rattle.wild_table_formats.specs.VersionDefinitions.{version_name}
-use Rattle.wild_table_formats.specs.VersionNames.{offset_u32, offsets_from, offset_after_entry_names, offset_after_search_path, with_soname_offset, definition_offsets, need_at}
-use Rattle.wild_names.specs.VersionNames.{HasStrings, DefinitionsAreNamed, NeedsAreNamed}
+use Rattle.wild_table_formats.specs.VersionNames.{offset_u32, offsets_from, offset_after_search_path, with_soname_offset, need_at}
+use Rattle.wild_names.specs.VersionNames.{HasStrings, DefinitionsAreNamed}
 
 -- ---- strings one behind the other
 

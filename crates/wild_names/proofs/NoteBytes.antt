@@ -1,23 +1,10 @@
 -- What the groups give to the parts of the interpreter's path, of notes and of the search table.
-use Rattle.std.proofs.Common.{◌≡◌, ℕ, Bool, true, false, if◌then◌else◌, List, [], ◌++◌, length, refl, sym, ap, ◌∙◌, subst}
+use Rattle.wild_names.proofs.Common.{◌≡◌, ℕ, Bool, true, false, if◌then◌else◌, List, [], ◌++◌, length, refl, sym, ap, ◌∙◌, subst, append-nil, HasBytesAt, Role, Group, Layout, is_prelude, is_epilogue, role_place, placed_files, content, file_content, bytes, table_bytes, IsLaidOut, TablesStand, placed_files_same}
 use Rattle.std.specs.List.{flat_map}
-use Rattle.std.proofs.lemmas.List.{append-nil}
-use Rattle.wild_words.specs.Words.{HasBytesAt}
-use Rattle.wild_types.specs.declared.part.Role.{Role}
 use Rattle.wild_types.specs.declared.part.Role.TheVariants as role
-use Rattle.wild_types.specs.declared.file.Group.{Group}
-use Rattle.wild_types.specs.declared.layout.Layout.{Layout}
-use Rattle.wild_types.specs.FileRoles.{is_prelude, is_epilogue}
-use Rattle.wild_types.specs.Parts.{role_place}
 use Rattle.wild_frames.specs.Table.{table_of}
-use Rattle.wild_placement.specs.PlacedSections.{placed_files}
-use Rattle.wild_layout.specs.Content.{content, file_content}
-use Rattle.wild_layout.specs.Image.{bytes}
 use Rattle.wild_layout.specs.Notes.{build_id_note, property_note}
 use Rattle.wild_layout.specs.SearchTable.{address_of_role, layout_fdes, search_table}
-use Rattle.wild_layout.specs.TablePlaces.{table_bytes}
-use Rattle.wild_layout.specs.Geometry.{IsLaidOut, TablesStand}
-use Rattle.wild_geometry.proofs.PlacedInputs.{placed_files_same}
 use Rattle.wild_loaded.proofs.FirstFile.{interpreter_bytes, search_bytes}
 use Rattle.wild_names.specs.NoteLaws.{HoldsJust, NotesAreWritten, SearchTablesAreWritten}
 use Rattle.wild_names.proofs.HashBytes.{GivenByLast, in_groups}

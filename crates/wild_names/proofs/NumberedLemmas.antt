@@ -1,29 +1,12 @@
 -- The listed symbols have the indexes from the first one on, and their names stand where their entries tell.
-use Rattle.std.proofs.Common.{◌≡◌, ℕ, zero, suc, ◌+◌, ◌-◌, ◌*◌, ◌^◌, ◌<◌, ◌≤◌, inl, inr, Bool, List, [], ◌∷◌, ◌++◌, length, map, filter, All, Some, slice_get, flat_map, refl, sym, ap, ◌∙◌, arith, subst, add-zero}
-use Rattle.std.specs.Prelude.{slice_index_or}
-use Rattle.std.proofs.lemmas.Bool.{cases_Bool}
-use Rattle.std.proofs.lemmas.List.{length-append, length-map}
-use Rattle.std.proofs.lemmas.List.Elements.{All-head, All-tail}
-use Rattle.wild_words.specs.Words.{HasBytesAt, word}
-use Rattle.wild_words.specs.Record.{spell}
+use Rattle.wild_names.proofs.Common.{◌≡◌, ℕ, zero, suc, ◌+◌, ◌-◌, ◌*◌, ◌^◌, ◌<◌, ◌≤◌, inl, inr, Bool, List, [], ◌∷◌, ◌++◌, length, map, filter, All, Some, slice_get, flat_map, refl, sym, ap, ◌∙◌, arith, subst, add-zero, slice_index_or, cases_Bool, length-append, length-map, All-head, All-tail, HasBytesAt, word, spell, symtab_entry_fields, SymtabEntry, File, DynamicSymbol, Layout, Part, range_of, undefined_symbols, is_undefined_entry, first_listed, files_of, NamedFields, listed, undefined, entry_at, bytes, bytes_of, AreNumbered, HasEntry, table_symbols}
 use Rattle.wild_words.proofs.RecordLemmas.{length-spell, number-stands, HasBytesAt-field_at}
-use Rattle.wild_records.specs.SymtabEntry.{symtab_entry_fields, symtab_entry_at, symtab_entry_size}
-use Rattle.wild_records.specs.declared.symtab_entry.SymtabEntry.{SymtabEntry}
-use Rattle.wild_types.specs.declared.file.File.{File}
-use Rattle.wild_types.specs.declared.layout.DynamicSymbol.{DynamicSymbol}
-use Rattle.wild_types.specs.declared.layout.Layout.{Layout}
-use Rattle.wild_types.specs.declared.part.Part.{Part}
-use Rattle.wild_types.specs.FileSymbols.{range_of}
-use Rattle.wild_needs.specs.DynamicStrings.{undefined_symbols}
-use Rattle.wild_needs.specs.DynamicSymbols.{places_where, is_undefined_entry, undefined_in, undefined_entries, dynamic_symbols, listed as indexes_of, first_listed}
-use Rattle.wild_types.specs.Lookups.{files_of}
-use Rattle.wild_table_formats.specs.DynamicEntries.{NamedFields, listed, undefined, entry_at}
-use Rattle.wild_layout.specs.Image.{bytes}
+use Rattle.wild_records.specs.SymtabEntry.{symtab_entry_at, symtab_entry_size}
+use Rattle.wild_needs.specs.DynamicSymbols.{places_where, undefined_in, undefined_entries, dynamic_symbols, listed as indexes_of}
 use Rattle.wild_hashes.specs.declared.image.Part.{Part as Found}
-use Rattle.wild_hashes.specs.Image.{bytes_of}
-use Rattle.wild_hashes.specs.Laws.{AreNumbered, names_of}
+use Rattle.wild_hashes.specs.Laws.{names_of}
 use Rattle.wild_hashes.specs.Reading.{HasNoZero, IsNamed}
-use Rattle.wild_names.specs.Laws.{HasEntry, SymbolsAreThere, table_symbols}
+use Rattle.wild_names.specs.Laws.{SymbolsAreThere}
 use Rattle.wild_names.proofs.PartBytes.{stands_cut}
 
 -- ---- how many symbols stand in front

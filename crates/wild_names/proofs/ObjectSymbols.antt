@@ -1,24 +1,10 @@
 -- The entries of a relocatable object's symbol table by their numbers: the one of zeros, those of sections, and those of symbols in the
 -- order of the files.
-use Rattle.std.proofs.Common.{◌≡◌, ℕ, ◌+◌, ◌-◌, ◌<◌, ◌≤◌, inl, inr, Bool, true, false, List, [], ◌∷◌, ◌++◌, length, map, refl, sym, ap, ◌∙◌, arith, subst}
-use Rattle.std.specs.Prelude.{Some, Contains, slice_get, option_map}
+use Rattle.wild_names.proofs.Common.{◌≡◌, ℕ, ◌+◌, ◌-◌, ◌<◌, ◌≤◌, inl, inr, Bool, true, false, List, [], ◌∷◌, ◌++◌, length, map, refl, sym, ap, ◌∙◌, arith, subst, Some, Contains, slice_get, option_map, cases_Bool, append-nil, length-map, filter-append, slice_get-map, flat_map-flat_map, flat_map-same, File, Group, Layout, is_prelude, is_partial_link, files_of, TableSymbol, file_items, section_symbols, NamedEntry, named_entry, null_entry, section_entry, null_entries, file_table, group_table, is_side, IsLaidOut, side_table}
 use Rattle.std.specs.List.{filter, flat_map}
-use Rattle.std.proofs.lemmas.Bool.{cases_Bool}
-use Rattle.std.proofs.lemmas.List.{append-nil, length-map}
-use Rattle.std.proofs.lemmas.List.Elements.{filter-append}
-use Rattle.std.proofs.lemmas.Option.{slice_get-map}
-use Rattle.wild_words.proofs.ListLemmas.{Contains-here, Contains-there, filter-flat_map, flat_map-flat_map, flat_map-same}
-use Rattle.wild_types.specs.declared.file.File.{File}
-use Rattle.wild_types.specs.declared.file.Group.{Group}
-use Rattle.wild_types.specs.declared.layout.Layout.{Layout}
-use Rattle.wild_types.specs.FileRoles.{is_prelude}
-use Rattle.wild_types.specs.Kinds.{is_partial_link}
-use Rattle.wild_types.specs.Lookups.{files_of}
-use Rattle.wild_needs.specs.TableSymbols.{TableSymbol, file_items, is_on_side, side, section_symbols}
-use Rattle.wild_table_formats.specs.TableEntries.{NamedEntry, named_entry, null_entry, section_entry, null_entries, file_table, group_table, is_side}
+use Rattle.wild_words.proofs.ListLemmas.{Contains-here, Contains-there, filter-flat_map}
+use Rattle.wild_needs.specs.TableSymbols.{is_on_side, side}
 use Rattle.wild_table_formats.specs.SectionSymbols.{front_count}
-use Rattle.wild_layout.specs.Geometry.{IsLaidOut}
-use Rattle.wild_names.specs.IndexLaws.{side_table}
 use Rattle.wild_names.proofs.ListOrder.{InOrder, all_in_order}
 use Rattle.wild_names.proofs.PlaceLemmas.{in_front, found_in_second_list, either, filtered}
 

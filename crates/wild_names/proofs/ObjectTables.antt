@@ -1,42 +1,29 @@
 -- The image of a relocatable object has its tables of relocations and its groups.
-use Rattle.std.proofs.Common.{◌≡◌, ℕ, ◌+◌, ◌*◌, ◌<◌, ◌≤◌, ◌⊎◌, inl, inr, ◌==◌, Bool, true, false, not, List, [], ◌++◌, length, map, take, All, refl, ap, ◌∙◌, arith, subst}
-use Rattle.std.specs.Prelude.{Contains, Option, Some, None, option_map, if◌then◌else◌, ◌&&◌, ◌||◌, slice_get}
+use Rattle.wild_names.proofs.Common.{◌≡◌, ℕ, ◌+◌, ◌*◌, ◌<◌, ◌≤◌, ◌⊎◌, inl, inr, ◌==◌, Bool, true, false, not, List, [], ◌++◌, length, map, take, All, refl, ap, ◌∙◌, arith, subst, Contains, Option, Some, None, option_map, if◌then◌else◌, ◌&&◌, ◌||◌, slice_get, eqb-true, ne_eqb, length-map, All-contains, slice_get-map, slice_get_within, word, HasBytesAt, spell, HasBytesAt-inner, HasBytesAt-front, HasBytesAt-after, InputSection, File, Group, Layout, is_partial_link, base_of, placed_file, flat_map_from, group_errors, errors, bytes, IsLaidOut, laid_out}
 use Rattle.std.specs.List.{flat_map}
-use Rattle.std.proofs.lemmas.Bool.{eqb-true, ne_eqb, not-true, or_cases}
-use Rattle.std.proofs.lemmas.List.{length-map, length-take-le}
-use Rattle.std.proofs.lemmas.List.Elements.{All-contains}
-use Rattle.std.proofs.lemmas.Option.{slice_get-map, slice_get_within}
-use Rattle.wild_words.specs.Words.{word, HasBytesAt}
-use Rattle.wild_words.specs.Record.{spell}
+use Rattle.std.proofs.lemmas.Bool.{not-true, or_cases}
+use Rattle.std.proofs.lemmas.List.{length-take-le}
 use Rattle.wild_words.proofs.ListLemmas.{All-from_list_all}
-use Rattle.wild_words.proofs.OverlayLemmas.{HasBytesAt-inner}
-use Rattle.wild_words.proofs.RecordLemmas.{HasBytesAt-front, HasBytesAt-after}
 use Rattle.wild_words.proofs.WordLemmas.{length-word}
 use Rattle.wild_records.specs.Relocations.{rela_size, rela_fields}
 use Rattle.wild_records.specs.declared.relocations.Rela.{Rela}
 use Rattle.wild_types.specs.declared.input.Slot.{Slot}
 use Rattle.wild_types.specs.declared.input.Slot.TheVariants as slot
 use Rattle.wild_types.specs.declared.input.InputRelocation.{InputRelocation}
-use Rattle.wild_types.specs.declared.input.InputSection.{InputSection}
-use Rattle.wild_types.specs.declared.file.File.{File}
-use Rattle.wild_types.specs.declared.file.Group.{Group}
-use Rattle.wild_types.specs.declared.layout.Layout.{Layout}
 use Rattle.wild_types.specs.HeaderOnly.{KeepsAll}
-use Rattle.wild_types.specs.Kinds.{is_partial_link}
 use Rattle.wild_types.specs.Lookups.{has_range_bytes, is_filled, is_header_only_part}
 use Rattle.wild_types.proofs.LookupLemmas.{not_hollow_part}
 use Rattle.wild_placement.specs.ReversedWords.{reversed_section, reversed_offset, with_word_order}
-use Rattle.wild_placement.specs.PlacedSections.{base_of, counted_from, relocations_at, target_relocations, rela_with_target, placed_by, placed_section, placed_sections, placed_file}
+use Rattle.wild_placement.specs.PlacedSections.{counted_from, relocations_at, target_relocations, rela_with_target, placed_by, placed_section, placed_sections}
 use Rattle.wild_plan_rules.specs.WellFormed.{first_clause}
 use Rattle.wild_plan_rules.specs.Contents.{each_in, each_section, length_fits}
 use Rattle.wild_plan_rules.specs.Partial.{has_entries, table_fits, file_tables_fit, tables_fit, group_fits_members, table_has_data}
 use Rattle.wild_table_formats.proofs.EntryLemmas.{length-rela}
 use Rattle.wild_layout.specs.Partial.{rela_of, rela_bytes_of, group_words}
 use Rattle.wild_layout.specs.Sites.{section_bytes}
-use Rattle.wild_layout.specs.Faults.{flat_map_from, clause_errors, part_errors, group_errors, errors}
-use Rattle.wild_layout.specs.Image.{bytes}
-use Rattle.wild_layout.specs.Geometry.{IsLaidOut, LayoutsAreLaidOut}
-use Rattle.wild_layout.proofs.FaultLemmas.{clause_holds, first_empty, rest_empty, laid_out}
+use Rattle.wild_layout.specs.Faults.{clause_errors, part_errors}
+use Rattle.wild_layout.specs.Geometry.{LayoutsAreLaidOut}
+use Rattle.wild_layout.proofs.FaultLemmas.{clause_holds, first_empty, rest_empty}
 use Rattle.wild_layout.proofs.PartialLemmas.{section_bytes_rela, section_bytes_group}
 use Rattle.wild_geometry.specs.PlacedSections.{IsPlacedSection, Own}
 use Rattle.wild_geometry.proofs.PlacedSectionLemmas.{AllClausesHold, AllClausesHold-from_clauses}

@@ -1,14 +1,6 @@
 -- The order of the dynamic symbol table: the first file has its first entry, and the last file those of the list.
-use Rattle.std.proofs.Common.{◌≡◌, ◌≤◌, true, List, [], ◌∷◌, ◌++◌, length, map, Option, Some, None, flat_map, refl, sym, ap, ◌∙◌}
+use Rattle.wild_names.proofs.Common.{◌≡◌, ◌≤◌, true, List, [], ◌∷◌, ◌++◌, length, map, Option, Some, None, flat_map, refl, sym, ap, ◌∙◌, File, Layout, first_misplaced_file, undefined_symbols, is_epilogue, files_of, NamedFields, listed, undefined, table_symbols}
 use Rattle.std.proofs.lemmas.List.{map-append}
-use Rattle.wild_types.specs.declared.file.File.{File}
-use Rattle.wild_types.specs.declared.layout.Layout.{Layout}
-use Rattle.wild_types.specs.FilePlaces.{first_misplaced_file}
-use Rattle.wild_needs.specs.DynamicStrings.{undefined_symbols}
-use Rattle.wild_types.specs.FileRoles.{is_epilogue}
-use Rattle.wild_types.specs.Lookups.{files_of}
-use Rattle.wild_table_formats.specs.DynamicEntries.{NamedFields, listed, undefined}
-use Rattle.wild_names.specs.Laws.{table_symbols}
 use Rattle.wild_names.proofs.ListOrder.{InOrder, all_in_order, last_defines_none}
 use Rattle.wild_names.proofs.SymbolLemmas.{file_items}
 

@@ -1,25 +1,18 @@
 -- What a file has in the table of all symbols: an entry that is a symbol's own is that of the layout's symbol of its number, which is one of
 -- the file's.
-use Rattle.std.proofs.Common.{◌≡◌, ℕ, suc, ◌+◌, ◌-◌, ◌<◌, ◌≤◌, Bool, true, false, List, [], ◌∷◌, ◌++◌, All, refl, sym, ap, ◌∙◌, arith, subst}
-use Rattle.std.specs.Prelude.{Option, Some, None, Contains, if◌then◌else◌, ◌&&◌, ◌==◌, slice_get}
+use Rattle.wild_names.proofs.Common.{◌≡◌, ℕ, suc, ◌+◌, ◌-◌, ◌<◌, ◌≤◌, Bool, true, false, List, [], ◌∷◌, ◌++◌, All, refl, sym, ap, ◌∙◌, arith, subst, Option, Some, None, Contains, if◌then◌else◌, ◌&&◌, ◌==◌, slice_get, le-leb, eqb-true, All-nil, All-cons, All-append, All-contains, Symbol, File, Layout, range_of, has_symtab, SymtabName, TableSymbol, file_items, is_own_entry}
 use Rattle.std.specs.List.{flat_map}
-use Rattle.std.proofs.lemmas.Bool.{le-leb, lt-ltb, eqb-true}
-use Rattle.std.proofs.lemmas.List.Elements.{All-nil, All-cons, All-append, All-weaker, All-contains}
-use Rattle.wild_types.specs.declared.symbol.Symbol.{Symbol}
-use Rattle.wild_types.specs.declared.file.File.{File}
+use Rattle.std.proofs.lemmas.Bool.{lt-ltb}
+use Rattle.std.proofs.lemmas.List.Elements.{All-weaker}
 use Rattle.wild_types.specs.declared.layout.Thunk.{Thunk}
-use Rattle.wild_types.specs.declared.layout.Layout.{Layout}
 use Rattle.wild_types.specs.FileRoles.{is_loaded_file}
-use Rattle.wild_types.specs.FileSymbols.{range_of, loaded_symbols}
+use Rattle.wild_types.specs.FileSymbols.{loaded_symbols}
 use Rattle.wild_types.specs.FileThunks.{thunks_of}
-use Rattle.wild_types.specs.Lookups.{has_symtab}
 use Rattle.wild_types.specs.SymbolSlots.{names_slot, names_stub}
 use Rattle.wild_placement.specs.FrameInputs.{has_symbol}
-use Rattle.wild_needs.specs.declared.table.SymtabName.{SymtabName}
 use Rattle.wild_needs.specs.declared.table.SymtabName.TheVariants as named
 use Rattle.wild_needs.specs.declared.table.SymtabPass.{SymtabPass}
-use Rattle.wild_needs.specs.TableSymbols.{TableSymbol, item, item_if, slot_items, own_item, is_of_pass, symbol_items, pass_items, passes, items_of, named_thunk, thunk_item, thunk_items, file_items}
-use Rattle.wild_table_formats.specs.SectionSymbols.{is_own_entry}
+use Rattle.wild_needs.specs.TableSymbols.{item, item_if, slot_items, own_item, is_of_pass, symbol_items, pass_items, passes, items_of, named_thunk, thunk_item, thunk_items}
 use Rattle.wild_names.proofs.PlaceLemmas.{dropped, taken}
 
 -- ---- one symbol

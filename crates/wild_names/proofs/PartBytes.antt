@@ -1,20 +1,16 @@
 -- The parts of an image that one segment carries whole, as a look-up finds them.
-use Rattle.std.proofs.Common.{◌≡◌, ℕ, zero, suc, ◌+◌, ◌-◌, ◌<◌, ◌≤◌, inl, inr, true, false, List, [], ◌∷◌, length, get_or, map, drop, refl, ap, ◌∙◌, arith, subst, eq-eqb}
-use Rattle.std.specs.Prelude.{AllPairs, ◌&&◌, ◌==◌, nat_lt, nat_le, slice_index, Ok}
-use Rattle.std.proofs.lemmas.Bool.{cases_Bool, eqb-true, le-leb, lt-ltb, le-ltb, and_right, and_left, and_from}
+use Rattle.wild_names.proofs.Common.{◌≡◌, ℕ, zero, suc, ◌+◌, ◌-◌, ◌<◌, ◌≤◌, inl, inr, true, false, List, [], ◌∷◌, length, get_or, map, drop, refl, ap, ◌∙◌, arith, subst, AllPairs, ◌&&◌, ◌==◌, nat_lt, nat_le, slice_index, Ok, cases_Bool, eqb-true, le-leb, HasBytesAt, ProgramHeader, Part, Layout, bytes_of}
+use Rattle.std.proofs.Common.{eq-eqb}
+use Rattle.std.proofs.lemmas.Bool.{lt-ltb, le-ltb, and_right, and_left, and_from}
 use Rattle.std.proofs.lemmas.List.{get_or-take, get_or-drop, length-take, length-drop}
-use Rattle.wild_words.specs.Words.{HasBytesAt}
 use Rattle.wild_records.specs.Abi.Segment.{pt_load}
-use Rattle.wild_records.specs.declared.program_header.ProgramHeader.{ProgramHeader}
-use Rattle.wild_types.specs.declared.part.Part.{Part}
 use Rattle.wild_types.specs.declared.section.Segment.{Segment}
-use Rattle.wild_types.specs.declared.layout.Layout.{Layout}
 use Rattle.wild_types.specs.Lookups.{image_size}
 use Rattle.wild_table_formats.specs.Headers.{program_header}
 use Rattle.wild_layout.specs.Loadable.{Ascends, IsCarriedWhole, SegmentLoads}
 use Rattle.wild_loader.specs.Tables.{has_in_memory}
 use Rattle.wild_hashes.specs.declared.image.Part.{Part as Found}
-use Rattle.wild_hashes.specs.Image.{part_at, part_in, bytes_of}
+use Rattle.wild_hashes.specs.Image.{part_at, part_in}
 
 -- ---- the segment of an address
 

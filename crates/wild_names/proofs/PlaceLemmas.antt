@@ -1,11 +1,8 @@
 -- Places in lists, and the first of a number in one.
-use Rattle.std.proofs.Common.{◌≡◌, ℕ, zero, suc, ◌+◌, ◌-◌, ◌<◌, ◌≤◌, ◌⊎◌, inl, inr, ◌==◌, Bool, true, List, [], ◌∷◌, ◌++◌, length, take, drop, refl, ap, ◌∙◌, arith, subst}
-use Rattle.std.specs.Prelude.{Some, Contains, if◌then◌else◌, slice_get}
+use Rattle.wild_names.proofs.Common.{◌≡◌, ℕ, zero, suc, ◌+◌, ◌-◌, ◌<◌, ◌≤◌, ◌⊎◌, inl, inr, ◌==◌, Bool, true, List, [], ◌∷◌, ◌++◌, length, take, drop, refl, ap, ◌∙◌, arith, subst, Some, Contains, if◌then◌else◌, slice_get, cases_Bool, eqb-true, is_own_entry, TableSymbol}
 use Rattle.std.specs.List.{filter}
-use Rattle.std.proofs.lemmas.Bool.{cases_Bool, eqb-true}
 use Rattle.wild_words.proofs.ListLemmas.{Contains-there}
-use Rattle.wild_table_formats.specs.SectionSymbols.{is_own_entry, place_from, number_from}
-use Rattle.wild_needs.specs.TableSymbols.{TableSymbol}
+use Rattle.wild_table_formats.specs.SectionSymbols.{place_from, number_from}
 
 -- ---- joined lists
 

@@ -1,53 +1,32 @@
 -- Dynamic symbols and their names, read back from an image without faults.
-use Rattle.std.proofs.Common.{◌≡◌, ℕ, ◌+◌, ◌*◌, ◌/◌, ◌^◌, ◌<◌, ◌≤◌, inl, inr, true, false, List, [], ◌∷◌, ◌++◌, length, map, Some, Ok, refl, sym, ap, ◌∙◌, arith, subst, add-zero}
-use Rattle.std.specs.Prelude.{◌==◌, nat_le, slice_get, Option, None, Result}
-use Rattle.std.proofs.lemmas.Bool.{cases_Bool, eqb-true, le-leb}
-use Rattle.std.proofs.lemmas.List.{length-append}
-use Rattle.std.proofs.lemmas.Option.{slice_get_within}
-use Rattle.wild_words.specs.Words.{HasBytesAt}
-use Rattle.wild_words.specs.Record.{spell, FieldsAreRead}
+use Rattle.wild_names.proofs.Common.{◌≡◌, ℕ, ◌+◌, ◌*◌, ◌/◌, ◌^◌, ◌<◌, ◌≤◌, inl, inr, true, false, List, [], ◌∷◌, ◌++◌, length, map, Some, Ok, refl, sym, ap, ◌∙◌, arith, subst, add-zero, ◌==◌, nat_le, slice_get, Option, None, Result, cases_Bool, eqb-true, le-leb, length-append, slice_get_within, HasBytesAt, spell, FieldsAreRead, dt_hash, dt_gnu_hash, symtab_entry_fields, DynamicEntry, ProgramHeader, SectionHeader, SymtabEntry, Part, Role, Layout, role_place, part_with, not_hollow_at, first_listed, section_headers_of, NamedFields, entry_at, bytes, all_needed, table_bytes, is_loadable_header, entries_before_null, HasHeaders, value_of_tag, bytes_of, bytes_or_none, AreNumbered, gnu_hash_of, gnu_header, gnu_table, sysv_hash_of, sysv_table, HasEntry, table_symbols, ImageLaws, NameLaws}
 use Rattle.wild_words.proofs.RecordLemmas.{length-spell}
-use Rattle.wild_records.specs.Abi.Dynamic.{dt_hash, dt_gnu_hash, dt_symtab, dt_strtab}
+use Rattle.wild_records.specs.Abi.Dynamic.{dt_symtab, dt_strtab}
 use Rattle.wild_records.specs.Dynamic.{dynamic_entry_size}
-use Rattle.wild_records.specs.SymtabEntry.{symtab_entry_size, symtab_entry_fields, symtab_entry_at}
-use Rattle.wild_records.specs.declared.dynamic.DynamicEntry.{DynamicEntry}
+use Rattle.wild_records.specs.SymtabEntry.{symtab_entry_size, symtab_entry_at}
 use Rattle.wild_records.specs.declared.file_header.FileHeader.{FileHeader}
-use Rattle.wild_records.specs.declared.program_header.ProgramHeader.{ProgramHeader}
-use Rattle.wild_records.specs.declared.section_header.SectionHeader.{SectionHeader}
-use Rattle.wild_records.specs.declared.symtab_entry.SymtabEntry.{SymtabEntry}
-use Rattle.wild_types.specs.declared.part.Part.{Part}
-use Rattle.wild_types.specs.declared.part.Role.{Role}
 use Rattle.wild_types.specs.declared.part.Role.TheVariants as role
-use Rattle.wild_types.specs.declared.layout.Layout.{Layout}
-use Rattle.wild_types.specs.Parts.{role_place, part_with, is_look_up_role, has_hashes}
-use Rattle.wild_types.proofs.LookupLemmas.{not_hollow_at}
+use Rattle.wild_types.specs.Parts.{is_look_up_role, has_hashes}
 use Rattle.wild_needs.specs.DynamicPlaces.{part_address, filled_part}
-use Rattle.wild_needs.specs.DynamicSymbols.{first_listed}
-use Rattle.wild_table_formats.specs.Headers.{file_header, section_headers_of}
-use Rattle.wild_table_formats.specs.DynamicEntries.{NamedFields, entry_at}
+use Rattle.wild_table_formats.specs.Headers.{file_header}
 use Rattle.wild_table_formats.specs.DynamicSection.{dynamic_records}
-use Rattle.wild_layout.specs.Image.{bytes}
-use Rattle.wild_layout.specs.TablePlaces.{all_needed, table_bytes}
-use Rattle.wild_loader.specs.Headers.{is_loadable_header, program_headers}
-use Rattle.wild_loader.specs.Laws.{HasDynamic, entries_before_null}
-use Rattle.wild_loader.specs.SegmentLaws.{HasHeaders}
-use Rattle.wild_loader.specs.Tables.{dynamic_entries, first_dynamic, value_of_tag}
+use Rattle.wild_loader.specs.Headers.{program_headers}
+use Rattle.wild_loader.specs.Laws.{HasDynamic}
+use Rattle.wild_loader.specs.Tables.{dynamic_entries, first_dynamic}
 use Rattle.wild_loader.proofs.RecordLists.{dynamics-read}
 use Rattle.wild_loader.proofs.TableLemmas.{nothing-read}
 use Rattle.wild_hashes.specs.declared.fault.ImageFault.{ImageFault}
 use Rattle.wild_hashes.specs.declared.image.Part.{Part as Found}
 use Rattle.wild_hashes.specs.declared.image.Records.{Records}
 use Rattle.wild_hashes.specs.declared.tables.ImageTables.{ImageTables}
-use Rattle.wild_hashes.specs.Image.{bytes_of, bytes_or_none, dynamic_records as records_of, part_of}
+use Rattle.wild_hashes.specs.Image.{dynamic_records as records_of, part_of}
 use Rattle.wild_hashes.specs.ImageTables.{image_tables, tables_at, headers_of, entries_of, hash_part, symbol_in, symbol_at, text_at}
-use Rattle.wild_hashes.specs.Laws.{AreNumbered}
 use Rattle.wild_hashes.specs.Reading.{HasNoZero}
-use Rattle.wild_hashes.specs.Tables.{gnu_hash_of, gnu_header, gnu_table, sysv_hash_of, sysv_table}
 use Rattle.wild_hashes.proofs.NameLemmas.{string_stands}
 use Rattle.wild_loaded.specs.Memory.{headers_of as layout_headers}
-use Rattle.wild_names.specs.Laws.{HasEntry, SymbolsAreThere, table_symbols}
+use Rattle.wild_names.specs.Laws.{SymbolsAreThere}
 use Rattle.wild_names.specs.LookUpLaws.{IsWritten}
-use Rattle.wild_names.specs.LowerLaws.{RecordLaws, ImageLaws, NameLaws}
+use Rattle.wild_names.specs.LowerLaws.{RecordLaws}
 use Rattle.wild_names.specs.ReadLaws.{IsReadBack, HasTableAt, AreHashTablesFound, AreReadBack, DynamicSymbolsAreRead}
 use Rattle.wild_names.proofs.FoundParts.{IsRead, is_read, entries_read, sysv_told, gnu_told, symbols_told, strings_told, found_role, at_address, filled_is}
 use Rattle.wild_names.proofs.HashBytes.{sysv_stands as sysv_bytes_are, gnu_stands as gnu_bytes_are}

@@ -1,38 +1,21 @@
 -- A link that takes a relocatable object on gives each entry's symbol the value that the input's relocation asks for.
-use Rattle.std.proofs.Common.{◌≡◌, ℕ, zero, suc, ◌+◌, ◌-◌, ◌%◌, ◌^◌, ◌<◌, ◌≤◌, ◌⊎◌, inl, inr, ◌==◌, Bool, true, false, List, [], ◌∷◌, ◌++◌, length, map, refl, sym, ap, ◌∙◌, arith, subst}
-use Rattle.std.specs.Prelude.{◌≢◌, Contains, Option, Some, None, Ok, unwrap_or, option_map, option_and_then, if◌then◌else◌, slice_get}
+use Rattle.wild_names.proofs.Common.{◌≡◌, ℕ, zero, suc, ◌+◌, ◌-◌, ◌%◌, ◌^◌, ◌<◌, ◌≤◌, ◌⊎◌, inl, inr, ◌==◌, Bool, true, false, List, [], ◌∷◌, ◌++◌, length, map, refl, sym, ap, ◌∙◌, arith, subst, ◌≢◌, Contains, Option, Some, None, Ok, option_map, option_and_then, if◌then◌else◌, slice_get, append-nil, length-append, length-map, filter-append, slice_get-map, File, Group, InputSection, Symbol, Layout, is_library, is_partial_link, section_of, files_of, base_of, output_section, SymtabName, TableSymbol, file_items, section_symbols, TableFields, NamedEntry, table_attributes, fields_of, table_fields, named_entry, section_entry, table_by, is_own_entry, errors, IsLaidOut, side_table}
+use Rattle.std.specs.Prelude.{unwrap_or}
 use Rattle.std.specs.List.{flat_map}
 use Rattle.std.specs.Option.{option_or}
 use Rattle.std.specs.Int.{w64}
 use Rattle.std.proofs.lemmas.Int.{of_z-to_z}
-use Rattle.std.proofs.lemmas.List.{append-nil, length-append, length-map}
-use Rattle.std.proofs.lemmas.List.Elements.{filter-append}
-use Rattle.std.proofs.lemmas.Option.{slice_get-map}
 use Rattle.wild_words.proofs.Basics.{Contains-from_flat_map}
-use Rattle.wild_types.specs.declared.file.File.{File}
-use Rattle.wild_types.specs.declared.file.Group.{Group}
-use Rattle.wild_types.specs.declared.input.InputSection.{InputSection}
 use Rattle.wild_records.specs.Abi.Section.{shn_abs}
-use Rattle.wild_types.specs.declared.symbol.Symbol.{Symbol}
-use Rattle.wild_types.specs.declared.layout.Layout.{Layout}
-use Rattle.wild_types.specs.FileRoles.{is_library}
-use Rattle.wild_types.specs.Kinds.{is_partial_link}
-use Rattle.wild_types.specs.Lookups.{canonical, section_of, files_of, file_of}
-use Rattle.wild_placement.specs.PlacedSections.{base_of}
-use Rattle.wild_needs.specs.DynamicSymbols.{output_section}
-use Rattle.wild_needs.specs.declared.table.SymtabName.{SymtabName}
+use Rattle.wild_types.specs.Lookups.{canonical, file_of}
 use Rattle.wild_needs.specs.declared.table.SymtabName.TheVariants as named
-use Rattle.wild_needs.specs.TableSymbols.{TableSymbol, file_items, is_on_side, side, is_local_symbol, marked_sections, singleton_sections, section_symbols, full_name, item_name}
-use Rattle.wild_table_formats.specs.declared.symbols.TableFields.{TableFields}
+use Rattle.wild_needs.specs.TableSymbols.{is_on_side, side, is_local_symbol, marked_sections, singleton_sections, full_name, item_name}
 use Rattle.wild_table_formats.specs.DynamicFields.{undefined_with}
-use Rattle.wild_table_formats.specs.TableEntries.{NamedEntry, short, table_attributes, undefined_attributes, fields_of, table_fields, named_entry, section_entry, table_by}
-use Rattle.wild_table_formats.specs.SectionSymbols.{symbol_section, is_section_type, all_items, front_count, entry_by, entry_index, number_from, is_own_entry, section_index, number_of_section, symbol_index, named_index}
+use Rattle.wild_table_formats.specs.TableEntries.{short, undefined_attributes}
+use Rattle.wild_table_formats.specs.SectionSymbols.{symbol_section, is_section_type, all_items, front_count, entry_by, entry_index, number_from, section_index, number_of_section, symbol_index, named_index}
 use Rattle.wild_layout.specs.SymbolValues.{sum}
 use Rattle.wild_layout.specs.Partial.{shift, shift_by}
-use Rattle.wild_layout.specs.Faults.{errors}
-use Rattle.wild_layout.specs.Geometry.{IsLaidOut}
 use Rattle.wild_names.specs.FieldLaws.{TableSymbolsHaveFields, entry_with}
-use Rattle.wild_names.specs.IndexLaws.{side_table}
 use Rattle.wild_names.specs.Links.{Link, object_symbols, entry_value, IsNumberOf, NoNumber, OfEntry, IsInObjectSection, HasValue, InSection, Absolute, Outside, IsPlain, HasTargetValue, NoSymbol, OfSection, OfSymbol, RelinkingIsFaithful}
 use Rattle.wild_names.proofs.PlaceLemmas.{in_front, found_in_second_list, number_in, own_at}
 use Rattle.wild_names.proofs.ObjectSymbols.{front, front_local, front_global, length-front, own_side, side_ordered, mapped, entry_at}

@@ -1,28 +1,6 @@
 -- What files and groups give, whose strings stand one behind the other.
-use Rattle.wild_placement.specs.PlacedSections.{placed_files, placed_file}
-use Rattle.wild_geometry.proofs.PlacedInputs.{placed_files_same}
-use Rattle.std.proofs.Common.{◌≡◌, ℕ, suc, ◌+◌, ◌^◌, ◌<◌, ◌≤◌, true, List, [], ◌∷◌, ◌++◌, length, take, Some, slice_get, flat_map, refl, sym, ap, ◌∙◌, arith, subst}
-use Rattle.std.proofs.lemmas.List.{length-append, append-nil}
-use Rattle.wild_words.specs.Words.{HasBytesAt}
-use Rattle.wild_words.proofs.ListLemmas.{flat_map-same, flat_map-flat_map}
-use Rattle.wild_words.proofs.RecordLemmas.{HasBytesAt-whole, HasBytesAt-front, HasBytesAt-after}
-use Rattle.wild_words.proofs.Basics.{nil_if}
-use Rattle.wild_types.specs.declared.part.Role.{Role}
+use Rattle.wild_names.proofs.Common.{placed_files, placed_file, placed_files_same, ◌≡◌, ℕ, suc, ◌+◌, ◌^◌, ◌<◌, ◌≤◌, true, List, [], ◌∷◌, ◌++◌, length, take, Some, slice_get, flat_map, refl, sym, ap, ◌∙◌, arith, subst, length-append, append-nil, HasBytesAt, flat_map-same, flat_map-flat_map, HasBytesAt-whole, HasBytesAt-front, HasBytesAt-after, nil_if, Role, File, Group, Layout, file_strings, next_dynstr, is_prelude, needs_dynsym, total, files_of, share, group_share, file_content, content, table_bytes, IsLaidOut, string_bytes, length-string_bytes}
 use Rattle.wild_types.specs.declared.part.Role.TheVariants as role
-use Rattle.wild_types.specs.declared.file.File.{File}
-use Rattle.wild_types.specs.declared.file.Group.{Group}
-use Rattle.wild_types.specs.declared.layout.Layout.{Layout}
-use Rattle.wild_needs.specs.DynamicStrings.{file_strings, next_dynstr}
-use Rattle.wild_types.specs.FileRoles.{is_prelude}
-use Rattle.wild_types.specs.Kinds.{needs_dynsym}
-use Rattle.wild_types.specs.Lists.{total}
-use Rattle.wild_types.specs.Lookups.{files_of}
-use Rattle.wild_needs.specs.Needs.{share, group_share}
-use Rattle.wild_layout.specs.Content.{file_content, content}
-use Rattle.wild_layout.specs.TablePlaces.{table_bytes}
-use Rattle.wild_layout.specs.Geometry.{IsLaidOut}
-use Rattle.wild_table_formats.specs.Strings.{string_bytes}
-use Rattle.wild_table_formats.proofs.StringLemmas.{length-string_bytes}
 use Rattle.wild_names.proofs.BesideLemmas.{Belong, belong-append}
 
 -- the bytes of a file's strings

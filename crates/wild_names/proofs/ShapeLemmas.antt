@@ -1,14 +1,12 @@
 -- What a layout without faults has: no clause of it fails, and its GNU table is laid out.
-use Rattle.std.proofs.Common.{◌≡◌, [], ◌++◌, map, Ok}
+use Rattle.wild_names.proofs.Common.{◌≡◌, [], ◌++◌, map, Ok, Layout, errors, group_errors, flat_map_from, gnu_hash_of, gnu_header}
 use Rattle.wild_words.proofs.ListLemmas.{nil_parts}
 use Rattle.wild_types.specs.declared.layout.GnuHash.{GnuHash}
-use Rattle.wild_types.specs.declared.layout.Layout.{Layout}
 use Rattle.wild_plan_rules.specs.WellFormed.{first_clause}
 use Rattle.wild_records.specs.HashTables.{GnuHashHeaderFits}
-use Rattle.wild_layout.specs.Faults.{errors, part_errors, group_errors, flat_map_from, clause_errors}
+use Rattle.wild_layout.specs.Faults.{part_errors, clause_errors}
 use Rattle.wild_layout.specs.HashShapes.{HasGnuShape}
 use Rattle.wild_hashes.specs.Laws.{NeighboursAscend, IsValidGnuTable}
-use Rattle.wild_hashes.specs.Tables.{gnu_hash_of, gnu_header}
 use Rattle.wild_layout.proofs.FaultLemmas.{clause_holds}
 
 -- no clause fails, and no share

@@ -1,33 +1,18 @@
 -- The longer section index of an entry is 0 where st_shndx tells its section itself.
-use Rattle.std.proofs.Common.{◌≡◌, List, [], ◌∷◌, ℕ, ◌%◌, ◌^◌, ◌&&◌, Bool, true, false, nat_lt, if◌then◌else◌, get_or, map, filter, Option, Some, None, Result, All, refl}
-use Rattle.std.specs.Prelude.{codes, unwrap_or, slice_get}
-use Rattle.std.proofs.lemmas.List.Elements.{All-nil, All-cons, All-append, All-filter, All-map}
-use Rattle.wild_words.proofs.ListLemmas.{All-flat_map}
+use Rattle.wild_names.proofs.Common.{◌≡◌, List, [], ◌∷◌, ℕ, ◌%◌, ◌^◌, ◌&&◌, Bool, true, false, nat_lt, if◌then◌else◌, get_or, map, filter, Option, Some, None, Result, All, refl, codes, slice_get, All-nil, All-cons, All-append, All-map, All-flat_map, Fault, File, FileRole, Group, Layout, Symbol, SymtabName, output_section, is_library, is_prelude, part_with, TableSymbol, file_items, section_symbols, has_symtab, TableFields, NamedEntry, fields_of, file_table, group_table, is_side, named_entry, null_entries, null_entry, section_entry, table_fields_or_null, table_attributes, table_by, table_fields, side_table}
+use Rattle.std.specs.Prelude.{unwrap_or}
+use Rattle.std.proofs.lemmas.List.Elements.{All-filter}
 use Rattle.wild_records.specs.Abi.Section.{shn_loreserve, shn_xindex}
-use Rattle.wild_types.specs.declared.fault.Fault.{Fault}
 use Rattle.wild_types.specs.declared.part.Role.TheVariants as role
-use Rattle.wild_types.specs.declared.file.File.{File}
-use Rattle.wild_types.specs.declared.file.FileRole.{FileRole}
-use Rattle.wild_types.specs.declared.file.Group.{Group}
-use Rattle.wild_types.specs.declared.layout.Layout.{Layout}
 use Rattle.wild_types.specs.declared.symbol.Place.{Place}
 use Rattle.wild_types.specs.declared.symbol.Place.TheVariants as at
-use Rattle.wild_types.specs.declared.symbol.Symbol.{Symbol}
-use Rattle.wild_needs.specs.declared.table.SymtabName.{SymtabName}
 use Rattle.wild_needs.specs.declared.table.SymtabName.TheVariants as named
 use Rattle.wild_types.specs.Addresses.{raw_value}
-use Rattle.wild_needs.specs.DynamicSymbols.{output_section}
-use Rattle.wild_types.specs.FileRoles.{is_library, is_prelude}
 use Rattle.wild_types.specs.Flags.{has_flag, canonical_plt, copy_relocation}
-use Rattle.wild_types.specs.Parts.{part_with}
 use Rattle.wild_types.specs.SymbolSlots.{got_of, plt_of}
-use Rattle.wild_needs.specs.TableSymbols.{TableSymbol, file_items, section_symbols}
-use Rattle.wild_types.specs.Lookups.{has_symtab}
-use Rattle.wild_table_formats.specs.declared.symbols.TableFields.{TableFields}
 use Rattle.wild_table_formats.specs.declared.symbols.SymbolAttributes.{SymbolAttributes}
 use Rattle.wild_table_formats.specs.DynamicFields.{common_section, part_section, section_named, some_section, has_stub_address, stub_or_zero}
-use Rattle.wild_table_formats.specs.TableEntries.{NamedEntry, at_address, counted_from, fields_of, file_table, first_or, group_table, in_table_section, is_side, named_entry, no_attributes, thunk_attributes, null_entries, null_entry, section_entry, table_fields_or_null, slot_role, table_at, table_attributes, table_by, table_canonical, table_fields, table_placed, table_value, with_function}
-use Rattle.wild_names.specs.IndexLaws.{side_table}
+use Rattle.wild_table_formats.specs.TableEntries.{at_address, counted_from, first_or, in_table_section, no_attributes, thunk_attributes, slot_role, table_at, table_canonical, table_placed, table_value, with_function}
 
 -- the index is 0 where st_shndx does not send to it
 abbrev IsShort : TableFields → Type 0

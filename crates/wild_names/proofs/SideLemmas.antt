@@ -1,41 +1,10 @@
 -- The table of all symbols: its local ones in one part, and all others in another.
-use Rattle.wild_placement.specs.PlacedSections.{placed_files, placed_file}
-use Rattle.wild_geometry.proofs.PlacedInputs.{placed_files_same}
-use Rattle.std.proofs.Common.{◌≡◌, ℕ, ◌+◌, ◌*◌, ◌^◌, ◌<◌, ◌≤◌, inl, inr, ◌==◌, ◌&&◌, Bool, true, false, List, [], ◌∷◌, ◌++◌, length, map, filter, replicate, Option, Some, None, option_to_list, slice_get, flat_map, refl, sym, ap, ◌∙◌, arith, subst}
-use Rattle.std.proofs.lemmas.Bool.{cases_Bool, and_parts}
-use Rattle.std.proofs.lemmas.List.{append-nil, length-append}
-use Rattle.wild_words.specs.Words.{HasBytesAt}
-use Rattle.wild_words.specs.Record.{spell}
-use Rattle.wild_words.proofs.ListLemmas.{flat_map-same, flat_map-flat_map}
-use Rattle.wild_words.proofs.RecordLemmas.{HasBytesAt-whole, HasBytesAt-front, HasBytesAt-after}
-use Rattle.wild_words.proofs.Basics.{nil_if}
-use Rattle.wild_records.specs.SymtabEntry.{symtab_entry_fields}
-use Rattle.wild_records.specs.declared.symtab_entry.SymtabEntry.{SymtabEntry}
+use Rattle.wild_names.proofs.Common.{placed_files, placed_file, placed_files_same, ◌≡◌, ℕ, ◌+◌, ◌*◌, ◌^◌, ◌<◌, ◌≤◌, inl, inr, ◌==◌, ◌&&◌, Bool, true, false, List, [], ◌∷◌, ◌++◌, length, map, filter, replicate, Option, Some, None, option_to_list, slice_get, flat_map, refl, sym, ap, ◌∙◌, arith, subst, cases_Bool, and_parts, append-nil, length-append, HasBytesAt, spell, flat_map-same, flat_map-flat_map, HasBytesAt-whole, HasBytesAt-front, HasBytesAt-after, nil_if, symtab_entry_fields, SymtabEntry, File, Group, Layout, bool_eq, file_position_fits, later_positions_fit, group_positions_fit, first_misplaced_file, offset_after_string, is_prelude, is_epilogue, total, share, group_share, role_place, has_symtab, same_bool, file_items, section_symbols, entry_at, no_fields, string, string_bytes, symbol_bytes, NamedEntry, is_side, section_entry, named_entry, file_table, group_table, length-string_bytes, length-symbol_bytes, file_content, content, table_bytes, IsLaidOut, TablesStand, bytes, fields_of_entry, side_symbols}
 use Rattle.wild_types.specs.declared.part.Role.TheVariants as role
-use Rattle.wild_types.specs.declared.file.File.{File}
-use Rattle.wild_types.specs.declared.file.Group.{Group}
-use Rattle.wild_types.specs.declared.layout.Layout.{Layout}
-use Rattle.wild_types.specs.FilePlaces.{bool_eq, file_position_fits, later_positions_fit, group_positions_fit, first_misplaced_file}
-use Rattle.wild_needs.specs.DynamicStrings.{offset_after_string}
-use Rattle.wild_types.specs.FileRoles.{is_prelude, is_epilogue}
-use Rattle.wild_types.specs.Lists.{total}
-use Rattle.wild_needs.specs.Needs.{share, group_share}
-use Rattle.wild_types.specs.Parts.{role_place}
-use Rattle.wild_types.specs.Lookups.{has_symtab}
-use Rattle.wild_types.proofs.FileLemmas.{same_bool}
-use Rattle.wild_needs.specs.TableSymbols.{file_items, table_strings, section_symbols}
-use Rattle.wild_table_formats.specs.DynamicEntries.{entry_at, no_fields}
-use Rattle.wild_table_formats.specs.Strings.{string, string_bytes}
-use Rattle.wild_table_formats.specs.Symbols.{symbol_bytes}
-use Rattle.wild_table_formats.specs.TableEntries.{NamedEntry, is_side, name_at, offset_after_name, side_entries, section_entry, named_entry, file_table, group_table, table_entries}
+use Rattle.wild_needs.specs.TableSymbols.{table_strings}
+use Rattle.wild_table_formats.specs.TableEntries.{name_at, offset_after_name, side_entries, table_entries}
 use Rattle.wild_table_formats.specs.TableLaws.{names_of, NamesOfGroups, NameIsAt}
-use Rattle.wild_table_formats.proofs.StringLemmas.{length-string_bytes}
-use Rattle.wild_table_formats.proofs.SymbolLemmas.{length-symbol_bytes}
-use Rattle.wild_layout.specs.Content.{file_content, content}
-use Rattle.wild_layout.specs.TablePlaces.{table_bytes}
-use Rattle.wild_layout.specs.Geometry.{IsLaidOut, TablesStand}
-use Rattle.wild_layout.specs.Image.{bytes}
-use Rattle.wild_names.specs.Laws.{EntryFields, HasEntryFields, IsNamedIfAny, TableSymbolsAreInParts, table_role, fields_of_entry, side_symbols}
+use Rattle.wild_names.specs.Laws.{EntryFields, HasEntryFields, IsNamedIfAny, TableSymbolsAreInParts, table_role}
 use Rattle.wild_names.proofs.BesideLemmas.{Belong, HasBeside, belong-length, belongs_at}
 use Rattle.wild_names.proofs.ImageLemmas.{entry_stands, named, none_joined, null_bytes}
 use Rattle.wild_names.proofs.RunLemmas.{groups_along}

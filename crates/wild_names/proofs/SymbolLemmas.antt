@@ -1,28 +1,8 @@
 -- The entries of the dynamic symbol table, and the names that they tell.
-use Rattle.std.proofs.Common.{◌≡◌, ℕ, ◌+◌, ◌^◌, ◌<◌, inl, inr, Bool, true, false, if◌then◌else◌, List, [], ◌∷◌, ◌++◌, length, map, Option, Some, None, flat_map, refl, sym, ap, ◌∙◌, arith, subst}
-use Rattle.std.proofs.lemmas.Bool.{cases_Bool}
-use Rattle.std.proofs.lemmas.List.{length-append}
-use Rattle.std.proofs.lemmas.Grind.{flat_map-append}
-use Rattle.wild_words.specs.Words.{HasBytesAt}
-use Rattle.wild_words.proofs.RecordLemmas.{HasBytesAt-front, HasBytesAt-after}
-use Rattle.wild_records.specs.declared.symtab_entry.SymtabEntry.{SymtabEntry}
+use Rattle.wild_names.proofs.Common.{◌≡◌, ℕ, ◌+◌, ◌^◌, ◌<◌, inl, inr, Bool, true, false, if◌then◌else◌, List, [], ◌∷◌, ◌++◌, length, map, Option, Some, None, flat_map, refl, sym, ap, ◌∙◌, arith, subst, cases_Bool, length-append, flat_map-append, HasBytesAt, HasBytesAt-front, HasBytesAt-after, SymtabEntry, FileRole, File, Group, Symbol, DynamicSymbol, Layout, offset_after_string, next_dynstr, dynstr_prefix_strings, entry_names, file_strings, undefined_symbols, is_prelude, is_epilogue, needs_dynsym, files_of, version_names, string, string_bytes, length-string_bytes, NamedFields, listed, undefined, entry_at, no_fields, group_symbols, table_bytes, IsLaidOut}
 use Rattle.wild_types.specs.declared.part.Role.TheVariants as role
-use Rattle.wild_types.specs.declared.file.FileRole.{FileRole}
-use Rattle.wild_types.specs.declared.file.File.{File}
-use Rattle.wild_types.specs.declared.file.Group.{Group}
-use Rattle.wild_types.specs.declared.symbol.Symbol.{Symbol}
-use Rattle.wild_types.specs.declared.layout.DynamicSymbol.{DynamicSymbol}
-use Rattle.wild_types.specs.declared.layout.Layout.{Layout}
-use Rattle.wild_needs.specs.DynamicStrings.{offset_after_string, next_dynstr, dynstr_prefix_strings, entry_names, file_strings, listed_names, symbol_names, undefined_symbols}
-use Rattle.wild_types.specs.FileRoles.{is_prelude, is_epilogue}
-use Rattle.wild_types.specs.Kinds.{needs_dynsym}
-use Rattle.wild_types.specs.Lookups.{files_of}
-use Rattle.wild_needs.specs.Versions.{version_names}
-use Rattle.wild_table_formats.specs.Strings.{string, string_bytes}
-use Rattle.wild_table_formats.proofs.StringLemmas.{length-string_bytes}
-use Rattle.wild_table_formats.specs.DynamicEntries.{NamedFields, listed, undefined, file_symbols, entry_at, no_fields, entries_at, null_entries, offset_after_lead, file_entries, entries_from, group_symbols}
-use Rattle.wild_layout.specs.TablePlaces.{table_bytes}
-use Rattle.wild_layout.specs.Geometry.{IsLaidOut}
+use Rattle.wild_needs.specs.DynamicStrings.{listed_names, symbol_names}
+use Rattle.wild_table_formats.specs.DynamicEntries.{file_symbols, entries_at, null_entries, offset_after_lead, file_entries, entries_from}
 use Rattle.wild_names.proofs.BesideLemmas.{Belong, belong-append}
 use Rattle.wild_names.proofs.RunLemmas.{strings_of, gathered, files_belong, groups_belong, strings_are_short}
 

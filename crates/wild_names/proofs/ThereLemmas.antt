@@ -1,28 +1,8 @@
 -- The dynamic symbol table and its strings are there: the first file gives the first entry, and the empty string.
-use Rattle.std.proofs.Common.{◌≡◌, ℕ, ◌*◌, ◌≤◌, inl, inr, ◌==◌, ◌&&◌, Bool, true, if◌then◌else◌, List, [], ◌∷◌, ◌++◌, length, map, Option, Some, None, flat_map, refl, sym, ap, arith, subst}
-use Rattle.std.proofs.lemmas.Bool.{cases_Bool, and_parts}
-use Rattle.std.proofs.lemmas.List.{length-append}
-use Rattle.wild_types.specs.declared.part.Part.{Part}
-use Rattle.wild_types.specs.declared.part.Role.{Role}
+use Rattle.wild_names.proofs.Common.{◌≡◌, ℕ, ◌*◌, ◌≤◌, inl, inr, ◌==◌, ◌&&◌, Bool, true, if◌then◌else◌, List, [], ◌∷◌, ◌++◌, length, map, Option, Some, None, flat_map, refl, sym, ap, arith, subst, cases_Bool, and_parts, length-append, Part, Role, FileRole, File, Group, Layout, bool_eq, file_position_fits, later_positions_fit, group_positions_fit, first_misplaced_file, dynstr_prefix_strings, entry_names, file_strings, is_prelude, is_epilogue, needs_dynsym, role_place, part_with, same_bool, version_names, string_bytes, length-symbol_bytes, content, table_bytes, IsLaidOut, table_symbols}
 use Rattle.wild_types.specs.declared.part.Role.TheVariants as role
-use Rattle.wild_types.specs.declared.file.FileRole.{FileRole}
 use Rattle.wild_types.specs.declared.file.FileRole.TheVariants as file_role
-use Rattle.wild_types.specs.declared.file.File.{File}
-use Rattle.wild_types.specs.declared.file.Group.{Group}
-use Rattle.wild_types.specs.declared.layout.Layout.{Layout}
-use Rattle.wild_types.specs.FilePlaces.{bool_eq, file_position_fits, later_positions_fit, group_positions_fit, first_misplaced_file}
-use Rattle.wild_needs.specs.DynamicStrings.{dynstr_prefix_strings, entry_names, file_strings}
-use Rattle.wild_types.specs.FileRoles.{is_prelude, is_epilogue}
-use Rattle.wild_types.specs.Kinds.{needs_dynsym}
-use Rattle.wild_types.specs.Parts.{role_place, part_with}
-use Rattle.wild_types.proofs.FileLemmas.{same_bool}
-use Rattle.wild_needs.specs.Versions.{version_names}
-use Rattle.wild_table_formats.specs.Strings.{string_bytes}
-use Rattle.wild_table_formats.proofs.SymbolLemmas.{length-symbol_bytes}
-use Rattle.wild_layout.specs.Content.{content}
-use Rattle.wild_layout.specs.TablePlaces.{table_bytes}
-use Rattle.wild_layout.specs.Geometry.{IsLaidOut}
-use Rattle.wild_names.specs.Laws.{SymbolTablesAreThere, table_symbols}
+use Rattle.wild_names.specs.Laws.{SymbolTablesAreThere}
 use Rattle.wild_names.proofs.BesideLemmas.{Belong, belong-length}
 use Rattle.wild_names.proofs.ImageLemmas.{all_symbols, symbol_table}
 use Rattle.wild_names.proofs.OrderLemmas.{items_of_all}

@@ -1,33 +1,13 @@
 -- The versions that the output defines: the last file has their table, and their names stand behind those of its symbols.
-use Rattle.wild_placement.specs.PlacedSections.{placed_files, placed_file}
-use Rattle.wild_geometry.proofs.PlacedInputs.{placed_files_same}
-use Rattle.std.proofs.Common.{◌≡◌, ℕ, ◌≤◌, true, false, List, [], ◌∷◌, ◌++◌, length, Option, Some, None, flat_map, refl, sym, ap, ◌∙◌, arith, subst}
-use Rattle.std.proofs.lemmas.List.{append-nil}
-use Rattle.std.proofs.lemmas.Option.{get_or_from_slice_get, slice_get_within}
-use Rattle.wild_words.specs.Words.{HasBytesAt}
-use Rattle.wild_words.proofs.ListLemmas.{flat_map-same, flat_map-flat_map}
-use Rattle.wild_words.proofs.Basics.{nil_if}
+use Rattle.wild_names.proofs.Common.{placed_files, placed_file, placed_files_same, ◌≡◌, ℕ, ◌≤◌, true, false, List, [], ◌∷◌, ◌++◌, length, Option, Some, None, flat_map, refl, sym, ap, ◌∙◌, arith, subst, append-nil, get_or_from_slice_get, slice_get_within, HasBytesAt, flat_map-same, flat_map-flat_map, nil_if, File, Group, Layout, string_start, is_prelude, is_epilogue, needs_dynsym, files_of, string, name_at, definition_offsets, file_content, content, IsLaidOut, TablesStand, table_bytes, bytes}
 use Rattle.wild_types.specs.declared.part.Role.TheVariants as role
-use Rattle.wild_types.specs.declared.file.File.{File}
-use Rattle.wild_types.specs.declared.file.Group.{Group}
-use Rattle.wild_types.specs.declared.layout.Layout.{Layout}
 use Rattle.wild_types.specs.declared.layout.VersionDefinition.{VersionDefinition}
-use Rattle.wild_needs.specs.DynamicStrings.{string_start}
-use Rattle.wild_types.specs.FileRoles.{is_prelude, is_epilogue}
-use Rattle.wild_types.specs.Kinds.{needs_dynsym}
-use Rattle.wild_types.specs.Lookups.{files_of}
 use Rattle.wild_types.proofs.FileLemmas.{last_role}
 use Rattle.wild_needs.specs.Versions.{size_with, definitions_size}
-use Rattle.wild_table_formats.specs.Strings.{string}
-use Rattle.wild_table_formats.specs.VersionChain.{name_at}
 use Rattle.wild_table_formats.specs.VersionDefinitions.{version_name, definition_table}
 use Rattle.wild_names.specs.VersionNames.{DefinitionsAreNamed}
 use Rattle.wild_table_formats.specs.VersionLaws.{LengthsOfDefinitions, DefinitionsAreRead}
-use Rattle.wild_table_formats.specs.VersionNames.{definition_offsets, file_definitions}
-use Rattle.wild_layout.specs.Content.{file_content, content}
-use Rattle.wild_layout.specs.Geometry.{IsLaidOut, TablesStand}
-use Rattle.wild_layout.specs.TablePlaces.{table_bytes}
-use Rattle.wild_layout.specs.Image.{bytes}
+use Rattle.wild_table_formats.specs.VersionNames.{file_definitions}
 use Rattle.wild_layout.proofs.LayoutLemmas.{definitions_fit}
 use Rattle.wild_names.specs.VersionLaws.{DefinitionsAreThere, DefinitionsAreWritten}
 use Rattle.wild_names.proofs.ImageLemmas.{named, none_joined}

@@ -1,33 +1,13 @@
 -- A reader of an image finds the libraries that versions are needed of, with these versions.
-use Rattle.std.proofs.Common.{◌≡◌, ℕ, ◌^◌, ◌<◌, ◌≤◌, Bool, true, false, if◌then◌else◌, List, [], ◌∷◌, length, All, get_or, refl, sym, ap, arith, subst}
-use Rattle.std.specs.Prelude.{Option, Some, None, nat_le, ◌&&◌}
-use Rattle.std.proofs.lemmas.Bool.{and_parts, leb-true}
-use Rattle.std.proofs.lemmas.List.{length-append}
-use Rattle.std.proofs.lemmas.List.Elements.{All-nil, All-cons, All-head, All-tail}
-use Rattle.std.proofs.lemmas.Option.{get_or_from_slice_get, slice_get_within}
-use Rattle.wild_words.specs.Words.{HasBytesAt}
-use Rattle.wild_words.proofs.ListLemmas.{All-flat_map}
+use Rattle.wild_names.proofs.Common.{◌≡◌, ℕ, ◌^◌, ◌<◌, ◌≤◌, Bool, true, false, if◌then◌else◌, List, [], ◌∷◌, length, All, get_or, refl, sym, ap, arith, subst, Option, Some, None, nat_le, ◌&&◌, and_parts, length-append, All-nil, All-cons, All-head, All-tail, get_or_from_slice_get, slice_get_within, HasBytesAt, All-flat_map, File, Group, NeededVersion, VersionNeeds, Layout, is_library, total, files_of, needs_of, string, name_at, NeedsAreNamed, Need, IsLaidOut, TablesStand, table_bytes, bytes, IndexesFit}
+use Rattle.std.proofs.lemmas.Bool.{leb-true}
 use Rattle.wild_types.specs.declared.part.Role.TheVariants as role
-use Rattle.wild_types.specs.declared.file.File.{File}
-use Rattle.wild_types.specs.declared.file.Group.{Group}
-use Rattle.wild_types.specs.declared.file.NeededVersion.{NeededVersion}
-use Rattle.wild_types.specs.declared.file.VersionNeeds.{VersionNeeds}
-use Rattle.wild_types.specs.declared.layout.Layout.{Layout}
-use Rattle.wild_types.specs.FileRoles.{is_library}
-use Rattle.wild_types.specs.Lists.{total}
-use Rattle.wild_types.specs.Lookups.{files_of}
-use Rattle.wild_needs.specs.Versions.{need_size, needs_of, need_count, length_of, file_versions, versions_needed, most_versions}
+use Rattle.wild_needs.specs.Versions.{need_size, need_count, length_of, file_versions, versions_needed, most_versions}
 use Rattle.wild_types.proofs.ListLemmas.{total-prefix}
-use Rattle.wild_table_formats.specs.Strings.{string}
-use Rattle.wild_table_formats.specs.VersionChain.{name_at}
-use Rattle.wild_names.specs.VersionNames.{NeedsAreNamed}
-use Rattle.wild_table_formats.specs.VersionLaws.{LengthsOfNeeds, Need, NeedFits, needs_bytes, NeedsAreRead}
+use Rattle.wild_table_formats.specs.VersionLaws.{LengthsOfNeeds, NeedFits, needs_bytes, NeedsAreRead}
 use Rattle.wild_table_formats.specs.VersionNeeds.{need_bytes}
-use Rattle.wild_layout.specs.Geometry.{IsLaidOut, TablesStand}
-use Rattle.wild_layout.specs.TablePlaces.{table_bytes}
-use Rattle.wild_layout.specs.Image.{bytes}
 use Rattle.wild_names.specs.Laws.{IsNamed}
-use Rattle.wild_names.specs.VersionLaws.{IndexesFit, VersionNumbersFit, LibraryNeeds, needs_of_library, libraries_with_needs, HasNeeds, NeedsAreWritten}
+use Rattle.wild_names.specs.VersionLaws.{VersionNumbersFit, LibraryNeeds, needs_of_library, libraries_with_needs, HasNeeds, NeedsAreWritten}
 use Rattle.wild_names.proofs.BesideLemmas.{Belong, HasBeside, belong-length, belongs_at}
 use Rattle.wild_names.proofs.ImageLemmas.{named}
 use Rattle.wild_names.proofs.RunLemmas.{strings_are_short}

@@ -1,22 +1,10 @@
 -- The records of libraries that versions are needed of: the last of them is marked as such, and no other is.
-use Rattle.std.proofs.Common.{◌≡◌, ℕ, suc, ◌+◌, ◌-◌, inl, inr, ◌==◌, true, List, [], ◌∷◌, ◌++◌, length, filter, flat_map, refl, sym, ap, ◌∙◌, arith, subst}
-use Rattle.std.specs.Prelude.{Option, Some, None, option_and_then, is_some}
-use Rattle.std.proofs.lemmas.Bool.{cases_Bool, eq-eqb, ne_eqb}
-use Rattle.std.proofs.lemmas.List.{length-append}
-use Rattle.std.proofs.lemmas.List.Elements.{filter-append}
-use Rattle.wild_types.specs.declared.file.File.{File}
-use Rattle.wild_types.specs.declared.file.Group.{Group}
-use Rattle.wild_types.specs.declared.file.VersionNeeds.{VersionNeeds}
-use Rattle.wild_types.specs.declared.layout.Layout.{Layout}
-use Rattle.wild_needs.specs.DynamicStrings.{next_dynstr}
+use Rattle.wild_names.proofs.Common.{◌≡◌, ℕ, suc, ◌+◌, ◌-◌, inl, inr, ◌==◌, true, List, [], ◌∷◌, ◌++◌, length, filter, flat_map, refl, sym, ap, ◌∙◌, arith, subst, Option, Some, None, option_and_then, is_some, cases_Bool, eq-eqb, ne_eqb, length-append, filter-append, File, Group, VersionNeeds, Layout, next_dynstr, files_of, same_bool, needs_of, Need, IsLaidOut}
 use Rattle.wild_types.specs.Lists.{through}
-use Rattle.wild_types.specs.Lookups.{files_of}
-use Rattle.wild_types.proofs.FileLemmas.{same_bool}
-use Rattle.wild_needs.specs.Versions.{needs_of, has_needs, need_count}
+use Rattle.wild_needs.specs.Versions.{has_needs, need_count}
 use Rattle.wild_plan_rules.specs.VersionTables.{mark_fits, mark_by, mark_step, needs_in, mark_astray}
-use Rattle.wild_table_formats.specs.VersionLaws.{Need, OnlyLastIsMarked}
+use Rattle.wild_table_formats.specs.VersionLaws.{OnlyLastIsMarked}
 use Rattle.wild_table_formats.specs.VersionNames.{library_offset, need_offsets}
-use Rattle.wild_layout.specs.Geometry.{IsLaidOut}
 use Rattle.wild_names.proofs.RunLemmas.{gathered}
 
 -- ---- records

@@ -1,31 +1,10 @@
 -- The versions that are needed of libraries: their records are what groups give, and names stand where they tell.
-use Rattle.wild_placement.specs.PlacedSections.{placed_files}
-use Rattle.std.proofs.Common.{◌≡◌, ℕ, ◌%◌, ◌^◌, ◌<◌, Bool, true, if◌then◌else◌, List, [], ◌∷◌, ◌++◌, length, All, get_or, refl, sym, ap, ◌∙◌, arith, subst}
-use Rattle.std.specs.Prelude.{Option, Some, None}
-use Rattle.std.proofs.lemmas.List.{append-nil}
-use Rattle.std.proofs.lemmas.Grind.{flat_map-append}
-use Rattle.wild_words.specs.Words.{HasBytesAt}
-use Rattle.wild_words.proofs.ListLemmas.{flat_map-same, flat_map-flat_map}
-use Rattle.wild_words.proofs.Basics.{nil_if}
+use Rattle.wild_names.proofs.Common.{placed_files, ◌≡◌, ℕ, ◌%◌, ◌^◌, ◌<◌, Bool, true, if◌then◌else◌, List, [], ◌∷◌, ◌++◌, length, All, get_or, refl, sym, ap, ◌∙◌, arith, subst, Option, Some, None, append-nil, flat_map-append, HasBytesAt, flat_map-same, flat_map-flat_map, nil_if, File, Group, NeededVersion, VersionNeeds, Layout, offset_after_string, next_dynstr, is_prelude, needs_dynsym, needs_of, string, name_at, NeedsAreNamed, Need, offset_after_entry_names, file_content, content, IsLaidOut, table_bytes}
 use Rattle.wild_types.specs.declared.part.Role.TheVariants as role
-use Rattle.wild_types.specs.declared.file.File.{File}
-use Rattle.wild_types.specs.declared.file.Group.{Group}
-use Rattle.wild_types.specs.declared.file.NeededVersion.{NeededVersion}
-use Rattle.wild_types.specs.declared.file.VersionNeeds.{VersionNeeds}
-use Rattle.wild_types.specs.declared.layout.Layout.{Layout}
-use Rattle.wild_needs.specs.DynamicStrings.{offset_after_string, next_dynstr}
-use Rattle.wild_types.specs.FileRoles.{is_prelude}
-use Rattle.wild_types.specs.Kinds.{needs_dynsym}
-use Rattle.wild_needs.specs.Versions.{needed_names, needs_of}
-use Rattle.wild_table_formats.specs.Strings.{string}
-use Rattle.wild_table_formats.specs.VersionChain.{name_at}
-use Rattle.wild_names.specs.VersionNames.{NeedsAreNamed}
-use Rattle.wild_table_formats.specs.VersionLaws.{Need, needs_bytes}
-use Rattle.wild_table_formats.specs.VersionNames.{offset_after_entry_names, library_offset, need_offsets, need_at, need_of, needs_from, group_needs}
+use Rattle.wild_needs.specs.Versions.{needed_names}
+use Rattle.wild_table_formats.specs.VersionLaws.{needs_bytes}
+use Rattle.wild_table_formats.specs.VersionNames.{library_offset, need_offsets, need_at, need_of, needs_from, group_needs}
 use Rattle.wild_table_formats.specs.VersionNeeds.{need_bytes}
-use Rattle.wild_layout.specs.Content.{file_content, content}
-use Rattle.wild_layout.specs.Geometry.{IsLaidOut}
-use Rattle.wild_layout.specs.TablePlaces.{table_bytes}
 use Rattle.wild_names.specs.VersionLaws.{LibraryNeeds, needs_of_library, libraries_with_needs}
 use Rattle.wild_names.proofs.BesideLemmas.{Belong}
 use Rattle.wild_names.proofs.ImageLemmas.{none_joined}

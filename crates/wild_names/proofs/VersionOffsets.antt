@@ -1,11 +1,6 @@
 -- The offsets of names have 32 bits, as the records of versions tell them.
-use Rattle.std.proofs.Common.{ℕ, ◌%◌, ◌^◌, ◌<◌, List, [], ◌∷◌, All, Option, Some, None, arith}
-use Rattle.std.proofs.lemmas.List.Elements.{All-nil, All-cons}
-use Rattle.wild_types.specs.declared.file.File.{File}
-use Rattle.wild_types.specs.declared.layout.Layout.{Layout}
-use Rattle.wild_needs.specs.DynamicStrings.{offset_after_string, string_start}
-use Rattle.wild_needs.specs.Versions.{version_names}
-use Rattle.wild_table_formats.specs.VersionNames.{offsets_from, offset_after_entry_names, offset_after_search_path, with_soname_offset, definition_offsets}
+use Rattle.wild_names.proofs.Common.{ℕ, ◌%◌, ◌^◌, ◌<◌, List, [], ◌∷◌, All, Option, Some, None, arith, All-nil, All-cons, File, Layout, offset_after_string, string_start, version_names, offset_after_entry_names, definition_offsets}
+use Rattle.wild_table_formats.specs.VersionNames.{offsets_from, offset_after_search_path, with_soname_offset}
 
 pub offsets_small : (at : ℕ) (ts : List (List ℕ)) → All (λ x. x < 2 ^ 32) (offsets_from at ts)
 unfolding offsets_from

@@ -1,27 +1,10 @@
 -- The version of each dynamic symbol is read beside it.
-use Rattle.std.proofs.Common.{◌≡◌, ℕ, suc, ◌+◌, ◌*◌, ◌^◌, ◌<◌, Bool, true, false, if◌then◌else◌, List, [], ◌∷◌, length, map, drop, All, Some, slice_get, get_or, flat_map, refl, ap, ◌∙◌, arith, subst}
-use Rattle.std.proofs.lemmas.List.{length-append, length-map}
-use Rattle.std.proofs.lemmas.List.Elements.{All-cons, All-append, All-map, All-filter, All-take, All-drop, All-weaker}
-use Rattle.std.proofs.lemmas.Option.{get_or_from_slice_get, slice_get_within}
-use Rattle.wild_words.specs.Words.{HasBytesAt}
-use Rattle.wild_words.proofs.ListLemmas.{All-flat_map}
+use Rattle.wild_names.proofs.Common.{◌≡◌, ℕ, suc, ◌+◌, ◌*◌, ◌^◌, ◌<◌, Bool, true, false, if◌then◌else◌, List, [], ◌∷◌, length, map, drop, All, Some, slice_get, get_or, flat_map, refl, ap, ◌∙◌, arith, subst, length-append, length-map, All-cons, All-append, All-map, get_or_from_slice_get, slice_get_within, HasBytesAt, All-flat_map, FileRole, File, Layout, Symbol, range_of, undefined_symbols, is_undefined_entry, is_library, files_of, listed, undefined, version_of, exported_version, TablesStand, bytes, table_symbols}
+use Rattle.std.proofs.lemmas.List.Elements.{All-filter, All-take, All-drop, All-weaker}
 use Rattle.wild_records.specs.Versyms.{versym_at}
 use Rattle.wild_types.specs.declared.part.Role.TheVariants as role
-use Rattle.wild_types.specs.declared.file.FileRole.{FileRole}
-use Rattle.wild_types.specs.declared.file.File.{File}
-use Rattle.wild_types.specs.declared.layout.Layout.{Layout}
-use Rattle.wild_types.specs.declared.symbol.Symbol.{Symbol}
-use Rattle.wild_types.specs.FileSymbols.{range_of}
-use Rattle.wild_needs.specs.DynamicStrings.{undefined_symbols}
-use Rattle.wild_needs.specs.DynamicSymbols.{is_undefined_entry}
-use Rattle.wild_types.specs.FileRoles.{is_library}
-use Rattle.wild_types.specs.Lookups.{files_of}
-use Rattle.wild_table_formats.specs.DynamicEntries.{listed, undefined}
 use Rattle.wild_table_formats.specs.VersionLaws.{LengthsOfVersions, VersionsAreRead}
-use Rattle.wild_table_formats.specs.SymbolVersions.{version_bytes, version_of, exported_version}
-use Rattle.wild_layout.specs.Geometry.{TablesStand}
-use Rattle.wild_layout.specs.Image.{bytes}
-use Rattle.wild_names.specs.Laws.{table_symbols}
+use Rattle.wild_table_formats.specs.SymbolVersions.{version_bytes}
 use Rattle.wild_names.specs.VersionLaws.{VersionNumbersFit, VersionsAreWritten, table_versions}
 use Rattle.wild_names.proofs.VersionSymbols.{own, all_versions, version_table}
 

@@ -1,23 +1,9 @@
 -- The strings of the last file stand where the layout's last group tells.
-use Rattle.std.proofs.Common.{◌≡◌, ℕ, zero, suc, ◌+◌, ◌-◌, ◌^◌, ◌<◌, inl, inr, true, List, [], ◌∷◌, length, take, get_or, Option, Some, slice_get, flat_map, sym, ◌∙◌, arith, subst, refl}
-use Rattle.std.specs.List.{list_any}
-use Rattle.std.proofs.lemmas.Bool.{cases_Bool, eq-eqb}
-use Rattle.std.proofs.lemmas.Option.{same_Some, slice_get_cases}
-use Rattle.wild_words.specs.Words.{HasBytesAt}
-use Rattle.wild_words.proofs.RecordLemmas.{HasBytesAt-whole, HasBytesAt-front, HasBytesAt-after}
-use Rattle.wild_types.specs.declared.part.Role.{Role}
+use Rattle.wild_names.proofs.Common.{◌≡◌, ℕ, zero, suc, ◌+◌, ◌-◌, ◌^◌, ◌<◌, inl, inr, true, List, [], ◌∷◌, length, take, get_or, Option, Some, slice_get, flat_map, sym, ◌∙◌, arith, subst, refl, list_any, cases_Bool, eq-eqb, same_Some, HasBytesAt, HasBytesAt-whole, HasBytesAt-front, HasBytesAt-after, Role, File, Group, Layout, file_strings, next_dynstr, string_start, is_epilogue, needs_dynsym, total, length-string_bytes, content, IsLaidOut, table_bytes}
+use Rattle.std.proofs.lemmas.Option.{slice_get_cases}
 use Rattle.wild_types.specs.declared.part.Role.TheVariants as role
-use Rattle.wild_types.specs.declared.file.File.{File}
-use Rattle.wild_types.specs.declared.file.Group.{Group}
-use Rattle.wild_types.specs.declared.layout.Layout.{Layout}
-use Rattle.wild_needs.specs.DynamicStrings.{file_strings, next_dynstr, start_among, start_in, string_start}
-use Rattle.wild_types.specs.FileRoles.{is_epilogue}
-use Rattle.wild_types.specs.Kinds.{needs_dynsym}
-use Rattle.wild_types.specs.Lists.{total}
-use Rattle.wild_table_formats.proofs.StringLemmas.{length-string_bytes}
-use Rattle.wild_layout.specs.Content.{content}
-use Rattle.wild_layout.specs.Geometry.{IsLaidOut}
-use Rattle.wild_layout.specs.TablePlaces.{table_bytes, bytes_before}
+use Rattle.wild_needs.specs.DynamicStrings.{start_among, start_in}
+use Rattle.wild_layout.specs.TablePlaces.{bytes_before}
 use Rattle.wild_geometry.proofs.LastGroupLemmas.{has_last, has_last-group}
 use Rattle.wild_names.proofs.RunLemmas.{strings_of, group_gives, strings_are_short}
 

@@ -1,23 +1,8 @@
 -- The table of the versions of dynamic symbols: that of the null one, those of each file, and those of the list.
-use Rattle.wild_placement.specs.PlacedSections.{placed_files}
-use Rattle.wild_geometry.proofs.PlacedInputs.{placed_files_same}
-use Rattle.std.proofs.Common.{◌≡◌, ℕ, true, List, [], ◌∷◌, map, flat_map, refl, sym, ap, ◌∙◌}
-use Rattle.std.proofs.lemmas.List.{append-nil}
-use Rattle.wild_words.proofs.ListLemmas.{flat_map-same, flat_map-flat_map}
-use Rattle.wild_words.proofs.Basics.{nil_if}
+use Rattle.wild_names.proofs.Common.{placed_files, placed_files_same, ◌≡◌, ℕ, true, List, [], ◌∷◌, map, flat_map, refl, sym, ap, ◌∙◌, append-nil, flat_map-same, flat_map-flat_map, nil_if, File, Group, Layout, undefined_symbols, is_prelude, is_epilogue, needs_dynsym, files_of, version_of, exported_version, file_content, content, IsLaidOut, table_bytes}
 use Rattle.wild_types.specs.declared.part.Role.TheVariants as role
-use Rattle.wild_types.specs.declared.file.File.{File}
-use Rattle.wild_types.specs.declared.file.Group.{Group}
-use Rattle.wild_types.specs.declared.layout.Layout.{Layout}
-use Rattle.wild_needs.specs.DynamicStrings.{undefined_symbols}
-use Rattle.wild_types.specs.FileRoles.{is_prelude, is_epilogue}
-use Rattle.wild_types.specs.Kinds.{needs_dynsym}
-use Rattle.wild_types.specs.Lookups.{files_of}
 use Rattle.wild_table_formats.specs.VersionNames.{symbol_versions}
-use Rattle.wild_table_formats.specs.SymbolVersions.{spelled, version_bytes, version_of, exported_version, file_versions}
-use Rattle.wild_layout.specs.Content.{file_content, content}
-use Rattle.wild_layout.specs.Geometry.{IsLaidOut}
-use Rattle.wild_layout.specs.TablePlaces.{table_bytes}
+use Rattle.wild_table_formats.specs.SymbolVersions.{spelled, version_bytes, file_versions}
 use Rattle.wild_names.specs.VersionLaws.{table_versions}
 use Rattle.wild_names.proofs.ListOrder.{InOrder, all_in_order, last_defines_none}
 

@@ -1,21 +1,10 @@
 -- The numbers of relocations read for each section, after a change.
-use Rattle.std.proofs.Common.{◌≡◌, ℕ, zero, suc, ◌+◌, ◌-◌, ◌<◌, true, false, List, map, length, Option, Some, None, refl, sym, subst, ◌∙◌, arith, inl, inr}
-use Rattle.std.specs.Prelude.{◌==◌, ◌&&◌, not, slice_get}
-use Rattle.std.specs.List.{range_with_len}
-use Rattle.std.proofs.lemmas.Bool.{cases_Bool, eqb-true, eq-eqb, and_parts}
-use Rattle.wild_types.specs.declared.input.InputSection.{InputSection}
-use Rattle.wild_types.specs.declared.section.Section.{Section}
-use Rattle.wild_types.specs.declared.file.File.{File}
-use Rattle.wild_types.specs.declared.file.Group.{Group}
+use Rattle.wild_outlines.proofs.Common.{◌≡◌, ℕ, zero, suc, ◌+◌, ◌-◌, ◌<◌, true, false, List, map, length, Option, Some, None, refl, sym, subst, ◌∙◌, arith, inl, inr, ◌==◌, ◌&&◌, not, slice_get, range_with_len, cases_Bool, and_parts, InputSection, Section, File, Group, Layout, is_partial_link, total, Change, found_section, with_item, changed_section, changed_layout}
+use Rattle.std.proofs.lemmas.Bool.{eqb-true, eq-eqb}
 use Rattle.wild_types.specs.declared.part.Role.TheVariants as role
-use Rattle.wild_types.specs.declared.layout.Layout.{Layout}
 use Rattle.wild_types.specs.HeaderOnly.{is_omitted}
-use Rattle.wild_types.specs.Kinds.{is_partial_link}
-use Rattle.wild_types.specs.Lists.{total}
 use Rattle.wild_types.specs.Lookups.{is_counted, section_of, section_of_part, header_only}
 use Rattle.wild_types.specs.Parts.{part_with}
-use Rattle.wild_change.specs.declared.change.Change.{Change}
-use Rattle.wild_change.specs.Change.{found_section, with_item, changed_section, changed_layout}
 use Rattle.wild_layout.specs.Image.{counted, count_of, counts}
 use Rattle.wild_outlines.specs.ChangedLaws.{changed_counts}
 use Rattle.wild_outlines.proofs.ListLemmas.{map-same, total-same}

@@ -1,32 +1,17 @@
 -- The places and the lengths of a group's pieces: they are the same for the outline.
-use Rattle.std.proofs.Common.{◌≡◌, ℕ, ◌+◌, ◌-◌, ◌*◌, ◌/◌, Bool, true, false, List, [], ◌∷◌, ◌++◌, map, length, min, refl, sym, ap, ◌∙◌, arith, inl, inr}
-use Rattle.std.specs.Prelude.{◌==◌, ◌&&◌, not, if◌then◌else◌, slice_get, All}
-use Rattle.std.specs.List.{flat_map, range_with_len}
-use Rattle.std.proofs.lemmas.Bool.{cases_Bool}
-use Rattle.std.proofs.lemmas.List.{length-append, length-take, length-drop, length-replicate, map-append}
+use Rattle.wild_outlines.proofs.Common.{◌≡◌, ℕ, ◌+◌, ◌-◌, ◌*◌, ◌/◌, Bool, true, false, List, [], ◌∷◌, ◌++◌, map, length, min, refl, sym, ap, ◌∙◌, arith, inl, inr, ◌==◌, ◌&&◌, not, if◌then◌else◌, slice_get, All, flat_map, range_with_len, cases_Bool, length-replicate, map-append, Extent, InputSection, Slot, File, Group, Layout, Merged, is_partial_link, frames_of, kept_size, Input, address_after, unread, placed_frames_with, placed_by, placed_section, placed_sections, file_frames, placed_from, frames_at, placed_files, of_last_file, sorted_inputs, processed_sections, with_word_order, is_changeable, outline_section, outline_file, outline_group, outline, owned_pieces, extent_of}
+use Rattle.std.proofs.lemmas.List.{length-append, length-take, length-drop}
 use Rattle.std.proofs.lemmas.List.Elements.{All-head, All-tail}
 use Rattle.wild_words.proofs.ListLemmas.{All-append-left, All-append-right}
-use Rattle.wild_words.specs.declared.extents.Extent.{Extent}
-use Rattle.wild_types.specs.declared.input.InputSection.{InputSection}
-use Rattle.wild_types.specs.declared.input.Slot.{Slot}
 use Rattle.wild_types.specs.declared.input.Slot.TheVariants as slot
-use Rattle.wild_types.specs.declared.file.File.{File}
-use Rattle.wild_types.specs.declared.file.Group.{Group}
-use Rattle.wild_types.specs.declared.layout.Layout.{Layout}
-use Rattle.wild_types.specs.declared.layout.Merged.{Merged}
 use Rattle.wild_types.specs.declared.layout.Thunk.{Thunk}
 use Rattle.wild_types.specs.FileRoles.{is_epilogue}
 use Rattle.wild_types.specs.FileThunks.{thunk_size, thunks_of}
-use Rattle.wild_types.specs.Kinds.{is_partial_link}
 use Rattle.wild_types.specs.Lookups.{is_rela, has_range, has_counted, has_data, section_of, is_header_only_part, is_filled}
-use Rattle.wild_placement.specs.FrameInputs.{frames_of, kept_size}
-use Rattle.wild_placement.specs.PlacedSections.{Input, address_after, unread, placed_frames_with, placed_by, placed_section, placed_sections, placed_file, file_frames, placed_from, frames_at, placed_files, of_last_file, sorted_inputs, sorted_sections, processed_sections}
-use Rattle.wild_placement.specs.ReversedWords.{word_from_end, reversed_word_bytes, with_word_order}
-use Rattle.wild_change.specs.Change.{is_changeable}
-use Rattle.wild_change.specs.Outline.{outline_section, outline_file, outline_group, outline}
-use Rattle.wild_layout.specs.Image.{offset_in, section_piece, section_pieces, thunk_piece, thunk_pieces, thunk_offset, front_piece, of_first_file, sorted_piece, merged_bytes, merged_and_identity_pieces, file_pieces, owned_pieces}
+use Rattle.wild_placement.specs.PlacedSections.{placed_file, sorted_sections}
+use Rattle.wild_placement.specs.ReversedWords.{word_from_end, reversed_word_bytes}
+use Rattle.wild_layout.specs.Image.{offset_in, section_piece, section_pieces, thunk_piece, thunk_pieces, thunk_offset, front_piece, of_first_file, sorted_piece, merged_bytes, merged_and_identity_pieces, file_pieces}
 use Rattle.wild_layout.specs.SectionPlaces.{SectionLies}
-use Rattle.wild_layout.specs.Sites.{extent_of}
 use Rattle.wild_layout.proofs.ThunkLemmas.{length-thunk_bytes}
 use Rattle.wild_outlines.proofs.ListLemmas.{flat_map-same}
 use Rattle.wild_outlines.proofs.ChangedItems.{outline_section-fixed}

@@ -1,19 +1,7 @@
 -- Lists in which one item is replaced, and the outline of a changed layout.
-use Rattle.std.proofs.Common.{◌≡◌, ℕ, zero, suc, ◌+◌, ◌≤◌, ◌⊎◌, Bool, true, false, List, [], ◌∷◌, map, length, Option, Some, None, refl, sym, ap, ◌∙◌, arith, inl, inr}
-use Rattle.std.specs.Prelude.{if◌then◌else◌, option_and_then, slice_get}
-use Rattle.std.specs.List.{list_all}
-use Rattle.std.proofs.lemmas.Bool.{and_parts, and_from, cases_Bool}
-use Rattle.std.proofs.lemmas.List.{length-replicate}
-use Rattle.wild_types.specs.declared.input.InputSection.{InputSection}
-use Rattle.wild_types.specs.declared.file.File.{File}
-use Rattle.wild_types.specs.declared.file.Group.{Group}
-use Rattle.wild_types.specs.declared.layout.Layout.{Layout}
-use Rattle.wild_types.specs.Lists.{first_failing, total}
-use Rattle.wild_plan_rules.specs.Contents.{each_section}
-use Rattle.wild_change.specs.declared.change.Change.{Change}
-use Rattle.wild_change.specs.Change.{is_changeable, if_changeable, section_in_file, section_in_group, found_section, with_item, changed_section, changed_file, changed_group, changed_layout}
-use Rattle.wild_outlines.specs.RefusalLaws.{place_unless}
-use Rattle.wild_change.specs.Outline.{outline_section, outline_file, outline_group, outline}
+use Rattle.wild_outlines.proofs.Common.{◌≡◌, ℕ, zero, suc, ◌+◌, ◌≤◌, ◌⊎◌, Bool, true, false, List, [], ◌∷◌, map, length, Option, Some, None, refl, sym, ap, ◌∙◌, arith, inl, inr, if◌then◌else◌, option_and_then, slice_get, list_all, and_parts, cases_Bool, length-replicate, InputSection, File, Group, Layout, first_failing, total, each_section, Change, is_changeable, found_section, with_item, changed_section, changed_file, changed_group, changed_layout, place_unless, outline_section, outline_file, outline_group, outline}
+use Rattle.std.proofs.lemmas.Bool.{and_from}
+use Rattle.wild_change.specs.Change.{if_changeable, section_in_file, section_in_group}
 use Rattle.wild_outlines.proofs.ListLemmas.{some_same, and_true}
 
 -- ---- one item replaced

@@ -1,38 +1,20 @@
 -- The image and the faults of a changed layout.
-use Rattle.std.proofs.Common.{◌≡◌, ℕ, zero, suc, ◌+◌, Bool, true, false, List, [], ◌∷◌, ◌++◌, map, length, take, Some, Result, Ok, Err, refl, sym, ap, subst, ◌∙◌, arith, inl, inr}
-use Rattle.std.specs.Prelude.{◌==◌, if◌then◌else◌, All, slice_get}
-use Rattle.std.proofs.lemmas.Bool.{cases_Bool}
-use Rattle.std.proofs.lemmas.List.{map-append}
+use Rattle.wild_outlines.proofs.Common.{◌≡◌, ℕ, zero, suc, ◌+◌, Bool, true, false, List, [], ◌∷◌, ◌++◌, map, length, take, Some, Result, Ok, Err, refl, sym, ap, subst, ◌∙◌, arith, inl, inr, ◌==◌, if◌then◌else◌, All, slice_get, cases_Bool, map-append, Extent, Clause, InputSection, File, Group, Part, Role, Layout, given, total, image_size, has_role, placed_files, processed_sections, Change, with_item, changed_group, changed_layout, outline, flat_map_from, part_errors, group_errors, owned_pieces, group_pieces, padding, extent_of}
 use Rattle.std.proofs.lemmas.Option.{slice_get_within, get_or_from_slice_get}
-use Rattle.wild_words.specs.declared.extents.Extent.{Extent}
 use Rattle.wild_words.specs.Overlay.{Piece, overlay, AreDisjoint}
 use Rattle.wild_words.proofs.Basics.{flat_map-none}
 use Rattle.wild_words.proofs.ListLemmas.{nil_parts, holds_at}
-use Rattle.wild_types.specs.declared.fault.Clause.{Clause}
-use Rattle.wild_types.specs.declared.input.InputSection.{InputSection}
-use Rattle.wild_types.specs.declared.file.File.{File}
-use Rattle.wild_types.specs.declared.file.Group.{Group}
-use Rattle.wild_types.specs.declared.part.Part.{Part}
-use Rattle.wild_types.specs.declared.part.Role.{Role}
 use Rattle.wild_types.specs.declared.part.Role.TheVariants as role
-use Rattle.wild_types.specs.declared.layout.Layout.{Layout}
-use Rattle.wild_types.specs.FilePlaces.{given}
 use Rattle.wild_types.specs.FileRoles.{is_prelude}
-use Rattle.wild_types.specs.Lists.{total}
-use Rattle.wild_types.specs.Lookups.{is_header_only_at, image_size}
-use Rattle.wild_types.specs.Parts.{role_place, has_role}
-use Rattle.wild_placement.specs.PlacedSections.{placed_files, processed_sections}
-use Rattle.wild_change.specs.declared.change.Change.{Change}
-use Rattle.wild_change.specs.Change.{with_item, changed_group, changed_layout}
-use Rattle.wild_change.specs.Outline.{outline}
+use Rattle.wild_types.specs.Lookups.{is_header_only_at}
+use Rattle.wild_types.specs.Parts.{role_place}
 use Rattle.wild_plan_rules.specs.WellFormed.{first_clause}
 use Rattle.wild_layout.specs.Content.{content, file_content, unique_table}
 use Rattle.wild_layout.specs.SlotBytes.{header_bytes}
-use Rattle.wild_layout.specs.Faults.{flat_map_from, clause_errors, part_errors, group_errors, errors}
+use Rattle.wild_layout.specs.Faults.{clause_errors, errors}
 use Rattle.wild_layout.specs.Geometry.{IsLaidOut}
-use Rattle.wild_layout.specs.Image.{some_piece, shares_before, table_piece, table_pieces, owned_pieces, group_pieces, pieces, padding, bytes}
+use Rattle.wild_layout.specs.Image.{some_piece, shares_before, table_piece, table_pieces, pieces, bytes}
 use Rattle.wild_layout.specs.SectionPlaces.{SectionLies, PartLies}
-use Rattle.wild_layout.specs.Sites.{extent_of}
 use Rattle.wild_outlines.proofs.ChangedItems.{slice_get-with_item, FoundSection, outline_group-changed, same_by_outline}
 use Rattle.wild_outlines.proofs.ClausesTests.{image_size-outline, is_header_only_at-outline}
 use Rattle.wild_outlines.proofs.SharesLemmas.{same_by_groups}

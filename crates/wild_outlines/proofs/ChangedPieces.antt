@@ -1,21 +1,16 @@
 -- Pieces over bytes, where some are replaced by pieces of the same places and lengths.
-use Rattle.std.proofs.Common.{◌≡◌, ℕ, zero, suc, ◌+◌, ◌-◌, ◌<◌, ◌≤◌, ◌⊎◌, inl, inr, List, [], ◌∷◌, ◌++◌, map, length, get_or, refl, sym, ap, subst, ◌∙◌, arith}
-use Rattle.std.specs.Prelude.{Some, slice_get}
+use Rattle.wild_outlines.proofs.Common.{◌≡◌, ℕ, zero, suc, ◌+◌, ◌-◌, ◌<◌, ◌≤◌, ◌⊎◌, inl, inr, List, [], ◌∷◌, ◌++◌, map, length, get_or, refl, sym, ap, subst, ◌∙◌, arith, Some, slice_get, Extent, with_item, flat_map_from, extent_of}
 use Rattle.std.specs.List.Sorted.{IsPermutation}
 use Rattle.std.proofs.lemmas.Bool.{cases_lt}
 use Rattle.std.proofs.lemmas.List.{append_assoc, append-nil, ext_get_or}
 use Rattle.std.proofs.lemmas.List.Kept.{AllPairs-cons}
 use Rattle.std.proofs.lemmas.List.Elements.{All-cons}
 use Rattle.std.proofs.lemmas.List.Sorted.{IsPermutation-append_right, IsPermutation-append_comm}
-use Rattle.wild_words.specs.declared.extents.Extent.{Extent}
 use Rattle.wild_words.specs.Overlay.{Piece, overlay, Disjoint, AreDisjoint}
 use Rattle.wild_words.specs.Words.{place}
 use Rattle.wild_words.proofs.ListLemmas.{AllPairs-head, AllPairs-tail, AllPairs-left, AllPairs-right, nil_parts, All-append-left, All-append-right}
 use Rattle.wild_words.proofs.OverlayLemmas.{length-place, place-below, place-inside, place-above, AreDisjoint-rest, length-overlay, overlay_push}
 use Rattle.wild_words.proofs.OrderLemmas.{apart_moved, overlay-moved}
-use Rattle.wild_change.specs.Change.{with_item}
-use Rattle.wild_layout.specs.Faults.{flat_map_from}
-use Rattle.wild_layout.specs.Sites.{extent_of}
 use Rattle.wild_outlines.proofs.ListLemmas.{some_same}
 
 -- ---- one piece over another

@@ -1,33 +1,18 @@
 -- The clauses that read the relocations of a section, after a change that keeps its length: the first test that fails.
-use Rattle.std.proofs.Common.{◌≡◌, ℕ, ◌+◌, ◌-◌, ◌^◌, Bool, true, false, List, [], ◌∷◌, length, Option, Some, None, Result, Ok, Err, refl, sym, ap, ◌∙◌, arith, inl, inr, ◌*◌, ◌≤◌}
-use Rattle.std.specs.Prelude.{◌==◌, ◌&&◌, ◌||◌, not, nat_lt, nat_le, slice_get, is_none}
-use Rattle.std.specs.List.{list_all, list_any}
-use Rattle.std.proofs.lemmas.Bool.{and_parts, and_from, or_left, or_right, cases_Bool, eqb-true}
-use Rattle.wild_types.specs.declared.fault.Clause.{Clause}
-use Rattle.wild_types.specs.declared.input.InputRelocation.{InputRelocation}
-use Rattle.wild_types.specs.declared.input.InputSection.{InputSection}
-use Rattle.wild_types.specs.declared.file.File.{File}
-use Rattle.wild_types.specs.declared.file.Group.{Group}
-use Rattle.wild_types.specs.declared.part.Role.{Role}
+use Rattle.wild_outlines.proofs.Common.{◌≡◌, ℕ, ◌+◌, ◌-◌, ◌^◌, Bool, true, false, List, [], ◌∷◌, length, Option, Some, None, Result, Ok, Err, refl, sym, ap, ◌∙◌, arith, inl, inr, ◌*◌, ◌≤◌, ◌==◌, ◌&&◌, ◌||◌, not, nat_lt, nat_le, slice_get, is_none, list_all, list_any, and_parts, cases_Bool, Clause, InputRelocation, InputSection, File, Group, Role, Layout, is_partial_link, first_failing, files_of, is_frame, has_role, placed_section, Change, found_section, changed_section, changed_file, changed_group, changed_layout, outline, each_section, written_section, KeepsCounts, place_unless}
+use Rattle.std.proofs.lemmas.Bool.{and_from, or_left, or_right, eqb-true}
 use Rattle.wild_types.specs.declared.part.Role.TheVariants as role
-use Rattle.wild_types.specs.declared.layout.Layout.{Layout}
-use Rattle.wild_types.specs.Kinds.{is_partial_link}
-use Rattle.wild_types.specs.Lists.{first_failing, unless}
-use Rattle.wild_types.specs.Lookups.{files_of, is_rela, is_frame}
-use Rattle.wild_types.specs.Parts.{has_role}
+use Rattle.wild_types.specs.Lists.{unless}
+use Rattle.wild_types.specs.Lookups.{is_rela}
 use Rattle.wild_types.specs.FileSymbols.{first_double_copy}
-use Rattle.wild_placement.specs.PlacedSections.{placed_section}
 use Rattle.wild_needs.specs.Needs.{name_bytes, group_share, total_share}
 use Rattle.wild_needs.specs.DynamicSymbols.{dynamic_symbols}
 use Rattle.wild_needs.specs.Versions.{need_count, versions_needed, versions_fit}
-use Rattle.wild_change.specs.declared.change.Change.{Change}
-use Rattle.wild_change.specs.Change.{found_section, changed_section, changed_file, changed_group, changed_layout}
-use Rattle.wild_change.specs.Outline.{outline}
 use Rattle.wild_plan_rules.specs.ClauseTests.{fails, first_error, check_counts, check_roles, check_indexes, check_fields, check_reversed, check_partial}
 use Rattle.wild_plan_rules.specs.Places.{ends_low, relocation_count, roles, repeated_role, role_not_at, role_missing, program_headers_astray, unexpected_dynamic}
 use Rattle.wild_plan_rules.specs.LoadedTables.{entries_follow}
 use Rattle.wild_plan_rules.specs.Counts.{lists_fit, table_fits, counts_fit, role_has_needed_part}
-use Rattle.wild_plan_rules.specs.Contents.{each_section, field_lies, fields_lie, is_read_well, relocations_are_read}
+use Rattle.wild_plan_rules.specs.Contents.{field_lies, fields_lie, is_read_well, relocations_are_read}
 use Rattle.wild_plan_rules.specs.Fronts.{reversed_fits}
 use Rattle.wild_plan_rules.specs.Indexes.{part_index_fits, primary_is_there, symbol_misfit, listed_misfit, thunks_are_there, merged_is_there, identity_is_there, entry_is_there, symbol_is_there, block_is_there, header_is_there, relocation_index_fits, section_indexes_fit, index_fits, file_indexes_fit, group_indexes_fit, sorted_is_there, definition_is_own, range_out_of_order}
 use Rattle.wild_plan_rules.specs.Partial.{has_no_segments, has_no_slot, has_no_pair, has_no_thunks, lists_no_symbols, has_no_index, is_no_debug, is_of_kind, is_group, has_entries, table_fits as rela_fits, file_tables_fit, tables_fit, group_fits_members, table_has_data}
@@ -35,8 +20,8 @@ use Rattle.wild_plan_rules.proofs.ClauseLemmas.{None-from_fails, test_holds, fir
 use Rattle.wild_plan_rules.specs.VersionTables.{parent_is_there}
 use Rattle.wild_plan_rules.specs.ZeroFree.{input_name_fits}
 use Rattle.wild_clauses.specs.FileTests.{passes_all, relocation_passes, headers_are_there, section_passes}
-use Rattle.wild_outlines.specs.MayChange.{written_section, KeepsCounts, file_at}
-use Rattle.wild_outlines.specs.RefusalLaws.{place_unless, entry_room, needs_no_part}
+use Rattle.wild_outlines.specs.MayChange.{file_at}
+use Rattle.wild_outlines.specs.RefusalLaws.{entry_room, needs_no_part}
 use Rattle.wild_outlines.proofs.ChangedItems.{length-with_item, slice_get-with_item, sum_replaced, list_all-at, list_all-replaced, failing-first, total-at, all_pass, none_fails, FoundSection, FoundSection-from_found, outline_file-changed, outline-found, outline-changed, same_by_outline, section_replaced}
 use Rattle.wild_outlines.proofs.ClausesTests.{failing-same, entry_is_there-outline, definition_is_own-outline}
 use Rattle.wild_outlines.proofs.ClausesGroups.{failing_sections-outline, symbol_misfit-outline, sorted_is_there-outline, first_double_copy-outline, range_out_of_order-outline, dynamic_symbols-outline, need_count-outline, versions_needed-outline}

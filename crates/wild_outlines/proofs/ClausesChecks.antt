@@ -1,17 +1,9 @@
 -- The clauses that read neither the bytes nor the relocations of a section that may be changed: they are the same for the outline.
-use Rattle.std.proofs.Common.{◌≡◌, true, length, Option, Some, None, refl, ap}
-use Rattle.std.specs.Prelude.{◌==◌, slice_get}
-use Rattle.wild_types.specs.declared.input.InputSection.{InputSection}
-use Rattle.wild_types.specs.declared.file.File.{File}
-use Rattle.wild_types.specs.declared.file.Group.{Group}
-use Rattle.wild_types.specs.declared.layout.Merged.{Merged}
-use Rattle.wild_types.specs.declared.layout.GnuHash.{GnuHash}
-use Rattle.wild_types.specs.declared.layout.Layout.{Layout}
+use Rattle.wild_outlines.proofs.Common.{◌≡◌, true, length, Option, Some, None, refl, ap, ◌==◌, slice_get, InputSection, File, Group, Merged, GnuHash, Layout, outline_section, outline_file, outline_group, outline}
 use Rattle.wild_types.specs.Parts.{part_with}
 use Rattle.wild_types.specs.declared.part.Role.TheVariants as role
 use Rattle.wild_needs.specs.HashShapes.{gnu_fits}
 use Rattle.wild_needs.specs.DynamicSymbols.{first_listed}
-use Rattle.wild_change.specs.Outline.{outline_section, outline_file, outline_group, outline}
 use Rattle.wild_plan_rules.specs.ClauseTests.{check_sizes, check_order, check_sections, check_entries, check_segments, check_shares, check_inputs, check_slots, check_thunks, check_dynsyms, check_slot_flags, check_tls, check_starts, check_hashes, check_versions, check_names, check_fronts}
 use Rattle.wild_plan_rules.specs.Places.{ends_low, part_lies}
 use Rattle.wild_plan_rules.specs.LoadedTables.{table_is_loaded}

@@ -1,32 +1,18 @@
 -- Tests of clauses on groups, files and input sections: they are the same for the outline.
-use Rattle.std.proofs.Common.{◌≡◌, ℕ, suc, ◌+◌, ◌-◌, Bool, true, false, List, [], ◌∷◌, ◌++◌, map, length, Option, Some, None, refl, sym, ap, ◌∙◌}
-use Rattle.std.specs.Prelude.{◌==◌, ◌&&◌, not, if◌then◌else◌, nat_le, nat_lt, is_some, option_map, option_and_then, slice_get}
-use Rattle.std.specs.List.{flat_map, filter, list_all, list_any}
-use Rattle.std.proofs.lemmas.List.{length-map}
-use Rattle.std.proofs.lemmas.Option.{slice_get-map}
-use Rattle.wild_types.specs.declared.input.InputSection.{InputSection}
-use Rattle.wild_types.specs.declared.input.Slot.{Slot}
+use Rattle.wild_outlines.proofs.Common.{◌≡◌, ℕ, suc, ◌+◌, ◌-◌, Bool, true, false, List, [], ◌∷◌, ◌++◌, map, length, Option, Some, None, refl, sym, ap, ◌∙◌, ◌==◌, ◌&&◌, not, if◌then◌else◌, nat_le, nat_lt, is_some, option_map, option_and_then, slice_get, flat_map, list_all, list_any, length-map, slice_get-map, InputSection, Slot, File, Group, Part, Place, Symbol, SortedSection, Layout, first_failing, total, files_of, file_of, given, Input, sorted_input, sorted_inputs, of_last_file, output_section, is_changeable, outline_section, outline_file, outline_group, outline, each_section}
+use Rattle.std.specs.List.{filter}
 use Rattle.wild_types.specs.declared.input.Slot.TheVariants as slot
-use Rattle.wild_types.specs.declared.file.File.{File}
-use Rattle.wild_types.specs.declared.file.Group.{Group}
-use Rattle.wild_types.specs.declared.part.Part.{Part}
-use Rattle.wild_types.specs.declared.symbol.Place.{Place}
 use Rattle.wild_types.specs.declared.symbol.Place.TheVariants as at
-use Rattle.wild_types.specs.declared.symbol.Symbol.{Symbol}
 use Rattle.wild_types.specs.declared.layout.DynamicSymbol.{DynamicSymbol}
-use Rattle.wild_types.specs.declared.layout.SortedSection.{SortedSection}
-use Rattle.wild_types.specs.declared.layout.Layout.{Layout}
-use Rattle.wild_types.specs.Lists.{first_failing, total, through}
-use Rattle.wild_types.specs.Lookups.{canonical, files_of, file_of}
-use Rattle.wild_types.specs.FilePlaces.{given, later_positions_fit, group_positions_fit, first_misplaced_file}
+use Rattle.wild_types.specs.Lists.{through}
+use Rattle.wild_types.specs.Lookups.{canonical}
+use Rattle.wild_types.specs.FilePlaces.{later_positions_fit, group_positions_fit, first_misplaced_file}
 use Rattle.wild_types.specs.FileSymbols.{copied_definitions, first_double_copy}
-use Rattle.wild_placement.specs.PlacedSections.{Input, files_at, sorted_by, sorted_in_file, sorted_in_group, sorted_input, sorted_inputs, of_last_file}
-use Rattle.wild_needs.specs.DynamicSymbols.{undefined_entries, undefined_in, dynamic_symbols, input_of, section_of_input, output_section, symbol_listed_fits, first_misplaced_listed, first_listed}
+use Rattle.wild_placement.specs.PlacedSections.{files_at, sorted_by, sorted_in_file, sorted_in_group}
+use Rattle.wild_needs.specs.DynamicSymbols.{undefined_entries, undefined_in, dynamic_symbols, input_of, section_of_input, symbol_listed_fits, first_misplaced_listed, first_listed}
 use Rattle.wild_needs.specs.Versions.{has_needs, file_versions}
-use Rattle.wild_change.specs.Change.{is_changeable}
-use Rattle.wild_change.specs.Outline.{outline_section, outline_file, outline_group, outline}
 use Rattle.wild_plan_rules.specs.MisplacedSections.{all_placed, group_or, entry_group, own_all_placed, owner_in_part, owner_in_parts, misplaced_owner, misplaced_place}
-use Rattle.wild_plan_rules.specs.Contents.{addresses, each_section, share_mismatch, ends_of, placed_in, file_placed_in, part_placed, parts_placed, section_misplaced, sections_named_once, files_named_once, sorted_named_once, names_sorted, leaves_front, file_leaves_front, group_leaves_front, front_is_free}
+use Rattle.wild_plan_rules.specs.Contents.{addresses, share_mismatch, ends_of, placed_in, file_placed_in, part_placed, parts_placed, section_misplaced, sections_named_once, files_named_once, sorted_named_once, names_sorted, leaves_front, file_leaves_front, group_leaves_front, front_is_free}
 use Rattle.wild_plan_rules.specs.Thunks.{sections_in_ranges}
 use Rattle.wild_plan_rules.specs.Indexes.{section_count, symbol_misfit, section_is_there, file_is_there, sorted_is_there, range_follows, or_place, range_out_of_order}
 use Rattle.wild_plan_rules.specs.GroupStarts.{group_share_at, starts_after_group, start_astray}

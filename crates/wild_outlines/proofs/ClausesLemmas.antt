@@ -1,20 +1,13 @@
 -- All clauses, after a change that keeps the length of its section.
-use Rattle.std.proofs.Common.{◌≡◌, ◌-◌, ◌^◌, true, Result, Ok, Err, refl, ◌∙◌, arith}
-use Rattle.std.specs.Prelude.{nat_lt}
+use Rattle.wild_outlines.proofs.Common.{◌≡◌, ◌-◌, ◌^◌, true, Result, Ok, Err, refl, ◌∙◌, arith, nat_lt, Clause, InputSection, Layout, Change, changed_section, changed_file, changed_layout, outline, place_unless}
 use Rattle.std.proofs.lemmas.Bool.{lt-ltb}
-use Rattle.wild_types.specs.declared.fault.Clause.{Clause}
-use Rattle.wild_types.specs.declared.input.InputSection.{InputSection}
-use Rattle.wild_types.specs.declared.layout.Layout.{Layout}
-use Rattle.wild_change.specs.declared.change.Change.{Change}
-use Rattle.wild_change.specs.Change.{changed_section, changed_file, changed_layout}
-use Rattle.wild_change.specs.Outline.{outline}
 use Rattle.wild_plan_rules.specs.ClauseTests.{fails, first_error, check_sizes, check_counts, check_order, check_roles, check_sections, check_segments, check_shares, check_inputs, check_indexes, check_fields, check_slots, check_thunks, check_dynsyms, check_slot_flags, check_tls, check_starts, check_hashes, check_versions, check_names, check_reversed, check_partial, check_fronts}
 use Rattle.wild_plan_rules.specs.Contents.{fields_lie, relocations_are_read}
 use Rattle.wild_plan_rules.specs.Places.{relocation_count}
 use Rattle.wild_plan_rules.specs.WellFormed.{first_clause}
 use Rattle.wild_plan_rules.proofs.ClauseLemmas.{first_holds, rest_holds}
 use Rattle.wild_outlines.specs.MayChange.{MayChange}
-use Rattle.wild_outlines.specs.RefusalLaws.{place_unless, changed_clause}
+use Rattle.wild_outlines.specs.RefusalLaws.{changed_clause}
 use Rattle.wild_outlines.proofs.ChangedItems.{FoundSection, same_by_outline}
 use Rattle.wild_outlines.proofs.ClausesChecks.{check_sizes-outline, check_order-outline, check_sections-outline, check_segments-outline, check_shares-outline, check_inputs-outline, check_slots-outline, check_thunks-outline, check_dynsyms-outline, check_slot_flags-outline, check_tls-outline, check_starts-outline, check_hashes-outline, check_versions-outline, check_names-outline, check_fronts-outline}
 use Rattle.wild_outlines.proofs.ClausesChanged.{SectionTests-from_passes, Changed, Changed-from_found, relocation_count-changed, check_counts-changed, check_roles-changed, roles_changed, check_indexes-changed, check_fields-changed, check_reversed-changed, check_partial-changed, file_found, tables_changed}

@@ -1,23 +1,12 @@
 -- Clauses 11 and 12: the places of slots, stubs and thunks are the same for the outline.
-use Rattle.std.proofs.Common.{◌≡◌, ℕ, ◌+◌, List, [], ◌∷◌, ◌++◌, map, Option, Some, None, Result, Ok, Err, refl, ap, ◌∙◌}
-use Rattle.std.specs.Prelude.{if◌then◌else◌, slice_get}
-use Rattle.std.specs.List.{list_any}
-use Rattle.wild_types.specs.declared.input.InputSection.{InputSection}
-use Rattle.wild_types.specs.declared.file.File.{File}
-use Rattle.wild_types.specs.declared.file.Group.{Group}
-use Rattle.wild_types.specs.declared.part.Part.{Part}
+use Rattle.wild_outlines.proofs.Common.{◌≡◌, ℕ, ◌+◌, List, [], ◌∷◌, ◌++◌, map, Option, Some, None, Result, Ok, Err, refl, ap, ◌∙◌, if◌then◌else◌, slice_get, list_any, InputSection, File, Group, Part, Symbol, Layout, given, sorted_inputs, of_last_file, Input, outline_section, outline_file, outline_group, outline}
 use Rattle.wild_types.specs.declared.symbol.Resolution.{Resolution}
-use Rattle.wild_types.specs.declared.symbol.Symbol.{Symbol}
 use Rattle.wild_types.specs.declared.layout.Thunk.{Thunk}
-use Rattle.wild_types.specs.declared.layout.Layout.{Layout}
-use Rattle.wild_types.specs.FilePlaces.{given}
 use Rattle.wild_types.specs.FileSymbols.{own_symbols}
 use Rattle.wild_types.specs.FileThunks.{thunks_of}
-use Rattle.wild_placement.specs.PlacedSections.{sorted_inputs, of_last_file, Input}
 use Rattle.wild_slot.specs.MachineStub.{far_between}
 use Rattle.wild_slot.specs.Slots.{setting_of, slot}
 use Rattle.wild_slot.specs.SymbolWords.{resolved_slots, slots_of}
-use Rattle.wild_change.specs.Outline.{outline_section, outline_file, outline_group, outline}
 use Rattle.wild_plan_rules.specs.declared.slot_places.SlotCursor.{SlotCursor}
 use Rattle.wild_plan_rules.specs.SlotPlaces.{first_free, and_then, walk, symbol_step, file_step, group_step, last_astray, slots_astray}
 use Rattle.wild_plan_rules.specs.Thunks as thunks

@@ -1,17 +1,9 @@
 -- The tests by which a change may be made.
-use Rattle.std.proofs.Common.{◌≡◌, Some, true, refl, sym, subst, ◌∙◌}
-use Rattle.wild_types.specs.declared.input.InputSection.{InputSection}
-use Rattle.wild_types.specs.declared.file.File.{File}
-use Rattle.wild_types.specs.declared.part.Role.{Role}
+use Rattle.wild_outlines.proofs.Common.{◌≡◌, Some, true, refl, sym, subst, ◌∙◌, InputSection, File, Role, Layout, placed_section, Change, found_section, changed_section, changed_file, changed_layout, outline_file, written_section}
 use Rattle.wild_types.specs.declared.part.Role.TheVariants as role
-use Rattle.wild_types.specs.declared.layout.Layout.{Layout}
-use Rattle.wild_placement.specs.PlacedSections.{placed_section}
 use Rattle.wild_plan_rules.specs.Partial.{file_tables_fit}
 use Rattle.wild_clauses.specs.FileTests.{relocation_passes, section_passes}
-use Rattle.wild_change.specs.declared.change.Change.{Change}
-use Rattle.wild_change.specs.Change.{found_section, changed_section, changed_file, changed_layout}
-use Rattle.wild_change.specs.Outline.{outline_file}
-use Rattle.wild_outlines.specs.MayChange.{written_section, MayChange, file_at}
+use Rattle.wild_outlines.specs.MayChange.{MayChange, file_at}
 use Rattle.wild_outlines.specs.ClauseLaws.{PassesTests}
 use Rattle.wild_outlines.proofs.ChangedItems.{FoundSection, FoundSection-from_found, outline_file-changed, outline-changed}
 use Rattle.wild_outlines.proofs.ClausesChanged.{file_found}

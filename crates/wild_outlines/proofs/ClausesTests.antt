@@ -1,20 +1,11 @@
 -- Tests of clauses that read no group: they are the same for the outline.
-use Rattle.std.proofs.Common.{◌≡◌, ℕ, ◌+◌, Bool, false, List, [], ◌∷◌, Option, Some, None, refl, ap}
-use Rattle.std.specs.Prelude.{◌==◌, ◌&&◌, ◌||◌, not, max, slice_get, drop}
-use Rattle.wild_types.specs.declared.layout.Layout.{Layout}
-use Rattle.wild_types.specs.declared.layout.Merged.{Merged}
+use Rattle.wild_outlines.proofs.Common.{◌≡◌, ℕ, ◌+◌, Bool, false, List, [], ◌∷◌, Option, Some, None, refl, ap, ◌==◌, ◌&&◌, ◌||◌, not, max, slice_get, drop, Layout, Merged, Part, Section, Place, Symbol, first_failing, image_size, outline}
 use Rattle.wild_types.specs.declared.layout.Entry.{Entry}
 use Rattle.wild_types.specs.declared.layout.Entry.TheVariants as entry
-use Rattle.wild_types.specs.declared.part.Part.{Part}
-use Rattle.wild_types.specs.declared.section.Section.{Section}
 use Rattle.wild_types.specs.declared.section.Segment.{Segment}
-use Rattle.wild_types.specs.declared.symbol.Place.{Place}
 use Rattle.wild_types.specs.declared.symbol.Place.TheVariants as at
-use Rattle.wild_types.specs.declared.symbol.Symbol.{Symbol}
 use Rattle.wild_types.specs.Kinds.{needs_dynamic}
-use Rattle.wild_types.specs.Lists.{first_failing}
-use Rattle.wild_types.specs.Lookups.{header_only, is_header_only_at, parts_end, sections_end, image_size, file_end, fills_file}
-use Rattle.wild_change.specs.Outline.{outline}
+use Rattle.wild_types.specs.Lookups.{header_only, is_header_only_at, parts_end, sections_end, file_end, fills_file}
 use Rattle.wild_plan_rules.specs.Places.{part_out_of_order, lies_by, part_lies}
 use Rattle.wild_plan_rules.specs.Segments.{is_segment_of, dynamic_astray}
 use Rattle.wild_plan_rules.specs.LoadedTables.{is_read_from_one_segment, carries_rest, carries_table, rest_of_table, table_is_loaded}

@@ -1,19 +1,9 @@
 -- Dynamic symbols and their versions in an outline.
-use Rattle.std.proofs.Common.{◌≡◌, ℕ, List, [], ◌∷◌, Option, Some, None, option_map, refl, ap, ◌∙◌}
-use std.Path.{fun_ext}
-use Rattle.wild_types.specs.declared.file.File.{File}
-use Rattle.wild_types.specs.declared.file.Group.{Group}
-use Rattle.wild_types.specs.declared.layout.Layout.{Layout}
-use Rattle.wild_types.specs.declared.symbol.Place.{Place}
-use Rattle.wild_types.specs.declared.symbol.Symbol.{Symbol}
-use Rattle.wild_types.specs.Lookups.{files_of, file_of}
+use Rattle.wild_outlines.proofs.Common.{◌≡◌, ℕ, List, [], ◌∷◌, Option, Some, None, option_map, refl, ap, ◌∙◌, fun_ext, File, Group, Layout, Place, Symbol, files_of, file_of, output_section, next_dynstr, outline_file, outline}
 use Rattle.wild_types.specs.declared.symbol.Place.TheVariants as at
-use Rattle.wild_needs.specs.DynamicSymbols.{output_section}
-use Rattle.wild_needs.specs.DynamicStrings.{next_dynstr}
 use Rattle.wild_table_formats.specs.DynamicEntries.{entries_from, group_symbols, listed, listed_of}
 use Rattle.wild_table_formats.specs.DynamicFields.{exported_symbol_fields, fields_at, role_of, exported_fields_in}
 use Rattle.wild_table_formats.specs.VersionNames.{definition_offsets, file_definitions, group_needs, needs_from}
-use Rattle.wild_change.specs.Outline.{outline_file, outline}
 use Rattle.wild_outlines.proofs.ClausesGroups.{file_of-layout, output_section-outline}
 use Rattle.wild_outlines.proofs.ContentNeeds.{dynstr_prefix_strings-outline, file_strings-same_file}
 use Rattle.wild_outlines.proofs.SharesTables.{string_start-outline}

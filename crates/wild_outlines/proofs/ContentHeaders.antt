@@ -1,12 +1,9 @@
 -- The headers of an outline.
-use Rattle.std.proofs.Common.{◌≡◌, ℕ, ◌+◌, List, [], ◌∷◌, length, refl, ap}
-use Rattle.wild_types.specs.declared.layout.Layout.{Layout}
-use Rattle.wild_types.specs.declared.section.Section.{Section}
+use Rattle.wild_outlines.proofs.Common.{◌≡◌, ℕ, ◌+◌, List, [], ◌∷◌, length, refl, ap, Layout, Section, outline}
 use Rattle.wild_types.specs.declared.section.Segment.{Segment}
 use Rattle.wild_needs.specs.EntryPoint.{EntryPoint}
 use Rattle.wild_table_formats.specs.Headers.{computed_infos, file_header, headers_from, null_header, program_header, section_header, section_headers_of}
 use Rattle.wild_table_formats.specs.declared.section_info.ComputedInfo.{ComputedInfo}
-use Rattle.wild_change.specs.Outline.{outline}
 use Rattle.wild_outlines.proofs.ClausesGroups.{need_count-outline}
 use Rattle.wild_outlines.proofs.ContentNeeds.{entry_point-outline}
 

@@ -1,19 +1,13 @@
 -- Strings, symbols, words and dynamic entries that the parts of an outline need.
-use Rattle.std.proofs.Common.{◌≡◌, ℕ, List, [], ◌∷◌, map, Option, Some, None, refl}
-use std.Path.{fun_ext}
-use Rattle.wild_types.specs.declared.file.File.{File}
-use Rattle.wild_types.specs.declared.file.Group.{Group}
+use Rattle.wild_outlines.proofs.Common.{◌≡◌, ℕ, List, [], ◌∷◌, map, Option, Some, None, refl, fun_ext, File, Group, Layout, FileRole, next_dynstr, file_items, outline_file, outline_group, outline}
 use Rattle.wild_types.specs.declared.layout.Entry.{Entry}
-use Rattle.wild_types.specs.declared.layout.Layout.{Layout}
-use Rattle.wild_types.specs.declared.file.FileRole.{FileRole}
 use Rattle.wild_types.specs.declared.layout.Entry.TheVariants as entry
 use Rattle.wild_types.specs.declared.file.FileRole.TheVariants as file_role
 use Rattle.wild_slot.specs.declared.slot_parts.WordPart.{WordPart}
-use Rattle.wild_needs.specs.DynamicStrings.{dynstr_prefix_strings, file_strings, named_strings, needed_entries, needed_from, next_dynstr}
+use Rattle.wild_needs.specs.DynamicStrings.{dynstr_prefix_strings, file_strings, named_strings, needed_entries, needed_from}
 use Rattle.wild_needs.specs.EntryPoint.{entry_at, entry_by, entry_point, text_start}
 use Rattle.wild_needs.specs.SlotShares.{group_relr_got, words_in}
-use Rattle.wild_needs.specs.TableSymbols.{file_items, table_strings}
-use Rattle.wild_change.specs.Outline.{outline_file, outline_group, outline}
+use Rattle.wild_needs.specs.TableSymbols.{table_strings}
 use Rattle.wild_outlines.proofs.ValuesFiles.{same_file, same_group, raw_value-outline}
 use Rattle.wild_outlines.proofs.SharesTables.{file_items-outline, file_strings-outline, table_strings-outline, group_relr_got-outline}
 use Rattle.wild_outlines.proofs.ClausesSlots.{slots_of-outline}

@@ -1,24 +1,15 @@
 -- Entries of dynamic relocations, GOT words and PLT stubs in an outline.
-use Rattle.std.proofs.Common.{◌≡◌, ℕ, flat_map, refl, ap, ◌∙◌}
-use std.Path.{fun_ext}
-use Rattle.wild_types.specs.declared.file.File.{File}
-use Rattle.wild_types.specs.declared.file.Group.{Group}
-use Rattle.wild_types.specs.declared.input.InputRelocation.{InputRelocation}
-use Rattle.wild_types.specs.declared.input.InputSection.{InputSection}
-use Rattle.wild_types.specs.declared.layout.Layout.{Layout}
-use Rattle.wild_types.specs.declared.part.Role.{Role}
+use Rattle.wild_outlines.proofs.Common.{◌≡◌, ℕ, refl, ap, ◌∙◌, fun_ext, File, Group, InputRelocation, InputSection, Layout, Role, processed_sections, words_of, outline}
+use Rattle.std.proofs.Common.{flat_map}
 use Rattle.wild_types.specs.FileSymbols.{copies_of}
 use Rattle.wild_types.specs.declared.part.Role.TheVariants as role
 use Rattle.wild_slot.specs.declared.slot_parts.EntryPart.{EntryPart}
 use Rattle.wild_slot.specs.declared.slot_parts.WordPart.{WordPart}
 use Rattle.wild_slot.specs.declared.treatment.Treatment.{Treatment}
 use Rattle.wild_slot.specs.declared.treatment.Treatment.TheVariants.{Symbolic}
-use Rattle.wild_placement.specs.PlacedSections.{processed_sections}
-use Rattle.wild_needs.specs.Entries.{words_of}
 use Rattle.wild_layout.specs.DynamicRelocations.{dynamic_relocation, dynamic_relocation_by, file_generals, section_generals, copy_entry}
 use Rattle.wild_layout.specs.RelativeRelocations.{file_entries, file_words, section_entries}
 use Rattle.wild_layout.specs.SlotBytes.{block_bytes, flat_places_of, header_bytes, relr_slots_in, slot_bytes, slot_entries_of, slot_words_of, stub_bytes, stubs_of, symbol_entries}
-use Rattle.wild_change.specs.Outline.{outline}
 use Rattle.wild_outlines.proofs.ListLemmas.{flat_map-same, map-same}
 use Rattle.wild_outlines.proofs.ValuesFiles.{raw_value-outline}
 use Rattle.wild_outlines.proofs.FramesPlaced.{processed_sections-outline}

@@ -1,15 +1,9 @@
 -- The bytes of a section in an outline.
-use Rattle.std.proofs.Common.{◌≡◌, ℕ, Option, Some, None, option_map, refl}
-use std.Path.{fun_ext}
-use Rattle.wild_types.specs.declared.file.File.{File}
-use Rattle.wild_types.specs.declared.input.InputSection.{InputSection}
-use Rattle.wild_types.specs.declared.input.Slot.{Slot}
-use Rattle.wild_types.specs.declared.layout.Layout.{Layout}
+use Rattle.wild_outlines.proofs.Common.{◌≡◌, ℕ, Option, Some, None, option_map, refl, fun_ext, File, InputSection, Slot, Layout, outline_section, outline_file, outline}
 use Rattle.wild_types.specs.declared.input.Slot.TheVariants as slot
 use Rattle.wild_table_formats.specs.SectionSymbols.{symbol_section}
 use Rattle.wild_layout.specs.Partial.{rela_bytes_of, rela_of, shift, shift_by, shift_of}
 use Rattle.wild_layout.specs.Sites.{bytes_by, section_bytes}
-use Rattle.wild_change.specs.Outline.{outline_section, outline_file, outline}
 use Rattle.wild_outlines.proofs.Decisions.{sites-outline}
 use Rattle.wild_outlines.proofs.ContentSymbols.{named_index-outline, symbol_section-outline}
 use Rattle.wild_outlines.proofs.DebugDecisions.{debug_bytes-outline}

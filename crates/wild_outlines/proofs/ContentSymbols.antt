@@ -1,23 +1,13 @@
 -- Entries of `.symtab` in an outline.
-use Rattle.std.proofs.Common.{◌≡◌, ℕ, Bool, true, false, flat_map, Option, Some, None, option_map, option_and_then, slice_get, refl, ap, ◌∙◌}
-use Rattle.std.proofs.lemmas.Option.{slice_get-map}
-use std.Path.{fun_ext}
-use Rattle.wild_types.specs.declared.file.File.{File}
-use Rattle.wild_types.specs.declared.file.FileRole.{FileRole}
-use Rattle.wild_types.specs.declared.file.Group.{Group}
-use Rattle.wild_types.specs.declared.input.InputSection.{InputSection}
-use Rattle.wild_types.specs.declared.layout.Layout.{Layout}
-use Rattle.wild_types.specs.declared.symbol.Place.{Place}
-use Rattle.wild_types.specs.declared.symbol.Symbol.{Symbol}
-use Rattle.wild_types.specs.Lookups.{files_of, file_of}
+use Rattle.wild_outlines.proofs.Common.{◌≡◌, ℕ, Bool, true, false, Option, Some, None, option_map, option_and_then, slice_get, refl, ap, ◌∙◌, slice_get-map, fun_ext, File, FileRole, Group, InputSection, Layout, Place, Symbol, files_of, file_of, file_items, outline_section, outline_file, outline}
+use Rattle.std.proofs.Common.{flat_map}
 use Rattle.wild_types.specs.declared.symbol.Place.TheVariants as at
-use Rattle.wild_needs.specs.TableSymbols.{TableSymbol, file_items}
+use Rattle.wild_needs.specs.TableSymbols.{TableSymbol}
 use Rattle.wild_needs.specs.declared.table.SymtabName.{SymtabName}
 use Rattle.wild_needs.specs.declared.table.SymtabName.TheVariants as named
 use Rattle.wild_table_formats.specs.SectionSymbols.{all_items, entry_by, named_index, section_index, symbol_section, section_at, section_number, number_of_section, symbol_index, entry_index}
 use Rattle.wild_table_formats.specs.TableEntries.{at_address, fields_of, file_table, group_table, named_entry, offset_by, table_at, table_entries, table_fields}
 use Rattle.wild_table_formats.specs.declared.symbols.SymbolAttributes.{SymbolAttributes}
-use Rattle.wild_change.specs.Outline.{outline_section, outline_file, outline}
 use Rattle.wild_outlines.proofs.ClausesGroups.{files_of-outline, file_of-layout, flat_map-mapped}
 use Rattle.wild_outlines.proofs.SharesTables.{file_items-outline, section_symbols-outline, singleton_sections-outline}
 use Rattle.wild_outlines.proofs.ClausesSlots.{slots_of-outline}

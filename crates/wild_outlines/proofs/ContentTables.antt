@@ -1,18 +1,9 @@
 -- What a group contributes to the parts of an outline.
-use Rattle.std.proofs.Common.{◌≡◌, ◌-◌, ◌++◌, length, flat_map, Option, Some, None, option_map, slice_get, refl, ap, ◌∙◌}
-use Rattle.std.proofs.lemmas.List.{length-map}
-use Rattle.std.proofs.lemmas.Option.{slice_get-map}
-use Rattle.wild_types.specs.declared.file.File.{File}
-use Rattle.wild_types.specs.declared.file.Group.{Group}
-use Rattle.wild_types.specs.declared.input.InputSection.{InputSection}
-use Rattle.wild_types.specs.declared.layout.GnuHash.{GnuHash}
-use Rattle.wild_types.specs.declared.layout.Layout.{Layout}
+use Rattle.wild_outlines.proofs.Common.{◌≡◌, ◌-◌, ◌++◌, length, Option, Some, None, option_map, slice_get, refl, ap, ◌∙◌, length-map, slice_get-map, File, Group, InputSection, GnuHash, Layout, Role, placed_files, outline_group, outline}
+use Rattle.std.proofs.Common.{flat_map}
 use Rattle.wild_types.specs.declared.layout.SysvHash.{SysvHash}
-use Rattle.wild_types.specs.declared.part.Role.{Role}
 use Rattle.wild_types.specs.declared.part.Role.TheVariants as role
-use Rattle.wild_placement.specs.PlacedSections.{placed_files}
 use Rattle.wild_layout.specs.Content.{dynamic_room, file_part_bytes, frame_bytes_of, frames_bytes, gnu_bytes, group_bytes, last_file_room, sysv_bytes, unique_table, file_content, content}
-use Rattle.wild_change.specs.Outline.{outline_group, outline}
 use Rattle.wild_outlines.proofs.ListLemmas.{flat_map-same}
 use Rattle.wild_outlines.proofs.Decisions.{item_bytes-outline}
 use Rattle.wild_outlines.proofs.FramesPlaced.{placed_files-outline}

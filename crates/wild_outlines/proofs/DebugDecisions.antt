@@ -1,13 +1,8 @@
 -- Decisions on relocations of debug sections in an outline.
-use Rattle.std.proofs.Common.{◌≡◌, ℕ, Option, Some, None, refl}
+use Rattle.wild_outlines.proofs.Common.{◌≡◌, ℕ, Option, Some, None, refl, RelocationKindInfo, InputRelocation, InputSection, Layout, outline}
 use Rattle.wild_reloc.specs.declared.info.RelocationKind.{RelocationKind}
-use Rattle.wild_reloc.specs.declared.info.RelocationKindInfo.{RelocationKindInfo}
 use Rattle.wild_reloc.specs.declared.info.RelocationKind.TheVariants as kinds
-use Rattle.wild_types.specs.declared.input.InputRelocation.{InputRelocation}
-use Rattle.wild_types.specs.declared.input.InputSection.{InputSection}
-use Rattle.wild_types.specs.declared.layout.Layout.{Layout}
 use Rattle.wild_layout.specs.Debug.{by_address, debug_by, debug_bytes, debug_decided, debug_decided_at, debug_with, field_by_symbol, field_of_address}
-use Rattle.wild_change.specs.Outline.{outline}
 use Rattle.wild_outlines.proofs.ValuesFiles.{raw_value-outline}
 use Rattle.wild_outlines.proofs.ValuesSymbols.{address_for-outline, is_undefined-outline, merged_strings-outline}
 

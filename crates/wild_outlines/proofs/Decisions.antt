@@ -1,13 +1,7 @@
 -- Rows, decisions and sites of relocations in an outline.
-use Rattle.std.proofs.Common.{◌≡◌, ℕ, zero, suc, List, length, Option, Some, None, Result, Ok, Err, refl}
-use Rattle.std.specs.List.{range_with_len}
-use std.Path.{fun_ext}
-use Rattle.wild_reloc.specs.declared.info.RelocationKindInfo.{RelocationKindInfo}
+use Rattle.wild_outlines.proofs.Common.{◌≡◌, ℕ, zero, suc, List, length, Option, Some, None, Result, Ok, Err, refl, range_with_len, fun_ext, RelocationKindInfo, InputRelocation, Machine, Layout, outline}
 use Rattle.wild_types.specs.Item.{Item}
 use Rattle.wild_types.specs.declared.fault.Fault.{Fault}
-use Rattle.wild_types.specs.declared.input.InputRelocation.{InputRelocation}
-use Rattle.wild_types.specs.declared.kind.Machine.{Machine}
-use Rattle.wild_types.specs.declared.layout.Layout.{Layout}
 use Rattle.wild_types.specs.declared.kind.Machine.TheVariants as machine
 use Rattle.wild_slot.specs.declared.treatment.Treatment.{Treatment}
 use Rattle.wild_slot.specs.declared.treatment.Treatment.TheVariants as treatments
@@ -18,7 +12,6 @@ use Rattle.wild_layout.specs.Decide.{decide, decide_at, decide_by, decide_with, 
 use Rattle.wild_layout.specs.Sites.{input_extents, item_bytes, site, sites}
 use Rattle.wild_layout.specs.Thunks.{thunk_for}
 use Rattle.wild_layout.specs.declared.decision.Decision.{Decision}
-use Rattle.wild_change.specs.Outline.{outline}
 use Rattle.wild_outlines.proofs.ListLemmas.{flat_map-same}
 use Rattle.wild_outlines.proofs.SharesSections.{treatment-outline}
 use Rattle.wild_outlines.proofs.ValuesFiles.{raw_value-outline}

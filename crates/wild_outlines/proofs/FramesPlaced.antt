@@ -1,18 +1,7 @@
 -- Frames, placed sections and sorted sections in an outline.
-use Rattle.std.proofs.Common.{◌≡◌, ℕ, if◌then◌else◌, List, [], ◌∷◌, ◌++◌, map, Option, Some, None, option_map, slice_get, refl, sym, ap, ◌∙◌}
-use Rattle.std.proofs.lemmas.Option.{slice_get-map}
-use Rattle.wild_types.specs.declared.file.File.{File}
-use Rattle.wild_types.specs.declared.file.Group.{Group}
-use Rattle.wild_types.specs.declared.input.InputSection.{InputSection}
-use Rattle.wild_types.specs.declared.input.Slot.{Slot}
-use Rattle.wild_types.specs.declared.layout.Layout.{Layout}
-use Rattle.wild_types.specs.declared.layout.SortedSection.{SortedSection}
-use Rattle.wild_types.specs.Lookups.{is_frame}
+use Rattle.wild_outlines.proofs.Common.{◌≡◌, ℕ, if◌then◌else◌, List, [], ◌∷◌, ◌++◌, map, Option, Some, None, option_map, slice_get, refl, sym, ap, ◌∙◌, slice_get-map, File, Group, InputSection, Slot, Layout, SortedSection, is_frame, kept_size, frames_of, placed_by, placed_files, placed_from, placed_section, placed_sections, processed_sections, sorted_input, Input, placed_frames_with, frames_at, file_frames, address_after, sorted_inputs, unread, of_last_file, outline_section, outline_file, outline_group, outline, is_changeable}
 use Rattle.wild_types.specs.declared.input.Slot.TheVariants as slot
-use Rattle.wild_placement.specs.FrameInputs.{kept_size, frames_of}
-use Rattle.wild_placement.specs.PlacedSections.{placed_by, placed_files, placed_from, placed_section, placed_sections, processed_sections, sorted_by, sorted_in_file, sorted_in_group, sorted_input, Input, placed_frames_with, frames_at, file_frames, address_after, files_at, sorted_inputs, origins_of, unread, kept_relocations, of_last_file}
-use Rattle.wild_change.specs.Outline.{outline_section, outline_file, outline_group, outline}
-use Rattle.wild_change.specs.Change.{is_changeable}
+use Rattle.wild_placement.specs.PlacedSections.{sorted_by, sorted_in_file, sorted_in_group, files_at, origins_of, kept_relocations}
 use Rattle.wild_outlines.proofs.ListLemmas.{flat_map-same, map-flat_map}
 use Rattle.wild_outlines.proofs.ChangedItems.{outline_section-fixed}
 use Rattle.wild_outlines.proofs.SharesFrames.{frames_of-outline, kept_size-outline, file_frames-outline}

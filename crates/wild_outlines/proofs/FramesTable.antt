@@ -1,17 +1,9 @@
 -- The search table of an outline.
-use Rattle.std.proofs.Common.{◌≡◌, ℕ, Bool, true, false, if◌then◌else◌, List, [], ◌∷◌, map, refl, ap, ◌∙◌}
-use std.Path.{fun_ext}
-use Rattle.wild_types.specs.declared.file.File.{File}
-use Rattle.wild_types.specs.declared.input.InputRelocation.{InputRelocation}
-use Rattle.wild_types.specs.declared.input.InputSection.{InputSection}
-use Rattle.wild_types.specs.declared.layout.Layout.{Layout}
-use Rattle.wild_types.specs.Lookups.{is_frame}
+use Rattle.wild_outlines.proofs.Common.{◌≡◌, ℕ, Bool, true, false, if◌then◌else◌, List, [], ◌∷◌, map, refl, ap, ◌∙◌, fun_ext, File, InputRelocation, InputSection, Layout, is_frame, frames_of, kept_size, file_frames, frames_at, address_after, outline_section, outline_file, outline_group, outline}
 use Rattle.wild_frames.specs.declared.entry.KeptEntry.{KeptEntry}
 use Rattle.wild_frames.specs.Frames.{Frames, fdes_in}
-use Rattle.wild_placement.specs.FrameInputs.{frames_of, kept_size}
-use Rattle.wild_placement.specs.PlacedSections.{entry_relocations, file_frames, frames_at, address_after}
+use Rattle.wild_placement.specs.PlacedSections.{entry_relocations}
 use Rattle.wild_layout.specs.SearchTable.{code_at, files_fdes, layout_fdes, search_table, search_table_faults, sections_fdes, fde_at, section_fdes, group_fdes}
-use Rattle.wild_change.specs.Outline.{outline_section, outline_file, outline_group, outline}
 use Rattle.wild_outlines.proofs.ChangedItems.{outline_section-fixed}
 use Rattle.wild_outlines.proofs.SharesFrames.{frame_fixed, frames_of-outline, kept_size-both, file_frames-outline}
 use Rattle.wild_outlines.proofs.ClausesGroups.{flat_map-mapped}

@@ -1,23 +1,12 @@
 -- The faults of a group in an outline.
-use Rattle.std.proofs.Common.{◌≡◌, ℕ, ◌+◌, Bool, true, false, if◌then◌else◌, List, [], ◌∷◌, map, length, flat_map, refl, ap, ◌∙◌}
-use Rattle.std.specs.List.{range_with_len}
-use std.Path.{fun_ext}
+use Rattle.wild_outlines.proofs.Common.{◌≡◌, ℕ, ◌+◌, Bool, true, false, if◌then◌else◌, List, [], ◌∷◌, map, length, refl, ap, ◌∙◌, range_with_len, fun_ext, File, Group, InputRelocation, InputSection, Layout, SortedSection, is_frame, Input, sorted_input, file_frames, frames_at, address_after, placed_section, kept_size, with_word_order, group_errors, outline_file, outline}
+use Rattle.std.proofs.Common.{flat_map}
 use Rattle.wild_types.specs.Item.{Item, item_of}
 use Rattle.wild_types.specs.declared.fault.At.{At}
-use Rattle.wild_types.specs.declared.file.File.{File}
-use Rattle.wild_types.specs.declared.file.Group.{Group}
-use Rattle.wild_types.specs.declared.input.InputRelocation.{InputRelocation}
-use Rattle.wild_types.specs.declared.input.InputSection.{InputSection}
-use Rattle.wild_types.specs.declared.layout.Layout.{Layout}
-use Rattle.wild_types.specs.declared.layout.SortedSection.{SortedSection}
-use Rattle.wild_types.specs.Lookups.{is_frame}
 use Rattle.wild_frames.specs.Faults.{frame_errors}
-use Rattle.wild_placement.specs.PlacedSections.{Input, sorted_input, file_frames, frames_at, address_after, origins_of, placed_section}
-use Rattle.wild_placement.specs.FrameInputs.{kept_size}
-use Rattle.wild_placement.specs.ReversedWords.{with_word_order}
-use Rattle.wild_layout.specs.Faults.{copy_errors, debug_error, debug_errors, exported_error, exported_errors, file_errors, files_errors, group_errors, placed_section_errors_by, relocation_errors, section_errors, sections_errors, slot_errors, symbol_errors, table_error, table_errors, thunk_error, thunk_errors, frame_refusal, bad_frames, relocations_errors, placed_section_errors, sorted_errors_of, sorted_errors}
+use Rattle.wild_placement.specs.PlacedSections.{origins_of}
+use Rattle.wild_layout.specs.Faults.{copy_errors, debug_error, debug_errors, exported_error, exported_errors, file_errors, files_errors, placed_section_errors_by, relocation_errors, section_errors, sections_errors, slot_errors, symbol_errors, table_error, table_errors, thunk_error, thunk_errors, frame_refusal, bad_frames, relocations_errors, placed_section_errors, sorted_errors_of, sorted_errors}
 use Rattle.wild_layout.specs.Sites.{shared_byte}
-use Rattle.wild_change.specs.Outline.{outline_file, outline}
 use Rattle.wild_outlines.proofs.ListLemmas.{flat_map-same}
 use Rattle.wild_outlines.proofs.ChangedPieces.{flat_map_from-same}
 use Rattle.wild_outlines.proofs.ValuesFiles.{same_file, raw_value-outline}

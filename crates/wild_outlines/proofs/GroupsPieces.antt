@@ -1,18 +1,8 @@
 -- The pieces of a group in an outline.
-use Rattle.std.proofs.Common.{◌≡◌, ℕ, take, flat_map, refl, ap, ◌∙◌}
+use Rattle.wild_outlines.proofs.Common.{◌≡◌, ℕ, take, refl, ap, ◌∙◌, fun_ext, Layout, Part, InputSection, File, Group, given, total, with_word_order, Input, sorted_inputs, placed_files, owned_pieces, group_pieces, outline_file, outline_group, outline}
+use Rattle.std.proofs.Common.{flat_map}
 use Rattle.std.proofs.lemmas.List.{take-map}
-use std.Path.{fun_ext}
-use Rattle.wild_types.specs.declared.layout.Layout.{Layout}
-use Rattle.wild_types.specs.declared.part.Part.{Part}
-use Rattle.wild_types.specs.declared.input.InputSection.{InputSection}
-use Rattle.wild_types.specs.declared.file.File.{File}
-use Rattle.wild_types.specs.declared.file.Group.{Group}
-use Rattle.wild_types.specs.FilePlaces.{given}
-use Rattle.wild_types.specs.Lists.{total}
-use Rattle.wild_placement.specs.ReversedWords.{with_word_order}
-use Rattle.wild_placement.specs.PlacedSections.{Input, sorted_inputs, placed_files}
-use Rattle.wild_layout.specs.Image.{section_piece, sorted_piece, thunk_pieces, file_pieces, owned_pieces, shares_before, table_piece, table_pieces, group_pieces, thunk_piece}
-use Rattle.wild_change.specs.Outline.{outline_file, outline_group, outline}
+use Rattle.wild_layout.specs.Image.{section_piece, sorted_piece, thunk_pieces, file_pieces, shares_before, table_piece, table_pieces, thunk_piece}
 use Rattle.wild_outlines.proofs.ListLemmas.{flat_map-same}
 use Rattle.wild_outlines.proofs.ChangedPieces.{flat_map_from-same}
 use Rattle.wild_outlines.proofs.ValuesFiles.{same_file, raw_value-outline}

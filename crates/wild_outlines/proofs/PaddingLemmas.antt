@@ -1,16 +1,6 @@
 -- The bytes without an owner in an outline, and the padding.
-use Rattle.std.proofs.Common.{◌≡◌, ℕ, Bool, List, [], ◌∷◌, map, refl, ap, ◌∙◌}
-use Rattle.std.specs.Prelude.{◌&&◌, not, drop}
-use Rattle.std.specs.List.{range_with_len, list_any}
-use std.Path.{fun_ext}
-use Rattle.wild_types.specs.declared.layout.Layout.{Layout}
-use Rattle.wild_types.specs.declared.section.Section.{Section}
-use Rattle.wild_types.specs.declared.input.InputSection.{InputSection}
-use Rattle.wild_types.specs.declared.file.File.{File}
-use Rattle.wild_types.specs.declared.file.Group.{Group}
-use Rattle.wild_types.specs.Lookups.{image_size}
-use Rattle.wild_layout.specs.Image.{is_owned, padding, padding_byte, section_owns, thunk_owns, file_owns, group_owns, part_owns, has_offset}
-use Rattle.wild_change.specs.Outline.{outline_section, outline_file, outline_group, outline}
+use Rattle.wild_outlines.proofs.Common.{◌≡◌, ℕ, Bool, List, [], ◌∷◌, map, refl, ap, ◌∙◌, ◌&&◌, not, drop, range_with_len, list_any, fun_ext, Layout, Section, InputSection, File, Group, image_size, padding, outline_section, outline_file, outline_group, outline}
+use Rattle.wild_layout.specs.Image.{is_owned, padding_byte, section_owns, thunk_owns, file_owns, group_owns, part_owns, has_offset}
 use Rattle.wild_outlines.proofs.ListLemmas.{map-same}
 use Rattle.wild_outlines.proofs.ClausesTests.{image_size-outline, header_only-outline}
 use Rattle.wild_outlines.proofs.ChangedItems.{length-outline}

@@ -1,28 +1,12 @@
 -- The frames of input files are the same for the outline: of code sections they read addresses and sizes alone.
-use Rattle.std.proofs.Common.{◌≡◌, ℕ, true, false, [], length, Option, Some, None, refl, sym, ap, ◌∙◌, inl, inr}
-use Rattle.std.specs.Prelude.{if◌then◌else◌, option_map, slice_get}
-use Rattle.std.proofs.lemmas.Bool.{cases_Bool}
-use Rattle.std.proofs.lemmas.Option.{slice_get-map}
-use std.Path.{fun_ext}
-use Rattle.wild_types.specs.declared.input.InputRelocation.{InputRelocation}
-use Rattle.wild_types.specs.declared.input.InputSection.{InputSection}
-use Rattle.wild_types.specs.declared.input.Slot.{Slot}
+use Rattle.wild_outlines.proofs.Common.{◌≡◌, ℕ, true, false, [], length, Option, Some, None, refl, sym, ap, ◌∙◌, inl, inr, if◌then◌else◌, option_map, slice_get, cases_Bool, slice_get-map, fun_ext, InputRelocation, InputSection, Slot, File, Group, Place, Symbol, Layout, total, is_frame, files_of, file_of, frames_of, kept_size, file_frames, is_changeable, outline_section, outline_file, outline_group, outline}
 use Rattle.wild_types.specs.declared.input.Slot.TheVariants as slot
-use Rattle.wild_types.specs.declared.file.File.{File}
-use Rattle.wild_types.specs.declared.file.Group.{Group}
-use Rattle.wild_types.specs.declared.symbol.Place.{Place}
 use Rattle.wild_types.specs.declared.symbol.Place.TheVariants as at
-use Rattle.wild_types.specs.declared.symbol.Symbol.{Symbol}
-use Rattle.wild_types.specs.declared.layout.Layout.{Layout}
-use Rattle.wild_types.specs.Lists.{total}
-use Rattle.wild_types.specs.Lookups.{is_frame, files_of, file_of}
 use Rattle.wild_types.specs.Rows.{field_bytes}
 use Rattle.wild_frames.specs.declared.frames.Target.{Target}
 use Rattle.wild_frames.specs.Frames.{Frames, frame_bytes, fdes_in}
-use Rattle.wild_placement.specs.FrameInputs.{section_target, target_in, has_symbol, defining_file_of, target_at, symbol_target, target_by, target_of, frames_of, kept_size, fde_count}
-use Rattle.wild_placement.specs.PlacedSections.{file_frames, all_fdes}
-use Rattle.wild_change.specs.Change.{is_changeable}
-use Rattle.wild_change.specs.Outline.{outline_section, outline_file, outline_group, outline}
+use Rattle.wild_placement.specs.FrameInputs.{section_target, target_in, has_symbol, defining_file_of, target_at, symbol_target, target_by, target_of, fde_count}
+use Rattle.wild_placement.specs.PlacedSections.{all_fdes}
 use Rattle.wild_outlines.proofs.ChangedItems.{outline_section-fixed}
 use Rattle.wild_outlines.proofs.ClausesGroups.{total-mapped, option_map-if, file_of-layout}
 

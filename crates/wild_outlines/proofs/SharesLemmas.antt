@@ -1,32 +1,16 @@
 -- What groups need of the parts, after a change that keeps the numbers of dynamic relocations.
-use Rattle.std.proofs.Common.{◌≡◌, ℕ, zero, suc, ◌+◌, ◌*◌, ◌-◌, ◌^◌, false, List, [], ◌∷◌, ◌++◌, map, length, min, Option, Some, None, refl, sym, ap, subst, ◌∙◌, arith}
-use Rattle.std.specs.Prelude.{◌&&◌, if◌then◌else◌, slice_get}
-use Rattle.std.specs.List.{flat_map}
-use Rattle.wild_types.specs.declared.input.InputSection.{InputSection}
-use Rattle.wild_types.specs.declared.file.File.{File}
-use Rattle.wild_types.specs.declared.file.Group.{Group}
-use Rattle.wild_types.specs.declared.part.Part.{Part}
-use Rattle.wild_types.specs.declared.part.Role.{Role}
+use Rattle.wild_outlines.proofs.Common.{◌≡◌, ℕ, zero, suc, ◌+◌, ◌*◌, ◌-◌, ◌^◌, false, List, [], ◌∷◌, ◌++◌, map, length, min, Option, Some, None, refl, sym, ap, subst, ◌∙◌, arith, ◌&&◌, if◌then◌else◌, slice_get, flat_map, InputSection, File, Group, Part, Role, Layout, given, total, has_role, Input, address_after, placed_sections, file_frames, placed_from, frames_at, placed_files, of_last_file, sorted_inputs, processed_sections, with_word_order, words_of, Change, found_section, with_item, changed_section, changed_file, changed_group, changed_layout, outline_file, outline_group, outline, flat_map_from, part_errors, written_section, KeepsCounts}
 use Rattle.wild_types.specs.declared.part.Role.TheVariants as role
-use Rattle.wild_types.specs.declared.layout.Layout.{Layout}
-use Rattle.wild_types.specs.FilePlaces.{given}
 use Rattle.wild_types.specs.FileRoles.{is_prelude, is_epilogue}
 use Rattle.wild_types.specs.FileSymbols.{copies_of}
-use Rattle.wild_types.specs.Lists.{total}
-use Rattle.wild_types.specs.Parts.{has_role}
 use Rattle.wild_types.proofs.ListLemmas.{total-append}
-use Rattle.wild_placement.specs.PlacedSections.{Input, address_after, placed_sections, placed_file, file_frames, placed_from, frames_at, placed_files, of_last_file, sorted_inputs, sorted_sections, processed_sections}
-use Rattle.wild_placement.specs.ReversedWords.{with_word_order}
-use Rattle.wild_needs.specs.Entries.{words_of, sorted_words, general_count}
+use Rattle.wild_placement.specs.PlacedSections.{placed_file, sorted_sections}
+use Rattle.wild_needs.specs.Entries.{sorted_words, general_count}
 use Rattle.wild_needs.specs.Needs.{frames_room, bytes_if_last, file_table_bytes, reads_sections, first_share, share, has_last, last_share, group_share, needs_of, needs_by, needs, total_share}
 use Rattle.wild_needs.specs.SlotShares.{slot_share, relr_got_share}
 use Rattle.wild_needs.proofs.RoomLemmas.{frames_kept}
 use Rattle.wild_needs.proofs.StandingShares.{own_stands, slots_are_placed}
-use Rattle.wild_change.specs.declared.change.Change.{Change}
-use Rattle.wild_change.specs.Change.{found_section, with_item, changed_section, changed_file, changed_group, changed_layout}
-use Rattle.wild_change.specs.Outline.{outline_file, outline_group, outline}
-use Rattle.wild_layout.specs.Faults.{flat_map_from, share_errors, has_spare, part_errors}
-use Rattle.wild_outlines.specs.MayChange.{written_section, KeepsCounts}
+use Rattle.wild_layout.specs.Faults.{share_errors, has_spare}
 use Rattle.wild_outlines.specs.ShareLaws.{KeepsShares}
 use Rattle.wild_outlines.proofs.ListLemmas.{flat_map-same, total-same, some_same}
 use Rattle.wild_outlines.proofs.ChangedItems.{total-with_item, FoundSection, FoundSection-from_found, outline-changed, outline_file-changed, outline_group-changed, same_by_outline}

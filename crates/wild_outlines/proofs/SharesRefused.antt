@@ -1,24 +1,13 @@
 -- The faults of shares after a change that keeps the length of its section: only the changed group can have some.
-use Rattle.std.proofs.Common.{◌≡◌, ℕ, ◌+◌, false, List, [], Some, sym, ap, subst, ◌∙◌, arith, inl, inr, ◌*◌}
-use Rattle.std.specs.Prelude.{slice_get}
-use Rattle.std.proofs.lemmas.Bool.{cases_Bool}
+use Rattle.wild_outlines.proofs.Common.{◌≡◌, ℕ, ◌+◌, false, List, [], Some, sym, ap, subst, ◌∙◌, arith, inl, inr, ◌*◌, slice_get, cases_Bool, InputSection, Group, Part, Role, Layout, given, Change, changed_group, changed_layout, changed_section, flat_map_from, part_errors, written_section}
 use Rattle.wild_types.specs.declared.fault.Error.{Error}
-use Rattle.wild_types.specs.declared.input.InputSection.{InputSection}
-use Rattle.wild_types.specs.declared.file.Group.{Group}
-use Rattle.wild_types.specs.declared.part.Part.{Part}
-use Rattle.wild_types.specs.declared.part.Role.{Role}
 use Rattle.wild_types.specs.declared.part.Role.TheVariants as role
-use Rattle.wild_types.specs.declared.layout.Layout.{Layout}
-use Rattle.wild_types.specs.FilePlaces.{given}
 use Rattle.wild_needs.specs.Needs.{needs_of, needs_by, needs}
-use Rattle.wild_change.specs.declared.change.Change.{Change}
-use Rattle.wild_change.specs.Change.{changed_group, changed_layout, changed_section}
-use Rattle.wild_layout.specs.Faults.{flat_map_from, share_errors, has_spare, part_errors}
+use Rattle.wild_layout.specs.Faults.{share_errors, has_spare}
 use Rattle.wild_outlines.specs.RefusalLaws.{has_counted_entries, changed_share, changed_shares}
 use Rattle.wild_outlines.proofs.ChangedItems.{slice_get-with_item}
 use Rattle.wild_outlines.proofs.ChangedPieces.{Middle-from_item, middle_alone, none_from, flat_map_from-at}
 use Rattle.wild_outlines.proofs.ClausesChanged.{Changed}
-use Rattle.wild_outlines.specs.MayChange.{written_section}
 use Rattle.wild_outlines.proofs.SharesSections.{counted_for, entry_size}
 use Rattle.wild_outlines.proofs.SharesLemmas.{needs_of-same, needs_of-changed, has_spare-changed}
 

@@ -1,37 +1,22 @@
 -- The numbers of dynamic relocations of a file's sections, after a change that keeps those of the changed section.
-use Rattle.std.proofs.Common.{◌≡◌, ℕ, zero, suc, Bool, true, false, List, [], ◌∷◌, length, Option, Some, None, refl, sym, ap, ◌∙◌, arith, inl, inr, ◌+◌, ◌*◌}
-use Rattle.std.specs.Prelude.{not, if◌then◌else◌, option_to_list, slice_get}
-use Rattle.std.specs.List.{filter, flat_map}
-use Rattle.std.proofs.lemmas.Bool.{cases_Bool, and_left, and_right}
+use Rattle.wild_outlines.proofs.Common.{◌≡◌, ℕ, zero, suc, Bool, true, false, List, [], ◌∷◌, length, Option, Some, None, refl, sym, ap, ◌∙◌, arith, inl, inr, ◌+◌, ◌*◌, not, if◌then◌else◌, option_to_list, slice_get, flat_map, cases_Bool, RelocationKindInfo, InputRelocation, InputSection, Slot, File, Role, Layout, is_partial_link, total, is_frame, frames_of, kept_size, address_after, unread, placed_frames_with, placed_by, placed_section, placed_sections, with_word_order, words_of, Change, is_changeable, with_item, changed_section, outline_file, outline, written_section, KeepsCounts}
+use Rattle.std.specs.List.{filter}
+use Rattle.std.proofs.lemmas.Bool.{and_left, and_right}
 use Rattle.wild_relr.specs.RunWords.{packed}
 use Rattle.wild_reloc.specs.declared.expression.Class.{Class}
 use Rattle.wild_reloc.specs.declared.expression.Class.TheVariants as class
-use Rattle.wild_reloc.specs.declared.info.RelocationKindInfo.{RelocationKindInfo}
 use Rattle.wild_reloc.specs.Expression.{expression_of}
-use Rattle.wild_types.specs.declared.input.InputRelocation.{InputRelocation}
-use Rattle.wild_types.specs.declared.input.InputSection.{InputSection}
-use Rattle.wild_types.specs.declared.input.Slot.{Slot}
 use Rattle.wild_types.specs.declared.input.Slot.TheVariants as slot
-use Rattle.wild_types.specs.declared.file.File.{File}
-use Rattle.wild_types.specs.declared.part.Role.{Role}
 use Rattle.wild_types.specs.declared.part.Role.TheVariants as role
-use Rattle.wild_types.specs.declared.layout.Layout.{Layout}
-use Rattle.wild_types.specs.Kinds.{is_partial_link, is_position_independent}
-use Rattle.wild_types.specs.Lists.{total}
-use Rattle.wild_types.specs.Lookups.{is_frame, is_read, has_relocations, may_have_relative}
+use Rattle.wild_types.specs.Kinds.{is_position_independent}
+use Rattle.wild_types.specs.Lookups.{is_read, has_relocations, may_have_relative}
 use Rattle.wild_types.specs.Rows.{row_of}
 use Rattle.wild_frames.specs.Frames.{frame_bytes}
-use Rattle.wild_placement.specs.FrameInputs.{frames_of, kept_size}
-use Rattle.wild_placement.specs.PlacedSections.{address_after, unread, rela_with_target, placed_frames_with, placed_by, placed_section, placed_sections}
-use Rattle.wild_placement.specs.ReversedWords.{with_word_order}
+use Rattle.wild_placement.specs.PlacedSections.{rela_with_target}
 use Rattle.wild_slot.specs.Treatment.{distance_treatment, class_treatment, row_treatment, row_that_accepts, treatment}
-use Rattle.wild_needs.specs.Entries.{rela_place, relr_place, rela_places, relr_places, words_of, has_dynamic_entry, dynamic_relocations}
+use Rattle.wild_needs.specs.Entries.{rela_place, relr_place, rela_places, relr_places, has_dynamic_entry, dynamic_relocations}
 use Rattle.wild_needs.proofs.EntryLemmas.{packed_none}
-use Rattle.wild_change.specs.declared.change.Change.{Change}
-use Rattle.wild_change.specs.Change.{is_changeable, with_item, changed_section}
-use Rattle.wild_change.specs.Outline.{outline_file, outline}
 use Rattle.wild_records.specs.Relocations.{rela_size, relr_size}
-use Rattle.wild_outlines.specs.MayChange.{written_section, KeepsCounts}
 use Rattle.wild_outlines.specs.RefusalLaws.{entry_room}
 use Rattle.wild_outlines.proofs.ListLemmas.{flat_map-same, some_same}
 use Rattle.wild_outlines.proofs.ChangedItems.{same_by_outline}

@@ -1,33 +1,18 @@
 -- What a file writes to tables that depend on no section is the same for the outline.
-use Rattle.std.proofs.Common.{◌≡◌, ℕ, ◌+◌, ◌*◌, ◌-◌, false, List, [], ◌∷◌, ◌++◌, map, length, Option, Some, None, refl, ap, ◌∙◌}
-use Rattle.std.specs.Prelude.{if◌then◌else◌, option_map, option_to_list, slice_get}
-use Rattle.std.specs.List.{flat_map}
-use Rattle.std.proofs.lemmas.List.{length-map}
-use Rattle.std.proofs.lemmas.Option.{slice_get-map}
+use Rattle.wild_outlines.proofs.Common.{◌≡◌, ℕ, ◌+◌, ◌*◌, ◌-◌, false, List, [], ◌∷◌, ◌++◌, map, length, Option, Some, None, refl, ap, ◌∙◌, if◌then◌else◌, option_map, option_to_list, slice_get, flat_map, length-map, slice_get-map, FileRole, File, Group, InputSection, Layout, GnuHash, Machine, Role, Symbol, is_partial_link, total, files_of, next_dynstr, file_items, outline_section, outline_file, outline_group, outline}
 use Rattle.wild_records.specs.declared.dynamic.DynamicEntry.{DynamicEntry}
-use Rattle.wild_types.specs.declared.file.FileRole.{FileRole}
 use Rattle.wild_types.specs.declared.file.FileRole.TheVariants as file_role
-use Rattle.wild_types.specs.declared.file.File.{File}
-use Rattle.wild_types.specs.declared.file.Group.{Group}
-use Rattle.wild_types.specs.declared.input.InputSection.{InputSection}
-use Rattle.wild_types.specs.declared.layout.Layout.{Layout}
 use Rattle.wild_types.specs.declared.layout.SysvHash.{SysvHash}
-use Rattle.wild_types.specs.declared.layout.GnuHash.{GnuHash}
-use Rattle.wild_types.specs.declared.kind.Machine.{Machine}
 use Rattle.wild_types.specs.declared.kind.Machine.TheVariants as machine
-use Rattle.wild_types.specs.declared.part.Role.{Role}
 use Rattle.wild_types.specs.declared.part.Role.TheVariants as role
-use Rattle.wild_types.specs.declared.symbol.Symbol.{Symbol}
 use Rattle.wild_types.specs.FileSymbols.{own_symbols}
-use Rattle.wild_types.specs.Kinds.{needs_dynamic, needs_dynsym, is_partial_link}
-use Rattle.wild_types.specs.Lists.{total}
-use Rattle.wild_types.specs.Lookups.{files_of}
+use Rattle.wild_types.specs.Kinds.{needs_dynamic, needs_dynsym}
 use Rattle.wild_needs.specs.declared.dynamic.DynamicTag.{DynamicTag}
 use Rattle.wild_needs.specs.declared.dynamic.DynamicTag.TheVariants as tags
 use Rattle.wild_needs.specs.Dynamic.{dynamic_entry, all_tags, entry_with, dynamic_number, entry_of, tag_entries, dynamic_entries}
 use Rattle.wild_needs.specs.DynamicPlaces.{need_number, bti_stubs, section_named, first_entries, entries_bytes}
-use Rattle.wild_needs.specs.DynamicStrings.{named_strings, text_room, dynstr_prefix_strings, entry_names, file_strings, next_dynstr, needed_count, start_among, start_in, string_start}
-use Rattle.wild_needs.specs.TableSymbols.{item_name, file_items, side, marked_sections, singleton_sections, section_symbols, local_count, global_count, null_strings, table_strings}
+use Rattle.wild_needs.specs.DynamicStrings.{named_strings, text_room, dynstr_prefix_strings, entry_names, file_strings, needed_count, start_among, start_in, string_start}
+use Rattle.wild_needs.specs.TableSymbols.{item_name, side, marked_sections, singleton_sections, section_symbols, local_count, global_count, null_strings, table_strings}
 use Rattle.wild_needs.specs.Versions.{version_names}
 use Rattle.wild_needs.specs.Needs.{bytes_per_image, sysv_room, gnu_room, last_dynamic, bytes_if_last, long_room, file_table_bytes, reads_sections, first_share}
 use Rattle.wild_needs.specs.SlotShares.{symbol_share, slot_share, header_share, relr_got_places, group_relr_got, block_of, words_of_relr_got, relr_got_share}
@@ -35,7 +20,6 @@ use Rattle.wild_records.specs.Relocations.{relr_size}
 use Rattle.wild_records.specs.Frames.{eh_frame_hdr_size, eh_frame_hdr_entry_size}
 use Rattle.wild_records.specs.Dynamic.{dynamic_entry_size}
 use Rattle.wild_records.specs.SymtabEntry.{symtab_entry_size}
-use Rattle.wild_change.specs.Outline.{outline_section, outline_file, outline_group, outline}
 use Rattle.wild_outlines.proofs.ListLemmas.{flat_map-same, total-same}
 use Rattle.wild_outlines.proofs.ClausesGroups.{flat_map-mapped, files_of-outline, undefined_entries-outline, need_count-outline}
 use Rattle.wild_outlines.proofs.ClausesSlots.{slots_of-outline}

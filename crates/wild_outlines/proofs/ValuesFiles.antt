@@ -1,21 +1,8 @@
 -- Files and input sections of an outline, addresses of symbols, and what is counted of files.
-use Rattle.std.proofs.Common.{◌≡◌, ℕ, length, Option, Some, None, option_map, slice_get, inl, inr, refl, sym, ap, ◌∙◌}
-use Rattle.std.proofs.lemmas.Bool.{cases_Bool}
-use Rattle.std.proofs.lemmas.List.{length-replicate}
-use Rattle.std.proofs.lemmas.Option.{slice_get-map}
+use Rattle.wild_outlines.proofs.Common.{◌≡◌, ℕ, length, Option, Some, None, option_map, slice_get, inl, inr, refl, sym, ap, ◌∙◌, cases_Bool, length-replicate, slice_get-map, File, InputSection, Layout, Role, Place, Group, files_of, file_of, output_section, outline_section, outline_file, outline_group, outline, is_changeable}
 use Rattle.wild_types.specs.Addresses.{address_at, address_in_file, address_in_section, raw_value}
 use Rattle.wild_types.specs.Shares.{share_of, given_by, part_of}
-use Rattle.wild_types.specs.declared.file.File.{File}
-use Rattle.wild_types.specs.declared.input.InputSection.{InputSection}
-use Rattle.wild_types.specs.declared.layout.Layout.{Layout}
-use Rattle.wild_types.specs.declared.part.Role.{Role}
-use Rattle.wild_types.specs.declared.symbol.Place.{Place}
-use Rattle.wild_types.specs.declared.file.Group.{Group}
-use Rattle.wild_types.specs.Lookups.{files_of, file_of}
 use Rattle.wild_types.specs.declared.symbol.Place.TheVariants as at
-use Rattle.wild_needs.specs.DynamicSymbols.{output_section}
-use Rattle.wild_change.specs.Outline.{outline_section, outline_file, outline_group, outline}
-use Rattle.wild_change.specs.Change.{is_changeable}
 use Rattle.wild_outlines.proofs.ListLemmas.{map-same, map-map}
 use Rattle.wild_outlines.proofs.ClausesGroups.{file_of-layout, output_section-outline, given_by-option}
 

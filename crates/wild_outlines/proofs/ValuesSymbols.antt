@@ -1,23 +1,12 @@
 -- Values of symbols and terms of relocations in an outline.
-use Rattle.std.proofs.Common.{◌≡◌, ℕ, ℤ, if◌then◌else◌, List, Option, Some, None, option_map, option_and_then, slice_get, refl, ap, ◌∙◌}
-use Rattle.std.proofs.lemmas.Option.{slice_get-map}
+use Rattle.wild_outlines.proofs.Common.{◌≡◌, ℕ, ℤ, if◌then◌else◌, List, Option, Some, None, option_map, option_and_then, slice_get, refl, ap, ◌∙◌, slice_get-map, RelocationKindInfo, InputRelocation, Machine, Layout, Slot, InputSection, Place, Symbol, File, files_of, file_of, outline_section, outline_file, outline}
 use Rattle.wild_reloc.specs.declared.expression.SlotSort.{SlotSort}
 use Rattle.wild_reloc.specs.declared.expression.Subtrahend.{Subtrahend}
 use Rattle.wild_reloc.specs.declared.expression.Term.{Term}
-use Rattle.wild_reloc.specs.declared.info.RelocationKindInfo.{RelocationKindInfo}
 use Rattle.wild_reloc.specs.declared.expression.SlotSort.TheVariants as sorts
 use Rattle.wild_reloc.specs.declared.expression.Subtrahend.TheVariants as subtrahend
 use Rattle.wild_reloc.specs.declared.expression.Term.TheVariants as term
-use Rattle.wild_types.specs.declared.input.InputRelocation.{InputRelocation}
 use Rattle.wild_types.specs.declared.input.MergedString.{MergedString}
-use Rattle.wild_types.specs.declared.kind.Machine.{Machine}
-use Rattle.wild_types.specs.declared.layout.Layout.{Layout}
-use Rattle.wild_types.specs.declared.input.Slot.{Slot}
-use Rattle.wild_types.specs.declared.input.InputSection.{InputSection}
-use Rattle.wild_types.specs.declared.symbol.Place.{Place}
-use Rattle.wild_types.specs.declared.symbol.Symbol.{Symbol}
-use Rattle.wild_types.specs.declared.file.File.{File}
-use Rattle.wild_types.specs.Lookups.{files_of, file_of}
 use Rattle.wild_types.specs.declared.kind.Machine.TheVariants as machine
 use Rattle.wild_types.specs.declared.input.Slot.TheVariants as slot
 use Rattle.wild_types.specs.declared.symbol.Place.TheVariants as at
@@ -26,7 +15,6 @@ use Rattle.wild_layout.specs.Merged.{address_by, address_for, address_named, mer
 use Rattle.wild_layout.specs.SlotValues.{address_of, slot_address, slot_of, stub_address}
 use Rattle.wild_layout.specs.SymbolValues.{is_undefined, raw_address, storage_start}
 use Rattle.wild_layout.specs.Values.{is_undefined_weak_without_stub, pointer_offset, size_of, subtract, term_by, term_value, weak_resolves_to_place}
-use Rattle.wild_change.specs.Outline.{outline_section, outline_file, outline}
 use Rattle.wild_outlines.proofs.ClausesGroups.{file_of-layout}
 use Rattle.wild_outlines.proofs.ValuesFiles.{raw_value-outline}
 

@@ -1,16 +1,7 @@
 -- Each instruction that relocations fill is the one that its bytes mean.
-use Rattle.std.proofs.Common.{◌≡◌, ℕ, suc, ◌+◌, true, List, [], ◌∷◌, length, get_or, refl, sym, ap, ◌∙◌, arith, subst}
-use Rattle.std.specs.Prelude.{◌&&◌, ◌==◌, nat_le, bit_and, Some}
-use Rattle.std.proofs.lemmas.Bool.Decides.{nat_tests}
-use Rattle.std.proofs.lemmas.Bool.{and_parts}
+use Rattle.wild_references.proofs.Common.{◌≡◌, ℕ, suc, ◌+◌, true, List, [], ◌∷◌, length, get_or, refl, sym, ap, ◌∙◌, arith, subst, ◌&&◌, ◌==◌, nat_le, bit_and, Some, nat_tests, and_parts, Is, From, Slot, Digit, Any, Number, Word, Set, Subtract, Compare, Call, Jump, fits, matches_cells, Template, no_prefix, rex, rex2, branch, with_slot, general_call, general_slot_call, far_pair_call, local_call, local_slot_call, meaning_x86_64, descriptor_call}
 use Rattle.wild_loader.specs.declared.instruction.Cell.{Cell}
-use Rattle.wild_loader.specs.declared.instruction.Cell.TheVariants.{Is, From, Slot, Digit, Any}
-use Rattle.wild_loader.specs.declared.instruction.Operand.TheVariants.{Number, Word}
-use Rattle.wild_loader.specs.declared.instruction.Deed.TheVariants.{Set, Add, Subtract, Compare, Call, Jump}
-use Rattle.wild_loader.specs.Instruction.{fits, matches_cells, Template}
-use Rattle.wild_loader.specs.CodeX86_64.{no_prefix, rex, rex2, branch, with_slot}
-use Rattle.wild_loader.specs.ThreadCodeX86_64.{general_call, general_slot_call, far_pair_call, local_call, local_slot_call}
-use Rattle.wild_loader.specs.InstructionX86_64.{meaning_x86_64, descriptor_call}
+use Rattle.wild_loader.specs.declared.instruction.Deed.TheVariants.{Add}
 
 -- ---- bytes spelled by cells
 

@@ -1,31 +1,12 @@
 -- The address that a loader moves is what its expression gives.
-use Rattle.std.proofs.Common.{◌≡◌, ℕ, ◌+◌, ◌%◌, ◌^◌, Bool, true, false, not, Option, Some, refl, sym, ap, ◌∙◌, arith, subst, inl}
-use Rattle.std.specs.Prelude.{◌&&◌, Ok, FitsSigned}
-use Rattle.wild_types.specs.declared.input.InputRelocation.{InputRelocation}
-use Rattle.wild_types.specs.declared.layout.Layout.{Layout}
-use Rattle.wild_types.specs.HeaderOnly.{KeepsAll}
-use Rattle.wild_types.specs.Flags.{has_flag, absolute}
-use Rattle.wild_types.specs.Kinds.{is_position_independent}
-use Rattle.wild_slot.specs.Treatment.{flags_at, moves}
-use Rattle.wild_layout.specs.declared.decision.Decision.TheVariants.{RelativeAddress}
-use Rattle.wild_reloc.specs.Formula.{SymbolAddress}
-use Rattle.wild_layout.specs.Decide.{decided}
-use Rattle.wild_layout.specs.SlotValues.{address_of}
-use Rattle.wild_layout.proofs.DecideLemmas.{decided_moved, IsMoved}
-use Rattle.wild_loader.specs.declared.world.World.{World}
-use Rattle.wild_loader.specs.declared.memory.Memory.{Memory}
-use Rattle.wild_meaning.specs.Value.{with_base, IsReplaceable}
-use Rattle.wild_meaning.specs.Formula.{IsSum, IsOwnSum}
-use Rattle.wild_types.specs.Item.{Item}
-use Rattle.wild_meaning.specs.Reference.{HasStubAddress}
-use Rattle.wild_references.specs.Terms.{IsPlaced, IsFollowed}
+use Rattle.wild_references.proofs.Common.{◌≡◌, ℕ, ◌+◌, ◌%◌, ◌^◌, Bool, true, false, not, Option, Some, refl, sym, ap, ◌∙◌, arith, subst, inl, ◌&&◌, Ok, FitsSigned, InputRelocation, Layout, KeepsAll, has_flag, absolute, is_position_independent, flags_at, moves, RelativeAddress, SymbolAddress, decided, address_of, decided_moved, World, Memory, with_base, IsReplaceable, IsSum, Item, HasStubAddress, IsPlaced, IsFollowed, signed_fits, w64}
+use Rattle.wild_layout.proofs.DecideLemmas.{IsMoved}
+use Rattle.wild_meaning.specs.Formula.{IsOwnSum}
 use Rattle.wild_references.proofs.Targets.{addressed, linked}
 use Rattle.wild_references.proofs.Referents.{follows, address_referent, own_address_referent}
 use Rattle.wild_references.proofs.ValueKinds.{more}
 use Rattle.wild_references.proofs.StubCode.{StubLaws}
 use Rattle.wild_references.proofs.MergedStrings.{names_none, plain_address, string_found, string_named, replaceable_none, IsFor, OfStrings, OfSymbol, address_is_for}
-use Rattle.wild_records.proofs.FieldLemmas.{signed_fits}
-use Rattle.std.specs.Int.{w64}
 
 not_absolute : (l : Layout) (i : ℕ) → moves l i ≡ true → has_flag (flags_at l i) absolute ≡ false
 not_absolute l i h = by_tests (is_position_independent l.kind) (has_flag (flags_at l i) absolute) h

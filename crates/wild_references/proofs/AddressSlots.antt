@@ -1,36 +1,17 @@
 -- The slot of an address: the first one has the symbol's value, a second one its stub's address.
-use Rattle.std.proofs.Common.{◌≡◌, ℕ, ◌+◌, ◌%◌, ◌^◌, ◌<◌, inl, inr, Bool, true, false, List, [], ◌∷◌, ◌++◌, Option, Some, None, refl, sym, ap, ◌∙◌, arith, subst}
-use Rattle.std.specs.Prelude.{◌||◌, if◌then◌else◌}
-use Rattle.wild_reloc.specs.declared.dynamic.DynamicRelocationKind.TheVariants.{GotEntry}
-use Rattle.wild_slot.specs.declared.slot.SlotItem.{SlotItem}
+use Rattle.wild_references.proofs.Common.{◌≡◌, ℕ, ◌+◌, ◌%◌, ◌^◌, ◌<◌, inl, inr, Bool, true, false, List, [], ◌∷◌, ◌++◌, Option, Some, None, refl, sym, ap, ◌∙◌, arith, subst, ◌||◌, if◌then◌else◌, GotEntry, SlotItem, General, Resolution, Layout, KeepsAll, has_flag, is_position_independent, setting_of, named, general, stub_items, items_if, ifunc_address_items, canonical_address_items, distance_if_too_far, has_thread_slot, AddressSlot, after_word, IsLoadedWord, Memory, World, HasWord, IsStub, word_below, IsPlaced, HasFlag, ValueFlags}
 use Rattle.wild_slot.specs.declared.slot.SlotItem.TheVariants.{Word}
-use Rattle.wild_slot.specs.declared.slot.SlotWord.TheVariants.{Number, Address, General}
-use Rattle.wild_types.specs.declared.symbol.Resolution.{Resolution}
-use Rattle.wild_types.specs.declared.layout.Layout.{Layout}
-use Rattle.wild_types.specs.HeaderOnly.{KeepsAll}
-use Rattle.wild_types.specs.Flags.{has_flag, ifunc_got_for_address, canonical_plt_got_for_address}
-use Rattle.wild_types.specs.Kinds.{is_position_independent}
-use Rattle.wild_slot.specs.Slots.{setting_of, named, general, stub_items, stub_address, items_if, number, ifunc_address_items, canonical_address_items}
-use Rattle.wild_slot.specs.MachineStub.{distance_if_too_far}
-use Rattle.wild_types.specs.SymbolSlots.{has_thread_slot}
-use Rattle.wild_reloc.specs.Formula.{AddressSlot}
+use Rattle.wild_slot.specs.declared.slot.SlotWord.TheVariants.{Number, Address}
+use Rattle.wild_types.specs.Flags.{ifunc_got_for_address, canonical_plt_got_for_address}
+use Rattle.wild_slot.specs.Slots.{stub_address, number}
 use Rattle.wild_reloc.specs.declared.expression.SlotSort.TheVariants as sorts
-use Rattle.wild_layout.specs.SlotValues.{has_second_slot, after_word}
-use Rattle.wild_geometry.specs.Slots.{IsLoadedWord}
-use Rattle.wild_loader.specs.declared.memory.Memory.{Memory}
-use Rattle.wild_loader.specs.declared.world.World.{World}
-use Rattle.wild_meaning.specs.Slot.{HasWord}
-use Rattle.wild_meaning.specs.Denotes.{IsStub}
-use Rattle.wild_meaning.proofs.WorldLemmas.{word_below}
-use Rattle.wild_references.specs.Terms.{IsPlaced}
+use Rattle.wild_layout.specs.SlotValues.{has_second_slot}
 use Rattle.wild_references.proofs.FirstSlots.{HasFirst, first_held, named_held, items_behind}
 use Rattle.wild_references.proofs.SlotContents.{ItemsHold}
 use Rattle.wild_references.proofs.SlotTerms.{SlotStands, SlotsStand, by_slot}
 use Rattle.wild_references.proofs.SymbolStubs.{stub_from, stub_is}
 use Rattle.wild_references.proofs.Symbols.{IsResolvedBy, resolved_flag}
 use Rattle.wild_references.proofs.SlotFlags.{symbol_fits}
-use Rattle.wild_meaning.specs.Value.{HasFlag}
-use Rattle.wild_types.specs.declared.symbol.ValueFlags.{ValueFlags}
 use Rattle.wild_references.proofs.StubCode.{StubLaws}
 
 -- ---- the second slot

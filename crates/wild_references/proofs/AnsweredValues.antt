@@ -1,15 +1,8 @@
 -- What the world answers for a symbol is its value: another module's, or the output's own.
-use Rattle.std.proofs.Common.{◌≡◌, ℕ, ◌+◌, ◌-◌, ◌%◌, ◌^◌, inl, inr, Bool, true, false, Some, Ok, refl, arith, subst}
-use Rattle.wild_words.proofs.ListLemmas.{holds_at}
-use Rattle.wild_types.specs.declared.symbol.Resolution.{Resolution}
-use Rattle.wild_types.specs.declared.layout.Layout.{Layout}
-use Rattle.wild_types.specs.Lookups.{canonical}
-use Rattle.wild_loader.specs.Changes.{distance_of}
-use Rattle.wild_loader.specs.declared.world.Answer.{Answer}
-use Rattle.wild_loader.specs.declared.world.World.{World}
-use Rattle.wild_meaning.specs.Value.{HasRaw, HasAnswer, HasValue, HasSize, IsReplaceable, may_be_replaced}
+use Rattle.wild_references.proofs.Common.{◌≡◌, ℕ, ◌+◌, ◌-◌, ◌%◌, ◌^◌, inl, inr, Bool, true, false, Some, Ok, refl, arith, subst, holds_at, Resolution, Layout, canonical, distance_of, Answer, World, HasRaw, HasAnswer, HasValue, IsReplaceable, may_be_replaced, IsAnswer}
+use Rattle.wild_meaning.specs.Value.{HasSize}
 use Rattle.wild_meaning.specs.Thread.{HasThreadOffset}
-use Rattle.wild_meaning.specs.World.{AnswersSymbols, IsAnswer}
+use Rattle.wild_meaning.specs.World.{AnswersSymbols}
 use Rattle.wild_references.proofs.EntryWords.{IsAnsweredBy}
 use Rattle.wild_references.proofs.Symbols.{IsResolvedBy}
 

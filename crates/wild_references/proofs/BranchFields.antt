@@ -1,81 +1,30 @@
 -- The fields of AArch64's rows that keep the bytes around them: a branch, and the distance of a stub, goes to the symbol's stub, or of an own symbol
 -- to itself.
-use Rattle.std.proofs.Common.{◌≡◌, ℕ, ◌+◌, ◌-◌, ◌%◌, ◌^◌, ◌<◌, ◌≤◌, ◌⊎◌, inl, inr, Bool, true, false, refl, sym, ap, ◌∙◌, arith, subst}
-use Rattle.std.specs.Prelude.{Option, Some, None, Ok, ◌&&◌, ◌||◌, not, is_none, nat_lt, nat_le, if◌then◌else◌, All, Contains, length}
-use Rattle.std.specs.List.{list_all}
-use Rattle.std.proofs.lemmas.Bool.{cases_Bool, not-true, and_parts, lt-ltb, le-leb}
-use Rattle.std.specs.Int.{w64, cast_unsigned}
-use Rattle.wild_words.proofs.Basics.{implied, listed_passes, slice_get_inside}
-use Rattle.wild_words.proofs.ListLemmas.{holds_at}
-use Rattle.wild_records.specs.Abi.Relocation.{r_aarch64_tstbr14, r_aarch64_condbr19, r_aarch64_jump26, r_aarch64_call26}
+use Rattle.wild_references.proofs.Common.{◌≡◌, ℕ, ◌+◌, ◌-◌, ◌%◌, ◌^◌, ◌<◌, ◌≤◌, ◌⊎◌, inl, inr, Bool, true, false, refl, sym, ap, ◌∙◌, arith, subst, Option, Some, None, Ok, ◌&&◌, ◌||◌, not, is_none, nat_lt, nat_le, if◌then◌else◌, All, Contains, length, list_all, cases_Bool, not-true, and_parts, le-leb, w64, cast_unsigned, implied, listed_passes, slice_get_inside, holds_at, r_aarch64_tstbr14, r_aarch64_condbr19, r_aarch64_jump26, r_aarch64_call26, Machine, InputRelocation, Item, Layout, has_flag, interposable, ifunc, undefined_weak, plt_stub, KeepsAll, is_position_independent, place_of, allocated, executable, row_of, flags_at, is_barred, kind_treatment, row_accepts, expression_of, allows, size_width, Value, Formula, formula, StubDistance, Distance, Bits, Imm26Field, WithinPower, aarch64_formula, contains, static_row, Subtrahend, PageMask, RelocationKindInfo, RelocationSize, takes_symbol, takes_value, is_listed, branch_types, info_by, rows_aarch64, Row, SymbolTest, ValueTest, IsApplied, applied, question_around, NamesSymbol, DefinitionNames, names_merged, address_for, field_site, address_of, stub_of, stub_address, subtract, is_undefined_weak_without_stub, subtracts_place, weak_resolves_to_place, undefined_weak_target, term_at, value_in, HasField, ComesTo, Memory, World, Holds, IsSum, IsReferent, IsReferentOnAArch64, Gives, IsPlaceRelative, formula_of, FieldReads, place_at, HasRaw, HasFlag, MustHold, TakesStub, IsOmitted, bit_code, flag_is, FieldHolds, is_expressed, value_by_row, IsDirect, HasTerm, IsFollowed, EachThunkJumps, AllowsThunks, NamesStrings}
+use Rattle.std.proofs.lemmas.Bool.{lt-ltb}
 use Rattle.wild_types.specs.declared.fault.Missing.TheVariants as missing
-use Rattle.wild_types.specs.declared.kind.Machine.{Machine}
 use Rattle.wild_types.specs.declared.kind.Machine.TheVariants as machine
-use Rattle.wild_types.specs.declared.input.InputRelocation.{InputRelocation}
-use Rattle.wild_types.specs.Item.{Item}
-use Rattle.wild_types.specs.declared.layout.Layout.{Layout}
-use Rattle.wild_types.specs.Flags.{has_flag, interposable, ifunc, undefined_weak, plt_stub}
-use Rattle.wild_types.specs.HeaderOnly.{KeepsAll}
-use Rattle.wild_types.specs.Kinds.{is_position_independent}
-use Rattle.wild_types.specs.Lookups.{place_of, allocated, executable}
-use Rattle.wild_types.specs.Rows.{row_of}
 use Rattle.wild_slot.specs.declared.treatment.Treatment.TheVariants as treatments
-use Rattle.wild_slot.specs.Treatment.{flags_at, is_barred_type, has_no_local_address, is_barred, kind_treatment, row_accepts}
-use Rattle.wild_reloc.specs.Expression.{expression_of}
-use Rattle.wild_reloc.specs.Field.{allows, size_width}
-use Rattle.wild_reloc.specs.Formula.{Value, Formula, formula, StubDistance, Distance, Bits, Imm26Field, WithinPower}
-use Rattle.wild_reloc.specs.FormulaAArch64.{aarch64_formula}
-use Rattle.wild_reloc.specs.Range.{contains}
-use Rattle.wild_reloc.specs.TableAArch64.{static_row, signed}
-use Rattle.wild_reloc.specs.declared.expression.Subtrahend.{Subtrahend}
+use Rattle.wild_slot.specs.Treatment.{is_barred_type, has_no_local_address}
+use Rattle.wild_reloc.specs.TableAArch64.{signed}
 use Rattle.wild_reloc.specs.declared.range.AllowedRange.{AllowedRange}
 use Rattle.wild_reloc.specs.declared.expression.Term.TheVariants as term
 use Rattle.wild_reloc.specs.declared.expression.Subtrahend.TheVariants as subtrahend
-use Rattle.wild_reloc.specs.declared.info.PageMask.{PageMask}
-use Rattle.wild_reloc.specs.declared.info.RelocationKindInfo.{RelocationKindInfo}
-use Rattle.wild_reloc.specs.declared.info.RelocationSize.{RelocationSize}
-use Rattle.wild_relax.specs.RowSymbols.{takes_symbol, takes_value}
 use Rattle.wild_meaning.proofs.SymbolLemmas.{distance_denotes}
-use Rattle.wild_reloc.specs.BarredTypes.{is_listed}
-use Rattle.wild_meaning.specs.ReferentAArch64.{branch_types}
-use Rattle.wild_relax.specs.RewriteX86_64.{distance_type, or_nothing, type_row, info_by}
-use Rattle.wild_relax.specs.RowsAArch64.{rows_aarch64}
-use Rattle.wild_relax.specs.declared.row.Row.{Row}
+use Rattle.wild_relax.specs.RewriteX86_64.{distance_type, or_nothing, type_row}
 use Rattle.wild_relax.specs.declared.row.Distance.{Distance as Branch}
 use Rattle.wild_relax.specs.declared.row.Distance.TheVariants as distances
 use Rattle.wild_relax.specs.declared.row.Goal.{Goal}
 use Rattle.wild_relax.specs.declared.row.Goal.TheVariants as goals
-use Rattle.wild_relax.specs.declared.row.SymbolTest.{SymbolTest}
 use Rattle.wild_relax.specs.declared.row.SymbolTest.TheVariants as symbol
-use Rattle.wild_relax.specs.declared.row.ValueTest.{ValueTest}
 use Rattle.wild_relax.specs.declared.row.Written.{Written}
 use Rattle.wild_relax.specs.declared.row.Written.TheVariants as written
-use Rattle.wild_relax.proofs.RoomLemmas.{IsApplied, applied}
-use Rattle.wild_layout.specs.Choice.{question_around}
-use Rattle.wild_layout.specs.Geometry.{NamesSymbol, DefinitionNames}
-use Rattle.wild_layout.specs.Merged.{names_merged, address_for}
-use Rattle.wild_layout.specs.Sites.{field_site}
-use Rattle.wild_layout.specs.SlotValues.{address_of, stub_of, stub_address}
-use Rattle.wild_layout.specs.Values.{subtract, is_undefined_weak_without_stub, subtracts_place, weak_resolves_to_place, undefined_weak_target, term_at, value_in}
 use Rattle.wild_layout.proofs.ChoiceLemmas.{IsChosenAArch64}
-use Rattle.wild_layout.proofs.DecideLemmas.{HasField}
-use Rattle.wild_layout.proofs.ThunkFieldLemmas.{IsCarried, ComesTo}
+use Rattle.wild_layout.proofs.ThunkFieldLemmas.{IsCarried}
 use Rattle.wild_layout.proofs.DecisionLemmas.{IsDistance, IsKeptAArch64, goes_far, distance_has_value, distance_row}
-use Rattle.wild_loader.specs.declared.memory.Memory.{Memory}
-use Rattle.wild_loader.specs.declared.world.World.{World}
-use Rattle.wild_loader.specs.Memory.{Holds}
-use Rattle.wild_meaning.specs.Formula.{IsSum, IsReferent, IsReferentOnAArch64, Gives, IsPlaceRelative}
-use Rattle.wild_meaning.specs.Field.{formula_of, FieldReads}
-use Rattle.wild_meaning.specs.Item.{place_at}
 use Rattle.wild_meaning.specs.Section.{IsForDebuggers}
 use Rattle.wild_meaning.specs.Template.{CanHave}
-use Rattle.wild_meaning.specs.Value.{HasRaw, HasFlag}
-use Rattle.wild_meaning.specs.Reference.{MustHold, TakesStub, BranchesDirectly, IsOmitted}
-use Rattle.wild_meaning.proofs.BitLemmas.{bit_code}
-use Rattle.wild_geometry.proofs.JudgedLemmas.{flag_is}
-use Rattle.wild_references.specs.Laws.{FieldHolds}
-use Rattle.wild_references.specs.Terms.{is_expressed, value_by_row, IsDirect, HasTerm, IsFollowed}
-use Rattle.wild_references.specs.Thunks.{EachThunkJumps, AllowsThunks}
+use Rattle.wild_meaning.specs.Reference.{BranchesDirectly}
 use Rattle.wild_references.proofs.Fields.{KindLaws, IsItemLoaded, old_field, old_long, field_within, place_is, place_ends, comes_low, row_reads, row_keeps}
 use Rattle.wild_references.proofs.KnownRows.{RowFits, row_fits}
 use Rattle.wild_references.proofs.OmittedReferences.{all_or_bare}
@@ -88,7 +37,6 @@ use Rattle.wild_references.proofs.ValueKinds.{more}
 use Rattle.wild_references.proofs.Values.{has_raw}
 use Rattle.wild_references.proofs.WrittenFields.{IsBranchField, address_given, given_some}
 use Rattle.wild_meaning.proofs.StringLemmas.{referent_by}
-use Rattle.wild_meaning.specs.Strings.{NamesStrings}
 use Rattle.wild_references.proofs.MergedStrings.{names_none, plain_address}
 
 -- ---- the rows

@@ -1,23 +1,12 @@
 -- Instructions that overlap: by a table over each pair of an instruction that is kept and a row's pattern, and each distance, they
 -- clash in a byte, or the pattern has a byte of a field of the instruction.
-use Rattle.std.proofs.Common.{◌≡◌, ℕ, zero, suc, ◌+◌, ◌-◌, ◌<◌, ◌≤◌, ◌⊎◌, inl, inr, Bool, true, false, List, [], ◌∷◌, length, get_or, refl, sym, ap, ◌∙◌, arith, subst, drop, take, slice_range}
-use Rattle.std.specs.Prelude.{not, ◌&&◌, ◌||◌, ◌==◌}
-use Rattle.std.specs.List.{list_all}
-use Rattle.std.proofs.lemmas.Bool.{and_parts, cases_lt, eqb-true, or_cases, or_right}
+use Rattle.wild_references.proofs.Common.{◌≡◌, ℕ, zero, suc, ◌+◌, ◌-◌, ◌<◌, ◌≤◌, ◌⊎◌, inl, inr, Bool, true, false, List, [], ◌∷◌, length, get_or, refl, sym, ap, ◌∙◌, arith, subst, drop, take, slice_range, not, ◌&&◌, ◌||◌, ◌==◌, list_all, and_parts, cases_lt, eqb-true, or_cases, not_both, Cell, Row, pattern_cells, rows_x86_64, pattern_of, keeps_bytes, Is, From, Slot, Digit, Any, fits, matches_cells, Instruction, instructions_of}
+use Rattle.std.proofs.lemmas.Bool.{or_right}
 use Rattle.std.proofs.lemmas.List.{get_or-drop, drop-drop, length-drop}
-use Rattle.wild_words.proofs.Basics.{not_both}
 use Rattle.wild_types.specs.declared.kind.Machine.TheVariants as machine
-use Rattle.wild_relax.specs.declared.pattern.Cell.{Cell}
 use Rattle.wild_relax.specs.declared.pattern.Cell.TheVariants as its
-use Rattle.wild_relax.specs.declared.row.Row.{Row}
-use Rattle.wild_relax.specs.Pattern.{pattern_cells}
 use Rattle.wild_relax.specs.Pattern as pattern
-use Rattle.wild_relax.specs.Rows.{rows_x86_64}
-use Rattle.wild_relax.specs.LinkedPattern.{pattern_of, keeps_bytes}
 use Rattle.wild_loader.specs.declared.instruction.Cell as own-cell
-use Rattle.wild_loader.specs.declared.instruction.Cell.TheVariants.{Is, From, Slot, Digit, Any}
-use Rattle.wild_loader.specs.Instruction.{fits, matches_cells}
-use Rattle.wild_meaning.specs.Sequence.{Instruction, instructions_of}
 use Rattle.wild_references.proofs.Fills.{is_any}
 
 -- ---- no byte fits both cells

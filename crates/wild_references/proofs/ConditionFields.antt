@@ -1,46 +1,17 @@
 -- Conditional branches of AArch64 to undefined weak symbols: which go by a stub, and the fields of those that take the output's own symbol.
-use Rattle.std.proofs.Common.{◌≡◌, ℕ, ◌<◌, ◌≤◌, ◌⊎◌, inl, inr, true, false, length, refl, sym, ap, ◌∙◌, arith, subst}
-use Rattle.std.specs.Prelude.{Option, Some, None, Result, Ok, slice_get}
-use Rattle.std.proofs.lemmas.Bool.{cases_Bool}
-use Rattle.wild_words.proofs.Basics.{slice_get_inside}
-use Rattle.wild_records.specs.Abi.Relocation.{r_aarch64_tstbr14, r_aarch64_condbr19}
-use Rattle.wild_types.specs.declared.kind.Machine.{Machine}
+use Rattle.wild_references.proofs.Common.{◌≡◌, ℕ, ◌<◌, ◌≤◌, ◌⊎◌, inl, inr, true, false, length, refl, sym, ap, ◌∙◌, arith, subst, Option, Some, None, Result, Ok, slice_get, cases_Bool, slice_get_inside, r_aarch64_tstbr14, r_aarch64_condbr19, Machine, InputRelocation, Item, Layout, has_flag, interposable, ifunc, undefined_weak, plt_stub, place_of, flags_at, subtrahend_of, Value, Distance, PageMask, RelocationInfo, UnknownSequence, Row, relocation_of, Decision, nameless, question_around, choice_on, choice, subtract, is_undefined_weak_without_stub, undefined_weak_target, term_at, value_in, relocation_around, IsOwn, Memory, World, GivesLinked, IsPlaceRelative, TakesAddress, TakesOffset, HasPlace, MustHold, HasStubAddress, UsesOwnDefinition, UsesOwnSymbolOnly, HasFlag, IsReplaceable, code_bit, bit_code, flag_is, SymbolsFit, HasTerm}
 use Rattle.wild_types.specs.declared.kind.Machine.TheVariants as machine
-use Rattle.wild_types.specs.declared.input.InputRelocation.{InputRelocation}
-use Rattle.wild_types.specs.Item.{Item}
-use Rattle.wild_types.specs.declared.layout.Layout.{Layout}
-use Rattle.wild_types.specs.Flags.{has_flag, interposable, ifunc, undefined_weak, plt_stub}
-use Rattle.wild_types.specs.Lookups.{place_of}
-use Rattle.wild_slot.specs.Treatment.{flags_at}
-use Rattle.wild_reloc.specs.Expression.{subtrahend_of}
-use Rattle.wild_reloc.specs.Formula.{Value, Distance}
-use Rattle.wild_reloc.specs.declared.info.PageMask.{PageMask}
 use Rattle.wild_reloc.specs.declared.info.RelocationKind.TheVariants as kinds
-use Rattle.wild_relax.specs.declared.reference.RelocationInfo.{RelocationInfo}
-use Rattle.wild_relax.specs.declared.reference.UnknownSequence.{UnknownSequence}
-use Rattle.wild_relax.specs.declared.row.Row.{Row}
 use Rattle.wild_relax.specs.declared.row.Distance.{Distance as Branch}
 use Rattle.wild_relax.specs.declared.row.Goal.{Goal}
 use Rattle.wild_relax.specs.declared.row.Goal.TheVariants as goals
-use Rattle.wild_relax.specs.Question.{relocation_of}
 use Rattle.wild_relax.specs.Relaxation.{chosen_row_of}
 use Rattle.wild_relax.proofs.TogetherLemmas.{conditional_chosen}
-use Rattle.wild_layout.specs.declared.decision.Decision.{Decision}
-use Rattle.wild_layout.specs.Choice.{nameless, question_around, choice_on, choice}
-use Rattle.wild_layout.specs.Values.{subtract, is_undefined_weak_without_stub, undefined_weak_target, term_at, value_in}
 use Rattle.wild_layout.proofs.QuestionLemmas.{around_choice}
-use Rattle.wild_layout.proofs.ChoiceLemmas.{relocation_around}
-use Rattle.wild_layout.proofs.DecisionLemmas.{IsOwn, goes_far}
+use Rattle.wild_layout.proofs.DecisionLemmas.{goes_far}
 use Rattle.wild_layout.proofs.ThunkFieldLemmas.{comes_alone}
-use Rattle.wild_loader.specs.declared.memory.Memory.{Memory}
-use Rattle.wild_loader.specs.declared.world.World.{World}
-use Rattle.wild_meaning.specs.Formula.{GivesLinked, IsPlaceRelative, TakesAddress, TakesOffset}
-use Rattle.wild_meaning.specs.Reference.{HasPlace, MustHold, HasStubAddress, UsesOwnDefinition, BranchesThroughStub, UsesOwnSymbolOnly}
-use Rattle.wild_meaning.specs.Value.{HasFlag, IsReplaceable}
-use Rattle.wild_meaning.proofs.BitLemmas.{code_bit, bit_code}
-use Rattle.wild_geometry.proofs.JudgedLemmas.{flag_is}
+use Rattle.wild_meaning.specs.Reference.{BranchesThroughStub}
 use Rattle.wild_references.specs.Laws.{FieldIsLinked}
-use Rattle.wild_references.specs.Terms.{SymbolsFit, HasTerm}
 use Rattle.wild_references.proofs.OwnSymbolReferences.{taken, takes_none}
 use Rattle.wild_references.proofs.BranchFields.{near_type, new_row, far_value, near_value, symbol_value, no_mask, near_alone, suits_goal, expressed_goal, treated_goal, BranchReads}
 use Rattle.wild_references.proofs.Fields.{LinkedLaws}

@@ -1,31 +1,13 @@
 -- The descriptor of a thread-local symbol in memory: a loader noted the symbol's offset from the thread pointer for it.
-use Rattle.std.proofs.Common.{◌≡◌, ℕ, ◌+◌, ◌^◌, ◌<◌, inl, inr, Bool, true, false, List, [], ◌∷◌, ◌++◌, Option, Some, None, refl, sym, ap, ◌∙◌, arith, subst}
-use Rattle.std.specs.Prelude.{⊤, ◌&&◌, ◌||◌, not, if◌then◌else◌}
-use Rattle.wild_reloc.specs.Formula.{Descriptor}
-use Rattle.wild_reloc.specs.declared.dynamic.DynamicRelocationKind.TheVariants.{DtpMod, TlsDesc}
+use Rattle.wild_references.proofs.Common.{◌≡◌, ℕ, ◌+◌, ◌^◌, ◌<◌, inl, inr, Bool, true, false, List, [], ◌∷◌, ◌++◌, Option, Some, None, refl, sym, ap, ◌∙◌, arith, subst, ⊤, ◌&&◌, ◌||◌, not, if◌then◌else◌, Descriptor, DtpMod, SlotItem, Resolution, ValueFlags, Layout, KeepsAll, has_flag, interposable, dynamic, copy_relocation, export_dynamic, got_tls_offset, got_tls_module, got_tls_descriptor, is_executable, is_static_executable, setting_of, general, named, items_if, thread_items, minus, has_thread_slot, after_word, after_pair, first_value, Memory, World, HasWord, may_be_replaced, word_below, IsPlaced}
+use Rattle.wild_reloc.specs.declared.dynamic.DynamicRelocationKind.TheVariants.{TlsDesc}
 use Rattle.wild_reloc.specs.declared.expression.SlotSort.TheVariants as sorts
 use Rattle.wild_slot.specs.declared.slot.SlotFault.TheVariants.{NoDynamicSymbol, TlsOutOfSegment, StaticTlsDesc}
-use Rattle.wild_slot.specs.declared.slot.SlotItem.{SlotItem}
 use Rattle.wild_slot.specs.declared.slot.SlotItem.TheVariants.{Word, Stub, Fault}
-use Rattle.wild_types.specs.declared.symbol.Resolution.{Resolution}
-use Rattle.wild_types.specs.declared.symbol.ValueFlags.{ValueFlags}
-use Rattle.wild_types.specs.declared.layout.Layout.{Layout}
-use Rattle.wild_types.specs.HeaderOnly.{KeepsAll}
-use Rattle.wild_types.specs.Flags.{has_flag, interposable, dynamic, copy_relocation, export_dynamic, got_tls_offset, got_tls_module, got_tls_descriptor}
-use Rattle.wild_types.specs.Kinds.{is_executable, is_static_executable}
 use Rattle.wild_slot.specs.declared.slot.Setting.{Setting}
-use Rattle.wild_slot.specs.Slots.{setting_of, number, general, named, is_replaceable, module_item, module_offset, module_offset_item, described, descriptor_item, items_if, offset_item, module_items, descriptor_items, thread_items}
-use Rattle.wild_slot.specs.Storage.{minus, is_outside}
-use Rattle.wild_types.specs.SymbolSlots.{has_thread_slot}
-use Rattle.wild_layout.specs.SlotValues.{after_word, after_pair}
-use Rattle.wild_loader.specs.Changes.{first_value}
-use Rattle.wild_loader.specs.declared.memory.Memory.{Memory}
-use Rattle.wild_loader.specs.declared.world.World.{World}
-use Rattle.wild_meaning.specs.Slot.{HasWord}
+use Rattle.wild_slot.specs.Slots.{number, is_replaceable, module_item, module_offset, module_offset_item, described, descriptor_item, offset_item, module_items, descriptor_items}
+use Rattle.wild_slot.specs.Storage.{is_outside}
 use Rattle.wild_meaning.specs.Thread as judge
-use Rattle.wild_meaning.specs.Value.{may_be_replaced}
-use Rattle.wild_meaning.proofs.WorldLemmas.{word_below}
-use Rattle.wild_references.specs.Terms.{IsPlaced}
 use Rattle.wild_references.proofs.AnsweredValues.{has_answer, answered_offset}
 use Rattle.wild_references.proofs.EntryWords.{descriptor_filled, own_descriptor_filled}
 use Rattle.wild_references.proofs.FirstSlots.{thread_held}

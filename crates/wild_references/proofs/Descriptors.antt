@@ -1,34 +1,12 @@
 -- Where descriptors' references are offsets, each of them is rewritten: one that is kept is in no such code.
-use Rattle.std.proofs.Common.{◌≡◌, ℕ, ◌≤◌, ◌⊎◌, inl, inr, Bool, true, false, length, refl, ap, ◌∙◌, subst}
-use Rattle.std.specs.Prelude.{Option, Some, None, Ok, slice_get, ◌==◌, ◌||◌, not, if◌then◌else◌}
-use Rattle.std.proofs.lemmas.Bool.{cases_Bool, eq-eqb}
-use Rattle.wild_records.specs.Abi.Relocation.{r_x86_64_pc32, r_x86_64_gotpc32_tlsdesc, r_x86_64_code_4_gotpc32_tlsdesc, r_x86_64_tlsdesc_call}
-use Rattle.wild_types.specs.declared.kind.Machine.{Machine}
+use Rattle.wild_references.proofs.Common.{◌≡◌, ℕ, ◌≤◌, ◌⊎◌, inl, inr, Bool, true, false, length, refl, ap, ◌∙◌, subst, Option, Some, None, Ok, slice_get, ◌==◌, ◌||◌, not, if◌then◌else◌, cases_Bool, eq-eqb, r_x86_64_pc32, r_x86_64_gotpc32_tlsdesc, r_x86_64_code_4_gotpc32_tlsdesc, r_x86_64_tlsdesc_call, Machine, OutputKind, InputRelocation, Resolution, ValueFlags, Layout, has_flag, interposable, ifunc, got_tls_offset, got_tls_module, got_tls_descriptor, is_executable, is_static_executable, canonical, has_thread_slot, flags_at, Row, DESCRIPTOR_CALL, rows_x86_64, applies, question_of, choice_of, is_thread_type, after_word, after_pair, term_of, KnowsOffsets, HasOffsetMode, Item, code_bit, SymbolsFit}
 use Rattle.wild_types.specs.declared.kind.Machine.TheVariants as machine
-use Rattle.wild_types.specs.declared.kind.OutputKind.{OutputKind}
 use Rattle.wild_types.specs.declared.kind.OutputKind.TheVariants as output
 use Rattle.wild_types.specs.declared.fault.Missing.TheVariants as missing
-use Rattle.wild_types.specs.declared.input.InputRelocation.{InputRelocation}
-use Rattle.wild_types.specs.declared.symbol.Resolution.{Resolution}
-use Rattle.wild_types.specs.declared.symbol.ValueFlags.{ValueFlags}
-use Rattle.wild_types.specs.declared.layout.Layout.{Layout}
-use Rattle.wild_types.specs.Flags.{has_flag, interposable, ifunc, got_tls_offset, got_tls_module, got_tls_descriptor}
-use Rattle.wild_types.specs.Kinds.{is_executable, is_static_executable}
-use Rattle.wild_types.specs.Lookups.{canonical}
-use Rattle.wild_types.specs.SymbolSlots.{has_thread_slot}
-use Rattle.wild_slot.specs.Treatment.{flags_at}
 use Rattle.wild_reloc.specs.declared.expression.SlotSort.TheVariants as sorts
 use Rattle.wild_reloc.specs.declared.info.RelocationKind.TheVariants as kinds
-use Rattle.wild_relax.specs.declared.row.Row.{Row}
-use Rattle.wild_relax.specs.declared.table.TheConstants.{DESCRIPTOR, DESCRIPTOR_SLOT, DESCRIPTOR_2, DESCRIPTOR_SLOT_2, DESCRIPTOR_CALL}
-use Rattle.wild_relax.specs.Rows.{rows_x86_64, applies}
-use Rattle.wild_layout.specs.Choice.{question_of, choice_of, is_thread_type}
-use Rattle.wild_layout.specs.SlotValues.{slot_of, after_word, after_pair}
-use Rattle.wild_layout.specs.Values.{term_of}
-use Rattle.wild_meaning.specs.Formula.{KnowsOffsets, HasOffsetMode}
-use Rattle.wild_types.specs.Item.{Item}
-use Rattle.wild_meaning.proofs.BitLemmas.{code_bit}
-use Rattle.wild_references.specs.Terms.{SymbolsFit}
+use Rattle.wild_relax.specs.declared.table.TheConstants.{DESCRIPTOR, DESCRIPTOR_SLOT, DESCRIPTOR_2, DESCRIPTOR_SLOT_2}
+use Rattle.wild_layout.specs.SlotValues.{slot_of}
 use Rattle.wild_references.proofs.DescriptorSlots.{thread_of}
 use Rattle.wild_references.proofs.Rows.{row_applies, nothing_stands, unchosen}
 use Rattle.wild_references.proofs.TableRows.{descriptor_at, descriptor_slot_at, descriptor_2_at, descriptor_slot_2_at, call_at}

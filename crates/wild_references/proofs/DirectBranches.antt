@@ -1,52 +1,19 @@
 -- A branch that goes directly to its symbol is written so by a row: of one that is decided of by itself the judge does not say that it does.
-use Rattle.std.proofs.Common.{◌≡◌, ℕ, ◌+◌, ◌<◌, ◌≤◌, ◌⊎◌, inl, inr, Bool, true, false, List, [], ◌∷◌, length, get_or, zero, suc, refl, sym, ap, ◌∙◌, arith, subst}
-use Rattle.std.specs.Prelude.{Option, Some, None, Ok, Err, All, ◌==◌, ◌||◌, not, if◌then◌else◌, is_some, slice_get}
-use Rattle.std.proofs.lemmas.Bool.{cases_Bool, and_from, eq-eqb, le-leb}
+use Rattle.wild_references.proofs.Common.{◌≡◌, ℕ, ◌+◌, ◌<◌, ◌≤◌, ◌⊎◌, inl, inr, Bool, true, false, List, [], ◌∷◌, length, get_or, zero, suc, refl, sym, ap, ◌∙◌, arith, subst, Option, Some, None, Ok, Err, All, ◌==◌, ◌||◌, not, if◌then◌else◌, is_some, slice_get, cases_Bool, and_from, eq-eqb, le-leb, Machine, OutputKind, InputRelocation, MergedString, Layout, Item, has_flag, interposable, non_interposable, ifunc, is_executable, is_static_executable, executable, flags_at, Pattern, RelocationInfo, UnknownSequence, Duty, Row, SymbolTest, ValueTest, first_standing, row_or_fault, pattern_matches_before, cells_match_at, Question, relocation_of, minus_four, has_its_sequence, takes_value, takes_symbol, is_mandatory, rows_x86_64, applies, unknown_sequence, first_row_x86_64, chosen_row_x86_64, rows_aarch64, chosen_row_aarch64, Decision, nameless, question_of, question_around, choice_by, choice_on, choice, DefinitionNames, merged_strings, names_merged, relocation_around, IsOwn, own_choice, NamesStrings, code_bit, flag_is}
 use Rattle.wild_records.specs.Abi.Relocation as abi
-use Rattle.wild_types.specs.declared.kind.Machine.{Machine}
 use Rattle.wild_types.specs.declared.kind.Machine.TheVariants as machine
-use Rattle.wild_types.specs.declared.kind.OutputKind.{OutputKind}
 use Rattle.wild_types.specs.declared.kind.OutputKind.TheVariants as output
-use Rattle.wild_types.specs.declared.input.InputRelocation.{InputRelocation}
-use Rattle.wild_types.specs.declared.input.MergedString.{MergedString}
-use Rattle.wild_types.specs.declared.layout.Layout.{Layout}
-use Rattle.wild_types.specs.Item.{Item}
-use Rattle.wild_types.specs.Flags.{has_flag, interposable, non_interposable, ifunc}
-use Rattle.wild_types.specs.Kinds.{is_executable, is_static_executable}
-use Rattle.wild_types.specs.Lookups.{executable}
-use Rattle.wild_slot.specs.Treatment.{flags_at}
-use Rattle.wild_relax.specs.declared.pattern.Pattern.{Pattern}
 use Rattle.wild_relax.specs.declared.pattern.Pattern.TheVariants as pattern
-use Rattle.wild_relax.specs.declared.reference.RelocationInfo.{RelocationInfo}
-use Rattle.wild_relax.specs.declared.reference.UnknownSequence.{UnknownSequence}
-use Rattle.wild_relax.specs.declared.row.Duty.{Duty}
 use Rattle.wild_relax.specs.declared.row.Duty.TheVariants as duty
-use Rattle.wild_relax.specs.declared.row.Row.{Row}
-use Rattle.wild_relax.specs.declared.row.SymbolTest.{SymbolTest}
 use Rattle.wild_relax.specs.declared.row.SymbolTest.TheVariants as symbol
-use Rattle.wild_relax.specs.declared.row.ValueTest.{ValueTest}
 use Rattle.wild_relax.specs.declared.row.ValueTest.TheVariants as value
 use Rattle.wild_relax.specs.declared.table.TheConstants.{PLT}
-use Rattle.wild_relax.specs.FirstRow.{first_standing, row_or_fault}
-use Rattle.wild_relax.specs.Pattern.{pattern_matches_before, cells_match_at}
-use Rattle.wild_relax.specs.Question.{Question, relocation_of, minus_four}
 use Rattle.wild_relax.specs.Relaxation.{chosen_row_of}
-use Rattle.wild_relax.specs.RowSequences.{has_its_sequence}
-use Rattle.wild_relax.specs.RowSymbols.{takes_value, takes_symbol, is_mandatory}
-use Rattle.wild_relax.specs.Rows.{rows_x86_64, applies, unknown_sequence, first_row_x86_64, chosen_row_x86_64}
-use Rattle.wild_relax.specs.RowsAArch64.{rows_aarch64, applies_aarch64, has_its_words, first_row_aarch64, chosen_row_aarch64}
+use Rattle.wild_relax.specs.RowsAArch64.{applies_aarch64, has_its_words, first_row_aarch64}
 use Rattle.wild_relax.specs.SequenceAArch64.{has_around}
-use Rattle.wild_layout.specs.declared.decision.Decision.{Decision}
-use Rattle.wild_layout.specs.Choice.{nameless, question_of, question_around, choice_by, choice_merged, choice_on, choice}
-use Rattle.wild_layout.specs.Geometry.{DefinitionNames}
-use Rattle.wild_layout.specs.Merged.{merged_strings, names_merged}
+use Rattle.wild_layout.specs.Choice.{choice_merged}
 use Rattle.wild_layout.proofs.QuestionLemmas.{around_choice}
-use Rattle.wild_layout.proofs.ChoiceLemmas.{relocation_around}
-use Rattle.wild_layout.proofs.DecisionLemmas.{IsOwn, own_choice}
 use Rattle.wild_meaning.specs.Reference.{HasNoDynamicLinker, BranchesDirectly}
-use Rattle.wild_meaning.specs.Strings.{NamesStrings}
-use Rattle.wild_meaning.proofs.BitLemmas.{code_bit}
-use Rattle.wild_geometry.proofs.JudgedLemmas.{flag_is}
 use Rattle.wild_references.proofs.KnownRows.{IsStubType}
 use Rattle.wild_references.proofs.MergedStrings.{has_strings}
 

@@ -1,31 +1,15 @@
 -- An instruction whose fields read as their formulas, and which keeps its own bytes, does in memory what it demands.
-use Rattle.std.proofs.Common.{◌≡◌, ℕ, zero, suc, ◌+◌, ◌-◌, ◌%◌, ◌^◌, ◌<◌, ◌≤◌, ◌⊎◌, inl, inr, Bool, true, false, List, [], ◌∷◌, length, get_or, slice_range, refl, sym, ap, ◌∙◌, arith, subst, eq-eqb}
-use Rattle.std.specs.Prelude.{nat_le, not, ◌==◌, ◌&&◌, ◌||◌, if◌then◌else◌, Some, Option, unwrap_or, Contains, slice_index, ⊤}
-use Rattle.std.specs.List.{list_all, list_any}
-use Rattle.std.proofs.lemmas.Bool.{cases_lt, leb-true, eqb-true, and_parts, or_cases}
-use Rattle.wild_words.specs.Words.{number, HasBytesAt}
+use Rattle.wild_references.proofs.Common.{◌≡◌, ℕ, zero, suc, ◌+◌, ◌-◌, ◌%◌, ◌^◌, ◌<◌, ◌≤◌, ◌⊎◌, inl, inr, Bool, true, false, List, [], ◌∷◌, length, get_or, slice_range, refl, sym, ap, ◌∙◌, arith, subst, nat_le, not, ◌==◌, ◌&&◌, ◌||◌, if◌then◌else◌, Some, Option, unwrap_or, Contains, slice_index, ⊤, list_all, cases_lt, leb-true, eqb-true, and_parts, or_cases, number, length-range, range_byte, listed_passes, implied, not_both, Machine, InputRelocation, Layout, Value, Formula, formula, NoValue, Distance, StubDistance, SlotDistance, AddressSlot, ModulePair, OwnModulePair, ThreadOffset, Descriptor, NoField, Plain, Reads, sign_extended, x86_64_formula, World, Memory, Holds, byte_in, r_x86_64_none, r_x86_64_pc32, r_x86_64_plt32, r_x86_64_gotpcrel, r_x86_64_gottpoff, r_x86_64_gotpc32_tlsdesc, r_x86_64_code_4_gotpc32_tlsdesc, r_x86_64_tlsdesc_call, r_x86_64_tlsgd, r_x86_64_tlsld, Operand, Number, Word, sum_64, Sort, Target, TargetInSlot, AddressInSlot, OffsetInSlot, SymbolPair, OwnPair, Described, DescribedCall, FieldBits, Instruction, size_of, IsOutsidePartners, IsOwnByte, instructions_of, Item, place_at, formula_of, form_width, FieldReads, IsInputByte, Gives, HasOffsetMode, IsInstruction, reads, Demands, old_bytes, are_several}
+use Rattle.std.proofs.Common.{eq-eqb}
+use Rattle.std.specs.List.{list_any}
+use Rattle.wild_words.specs.Words.{HasBytesAt}
 use Rattle.wild_words.proofs.RecordLemmas.{HasBytesAt-slice}
-use Rattle.wild_words.proofs.Basics.{length-range, range_byte, listed_passes, implied, not_both}
-use Rattle.wild_types.specs.declared.kind.Machine.{Machine}
 use Rattle.wild_types.specs.declared.kind.Machine.TheVariants as machine
-use Rattle.wild_types.specs.declared.input.InputRelocation.{InputRelocation}
-use Rattle.wild_types.specs.declared.layout.Layout.{Layout}
-use Rattle.wild_reloc.specs.Formula.{Value, Formula, formula, NoValue, Distance, StubDistance, SlotDistance, AddressSlot, ModulePair, OwnModulePair, ThreadOffset, Descriptor, NoField, Plain, Signed, Reads, sign_extended}
-use Rattle.wild_reloc.specs.FormulaX86_64.{x86_64_formula}
-use Rattle.wild_loader.specs.declared.world.World.{World}
-use Rattle.wild_loader.specs.declared.memory.Memory.{Memory}
-use Rattle.wild_loader.specs.Memory.{Holds, byte_in}
-use Rattle.wild_records.specs.Abi.Relocation.{r_x86_64_none, r_x86_64_pc32, r_x86_64_plt32, r_x86_64_gotpcrel, r_x86_64_gotpcrelx, r_x86_64_rex_gotpcrelx, r_x86_64_code_4_gotpcrelx, r_x86_64_gottpoff, r_x86_64_code_4_gottpoff, r_x86_64_gotpc32_tlsdesc, r_x86_64_code_4_gotpc32_tlsdesc, r_x86_64_tlsdesc_call, r_x86_64_tlsgd, r_x86_64_tlsld}
-use Rattle.wild_loader.specs.declared.instruction.Operand.{Operand}
-use Rattle.wild_loader.specs.declared.instruction.Operand.TheVariants.{Number, Word, Pair}
-use Rattle.wild_loader.specs.Instruction.{signed_32, signed_at, sum_64}
-use Rattle.wild_meaning.specs.Sequence.{Sort, Target, TargetInSlot, AddressInSlot, OffsetInSlot, SymbolPair, OwnPair, Described, DescribedCall, Address, FieldBits, Instruction, Partner, size_of, IsOutsidePartners, IsOwnByte, instructions_of}
-use Rattle.wild_types.specs.Item.{Item}
-use Rattle.wild_meaning.specs.Item.{place_at}
-use Rattle.wild_meaning.specs.Field.{formula_of, form_width, FieldReads, IsInputByte}
-use Rattle.wild_meaning.specs.Formula.{Gives, HasOffsetMode}
-use Rattle.wild_meaning.specs.Template.{IsInstruction, reads, Demands, old_bytes}
-use Rattle.wild_meaning.proofs.PairLemmas.{are_several}
+use Rattle.wild_reloc.specs.Formula.{Signed}
+use Rattle.wild_records.specs.Abi.Relocation.{r_x86_64_gotpcrelx, r_x86_64_rex_gotpcrelx, r_x86_64_code_4_gotpcrelx, r_x86_64_code_4_gottpoff}
+use Rattle.wild_loader.specs.declared.instruction.Operand.TheVariants.{Pair}
+use Rattle.wild_loader.specs.Instruction.{signed_32, signed_at}
+use Rattle.wild_meaning.specs.Sequence.{Address, Partner}
 use Rattle.wild_references.specs.FilledX86_64.{IsFilled}
 use Rattle.wild_references.proofs.Fills.{Each, each_at}
 

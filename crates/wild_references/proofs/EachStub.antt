@@ -1,24 +1,12 @@
 -- Each stub in memory goes on to the address in its symbol's first slot.
-use Rattle.std.proofs.Common.{◌≡◌, ℕ, ◌+◌, Bool, true, false, List, ◌∷◌, Option, Some, None, refl, sym, ap, ◌∙◌, subst}
-use Rattle.std.specs.Prelude.{is_some, if◌then◌else◌}
-use Rattle.wild_reloc.specs.declared.dynamic.DynamicRelocationKind.TheVariants.{GotEntry, JumpSlot}
-use Rattle.wild_words.proofs.ListLemmas.{holds_at}
-use Rattle.wild_types.specs.declared.symbol.Resolution.{Resolution}
-use Rattle.wild_types.specs.declared.layout.Layout.{Layout}
-use Rattle.wild_types.specs.Flags.{has_flag, canonical_plt}
-use Rattle.wild_types.specs.ResolvedFlags.{HasItsFlags}
-use Rattle.wild_types.specs.SymbolSlots.{resolved_got, plt_of, resolved_plt, has_dynamic_symbol, has_thread_slot}
+use Rattle.wild_references.proofs.Common.{◌≡◌, ℕ, ◌+◌, Bool, true, false, List, ◌∷◌, Option, Some, None, refl, sym, ap, ◌∙◌, subst, is_some, if◌then◌else◌, GotEntry, holds_at, Resolution, Layout, has_flag, HasItsFlags, resolved_got, plt_of, has_dynamic_symbol, has_thread_slot, SlotItem, SlotWord, General, setting_of, named, general, Memory, World, HasWord, IsDefinedBy, canonical_is}
+use Rattle.wild_reloc.specs.declared.dynamic.DynamicRelocationKind.TheVariants.{JumpSlot}
+use Rattle.wild_types.specs.Flags.{canonical_plt}
+use Rattle.wild_types.specs.SymbolSlots.{resolved_plt}
 use Rattle.wild_plan_rules.proofs.ClauseLemmas.{not_thread}
-use Rattle.wild_slot.specs.declared.slot.SlotItem.{SlotItem}
 use Rattle.wild_slot.specs.declared.slot.SlotItem.TheVariants.{Word}
-use Rattle.wild_slot.specs.declared.slot.SlotWord.{SlotWord}
-use Rattle.wild_slot.specs.declared.slot.SlotWord.TheVariants.{General, Plt}
-use Rattle.wild_slot.specs.Slots.{setting_of, named, general, plt, plain_item}
-use Rattle.wild_loader.specs.declared.memory.Memory.{Memory}
-use Rattle.wild_loader.specs.declared.world.World.{World}
-use Rattle.wild_meaning.specs.Slot.{HasWord}
-use Rattle.wild_meaning.specs.Value.{IsDefinedBy}
-use Rattle.wild_meaning.proofs.SymbolLemmas.{canonical_is}
+use Rattle.wild_slot.specs.declared.slot.SlotWord.TheVariants.{Plt}
+use Rattle.wild_slot.specs.Slots.{plt, plain_item}
 use Rattle.wild_references.specs.Stubs.{StubsJumpToSlots, StubsAreOfSymbols}
 use Rattle.wild_references.proofs.Symbols.{IsResolvedBy}
 use Rattle.wild_references.proofs.WholeSections.{placed_output}

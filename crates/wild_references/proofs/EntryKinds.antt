@@ -1,69 +1,30 @@
 -- What an entry stores in a field that is left to it is what the formula of the relocation gives.
-use Rattle.std.proofs.Common.{◌≡◌, ℕ, suc, ◌+◌, ◌*◌, ◌/◌, ◌%◌, ◌^◌, ◌<◌, ◌≤◌, ◌-◌, ◌⊎◌, inl, inr, Bool, true, false, List, length, Option, Some, None, Result, Ok, Err, refl, sym, ap, ◌∙◌, arith, subst}
-use Rattle.std.specs.Prelude.{FitsSigned, ◌==◌, ◌&&◌, ◌||◌, not, nat_le, nat_lt, option_and_then, option_map, slice_get}
-use Rattle.std.specs.Int.{w64, cast_unsigned, cast_signed}
-use Rattle.std.specs.List.{list_all}
-use Rattle.std.proofs.lemmas.Bool.{cases_Bool, eqb-true, eq-eqb, leb-true, ltb-true, or_cases}
+use Rattle.wild_references.proofs.Common.{◌≡◌, ℕ, suc, ◌+◌, ◌*◌, ◌/◌, ◌%◌, ◌^◌, ◌<◌, ◌≤◌, ◌-◌, ◌⊎◌, inl, inr, Bool, true, false, List, length, Option, Some, None, Result, Ok, Err, refl, sym, ap, ◌∙◌, arith, subst, FitsSigned, ◌==◌, ◌&&◌, ◌||◌, not, nat_le, nat_lt, option_and_then, option_map, slice_get, w64, cast_unsigned, list_all, cases_Bool, eqb-true, eq-eqb, leb-true, ltb-true, or_cases, word, slice_get_inside, signed_fits, Fault, Machine, Resolution, ValueFlags, InputRelocation, Layout, Treatment, has_dynamic_entry, has_flag, interposable, dynamic, ifunc, absolute, non_interposable, copy_relocation, export_dynamic, is_position_independent, canonical, writable, allocated, row_of, flags_at, needs_symbolic, needs_irelative, address_treatment, kind_treatment, treatment, is_barred, is_narrow, moves, allows, field_width, Formula, formula, Form, Value, Full, Plain, Reads, Keeps, SymbolAddress, Size, x86_64_formula, plain, x86_64_rows, x86_64_row, Irelative, RelocationKind, RelocationKindInfo, RelocationSize, ByteSize, Four, Eight, entry_passes, DynamicField, decided, sum, symbol_size, resolution_of, decided_left, known_extent, known_indirect, known_symbolic, NamesSymbol, RowsAreRead, InMemory, LoadFault, Memory, World, formula_of, IsSymbolAddress, IsSum, Gives, Item, HasRaw, HasOwnValue, HasFlag, HasAnswer, IsReplaceable, may_be_replaced, is_library, IsPlaced, processor_of, NamesStrings}
+use Rattle.std.specs.Int.{cast_signed}
 use Rattle.std.proofs.lemmas.Int.{of_z-to_z}
-use Rattle.wild_words.specs.Words.{word}
 use Rattle.wild_words.specs.Words as words
 use Rattle.wild_words.proofs.WordLemmas.{number-word, number-word_2, number-word_4}
-use Rattle.wild_words.proofs.Basics.{slice_get_inside, of_if}
+use Rattle.wild_words.proofs.Basics.{of_if}
 use Rattle.wild_records.specs.Abi.Relocation.{r_x86_64_size32, r_x86_64_size64}
-use Rattle.wild_records.proofs.FieldLemmas.{signed_fits}
-use Rattle.wild_types.specs.declared.fault.Fault.{Fault}
 use Rattle.wild_types.specs.declared.fault.Missing.TheVariants as missing
-use Rattle.wild_types.specs.declared.kind.Machine.{Machine}
 use Rattle.wild_types.specs.declared.kind.Machine.TheVariants as machine
-use Rattle.wild_types.specs.declared.symbol.Resolution.{Resolution}
-use Rattle.wild_types.specs.declared.symbol.ValueFlags.{ValueFlags}
-use Rattle.wild_types.specs.declared.input.InputRelocation.{InputRelocation}
-use Rattle.wild_types.specs.declared.layout.Layout.{Layout}
-use Rattle.wild_slot.specs.declared.treatment.Treatment.{Treatment}
 use Rattle.wild_slot.specs.declared.treatment.Treatment.TheVariants as treatments
-use Rattle.wild_needs.specs.Entries.{has_dynamic_entry}
-use Rattle.wild_types.specs.Flags.{has_flag, interposable, dynamic, ifunc, absolute, non_interposable, copy_relocation, export_dynamic}
-use Rattle.wild_types.specs.Kinds.{is_position_independent}
-use Rattle.wild_types.specs.Lookups.{canonical, writable, allocated}
-use Rattle.wild_types.specs.Rows.{row_of}
 use Rattle.wild_slot.specs.SlotParts.{type_of}
 use Rattle.wild_slot.specs.Slots.{is_replaceable}
-use Rattle.wild_slot.specs.Treatment.{flags_at, needs_symbolic, needs_irelative, address_treatment, kind_treatment, treatment, is_barred, is_narrow, moves}
-use Rattle.wild_reloc.specs.Field.{allows, field_width}
-use Rattle.wild_reloc.specs.Formula.{Formula, formula, Form, Value, Full, Plain, Unsigned, Reads, Keeps, SymbolAddress, Size}
-use Rattle.wild_reloc.specs.FormulaX86_64.{x86_64_formula}
-use Rattle.wild_reloc.specs.Table.{plain}
-use Rattle.wild_reloc.specs.TableX86_64.{x86_64_rows, x86_64_row}
-use Rattle.wild_reloc.specs.declared.dynamic.DynamicRelocationKind.TheVariants.{Absolute, Irelative}
-use Rattle.wild_reloc.specs.declared.info.RelocationKind.{RelocationKind}
+use Rattle.wild_reloc.specs.Formula.{Unsigned}
+use Rattle.wild_reloc.specs.declared.dynamic.DynamicRelocationKind.TheVariants.{Absolute}
 use Rattle.wild_reloc.specs.declared.info.RelocationKind.TheVariants as kinds
-use Rattle.wild_reloc.specs.declared.info.RelocationKindInfo.{RelocationKindInfo}
-use Rattle.wild_reloc.specs.declared.info.RelocationSize.{RelocationSize}
-use Rattle.wild_reloc.specs.declared.info.RelocationSize.TheVariants.{ByteSize}
-use Rattle.wild_reloc.specs.declared.info.Width.TheVariants.{Four, Eight}
 use Rattle.wild_reloc.specs.declared.range.Sign.TheVariants as row_sign
-use Rattle.wild_reloc.proofs.TableLemmas.{entry_passes}
-use Rattle.wild_layout.specs.declared.decision.Decision.TheVariants.{DynamicField}
-use Rattle.wild_layout.specs.Decide.{addend_bits, dynamic_decision, ifunc_decision, decide_by, decided}
-use Rattle.wild_layout.specs.SymbolValues.{sum, symbol_size}
-use Rattle.wild_layout.specs.SlotValues.{resolution_of, index_of, decided_address}
-use Rattle.wild_layout.proofs.DecideLemmas.{sized_parts, decided_left, known_extent, known_indirect, known_symbolic}
-use Rattle.wild_layout.specs.Geometry.{NamesSymbol}
+use Rattle.wild_layout.specs.Decide.{addend_bits, dynamic_decision, ifunc_decision, decide_by}
+use Rattle.wild_layout.specs.SlotValues.{index_of, decided_address}
+use Rattle.wild_layout.proofs.DecideLemmas.{sized_parts}
 use Rattle.wild_slot.proofs.TreatmentLemmas.{has_value, IsLeftToResolver}
-use Rattle.wild_geometry.specs.MachineFacts.{RowsAreRead}
-use Rattle.wild_geometry.specs.Loaded.{InMemory, MakesChange, stored_bytes, ReadsFilledField}
+use Rattle.wild_geometry.specs.Loaded.{MakesChange, stored_bytes, ReadsFilledField}
 use Rattle.wild_loader.specs.Changes.{kind_of, change_of, answer_at}
 use Rattle.wild_loader.specs.declared.change.Change.{Change}
 use Rattle.wild_loader.specs.declared.change.Change.TheVariants as changes
-use Rattle.wild_loader.specs.declared.fault.LoadFault.{LoadFault}
 use Rattle.wild_loader.specs.declared.kind.DynamicKind.TheVariants as works
-use Rattle.wild_loader.specs.declared.memory.Memory.{Memory}
-use Rattle.wild_loader.specs.declared.world.World.{World}
-use Rattle.wild_meaning.specs.Field.{formula_of}
-use Rattle.wild_meaning.specs.Formula.{IsSymbolAddress, IsSum, IsExtent, IsWhole, Gives}
-use Rattle.wild_types.specs.Item.{Item}
-use Rattle.wild_meaning.specs.Value.{HasRaw, HasOwnValue, HasFlag, HasAnswer, IsReplaceable, may_be_replaced, is_library}
-use Rattle.wild_references.specs.Terms.{IsPlaced}
+use Rattle.wild_meaning.specs.Formula.{IsExtent, IsWhole}
 use Rattle.wild_references.specs.Laws.{EntriesGive}
 use Rattle.wild_references.proofs.AnsweredValues.{has_answer, answered_value, answered_size}
 use Rattle.wild_references.proofs.EntryWords.{IsAnsweredBy, after_known, after_step, change_by}
@@ -75,10 +36,8 @@ use Rattle.wild_references.proofs.Symbols.{IsResolvedBy, resolved, resolved_raw,
 use Rattle.wild_references.proofs.MovingSymbols.{treated_by, peeled}
 use Rattle.wild_references.proofs.ValueKinds.{more}
 use Rattle.wild_references.proofs.WrittenFields.{row_here, given_some}
-use Rattle.wild_meaning.specs.LinkedImage.{processor_of}
 use Rattle.wild_loader.specs.declared.memory.Machine.{Machine as Processor}
 use Rattle.wild_geometry.proofs.MachineLemmas.{facts_of}
-use Rattle.wild_meaning.specs.Strings.{NamesStrings}
 use Rattle.wild_references.proofs.MergedStrings.{open_none, resolver_none}
 
 -- ---- what a decision says of the entry

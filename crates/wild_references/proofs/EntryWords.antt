@@ -1,26 +1,19 @@
 -- What an entry leaves of the word of a slot.
-use Rattle.std.proofs.Common.{◌≡◌, ◌≢◌, ℕ, ◌+◌, ◌%◌, ◌^◌, ◌<◌, false, Option, Some, None, Result, Ok, Err, refl, sym, ap, ◌∙◌, arith, subst}
-use Rattle.std.specs.Prelude.{◌==◌, slice_get, All}
-use Rattle.std.specs.Int.{w64, cast_unsigned, cast_signed}
-use Rattle.std.proofs.lemmas.Bool.{ne_eqb}
+use Rattle.wild_references.proofs.Common.{◌≡◌, ◌≢◌, ℕ, ◌+◌, ◌%◌, ◌^◌, ◌<◌, false, Option, Some, None, Result, Ok, Err, refl, sym, ap, ◌∙◌, arith, subst, ◌==◌, slice_get, All, w64, cast_unsigned, ne_eqb, DtpMod, Irelative, first_value, distance_of, LoadFault, Memory, Answer, World, IsAnswer}
+use Rattle.std.specs.Int.{cast_signed}
 use Rattle.std.proofs.lemmas.Int.{of_z-to_z}
 use Rattle.wild_reloc.specs.declared.dynamic.DynamicRelocationKind.{DynamicRelocationKind}
-use Rattle.wild_reloc.specs.declared.dynamic.DynamicRelocationKind.TheVariants.{DtpMod, DtpOff, TpOff, TlsDesc, Irelative}
+use Rattle.wild_reloc.specs.declared.dynamic.DynamicRelocationKind.TheVariants.{DtpOff, TpOff, TlsDesc}
 use Rattle.wild_geometry.specs.Loaded.{MakesChange, entry_with}
 use Rattle.wild_geometry.specs.Slots.{IsWordAfterChange, IsFilledBy}
 use Rattle.wild_loader.specs.Outcome.{◌>>=◌, known}
-use Rattle.wild_loader.specs.Changes.{kind_of, change_of, answer_of, answer_at, first_value, module_and_offset, distance_of, thread_offset}
+use Rattle.wild_loader.specs.Changes.{kind_of, change_of, answer_of, answer_at, module_and_offset, thread_offset}
 use Rattle.wild_loader.specs.declared.change.Change.{Change}
 use Rattle.wild_loader.specs.declared.change.Change.TheVariants as changes
-use Rattle.wild_loader.specs.declared.fault.LoadFault.{LoadFault}
 use Rattle.wild_loader.specs.declared.kind.DynamicKind.{DynamicKind}
 use Rattle.wild_loader.specs.declared.memory.Machine.TheVariants as processors
-use Rattle.wild_loader.specs.declared.memory.Memory.{Memory}
-use Rattle.wild_loader.specs.declared.world.Answer.{Answer}
-use Rattle.wild_loader.specs.declared.world.World.{World}
 use Rattle.wild_loader.specs.declared.memory.Machine.{Machine as Processor}
 use Rattle.wild_geometry.specs.EntryKinds.{loaded_kind, address_kind}
-use Rattle.wild_meaning.specs.World.{IsAnswer}
 use Rattle.wild_words.proofs.Basics.{listed_at}
 use Rattle.std.proofs.lemmas.List.Elements.{All-contains}
 

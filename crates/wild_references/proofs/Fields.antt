@@ -1,52 +1,21 @@
 -- A kept section in memory, and the fields of its relocations.
-use Rattle.std.proofs.Common.{◌≡◌, ℕ, ℤ, ◌+◌, ◌%◌, ◌^◌, ◌<◌, ◌≤◌, ◌⊎◌, inl, inr, Bool, true, false, List, [], ◌∷◌, length, get_or, slice_range, refl, sym, ap, ◌∙◌, arith, subst}
-use Rattle.std.specs.Prelude.{Some, All, slice_get, if◌then◌else◌, ◌==◌}
-use Rattle.std.specs.List.{list_all}
-use Rattle.std.proofs.lemmas.Bool.{and_parts}
-use Rattle.wild_words.specs.Words.{word}
+use Rattle.wild_references.proofs.Common.{◌≡◌, ℕ, ℤ, ◌+◌, ◌%◌, ◌^◌, ◌<◌, ◌≤◌, ◌⊎◌, inl, inr, Bool, true, false, List, [], ◌∷◌, length, get_or, slice_range, refl, sym, ap, ◌∙◌, arith, subst, Some, All, slice_get, if◌then◌else◌, ◌==◌, list_all, and_parts, word, get_or_from_slice_get, slice_get-get_or, length-range, range_byte, holds_at, Machine, InputRelocation, Layout, KeepsAll, place_of, allocated, field_width, size_width, written, Formula, Form, NoField, Plain, Full, Bits, Keeps, Reads, RelocationKindInfo, x86_64_formula, RelocationSize, subtrahend_of, Subtrahend, subtract, value_in, field_site, HasField, ComesTo, NamesSymbol, AddendFits, Item, place_at, formula_of, form_width, FieldReads, World, Memory, Holds, RowsAreRead, InMemory, IsPlaced, TermGives, HasBytes, EachThunkJumps, processor_of}
 use Rattle.wild_words.proofs.WordLemmas.{number-word, length-word}
-use Rattle.std.proofs.lemmas.Option.{get_or_from_slice_get, slice_get-get_or}
-use Rattle.wild_words.proofs.Basics.{length-range, range_byte}
-use Rattle.wild_words.proofs.ListLemmas.{holds_at}
-use Rattle.wild_types.specs.declared.kind.Machine.{Machine}
 use Rattle.wild_types.specs.declared.kind.Machine.TheVariants as machine
-use Rattle.wild_types.specs.declared.input.InputRelocation.{InputRelocation}
-use Rattle.wild_types.specs.declared.layout.Layout.{Layout}
-use Rattle.wild_types.specs.HeaderOnly.{KeepsAll}
-use Rattle.wild_types.specs.Lookups.{place_of, allocated}
-use Rattle.wild_reloc.specs.Field.{field_width, size_width, written}
-use Rattle.wild_reloc.specs.Formula.{Formula, Form, formula_at, NoField, Plain, Full, Bits, Keeps, Reads}
+use Rattle.wild_reloc.specs.Formula.{formula_at}
 use Rattle.wild_reloc.specs.Agreement.{WidthsHold}
-use Rattle.wild_reloc.specs.declared.info.RelocationKindInfo.{RelocationKindInfo}
-use Rattle.wild_reloc.specs.FormulaX86_64.{x86_64_formula, x86_64_formulas}
+use Rattle.wild_reloc.specs.FormulaX86_64.{x86_64_formulas}
 use Rattle.wild_reloc.specs.declared.expression.Term.TheVariants as term
-use Rattle.wild_reloc.specs.declared.info.RelocationSize.{RelocationSize}
-use Rattle.wild_reloc.specs.Expression.{subtrahend_of}
-use Rattle.wild_reloc.specs.declared.expression.Subtrahend.{Subtrahend}
 use Rattle.wild_reloc.specs.declared.expression.Subtrahend.TheVariants as subtrahend
-use Rattle.wild_layout.specs.Values.{subtract, value_in}
-use Rattle.wild_layout.specs.Sites.{field_site}
-use Rattle.wild_layout.proofs.DecideLemmas.{HasField, field_has_bytes}
-use Rattle.wild_layout.proofs.ThunkFieldLemmas.{ComesTo}
+use Rattle.wild_layout.proofs.DecideLemmas.{field_has_bytes}
 use Rattle.wild_layout.proofs.SiteLemmas.{field_lies}
 use Rattle.wild_layout.specs.SectionPlaces.{FieldLies}
-use Rattle.wild_layout.specs.Geometry.{NamesSymbol}
-use Rattle.wild_layout.specs.Numbers.{AddendFits}
-use Rattle.wild_types.specs.Item.{Item}
-use Rattle.wild_meaning.specs.Item.{place_at}
-use Rattle.wild_meaning.specs.Field.{formula_of, form_width, FieldReads}
-use Rattle.wild_loader.specs.declared.world.World.{World}
-use Rattle.wild_loader.specs.declared.memory.Memory.{Memory}
-use Rattle.wild_loader.specs.Memory.{Holds}
-use Rattle.wild_geometry.specs.MachineFacts.{RowsAreRead}
-use Rattle.wild_geometry.specs.Loaded.{Stage, InMemory, ReadsFilledField, HasItem}
-use Rattle.wild_references.specs.Terms.{IsPlaced}
-use Rattle.wild_references.specs.Laws.{TermGives, TermGivesLinked, StubsRepresentSymbols, SlotsGive, PartsGive, PartsGiveLinked, HasBytes, AddressesGive, AddressesGiveLinked, EntriesGive}
-use Rattle.wild_references.specs.Thunks.{EachThunkJumps, ThunksGive}
+use Rattle.wild_geometry.specs.Loaded.{Stage, ReadsFilledField, HasItem}
+use Rattle.wild_references.specs.Laws.{TermGivesLinked, StubsRepresentSymbols, SlotsGive, PartsGive, PartsGiveLinked, AddressesGive, AddressesGiveLinked, EntriesGive}
+use Rattle.wild_references.specs.Thunks.{ThunksGive}
 use Rattle.wild_references.proofs.KnownRows.{RowFits}
 use Rattle.wild_references.proofs.LowForms.{is_low, reads_low}
 use Rattle.wild_references.proofs.WrittenFields.{IsValue, IsAddress, IsLeftField}
-use Rattle.wild_meaning.specs.LinkedImage.{processor_of}
 
 -- ---- fields of whole bytes
 

@@ -1,35 +1,24 @@
 -- A word of AArch64 code whose field is filled: it is the input's word with those bits in its field, and does what that is to do.
-use Rattle.std.proofs.Common.{◌≡◌, ℕ, suc, ◌+◌, ◌-◌, ◌*◌, ◌/◌, ◌%◌, ◌^◌, ◌⊎◌, inl, inr, Bool, true, false, List, [], ◌∷◌, length, refl, sym, ap, ◌∙◌, subst, arith, eqb-true, eq-eqb}
-use Rattle.std.specs.Prelude.{◌==◌, ◌&&◌, ◌||◌, ◌++◌, not, map, Option, Some, None, option_map, option_and_then, Contains}
-use Rattle.std.specs.List.{list_all}
-use Rattle.std.proofs.lemmas.Bool.{and_parts, or_cases, or_parts}
-use Rattle.wild_words.specs.Words.{number}
-use Rattle.wild_words.proofs.Basics.{listed_passes}
-use Rattle.wild_records.specs.Abi.Relocation.{r_aarch64_jump26, r_aarch64_call26}
-use Rattle.wild_reloc.specs.Formula.{Formula, Form as FieldForm, Bits, Field as Place, AdrField, Imm12Field, Imm14Field, Imm16Field, Imm19Field, Imm26Field, immediate, others, WithinPower, sign_extended, ReadsBits, Reads, Keeps}
-use Rattle.wild_reloc.specs.FormulaAArch64.{aarch64_formula}
-use Rattle.wild_aarch64.specs.declared.code.Code.{Code}
-use Rattle.wild_aarch64.specs.declared.code.Code.TheVariants.{Adr, Adrp, Movz, Movk, Movn, Add, Ldr, Access, Literal, B, Bl, BranchIf, Br, Blr, Hint}
+use Rattle.wild_references.proofs.Common.{◌≡◌, ℕ, suc, ◌+◌, ◌-◌, ◌*◌, ◌/◌, ◌%◌, ◌^◌, ◌⊎◌, inl, inr, Bool, true, false, List, [], ◌∷◌, length, refl, sym, ap, ◌∙◌, subst, arith, ◌==◌, ◌&&◌, ◌||◌, ◌++◌, not, map, Option, Some, None, option_map, option_and_then, Contains, list_all, and_parts, or_cases, number, listed_passes, r_aarch64_jump26, r_aarch64_call26, Formula, Bits, AdrField, Imm12Field, Imm26Field, immediate, others, WithinPower, sign_extended, Reads, Keeps, aarch64_formula, Code, Adrp, Add, Ldr, Blr, has_fixed_bits, read, does, run, meaning, shapes, words_of, Action, Jump, Call, Number, Reader, Effect, effect, with_value, as_value, action_of, has_known_meaning, reads_numbers, form_width}
+use Rattle.std.proofs.Common.{eqb-true, eq-eqb}
+use Rattle.std.proofs.lemmas.Bool.{or_parts}
+use Rattle.wild_reloc.specs.Formula.{Form as FieldForm, Field as Place, Imm14Field, Imm16Field, Imm19Field, ReadsBits}
+use Rattle.wild_aarch64.specs.declared.code.Code.TheVariants.{Adr, Movz, Movk, Movn, Access, Literal, B, Bl, BranchIf, Br, Hint}
 use Rattle.wild_aarch64.specs.declared.operand.Action as run-action
 use Rattle.wild_aarch64.specs.declared.operand.Operand as run-operand
 use Rattle.wild_aarch64.specs.declared.operand.Deed.TheVariants as runs
 use Rattle.wild_aarch64.specs.Immediate.{Field, word_with_immediate, insert_bits, bits_of_field, Imm12, Imm14, Imm16, Imm19, Imm21, Imm26}
 use Rattle.wild_aarch64.specs.Immediate as word
-use Rattle.wild_aarch64.specs.Slice.{bits, signed, Fixed, Form, has_fixed_bits}
+use Rattle.wild_aarch64.specs.Slice.{bits, signed, Fixed, Form}
 use Rattle.wild_aarch64.specs.Forms.{branch, call, forms, addresses, accesses, vector_accesses, literals, transfers, conditions}
 use Rattle.wild_aarch64.specs.FilledForms.{filled_forms, forms_at, forms_filled}
-use Rattle.wild_aarch64.specs.Code.{read, read_by, read_address, read_access, read_vector_access, read_literal, read_transfer, read_condition}
-use Rattle.wild_aarch64.specs.Machine.{does, goes_on, outcome, set, run, meaning}
-use Rattle.wild_aarch64.specs.Effect.{without_immediate, shapes, words_of}
+use Rattle.wild_aarch64.specs.Code.{read_by, read_address, read_access, read_vector_access, read_literal, read_transfer, read_condition}
+use Rattle.wild_aarch64.specs.Machine.{goes_on, outcome, set}
+use Rattle.wild_aarch64.specs.Effect.{without_immediate}
 use Rattle.wild_aarch64.proofs.ListLemmas.{for_each}
 use Rattle.wild_aarch64.proofs.FieldLemmas.{forms_are_read, fields_are_written, b_field, bl_field}
-use Rattle.wild_loader.specs.declared.instruction.Action.{Action}
-use Rattle.wild_loader.specs.declared.instruction.Deed.TheVariants.{Jump, Call}
-use Rattle.wild_loader.specs.declared.instruction.Operand.TheVariants.{Number}
-use Rattle.wild_loader.specs.Instruction.{Reader, Effect, effect, with_value, as_value}
-use Rattle.wild_loader.specs.InstructionAArch64.{action_of, effect_aarch64, demand_aarch64}
-use Rattle.wild_meaning.specs.WordsAArch64.{is_of, has_known_meaning, is_filled, with_field, with_field_of, reads_numbers, effect_with}
-use Rattle.wild_meaning.specs.Field.{form_width}
+use Rattle.wild_loader.specs.InstructionAArch64.{effect_aarch64, demand_aarch64}
+use Rattle.wild_meaning.specs.WordsAArch64.{is_of, is_filled, with_field, with_field_of, effect_with}
 use Rattle.wild_meaning.specs.Template.{bits_of, CanHave}
 
 -- ---- bits that no word has at once

@@ -1,21 +1,11 @@
 -- An instruction with its fields filled does what its input's bytes demand.
-use Rattle.std.proofs.Common.{◌≡◌, ℕ, zero, suc, ◌+◌, ◌*◌, ◌/◌, ◌%◌, ◌^◌, ◌<◌, ◌≤◌, ◌⊎◌, inl, inr, Bool, true, false, List, [], ◌∷◌, length, get_or, refl, sym, ap, ◌∙◌, arith, subst}
-use Rattle.std.specs.Prelude.{◌&&◌, ◌||◌, nat_le, nat_lt, Some, Option, option_map, option_and_then, slice_index, ⊤}
-use Rattle.std.proofs.lemmas.Bool.{leb-true, ltb-true, and_parts, or_cases, and_from}
+use Rattle.wild_references.proofs.Common.{◌≡◌, ℕ, zero, suc, ◌+◌, ◌*◌, ◌/◌, ◌%◌, ◌^◌, ◌<◌, ◌≤◌, ◌⊎◌, inl, inr, Bool, true, false, List, [], ◌∷◌, length, get_or, refl, sym, ap, ◌∙◌, arith, subst, ◌&&◌, ◌||◌, nat_le, nat_lt, Some, Option, option_map, option_and_then, slice_index, ⊤, leb-true, ltb-true, and_parts, or_cases, and_from, Is, From, Slot, Digit, Any, Operand, Number, Word, Action, Set, Subtract, Compare, Call, Jump, fits, matches_cells, Reader, Effect, effect, with_value, as_value, no_prefix, rex, rex2, branch, with_slot, general_call, general_slot_call, far_pair_call, local_call, local_slot_call, descriptor_call, r_x86_64_pc32, r_x86_64_plt32, r_x86_64_gotpcrel, r_x86_64_gottpoff, r_x86_64_gotpc32_tlsdesc, r_x86_64_code_4_gotpc32_tlsdesc, r_x86_64_tlsdesc_call, r_x86_64_tlsgd, r_x86_64_tlsld, Target, TargetInSlot, AddressInSlot, OffsetInSlot, SymbolPair, OwnPair, Described, DescribedCall, Instruction, size_of, IsOutsidePartners, IsOwnByte, of_field, by_call, by_slot, by_distance, instructions_of}
 use Rattle.wild_types.specs.declared.kind.Machine.TheVariants as machine
 use Rattle.wild_loader.specs.declared.instruction.Cell.{Cell}
-use Rattle.wild_loader.specs.declared.instruction.Cell.TheVariants.{Is, From, Slot, Digit, Any}
-use Rattle.wild_loader.specs.declared.instruction.Operand.{Operand}
-use Rattle.wild_loader.specs.declared.instruction.Operand.TheVariants.{Number, Word}
-use Rattle.wild_loader.specs.declared.instruction.Action.{Action}
 use Rattle.wild_loader.specs.declared.instruction.Deed.{Deed}
-use Rattle.wild_loader.specs.declared.instruction.Deed.TheVariants.{Set, Add, Subtract, Compare, Call, Jump}
-use Rattle.wild_loader.specs.Instruction.{fits, matches_cells, Reader, Effect, effect, with_value, as_value}
-use Rattle.wild_loader.specs.CodeX86_64.{no_prefix, rex, rex2, branch, with_slot}
-use Rattle.wild_loader.specs.ThreadCodeX86_64.{general_call, general_slot_call, far_pair_call, local_call, local_slot_call}
-use Rattle.wild_loader.specs.InstructionX86_64.{descriptor_call}
-use Rattle.wild_records.specs.Abi.Relocation.{r_x86_64_pc32, r_x86_64_plt32, r_x86_64_gotpcrel, r_x86_64_gotpcrelx, r_x86_64_rex_gotpcrelx, r_x86_64_code_4_gotpcrelx, r_x86_64_gottpoff, r_x86_64_code_4_gottpoff, r_x86_64_gotpc32_tlsdesc, r_x86_64_code_4_gotpc32_tlsdesc, r_x86_64_tlsdesc_call, r_x86_64_tlsgd, r_x86_64_tlsld}
-use Rattle.wild_meaning.specs.Sequence.{any_words, Target, TargetInSlot, AddressInSlot, OffsetInSlot, SymbolPair, OwnPair, Described, DescribedCall, Instruction, Partner, size_of, IsOutsidePartners, IsOwnByte, of_field, of_sequence, of_output, of_symbol, by_call, by_slot, by_distance, instructions_of}
+use Rattle.wild_loader.specs.declared.instruction.Deed.TheVariants.{Add}
+use Rattle.wild_records.specs.Abi.Relocation.{r_x86_64_gotpcrelx, r_x86_64_rex_gotpcrelx, r_x86_64_code_4_gotpcrelx, r_x86_64_code_4_gottpoff}
+use Rattle.wild_meaning.specs.Sequence.{any_words, Partner, of_sequence, of_output, of_symbol}
 use Rattle.wild_references.specs.FilledX86_64.{IsFilled, HasEffect, FilledInstructionsDo}
 use Rattle.wild_references.proofs.Acts as acts
 use Rattle.wild_references.proofs.Acts.{IsMeant}

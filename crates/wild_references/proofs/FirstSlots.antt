@@ -1,33 +1,15 @@
 -- The first slot of an address has the symbol's value.
-use Rattle.std.proofs.Common.{◌≡◌, ℕ, ◌+◌, ◌%◌, ◌^◌, ◌<◌, ◌⊎◌, inl, inr, Bool, true, false, List, ◌∷◌, ◌++◌, Option, Some, None, refl, sym, ap, ◌∙◌, arith, subst}
-use Rattle.std.specs.Prelude.{◌&&◌, ◌||◌, not, if◌then◌else◌}
+use Rattle.wild_references.proofs.Common.{◌≡◌, ℕ, ◌+◌, ◌%◌, ◌^◌, ◌<◌, ◌⊎◌, inl, inr, Bool, true, false, List, ◌∷◌, ◌++◌, Option, Some, None, refl, sym, ap, ◌∙◌, arith, subst, ◌&&◌, ◌||◌, not, if◌then◌else◌, GotEntry, Irelative, OutputKind, SlotItem, SlotWord, General, Resolution, Symbol, ValueFlags, Layout, has_flag, interposable, has_link_time_address, absolute, dynamic, ifunc, non_interposable, copy_relocation, export_dynamic, KeepsAll, is_position_independent, canonical, setting_of, named, general, stub_items, ifunc_address_items, canonical_address_items, thread_items, distance_if_too_far, resolved_got, has_dynamic_symbol, has_thread_slot, IsLoadedWord, HasWords, Memory, World, HasWord, IsValue, HasValue, IsReplaceable, is_library, may_be_replaced, with_base, IsPlaced}
 use Rattle.wild_reloc.specs.declared.dynamic.DynamicRelocationKind.{DynamicRelocationKind}
-use Rattle.wild_reloc.specs.declared.dynamic.DynamicRelocationKind.TheVariants.{GotEntry, JumpSlot, Irelative}
-use Rattle.wild_types.specs.declared.kind.OutputKind.{OutputKind}
+use Rattle.wild_reloc.specs.declared.dynamic.DynamicRelocationKind.TheVariants.{JumpSlot}
 use Rattle.wild_slot.specs.declared.slot.SlotEntry.{SlotEntry}
 use Rattle.wild_slot.specs.declared.slot.Setting.{Setting}
-use Rattle.wild_slot.specs.declared.slot.SlotItem.{SlotItem}
 use Rattle.wild_slot.specs.declared.slot.SlotItem.TheVariants.{Word}
-use Rattle.wild_slot.specs.declared.slot.SlotWord.{SlotWord}
-use Rattle.wild_slot.specs.declared.slot.SlotWord.TheVariants.{Number, Address, InRelrGot, General, Plt}
-use Rattle.wild_types.specs.declared.symbol.Resolution.{Resolution}
-use Rattle.wild_types.specs.declared.symbol.Symbol.{Symbol}
-use Rattle.wild_types.specs.declared.symbol.ValueFlags.{ValueFlags}
-use Rattle.wild_types.specs.declared.layout.Layout.{Layout}
-use Rattle.wild_types.specs.Flags.{has_flag, interposable, has_link_time_address, absolute, dynamic, ifunc, non_interposable, copy_relocation, export_dynamic, canonical_plt}
-use Rattle.wild_types.specs.HeaderOnly.{KeepsAll}
-use Rattle.wild_types.specs.Kinds.{is_position_independent}
-use Rattle.wild_types.specs.Lookups.{canonical}
-use Rattle.wild_slot.specs.Slots.{setting_of, named, general, plt, number, plain_item, stub_items, ifunc_address_items, canonical_address_items, slot_items, items_at, thread_items, address_items, slot}
+use Rattle.wild_slot.specs.declared.slot.SlotWord.TheVariants.{Number, Address, InRelrGot, Plt}
+use Rattle.wild_types.specs.Flags.{canonical_plt}
+use Rattle.wild_slot.specs.Slots.{plt, number, plain_item, slot_items, items_at, address_items, slot}
 use Rattle.wild_slot.specs.SymbolWords.{resolved_slots, slots_of}
-use Rattle.wild_slot.specs.MachineStub.{distance_if_too_far}
-use Rattle.wild_types.specs.SymbolSlots.{resolved_got, has_dynamic_symbol, has_thread_slot}
-use Rattle.wild_geometry.specs.Slots.{IsFilledBy, IsLoadedWord, HasWords, HasSymbolSlots}
-use Rattle.wild_loader.specs.declared.memory.Memory.{Memory}
-use Rattle.wild_loader.specs.declared.world.World.{World}
-use Rattle.wild_meaning.specs.Slot.{HasWord}
-use Rattle.wild_meaning.specs.Value.{IsValue, HasValue, IsReplaceable, is_library, may_be_replaced, with_base}
-use Rattle.wild_references.specs.Terms.{IsPlaced}
+use Rattle.wild_geometry.specs.Slots.{IsFilledBy, HasSymbolSlots}
 use Rattle.wild_references.proofs.AnsweredValues.{has_answer, answered_value}
 use Rattle.wild_references.proofs.EntryWords.{address_filled, chosen_filled}
 use Rattle.wild_references.proofs.Symbols.{IsResolvedBy, replaceable_by, resolved_raw, resolved_flag}

@@ -1,20 +1,9 @@
 -- Each reference of a loaded section holds.
-use Rattle.std.proofs.Common.{◌≡◌, ℕ, suc, inl, inr, ap, ◌∙◌, arith}
-use Rattle.std.specs.Prelude.{Some, Contains}
-use Rattle.std.proofs.lemmas.Option.{slice_get-get_or}
-use Rattle.wild_types.specs.declared.kind.Machine.{Machine}
-use Rattle.wild_types.specs.declared.input.InputRelocation.{InputRelocation}
-use Rattle.wild_types.specs.declared.layout.Layout.{Layout}
-use Rattle.wild_layout.specs.declared.decision.Decision.{Decision}
-use Rattle.wild_layout.specs.declared.decision.Decision.TheVariants.{Nothing, Field, RelativeAddress, DynamicField, Rewritten, Partner}
-use Rattle.wild_geometry.specs.Loaded.{HasDecision}
-use Rattle.wild_loader.specs.declared.world.World.{World}
-use Rattle.wild_loader.specs.declared.memory.Memory.{Memory}
-use Rattle.wild_references.specs.Laws.{KeepsInstruction, IsKeptReference, FieldsHold, IsLoadedItem}
-use Rattle.wild_types.specs.Item.{Item}
+use Rattle.wild_references.proofs.Common.{◌≡◌, ℕ, suc, inl, inr, ap, ◌∙◌, arith, Some, Contains, slice_get-get_or, Machine, InputRelocation, Layout, Decision, Nothing, Field, RelativeAddress, DynamicField, Rewritten, Partner, HasDecision, World, Memory, KeepsInstruction, IsKeptReference, IsLoadedItem, Item, MustHold, UsesOwnSymbolOnly, IsOmitted, HoldsRewritten, InstructionsAreKept}
+use Rattle.wild_references.specs.Laws.{FieldsHold}
 use Rattle.wild_meaning.specs.Item.{IsReference}
-use Rattle.wild_meaning.specs.Reference.{MustHold, UsesOwnSymbolOnly, IsOmitted, HoldsWithSequence, HoldsRewritten, LinkedHolds, ReferenceHolds}
-use Rattle.wild_references.specs.EffectLaws.{RewrittenHold, PartnersHold, RewrittenAreFollowed, InstructionsAreKept, OthersAreKept, KeptInstructionsDo, ItemsHold}
+use Rattle.wild_meaning.specs.Reference.{HoldsWithSequence, LinkedHolds, ReferenceHolds}
+use Rattle.wild_references.specs.EffectLaws.{RewrittenHold, PartnersHold, RewrittenAreFollowed, OthersAreKept, KeptInstructionsDo, ItemsHold}
 
 record AreKnown : Type 0 where
   rewritten : RewrittenHold

@@ -2,47 +2,19 @@
 --   same_kept       one of two relocations that are the same is not rewritten where the other keeps its instruction
 --   run_is_kept     where one relocation of a run is kept, each is
 --   call_is_kept    no word that is rewritten has a byte of the call of a run that is kept
-use Rattle.std.proofs.Common.{◌≡◌, ℕ, zero, suc, ◌+◌, ◌*◌, ◌<◌, ◌≤◌, ◌⊎◌, inl, inr, true, false, List, [], ◌∷◌, length, get_or, refl, sym, ap, ◌∙◌, subst, arith, eq-eqb}
-use Rattle.std.specs.Prelude.{⊤, ◌==◌, slice_get, Option, Some, None, Ok, Contains}
+use Rattle.wild_references.proofs.Common.{◌≡◌, ℕ, zero, suc, ◌+◌, ◌*◌, ◌<◌, ◌≤◌, ◌⊎◌, inl, inr, true, false, List, [], ◌∷◌, length, get_or, refl, sym, ap, ◌∙◌, subst, arith, ⊤, ◌==◌, slice_get, Option, Some, None, Ok, Contains, and_from, cases_eq, cases_lt, slice_get_within, holds_at, Machine, InputRelocation, Layout, Item, Formula, Sequence, DescriptorCall, OffsetSlot, Address, RelocationInfo, Row, CALL_FOURTH, CALL_FOURTH_SLOT, pattern_size, Question, relocation_of, applies, unknown_sequence, rows_aarch64, chosen_row_aarch64, types_of, RowsApplyTogether, Decision, Nothing, Field, RelativeAddress, DynamicField, Rewritten, Partner, question_around, choice_on, template_start, relocation_around, IsOwn, decide_nothing, decide_moved, decide_left, decide_field, rewritten_aarch64, IsDecided, HasDecision, Instruction, IsOwnByte, descriptor_call_words, instructions_of, formula_of, form_width, InNoField, HasPartners, IsSequence, IsOfSequence, only_one, KeepsInstruction, WindowsHaveNoOtherField, names_merged}
+use Rattle.std.proofs.Common.{eq-eqb}
 use Rattle.std.specs.List.{filter}
-use Rattle.std.proofs.lemmas.Bool.{and_from, cases_eq, cases_lt}
-use Rattle.std.proofs.lemmas.Option.{slice_get_within}
-use Rattle.wild_words.proofs.ListLemmas.{holds_at}
 use Rattle.wild_records.specs.Abi.Relocation as abi
-use Rattle.wild_types.specs.declared.kind.Machine.{Machine}
 use Rattle.wild_types.specs.declared.kind.Machine.TheVariants as machine
-use Rattle.wild_types.specs.declared.input.InputRelocation.{InputRelocation}
-use Rattle.wild_types.specs.declared.layout.Layout.{Layout}
-use Rattle.wild_types.specs.Item.{Item}
-use Rattle.wild_reloc.specs.Formula.{Formula}
-use Rattle.wild_relax.specs.declared.pattern.Sequence.{Sequence}
-use Rattle.wild_relax.specs.declared.pattern.Sequence.TheVariants.{DescriptorCall, OffsetSlot, Address}
-use Rattle.wild_relax.specs.declared.reference.RelocationInfo.{RelocationInfo}
 use Rattle.wild_relax.specs.declared.row.Distance.{Distance}
 use Rattle.wild_relax.specs.declared.row.Distance.TheVariants as distances
-use Rattle.wild_relax.specs.declared.row.Row.{Row}
-use Rattle.wild_relax.specs.declared.table_aarch64.TheConstants.{CALL_FOURTH, CALL_FOURTH_SLOT}
-use Rattle.wild_relax.specs.LinkedPattern.{pattern_size}
-use Rattle.wild_relax.specs.Question.{Question, relocation_of}
 use Rattle.wild_relax.specs.RewriteX86_64.{distance_type}
-use Rattle.wild_relax.specs.Rows.{applies, unknown_sequence}
-use Rattle.wild_relax.specs.RowsAArch64.{rows_aarch64, applies_aarch64, has_its_words, first_row_aarch64, chosen_row_aarch64}
-use Rattle.wild_relax.specs.SequenceAArch64.{types_of}
-use Rattle.wild_relax.specs.SequenceRowsAArch64.{RowsApplyTogether}
-use Rattle.wild_layout.specs.declared.decision.Decision.{Decision}
-use Rattle.wild_layout.specs.declared.decision.Decision.TheVariants.{Nothing, Field, RelativeAddress, DynamicField, Rewritten, Partner}
-use Rattle.wild_layout.specs.Choice.{question_around, choice_around_by, choice_around, choice_on}
-use Rattle.wild_layout.specs.Sites.{template_start}
-use Rattle.wild_layout.proofs.ChoiceLemmas.{relocation_around, kept_listed, of_two}
-use Rattle.wild_layout.proofs.DecisionLemmas.{IsOwn, decide_nothing, decide_moved, decide_left, decide_field, rewritten_aarch64}
-use Rattle.wild_geometry.specs.Loaded.{IsDecided, HasDecision}
-use Rattle.wild_meaning.specs.Sequence.{Instruction, Partner as Further, IsOwnByte, descriptor_call_words, instructions_of}
-use Rattle.wild_meaning.specs.Field.{formula_of, form_width, InNoField}
-use Rattle.wild_meaning.specs.Partners.{HasPartners}
-use Rattle.wild_meaning.specs.Template.{IsSequence, IsOfSequence}
-use Rattle.wild_meaning.proofs.PairLemmas.{only_one}
-use Rattle.wild_references.specs.Laws.{KeepsInstruction}
-use Rattle.wild_references.specs.EffectLaws.{WindowsHaveNoOtherField, IsKeptAt}
+use Rattle.wild_relax.specs.RowsAArch64.{applies_aarch64, has_its_words, first_row_aarch64}
+use Rattle.wild_layout.specs.Choice.{choice_around_by, choice_around}
+use Rattle.wild_layout.proofs.ChoiceLemmas.{kept_listed, of_two}
+use Rattle.wild_meaning.specs.Sequence.{Partner as Further}
+use Rattle.wild_references.specs.EffectLaws.{IsKeptAt}
 use Rattle.wild_references.proofs.SequenceParts.{in_sequence}
 use Rattle.wild_references.proofs.WindowRows.{applied, applied_by}
 use Rattle.wild_references.proofs.WordWindows.{word_here, is_of_call, call_or_wide, no_partner_there}
@@ -51,7 +23,6 @@ use Rattle.wild_references.proofs.RewrittenRuns.{run_of, run_there}
 use Rattle.wild_references.proofs.RewrittenWords.{rewritten_word}
 use Rattle.wild_references.proofs.WordRuns.{type_is, own_type, IsWordAt, run_word, call_bytes}
 use Rattle.wild_references.proofs.KeptRelocations.{one_decision, none_standing, not_checked}
-use Rattle.wild_layout.specs.Merged.{names_merged}
 
 pub not_between : (x at width : ℕ) → at ≤ x → x < at + width → (x < at) ⊎ (at + width ≤ x) → ⊥
 not_between x at width low high (inl a) = omega (arith, low, a)

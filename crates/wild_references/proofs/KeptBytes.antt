@@ -1,50 +1,17 @@
 -- Bytes around what is rewritten are the input's: those of instructions that are kept, and those of none.
-use Rattle.std.proofs.Common.{◌≡◌, ℕ, ◌+◌, ◌-◌, ◌<◌, ◌≤◌, ◌⊎◌, inl, inr, Bool, true, false, List, [], ◌∷◌, length, get_or, slice_range, refl, sym, ap, ◌∙◌, arith, subst}
-use Rattle.std.specs.Prelude.{pos, ◌≢◌, not, ◌||◌, All, Contains, Option, Some, None, ◌==◌, if◌then◌else◌, slice_get}
-use Rattle.std.specs.List.{list_all, range_with_len}
-use Rattle.std.proofs.lemmas.Bool.{and_parts, cases_lt}
-use Rattle.std.proofs.lemmas.Option.{get_or_from_slice_get, slice_get_within, slice_get-get_or}
-use Rattle.std.proofs.lemmas.List.Elements.{All-nil, All-same}
+use Rattle.wild_references.proofs.Common.{◌≡◌, ℕ, ◌+◌, ◌-◌, ◌<◌, ◌≤◌, ◌⊎◌, inl, inr, Bool, true, false, List, [], ◌∷◌, length, get_or, slice_range, refl, sym, ap, ◌∙◌, arith, subst, pos, ◌≢◌, not, ◌||◌, All, Contains, Option, Some, None, ◌==◌, if◌then◌else◌, slice_get, list_all, range_with_len, and_parts, cases_lt, get_or_from_slice_get, slice_get_within, slice_get-get_or, All-nil, word, holds_at, listed_passes, r_x86_64_none, r_aarch64_tlsdesc_adr_page21, Machine, InputRelocation, Layout, KeepsAll, size_width, Formula, x86_64_formula, RelocationSize, ByteSize, Eight, length-size_written, Row, pattern_cells, field_of, partner_distance, call_form, rows_x86_64, pattern_of, pattern_size, keeps_bytes, rows_aarch64, RowsApplyTogether, Decision, Nothing, Field, RelativeAddress, DynamicField, Rewritten, Partner, question_of, field_site, template_start, template_site, site_for, chosen_listed, rewritten_x86_64, window_in, length-template_site, Holds, Memory, World, IsDecided, InMemory, HasDecision, KeepsInstruction, IsKeptReference, IsLoadedItem, Item, formula_of, form_width, InNoField, IsInputByte, Instruction, size_of, IsOwnByte, instructions_of, IsInstruction, IsSingle, IsOfSequence, IsTemplate, as_pair, only_one, IsOutsideField, InstructionsAreKept, HasField}
+use Rattle.std.proofs.lemmas.List.Elements.{All-same}
 use Rattle.std.proofs.lemmas.List.FromFn.{get_or-range_with_len, length-range_with_len}
-use Rattle.wild_words.specs.Words.{word}
 use Rattle.wild_words.proofs.WordLemmas.{length-word}
-use Rattle.wild_words.proofs.ListLemmas.{All-flat_map, holds_at}
-use Rattle.wild_words.proofs.Basics.{listed_passes}
+use Rattle.wild_words.proofs.ListLemmas.{All-flat_map}
 use Rattle.wild_words.proofs.OrderLemmas.{Outside}
-use Rattle.wild_records.specs.Abi.Relocation.{r_x86_64_none, r_aarch64_tlsdesc_adr_page21}
-use Rattle.wild_types.specs.declared.kind.Machine.{Machine}
 use Rattle.wild_types.specs.declared.kind.Machine.TheVariants as machine
-use Rattle.wild_types.specs.declared.input.InputRelocation.{InputRelocation}
-use Rattle.wild_types.specs.declared.layout.Layout.{Layout}
-use Rattle.wild_types.specs.HeaderOnly.{KeepsAll}
-use Rattle.wild_reloc.specs.Field.{size_width}
-use Rattle.wild_reloc.specs.Formula.{Formula}
-use Rattle.wild_reloc.specs.FormulaX86_64.{x86_64_formula}
-use Rattle.wild_reloc.specs.declared.info.RelocationSize.{RelocationSize}
-use Rattle.wild_reloc.specs.declared.info.RelocationSize.TheVariants.{ByteSize}
-use Rattle.wild_reloc.specs.declared.info.Width.TheVariants.{Eight}
-use Rattle.wild_reloc.proofs.PlaceLemmas.{length-size_written}
 use Rattle.wild_relax.specs.declared.pattern.Cell.TheVariants as its
-use Rattle.wild_relax.specs.declared.row.Row.{Row}
-use Rattle.wild_relax.specs.Pattern.{pattern_cells, field_of}
-use Rattle.wild_relax.specs.RowSequences.{partner_distance, call_form}
-use Rattle.wild_relax.specs.Rows.{rows_x86_64}
-use Rattle.wild_relax.specs.LinkedPattern.{pattern_of, pattern_size, keeps_bytes}
-use Rattle.wild_relax.specs.RowsAArch64.{rows_aarch64}
 use Rattle.wild_relax.specs.Section.{ChosenPatternsArePresent}
-use Rattle.wild_relax.specs.SequenceRowsAArch64.{RowsApplyTogether}
-use Rattle.wild_layout.specs.declared.decision.Decision.{Decision}
-use Rattle.wild_layout.specs.declared.decision.Decision.TheVariants.{Nothing, Field, RelativeAddress, DynamicField, Rewritten, Partner}
-use Rattle.wild_layout.specs.Choice.{question_of}
-use Rattle.wild_layout.specs.Sites.{field_site, template_start, template_site, site_for, site}
-use Rattle.wild_layout.proofs.ChoiceLemmas.{chosen_listed}
-use Rattle.wild_layout.proofs.DecisionLemmas.{IsRewritten, rewritten_x86_64, decide_rewritten}
-use Rattle.wild_layout.proofs.SiteLemmas.{All-one, window_in, length-template_site}
-use Rattle.wild_loader.specs.Memory.{Holds}
-use Rattle.wild_loader.specs.declared.memory.Memory.{Memory}
-use Rattle.wild_loader.specs.declared.world.World.{World}
-use Rattle.wild_geometry.specs.Loaded.{IsDecided, InNoSite, Stage, InMemory, number_at, HasDecision, HasItem}
-use Rattle.wild_references.specs.Laws.{KeepsInstruction, IsKeptReference, IsLoadedItem}
+use Rattle.wild_layout.specs.Sites.{site}
+use Rattle.wild_layout.proofs.DecisionLemmas.{IsRewritten, decide_rewritten}
+use Rattle.wild_layout.proofs.SiteLemmas.{All-one}
+use Rattle.wild_geometry.specs.Loaded.{InNoSite, Stage, number_at, HasItem}
 use Rattle.wild_references.proofs.KnownRows.{formula_there}
 use Rattle.wild_references.proofs.SequenceParts.{in_sequence}
 use Rattle.wild_references.proofs.SinglesAArch64.{is_word, no_own_byte_of_word}
@@ -52,16 +19,12 @@ use Rattle.wild_references.proofs.RunWords.{IsRun, is_run_of}
 use Rattle.wild_references.proofs.RewrittenSequences.{no_own_byte, no_own_byte_of_address}
 use Rattle.wild_references.proofs.KeptAArch64.{not_between, run_is_kept, call_is_kept}
 use Rattle.wild_loader.specs.Instruction as code
-use Rattle.wild_types.specs.Item.{Item}
-use Rattle.wild_meaning.specs.Field.{formula_of, form_width, InNoField, IsInputByte}
-use Rattle.wild_meaning.specs.Sequence.{Partner as CallField, Instruction, size_of, IsOwnByte, instructions_of}
-use Rattle.wild_meaning.specs.Template.{IsInstruction, IsSingle, IsOfSequence, IsTemplate}
-use Rattle.wild_meaning.proofs.PairLemmas.{IsDouble, as_double, PairOf, as_pair, only_one, one_of_two}
-use Rattle.wild_references.specs.EffectLaws.{IsOutsideField, RewrittenAreInstructions, InstructionsAreKept, IsKeptAt, SequencesAreKept, OthersAreKept}
+use Rattle.wild_meaning.specs.Sequence.{Partner as CallField}
+use Rattle.wild_meaning.proofs.PairLemmas.{IsDouble, as_double, PairOf, one_of_two}
+use Rattle.wild_references.specs.EffectLaws.{RewrittenAreInstructions, IsKeptAt, SequencesAreKept, OthersAreKept}
 use Rattle.wild_references.proofs.WindowRows.{width_by, width_of, call_width, call_width_is}
 use Rattle.wild_references.proofs.WindowSites.{site_is}
 use Rattle.wild_references.proofs.WindowFields.{partner_there, kept_field, kept_width}
-use Rattle.wild_layout.proofs.DecideLemmas.{HasField}
 use Rattle.wild_references.proofs.Windows.{formula_width, order, windows_have_no_other_field}
 use Rattle.wild_references.proofs.Clash.{is_free, are_calls, pair_ok, row_ok, each_row_ok, IsUncovered, apart_templates}
 use Rattle.wild_references.proofs.KeptTables.{IsFilled, is_filled, own_is_fixed, any_in_field, number_width, partner_width, call_number, row_fixed, each_row_fixed, IsFixed, is_fixed, free_in_field}

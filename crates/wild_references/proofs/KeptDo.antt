@@ -1,24 +1,12 @@
 -- An instruction whose references keep it does what it demands.
-use Rattle.std.proofs.Common.{◌≡◌, ℕ, ◌⊎◌, inl, inr, true, false, ◌∷◌, refl, sym, ap, ◌∙◌, subst, arith}
-use Rattle.std.specs.Prelude.{⊤, List, Some, Contains}
-use Rattle.wild_types.specs.declared.kind.Machine.{Machine}
+use Rattle.wild_references.proofs.Common.{◌≡◌, ℕ, ◌⊎◌, inl, inr, true, false, ◌∷◌, refl, sym, ap, ◌∙◌, subst, arith, ⊤, List, Some, Contains, Machine, InputRelocation, Layout, Formula, SlotDistance, AddressSlot, ModulePair, OwnModulePair, World, Memory, Holds, FieldHolds, IsKeptReference, IsLoadedItem, Sort, TargetInSlot, SymbolPair, OwnPair, Instruction, instructions_of, Item, place_at, formula_of, IsPlaceRelative, TakesAddress, TakesOffset, IsSingle, IsTemplate, reads, DoesDemanded, IsOfSequence, IsGetterCall, as_pair, MustHold, UsesOwnSymbolOnly, IsOmitted, HasPlace, UsesOwnDefinition, IsSlotValue, HasSlotFormula, InstructionsAreKept}
 use Rattle.wild_types.specs.declared.kind.Machine.TheVariants as machine
-use Rattle.wild_types.specs.declared.input.InputRelocation.{InputRelocation}
-use Rattle.wild_types.specs.declared.layout.Layout.{Layout}
-use Rattle.wild_reloc.specs.Formula.{Slot, Formula, SlotDistance, AddressSlot, ModulePair, OwnModulePair}
-use Rattle.wild_loader.specs.declared.world.World.{World}
-use Rattle.wild_loader.specs.declared.memory.Memory.{Memory}
-use Rattle.wild_loader.specs.Memory.{Holds}
-use Rattle.wild_references.specs.Laws.{FieldHolds, IsKeptReference, FieldsHold, IsLoadedItem}
-use Rattle.wild_meaning.specs.Sequence.{Sort, TargetInSlot, SymbolPair, OwnPair, Instruction, Partner, instructions_of}
-use Rattle.wild_types.specs.Item.{Item}
-use Rattle.wild_meaning.specs.Item.{place_at}
-use Rattle.wild_meaning.specs.Field.{formula_of}
-use Rattle.wild_meaning.specs.Formula.{IsPlaceRelative, TakesAddress, TakesOffset}
-use Rattle.wild_meaning.specs.Template.{IsSingle, IsTemplate, reads, DoesDemanded, IsOfSequence}
-use Rattle.wild_meaning.proofs.PairLemmas.{IsGetterCall, as_pair, as_double, counts_by_slot}
-use Rattle.wild_meaning.specs.Reference.{MustHold, UsesOwnSymbolOnly, IsOmitted, HasPlace, HasRelativeInstruction, UsesOwnDefinition, IsSlotValue, HasSlotFormula}
-use Rattle.wild_references.specs.EffectLaws.{SequencesAreKept, InstructionsAreKept, KeptInstructionsDo}
+use Rattle.wild_reloc.specs.Formula.{Slot}
+use Rattle.wild_references.specs.Laws.{FieldsHold}
+use Rattle.wild_meaning.specs.Sequence.{Partner}
+use Rattle.wild_meaning.proofs.PairLemmas.{as_double, counts_by_slot}
+use Rattle.wild_meaning.specs.Reference.{HasRelativeInstruction}
+use Rattle.wild_references.specs.EffectLaws.{SequencesAreKept, KeptInstructionsDo}
 use Rattle.wild_references.proofs.OmittedReferences.{keeps_all}
 use Rattle.wild_references.proofs.OmittedSequences.{left_along}
 use Rattle.wild_references.proofs.Does.{HasField, PartnersThere, FormulaIs, displaced, formula_is, pair_of, known_formula}

@@ -1,34 +1,22 @@
 -- What the clauses say of a kept item: where it lies, and what its relocations name.
-use Rattle.wild_meaning.specs.World.{IsLoadable}
+use Rattle.wild_references.proofs.Common.{IsLoadable, ◌≡◌, ℕ, zero, suc, ◌+◌, ◌-◌, ◌/◌, ◌%◌, ◌^◌, ◌<◌, ◌≤◌, inl, inr, List, [], ◌++◌, length, map, take, drop, get_or, slice_range, true, sym, subst, arith, ◌*◌, All, ◌==◌, ◌&&◌, nat_le, nat_lt, slice_index, range_with_len, eqb-true, cases_lt, All-nil, All-cons, word, place, shf_execinstr, InputRelocation, InputSection, File, Layout, Item, allocated, IsLaidOut, NamesSymbol, AddendFits, NumbersFit, IsSet}
 use Rattle.wild_geometry.proofs.ReadLemmas.{read_fields, read_written}
 use Rattle.wild_meaning.proofs.OutputLemmas.{not_partial}
-use Rattle.std.proofs.Common.{◌≡◌, ℕ, zero, suc, ◌+◌, ◌-◌, ◌/◌, ◌%◌, ◌^◌, ◌<◌, ◌≤◌, inl, inr, List, [], ◌++◌, length, map, take, drop, get_or, slice_range, true, sym, subst, arith, ◌*◌}
-use Rattle.std.specs.Prelude.{All, ◌==◌, ◌&&◌, nat_le, nat_lt, slice_index}
-use Rattle.std.specs.List.{range_with_len}
 use Rattle.std.specs.Int.RustNames.{bit_and}
-use Rattle.std.proofs.lemmas.Bool.{eqb-true, cases_lt}
 use Rattle.std.proofs.lemmas.Nat.Bits.{and_pow}
 use Rattle.std.proofs.lemmas.List.{get_or_past}
-use Rattle.std.proofs.lemmas.List.Elements.{All-nil, All-cons, All-append, All-take, All-drop, All-map, All-filter, All-contains}
-use Rattle.wild_words.specs.Words.{word, place, number_at}
+use Rattle.std.proofs.lemmas.List.Elements.{All-append, All-take, All-drop, All-map, All-filter, All-contains}
+use Rattle.wild_words.specs.Words.{number_at}
 use Rattle.wild_words.proofs.Basics.{of_if}
 use Rattle.wild_words.proofs.ListLemmas.{All-flat_map}
-use Rattle.wild_records.specs.Abi.Section.{shf_write, shf_alloc, shf_execinstr}
-use Rattle.wild_types.specs.declared.input.InputRelocation.{InputRelocation}
-use Rattle.wild_types.specs.declared.input.InputSection.{InputSection}
-use Rattle.wild_types.specs.declared.file.File.{File}
+use Rattle.wild_records.specs.Abi.Section.{shf_write, shf_alloc}
 use Rattle.wild_types.specs.declared.file.Group.{Group}
-use Rattle.wild_types.specs.declared.layout.Layout.{Layout}
-use Rattle.wild_types.specs.Item.{Item}
-use Rattle.wild_types.specs.Lookups.{allocated}
 use Rattle.wild_frames.specs.declared.entry.Found.{Found}
 use Rattle.wild_frames.specs.declared.entry.Found.TheVariants as finds
 use Rattle.wild_frames.specs.declared.entry.KeptEntry.{KeptEntry}
 use Rattle.wild_frames.specs.Frames.{Frames, entry_bytes, tail_of, found_bytes, found_in, kept_in}
-use Rattle.wild_layout.specs.Geometry.{IsLaidOut, NamesSymbol}
-use Rattle.wild_layout.specs.Numbers.{AddendFits, InputNumbers, InputsFit, NumbersFit}
+use Rattle.wild_layout.specs.Numbers.{InputNumbers, InputsFit}
 use Rattle.wild_layout.specs.SectionPlaces.{FieldLies, SectionLies}
-use Rattle.wild_meaning.specs.Section.{IsSet}
 use Rattle.wild_meaning.specs.Frames.{frames_in, entry_references, relocation_of_entry, without}
 use Rattle.wild_meaning.specs.Item.{IsInput, IsKept, OfSection, OfFrames, input_offset_of, reversed_bytes, reversed_relocation}
 use Rattle.wild_meaning.proofs.BitLemmas.{alloc_bit}

@@ -1,45 +1,14 @@
 -- Where relocations keep the instructions that a row would write: what that says of the output.
-use Rattle.std.proofs.Common.{◌≡◌, ℕ, ◌+◌, ◌⊎◌, inl, inr, Bool, true, false, refl, sym, ap, ◌∙◌, subst}
-use Rattle.std.specs.Prelude.{Option, Some, None, Ok, not, ◌||◌, slice_get}
-use Rattle.std.proofs.lemmas.Bool.{cases_Bool, eq-eqb, or_cases}
-use Rattle.wild_words.proofs.Basics.{implied, or_by}
-use Rattle.wild_records.specs.Abi.Relocation.{r_x86_64_tlsgd, r_x86_64_tlsld, r_x86_64_tlsdesc_call}
+use Rattle.wild_references.proofs.Common.{◌≡◌, ℕ, ◌+◌, ◌⊎◌, inl, inr, Bool, true, false, refl, sym, ap, ◌∙◌, subst, Option, Some, None, Ok, not, ◌||◌, slice_get, cases_Bool, eq-eqb, or_cases, implied, r_x86_64_tlsgd, r_x86_64_tlsld, r_x86_64_tlsdesc_call, InputRelocation, ValueFlags, Layout, has_flag, ifunc, non_interposable, is_executable, is_static_executable, executable, row_of, flags_at, treatment, x86_64_row, Row, GENERAL_NO_PLT, GENERAL_NO_PLT_SLOT, LOCAL_NO_PLT, DESCRIPTOR_CALL, Question, is_mandatory, IsChanging, Decision, Rewritten, question_of, is_thread_type, decided, chosen_listed, rewritten_x86_64, HasDecision, KeepsInstruction, Item, HasFlag, Instruction, IsGetterCall, canonical_is, code_bit, executable_is, flag_is}
+use Rattle.wild_words.proofs.Basics.{or_by}
 use Rattle.wild_types.specs.declared.kind.Machine.TheVariants as machine
-use Rattle.wild_types.specs.declared.input.InputRelocation.{InputRelocation}
-use Rattle.wild_types.specs.declared.symbol.ValueFlags.{ValueFlags}
-use Rattle.wild_types.specs.declared.layout.Layout.{Layout}
-use Rattle.wild_types.specs.Flags.{has_flag, ifunc, non_interposable}
-use Rattle.wild_types.specs.Kinds.{is_executable, is_static_executable}
-use Rattle.wild_types.specs.Lookups.{executable}
-use Rattle.wild_types.specs.Rows.{row_of}
-use Rattle.wild_slot.specs.Treatment.{flags_at, row_treatment, treatment}
-use Rattle.wild_reloc.specs.TableX86_64.{x86_64_row}
+use Rattle.wild_slot.specs.Treatment.{row_treatment}
 use Rattle.wild_relax.specs.declared.pattern.GeneralForm.TheVariants as general
 use Rattle.wild_relax.specs.declared.pattern.LocalForm.TheVariants as local
 use Rattle.wild_relax.specs.declared.pattern.Pattern.TheVariants as pattern
-use Rattle.wild_relax.specs.declared.row.Row.{Row}
-use Rattle.wild_relax.specs.declared.table.TheConstants.{GENERAL_NO_PLT, GENERAL_NO_PLT_SLOT, LOCAL_NO_PLT, DESCRIPTOR_CALL}
 use Rattle.wild_references.proofs.TableRows.{general_there, general_slot_there, local_there, call_there}
 use Rattle.wild_references.proofs.RewrittenPlaces.{takes_code, mandatory_static}
-use Rattle.wild_relax.specs.Question.{Question}
-use Rattle.wild_relax.specs.RowSymbols.{is_mandatory}
-use Rattle.wild_relax.specs.LinkedPattern.{IsChanging}
-use Rattle.wild_layout.specs.declared.decision.Decision.{Decision}
-use Rattle.wild_layout.specs.declared.decision.Decision.TheVariants.{Rewritten}
-use Rattle.wild_layout.specs.Choice.{question_of, is_thread_type}
-use Rattle.wild_layout.specs.Decide.{decided}
-use Rattle.wild_layout.proofs.ChoiceLemmas.{chosen_listed, is_listed}
-use Rattle.wild_layout.proofs.DecisionLemmas.{rewritten_x86_64}
-use Rattle.wild_geometry.specs.Loaded.{HasDecision}
-use Rattle.wild_references.specs.Laws.{KeepsInstruction}
-use Rattle.wild_types.specs.Item.{Item}
-use Rattle.wild_meaning.specs.Value.{HasFlag}
-use Rattle.wild_meaning.specs.Sequence.{Instruction}
-use Rattle.wild_meaning.proofs.PairLemmas.{IsGetterCall}
-use Rattle.wild_meaning.proofs.SymbolLemmas.{canonical_is}
-use Rattle.wild_meaning.proofs.BitLemmas.{code_bit}
-use Rattle.wild_meaning.proofs.OutputLemmas.{executable_is}
-use Rattle.wild_geometry.proofs.JudgedLemmas.{flag_is}
+use Rattle.wild_layout.proofs.ChoiceLemmas.{is_listed}
 use Rattle.wild_references.proofs.WindowRows.{Applied, applied, applied_by}
 use Rattle.wild_references.proofs.WindowFields.{row_at}
 use Rattle.wild_references.proofs.KeptTables.{is_described_call, keeps_all, by_slot, IsAskedFor, asked_for, asked_before, row_fixed, each_row_fixed, is_fixed}

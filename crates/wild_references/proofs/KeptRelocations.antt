@@ -1,30 +1,9 @@
 -- Relocations that keep their instruction: the place of one tells which it is, no row writes their bytes, and no row stands at
 -- them that would.
-use Rattle.std.proofs.Common.{◌≡◌, ℕ, zero, suc, ◌+◌, ◌<◌, ◌≤◌, ◌⊎◌, inl, inr, Bool, true, false, List, [], ◌∷◌, length, get_or, refl, sym, ap, ◌∙◌, arith, subst}
-use Rattle.std.specs.Prelude.{Contains, Option, Some, None, Ok, Err, ◌==◌, if◌then◌else◌, slice_get}
-use Rattle.std.proofs.lemmas.Bool.{cases_lt}
-use Rattle.wild_words.specs.Overlay.{Piece, Disjoint}
-use Rattle.wild_records.specs.Abi.Relocation.{r_x86_64_pc32}
+use Rattle.wild_references.proofs.Common.{◌≡◌, ℕ, zero, suc, ◌+◌, ◌<◌, ◌≤◌, ◌⊎◌, inl, inr, Bool, true, false, List, [], ◌∷◌, length, get_or, refl, sym, ap, ◌∙◌, arith, subst, Contains, Option, Some, None, Ok, Err, ◌==◌, if◌then◌else◌, slice_get, cases_lt, Piece, Disjoint, r_x86_64_pc32, InputRelocation, Item, Layout, UnknownSequence, Row, first_standing, row_or_fault, Question, is_skip, rewrite_of, has_its_sequence, rows_x86_64, applies, unknown_sequence, first_row_x86_64, chosen_row_x86_64, keeps_bytes, Decision, Nothing, Field, RelativeAddress, DynamicField, Rewritten, Partner, question_of, choice_by, choice_of, choice, takes_next, is_thread_type, IsChosen, chosen_listed, IsOwn, own_choice, decide_nothing, decide_moved, decide_left, decide_field, IsDecided, HasDecision, KeepsInstruction}
 use Rattle.wild_types.specs.declared.kind.Machine.TheVariants as machine
-use Rattle.wild_types.specs.declared.input.InputRelocation.{InputRelocation}
-use Rattle.wild_types.specs.Item.{Item}
-use Rattle.wild_types.specs.declared.layout.Layout.{Layout}
-use Rattle.wild_relax.specs.declared.reference.UnknownSequence.{UnknownSequence}
-use Rattle.wild_relax.specs.declared.row.Row.{Row}
-use Rattle.wild_relax.specs.FirstRow.{first_standing, row_or_fault}
-use Rattle.wild_relax.specs.Question.{Question}
-use Rattle.wild_relax.specs.Rewrite.{is_skip}
-use Rattle.wild_relax.specs.RewriteX86_64.{rewrite_of}
-use Rattle.wild_relax.specs.RowSequences.{has_its_sequence}
-use Rattle.wild_relax.specs.Rows.{rows_x86_64, applies, unknown_sequence, first_row_x86_64, chosen_row_x86_64}
-use Rattle.wild_relax.specs.LinkedPattern.{keeps_bytes}
-use Rattle.wild_layout.specs.declared.decision.Decision.{Decision}
-use Rattle.wild_layout.specs.declared.decision.Decision.TheVariants.{Nothing, Field, RelativeAddress, DynamicField, Rewritten, Partner}
-use Rattle.wild_layout.specs.Choice.{question_of, choice_by, choice_of, choice_at, choice, takes_next, is_thread_type}
-use Rattle.wild_layout.proofs.ChoiceLemmas.{IsChosen, choice_is, chosen_listed, partner_is_taken}
-use Rattle.wild_layout.proofs.DecisionLemmas.{IsOwn, own_choice, decide_nothing, decide_moved, decide_left, decide_field}
-use Rattle.wild_geometry.specs.Loaded.{IsDecided, HasDecision}
-use Rattle.wild_references.specs.Laws.{KeepsInstruction}
+use Rattle.wild_layout.specs.Choice.{choice_at}
+use Rattle.wild_layout.proofs.ChoiceLemmas.{choice_is, partner_is_taken}
 use Rattle.wild_references.proofs.WindowRows.{width_of}
 use Rattle.wild_references.proofs.WindowSites.{sites_apart}
 use Rattle.wild_references.proofs.WindowFields.{HasSite}

@@ -1,28 +1,7 @@
 -- Both relocations of a sequence keep it, or none does.
-use Rattle.std.proofs.Common.{◌≡◌, ℕ, suc, ◌+◌, ◌<◌, ◌⊎◌, inl, inr, true, false, refl, sym, ap, ◌∙◌, arith, subst}
-use Rattle.std.specs.Prelude.{Contains, Option, Some, Ok, ◌==◌, slice_get}
-use Rattle.std.proofs.lemmas.Bool.{eqb-true, or_cases}
-use Rattle.std.proofs.lemmas.Option.{slice_get_within}
-use Rattle.wild_records.specs.Abi.Relocation.{r_x86_64_tlsgd, r_x86_64_tlsld}
-use Rattle.wild_types.specs.declared.kind.Machine.{Machine}
+use Rattle.wild_references.proofs.Common.{◌≡◌, ℕ, suc, ◌+◌, ◌<◌, ◌⊎◌, inl, inr, true, false, refl, sym, ap, ◌∙◌, arith, subst, Contains, Option, Some, Ok, ◌==◌, slice_get, eqb-true, or_cases, slice_get_within, r_x86_64_tlsgd, r_x86_64_tlsld, Machine, InputRelocation, Layout, x86_64_formula, GeneralForm, Row, call_form, is_call_number, Decision, Nothing, Field, RelativeAddress, DynamicField, Rewritten, Partner, choice_of, choice, takes_next, is_partner, decide, choice_row, chosen_listed, rewritten_x86_64, decide_partner, IsDecided, HasDecision, KeepsInstruction, Item, Instruction, instructions_of, IsGetterCall}
 use Rattle.wild_types.specs.declared.kind.Machine.TheVariants as machine
-use Rattle.wild_types.specs.declared.input.InputRelocation.{InputRelocation}
-use Rattle.wild_types.specs.declared.layout.Layout.{Layout}
-use Rattle.wild_reloc.specs.FormulaX86_64.{x86_64_formula}
-use Rattle.wild_relax.specs.declared.pattern.GeneralForm.{GeneralForm}
-use Rattle.wild_relax.specs.declared.row.Row.{Row}
-use Rattle.wild_relax.specs.RowSequences.{call_form, is_call_number}
-use Rattle.wild_layout.specs.declared.decision.Decision.{Decision}
-use Rattle.wild_layout.specs.declared.decision.Decision.TheVariants.{Nothing, Field, RelativeAddress, DynamicField, Rewritten, Partner}
-use Rattle.wild_layout.specs.Choice.{choice_of, choice, takes_next, is_partner}
-use Rattle.wild_layout.specs.Decide.{decide}
-use Rattle.wild_layout.proofs.ChoiceLemmas.{choice_row, choice_is, chosen_listed, partner_number, IsSequence as Taking}
-use Rattle.wild_layout.proofs.DecisionLemmas.{rewritten_x86_64, decide_partner}
-use Rattle.wild_geometry.specs.Loaded.{IsDecided, HasDecision}
-use Rattle.wild_references.specs.Laws.{KeepsInstruction}
-use Rattle.wild_types.specs.Item.{Item}
-use Rattle.wild_meaning.specs.Sequence.{Instruction, instructions_of}
-use Rattle.wild_meaning.proofs.PairLemmas.{IsGetterCall}
+use Rattle.wild_layout.proofs.ChoiceLemmas.{choice_is, partner_number, IsSequence as Taking}
 use Rattle.wild_references.proofs.WindowRows.{width_of}
 use Rattle.wild_references.proofs.WindowFields.{HasSite, has_site}
 use Rattle.wild_references.proofs.KeptTables.{keeps_all, by_slot, IsFilled, is_filled, partner_width, partner_some, partner_kept, pair_number, row_fixed, each_row_fixed, is_fixed}

@@ -1,31 +1,13 @@
 -- What each instruction that relocations fill has, and each row's pattern: their fields are the bytes that may be any.
-use Rattle.std.proofs.Common.{◌≡◌, ℕ, suc, ◌+◌, ◌-◌, ◌<◌, ◌≤◌, ◌⊎◌, inl, inr, Bool, true, false, List, [], ◌∷◌, length, get_or, take, drop, slice_range, refl, sym, ◌∙◌, arith, subst}
-use Rattle.std.specs.Prelude.{not, ◌&&◌, ◌||◌, ◌==◌, nat_lt, nat_le, Contains, Option, Some, None, if◌then◌else◌}
-use Rattle.std.specs.List.{list_all}
-use Rattle.std.proofs.lemmas.Bool.{and_parts, eqb-true, le-leb, leb-true, ltb-true, or_cases}
-use Rattle.std.proofs.lemmas.Bool.Decides.{nat_tests}
-use Rattle.wild_words.proofs.Basics.{listed_passes}
-use Rattle.wild_records.specs.Abi.Relocation.{r_x86_64_pc32, r_x86_64_plt32, r_x86_64_pltoff64, r_x86_64_tlsgd, r_x86_64_tlsld, r_x86_64_tlsdesc_call}
+use Rattle.wild_references.proofs.Common.{◌≡◌, ℕ, suc, ◌+◌, ◌-◌, ◌<◌, ◌≤◌, ◌⊎◌, inl, inr, Bool, true, false, List, [], ◌∷◌, length, get_or, take, drop, slice_range, refl, sym, ◌∙◌, arith, subst, not, ◌&&◌, ◌||◌, ◌==◌, nat_lt, nat_le, Contains, Option, Some, None, if◌then◌else◌, list_all, and_parts, eqb-true, le-leb, leb-true, ltb-true, or_cases, nat_tests, listed_passes, r_x86_64_pc32, r_x86_64_plt32, r_x86_64_pltoff64, r_x86_64_tlsgd, r_x86_64_tlsld, r_x86_64_tlsdesc_call, x86_64_formula, Cell, Pattern, Row, pattern_cells, field_of, partner_distance, call_form, rows_x86_64, is_skip, rewrite_of, pattern_of, pattern_size, keeps_bytes, Is, From, Slot, Digit, Any, fits, matches_cells, Instruction, size_of, IsOutsidePartners, IsOwnByte, instructions_of}
 use Rattle.wild_types.specs.declared.kind.Machine.TheVariants as machine
-use Rattle.wild_reloc.specs.FormulaX86_64.{x86_64_formula}
-use Rattle.wild_relax.specs.declared.pattern.Cell.{Cell}
 use Rattle.wild_relax.specs.declared.pattern.Cell.TheVariants as its
 use Rattle.wild_relax.specs.declared.pattern.GeneralForm.TheVariants as general
 use Rattle.wild_relax.specs.declared.pattern.LocalForm.TheVariants as local
-use Rattle.wild_relax.specs.declared.pattern.Pattern.{Pattern}
 use Rattle.wild_relax.specs.declared.pattern.Pattern.TheVariants as pattern
-use Rattle.wild_relax.specs.declared.row.Row.{Row}
-use Rattle.wild_relax.specs.Pattern.{pattern_cells, field_of}
 use Rattle.wild_relax.specs.Pattern as pattern_fits
-use Rattle.wild_relax.specs.RowSequences.{partner_distance, call_form}
-use Rattle.wild_relax.specs.Rows.{rows_x86_64}
-use Rattle.wild_relax.specs.Rewrite.{is_skip}
-use Rattle.wild_relax.specs.RewriteX86_64.{rewrite_of}
-use Rattle.wild_relax.specs.LinkedPattern.{pattern_of, pattern_size, keeps_bytes}
 use Rattle.wild_loader.specs.declared.instruction.Cell as own-cell
-use Rattle.wild_loader.specs.declared.instruction.Cell.TheVariants.{Is, From, Slot, Digit, Any}
-use Rattle.wild_loader.specs.Instruction.{fits, matches_cells}
-use Rattle.wild_meaning.specs.Sequence.{Partner, Instruction, size_of, IsOutsidePartners, IsOwnByte, instructions_of}
+use Rattle.wild_meaning.specs.Sequence.{Partner}
 use Rattle.wild_meaning.proofs.PairLemmas.{the_one}
 use Rattle.wild_references.proofs.WindowRows.{width_of, call_width}
 use Rattle.wild_references.proofs.Clash.{is_free, below, below_at, stands_more}

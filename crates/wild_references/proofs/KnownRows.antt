@@ -1,34 +1,16 @@
 -- The rows of the kinds that the writer knows, beside the formulas that the reader knows.
-use Rattle.std.proofs.Common.{◌≡◌, ℕ, ◌^◌, ◌<◌, ◌⊎◌, inl, inr, Bool, true, false, List, length, refl, sym, ap, ◌∙◌, subst}
-use Rattle.std.specs.Prelude.{◌==◌, ◌&&◌, ◌||◌, if◌then◌else◌, Option, Some, None, is_none, All}
-use Rattle.std.specs.List.{list_all}
-use Rattle.std.proofs.lemmas.Bool.{eqb-true, and_parts, or_cases}
-use Rattle.wild_records.specs.Abi.Relocation.{r_x86_64_none, r_x86_64_plt32, r_x86_64_pltoff64, r_x86_64_gotpc32_tlsdesc, r_x86_64_code_4_gotpc32_tlsdesc, r_x86_64_tlsdesc_call, r_aarch64_plt32, r_aarch64_jump26, r_aarch64_call26}
-use Rattle.wild_types.specs.declared.kind.Machine.{Machine}
+use Rattle.wild_references.proofs.Common.{◌≡◌, ℕ, ◌^◌, ◌<◌, ◌⊎◌, inl, inr, Bool, true, false, List, length, refl, sym, ap, ◌∙◌, subst, ◌==◌, ◌&&◌, ◌||◌, if◌then◌else◌, Option, Some, None, is_none, All, list_all, eqb-true, and_parts, or_cases, r_x86_64_none, r_x86_64_plt32, r_x86_64_pltoff64, r_x86_64_gotpc32_tlsdesc, r_x86_64_code_4_gotpc32_tlsdesc, r_x86_64_tlsdesc_call, r_aarch64_jump26, r_aarch64_call26, Machine, x86_64_rows, x86_64_row, static_row, thread_row, field_width, allows, written, contains, PageMask, Formula, Value, Form, NoValue, NoField, SymbolAddress, Plain, Full, Bits, Reads, Keeps, x86_64_formula, aarch64_formula, expression_of, writes, RelocationKind, RelocationKindInfo, entry_passes, row_of, RowsAreRead, formula_of, form_width, is_expressed, value_by_row, AllowsThunks}
+use Rattle.wild_records.specs.Abi.Relocation.{r_aarch64_plt32}
 use Rattle.wild_types.specs.declared.kind.Machine.TheVariants as machine
-use Rattle.wild_reloc.specs.TableX86_64.{x86_64_rows, x86_64_row}
-use Rattle.wild_reloc.specs.TableAArch64.{static_rows, static_row, thread_rows, thread_row}
-use Rattle.wild_reloc.specs.Field.{field_width, allows, written}
-use Rattle.wild_reloc.specs.Range.{contains}
-use Rattle.wild_reloc.specs.declared.info.PageMask.{PageMask}
-use Rattle.wild_reloc.specs.Formula.{Formula, Value, Form, NoValue, NoField, SymbolAddress, Plain, Full, Bits, Reads, Keeps}
-use Rattle.wild_reloc.specs.FormulaX86_64.{x86_64_formula}
-use Rattle.wild_reloc.specs.FormulaAArch64.{aarch64_formula}
+use Rattle.wild_reloc.specs.TableAArch64.{static_rows, thread_rows}
 use Rattle.wild_reloc.specs.Agreement.{Agrees}
-use Rattle.wild_reloc.specs.Expression.{expression_of, has_value, writes}
+use Rattle.wild_reloc.specs.Expression.{has_value}
 use Rattle.wild_reloc.specs.declared.expression.Class.{Class}
 use Rattle.wild_reloc.specs.declared.expression.Class.TheVariants as class
-use Rattle.wild_reloc.specs.declared.info.RelocationKind.{RelocationKind}
 use Rattle.wild_reloc.specs.declared.info.RelocationKind.TheVariants as kinds
-use Rattle.wild_reloc.specs.declared.info.RelocationKindInfo.{RelocationKindInfo}
-use Rattle.wild_reloc.proofs.TableLemmas.{entry_passes, parts_pass}
-use Rattle.wild_types.specs.Rows.{row_of}
+use Rattle.wild_reloc.proofs.TableLemmas.{parts_pass}
 use Rattle.wild_layout.proofs.DecideLemmas.{value_has_field}
 use Rattle.wild_slot.proofs.TreatmentLemmas.{HasValue}
-use Rattle.wild_geometry.specs.MachineFacts.{RowsAreRead}
-use Rattle.wild_meaning.specs.Field.{formula_of, form_width}
-use Rattle.wild_references.specs.Terms.{is_expressed, value_by_row}
-use Rattle.wild_references.specs.Thunks.{AllowsThunks}
 use Rattle.wild_references.proofs.LowForms.{is_low}
 
 -- a field has the bits of an address below its page, on AArch64

@@ -1,3 +1,4 @@
+pub mod Common
 pub mod OutputKinds
 mod LowForms
 mod KnownRows

@@ -1,9 +1,6 @@
 -- Fields that have bits of an address below its page: what they read as is the same of each number with the same bits there.
-use Rattle.std.proofs.Common.{◌≡◌, ℕ, ◌+◌, ◌-◌, ◌/◌, ◌%◌, ◌^◌, inl, inr, Bool, true, false, List, sym, ◌∙◌, arith, subst}
-use Rattle.std.specs.Prelude.{◌==◌, ◌&&◌, ◌||◌}
-use Rattle.std.proofs.lemmas.Bool.{and_parts, or_cases, eqb-true}
-use Rattle.wild_words.specs.Words.{number}
-use Rattle.wild_reloc.specs.Formula.{Field, Form, Check, NoCheck, BelowPower, WithinPower, NoField, Plain, Full, Bits, Reads, ReadsBits, immediate}
+use Rattle.wild_references.proofs.Common.{◌≡◌, ℕ, ◌+◌, ◌-◌, ◌/◌, ◌%◌, ◌^◌, inl, inr, Bool, true, false, List, sym, ◌∙◌, arith, subst, ◌==◌, ◌&&◌, ◌||◌, and_parts, or_cases, eqb-true, number, Form, WithinPower, NoField, Plain, Full, Bits, Reads, immediate}
+use Rattle.wild_reloc.specs.Formula.{Field, Check, NoCheck, BelowPower, ReadsBits}
 
 abbrev is_unchecked : Check → Bool
 is_unchecked NoCheck = true

@@ -1,36 +1,17 @@
 -- References to strings that were merged: what the writer takes for S makes their place with A, and no other symbol's.
-use Rattle.std.proofs.Common.{◌≡◌, ℕ, ◌+◌, ◌-◌, ◌%◌, ◌^◌, ◌<◌, ◌≤◌, Bool, true, false, List, [], ◌∷◌, ◌++◌, Option, Some, None, refl, sym, ap, ◌∙◌, arith, subst, ℤ}
-use Rattle.std.specs.Prelude.{Ok, not, ◌&&◌, ◌||◌, if◌then◌else◌, nat_le, All, option_and_then, option_map, slice_get, is_some}
+use Rattle.wild_references.proofs.Common.{◌≡◌, ℕ, ◌+◌, ◌-◌, ◌%◌, ◌^◌, ◌<◌, ◌≤◌, Bool, true, false, List, [], ◌∷◌, ◌++◌, Option, Some, None, refl, sym, ap, ◌∙◌, arith, subst, ℤ, Ok, not, ◌&&◌, ◌||◌, if◌then◌else◌, nat_le, All, option_and_then, option_map, slice_get, is_some, w64, cast_unsigned, and_parts, not-true, eqb-true, leb-true, le-leb, All-nil, All-cons, Place, Symbol, ValueFlags, InputRelocation, InputSection, MergedString, File, Layout, has_flag, interposable, absolute, dynamic, ifunc, non_interposable, undefined_weak, copy_relocation, export_dynamic, flags_at, DefinitionNames, sum, address_of, merged_strings, names_merged, address_for, World, OutputKind, IsSymbol, HasFlag, IsReplaceable, is_library, may_be_replaced, IsUndefinedWeak, NamesStrings, flag_is}
 use Rattle.std.specs.Option.{option_or}
-use Rattle.std.specs.Int.{w64, cast_unsigned}
-use Rattle.std.proofs.lemmas.Bool.{and_parts, not-true, eqb-true, leb-true, leb-false, lt-leb, le-leb}
-use Rattle.std.proofs.lemmas.List.Elements.{All-nil, All-cons, All-head, All-tail}
+use Rattle.std.proofs.lemmas.Bool.{leb-false, lt-leb}
+use Rattle.std.proofs.lemmas.List.Elements.{All-head, All-tail}
 use Rattle.wild_records.specs.Abi.Symbol.{stt_section}
 use Rattle.wild_types.specs.declared.fault.Missing.TheVariants as missing
-use Rattle.wild_types.specs.declared.symbol.Place.{Place}
 use Rattle.wild_types.specs.declared.symbol.Place.TheVariants as at
-use Rattle.wild_types.specs.declared.symbol.Symbol.{Symbol}
-use Rattle.wild_types.specs.declared.symbol.ValueFlags.{ValueFlags}
 use Rattle.wild_types.specs.declared.input.Slot.{Slot}
 use Rattle.wild_types.specs.declared.input.Slot.TheVariants as slot
-use Rattle.wild_types.specs.declared.input.InputRelocation.{InputRelocation}
-use Rattle.wild_types.specs.declared.input.InputSection.{InputSection}
-use Rattle.wild_types.specs.declared.input.MergedString.{MergedString}
-use Rattle.wild_types.specs.declared.file.File.{File}
-use Rattle.wild_types.specs.declared.layout.Layout.{Layout}
-use Rattle.wild_types.specs.Flags.{has_flag, interposable, absolute, dynamic, ifunc, non_interposable, undefined_weak, copy_relocation, export_dynamic}
 use Rattle.wild_types.specs.Lookups.{files_of, file_of}
-use Rattle.wild_slot.specs.Treatment.{flags_at}
-use Rattle.wild_layout.specs.Geometry.{DefinitionNames}
-use Rattle.wild_layout.specs.SymbolValues.{minus, sum, resolved_address}
-use Rattle.wild_layout.specs.SlotValues.{address_of}
-use Rattle.wild_layout.specs.Merged.{is_section_symbol, strings_by, strings_of, strings_at, strings_in, strings_of_symbol, is_plain_own, merged_strings, names_merged, string_before, string_place, symbol_value, merged_byte, without_addend, address_by, address_named, address_for}
-use Rattle.wild_loader.specs.declared.world.World.{World}
-use Rattle.wild_types.specs.declared.kind.OutputKind.{OutputKind}
-use Rattle.wild_meaning.specs.Value.{IsSymbol, HasFlag, IsReplaceable, is_library, may_be_replaced}
-use Rattle.wild_meaning.specs.ReferentAArch64.{IsUndefinedWeak}
-use Rattle.wild_meaning.specs.Strings.{IsPlainOwn, HasStrings, NamesStrings, IsStringAt, byte_of_reference, IsString}
-use Rattle.wild_geometry.proofs.JudgedLemmas.{flag_is}
+use Rattle.wild_layout.specs.SymbolValues.{minus, resolved_address}
+use Rattle.wild_layout.specs.Merged.{is_section_symbol, strings_by, strings_of, strings_at, strings_in, strings_of_symbol, is_plain_own, string_before, string_place, symbol_value, merged_byte, without_addend, address_by, address_named}
+use Rattle.wild_meaning.specs.Strings.{IsPlainOwn, HasStrings, IsStringAt, byte_of_reference, IsString}
 use Rattle.wild_references.proofs.Symbols.{flag_at, replaceable_is}
 
 -- ---- the strings of a symbol

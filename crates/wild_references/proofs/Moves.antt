@@ -1,6 +1,5 @@
 -- What of a value moves with the base: numbers.
-use Rattle.std.proofs.Common.{◌≡◌, ℕ, ◌+◌, ◌-◌, ◌%◌, ◌^◌, ◌<◌, ◌≤◌, ◌⊎◌, inl, inr, Bool, true, false, refl, arith}
-use Rattle.wild_meaning.specs.Value.{with_base}
+use Rattle.wild_references.proofs.Common.{◌≡◌, ℕ, ◌+◌, ◌-◌, ◌%◌, ◌^◌, ◌<◌, ◌≤◌, ◌⊎◌, inl, inr, Bool, true, false, refl, arith, with_base}
 
 -- what is written for S + A is right where the base is 0 or S does not move
 pub sum_is : (b : Bool) (base a c : ℕ) → (base ≡ 0) ⊎ (b ≡ true) → (a + c) % 2 ^ 64 ≡ (with_base b base a + c) % 2 ^ 64

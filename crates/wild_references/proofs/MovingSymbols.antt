@@ -1,19 +1,8 @@
 -- What is known of a relocation that writes a value: whether its symbol moves.
-use Rattle.std.proofs.Common.{◌≡◌, ℕ, ◌<◌, ◌⊎◌, inl, inr, Bool, true, false, refl, sym, ◌∙◌, length}
-use Rattle.std.specs.Prelude.{Option, Some, None, if◌then◌else◌, not, ◌&&◌, ◌||◌, ◌==◌}
-use Rattle.std.proofs.lemmas.Bool.{cases_Bool, lt-ltb}
-use Rattle.wild_types.specs.declared.input.InputRelocation.{InputRelocation}
-use Rattle.wild_types.specs.Item.{Item}
-use Rattle.wild_types.specs.declared.layout.Layout.{Layout}
-use Rattle.wild_slot.specs.declared.treatment.Treatment.{Treatment}
+use Rattle.wild_references.proofs.Common.{◌≡◌, ℕ, ◌<◌, ◌⊎◌, inl, inr, Bool, true, false, refl, sym, ◌∙◌, length, Option, Some, None, if◌then◌else◌, not, ◌&&◌, ◌||◌, ◌==◌, cases_Bool, InputRelocation, Item, Layout, Treatment, has_flag, absolute, is_position_independent, is_shared_object, allocated, canonical, row_of, needs_symbolic, is_barred, is_narrow, needs_irelative, flags_at, moves, address_treatment, kind_treatment, row_accepts, treatment, field_width, RelocationKindInfo}
+use Rattle.std.proofs.lemmas.Bool.{lt-ltb}
 use Rattle.wild_slot.specs.declared.treatment.Treatment.TheVariants as treatments
-use Rattle.wild_types.specs.Flags.{has_flag, absolute}
-use Rattle.wild_types.specs.Kinds.{is_position_independent, is_shared_object}
-use Rattle.wild_types.specs.Lookups.{allocated, canonical}
-use Rattle.wild_types.specs.Rows.{row_of}
-use Rattle.wild_slot.specs.Treatment.{needs_symbolic, is_barred, is_narrow, needs_irelative, is_sized, flags_at, moves, relative_treatment, irelative_treatment, address_treatment, distance_treatment, pointer_treatment, size_treatment, named, if_defined, kind_treatment, row_accepts, row_treatment, treatment}
-use Rattle.wild_reloc.specs.Field.{field_width}
-use Rattle.wild_reloc.specs.declared.info.RelocationKindInfo.{RelocationKindInfo}
+use Rattle.wild_slot.specs.Treatment.{is_sized, relative_treatment, irelative_treatment, distance_treatment, pointer_treatment, size_treatment, named, if_defined, row_treatment}
 
 -- the treatment goes by the row's kind, where the row takes the relocation's symbol and addend
 pub treated_by : (l : Layout) (s : Item) (r : InputRelocation) (row : RelocationKindInfo) (t : Treatment) → row_of l.machine r.number ≡ Some row → treatment l s.flags r ≡ t → (treatments.Unsupported ≡ t → ⊥) → kind_treatment l s.flags r.number r.symbol row row.kind ≡ t

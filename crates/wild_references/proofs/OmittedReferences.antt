@@ -1,52 +1,16 @@
 -- What an image for debuggers alone leaves out: fields that a loader fills, and expressions that go by a slot or a stub.
-use Rattle.std.proofs.Common.{◌≡◌, ℕ, ◌⊎◌, inl, inr, Bool, true, false, refl, sym, ap, ◌∙◌, arith, subst}
-use Rattle.std.specs.Prelude.{Option, Some, None, Ok, ◌&&◌, ◌||◌, not, if◌then◌else◌}
-use Rattle.std.proofs.lemmas.Bool.{and_parts}
-use Rattle.wild_words.proofs.Basics.{slice_get_inside}
-use Rattle.wild_words.proofs.ListLemmas.{holds_at}
+use Rattle.wild_references.proofs.Common.{◌≡◌, ℕ, ◌⊎◌, inl, inr, Bool, true, false, refl, sym, ap, ◌∙◌, arith, subst, Option, Some, None, Ok, ◌&&◌, ◌||◌, not, if◌then◌else◌, and_parts, slice_get_inside, holds_at, OutputKind, InputRelocation, Layout, ValueFlags, KeepsAll, Item, has_flag, absolute, dynamic, ifunc, non_interposable, is_position_independent, is_shared_object, place_of, allocated, writable, row_of, Treatment, flags_at, treatment, kind_treatment, has_dynamic_entry, sized, value_of, expression_of, subtrahend_of, expressed, slot_sort, field_width, Size, StubDistance, StubFromTable, SlotAddress, SlotDistance, SlotPageDistance, SlotSort, Subtrahend, Term, RelocationKind, RelocationKindInfo, RelocationSize, NamesSymbol, stub_of, stub_address, weak_resolves_to_place, undefined_weak_target, term_by, field_has, known_extent, known_indirect, known_symbolic, Memory, World, HasFlag, TakesAddress, IsSlotValue, TakesStub, IsOmitted, flag_is, is_expressed, value_by_row, IsDirect}
 use Rattle.wild_types.specs.declared.fault.Missing.TheVariants as missing
-use Rattle.wild_types.specs.declared.kind.OutputKind.{OutputKind}
 use Rattle.wild_types.specs.declared.kind.OutputKind.TheVariants as output
-use Rattle.wild_types.specs.declared.input.InputRelocation.{InputRelocation}
-use Rattle.wild_types.specs.declared.layout.Layout.{Layout}
-use Rattle.wild_types.specs.declared.symbol.ValueFlags.{ValueFlags}
-use Rattle.wild_types.specs.HeaderOnly.{KeepsAll}
-use Rattle.wild_types.specs.Item.{Item}
-use Rattle.wild_types.specs.Flags.{has_flag, absolute, dynamic, ifunc, non_interposable}
-use Rattle.wild_types.specs.Kinds.{is_position_independent, is_shared_object}
-use Rattle.wild_types.specs.Lookups.{place_of, allocated, writable}
-use Rattle.wild_types.specs.Rows.{row_of}
-use Rattle.wild_slot.specs.declared.treatment.Treatment.{Treatment}
 use Rattle.wild_slot.specs.declared.treatment.Treatment.TheVariants as treatments
-use Rattle.wild_slot.specs.Treatment.{flags_at, treatment, kind_treatment}
 use Rattle.wild_slot.proofs.TreatmentLemmas.{treated_says}
-use Rattle.wild_needs.specs.Entries.{has_dynamic_entry}
-use Rattle.wild_reloc.specs.Agreement.{sized, value_of}
-use Rattle.wild_reloc.specs.Expression.{expression_of, subtrahend_of, expressed, slot_sort}
-use Rattle.wild_reloc.specs.Field.{field_width}
-use Rattle.wild_reloc.specs.Formula.{Size, StubDistance, StubFromTable, SlotAddress, SlotDistance, SlotPageDistance, SlotFromTable, SlotFromTablePage}
-use Rattle.wild_reloc.specs.declared.expression.SlotSort.{SlotSort}
-use Rattle.wild_reloc.specs.declared.expression.Subtrahend.{Subtrahend}
+use Rattle.wild_reloc.specs.Formula.{SlotFromTable, SlotFromTablePage}
 use Rattle.wild_reloc.specs.declared.expression.Subtrahend.TheVariants as subtrahend
-use Rattle.wild_reloc.specs.declared.expression.Term.{Term}
 use Rattle.wild_reloc.specs.declared.expression.Term.TheVariants as term
-use Rattle.wild_reloc.specs.declared.info.RelocationKind.{RelocationKind}
 use Rattle.wild_reloc.specs.declared.info.RelocationKind.TheVariants as kinds
-use Rattle.wild_reloc.specs.declared.info.RelocationKindInfo.{RelocationKindInfo}
-use Rattle.wild_reloc.specs.declared.info.RelocationSize.{RelocationSize}
-use Rattle.wild_layout.specs.Geometry.{NamesSymbol}
-use Rattle.wild_layout.specs.SlotValues.{stub_of, stub_address}
-use Rattle.wild_layout.specs.Values.{weak_resolves_to_place, undefined_weak_target, term_by}
-use Rattle.wild_layout.proofs.DecideLemmas.{field_has, known_extent, known_indirect, known_symbolic}
-use Rattle.wild_loader.specs.declared.memory.Memory.{Memory}
-use Rattle.wild_loader.specs.declared.world.World.{World}
 use Rattle.wild_meaning.specs.Section.{IsForDebuggers}
-use Rattle.wild_meaning.specs.Value.{HasFlag}
-use Rattle.wild_meaning.specs.Formula.{TakesAddress}
-use Rattle.wild_meaning.specs.Reference.{NamesAbsolute, MayBeElsewhere, TakesEntry, IsSlotValue, TakesStub, IsOmitted}
+use Rattle.wild_meaning.specs.Reference.{NamesAbsolute, MayBeElsewhere, TakesEntry}
 use Rattle.wild_meaning.proofs.BitLemmas.{bit_write}
-use Rattle.wild_geometry.proofs.JudgedLemmas.{flag_is}
-use Rattle.wild_references.specs.Terms.{is_expressed, value_by_row, IsDirect}
 use Rattle.wild_references.proofs.OwnSymbolReferences.{left_open}
 use Rattle.wild_references.proofs.DirectBranches.{own_directly}
 use Rattle.wild_references.proofs.EntryKinds.{chosen_own}

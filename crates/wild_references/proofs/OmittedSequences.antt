@@ -1,23 +1,9 @@
 -- An image for debuggers alone leaves out the references of a sequence together.
-use Rattle.std.proofs.Common.{◌≡◌, ℕ, ◌⊎◌, inl, inr, Bool, true, false, [], ◌∷◌, refl, sym, ap, ◌∙◌, arith, subst}
-use Rattle.std.specs.Prelude.{◌==◌, ◌||◌, Contains, Some}
-use Rattle.std.proofs.lemmas.Bool.{eqb-true}
-use Rattle.wild_records.specs.Abi.Relocation.{r_aarch64_tlsdesc_adr_page21, r_aarch64_tlsie_adr_gottprel_page21, r_aarch64_adr_prel_pg_hi21, r_aarch64_add_abs_lo12_nc, r_aarch64_jump26, r_aarch64_call26}
-use Rattle.wild_types.specs.declared.kind.Machine.{Machine}
+use Rattle.wild_references.proofs.Common.{◌≡◌, ℕ, ◌⊎◌, inl, inr, Bool, true, false, [], ◌∷◌, refl, sym, ap, ◌∙◌, arith, subst, ◌==◌, ◌||◌, Contains, Some, eqb-true, r_aarch64_tlsdesc_adr_page21, r_aarch64_tlsie_adr_gottprel_page21, r_aarch64_adr_prel_pg_hi21, r_aarch64_add_abs_lo12_nc, r_aarch64_jump26, r_aarch64_call26, Machine, InputRelocation, Layout, Item, Formula, Value, SymbolAddress, SymbolPart, Distance, PageDistance, FromTable, Size, aarch64_formula, formula_of, TakesAddress, Instruction, descriptor_call_words, offset_pair_words, address_pair_words, instructions_of, IsOfSequence, HasStubAddress, IsSlotValue, HasSlotFormula, TakesStub, IsOmitted, only_one}
 use Rattle.wild_types.specs.declared.kind.Machine.TheVariants as machine
-use Rattle.wild_types.specs.declared.input.InputRelocation.{InputRelocation}
-use Rattle.wild_types.specs.declared.layout.Layout.{Layout}
-use Rattle.wild_types.specs.Item.{Item}
-use Rattle.wild_reloc.specs.Formula.{Formula, Value, SymbolAddress, SymbolPart, Distance, PageDistance, FromTable, Size}
-use Rattle.wild_reloc.specs.FormulaAArch64.{aarch64_formula}
-use Rattle.wild_meaning.specs.Field.{formula_of}
-use Rattle.wild_meaning.specs.Formula.{TakesAddress}
-use Rattle.wild_meaning.specs.Sequence.{Instruction, descriptor_call_words, offset_pair_words, address_pair_words, instructions_of}
-use Rattle.wild_meaning.specs.Template.{IsOfSequence}
-use Rattle.wild_meaning.specs.Reference.{HasStubAddress, IsSlotValue, HasSlotFormula, SequenceNamesSlot, TakesEntry, TakesStub, UsesStubAddress, UsesStub, UsesStubOrThunk, NamesSlot, IsOmitted}
+use Rattle.wild_meaning.specs.Reference.{SequenceNamesSlot, TakesEntry, UsesStubAddress, UsesStub, UsesStubOrThunk, NamesSlot}
 use Rattle.wild_meaning.proofs.InstructionsAArch64.{numbers_in, numbered}
 use Rattle.wild_meaning.proofs.OneReference.{has}
-use Rattle.wild_meaning.proofs.PairLemmas.{only_one}
 use Rattle.wild_references.proofs.RunWords.{IsRun, is_run_of, IsOfSlot, HasPart, same_formula, not_conditional}
 use Rattle.wild_references.proofs.SequencesAArch64.{call_page, offset_page, part_of}
 

@@ -1,23 +1,9 @@
 -- What is told of a symbol is one thing: its flags, its address, its value, its stub, its slots, and the address that instructions with a part each
 -- of it have.
-use Rattle.std.proofs.Common.{◌≡◌, ℕ, ◌+◌, ◌%◌, ◌^◌, ◌⊎◌, inl, inr, Bool, true, false, sym, ap, ◌∙◌, subst}
-use Rattle.std.specs.Prelude.{Option, Some, None, Ok, slice_get}
-use Rattle.wild_reloc.specs.Formula.{Slot, AddressSlot, ModulePair, OwnModulePair, ThreadOffset, Descriptor}
+use Rattle.wild_references.proofs.Common.{◌≡◌, ℕ, ◌+◌, ◌%◌, ◌^◌, ◌⊎◌, inl, inr, Bool, true, false, sym, ap, ◌∙◌, subst, Option, Some, None, Ok, slice_get, AddressSlot, ModulePair, OwnModulePair, ThreadOffset, Descriptor, Resolution, Symbol, InputSection, File, Layout, has_flag, World, Answer, Memory, IsSymbol, IsDefinedBy, IsLocatedAt, IsResolved, IsUnresolved, HasRaw, HasFlag, IsValue, HasOwnValue, may_be_replaced, IsReplaceable, HasAnswer, HasValue, HasStub, IsSlot, IsOneAddress, canonical_is}
+use Rattle.wild_reloc.specs.Formula.{Slot}
 use Rattle.wild_types.specs.declared.symbol.Place.TheVariants as at
-use Rattle.wild_types.specs.declared.symbol.Resolution.{Resolution}
-use Rattle.wild_types.specs.declared.symbol.Symbol.{Symbol}
-use Rattle.wild_types.specs.declared.input.InputSection.{InputSection}
-use Rattle.wild_types.specs.declared.file.File.{File}
-use Rattle.wild_types.specs.declared.layout.Layout.{Layout}
-use Rattle.wild_types.specs.Flags.{has_flag}
-use Rattle.wild_loader.specs.declared.world.World.{World}
-use Rattle.wild_loader.specs.declared.world.Answer.{Answer}
-use Rattle.wild_loader.specs.declared.memory.Memory.{Memory}
-use Rattle.wild_meaning.specs.Value.{IsSymbol, IsDefinedBy, IsLocatedAt, IsResolved, IsUnresolved, HasRaw, HasFlag, IsValue, HasOwnValue, may_be_replaced, IsReplaceable, HasAnswer, HasValue}
-use Rattle.wild_meaning.specs.Denotes.{HasStub}
-use Rattle.wild_meaning.specs.Slot.{offset_from_first, HasSlotAddress, HasSlot, IsSlot}
-use Rattle.wild_meaning.specs.ReferentAArch64.{IsOneAddress}
-use Rattle.wild_meaning.proofs.SymbolLemmas.{canonical_is}
+use Rattle.wild_meaning.specs.Slot.{offset_from_first, HasSlotAddress, HasSlot}
 
 -- ---- the definition
 

@@ -1,10 +1,6 @@
 -- Kinds of outputs, as the writer tells them and as the reader does.
-use Rattle.std.proofs.Common.{◌≡◌, ◌⊎◌, inl, inr, false, refl}
-use Rattle.wild_types.specs.declared.kind.OutputKind.{OutputKind}
+use Rattle.wild_references.proofs.Common.{◌≡◌, ◌⊎◌, inl, inr, false, refl, OutputKind, is_shared_object, is_library, IsLoadable, IsExecutable}
 use Rattle.wild_types.specs.declared.kind.OutputKind.TheVariants as output
-use Rattle.wild_types.specs.Kinds.{is_shared_object}
-use Rattle.wild_meaning.specs.Value.{is_library}
-use Rattle.wild_meaning.specs.World.{IsLoadable, IsExecutable}
 
 pub library_is : (k : OutputKind) → is_library k ≡ is_shared_object k
 library_is (output.StaticExecutable any) = refl

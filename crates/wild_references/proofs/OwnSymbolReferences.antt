@@ -1,49 +1,14 @@
 -- Which references take the output's own symbol, whatever another module has for it.
-use Rattle.std.proofs.Common.{◌≡◌, ℕ, ◌<◌, ◌⊎◌, inl, inr, Bool, true, false, Some, length, refl, sym, ap, ◌∙◌, subst}
-use Rattle.std.specs.Prelude.{not, ◌&&◌, ◌==◌, Option, None}
-use Rattle.std.proofs.lemmas.Bool.{eq-eqb}
-use Rattle.std.proofs.lemmas.Option.{slice_get_within}
-use Rattle.wild_meaning.proofs.SymbolLemmas.{canonical_is}
-use Rattle.wild_words.proofs.Basics.{slice_get_inside}
+use Rattle.wild_references.proofs.Common.{◌≡◌, ℕ, ◌<◌, ◌⊎◌, inl, inr, Bool, true, false, Some, length, refl, sym, ap, ◌∙◌, subst, not, ◌&&◌, ◌==◌, Option, None, eq-eqb, slice_get_within, canonical_is, slice_get_inside, InputRelocation, Layout, Treatment, has_dynamic_entry, has_flag, non_interposable, writable, allocated, canonical, row_of, flags_at, needs_symbolic, treatment, plain_value, sized, value_of, field_width, Formula, Form, NoField, Plain, Full, Bits, Value, SymbolAddress, SymbolPart, Distance, PageDistance, FromTable, ModuleOffset, PointerOffset, Size, RelocationKind, RelocationKindInfo, RelocationSize, ByteSize, BitMasking, PageMask, Term, Subtrahend, NamesSymbol, expression_of, paged, subtrahend_of, expressed, writes, Memory, World, formula_of, form_width, TakesAddress, TakesOffset, Item, HasStubAddress, UsesOwnDefinition, UsesOwnSymbolOnly, IsSet, HasFlag, IsReplaceable, may_be_replaced, known_extent, known_indirect, known_symbolic, flag_is, IsPlaced, IsFollowed}
 use Rattle.wild_records.specs.Abi.Section.{shf_write}
-use Rattle.wild_types.specs.declared.input.InputRelocation.{InputRelocation}
-use Rattle.wild_types.specs.declared.layout.Layout.{Layout}
-use Rattle.wild_slot.specs.declared.treatment.Treatment.{Treatment}
 use Rattle.wild_slot.specs.declared.treatment.Treatment.TheVariants as treatments
-use Rattle.wild_needs.specs.Entries.{has_dynamic_entry}
-use Rattle.wild_types.specs.Flags.{has_flag, non_interposable}
-use Rattle.wild_types.specs.Lookups.{writable, allocated, canonical}
-use Rattle.wild_types.specs.Rows.{row_of}
-use Rattle.wild_slot.specs.Treatment.{flags_at, needs_symbolic, treatment}
-use Rattle.wild_reloc.specs.Agreement.{plain_value, sized, value_of}
-use Rattle.wild_reloc.specs.Field.{field_width}
-use Rattle.wild_reloc.specs.Formula.{Formula, Form, NoField, Plain, Full, Bits, Value, SymbolAddress, SymbolPart, Distance, PageDistance, FromTable, ModuleOffset, PointerOffset, Size}
-use Rattle.wild_reloc.specs.declared.info.RelocationKind.{RelocationKind}
 use Rattle.wild_reloc.specs.declared.info.RelocationKind.TheVariants as kinds
-use Rattle.wild_reloc.specs.declared.info.RelocationKindInfo.{RelocationKindInfo}
-use Rattle.wild_reloc.specs.declared.info.RelocationSize.{RelocationSize}
-use Rattle.wild_reloc.specs.declared.info.RelocationSize.TheVariants.{ByteSize, BitMasking}
-use Rattle.wild_reloc.specs.declared.info.PageMask.{PageMask}
 use Rattle.wild_reloc.specs.declared.info.PageMask.TheVariants as masks
-use Rattle.wild_reloc.specs.declared.expression.Term.{Term}
 use Rattle.wild_reloc.specs.declared.expression.Term.TheVariants as term
-use Rattle.wild_reloc.specs.declared.expression.Subtrahend.{Subtrahend}
 use Rattle.wild_reloc.specs.declared.expression.Subtrahend.TheVariants as lesser
-use Rattle.wild_layout.specs.Geometry.{NamesSymbol}
 use Rattle.wild_slot.proofs.TreatmentLemmas.{treated_says}
-use Rattle.wild_reloc.specs.Expression.{expression_of, paged, subtrahend_of, expressed, writes}
-use Rattle.wild_loader.specs.declared.memory.Memory.{Memory}
-use Rattle.wild_loader.specs.declared.world.World.{World}
-use Rattle.wild_meaning.specs.Field.{formula_of, form_width}
-use Rattle.wild_meaning.specs.Formula.{TakesAddress, TakesOffset}
-use Rattle.wild_types.specs.Item.{Item}
-use Rattle.wild_meaning.specs.Reference.{IsFilledByLoader, HasStubAddress, UsesOwnDefinition, BranchesThroughStub, UsesOwnSymbolOnly}
-use Rattle.wild_meaning.specs.Section.{IsSet}
-use Rattle.wild_meaning.specs.Value.{HasFlag, IsReplaceable, may_be_replaced}
+use Rattle.wild_meaning.specs.Reference.{IsFilledByLoader, BranchesThroughStub}
 use Rattle.wild_meaning.proofs.BitLemmas.{write_bit, bit_write}
-use Rattle.wild_layout.proofs.DecideLemmas.{known_extent, known_indirect, known_symbolic}
-use Rattle.wild_geometry.proofs.JudgedLemmas.{flag_is}
-use Rattle.wild_references.specs.Terms.{IsPlaced, IsFollowed}
 use Rattle.wild_references.proofs.EntryKinds.{address_by, chosen_own}
 use Rattle.wild_references.proofs.KnownRows.{IsSeen, RowFits}
 use Rattle.wild_references.proofs.LowForms.{is_low}

@@ -1,16 +1,5 @@
 -- The symbols that no other module may replace: their values are the output's own.
-use Rattle.std.proofs.Common.{◌≡◌, ℕ, ◌<◌, inr, Bool, true, false, Some, Ok, length, sym, ap, ◌∙◌, subst}
-use Rattle.wild_words.proofs.Basics.{slice_get_inside}
-use Rattle.wild_types.specs.declared.symbol.ValueFlags.{ValueFlags}
-use Rattle.wild_types.specs.declared.layout.Layout.{Layout}
-use Rattle.wild_types.specs.Flags.{has_flag, interposable, absolute, dynamic}
-use Rattle.wild_slot.specs.Treatment.{flags_at}
-use Rattle.wild_layout.specs.SymbolValues.{raw_address}
-use Rattle.wild_layout.specs.SlotValues.{symbol_is_ifunc, address_of}
-use Rattle.wild_loader.specs.declared.memory.Memory.{Memory}
-use Rattle.wild_loader.specs.declared.world.World.{World}
-use Rattle.wild_meaning.specs.Value.{HasValue, IsAbsolute, IsReplaceable, with_base}
-use Rattle.wild_references.specs.Terms.{SymbolsFit, IsPlaced}
+use Rattle.wild_references.proofs.Common.{◌≡◌, ℕ, ◌<◌, inr, Bool, true, false, Some, Ok, length, sym, ap, ◌∙◌, subst, slice_get_inside, ValueFlags, Layout, has_flag, interposable, absolute, dynamic, flags_at, raw_address, symbol_is_ifunc, address_of, Memory, World, HasValue, IsAbsolute, IsReplaceable, with_base, SymbolsFit, IsPlaced}
 use Rattle.wild_references.proofs.SlotFlags.{symbol_fits, dynamic_interposable, listed_at}
 use Rattle.wild_references.proofs.Symbols.{replaceable_at, flags_are}
 use Rattle.wild_references.proofs.Targets.{raw_addressed}

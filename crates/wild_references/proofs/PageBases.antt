@@ -1,24 +1,14 @@
 -- What the values of an AArch64 output rest on besides, taken from its layout and its world.
-use Rattle.std.proofs.Common.{◌≡◌, ℕ, ◌-◌, ◌%◌, ◌^◌, ◌<◌, ◌≤◌, inl, inr, None, refl, arith}
-use Rattle.std.specs.Prelude.{nat_lt}
+use Rattle.wild_references.proofs.Common.{◌≡◌, ℕ, ◌-◌, ◌%◌, ◌^◌, ◌<◌, ◌≤◌, inl, inr, None, refl, arith, nat_lt, cases_Bool, ltb-true, nat_tests, Machine, Layout, Item, NumbersFit, IsLaidOut, World, MovesByPages, HasBytes}
 use Rattle.std.specs.Int.{IsPowerOfTwo}
-use Rattle.std.proofs.lemmas.Bool.{cases_Bool, ltb-true}
-use Rattle.std.proofs.lemmas.Bool.Decides.{nat_tests}
 use Rattle.std.proofs.lemmas.Nat.Gcd.{dvd_trans, dvd_of_mod-eq-zero, mod-eq-zero_of_dvd}
 use Rattle.std.proofs.Math.Nat.{mod-le}
 use Rattle.std.proofs.Math.Pow.{pow_mono}
-use Rattle.wild_types.specs.declared.kind.Machine.{Machine}
 use Rattle.wild_types.specs.declared.kind.Machine.TheVariants as machine
-use Rattle.wild_types.specs.declared.layout.Layout.{Layout}
-use Rattle.wild_types.specs.Item.{Item}
-use Rattle.wild_layout.specs.Numbers.{NumbersFit}
-use Rattle.wild_layout.specs.Geometry.{IsLaidOut}
-use Rattle.wild_loader.specs.declared.world.World.{World}
 use Rattle.wild_meaning.specs.Item.{IsKept}
 use Rattle.wild_meaning.specs.Thread.{rounded_up, control_block_size}
 use Rattle.wild_meaning.specs.World.{IsLegal}
-use Rattle.wild_references.specs.Terms.{MovesByPages}
-use Rattle.wild_references.specs.Laws.{HasBytes, OutputsMoveByPages, ItemsHaveBytes}
+use Rattle.wild_references.specs.Laws.{OutputsMoveByPages, ItemsHaveBytes}
 use Rattle.wild_references.proofs.KeptItems.{bytes_fit}
 
 -- a multiple of pages that are multiples of 4096 bytes is one of these

@@ -1,30 +1,12 @@
 -- An instruction whose fields have their formulas' values, and whose own bytes are the input's, does what it demands.
-use Rattle.std.proofs.Common.{◌≡◌, ℕ, ◌+◌, ◌%◌, inl, inr, true, false, List, [], ◌∷◌, refl, sym, ap, ◌∙◌, subst, arith}
-use Rattle.std.specs.Prelude.{Option, Some, None, Contains}
+use Rattle.wild_references.proofs.Common.{◌≡◌, ℕ, ◌+◌, ◌%◌, inl, inr, true, false, List, [], ◌∷◌, refl, sym, ap, ◌∙◌, subst, arith, Option, Some, None, Contains, RelocationKindInfo, expression_of, writes, Formula, Reads, x86_64_formula, Machine, InputRelocation, Layout, Item, row_of, Memory, World, Holds, RowsAreRead, place_at, formula_of, IsInputByte, Instruction, IsOwnByte, instructions_of, IsSingle, IsTemplate, reads, DoesDemanded, IsOfSequence, MustHold, UsesOwnSymbolOnly, as_pair, FieldHolds}
 use Rattle.wild_words.proofs.Basics.{listed_at}
-use Rattle.wild_reloc.specs.declared.info.RelocationKindInfo.{RelocationKindInfo}
 use Rattle.wild_reloc.specs.declared.expression.Class.TheVariants as class
-use Rattle.wild_reloc.specs.Expression.{expression_of, has_value, writes}
-use Rattle.wild_reloc.specs.Formula.{Formula, Reads}
-use Rattle.wild_reloc.specs.FormulaX86_64.{x86_64_formula}
+use Rattle.wild_reloc.specs.Expression.{has_value}
 use Rattle.wild_reloc.specs.Agreement.{Agrees}
-use Rattle.wild_types.specs.declared.kind.Machine.{Machine}
 use Rattle.wild_types.specs.declared.kind.Machine.TheVariants as machine
-use Rattle.wild_types.specs.declared.input.InputRelocation.{InputRelocation}
-use Rattle.wild_types.specs.declared.layout.Layout.{Layout}
-use Rattle.wild_types.specs.Item.{Item}
-use Rattle.wild_types.specs.Rows.{row_of}
-use Rattle.wild_loader.specs.declared.memory.Memory.{Memory}
-use Rattle.wild_loader.specs.declared.world.World.{World}
-use Rattle.wild_loader.specs.Memory.{Holds}
-use Rattle.wild_geometry.specs.MachineFacts.{RowsAreRead}
-use Rattle.wild_meaning.specs.Item.{place_at, IsReference}
-use Rattle.wild_meaning.specs.Field.{formula_of, IsInputByte}
-use Rattle.wild_meaning.specs.Sequence.{Instruction, Partner, IsOwnByte, instructions_of}
-use Rattle.wild_meaning.specs.Template.{IsSingle, IsTemplate, reads, DoesDemanded, IsOfSequence}
-use Rattle.wild_meaning.specs.Reference.{MustHold, UsesOwnSymbolOnly}
-use Rattle.wild_meaning.proofs.PairLemmas.{as_pair}
-use Rattle.wild_references.specs.Laws.{FieldHolds}
+use Rattle.wild_meaning.specs.Item.{IsReference}
+use Rattle.wild_meaning.specs.Sequence.{Partner}
 use Rattle.wild_references.specs.PlainLaws.{IsFilledPlainly, PlainInstructionsDo, ReadsLowBits, HasFormula, RowsHaveFormulas}
 use Rattle.wild_references.proofs.KnownRows.{IsSeen, row_fits, formula_there}
 use Rattle.wild_references.proofs.LowForms.{reads_low}

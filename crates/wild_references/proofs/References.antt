@@ -1,46 +1,15 @@
 -- The references of a kept section that keep their instructions hold in memory.
-use Rattle.std.proofs.Common.{◌≡◌, ℕ, ◌+◌, ◌%◌, ◌^◌, ◌≤◌, ◌⊎◌, inl, inr, Bool, true, false, [], Some, refl, sym, ap, ◌∙◌, arith, subst}
-use Rattle.std.specs.Prelude.{Ok, if◌then◌else◌, length, slice_get}
-use Rattle.wild_words.proofs.ListLemmas.{holds_at}
-use Rattle.wild_types.specs.declared.kind.Machine.{Machine}
+use Rattle.wild_references.proofs.Common.{◌≡◌, ℕ, ◌+◌, ◌%◌, ◌^◌, ◌≤◌, ◌⊎◌, inl, inr, Bool, true, false, [], Some, refl, sym, ap, ◌∙◌, arith, subst, Ok, if◌then◌else◌, length, slice_get, holds_at, Machine, OutputKind, place_of, InputRelocation, Layout, KeepsAll, kind_treatment, sized, expression_of, subtrahend_of, expressed, writes, RelocationKindInfo, RelocationSize, ByteSize, Eight, SlotSort, Subtrahend, Term, Formula, Value, formula, SymbolAddress, StubDistance, NoValue, NoField, RelocationKind, NamesSymbol, AddendFits, term_of, value_in, adds_symbol, weak_resolves_to_place, undefined_weak_target, term_by, HasField, field_has, ComesTo, own_choice, World, Memory, FieldReads, Item, KnowsOffsets, HasOffsetMode, Gives, GivesLinked, IsPlaceRelative, TakesAddress, TakesOffset, MustHold, HasStubAddress, UsesOwnDefinition, UsesOwnSymbolOnly, IsOmitted, FieldHolds, IsKeptReference, value_by_row, IsDirect, HasTerm, IsFollowed, IsReplaceable, signed_fits, w64}
 use Rattle.wild_types.specs.declared.kind.Machine.TheVariants as machine
-use Rattle.wild_types.specs.declared.kind.OutputKind.{OutputKind}
 use Rattle.wild_types.specs.declared.kind.OutputKind.TheVariants as output
-use Rattle.wild_types.specs.Lookups.{place_of}
-use Rattle.wild_types.specs.declared.input.InputRelocation.{InputRelocation}
-use Rattle.wild_types.specs.declared.layout.Layout.{Layout}
-use Rattle.wild_types.specs.HeaderOnly.{KeepsAll}
 use Rattle.wild_slot.specs.declared.treatment.Treatment.TheVariants as treatments
-use Rattle.wild_slot.specs.Treatment.{kind_treatment}
-use Rattle.wild_reloc.specs.Agreement.{sized}
-use Rattle.wild_reloc.specs.Expression.{expression_of, subtrahend_of, expressed, writes}
-use Rattle.wild_reloc.specs.declared.info.RelocationKindInfo.{RelocationKindInfo}
-use Rattle.wild_reloc.specs.declared.info.RelocationSize.{RelocationSize}
-use Rattle.wild_reloc.specs.declared.info.RelocationSize.TheVariants.{ByteSize}
-use Rattle.wild_reloc.specs.declared.info.Width.TheVariants.{Eight}
-use Rattle.wild_reloc.specs.declared.expression.SlotSort.{SlotSort}
 use Rattle.wild_reloc.specs.declared.expression.SlotSort.TheVariants as sorts
-use Rattle.wild_reloc.specs.declared.expression.Subtrahend.{Subtrahend}
 use Rattle.wild_reloc.specs.declared.expression.Subtrahend.TheVariants as less
-use Rattle.wild_reloc.specs.declared.expression.Term.{Term}
 use Rattle.wild_reloc.specs.declared.expression.Term.TheVariants as term
-use Rattle.wild_reloc.specs.Formula.{Formula, Value, formula, SymbolAddress, StubDistance, NoValue, NoField}
-use Rattle.wild_reloc.specs.declared.info.RelocationKind.{RelocationKind}
 use Rattle.wild_reloc.specs.declared.info.RelocationKind.TheVariants as kinds
-use Rattle.wild_layout.specs.Geometry.{NamesSymbol}
-use Rattle.wild_layout.specs.Numbers.{AddendFits}
-use Rattle.wild_layout.specs.Values.{term_of, value_in, adds_symbol, weak_resolves_to_place, undefined_weak_target, term_by}
-use Rattle.wild_layout.proofs.DecideLemmas.{HasField, field_has, moved_has}
-use Rattle.wild_layout.proofs.ThunkFieldLemmas.{IsCarried, ComesTo}
-use Rattle.wild_layout.proofs.DecisionLemmas.{own_choice}
-use Rattle.wild_loader.specs.declared.world.World.{World}
-use Rattle.wild_loader.specs.declared.memory.Memory.{Memory}
-use Rattle.wild_meaning.specs.Field.{FieldReads}
-use Rattle.wild_types.specs.Item.{Item}
-use Rattle.wild_meaning.specs.Formula.{KnowsOffsets, HasOffsetMode, Gives, GivesLinked, IsPlaceRelative, TakesAddress, TakesOffset}
-use Rattle.wild_meaning.specs.Reference.{MustHold, HasStubAddress, UsesOwnDefinition, UsesOwnSymbolOnly, IsOmitted}
-use Rattle.wild_references.specs.Laws.{FieldHolds, FieldIsLinked, IsKeptReference}
-use Rattle.wild_references.specs.Terms.{value_by_row, IsDirect, HasTerm, IsFollowed}
+use Rattle.wild_layout.proofs.DecideLemmas.{moved_has}
+use Rattle.wild_layout.proofs.ThunkFieldLemmas.{IsCarried}
+use Rattle.wild_references.specs.Laws.{FieldIsLinked}
 use Rattle.wild_references.proofs.OwnSymbolReferences.{not_left, followed, taken, takes_none, left_follows}
 use Rattle.wild_references.proofs.Descriptors.{descriptor_kept, call_kept}
 use Rattle.wild_references.proofs.Fields.{KindLaws, LinkedLaws, IsItemLoaded, field_within, place_is, place_ends, value_reads, address_reads, left_bytes, left_reads, SeenAs}
@@ -54,9 +23,6 @@ use Rattle.wild_references.proofs.BranchFields.{branch_reads, branch_holds}
 use Rattle.wild_references.proofs.ConditionFields.{own_goes, branch_links}
 use Rattle.wild_references.proofs.MovingSymbols.{treated_by, suits_by, symbol_named}
 use Rattle.wild_references.proofs.WrittenFields.{IsValue, IsAddress, IsLeftField, IsCall, Writes, row_here, relocation_written}
-use Rattle.wild_meaning.specs.Value.{IsReplaceable}
-use Rattle.wild_records.proofs.FieldLemmas.{signed_fits}
-use Rattle.std.specs.Int.{w64}
 
 -- only code of x86-64 has offsets for descriptors
 mode_machine : (l : Layout) → KnowsOffsets l.machine l.kind l → l.machine ≡ machine.X86_64

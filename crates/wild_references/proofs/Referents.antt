@@ -1,50 +1,18 @@
 -- What S and L are in a reference, on either machine.
-use Rattle.std.proofs.Common.{◌≡◌, ℕ, ◌+◌, ◌%◌, ◌^◌, ◌⊎◌, inl, inr, Bool, true, false, Option, Some, None, refl, sym, ap, ◌∙◌, arith, subst, List, ◌<◌}
-use Rattle.std.specs.Prelude.{Ok, not, ◌&&◌, if◌then◌else◌, All}
-use Rattle.std.proofs.lemmas.Bool.{cases_Bool, and_parts, not-true}
-use Rattle.wild_words.proofs.Basics.{slice_get_inside}
-use Rattle.wild_types.specs.declared.kind.Machine.{Machine}
+use Rattle.wild_references.proofs.Common.{◌≡◌, ℕ, ◌+◌, ◌%◌, ◌^◌, ◌⊎◌, inl, inr, Bool, true, false, Option, Some, None, refl, sym, ap, ◌∙◌, arith, subst, List, ◌<◌, Ok, not, ◌&&◌, if◌then◌else◌, All, cases_Bool, and_parts, not-true, slice_get_inside, Machine, InputRelocation, Layout, has_flag, absolute, undefined_weak, plt_stub, place_of, flags_at, is_listed, sized, expression_of, paged, subtrahend_of, expressed, Value, SymbolAddress, SymbolPart, Distance, PageDistance, FromTable, Term, Subtrahend, PageMask, RelocationSize, ByteSize, BitMasking, RelocationKindInfo, NamesSymbol, DefinitionNames, address_of, is_undefined_weak_without_stub, subtracts_place, adds_symbol, weak_resolves_to_place, undefined_weak_target, term_by, World, Memory, Item, place_at, IsAbsolute, IsReplaceable, HasFlag, HasOwnValue, with_base, IsUndefinedWeak, IsOneAddress, IsSymbolAddress, IsPlaceRelative, IsReferentOnAArch64, IsReferent, TakesAddress, TakesOffset, TakesString, HasStubAddress, flag_is, IsPlaced, is_expressed, value_by_row, IsDirect, HasTerm, IsFollowed, merged_strings, address_for, NamesStrings, w64, cast_unsigned, MergedString}
 use Rattle.wild_types.specs.declared.kind.Machine.TheVariants as machine
-use Rattle.wild_types.specs.declared.input.InputRelocation.{InputRelocation}
-use Rattle.wild_types.specs.declared.layout.Layout.{Layout}
-use Rattle.wild_types.specs.Flags.{has_flag, absolute, undefined_weak, plt_stub}
-use Rattle.wild_types.specs.Lookups.{place_of}
-use Rattle.wild_slot.specs.Treatment.{flags_at}
-use Rattle.wild_reloc.specs.BarredTypes.{is_listed, branches_aarch64}
-use Rattle.wild_reloc.specs.Agreement.{sized}
-use Rattle.wild_reloc.specs.Expression.{expression_of, paged, subtrahend_of, expressed}
-use Rattle.wild_reloc.specs.Formula.{Value, SymbolAddress, SymbolPart, Distance, PageDistance, FromTable}
-use Rattle.wild_reloc.specs.declared.expression.Term.{Term}
+use Rattle.wild_reloc.specs.BarredTypes.{branches_aarch64}
 use Rattle.wild_reloc.specs.declared.expression.Term.TheVariants as term
-use Rattle.wild_reloc.specs.declared.expression.Subtrahend.{Subtrahend}
 use Rattle.wild_reloc.specs.declared.expression.Subtrahend.TheVariants as subtrahend
-use Rattle.wild_reloc.specs.declared.info.PageMask.{PageMask}
 use Rattle.wild_reloc.specs.declared.info.PageMask.TheVariants as masks
-use Rattle.wild_reloc.specs.declared.info.RelocationSize.{RelocationSize}
-use Rattle.wild_reloc.specs.declared.info.RelocationSize.TheVariants.{ByteSize, BitMasking}
-use Rattle.wild_reloc.specs.declared.info.RelocationKindInfo.{RelocationKindInfo}
-use Rattle.wild_layout.specs.Geometry.{NamesSymbol, DefinitionNames}
-use Rattle.wild_layout.specs.SlotValues.{address_of}
-use Rattle.wild_layout.specs.Values.{is_undefined_weak_without_stub, subtracts_place, adds_symbol, weak_resolves_to_place, undefined_weak_target, term_by}
-use Rattle.wild_loader.specs.declared.world.World.{World}
-use Rattle.wild_loader.specs.declared.memory.Memory.{Memory}
-use Rattle.wild_types.specs.Item.{Item}
-use Rattle.wild_meaning.specs.Item.{place_at}
-use Rattle.wild_meaning.specs.Value.{IsAbsolute, IsReplaceable, HasFlag, HasOwnValue, with_base}
-use Rattle.wild_meaning.specs.ReferentAArch64.{IsUndefinedWeak, own_place, IsOneAddress, RepresentsOnAArch64}
+use Rattle.wild_meaning.specs.ReferentAArch64.{own_place, RepresentsOnAArch64}
 use Rattle.wild_meaning.proofs.SymbolLemmas.{one_is_address, on_x86_64}
-use Rattle.wild_meaning.specs.Formula.{IsSymbolAddress, IsPlaceRelative, UsesOwnPlace, IsReferentOnX86_64, IsReferentOnAArch64, IsReferent, IsOwnTarget, IsOwnReferentOnAArch64, IsOwnReferent, TakesAddress, TakesOffset, TakesString}
-use Rattle.wild_meaning.specs.Reference.{HasStubAddress}
-use Rattle.wild_geometry.proofs.JudgedLemmas.{flag_is}
-use Rattle.wild_references.specs.Terms.{IsPlaced, page_mask, is_mask, is_table, is_expressed, value_by_row, IsDirect, HasTerm, IsFollowed}
+use Rattle.wild_meaning.specs.Formula.{UsesOwnPlace, IsReferentOnX86_64, IsOwnTarget, IsOwnReferentOnAArch64, IsOwnReferent}
+use Rattle.wild_references.specs.Terms.{page_mask, is_mask, is_table}
 use Rattle.wild_references.proofs.StubCode.{StubLaws}
 use Rattle.wild_references.proofs.Symbols.{flag_at}
 use Rattle.wild_references.proofs.Targets.{Follows, StubIsWritten, addressed, one_addressed, linked}
 use Rattle.wild_references.proofs.MergedStrings.{names_none, plain_address, string_found, string_named, strings_move, absent_none, replaceable_none, IsFor, OfStrings, OfSymbol, address_is_for}
-use Rattle.wild_layout.specs.Merged.{merged_strings, address_for}
-use Rattle.wild_meaning.specs.Strings.{NamesStrings}
-use Rattle.std.specs.Int.{w64, cast_unsigned}
-use Rattle.wild_types.specs.declared.input.MergedString.{MergedString}
 
 -- ---- masks
 

@@ -1,16 +1,5 @@
 -- What is written of an address that moves with the base, less the place or the table.
-use Rattle.std.proofs.Common.{◌≡◌, ℕ, ◌+◌, ◌-◌, ◌%◌, ◌^◌, sym, ap, ◌∙◌}
-use Rattle.wild_types.specs.declared.input.InputRelocation.{InputRelocation}
-use Rattle.wild_types.specs.declared.layout.Layout.{Layout}
-use Rattle.wild_reloc.specs.declared.info.RelocationKindInfo.{RelocationKindInfo}
-use Rattle.wild_types.specs.Lookups.{place_of}
-use Rattle.wild_layout.specs.SymbolValues.{displacement}
-use Rattle.wild_loader.specs.declared.memory.Memory.{Memory}
-use Rattle.wild_loader.specs.declared.world.World.{World}
-use Rattle.wild_meaning.specs.Formula.{table_at}
-use Rattle.wild_types.specs.Item.{Item}
-use Rattle.wild_meaning.specs.Item.{place_at}
-use Rattle.wild_references.specs.Terms.{HasTerm}
+use Rattle.wild_references.proofs.Common.{◌≡◌, ℕ, ◌+◌, ◌-◌, ◌%◌, ◌^◌, sym, ap, ◌∙◌, InputRelocation, Layout, RelocationKindInfo, place_of, displacement, Memory, World, table_at, Item, place_at, HasTerm}
 use Rattle.wild_references.proofs.Moves.{moved_distance, moved_offset}
 use Rattle.wild_references.proofs.ValueKinds.{more}
 

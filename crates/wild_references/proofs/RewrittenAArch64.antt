@@ -2,30 +2,9 @@
 --   LawsOfWords               the laws below, as they are called
 --   IsRunOf .., run_of_word   the run of a word that is rewritten, as the reader has it
 --   word_stands, word_holds   the reader knows it, and the loaded code does what it demands
-use Rattle.std.proofs.Common.{◌≡◌, ℕ, inl, inr, refl, sym, subst, arith}
-use Rattle.std.specs.Prelude.{Some}
+use Rattle.wild_references.proofs.Common.{◌≡◌, ℕ, inl, inr, refl, sym, subst, arith, Some, Machine, InputRelocation, Layout, KeepsAll, Item, Sequence, DescriptorCall, OffsetSlot, Address, Row, RowsOfAArch64Keep, pattern_size, RowsApplyTogether, Rewritten, template_start, IsDecided, HasDecision, Memory, World, formula_of, HoldsRewritten, IsOmitted, descriptor_call_words, IsLoadedItem, TermGives}
 use Rattle.wild_reloc.specs.declared.expression.Term.TheVariants as term
-use Rattle.wild_types.specs.declared.kind.Machine.{Machine}
 use Rattle.wild_types.specs.declared.kind.Machine.TheVariants as machine
-use Rattle.wild_types.specs.declared.input.InputRelocation.{InputRelocation}
-use Rattle.wild_types.specs.declared.layout.Layout.{Layout}
-use Rattle.wild_types.specs.HeaderOnly.{KeepsAll}
-use Rattle.wild_types.specs.Item.{Item}
-use Rattle.wild_relax.specs.declared.pattern.Sequence.{Sequence}
-use Rattle.wild_relax.specs.declared.pattern.Sequence.TheVariants.{DescriptorCall, OffsetSlot, Address}
-use Rattle.wild_relax.specs.declared.row.Row.{Row}
-use Rattle.wild_relax.specs.KeepAArch64.{RowsOfAArch64Keep}
-use Rattle.wild_relax.specs.LinkedPattern.{pattern_size}
-use Rattle.wild_relax.specs.SequenceRowsAArch64.{RowsApplyTogether}
-use Rattle.wild_layout.specs.declared.decision.Decision.TheVariants.{Rewritten}
-use Rattle.wild_layout.specs.Sites.{template_start}
-use Rattle.wild_geometry.specs.Loaded.{IsDecided, HasDecision}
-use Rattle.wild_loader.specs.declared.memory.Memory.{Memory}
-use Rattle.wild_loader.specs.declared.world.World.{World}
-use Rattle.wild_meaning.specs.Field.{formula_of}
-use Rattle.wild_meaning.specs.Reference.{HoldsRewritten, IsOmitted}
-use Rattle.wild_meaning.specs.Sequence.{descriptor_call_words}
-use Rattle.wild_references.specs.Laws.{IsLoadedItem, TermGives}
 use Rattle.wild_references.specs.EffectLaws.{IsLocatedAt}
 use Rattle.wild_references.proofs.OmittedSequences.{beside_slot}
 use Rattle.wild_references.proofs.OmittedReferences.{all_or_bare, keeps_all}

@@ -1,37 +1,18 @@
 -- Sequences whose call goes through a slot: where the reader knows one, a row stands at its first relocation.
-use Rattle.std.proofs.Common.{◌≡◌, ℕ, zero, suc, ◌+◌, ◌-◌, ◌<◌, ◌≤◌, ◌⊎◌, inl, inr, Bool, true, false, List, [], ◌∷◌, length, get_or, take, drop, refl, sym, ap, ◌∙◌, arith, subst}
-use Rattle.std.specs.Prelude.{⊤, ◌&&◌, ◌||◌, ◌==◌, nat_le, Contains, slice_range, Option}
-use Rattle.std.specs.List.{list_all}
-use Rattle.std.proofs.lemmas.Bool.{eqb-true, le-leb, eq-eqb, and_parts}
+use Rattle.wild_references.proofs.Common.{◌≡◌, ℕ, zero, suc, ◌+◌, ◌-◌, ◌<◌, ◌≤◌, ◌⊎◌, inl, inr, Bool, true, false, List, [], ◌∷◌, length, get_or, take, drop, refl, sym, ap, ◌∙◌, arith, subst, ⊤, ◌&&◌, ◌||◌, ◌==◌, nat_le, Contains, slice_range, Option, list_all, eqb-true, le-leb, eq-eqb, and_parts, listed_passes, InputRelocation, Item, Layout, has_flag, interposable, ifunc, is_executable, is_static_executable, executable, flags_at, Cell, Pattern, GENERAL_NO_PLT, GENERAL_NO_PLT_SLOT, LOCAL_NO_PLT, pattern_matches_before, cells_match_at, applies, question_of, general_slot_call, local_slot_call, Instruction, by_call, by_distance, instructions_of, are_several}
 use Rattle.std.proofs.lemmas.List.{take-take}
-use Rattle.wild_words.proofs.Basics.{listed_passes}
 use Rattle.wild_records.specs.Abi.Relocation as abi
 use Rattle.wild_types.specs.declared.kind.Machine.TheVariants as machine
-use Rattle.wild_types.specs.declared.input.InputRelocation.{InputRelocation}
-use Rattle.wild_types.specs.Item.{Item}
-use Rattle.wild_types.specs.declared.layout.Layout.{Layout}
-use Rattle.wild_types.specs.Flags.{has_flag, interposable, ifunc}
-use Rattle.wild_types.specs.Kinds.{is_executable, is_static_executable}
-use Rattle.wild_types.specs.Lookups.{executable}
-use Rattle.wild_slot.specs.Treatment.{flags_at}
 use Rattle.wild_relax.specs.declared.pattern.GeneralForm.TheVariants as general
 use Rattle.wild_relax.specs.declared.pattern.LocalForm.TheVariants as local
-use Rattle.wild_relax.specs.declared.pattern.Cell.{Cell}
 use Rattle.wild_relax.specs.declared.pattern.Cell.TheVariants as cells
-use Rattle.wild_relax.specs.declared.pattern.Pattern.{Pattern}
 use Rattle.wild_relax.specs.declared.pattern.Pattern.TheVariants as pattern
-use Rattle.wild_relax.specs.declared.table.TheConstants.{GENERAL_NO_PLT, GENERAL_NO_PLT_SLOT, LOCAL_NO_PLT}
 use Rattle.wild_relax.specs.Pattern as writer
-use Rattle.wild_relax.specs.Pattern.{pattern_matches_before, cells_match_at}
-use Rattle.wild_relax.specs.Rows.{applies}
-use Rattle.wild_layout.specs.Choice.{question_of}
 use Rattle.wild_loader.specs.Instruction as judge
 use Rattle.wild_loader.specs.declared.instruction.Cell as judge-cell
 use Rattle.wild_loader.specs.declared.instruction.Cell.TheVariants as judge-cells
-use Rattle.wild_loader.specs.ThreadCodeX86_64.{general_slot_call, local_slot_call}
-use Rattle.wild_meaning.specs.Sequence.{Partner, Instruction, by_call, by_distance, instructions_of}
+use Rattle.wild_meaning.specs.Sequence.{Partner}
 use Rattle.wild_meaning.proofs.AmongLemmas.{Among, pick}
-use Rattle.wild_meaning.proofs.PairLemmas.{are_several}
 use Rattle.wild_references.proofs.RewrittenForms.{instruction_of}
 use Rattle.wild_references.proofs.RewrittenSingles.{has_number}
 

@@ -2,45 +2,23 @@
 --   lower read      a reader of operands, as `wild_aarch64` has it
 --   run_done        by the law of the rows
 --   reads_itself    what is written reads no word, where it reads numbers alone
-use Rattle.std.proofs.Common.{◌≡◌, ℕ, zero, suc, ◌+◌, ◌*◌, ◌/◌, ◌%◌, ◌^◌, ◌<◌, ◌≤◌, Bool, true, false, List, [], ◌∷◌, ◌++◌, length, refl, sym, ap, ◌∙◌, subst, arith, eqb-true}
-use Rattle.std.specs.Prelude.{◌&&◌, ◌==◌, if◌then◌else◌, All, Option, Some, None, option_map, option_and_then, Contains}
-use Rattle.std.proofs.lemmas.Bool.{and_parts, ne_eqb, leb-true, ltb-true}
+use Rattle.wild_references.proofs.Common.{◌≡◌, ℕ, zero, suc, ◌+◌, ◌*◌, ◌/◌, ◌%◌, ◌^◌, ◌<◌, ◌≤◌, Bool, true, false, List, [], ◌∷◌, ◌++◌, length, refl, sym, ap, ◌∙◌, subst, arith, ◌&&◌, ◌==◌, if◌then◌else◌, All, Option, Some, None, option_map, option_and_then, Contains, and_parts, ne_eqb, leb-true, ltb-true, word, number, Code, Adrp, Add, Ldr, Blr, does, page, run, meaning, shapes, words_of, Sequence, DescriptorCall, OffsetSlot, Address, Rewriting, rewritings, templates_at, RowsOfAArch64Keep, words_match, Set, Action, Operand, Number, Word, Reader, Effect, effect, as_value, action_of, Memory, World, Holds, InputRelocation, Layout, Item, reads_numbers, place_at, Instruction, size_of, IsOffsetSlot, ReadsOffsetSlots}
+use Rattle.std.proofs.Common.{eqb-true}
 use Rattle.std.proofs.lemmas.List.Elements.{All-head, All-tail}
-use Rattle.wild_words.specs.Words.{word, number}
 use Rattle.wild_aarch64.specs.declared.operand.Operand as run-operand
 use Rattle.wild_aarch64.specs.declared.operand.Operand.TheVariants as has
 use Rattle.wild_aarch64.specs.declared.operand.Deed as run-deed
 use Rattle.wild_aarch64.specs.declared.operand.Deed.TheVariants as runs
 use Rattle.wild_aarch64.specs.declared.operand.Action as run-action
-use Rattle.wild_aarch64.specs.declared.code.Code.{Code}
-use Rattle.wild_aarch64.specs.declared.code.Code.TheVariants.{Adrp, Add, Ldr, Blr}
-use Rattle.wild_aarch64.specs.Machine.{does, page, sum_64, run, meaning}
+use Rattle.wild_aarch64.specs.Machine.{sum_64}
 use Rattle.wild_aarch64.specs.Effect as judged
-use Rattle.wild_aarch64.specs.Effect.{shapes, words_of, effect_of_action, as_effect}
+use Rattle.wild_aarch64.specs.Effect.{effect_of_action, as_effect}
 use Rattle.wild_aarch64.specs.Row.{IsValueOf}
-use Rattle.wild_relax.specs.declared.pattern.Sequence.{Sequence}
-use Rattle.wild_relax.specs.declared.pattern.Sequence.TheVariants.{DescriptorCall, OffsetSlot, Address}
-use Rattle.wild_relax.specs.KeepAArch64.{Rewriting, rewritings, templates_at, AreWords, RowsOfAArch64Keep}
+use Rattle.wild_relax.specs.KeepAArch64.{AreWords}
 use Rattle.wild_relax.specs.RewriteX86_64.{register_set}
-use Rattle.wild_relax.specs.SequenceAArch64.{words_match}
 use Rattle.wild_relax.proofs.KeepAArch64Lemmas.{adrp_shape, ldr_shape, add_shape, blr_shape}
-use Rattle.wild_loader.specs.declared.instruction.Deed.TheVariants.{Set}
-use Rattle.wild_loader.specs.declared.instruction.Action.{Action}
-use Rattle.wild_loader.specs.declared.instruction.Operand.{Operand}
-use Rattle.wild_loader.specs.declared.instruction.Operand.TheVariants.{Number, Word, Offset}
-use Rattle.wild_loader.specs.Instruction.{Reader, Effect, effect, as_value}
-use Rattle.wild_loader.specs.InstructionAArch64.{action_of}
-use Rattle.wild_loader.specs.declared.memory.Memory.{Memory}
-use Rattle.wild_loader.specs.declared.world.World.{World}
-use Rattle.wild_loader.specs.Memory.{Holds}
+use Rattle.wild_loader.specs.declared.instruction.Operand.TheVariants.{Offset}
 use Rattle.wild_types.specs.declared.kind.Machine.TheVariants as machine
-use Rattle.wild_types.specs.declared.input.InputRelocation.{InputRelocation}
-use Rattle.wild_types.specs.declared.layout.Layout.{Layout}
-use Rattle.wild_types.specs.Item.{Item}
-use Rattle.wild_meaning.specs.WordsAArch64.{reads_numbers}
-use Rattle.wild_meaning.specs.Item.{place_at}
-use Rattle.wild_meaning.specs.Sequence.{Instruction, size_of}
-use Rattle.wild_meaning.specs.Reference.{IsOffsetSlot, ReadsOffsetSlots}
 use Rattle.wild_references.proofs.RewrittenReads.{reads_at}
 use Rattle.wild_references.proofs.Does.{read_all}
 use Rattle.wild_references.proofs.WordsAArch64.{fours, AreWordsThere, read_is, words_there}

@@ -1,25 +1,8 @@
 -- What is decided where a row stands: no sequence before takes the relocation along, and none is refused.
-use Rattle.std.proofs.Common.{◌≡◌, ℕ, suc, ◌+◌, inl, inr, true, false, refl, ap, ◌∙◌, arith, subst}
-use Rattle.std.specs.Prelude.{◌==◌, Option, Some, Ok, Err, slice_get}
-use Rattle.std.proofs.lemmas.Bool.{cases_Bool}
-use Rattle.wild_records.specs.Abi.Relocation.{r_x86_64_pc32}
-use Rattle.wild_types.specs.declared.kind.Machine.{Machine}
+use Rattle.wild_references.proofs.Common.{◌≡◌, ℕ, suc, ◌+◌, inl, inr, true, false, refl, ap, ◌∙◌, arith, subst, ◌==◌, Option, Some, Ok, Err, slice_get, cases_Bool, r_x86_64_pc32, Machine, InputRelocation, Item, Layout, UnknownSequence, Row, rewrite_of, info_by, chosen_row_x86_64, Decision, Rewritten, is_skip, question_of, choice_by, choice_of, choice_on, takes_next, is_partner, is_thread_type, decide_with, decide, names_merged}
 use Rattle.wild_types.specs.declared.kind.Machine.TheVariants as machine
-use Rattle.wild_types.specs.declared.input.InputRelocation.{InputRelocation}
-use Rattle.wild_types.specs.Item.{Item}
-use Rattle.wild_types.specs.declared.layout.Layout.{Layout}
-use Rattle.wild_relax.specs.declared.reference.UnknownSequence.{UnknownSequence}
-use Rattle.wild_relax.specs.declared.row.Row.{Row}
-use Rattle.wild_relax.specs.RewriteX86_64.{rewrite_of, info_by}
-use Rattle.wild_relax.specs.Rows.{chosen_row_x86_64}
-use Rattle.wild_layout.specs.declared.decision.Decision.{Decision}
-use Rattle.wild_layout.specs.declared.decision.Decision.TheVariants.{Rewritten}
-use Rattle.wild_relax.specs.Rewrite.{is_skip}
-use Rattle.wild_layout.specs.Choice.{question_of, choice_by, choice_of, choice_on, takes_next, is_partner, is_thread_type}
-use Rattle.wild_layout.specs.Decide.{decide_with, decide}
 use Rattle.wild_layout.proofs.ChoiceLemmas.{choice_is as first_choice}
 use Rattle.wild_layout.proofs.DecisionLemmas.{refused}
-use Rattle.wild_layout.specs.Merged.{names_merged}
 use Rattle.wild_relax.specs.declared.row.Written.TheVariants as written
 
 -- ---- decisions

@@ -1,39 +1,11 @@
 -- The call through a descriptor, in whose place an offset from the thread pointer is written: `nop; nop; movz; movk`.
-use Rattle.std.proofs.Common.{◌≡◌, ℕ, pos, ◌+◌, ◌^◌, ◌<◌, ◌≤◌, true, false, List, [], ◌∷◌, ◌++◌, length, refl, sym, ap, ◌∙◌, subst, arith}
-use Rattle.std.specs.Prelude.{Option, Some, slice_range}
-use Rattle.wild_words.specs.Words.{word, number}
-use Rattle.wild_reloc.specs.Field.{allows}
-use Rattle.wild_reloc.specs.TableX86_64.{x86_64_row}
-use Rattle.wild_reloc.specs.TableAArch64.{tp_off, imm16, unsigned, any, static_row, thread_row}
+use Rattle.wild_references.proofs.Common.{◌≡◌, ℕ, pos, ◌+◌, ◌^◌, ◌<◌, ◌≤◌, true, false, List, [], ◌∷◌, ◌++◌, length, refl, sym, ap, ◌∙◌, subst, arith, Option, Some, slice_range, word, number, allows, x86_64_row, any, static_row, thread_row, RelocationKindInfo, InputRelocation, Layout, interposable, Item, is_executable, flags_at, DescriptorCall, Row, CALL_FIRST, CALL_SECOND, CALL_FOURTH, Rewriting, rewriting, templates_at, RowsOfAArch64Keep, words_of, template_of, info_written, words_at, words_match, Memory, World, place_at, IsOffset, descriptor_call_words, reads_without_calls, reads_numbers, Reader, Number, IsLoadedItem, TermGives}
+use Rattle.wild_reloc.specs.TableAArch64.{tp_off, imm16, unsigned}
 use Rattle.wild_reloc.specs.declared.expression.Term.TheVariants as term
-use Rattle.wild_reloc.specs.declared.info.RelocationKindInfo.{RelocationKindInfo}
 use Rattle.wild_types.specs.declared.kind.Machine.TheVariants as machine
-use Rattle.wild_types.specs.declared.input.InputRelocation.{InputRelocation}
-use Rattle.wild_types.specs.declared.layout.Layout.{Layout}
-use Rattle.wild_types.specs.Flags.{interposable}
-use Rattle.wild_types.specs.Item.{Item}
-use Rattle.wild_types.specs.Kinds.{is_executable}
-use Rattle.wild_slot.specs.Treatment.{flags_at}
-use Rattle.wild_relax.specs.declared.pattern.Sequence.TheVariants.{DescriptorCall}
-use Rattle.wild_relax.specs.declared.row.Row.{Row}
-use Rattle.wild_relax.specs.declared.table_aarch64.TheConstants.{CALL_FIRST, CALL_SECOND, CALL_THIRD, CALL_FOURTH}
-use Rattle.wild_relax.specs.KeepAArch64.{Rewriting, rewriting, templates_at, RowsOfAArch64Keep}
+use Rattle.wild_relax.specs.declared.table_aarch64.TheConstants.{CALL_THIRD}
 use Rattle.wild_aarch64.specs.Row as judged
-use Rattle.wild_aarch64.specs.Effect.{words_of}
-use Rattle.wild_relax.specs.LinkedPattern.{template_of}
-use Rattle.wild_relax.specs.RewriteX86_64.{info_written}
-use Rattle.wild_relax.specs.SequenceAArch64.{words_at, words_match}
 use Rattle.wild_relax.proofs.KeepAArch64Lemmas.{call_first, call_second}
-use Rattle.wild_loader.specs.declared.memory.Memory.{Memory}
-use Rattle.wild_loader.specs.declared.world.World.{World}
-use Rattle.wild_meaning.specs.Item.{place_at}
-use Rattle.wild_meaning.specs.Formula.{IsOffset}
-use Rattle.wild_meaning.specs.Sequence.{descriptor_call_words}
-use Rattle.wild_meaning.specs.Template.{reads_without_calls}
-use Rattle.wild_meaning.specs.WordsAArch64.{reads_numbers}
-use Rattle.wild_loader.specs.Instruction.{Reader}
-use Rattle.wild_loader.specs.declared.instruction.Operand.TheVariants.{Number}
-use Rattle.wild_references.specs.Laws.{IsLoadedItem, TermGives}
 use Rattle.wild_references.proofs.RunsAArch64.{RunDoes}
 use Rattle.wild_references.proofs.WordsAArch64.{IsWordThere, AreWordsThere, by_words}
 use Rattle.wild_references.proofs.RewrittenCode.{run_done, words_of-front, no_slot}

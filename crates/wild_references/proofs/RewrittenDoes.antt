@@ -1,53 +1,20 @@
 -- Each row: the code that it writes does what the instruction demands.
-use Rattle.std.proofs.Common.{◌≡◌, ℕ, ◌+◌, ◌^◌, ◌<◌, ◌⊎◌, inl, inr, Bool, true, false, List, refl, sym, ap, ◌∙◌, arith, subst, length}
-use Rattle.std.specs.Prelude.{pos, ◌==◌, ◌&&◌, ◌||◌, not, if◌then◌else◌, Some, slice_get}
-use Rattle.std.proofs.lemmas.Bool.{cases_Bool, and_parts, or_cases, eqb-true, not-true}
-use Rattle.wild_words.proofs.Basics.{or_other, implied, listed_passes}
-use Rattle.std.specs.List.{list_all}
-use Rattle.wild_records.specs.Abi.Relocation.{r_x86_64_none, r_x86_64_pc32, r_x86_64_32, r_x86_64_32s, r_x86_64_tpoff32, r_x86_64_gottpoff}
+use Rattle.wild_references.proofs.Common.{◌≡◌, ℕ, ◌+◌, ◌^◌, ◌<◌, ◌⊎◌, inl, inr, Bool, true, false, List, refl, sym, ap, ◌∙◌, arith, subst, length, pos, ◌==◌, ◌&&◌, ◌||◌, not, if◌then◌else◌, Some, slice_get, cases_Bool, and_parts, or_cases, eqb-true, not-true, or_other, implied, listed_passes, list_all, r_x86_64_none, r_x86_64_pc32, r_x86_64_gottpoff, InputRelocation, Layout, KeepsAll, has_flag, interposable, has_link_time_address, absolute, ifunc, is_executable, is_static_executable, has_fixed_load_address, flags_at, x86_64_row, Signed, ValueTest, Row, Question, minus_four, rows_x86_64, takes_value, is_mandatory, is_skip, rewrite_of, keeps_bytes, field_in, template_of, distance, template_start, Memory, World, Holds, IsMovable, IsAbsolute, Item, place_at, Effect, Reader, sum_64, effect_x86_64, demand_x86_64, Instruction, size_of, Sort, TargetInSlot, AddressInSlot, OffsetInSlot, SymbolPair, OwnPair, Described, DescribedCall, reads_without_calls, demand_of, Demands, IsDemanded, old_bytes, Number, Word, reads_numbers, IsOffset, HasOffsetMode, question_of, applied, IsLoadedItem}
+use Rattle.wild_records.specs.Abi.Relocation.{r_x86_64_32, r_x86_64_32s, r_x86_64_tpoff32}
 use Rattle.wild_types.specs.declared.kind.Machine.TheVariants as machine
-use Rattle.wild_types.specs.declared.input.InputRelocation.{InputRelocation}
-use Rattle.wild_types.specs.declared.layout.Layout.{Layout}
-use Rattle.wild_types.specs.HeaderOnly.{KeepsAll}
-use Rattle.wild_types.specs.Flags.{has_flag, interposable, has_link_time_address, absolute, ifunc}
-use Rattle.wild_types.specs.Kinds.{is_executable, is_static_executable, has_fixed_load_address}
-use Rattle.wild_slot.specs.Treatment.{flags_at}
-use Rattle.wild_reloc.specs.TableX86_64.{x86_64_row}
-use Rattle.wild_reloc.specs.declared.range.Sign.TheVariants.{Unsigned, Signed}
-use Rattle.wild_relax.specs.declared.row.ValueTest.{ValueTest}
+use Rattle.wild_reloc.specs.declared.range.Sign.TheVariants.{Unsigned}
 use Rattle.wild_relax.specs.declared.row.ValueTest.TheVariants as value
 use Rattle.wild_relax.specs.declared.row.Made.{Made}
 use Rattle.wild_relax.specs.declared.row.Made.TheVariants.{Nop}
 use Rattle.wild_relax.specs.declared.row.Written.{Written}
 use Rattle.wild_relax.specs.declared.row.Written.TheVariants as written
-use Rattle.wild_relax.specs.declared.row.Row.{Row}
-use Rattle.wild_relax.specs.Question.{Question, minus_four, is_own, is_known}
-use Rattle.wild_relax.specs.Rows.{rows_x86_64}
-use Rattle.wild_relax.specs.RowSymbols.{is_in_32, takes_value, is_mandatory}
-use Rattle.wild_relax.specs.Rewrite.{is_skip}
-use Rattle.wild_relax.specs.RewriteX86_64.{change_of, addend_by, number_written, rewrite_of}
+use Rattle.wild_relax.specs.Question.{is_own, is_known}
+use Rattle.wild_relax.specs.RowSymbols.{is_in_32}
+use Rattle.wild_relax.specs.RewriteX86_64.{change_of, addend_by, number_written}
 use Rattle.wild_relax.proofs.RewriteLemmas.{code_high}
-use Rattle.wild_relax.specs.LinkedPattern.{keeps_bytes, field_in, template_of}
-use Rattle.wild_relax.specs.KeepX86_64.{distance, FieldIsRight, demanded}
-use Rattle.wild_layout.specs.Sites.{template_start}
-use Rattle.wild_loader.specs.declared.memory.Memory.{Memory}
-use Rattle.wild_loader.specs.declared.world.World.{World}
-use Rattle.wild_loader.specs.Memory.{Holds}
-use Rattle.wild_meaning.specs.World.{IsMovable}
-use Rattle.wild_meaning.specs.Value.{IsAbsolute}
-use Rattle.wild_types.specs.Item.{Item}
-use Rattle.wild_meaning.specs.Item.{place_at}
-use Rattle.wild_loader.specs.Instruction.{Effect, Reader, sum_64}
-use Rattle.wild_loader.specs.InstructionX86_64.{effect_x86_64, demand_x86_64}
-use Rattle.wild_meaning.specs.Sequence.{Instruction, size_of, Sort, TargetInSlot, AddressInSlot, OffsetInSlot, SymbolPair, OwnPair, Described, DescribedCall}
-use Rattle.wild_meaning.specs.Template.{reads_without_calls, demand_of, Demands, IsDemanded, no_effect, old_bytes}
-use Rattle.wild_loader.specs.declared.instruction.Operand.TheVariants.{Number, Word}
-use Rattle.wild_meaning.specs.WordsAArch64.{reads_numbers}
-use Rattle.wild_meaning.specs.Formula.{IsOffset, HasOffsetMode}
-use Rattle.wild_layout.specs.Choice.{question_of}
-use Rattle.wild_relax.proofs.RoomLemmas.{applied}
+use Rattle.wild_relax.specs.KeepX86_64.{FieldIsRight, demanded}
+use Rattle.wild_meaning.specs.Template.{no_effect}
 use Rattle.wild_relax.proofs.RowLemmas.{signed_32s, unsigned_32}
-use Rattle.wild_references.specs.Laws.{IsLoadedItem}
 use Rattle.wild_references.proofs.RewrittenReads.{IsDone, ReadsOnlySlots, no_slots, reads_only}
 use Rattle.wild_meaning.proofs.SymbolLemmas.{target_of, slot_address_of}
 use Rattle.wild_references.proofs.RewrittenForms.{instruction_of}

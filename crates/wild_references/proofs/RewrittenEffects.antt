@@ -1,33 +1,14 @@
 -- The code that is written in place of an instruction does what that demands, where the value in its field lands.
-use Rattle.std.proofs.Common.{◌≡◌, ℕ, zero, suc, ◌+◌, ◌^◌, ◌<◌, Bool, true, false, List, [], ◌∷◌, length, get_or, drop, refl, sym, ap, ◌∙◌, arith, subst}
-use Rattle.std.specs.Prelude.{nat_le, if◌then◌else◌, Some, slice_range}
-use Rattle.std.proofs.lemmas.Bool.{le-leb}
-use Rattle.wild_types.specs.declared.kind.Machine.{Machine}
+use Rattle.wild_references.proofs.Common.{◌≡◌, ℕ, zero, suc, ◌+◌, ◌^◌, ◌<◌, Bool, true, false, List, [], ◌∷◌, length, get_or, drop, refl, sym, ap, ◌∙◌, arith, subst, nat_le, if◌then◌else◌, Some, slice_range, le-leb, Machine, InputRelocation, Layout, x86_64_row, RelocationKindInfo, Row, rewrite_of, pattern_size, field_in, template_of, template_start, Memory, World, Item, place_at, Action, Number, Template, Effect, matches_cells, with_value, Reader, meaning_x86_64, effect_x86_64, demand_x86_64, size_of, reads_without_calls, effect_of, demand_of, Demands, IsDemanded, old_bytes, IsLoadedItem}
 use Rattle.wild_types.specs.declared.kind.Machine.TheVariants as machine
-use Rattle.wild_types.specs.declared.input.InputRelocation.{InputRelocation}
-use Rattle.wild_types.specs.declared.layout.Layout.{Layout}
-use Rattle.wild_reloc.specs.TableX86_64.{x86_64_row}
-use Rattle.wild_reloc.specs.declared.info.RelocationKindInfo.{RelocationKindInfo}
-use Rattle.wild_relax.specs.declared.row.Row.{Row}
-use Rattle.wild_relax.specs.RewriteX86_64.{rewrite_of}
-use Rattle.wild_relax.specs.LinkedPattern.{pattern_size, field_in, linked_pattern, template_of}
+use Rattle.wild_relax.specs.LinkedPattern.{linked_pattern}
 use Rattle.wild_relax.proofs.TemplateLemmas as templates
 use Rattle.wild_relax.specs.KeepX86_64.{FieldIsRight, demanded}
-use Rattle.wild_layout.specs.Sites.{template_start}
 use Rattle.wild_layout.proofs.ChoiceLemmas.{length-template}
-use Rattle.wild_loader.specs.declared.memory.Memory.{Memory}
-use Rattle.wild_loader.specs.declared.world.World.{World}
-use Rattle.wild_types.specs.Item.{Item}
-use Rattle.wild_meaning.specs.Item.{place_at}
-use Rattle.wild_loader.specs.declared.instruction.Action.{Action}
-use Rattle.wild_loader.specs.declared.instruction.Operand.TheVariants.{Number}
-use Rattle.wild_loader.specs.Instruction.{Template, Effect, matches_cells, template_fills, first_meaning, with_value, Reader}
+use Rattle.wild_loader.specs.Instruction.{template_fills, first_meaning}
 use Rattle.wild_loader.specs.ThreadCodeX86_64.{nop_byte}
-use Rattle.wild_loader.specs.InstructionX86_64.{templates_x86_64, meaning_x86_64, effect_x86_64, demand_x86_64}
-use Rattle.wild_meaning.specs.Sequence.{size_of}
-use Rattle.wild_meaning.specs.Template.{reads_without_calls, effect_of, demand_of, Demands, IsDemanded, old_bytes}
+use Rattle.wild_loader.specs.InstructionX86_64.{templates_x86_64}
 use Rattle.wild_layout.proofs.DecideLemmas.{value_below}
-use Rattle.wild_references.specs.Laws.{IsLoadedItem}
 use Rattle.wild_references.proofs.RewrittenReads.{IsDone, ReadsOnlySlots, reads_only}
 use Rattle.wild_references.proofs.RewrittenForms.{instruction_of}
 use Rattle.wild_references.proofs.RewrittenPlaces.{LawsBelow, IsPlacedRow, size_is, cells_stand}

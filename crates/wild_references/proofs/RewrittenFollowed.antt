@@ -1,32 +1,6 @@
 -- An instruction that is rewritten has by its field neither its symbol's address nor its offset, or no other module has its symbol.
-use Rattle.std.proofs.Common.{◌≡◌, ℕ, ◌+◌, inl, inr, Bool, true, false, refl, sym, ◌∙◌, subst}
-use Rattle.std.specs.Prelude.{Option, Some, None, ◌==◌, ◌&&◌, ◌||◌, not, slice_get}
-use Rattle.std.specs.List.{list_all}
-use Rattle.std.proofs.lemmas.Bool.{cases_Bool}
-use Rattle.wild_words.proofs.Basics.{or_other, listed_passes}
-use Rattle.wild_records.specs.Abi.Relocation.{r_x86_64_pc32}
-use Rattle.wild_types.specs.declared.kind.Machine.{Machine}
-use Rattle.wild_types.specs.declared.input.InputRelocation.{InputRelocation}
-use Rattle.wild_types.specs.declared.layout.Layout.{Layout}
-use Rattle.wild_types.specs.Flags.{has_flag, dynamic, non_interposable, copy_relocation, export_dynamic}
-use Rattle.wild_slot.specs.Treatment.{flags_at}
-use Rattle.wild_reloc.specs.Formula.{Value, Formula, SymbolAddress, SymbolPart, Distance, PageDistance, FromTable, ModuleOffset, PointerOffset}
-use Rattle.wild_reloc.specs.FormulaAArch64.{aarch64_formula}
-use Rattle.wild_reloc.specs.FormulaX86_64.{x86_64_formula}
-use Rattle.wild_relax.specs.declared.row.Row.{Row}
-use Rattle.wild_relax.specs.LinkedPattern.{keeps_bytes}
-use Rattle.wild_relax.specs.Rows.{rows_x86_64}
-use Rattle.wild_relax.specs.RowsAArch64.{rows_aarch64}
-use Rattle.wild_relax.proofs.RoomLemmas.{applied}
-use Rattle.wild_layout.specs.Choice.{question_around}
-use Rattle.wild_layout.proofs.ChoiceLemmas.{IsChosen, chosen_listed}
+use Rattle.wild_references.proofs.Common.{◌≡◌, ℕ, ◌+◌, inl, inr, Bool, true, false, refl, sym, ◌∙◌, subst, Option, Some, None, ◌==◌, ◌&&◌, ◌||◌, not, slice_get, list_all, cases_Bool, or_other, listed_passes, r_x86_64_pc32, Machine, InputRelocation, Layout, has_flag, dynamic, non_interposable, copy_relocation, export_dynamic, flags_at, Value, Formula, SymbolAddress, SymbolPart, Distance, PageDistance, FromTable, ModuleOffset, PointerOffset, aarch64_formula, x86_64_formula, Row, keeps_bytes, rows_x86_64, rows_aarch64, applied, question_around, IsChosen, chosen_listed, flag_is, formula_of, TakesAddress, TakesOffset, Item, is_library, IsReplaceable, UsesOwnDefinition, UsesOwnSymbolOnly}
 use Rattle.wild_layout.proofs.DecisionLemmas.{IsRewrittenAArch64, decide_rewritten}
-use Rattle.wild_geometry.proofs.JudgedLemmas.{flag_is}
-use Rattle.wild_meaning.specs.Field.{formula_of}
-use Rattle.wild_meaning.specs.Formula.{TakesAddress, TakesOffset}
-use Rattle.wild_types.specs.Item.{Item}
-use Rattle.wild_meaning.specs.Value.{is_library, IsReplaceable}
-use Rattle.wild_meaning.specs.Reference.{UsesOwnDefinition, UsesOwnSymbolOnly}
 use Rattle.wild_references.specs.EffectLaws.{RewrittenAreFollowed}
 use Rattle.wild_references.proofs.RewrittenRuns.{asks_near, IsNearSymbol, near_symbol}
 

@@ -1,9 +1,5 @@
 -- The instruction that the reader knows for each row: where the pattern of the row stands, the instruction does.
-use Rattle.std.proofs.Common.{◌≡◌, ℕ, Bool, true, false, List, [], ◌∷◌, length, refl, sym, arith, subst}
-use Rattle.std.specs.Prelude.{◌&&◌, ◌||◌, ◌==◌, nat_le, Contains, Option, Some, None, is_some, if◌then◌else◌}
-use Rattle.std.specs.List.{list_all}
-use Rattle.std.proofs.lemmas.Bool.{eqb-true, and_parts}
-use Rattle.std.proofs.lemmas.Bool.Decides.{nat_tests}
+use Rattle.wild_references.proofs.Common.{◌≡◌, ℕ, Bool, true, false, List, [], ◌∷◌, length, refl, sym, arith, subst, ◌&&◌, ◌||◌, ◌==◌, nat_le, Contains, Option, Some, None, is_some, if◌then◌else◌, list_all, eqb-true, and_parts, nat_tests, Cell, Row, Pattern, rows_x86_64, pattern_of, keeps_bytes, IsChanging, or_other, listed_passes, Number, Word, Set, Subtract, Compare, Call, Jump, Template, no_prefix, rex, rex2, with_slot, branch, general_call, general_slot_call, far_pair_call, local_call, local_slot_call, descriptor_call, Instruction, TargetInSlot, AddressInSlot, OffsetInSlot, SymbolPair, OwnPair, Described, DescribedCall, of_field, by_call, by_slot, by_distance, instructions_of, Sort}
 use Rattle.wild_records.specs.Abi.Relocation as abi
 use Rattle.wild_types.specs.declared.kind.Machine.TheVariants as machine
 use Rattle.wild_relax.specs.declared.pattern.Prefix.TheVariants.{Rex, Rex2}
@@ -11,25 +7,16 @@ use Rattle.wild_relax.specs.declared.pattern.Operation.{Operation}
 use Rattle.wild_relax.specs.declared.pattern.Operation.TheVariants as operation
 use Rattle.wild_relax.specs.declared.pattern.GeneralForm.TheVariants as general
 use Rattle.wild_relax.specs.declared.pattern.LocalForm.TheVariants as local
-use Rattle.wild_relax.specs.declared.pattern.Cell.{Cell}
 use Rattle.wild_relax.specs.declared.pattern.Cell.TheVariants as cells
-use Rattle.wild_relax.specs.declared.row.Row.{Row}
 use Rattle.wild_relax.specs.Pattern as writer
-use Rattle.wild_relax.specs.declared.pattern.Pattern.{Pattern}
 use Rattle.wild_relax.specs.declared.pattern.Pattern.TheVariants as pattern
-use Rattle.wild_relax.specs.Rows.{rows_x86_64}
-use Rattle.wild_relax.specs.LinkedPattern.{pattern_of, keeps_bytes, IsChanging}
-use Rattle.wild_words.proofs.Basics.{or_other, listed_passes}
 use Rattle.wild_loader.specs.Instruction as judge
 use Rattle.wild_loader.specs.declared.instruction.Cell as judge-cell
 use Rattle.wild_loader.specs.declared.instruction.Cell.TheVariants as judge-cells
-use Rattle.wild_loader.specs.declared.instruction.Operand.TheVariants.{Number, Word}
-use Rattle.wild_loader.specs.declared.instruction.Deed.TheVariants.{Set, Add, Subtract, Compare, Call, Jump}
-use Rattle.wild_loader.specs.Instruction.{Template}
-use Rattle.wild_loader.specs.CodeX86_64.{Prefix, no_prefix, rex, rex2, with_slot, branch}
-use Rattle.wild_loader.specs.ThreadCodeX86_64.{general_call, general_slot_call, far_pair_call, local_call, local_slot_call}
-use Rattle.wild_loader.specs.InstructionX86_64.{descriptor_call, templates_x86_64}
-use Rattle.wild_meaning.specs.Sequence.{Instruction, any_words, TargetInSlot, AddressInSlot, OffsetInSlot, SymbolPair, OwnPair, Described, DescribedCall, of_field, of_sequence, of_output, of_symbol, by_call, by_slot, by_distance, instructions_of, Sort}
+use Rattle.wild_loader.specs.declared.instruction.Deed.TheVariants.{Add}
+use Rattle.wild_loader.specs.CodeX86_64.{Prefix}
+use Rattle.wild_loader.specs.InstructionX86_64.{templates_x86_64}
+use Rattle.wild_meaning.specs.Sequence.{any_words, of_sequence, of_output, of_symbol}
 
 -- ---- cells
 

@@ -1,31 +1,10 @@
 -- A relocation whose instruction is rewritten by itself is no sequence's call.
-use Rattle.std.proofs.Common.{◌≡◌, ℕ, zero, suc, ◌+◌, ◌<◌, ◌⊎◌, inl, inr, Bool, true, false, List, [], ◌∷◌, length, get_or, refl, sym, ◌∙◌, arith, subst}
-use Rattle.std.specs.Prelude.{◌||◌, ◌==◌, not, if◌then◌else◌, Option, Some, Result, Ok, Err, slice_get}
-use Rattle.std.specs.List.{list_all}
-use Rattle.std.proofs.lemmas.Bool.{cases_Bool, eqb-true}
-use Rattle.std.proofs.lemmas.Option.{slice_get_within}
-use Rattle.wild_words.proofs.Basics.{implied}
+use Rattle.wild_references.proofs.Common.{◌≡◌, ℕ, zero, suc, ◌+◌, ◌<◌, ◌⊎◌, inl, inr, Bool, true, false, List, [], ◌∷◌, length, get_or, refl, sym, ◌∙◌, arith, subst, ◌||◌, ◌==◌, not, if◌then◌else◌, Option, Some, Result, Ok, Err, slice_get, list_all, cases_Bool, eqb-true, slice_get_within, implied, InputRelocation, Item, Layout, UnknownSequence, GeneralForm, Row, Question, first_standing, is_call_number, call_form, has_its_sequence, rows_x86_64, applies, unknown_sequence, first_row_x86_64, chosen_row_x86_64, is_skip, rewrite_of, question_of, choice_of, is_partner, is_thread_type, decide_with, choice_row, chosen_listed, IsDecided, names_merged}
 use Rattle.wild_records.specs.Abi.Relocation as abi
 use Rattle.wild_types.specs.declared.kind.Machine.TheVariants as machine
-use Rattle.wild_types.specs.declared.input.InputRelocation.{InputRelocation}
-use Rattle.wild_types.specs.Item.{Item}
-use Rattle.wild_types.specs.declared.layout.Layout.{Layout}
-use Rattle.wild_relax.specs.declared.reference.UnknownSequence.{UnknownSequence}
-use Rattle.wild_relax.specs.declared.pattern.GeneralForm.{GeneralForm}
 use Rattle.wild_relax.specs.declared.pattern.GeneralForm.TheVariants as general
-use Rattle.wild_relax.specs.declared.row.Row.{Row}
-use Rattle.wild_relax.specs.Question.{Question}
-use Rattle.wild_relax.specs.FirstRow.{first_standing}
-use Rattle.wild_relax.specs.RowSequences.{is_call_number, call_form, has_its_sequence}
-use Rattle.wild_relax.specs.Rows.{rows_x86_64, applies, unknown_sequence, first_row_x86_64, chosen_row_x86_64}
-use Rattle.wild_relax.specs.Rewrite.{is_skip}
-use Rattle.wild_relax.specs.RewriteX86_64.{rewrite_of}
-use Rattle.wild_layout.specs.Choice.{question_of, choice_of, is_partner, is_thread_type}
-use Rattle.wild_layout.specs.Decide.{decide_with}
-use Rattle.wild_layout.proofs.ChoiceLemmas.{choice_row, chosen_listed, IsSequence, partner_is_taken, partner_number}
-use Rattle.wild_geometry.specs.Loaded.{IsDecided}
+use Rattle.wild_layout.proofs.ChoiceLemmas.{IsSequence, partner_is_taken, partner_number}
 use Rattle.wild_references.proofs.RewrittenDecisions.{choice_is, takes_along, decided_with, not_refused, choice_refused}
-use Rattle.wild_layout.specs.Merged.{names_merged}
 
 -- ---- where a row stands, a first one does
 

@@ -1,36 +1,12 @@
 -- Where a row is chosen for a word of a run, all its words are written, and the reference holds.
-use Rattle.std.proofs.Common.{◌≡◌, ℕ, zero, suc, ◌+◌, ◌-◌, ◌⊎◌, inl, inr, false, [], ◌∷◌, refl, sym, ap, ◌∙◌, subst, arith}
-use Rattle.std.specs.Prelude.{Some, Ok, Contains, slice_get}
-use Rattle.std.proofs.lemmas.Bool.{not-true}
-use Rattle.wild_records.specs.Abi.Relocation.{r_aarch64_adr_prel_pg_hi21, r_aarch64_add_abs_lo12_nc, r_aarch64_tlsie_adr_gottprel_page21, r_aarch64_tlsie_ld64_gottprel_lo12_nc, r_aarch64_tlsdesc_adr_page21, r_aarch64_tlsdesc_ld64_lo12, r_aarch64_tlsdesc_add_lo12, r_aarch64_tlsdesc_call}
+use Rattle.wild_references.proofs.Common.{◌≡◌, ℕ, zero, suc, ◌+◌, ◌-◌, ◌⊎◌, inl, inr, false, [], ◌∷◌, refl, sym, ap, ◌∙◌, subst, arith, Some, Ok, Contains, slice_get, not-true, r_aarch64_adr_prel_pg_hi21, r_aarch64_add_abs_lo12_nc, r_aarch64_tlsie_adr_gottprel_page21, r_aarch64_tlsie_ld64_gottprel_lo12_nc, r_aarch64_tlsdesc_adr_page21, r_aarch64_tlsdesc_ld64_lo12, r_aarch64_tlsdesc_add_lo12, r_aarch64_tlsdesc_call, Machine, InputRelocation, Layout, KeepsAll, interposable, Item, flags_at, Sequence, DescriptorCall, OffsetSlot, Address, Row, CALL_FIRST, CALL_SECOND, CALL_FOURTH, CALL_FOURTH_SLOT, Rewriting, rewritings, RowsOfAArch64Keep, keeps_bytes, Question, chosen_row_aarch64, words_before, RowsApplyTogether, question_around, Memory, World, by_word, HoldsRewritten, ReadsOffsetSlots, only_one, IsLoadedItem, TermGives}
 use Rattle.wild_reloc.specs.declared.expression.Term.TheVariants as term
-use Rattle.wild_types.specs.declared.kind.Machine.{Machine}
 use Rattle.wild_types.specs.declared.kind.Machine.TheVariants as machine
-use Rattle.wild_types.specs.declared.input.InputRelocation.{InputRelocation}
-use Rattle.wild_types.specs.declared.layout.Layout.{Layout}
-use Rattle.wild_types.specs.HeaderOnly.{KeepsAll}
-use Rattle.wild_types.specs.Flags.{interposable}
-use Rattle.wild_types.specs.Item.{Item}
-use Rattle.wild_slot.specs.Treatment.{flags_at}
-use Rattle.wild_relax.specs.declared.pattern.Sequence.{Sequence}
-use Rattle.wild_relax.specs.declared.pattern.Sequence.TheVariants.{DescriptorCall, OffsetSlot, Address}
-use Rattle.wild_relax.specs.declared.row.Row.{Row}
 use Rattle.wild_relax.specs.declared.row.ValueTest.TheVariants as value
-use Rattle.wild_relax.specs.declared.table_aarch64.TheConstants.{CALL_FIRST, CALL_SECOND, CALL_THIRD, CALL_FOURTH, CALL_THIRD_SLOT, CALL_FOURTH_SLOT, SLOT_FIRST, SLOT_SECOND, ADDRESS_FIRST, ADDRESS_SECOND}
-use Rattle.wild_relax.specs.KeepAArch64.{Rewriting, rewritings, RowsOfAArch64Keep}
-use Rattle.wild_relax.specs.LinkedPattern.{keeps_bytes}
-use Rattle.wild_relax.specs.Question.{Question}
-use Rattle.wild_relax.specs.RowsAArch64.{chosen_row_aarch64}
-use Rattle.wild_relax.specs.SequenceAArch64.{words_before}
-use Rattle.wild_relax.specs.SequenceRowsAArch64.{question_at, IsRowOfSequence, RowsApplyTogether}
+use Rattle.wild_relax.specs.declared.table_aarch64.TheConstants.{CALL_THIRD, CALL_THIRD_SLOT, SLOT_FIRST, SLOT_SECOND, ADDRESS_FIRST, ADDRESS_SECOND}
+use Rattle.wild_relax.specs.SequenceRowsAArch64.{question_at, IsRowOfSequence}
 use Rattle.wild_relax.proofs.TogetherLemmas.{chosen_word}
-use Rattle.wild_layout.specs.Choice.{question_around}
-use Rattle.wild_loader.specs.declared.memory.Memory.{Memory}
-use Rattle.wild_loader.specs.declared.world.World.{World}
-use Rattle.wild_meaning.specs.Sequence.{by_word}
-use Rattle.wild_meaning.specs.Reference.{HoldsRewritten, ReadsOffsetSlots}
-use Rattle.wild_meaning.proofs.PairLemmas.{only, only_one}
-use Rattle.wild_references.specs.Laws.{IsLoadedItem, TermGives}
+use Rattle.wild_meaning.proofs.PairLemmas.{only}
 use Rattle.wild_references.proofs.SequencesAArch64.{has_three}
 use Rattle.wild_references.proofs.RewrittenRuns.{run_of, IsRewrittenWord, IsRunThere, near_symbol}
 use Rattle.wild_references.proofs.RewrittenSequences.{IsJudgedRun, of_run}

@@ -1,39 +1,16 @@
 -- An instruction that is rewritten stands in the input, and no relocation fills its own bytes.
-use Rattle.std.proofs.Common.{◌≡◌, ℕ, ℤ, ◌+◌, ◌-◌, ◌%◌, ◌^◌, ◌<◌, ◌≤◌, ◌⊎◌, inl, inr, true, List, [], ◌∷◌, get_or, refl, sym, ◌∙◌, arith, subst}
-use Rattle.std.specs.Prelude.{option_map, ◌&&◌, Option, Some, None, Ok, slice_get}
-use Rattle.std.specs.Int.{w64, cast_unsigned}
+use Rattle.wild_references.proofs.Common.{◌≡◌, ℕ, ℤ, ◌+◌, ◌-◌, ◌%◌, ◌^◌, ◌<◌, ◌≤◌, ◌⊎◌, inl, inr, true, List, [], ◌∷◌, get_or, refl, sym, ◌∙◌, arith, subst, option_map, ◌&&◌, Option, Some, None, Ok, slice_get, w64, cast_unsigned, eqb-true, and_parts, cases_eq, slice_get-get_or, Machine, InputRelocation, Layout, Formula, x86_64_formula, GeneralForm, Row, minus_four, field_of, partner_distance, call_form, is_call_number, is_skip, rewrite_of, pattern_of, pattern_size, Decision, Nothing, Field, RelativeAddress, DynamicField, Rewritten, Partner, question_of, choice_of, template_start, chosen_listed, decide_partner, IsDecided, HasDecision, Item, formula_of, form_width, InNoField, IsOutsidePartners, IsOwnByte, IsOutsideField, WindowsHaveNoOtherField}
 use lib.IntN.{pos, negsuc}
-use Rattle.std.proofs.lemmas.Bool.{eqb-true, and_parts, cases_eq}
 use Rattle.std.proofs.lemmas.List.Elements.{All-from_get_or}
-use Rattle.std.proofs.lemmas.Option.{slice_get-get_or}
-use Rattle.wild_types.specs.declared.kind.Machine.{Machine}
 use Rattle.wild_types.specs.declared.kind.Machine.TheVariants as machine
-use Rattle.wild_types.specs.declared.input.InputRelocation.{InputRelocation}
-use Rattle.wild_types.specs.declared.layout.Layout.{Layout}
-use Rattle.wild_reloc.specs.Formula.{Formula}
-use Rattle.wild_reloc.specs.FormulaX86_64.{x86_64_formula}
-use Rattle.wild_relax.specs.declared.pattern.GeneralForm.{GeneralForm}
 use Rattle.wild_relax.specs.declared.pattern.GeneralForm.TheVariants as general
-use Rattle.wild_relax.specs.declared.row.Row.{Row}
-use Rattle.wild_relax.specs.Question.{minus_four, zero}
-use Rattle.wild_relax.specs.Pattern.{field_of}
-use Rattle.wild_relax.specs.RowSequences.{partner_distance, call_form, is_call_number, is_call_addend, is_partner, is_partner_at, has_partner}
+use Rattle.wild_relax.specs.Question.{zero}
+use Rattle.wild_relax.specs.RowSequences.{is_call_addend, is_partner, is_partner_at, has_partner}
 use Rattle.wild_relax.specs.declared.row.Partner as writer
-use Rattle.wild_relax.specs.Rewrite.{is_skip}
-use Rattle.wild_relax.specs.RewriteX86_64.{rewrite_of}
-use Rattle.wild_relax.specs.LinkedPattern.{pattern_of, pattern_size}
-use Rattle.wild_layout.specs.declared.decision.Decision.{Decision}
-use Rattle.wild_layout.specs.declared.decision.Decision.TheVariants.{Nothing, Field, RelativeAddress, DynamicField, Rewritten, Partner}
-use Rattle.wild_layout.specs.Choice.{is_getter, info_of, question_of, choice_of}
-use Rattle.wild_layout.specs.Sites.{template_start}
-use Rattle.wild_layout.proofs.ChoiceLemmas.{IsSequence, chosen_listed}
-use Rattle.wild_layout.proofs.DecisionLemmas.{decide_partner}
-use Rattle.wild_geometry.specs.Loaded.{IsDecided, HasDecision}
-use Rattle.wild_types.specs.Item.{Item}
-use Rattle.wild_meaning.specs.Field.{formula_of, form_width, InNoField}
-use Rattle.wild_meaning.specs.Sequence.{Partner as Call, IsOutsidePartners, IsOwnByte}
+use Rattle.wild_layout.specs.Choice.{is_getter, info_of}
+use Rattle.wild_layout.proofs.ChoiceLemmas.{IsSequence}
+use Rattle.wild_meaning.specs.Sequence.{Partner as Call}
 use Rattle.wild_meaning.specs.Partners.{HasCallAddend}
-use Rattle.wild_references.specs.EffectLaws.{IsOutsideField, WindowsHaveNoOtherField}
 use Rattle.wild_references.proofs.RewrittenForms.{instruction_of}
 use Rattle.wild_references.proofs.RewrittenPairs.{own_width, has_its_width, each_has_width, partner_for, IsPaired, paired}
 use Rattle.wild_references.proofs.RewrittenPlaces.{IsPlacedRow, ended, size_is}

@@ -1,7 +1,6 @@
 -- Instructions that are rewritten hold, and so do the calls that they take along, by the machine.
-use Rattle.std.proofs.Common.{refl}
+use Rattle.wild_references.proofs.Common.{refl, Partner}
 use Rattle.wild_types.specs.declared.kind.Machine.TheVariants as machine
-use Rattle.wild_layout.specs.declared.decision.Decision.TheVariants.{Partner}
 use Rattle.wild_references.specs.EffectLaws.{RewrittenAreInstructions, RewrittenHold, PartnersHold}
 use Rattle.wild_references.proofs.WordWindows.{no_partner_there}
 use Rattle.wild_references.proofs.RewrittenPlaces.{LawsBelow}

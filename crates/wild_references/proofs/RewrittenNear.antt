@@ -1,54 +1,13 @@
 -- `nop; adr` in place of the two words of an address does what they demand.
-use Rattle.std.proofs.Common.{◌≡◌, ℕ, ℤ, pos, ◌+◌, ◌-◌, ◌%◌, ◌^◌, ◌<◌, ◌≤◌, ◌⊎◌, inl, inr, Bool, true, false, List, [], ◌∷◌, ◌++◌, length, refl, sym, ap, ◌∙◌, subst, arith}
-use Rattle.std.specs.Prelude.{Option, Some, Ok, Result, ◌||◌, if◌then◌else◌, slice_range, nat_lt, nat_le}
-use Rattle.std.specs.Int.{w64, cast_unsigned}
-use Rattle.std.proofs.lemmas.Bool.{and_parts, ltb-true, leb-true}
-use Rattle.wild_words.specs.Words.{word, number}
-use Rattle.wild_words.proofs.ListLemmas.{holds_at}
-use Rattle.wild_reloc.specs.Field.{is_aligned, allows}
-use Rattle.wild_reloc.specs.TableX86_64.{x86_64_row}
-use Rattle.wild_reloc.specs.TableAArch64.{adr, signed, static_row}
+use Rattle.wild_references.proofs.Common.{◌≡◌, ℕ, ℤ, pos, ◌+◌, ◌-◌, ◌%◌, ◌^◌, ◌<◌, ◌≤◌, ◌⊎◌, inl, inr, Bool, true, false, List, [], ◌∷◌, ◌++◌, length, refl, sym, ap, ◌∙◌, subst, arith, Option, Some, Ok, Result, ◌||◌, if◌then◌else◌, slice_range, nat_lt, nat_le, w64, cast_unsigned, and_parts, ltb-true, leb-true, word, number, holds_at, is_aligned, allows, x86_64_row, static_row, RelocationKindInfo, PageDistance, Machine, Fault, InputRelocation, Layout, interposable, has_flag, absolute, undefined_weak, Item, flags_at, Address, Rewriting, rewriting, templates_at, RowsOfAArch64Keep, words_of, template_of, info_written, words_at, words_match, place_to, term_to, NamesSymbol, address_of, displacement, value_in, is_undefined_weak_without_stub, weak_resolves_to_place, undefined_weak_target, flag_is, Memory, World, place_at, IsReplaceable, with_base, IsUndefinedWeak, IsOneAddress, IsReferent, IsReferentOnAArch64, IsSum, address_pair_words, reads_without_calls, reads_numbers, Reader, Number, HasStubAddress, IsLoadedItem, names_merged, address_for, NamesStrings, rewritten_aarch64}
+use Rattle.wild_reloc.specs.TableAArch64.{adr, signed}
 use Rattle.wild_reloc.specs.TableAArch64.{row as field_row}
 use Rattle.wild_reloc.specs.declared.info.RelocationKind.TheVariants as kinds
-use Rattle.wild_reloc.specs.declared.info.RelocationKindInfo.{RelocationKindInfo}
-use Rattle.wild_reloc.specs.Formula.{PageDistance}
-use Rattle.wild_types.specs.declared.kind.Machine.{Machine}
 use Rattle.wild_types.specs.declared.kind.Machine.TheVariants as machine
-use Rattle.wild_types.specs.declared.fault.Fault.{Fault}
-use Rattle.wild_types.specs.declared.input.InputRelocation.{InputRelocation}
-use Rattle.wild_types.specs.declared.layout.Layout.{Layout}
-use Rattle.wild_types.specs.Flags.{interposable, has_flag, absolute, undefined_weak}
-use Rattle.wild_types.specs.Item.{Item}
-use Rattle.wild_slot.specs.Treatment.{flags_at}
-use Rattle.wild_relax.specs.declared.pattern.Sequence.TheVariants.{Address}
 use Rattle.wild_relax.specs.declared.table_aarch64.TheConstants.{ADDRESS_FIRST, ADDRESS_SECOND}
-use Rattle.wild_relax.specs.KeepAArch64.{Rewriting, rewriting, templates_at, RowsOfAArch64Keep}
 use Rattle.wild_aarch64.specs.Row as judged
 use Rattle.wild_aarch64.specs.Row.{distance, IsNear}
-use Rattle.wild_aarch64.specs.Effect.{words_of}
-use Rattle.wild_relax.specs.LinkedPattern.{template_of}
-use Rattle.wild_relax.specs.RewriteX86_64.{info_written}
-use Rattle.wild_relax.specs.SequenceAArch64.{words_at, words_match}
 use Rattle.wild_relax.proofs.KeepAArch64Lemmas.{address_first}
-use Rattle.wild_layout.specs.Decide.{place_to, term_to}
-use Rattle.wild_layout.specs.Geometry.{NamesSymbol}
-use Rattle.wild_layout.specs.SlotValues.{address_of}
-use Rattle.wild_layout.specs.SymbolValues.{displacement}
-use Rattle.wild_layout.specs.Values.{value_in, is_undefined_weak_without_stub, weak_resolves_to_place, undefined_weak_target}
-use Rattle.wild_geometry.proofs.JudgedLemmas.{flag_is}
-use Rattle.wild_loader.specs.declared.memory.Memory.{Memory}
-use Rattle.wild_loader.specs.declared.world.World.{World}
-use Rattle.wild_meaning.specs.Item.{place_at}
-use Rattle.wild_meaning.specs.Value.{IsReplaceable, with_base}
-use Rattle.wild_meaning.specs.ReferentAArch64.{IsUndefinedWeak, IsOneAddress}
-use Rattle.wild_meaning.specs.Formula.{IsReferent, IsReferentOnAArch64, IsSum}
-use Rattle.wild_meaning.specs.Sequence.{address_pair_words}
-use Rattle.wild_meaning.specs.Template.{reads_without_calls}
-use Rattle.wild_meaning.specs.WordsAArch64.{reads_numbers}
-use Rattle.wild_loader.specs.Instruction.{Reader}
-use Rattle.wild_loader.specs.declared.instruction.Operand.TheVariants.{Number}
-use Rattle.wild_meaning.specs.Reference.{HasStubAddress}
-use Rattle.wild_references.specs.Laws.{IsLoadedItem}
 use Rattle.wild_references.proofs.KeptItems.{item_lies}
 use Rattle.wild_references.proofs.StubCode.{StubLaws}
 use Rattle.wild_references.proofs.Targets.{StubIsWritten, addressed, one_addressed}
@@ -59,10 +18,7 @@ use Rattle.wild_references.proofs.WordsAArch64.{IsWordThere, AreWordsThere, by_w
 use Rattle.wild_references.proofs.RewrittenCode.{run_done, words_of-front, no_slot}
 use Rattle.wild_references.proofs.RewrittenReads.{IsDone}
 use Rattle.wild_references.proofs.RewrittenOffsets.{IsWrittenWord, IsWrittenPair, WritesWord, word_there, word_small, word_same, written_long}
-use Rattle.wild_layout.specs.Merged.{names_merged, address_for}
 use Rattle.wild_layout.proofs.MergedLemmas.{address_plain}
-use Rattle.wild_meaning.specs.Strings.{NamesStrings}
-use Rattle.wild_layout.proofs.DecisionLemmas.{rewritten_aarch64}
 use Rattle.wild_references.proofs.MergedStrings.{names_none}
 
 abbrev near_info : RelocationKindInfo

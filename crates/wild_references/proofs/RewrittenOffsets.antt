@@ -3,63 +3,19 @@
 --   word_there         it stands in memory
 --   offset_of_word     its value is the symbol's offset
 --   slot_pair_to_offset   `movz; movk` for the slot of an offset
-use Rattle.std.proofs.Common.{◌≡◌, ℕ, ℤ, pos, ◌+◌, ◌^◌, ◌<◌, ◌≤◌, inl, inr, Bool, true, false, List, [], ◌∷◌, ◌++◌, length, refl, sym, ap, ◌∙◌, subst, arith}
-use Rattle.std.specs.Prelude.{Option, Some, None, Ok, Result, ◌&&◌, ◌||◌, ◌==◌, not, is_none, if◌then◌else◌, slice_range, slice_get, nat_lt, nat_le}
-use Rattle.std.specs.Int.{w64, cast_unsigned}
-use Rattle.std.proofs.lemmas.Bool.{and_parts, ltb-true, leb-true}
-use Rattle.wild_words.specs.Words.{word, number}
-use Rattle.wild_words.proofs.Basics.{length-range}
-use Rattle.wild_words.proofs.ListLemmas.{holds_at}
-use Rattle.wild_reloc.specs.Field.{is_aligned, allows}
-use Rattle.wild_reloc.specs.TableAArch64.{tp_off, imm16, unsigned, any, static_row, thread_row}
+use Rattle.wild_references.proofs.Common.{◌≡◌, ℕ, ℤ, pos, ◌+◌, ◌^◌, ◌<◌, ◌≤◌, inl, inr, Bool, true, false, List, [], ◌∷◌, ◌++◌, length, refl, sym, ap, ◌∙◌, subst, arith, Option, Some, None, Ok, Result, ◌&&◌, ◌||◌, ◌==◌, not, is_none, if◌then◌else◌, slice_range, slice_get, nat_lt, nat_le, w64, cast_unsigned, and_parts, ltb-true, leb-true, word, number, length-range, holds_at, is_aligned, allows, any, static_row, thread_row, RelocationKindInfo, Machine, Fault, InputRelocation, Layout, interposable, Item, is_executable, place_of, flags_at, row_accepts, OffsetSlot, Row, Rewriting, rewriting, templates_at, RowsOfAArch64Keep, words_of, pattern_of, pattern_size, template_of, field_of, rewrite_of, info_written, words_at, words_match, Rewritten, place_to, term_to, NamesSymbol, template_start, sum, value_in, term_of, weak_resolves_to_place, undefined_weak_target, HasDecision, Memory, World, Holds, IsReplaceable, place_at, IsOffset, offset_pair_words, reads_without_calls, reads_numbers, Reader, Number, IsLoadedItem, TermGives, is_expressed, HasTerm}
+use Rattle.wild_reloc.specs.TableAArch64.{tp_off, imm16, unsigned}
 use Rattle.wild_reloc.specs.declared.expression.Subtrahend.TheVariants as subtrahend
 use Rattle.wild_reloc.specs.declared.expression.Term.TheVariants as term
 use Rattle.wild_reloc.specs.declared.info.RelocationKind.TheVariants as kinds
-use Rattle.wild_reloc.specs.declared.info.RelocationKindInfo.{RelocationKindInfo}
 use Rattle.wild_reloc.specs.declared.instruction.BitMask.{BitMask}
 use Rattle.wild_reloc.specs.declared.range.AllowedRange.{AllowedRange}
 use Rattle.wild_reloc.proofs.BitLemmas.{number_32}
-use Rattle.wild_types.specs.declared.kind.Machine.{Machine}
 use Rattle.wild_types.specs.declared.kind.Machine.TheVariants as machine
-use Rattle.wild_types.specs.declared.fault.Fault.{Fault}
-use Rattle.wild_types.specs.declared.input.InputRelocation.{InputRelocation}
-use Rattle.wild_types.specs.declared.layout.Layout.{Layout}
-use Rattle.wild_types.specs.Flags.{interposable}
-use Rattle.wild_types.specs.Item.{Item}
-use Rattle.wild_types.specs.Kinds.{is_executable}
-use Rattle.wild_types.specs.Lookups.{place_of}
-use Rattle.wild_slot.specs.Treatment.{flags_at, row_accepts}
-use Rattle.wild_relax.specs.declared.pattern.Sequence.TheVariants.{OffsetSlot}
-use Rattle.wild_relax.specs.declared.row.Row.{Row}
 use Rattle.wild_relax.specs.declared.table_aarch64.TheConstants.{SLOT_FIRST, SLOT_SECOND}
-use Rattle.wild_relax.specs.KeepAArch64.{Rewriting, rewriting, templates_at, RowsOfAArch64Keep}
 use Rattle.wild_aarch64.specs.Row as judged
-use Rattle.wild_aarch64.specs.Effect.{words_of}
-use Rattle.wild_relax.specs.LinkedPattern.{pattern_of, pattern_size, fits_in, template_of}
-use Rattle.wild_relax.specs.Pattern.{field_of}
-use Rattle.wild_relax.specs.RewriteX86_64.{rewrite_of, info_written}
-use Rattle.wild_relax.specs.SequenceAArch64.{words_at, words_match}
+use Rattle.wild_relax.specs.LinkedPattern.{fits_in}
 use Rattle.wild_relax.proofs.TemplateLemmas.{length-template}
-use Rattle.wild_layout.specs.declared.decision.Decision.TheVariants.{Rewritten}
-use Rattle.wild_layout.specs.Decide.{place_to, term_to}
-use Rattle.wild_layout.specs.Geometry.{NamesSymbol}
-use Rattle.wild_layout.specs.Sites.{template_start}
-use Rattle.wild_layout.specs.SymbolValues.{sum}
-use Rattle.wild_layout.specs.Values.{value_in, term_of, weak_resolves_to_place, undefined_weak_target}
-use Rattle.wild_geometry.specs.Loaded.{HasDecision}
-use Rattle.wild_loader.specs.declared.memory.Memory.{Memory}
-use Rattle.wild_loader.specs.declared.world.World.{World}
-use Rattle.wild_loader.specs.Memory.{Holds}
-use Rattle.wild_meaning.specs.Value.{IsReplaceable}
-use Rattle.wild_meaning.specs.Item.{place_at}
-use Rattle.wild_meaning.specs.Formula.{IsOffset}
-use Rattle.wild_meaning.specs.Sequence.{offset_pair_words}
-use Rattle.wild_meaning.specs.Template.{reads_without_calls}
-use Rattle.wild_meaning.specs.WordsAArch64.{reads_numbers}
-use Rattle.wild_loader.specs.Instruction.{Reader}
-use Rattle.wild_loader.specs.declared.instruction.Operand.TheVariants.{Number}
-use Rattle.wild_references.specs.Laws.{IsLoadedItem, TermGives}
-use Rattle.wild_references.specs.Terms.{is_expressed, HasTerm}
 use Rattle.wild_references.proofs.Fields.{small_range}
 use Rattle.wild_references.proofs.KeptItems.{item_lies}
 use Rattle.wild_references.proofs.RewrittenSymbols.{definition, own_one}

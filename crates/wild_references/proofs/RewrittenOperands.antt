@@ -1,40 +1,11 @@
 -- What an instruction that is rewritten demands, and that the value in its field lands there: addresses.
-use Rattle.std.proofs.Common.{◌≡◌, ℕ, ◌+◌, ◌-◌, ◌%◌, ◌^◌, ◌<◌, ◌≤◌, Bool, true, false, ap, ◌∙◌, arith, subst}
-use Rattle.std.specs.Prelude.{ℤ, pos, ◌&&◌, ◌||◌, not, Option, Some}
-use Rattle.std.specs.Int.{w64, cast_unsigned}
-use Rattle.std.proofs.lemmas.Bool.{not-true}
+use Rattle.wild_references.proofs.Common.{◌≡◌, ℕ, ◌+◌, ◌-◌, ◌%◌, ◌^◌, ◌<◌, ◌≤◌, Bool, true, false, ap, ◌∙◌, arith, subst, ℤ, pos, ◌&&◌, ◌||◌, not, Option, Some, w64, cast_unsigned, not-true, OutputKind, InputRelocation, Layout, KeepsAll, has_flag, interposable, has_link_time_address, absolute, ifunc, has_fixed_load_address, flags_at, moves, plain, SymbolAddress, Distance, Four, Sign, Row, minus_four, rewrite_of, field_in, distance, template_start, Memory, World, IsMovable, IsAbsolute, Item, place_at, IsSymbolAddress, address_denotes, flag_is, IsLoadedItem}
 use Rattle.wild_types.specs.declared.kind.Machine.TheVariants as machine
 use Rattle.wild_types.specs.declared.kind.RelocationModel.TheVariants as model
-use Rattle.wild_types.specs.declared.kind.OutputKind.{OutputKind}
 use Rattle.wild_types.specs.declared.kind.OutputKind.TheVariants as output
-use Rattle.wild_types.specs.declared.input.InputRelocation.{InputRelocation}
-use Rattle.wild_types.specs.declared.layout.Layout.{Layout}
-use Rattle.wild_types.specs.HeaderOnly.{KeepsAll}
-use Rattle.wild_types.specs.Flags.{has_flag, interposable, has_link_time_address, absolute, ifunc}
-use Rattle.wild_types.specs.Kinds.{has_fixed_load_address}
-use Rattle.wild_slot.specs.Treatment.{flags_at, moves}
-use Rattle.wild_reloc.specs.Table.{plain}
-use Rattle.wild_reloc.specs.Formula.{SymbolAddress, Distance}
 use Rattle.wild_reloc.specs.declared.info.RelocationKind.TheVariants as kinds
-use Rattle.wild_reloc.specs.declared.info.Width.TheVariants.{Four}
-use Rattle.wild_reloc.specs.declared.range.Sign.{Sign}
-use Rattle.wild_relax.specs.declared.row.Row.{Row}
-use Rattle.wild_relax.specs.Question.{minus_four}
-use Rattle.wild_relax.specs.RewriteX86_64.{rewrite_of}
-use Rattle.wild_relax.specs.LinkedPattern.{field_in}
-use Rattle.wild_relax.specs.KeepX86_64.{distance}
-use Rattle.wild_layout.specs.Sites.{template_start}
-use Rattle.wild_loader.specs.declared.memory.Memory.{Memory}
-use Rattle.wild_loader.specs.declared.world.World.{World}
-use Rattle.wild_meaning.specs.World.{IsMovable}
-use Rattle.wild_meaning.specs.Value.{IsAbsolute}
 use Rattle.wild_meaning.specs.Denotes.{IsAddressOf}
-use Rattle.wild_types.specs.Item.{Item}
-use Rattle.wild_meaning.specs.Item.{place_at}
-use Rattle.wild_meaning.specs.Formula.{IsSymbolAddress}
-use Rattle.wild_meaning.proofs.SymbolLemmas.{referent_address, address_denotes}
-use Rattle.wild_geometry.proofs.JudgedLemmas.{flag_is}
-use Rattle.wild_references.specs.Laws.{IsLoadedItem}
+use Rattle.wild_meaning.proofs.SymbolLemmas.{referent_address}
 use Rattle.wild_references.proofs.WholeSections.{placed}
 use Rattle.wild_references.proofs.RewrittenPlaces.{LawsBelow, IsPlacedRow, ended}
 use Rattle.wild_references.proofs.RewrittenSymbols.{denoted_small}

@@ -1,27 +1,12 @@
 -- The fields of the instruction of a row: its own, and that of the call of a sequence.
-use Rattle.std.proofs.Common.{◌≡◌, ℕ, ◌+◌, inl, inr, Bool, true, false, List, [], ◌∷◌, refl, sym, arith, subst}
-use Rattle.std.specs.Prelude.{◌||◌, ◌==◌, not, Option, Some, None, is_some, option_map, Contains}
-use Rattle.std.specs.List.{list_all}
-use Rattle.std.proofs.lemmas.Bool.{eqb-true, or_cases}
-use Rattle.wild_words.proofs.Basics.{implied, or_other, listed_passes}
+use Rattle.wild_references.proofs.Common.{◌≡◌, ℕ, ◌+◌, inl, inr, Bool, true, false, List, [], ◌∷◌, refl, sym, arith, subst, ◌||◌, ◌==◌, not, Option, Some, None, is_some, option_map, Contains, list_all, eqb-true, or_cases, implied, or_other, listed_passes, Formula, x86_64_formula, GeneralForm, Pattern, Row, is_skip, rewrite_of, is_call_number, rows_x86_64, pattern_of, keeps_bytes, IsChanging, form_width, Instruction, by_call, by_slot, by_distance, are_several}
 use Rattle.wild_records.specs.Abi.Relocation as abi
-use Rattle.wild_reloc.specs.Formula.{Formula}
-use Rattle.wild_reloc.specs.FormulaX86_64.{x86_64_formula}
-use Rattle.wild_relax.specs.declared.pattern.GeneralForm.{GeneralForm}
 use Rattle.wild_relax.specs.declared.pattern.GeneralForm.TheVariants as general
 use Rattle.wild_relax.specs.declared.pattern.LocalForm.TheVariants as local
-use Rattle.wild_relax.specs.declared.pattern.Pattern.{Pattern}
 use Rattle.wild_relax.specs.declared.pattern.Pattern.TheVariants as pattern
-use Rattle.wild_relax.specs.declared.row.Row.{Row}
 use Rattle.wild_relax.specs.declared.row.Partner as writer
-use Rattle.wild_relax.specs.Rewrite.{is_skip}
-use Rattle.wild_relax.specs.RewriteX86_64.{rewrite_of}
-use Rattle.wild_relax.specs.RowSequences.{form_by, is_call_number}
-use Rattle.wild_relax.specs.Rows.{rows_x86_64}
-use Rattle.wild_relax.specs.LinkedPattern.{pattern_of, keeps_bytes, IsChanging}
-use Rattle.wild_meaning.specs.Field.{form_width}
-use Rattle.wild_meaning.specs.Sequence.{Instruction, Partner, by_call, by_slot, by_distance}
-use Rattle.wild_meaning.proofs.PairLemmas.{are_several}
+use Rattle.wild_relax.specs.RowSequences.{form_by}
+use Rattle.wild_meaning.specs.Sequence.{Partner}
 use Rattle.wild_references.proofs.RewrittenForms.{instruction_by, instruction_of, items_if, some_of}
 
 -- ---- the own field

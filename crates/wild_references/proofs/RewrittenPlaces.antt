@@ -1,45 +1,12 @@
 -- A section whose relocation is rewritten, with all that is known of its row.
-use Rattle.std.proofs.Common.{◌≡◌, ℕ, ◌+◌, ◌-◌, ◌%◌, ◌^◌, Bool, true, false, refl, sym, ap, arith, subst}
-use Rattle.std.specs.Prelude.{◌||◌, not, ℤ, pos, negsuc, slice_get, slice_range}
-use Rattle.std.specs.Int.{w64, cast_unsigned}
-use Rattle.std.specs.List.{list_all}
-use Rattle.std.proofs.lemmas.Bool.{eqb-true, and_parts}
-use Rattle.wild_words.proofs.Basics.{implied, or_other, listed_passes}
-use Rattle.wild_records.specs.Abi.Section.{shf_execinstr}
+use Rattle.wild_references.proofs.Common.{◌≡◌, ℕ, ◌+◌, ◌-◌, ◌%◌, ◌^◌, Bool, true, false, refl, sym, ap, arith, subst, ◌||◌, not, ℤ, pos, negsuc, slice_get, slice_range, w64, cast_unsigned, list_all, eqb-true, and_parts, implied, or_other, listed_passes, shf_execinstr, InputRelocation, Item, Layout, executable, plain, Four, Sign, Signed, Row, Question, minus_four, Duty, is_mandatory, is_static_executable, pattern_cells, rows_x86_64, pattern_of, pattern_size, keeps_bytes, IsChanging, Rewritten, question_of, is_partner, template_start, IsChosen, rewritten_x86_64, HasDecision, IsSet, matches_cells, Sort, Target, DescribedCall, FieldBits, size_of, HasOriginAddend, bit_code, RowGives, WindowsHaveNoOtherField}
 use Rattle.wild_types.specs.declared.kind.Machine.TheVariants as machine
-use Rattle.wild_types.specs.declared.input.InputRelocation.{InputRelocation}
-use Rattle.wild_types.specs.Item.{Item}
-use Rattle.wild_types.specs.declared.layout.Layout.{Layout}
-use Rattle.wild_types.specs.Lookups.{executable}
-use Rattle.wild_reloc.specs.Table.{plain}
 use Rattle.wild_reloc.specs.declared.info.RelocationKind.TheVariants as kinds
-use Rattle.wild_reloc.specs.declared.info.Width.TheVariants.{Four}
-use Rattle.wild_reloc.specs.declared.range.Sign.{Sign}
-use Rattle.wild_reloc.specs.declared.range.Sign.TheVariants.{Signed}
-use Rattle.wild_relax.specs.declared.row.Row.{Row}
-use Rattle.wild_relax.specs.Question.{Question, minus_four}
-use Rattle.wild_relax.specs.declared.row.Duty.{Duty}
 use Rattle.wild_relax.specs.declared.row.Duty.TheVariants as duty
-use Rattle.wild_relax.specs.RowSymbols.{is_mandatory}
-use Rattle.wild_types.specs.Kinds.{is_static_executable}
-use Rattle.wild_relax.specs.Pattern.{pattern_cells}
-use Rattle.wild_relax.specs.Rows.{rows_x86_64}
-use Rattle.wild_relax.specs.LinkedPattern.{pattern_of, pattern_size, keeps_bytes, IsChanging}
 use Rattle.wild_relax.specs.KeepX86_64.{RowsKeep, IsWhole}
 use Rattle.wild_relax.specs.Section.{RowApplies, ChosenRowsApply, ChosenPatternsArePresent}
-use Rattle.wild_layout.specs.declared.decision.Decision.TheVariants.{Rewritten}
-use Rattle.wild_layout.specs.Choice.{question_of, is_partner}
-use Rattle.wild_layout.specs.Sites.{template_start}
-use Rattle.wild_layout.proofs.ChoiceLemmas.{IsChosen}
-use Rattle.wild_layout.proofs.DecisionLemmas.{IsRewritten, rewritten_x86_64}
-use Rattle.wild_geometry.specs.Loaded.{HasDecision}
-use Rattle.wild_meaning.specs.Section.{IsSet}
-use Rattle.wild_loader.specs.Instruction.{matches_cells}
-use Rattle.wild_meaning.specs.Sequence.{Sort, Target, DescribedCall, Address, FieldBits, size_of}
-use Rattle.wild_meaning.specs.Template.{HasOriginAddend}
-use Rattle.wild_meaning.proofs.BitLemmas.{bit_code}
-use Rattle.wild_references.specs.Laws.{RowGives}
-use Rattle.wild_references.specs.EffectLaws.{WindowsHaveNoOtherField}
+use Rattle.wild_layout.proofs.DecisionLemmas.{IsRewritten}
+use Rattle.wild_meaning.specs.Sequence.{Address}
 use Rattle.wild_references.proofs.RewrittenDecisions.{rewritten_alone}
 use Rattle.wild_references.proofs.RewrittenForms.{all_long, all_stand, instruction_of, RowFits, row_fits}
 

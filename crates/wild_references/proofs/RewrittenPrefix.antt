@@ -1,31 +1,12 @@
 -- A load whose relocation type does not tell its prefix: where the byte before it makes a longer instruction of it.
-use Rattle.std.proofs.Common.{◌≡◌, ℕ, zero, suc, ◌+◌, ◌-◌, ◌<◌, ◌≤◌, ◌⊎◌, inl, inr, Bool, true, false, List, [], ◌∷◌, length, take, drop, refl, sym, ◌∙◌, arith, subst}
-use Rattle.std.specs.Prelude.{◌&&◌, ◌==◌, Option, Some, None, All, Contains, slice_range, slice_index}
-use Rattle.std.proofs.lemmas.Bool.{cases_Bool, cases_lt, and_parts}
-use Rattle.std.proofs.lemmas.List.Elements.{All-nil, All-cons}
+use Rattle.wild_references.proofs.Common.{◌≡◌, ℕ, zero, suc, ◌+◌, ◌-◌, ◌<◌, ◌≤◌, ◌⊎◌, inl, inr, Bool, true, false, List, [], ◌∷◌, length, take, drop, refl, sym, ◌∙◌, arith, subst, ◌&&◌, ◌==◌, Option, Some, None, All, Contains, slice_range, slice_index, cases_Bool, cases_lt, and_parts, All-nil, All-cons, Machine, InputRelocation, Layout, Formula, PLAIN_LEA, pattern_cells, template_start, IsDecided, Item, formula_of, form_width, InNoField, Word, Set, rex2, with_slot, AddressInSlot, Instruction, IsOwnByte, of_field, instructions_of, HasOriginAddend, IsInstruction, IsSingle, IsOutsideField, WindowsHaveNoOtherField}
 use Rattle.wild_records.specs.Abi.Relocation as abi
-use Rattle.wild_types.specs.declared.kind.Machine.{Machine}
 use Rattle.wild_types.specs.declared.kind.Machine.TheVariants as machine
-use Rattle.wild_types.specs.declared.input.InputRelocation.{InputRelocation}
-use Rattle.wild_types.specs.declared.layout.Layout.{Layout}
-use Rattle.wild_reloc.specs.Formula.{Formula}
-use Rattle.wild_relax.specs.declared.table.TheConstants.{PLAIN_LEA}
 use Rattle.wild_relax.specs.declared.pattern.Prefix.TheVariants.{Rex}
 use Rattle.wild_relax.specs.declared.pattern.Operation.TheVariants as operation
 use Rattle.wild_relax.specs.declared.pattern.Pattern.TheVariants as pattern
-use Rattle.wild_relax.specs.Pattern.{pattern_cells}
-use Rattle.wild_layout.specs.Sites.{template_start}
-use Rattle.wild_geometry.specs.Loaded.{IsDecided}
-use Rattle.wild_types.specs.Item.{Item}
-use Rattle.wild_meaning.specs.Field.{formula_of, form_width, InNoField}
 use Rattle.wild_loader.specs.Instruction as judge
 use Rattle.wild_loader.specs.declared.instruction.Cell.TheVariants as judge-cells
-use Rattle.wild_loader.specs.declared.instruction.Operand.TheVariants.{Word}
-use Rattle.wild_loader.specs.declared.instruction.Deed.TheVariants.{Set}
-use Rattle.wild_loader.specs.CodeX86_64.{rex2, with_slot}
-use Rattle.wild_meaning.specs.Sequence.{AddressInSlot, Instruction, IsOwnByte, of_field, instructions_of}
-use Rattle.wild_meaning.specs.Template.{HasOriginAddend, IsInstruction, IsSingle}
-use Rattle.wild_references.specs.EffectLaws.{IsOutsideField, WindowsHaveNoOtherField}
 use Rattle.wild_references.proofs.RewrittenForms.{covers_all, all_stand}
 use Rattle.wild_references.proofs.RewrittenPlaces.{IsPlacedRow, is_code}
 use Rattle.wild_references.proofs.RewrittenInInput.{field_is, in_no_field}

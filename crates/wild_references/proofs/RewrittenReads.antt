@@ -1,24 +1,7 @@
 -- Which words rewritten code reads: none, or the slot of its symbol's thread-pointer offset.
-use Rattle.std.proofs.Common.{◌≡◌, ℕ, Bool, true, false, List, length, refl, sym, ◌∙◌, subst, eqb-true, eq-eqb}
-use Rattle.std.specs.Prelude.{◌==◌, if◌then◌else◌, Option, Some, None, option_map, option_and_then}
-use Rattle.wild_types.specs.declared.kind.Machine.{Machine}
+use Rattle.wild_references.proofs.Common.{◌≡◌, ℕ, Bool, true, false, List, length, refl, sym, ◌∙◌, subst, ◌==◌, if◌then◌else◌, Option, Some, None, option_map, option_and_then, Machine, InputRelocation, Layout, Item, Memory, World, Holds, Action, Operand, Number, Word, Reader, Effect, effect, with_value, meaning_x86_64, effect_x86_64, reads_numbers, place_at, Instruction, size_of, reads_without_calls, DoesDemanded, IsOffsetSlot, ReadsOffsetSlots}
+use Rattle.std.proofs.Common.{eqb-true, eq-eqb}
 use Rattle.wild_types.specs.declared.kind.Machine.TheVariants as machine
-use Rattle.wild_types.specs.declared.input.InputRelocation.{InputRelocation}
-use Rattle.wild_types.specs.declared.layout.Layout.{Layout}
-use Rattle.wild_types.specs.Item.{Item}
-use Rattle.wild_loader.specs.declared.memory.Memory.{Memory}
-use Rattle.wild_loader.specs.declared.world.World.{World}
-use Rattle.wild_loader.specs.Memory.{Holds}
-use Rattle.wild_loader.specs.declared.instruction.Action.{Action}
-use Rattle.wild_loader.specs.declared.instruction.Operand.{Operand}
-use Rattle.wild_loader.specs.declared.instruction.Operand.TheVariants.{Number, Word}
-use Rattle.wild_loader.specs.Instruction.{Reader, Effect, effect, with_value}
-use Rattle.wild_loader.specs.InstructionX86_64.{meaning_x86_64, effect_x86_64}
-use Rattle.wild_meaning.specs.WordsAArch64.{reads_numbers}
-use Rattle.wild_meaning.specs.Item.{place_at}
-use Rattle.wild_meaning.specs.Sequence.{Instruction, size_of}
-use Rattle.wild_meaning.specs.Template.{reads_without_calls, DoesDemanded}
-use Rattle.wild_meaning.specs.Reference.{IsOffsetSlot, ReadsOffsetSlots}
 use Rattle.wild_meaning.proofs.OneReference.{same_bytes}
 
 -- the code in place of an instruction does what that demands, and reads no other word

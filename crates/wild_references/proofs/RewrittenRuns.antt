@@ -4,53 +4,24 @@
 --   IsRewrittenWord ..      a row of a sequence is chosen for a relocation
 --   IsRunThere, run_there   where its sequence stands, and with which relocations
 --   run_is                  the reader takes it for that instruction
-use Rattle.std.proofs.Common.{◌≡◌, ℕ, zero, suc, ◌+◌, ◌-◌, ◌*◌, ◌/◌, ◌%◌, ◌^◌, ◌<◌, ◌≤◌, Bool, true, false, List, [], ◌∷◌, length, refl, sym, ap, ◌∙◌, subst, arith, eqb-true, eq-eqb}
-use Rattle.std.specs.Prelude.{◌&&◌, ◌||◌, ◌==◌, not, nat_lt, drop, slice_get, slice_range, Option, Some, None, Ok, option_map}
-use Rattle.std.specs.List.{list_all}
-use Rattle.std.proofs.lemmas.Bool.{and_parts, and_from, ne_eqb, leb-true, ltb-true, not-true}
-use Rattle.wild_words.specs.Words.{number}
-use Rattle.wild_words.proofs.Basics.{implied, listed_passes}
+use Rattle.wild_references.proofs.Common.{◌≡◌, ℕ, zero, suc, ◌+◌, ◌-◌, ◌*◌, ◌/◌, ◌%◌, ◌^◌, ◌<◌, ◌≤◌, Bool, true, false, List, [], ◌∷◌, length, refl, sym, ap, ◌∙◌, subst, arith, ◌&&◌, ◌||◌, ◌==◌, not, nat_lt, drop, slice_get, slice_range, Option, Some, None, Ok, option_map, list_all, and_parts, and_from, ne_eqb, leb-true, ltb-true, not-true, number, implied, listed_passes, InputRelocation, Layout, ValueFlags, has_flag, interposable, absolute, dynamic, undefined_weak, Item, executable, flags_at, Code, Adrp, Add, Ldr, Blr, has_fixed_bits, read, run, shapes, Pattern, Sequence, DescriptorCall, OffsetSlot, Address, RelocationInfo, Row, ValueTest, pattern_of, Question, relocation_of, takes_value, rows_aarch64, chosen_row_aarch64, types_of, words_before, relocations_match, words_at, words_match, nameless, infos_from, question_around, relocation_around, has_known_meaning, is_run, Instruction, descriptor_call_words, offset_pair_words, address_pair_words, names_merged}
+use Rattle.std.proofs.Common.{eqb-true, eq-eqb}
 use Rattle.wild_types.specs.declared.kind.Machine.TheVariants as machine
-use Rattle.wild_types.specs.declared.input.InputRelocation.{InputRelocation}
-use Rattle.wild_types.specs.declared.layout.Layout.{Layout}
-use Rattle.wild_types.specs.declared.symbol.ValueFlags.{ValueFlags}
-use Rattle.wild_types.specs.Flags.{has_flag, interposable, absolute, dynamic, undefined_weak}
-use Rattle.wild_types.specs.Item.{Item}
-use Rattle.wild_types.specs.Lookups.{executable}
-use Rattle.wild_slot.specs.Treatment.{flags_at}
-use Rattle.wild_aarch64.specs.declared.code.Code.{Code}
-use Rattle.wild_aarch64.specs.declared.code.Code.TheVariants.{Adrp, Add, Ldr, Blr}
 use Rattle.wild_aarch64.specs.declared.template.Template.{Template}
 use Rattle.wild_aarch64.specs.declared.template.Template.TheVariants as kinds
-use Rattle.wild_aarch64.specs.Slice.{bits, has_fixed_bits}
+use Rattle.wild_aarch64.specs.Slice.{bits}
 use Rattle.wild_aarch64.specs.Forms.{d, adrp, add, ldr}
-use Rattle.wild_aarch64.specs.Code.{read}
-use Rattle.wild_aarch64.specs.Machine.{run}
-use Rattle.wild_aarch64.specs.Effect.{without_immediate, shapes}
+use Rattle.wild_aarch64.specs.Effect.{without_immediate}
 use Rattle.wild_aarch64.specs.Template.{codes_of, same, fits, begins}
-use Rattle.wild_relax.specs.declared.pattern.Pattern.{Pattern}
 use Rattle.wild_relax.specs.declared.pattern.Pattern.TheVariants.{Among}
-use Rattle.wild_relax.specs.declared.pattern.Sequence.{Sequence}
-use Rattle.wild_relax.specs.declared.pattern.Sequence.TheVariants.{DescriptorCall, OffsetSlot, Address}
-use Rattle.wild_relax.specs.declared.reference.RelocationInfo.{RelocationInfo}
-use Rattle.wild_relax.specs.declared.row.Row.{Row}
-use Rattle.wild_relax.specs.declared.row.ValueTest.{ValueTest}
 use Rattle.wild_relax.specs.declared.row.ValueTest.TheVariants as value
-use Rattle.wild_relax.specs.LinkedPattern.{pattern_of}
-use Rattle.wild_relax.specs.Question.{Question, relocation_of}
 use Rattle.wild_relax.specs.RewriteX86_64.{register_set}
-use Rattle.wild_relax.specs.RowSymbols.{takes_value}
-use Rattle.wild_relax.specs.RowsAArch64.{rows_aarch64, chosen_row_aarch64}
-use Rattle.wild_relax.specs.SequenceAArch64.{types_of, words_before, relocations_match, words_at, is_adrp, is_ldr, is_add, words_match}
+use Rattle.wild_relax.specs.SequenceAArch64.{is_adrp, is_ldr, is_add}
 use Rattle.wild_relax.proofs.KeepAArch64Lemmas.{adrp_shape, ldr_shape, add_shape, blr_shape}
 use Rattle.wild_relax.proofs.TogetherLemmas.{chosen_word}
-use Rattle.wild_layout.specs.Choice.{nameless, infos_from, question_around}
-use Rattle.wild_layout.proofs.ChoiceLemmas.{relocation_around}
-use Rattle.wild_meaning.specs.WordsAArch64.{are_filled, has_known_meaning, is_run}
-use Rattle.wild_meaning.specs.Sequence.{Instruction, descriptor_call_words, offset_pair_words, address_pair_words}
+use Rattle.wild_meaning.specs.WordsAArch64.{are_filled}
 use Rattle.wild_references.proofs.RunsAArch64.{address_run, slot_run, call_run}
 use Rattle.wild_references.proofs.WordsAArch64.{words_from}
-use Rattle.wild_layout.specs.Merged.{names_merged}
 
 -- ---- the runs
 

@@ -1,37 +1,15 @@
 -- The reader takes the run of a word that is rewritten for one of its instructions.
 --   IsJudgedRun ..   the run that a relocation is of, as an instruction of the reader
 --   judged_run       so it is of each word that is rewritten
-use Rattle.std.proofs.Common.{◌≡◌, ℕ, ℤ, pos, negsuc, zero, suc, ◌+◌, ◌*◌, ◌%◌, ◌^◌, ◌<◌, ◌≤◌, ◌⊎◌, inl, inr, true, false, List, [], ◌∷◌, length, refl, sym, ap, ◌∙◌, subst, arith, eqb-true}
-use Rattle.std.specs.Prelude.{◌&&◌, ◌==◌, slice_get, slice_range, Option, Some, None, Contains}
-use Rattle.std.specs.Int.{w64, cast_unsigned}
-use Rattle.std.proofs.lemmas.Bool.{and_parts}
-use Rattle.wild_words.proofs.Basics.{length-range}
-use Rattle.wild_records.specs.Abi.Relocation.{r_aarch64_adr_prel_pg_hi21, r_aarch64_add_abs_lo12_nc, r_aarch64_tlsie_adr_gottprel_page21, r_aarch64_tlsie_ld64_gottprel_lo12_nc, r_aarch64_tlsdesc_adr_page21, r_aarch64_tlsdesc_ld64_lo12, r_aarch64_tlsdesc_add_lo12, r_aarch64_tlsdesc_call}
-use Rattle.wild_types.specs.declared.kind.Machine.{Machine}
+use Rattle.wild_references.proofs.Common.{◌≡◌, ℕ, ℤ, pos, negsuc, zero, suc, ◌+◌, ◌*◌, ◌%◌, ◌^◌, ◌<◌, ◌≤◌, ◌⊎◌, inl, inr, true, false, List, [], ◌∷◌, length, refl, sym, ap, ◌∙◌, subst, arith, ◌&&◌, ◌==◌, slice_get, slice_range, Option, Some, None, Contains, w64, cast_unsigned, and_parts, length-range, r_aarch64_adr_prel_pg_hi21, r_aarch64_add_abs_lo12_nc, r_aarch64_tlsie_adr_gottprel_page21, r_aarch64_tlsie_ld64_gottprel_lo12_nc, r_aarch64_tlsdesc_adr_page21, r_aarch64_tlsdesc_ld64_lo12, r_aarch64_tlsdesc_add_lo12, r_aarch64_tlsdesc_call, Machine, InputRelocation, Layout, has_flag, undefined_weak, Item, flags_at, flag_is, words_of, Sequence, DescriptorCall, OffsetSlot, Address, RelocationInfo, Row, types_of, relocations_match, nameless, matches_cells, is_run, size_of, by_word, IsOwnByte, descriptor_call_words, offset_pair_words, address_pair_words, instructions_of, InNoField, IsUndefinedWeak, HasOriginAddend, field_origin, IsInstruction, IsSequence, IsOfSequence, bit_code}
+use Rattle.std.proofs.Common.{eqb-true}
 use Rattle.wild_types.specs.declared.kind.Machine.TheVariants as machine
-use Rattle.wild_types.specs.declared.input.InputRelocation.{InputRelocation}
-use Rattle.wild_types.specs.declared.layout.Layout.{Layout}
-use Rattle.wild_types.specs.Flags.{has_flag, undefined_weak}
-use Rattle.wild_types.specs.Item.{Item}
-use Rattle.wild_slot.specs.Treatment.{flags_at}
-use Rattle.wild_geometry.proofs.JudgedLemmas.{flag_is}
-use Rattle.wild_aarch64.specs.Effect.{words_of}
-use Rattle.wild_relax.specs.declared.pattern.Sequence.{Sequence}
-use Rattle.wild_relax.specs.declared.pattern.Sequence.TheVariants.{DescriptorCall, OffsetSlot, Address}
-use Rattle.wild_relax.specs.declared.reference.RelocationInfo.{RelocationInfo}
-use Rattle.wild_relax.specs.declared.row.Row.{Row}
 use Rattle.wild_relax.specs.Question.{zero as none_added}
-use Rattle.wild_relax.specs.SequenceAArch64.{types_of, same_symbol, relocations_match}
+use Rattle.wild_relax.specs.SequenceAArch64.{same_symbol}
 use Rattle.wild_relax.proofs.TogetherLemmas.{same_is}
-use Rattle.wild_layout.specs.Choice.{nameless, info_at}
-use Rattle.wild_loader.specs.Instruction.{matches_cells}
-use Rattle.wild_meaning.specs.WordsAArch64.{is_run}
-use Rattle.wild_meaning.specs.Sequence.{size_of, bytes_of, by_word, IsOwnByte, descriptor_call_words, offset_pair_words, address_pair_words, instructions_of}
-use Rattle.wild_meaning.specs.Field.{InNoField}
-use Rattle.wild_meaning.specs.ReferentAArch64.{IsUndefinedWeak}
+use Rattle.wild_layout.specs.Choice.{info_at}
+use Rattle.wild_meaning.specs.Sequence.{bytes_of}
 use Rattle.wild_meaning.specs.Partners.{HasPartner}
-use Rattle.wild_meaning.specs.Template.{HasOriginAddend, field_origin, IsInstruction, IsSequence, IsOfSequence}
-use Rattle.wild_meaning.proofs.BitLemmas.{bit_code}
 use Rattle.wild_references.proofs.WordsAArch64.{fours, words_from, words_read}
 use Rattle.wild_references.proofs.RewrittenRuns.{kind_of, run_of, run_stands, IsRewrittenWord, IsRunThere, address_there}
 

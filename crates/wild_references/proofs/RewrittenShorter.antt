@@ -1,19 +1,7 @@
 -- A load whose relocation type does not tell its prefix: where no longer instruction has it, it is the one with the shorter prefix.
-use Rattle.std.proofs.Common.{◌≡◌, ℕ, ◌≤◌, ◌⊎◌, inl, inr, true, refl, subst, []}
-use Rattle.std.specs.Prelude.{nat_le, Contains}
-use Rattle.std.proofs.lemmas.Bool.{leb-true}
+use Rattle.wild_references.proofs.Common.{◌≡◌, ℕ, ◌≤◌, ◌⊎◌, inl, inr, true, refl, subst, [], nat_le, Contains, leb-true, Machine, InputRelocation, Layout, PLAIN_LEA, template_start, IsDecided, Item, Instruction, size_of, instructions_of, IsInstruction, IsSingle, WindowsHaveNoOtherField}
 use Rattle.wild_records.specs.Abi.Relocation as abi
-use Rattle.wild_types.specs.declared.kind.Machine.{Machine}
 use Rattle.wild_types.specs.declared.kind.Machine.TheVariants as machine
-use Rattle.wild_types.specs.declared.input.InputRelocation.{InputRelocation}
-use Rattle.wild_types.specs.declared.layout.Layout.{Layout}
-use Rattle.wild_relax.specs.declared.table.TheConstants.{PLAIN_LEA}
-use Rattle.wild_layout.specs.Sites.{template_start}
-use Rattle.wild_geometry.specs.Loaded.{IsDecided}
-use Rattle.wild_types.specs.Item.{Item}
-use Rattle.wild_meaning.specs.Sequence.{Instruction, size_of, instructions_of}
-use Rattle.wild_meaning.specs.Template.{IsInstruction, IsSingle}
-use Rattle.wild_references.specs.EffectLaws.{WindowsHaveNoOtherField}
 use Rattle.wild_references.proofs.RewrittenForms.{instruction_of}
 use Rattle.wild_references.proofs.RewrittenPlaces.{IsPlacedRow}
 use Rattle.wild_references.proofs.RewrittenSingles.{has_number, has_listed, stands_there}

@@ -1,47 +1,15 @@
 -- An instruction that is rewritten by itself is free of sequences.
-use Rattle.std.proofs.Common.{◌≡◌, ℕ, zero, suc, ◌+◌, ◌<◌, ◌≤◌, ◌⊎◌, inl, inr, Bool, true, false, List, [], ◌∷◌, get_or, refl, sym, ◌∙◌, arith, subst}
-use Rattle.std.specs.Prelude.{◌||◌, not, nat_lt, Some, Contains, slice_get}
-use Rattle.std.specs.List.{list_all}
-use Rattle.std.proofs.lemmas.Bool.{cases_Bool, ltb-true, cases_eq}
-use Rattle.std.proofs.lemmas.Option.{slice_get_within}
-use Rattle.wild_words.proofs.Basics.{implied, or_by, or_first}
+use Rattle.wild_references.proofs.Common.{◌≡◌, ℕ, zero, suc, ◌+◌, ◌<◌, ◌≤◌, ◌⊎◌, inl, inr, Bool, true, false, List, [], ◌∷◌, get_or, refl, sym, ◌∙◌, arith, subst, ◌||◌, not, nat_lt, Some, Contains, slice_get, list_all, cases_Bool, ltb-true, cases_eq, slice_get_within, implied, Machine, InputRelocation, Layout, interposable, ifunc, non_interposable, is_static_executable, flags_at, Formula, x86_64_formula, Row, field_of, rows_x86_64, is_mandatory, is_skip, rewrite_of, pattern_of, pattern_size, keeps_bytes, question_of, is_partner, template_start, chosen_listed, IsDecided, Item, formula_of, form_width, HasFlag, Instruction, instructions_of, IsSequence, IsGetterCall, code_bit, executable_is, flag_is, WindowsHaveNoOtherField, applied}
+use Rattle.wild_words.proofs.Basics.{or_by, or_first}
 use Rattle.wild_records.specs.Abi.Relocation as abi
-use Rattle.wild_types.specs.declared.kind.Machine.{Machine}
 use Rattle.wild_types.specs.declared.kind.Machine.TheVariants as machine
-use Rattle.wild_types.specs.declared.input.InputRelocation.{InputRelocation}
-use Rattle.wild_types.specs.declared.layout.Layout.{Layout}
-use Rattle.wild_types.specs.Flags.{interposable, ifunc, non_interposable}
-use Rattle.wild_types.specs.Kinds.{is_static_executable}
-use Rattle.wild_slot.specs.Treatment.{flags_at}
-use Rattle.wild_reloc.specs.Formula.{Formula}
-use Rattle.wild_reloc.specs.FormulaX86_64.{x86_64_formula}
 use Rattle.wild_relax.specs.declared.pattern.GeneralForm.TheVariants as general
 use Rattle.wild_relax.specs.declared.pattern.LocalForm.TheVariants as local
 use Rattle.wild_relax.specs.declared.pattern.Pattern.TheVariants as pattern
-use Rattle.wild_relax.specs.declared.row.Row.{Row}
-use Rattle.wild_relax.specs.Pattern.{field_of}
-use Rattle.wild_relax.specs.Rows.{rows_x86_64}
-use Rattle.wild_relax.specs.RowSymbols.{is_mandatory}
-use Rattle.wild_relax.specs.Rewrite.{is_skip}
-use Rattle.wild_relax.specs.RewriteX86_64.{rewrite_of}
-use Rattle.wild_relax.specs.LinkedPattern.{pattern_of, pattern_size, keeps_bytes}
-use Rattle.wild_layout.specs.Choice.{question_of, is_partner}
-use Rattle.wild_layout.specs.Sites.{template_start}
-use Rattle.wild_layout.proofs.ChoiceLemmas.{chosen_listed}
-use Rattle.wild_geometry.specs.Loaded.{IsDecided}
-use Rattle.wild_types.specs.Item.{Item}
-use Rattle.wild_meaning.specs.Field.{formula_of, form_width}
-use Rattle.wild_meaning.specs.Value.{HasFlag}
-use Rattle.wild_meaning.specs.Sequence.{Partner as Call, Instruction, instructions_of}
-use Rattle.wild_meaning.specs.Template.{IsSequence}
-use Rattle.wild_meaning.proofs.PairLemmas.{IsGetterCall, as_its_call}
-use Rattle.wild_meaning.proofs.BitLemmas.{code_bit}
-use Rattle.wild_meaning.proofs.OutputLemmas.{executable_is}
-use Rattle.wild_geometry.proofs.JudgedLemmas.{flag_is}
-use Rattle.wild_references.specs.EffectLaws.{WindowsHaveNoOtherField}
+use Rattle.wild_meaning.specs.Sequence.{Partner as Call}
+use Rattle.wild_meaning.proofs.PairLemmas.{as_its_call}
 use Rattle.wild_references.proofs.RewrittenPlaces.{IsPlacedRow, mandatory_static}
 use Rattle.wild_references.proofs.RewrittenSingles.{has_number}
-use Rattle.wild_relax.proofs.RoomLemmas.{applied}
 use Rattle.wild_references.proofs.TableRows.{general_there, general_slot_there, local_there}
 use Rattle.wild_references.proofs.RewrittenCalls.{general_slot, local_slot, direct_numbers, only_number, calls_of, cells_match_pattern, general_backed, local_backed, IsAskedFor, local_applies, own_applies, open_applies}
 use Rattle.wild_references.proofs.KeptModes.{other_flag}

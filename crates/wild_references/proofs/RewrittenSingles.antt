@@ -1,28 +1,7 @@
 -- The instruction of a row is the one that the reference belongs to.
-use Rattle.std.proofs.Common.{◌≡◌, ℕ, zero, suc, ◌+◌, ◌<◌, ◌≤◌, inl, inr, Bool, true, false, List, [], ◌∷◌, length, get_or, refl, sym, arith, subst}
-use Rattle.std.specs.Prelude.{◌||◌, ◌==◌, not, nat_le, slice_range, Contains}
-use Rattle.std.specs.List.{list_all}
-use Rattle.std.proofs.lemmas.Bool.{cases_Bool, eq-eqb, leb-true, and_parts}
-use Rattle.wild_words.proofs.Basics.{listed_passes, implied, or_other}
+use Rattle.wild_references.proofs.Common.{◌≡◌, ℕ, zero, suc, ◌+◌, ◌<◌, ◌≤◌, inl, inr, Bool, true, false, List, [], ◌∷◌, length, get_or, refl, sym, arith, subst, ◌||◌, ◌==◌, not, nat_le, slice_range, Contains, list_all, cases_Bool, eq-eqb, leb-true, and_parts, listed_passes, implied, or_other, Machine, InputRelocation, Layout, Row, minus_four, rows_x86_64, is_skip, rewrite_of, keeps_bytes, template_start, IsDecided, Item, words_of, Instruction, size_of, instructions_of, Sort, DescribedCall, IsInstruction, HasOriginAddend, are_several, WindowsHaveNoOtherField}
 use Rattle.wild_records.specs.Abi.Relocation as abi
-use Rattle.wild_types.specs.declared.kind.Machine.{Machine}
 use Rattle.wild_types.specs.declared.kind.Machine.TheVariants as machine
-use Rattle.wild_types.specs.declared.input.InputRelocation.{InputRelocation}
-use Rattle.wild_types.specs.declared.layout.Layout.{Layout}
-use Rattle.wild_relax.specs.declared.row.Row.{Row}
-use Rattle.wild_relax.specs.Question.{minus_four}
-use Rattle.wild_relax.specs.Rows.{rows_x86_64}
-use Rattle.wild_relax.specs.Rewrite.{is_skip}
-use Rattle.wild_relax.specs.RewriteX86_64.{rewrite_of}
-use Rattle.wild_relax.specs.LinkedPattern.{keeps_bytes}
-use Rattle.wild_layout.specs.Sites.{template_start}
-use Rattle.wild_geometry.specs.Loaded.{IsDecided}
-use Rattle.wild_types.specs.Item.{Item}
-use Rattle.wild_aarch64.specs.Effect.{words_of}
-use Rattle.wild_meaning.specs.Sequence.{Instruction, size_of, instructions_of, Sort, DescribedCall}
-use Rattle.wild_meaning.specs.Template.{IsInstruction, HasOriginAddend}
-use Rattle.wild_meaning.proofs.PairLemmas.{are_several}
-use Rattle.wild_references.specs.EffectLaws.{WindowsHaveNoOtherField}
 use Rattle.wild_references.proofs.RewrittenForms.{instruction_of}
 use Rattle.wild_references.proofs.RewrittenPairs.{paired}
 use Rattle.wild_references.proofs.RewrittenPlaces.{IsPlacedRow, is_code, counts_ended, size_is, cells_stand}

@@ -1,48 +1,16 @@
 -- The call through a descriptor, in whose place the slot of an offset is read: `nop; nop; adrp; ldr`.
-use Rattle.std.proofs.Common.{◌≡◌, ℕ, ℤ, ◌+◌, ◌-◌, ◌*◌, ◌/◌, ◌%◌, ◌^◌, ◌<◌, ◌≤◌, ◌⊎◌, inl, inr, Bool, true, false, List, [], ◌∷◌, ◌++◌, length, refl, sym, ap, ◌∙◌, subst, arith, eqb-true}
-use Rattle.std.specs.Prelude.{Option, Some, Ok, Result, ◌||◌, ◌==◌, if◌then◌else◌, slice_range, nat_lt, nat_le}
-use Rattle.std.specs.Int.{w64, cast_unsigned}
-use Rattle.std.proofs.lemmas.Bool.{and_parts, ltb-true, leb-true}
-use Rattle.wild_words.specs.Words.{word, number}
-use Rattle.wild_reloc.specs.Field.{is_aligned, allows}
-use Rattle.wild_reloc.specs.Formula.{ThreadOffset}
-use Rattle.wild_reloc.specs.TableAArch64.{imm12, any, slot_page, static_row, thread_row}
+use Rattle.wild_references.proofs.Common.{◌≡◌, ℕ, ℤ, ◌+◌, ◌-◌, ◌*◌, ◌/◌, ◌%◌, ◌^◌, ◌<◌, ◌≤◌, ◌⊎◌, inl, inr, Bool, true, false, List, [], ◌∷◌, ◌++◌, length, refl, sym, ap, ◌∙◌, subst, arith, Option, Some, Ok, Result, ◌||◌, ◌==◌, if◌then◌else◌, slice_range, nat_lt, nat_le, w64, cast_unsigned, and_parts, ltb-true, leb-true, word, number, is_aligned, allows, ThreadOffset, any, static_row, thread_row, RelocationKindInfo, Machine, Fault, InputRelocation, Layout, KeepsAll, Item, DescriptorCall, CALL_FIRST, CALL_SECOND, CALL_FOURTH_SLOT, Rewriting, rewriting, templates_at, RowsOfAArch64Keep, page, words_of, template_of, info_written, words_at, words_match, place_to, term_to, sum, value_in, weak_resolves_to_place, undefined_weak_target, Memory, World, Reader, Number, Word, place_at, IsOffset, descriptor_call_words, reads_without_calls, IsOffsetSlot, IsLoadedItem}
+use Rattle.std.proofs.Common.{eqb-true}
+use Rattle.wild_reloc.specs.TableAArch64.{imm12, slot_page}
 use Rattle.wild_reloc.specs.TableAArch64.{row as field_row}
 use Rattle.wild_reloc.specs.declared.expression.SlotSort.TheVariants as sorts
 use Rattle.wild_reloc.specs.declared.info.RelocationKind.TheVariants as kinds
-use Rattle.wild_reloc.specs.declared.info.RelocationKindInfo.{RelocationKindInfo}
-use Rattle.wild_types.specs.declared.kind.Machine.{Machine}
 use Rattle.wild_types.specs.declared.kind.Machine.TheVariants as machine
-use Rattle.wild_types.specs.declared.fault.Fault.{Fault}
-use Rattle.wild_types.specs.declared.input.InputRelocation.{InputRelocation}
-use Rattle.wild_types.specs.declared.layout.Layout.{Layout}
-use Rattle.wild_types.specs.HeaderOnly.{KeepsAll}
-use Rattle.wild_types.specs.Item.{Item}
-use Rattle.wild_relax.specs.declared.pattern.Sequence.TheVariants.{DescriptorCall}
-use Rattle.wild_relax.specs.declared.table_aarch64.TheConstants.{CALL_FIRST, CALL_SECOND, CALL_THIRD_SLOT, CALL_FOURTH_SLOT}
-use Rattle.wild_relax.specs.KeepAArch64.{Rewriting, rewriting, templates_at, RowsOfAArch64Keep}
+use Rattle.wild_relax.specs.declared.table_aarch64.TheConstants.{CALL_THIRD_SLOT}
 use Rattle.wild_aarch64.specs.Row as judged
 use Rattle.wild_aarch64.specs.Row.{distance, IsNear, IsRead}
-use Rattle.wild_aarch64.specs.Machine.{page}
-use Rattle.wild_aarch64.specs.Effect.{words_of}
-use Rattle.wild_relax.specs.LinkedPattern.{template_of}
-use Rattle.wild_relax.specs.RewriteX86_64.{info_written}
-use Rattle.wild_relax.specs.SequenceAArch64.{words_at, words_match}
-use Rattle.wild_layout.specs.Decide.{place_to, term_to}
 use Rattle.wild_layout.specs.SlotValues.{slot_address}
-use Rattle.wild_layout.specs.SymbolValues.{sum}
-use Rattle.wild_layout.specs.Values.{value_in, weak_resolves_to_place, undefined_weak_target}
-use Rattle.wild_loader.specs.declared.memory.Memory.{Memory}
-use Rattle.wild_loader.specs.declared.world.World.{World}
-use Rattle.wild_loader.specs.Instruction.{Reader}
-use Rattle.wild_loader.specs.declared.instruction.Operand.TheVariants.{Number, Word}
-use Rattle.wild_meaning.specs.Item.{place_at}
-use Rattle.wild_meaning.specs.Formula.{IsOffset}
 use Rattle.wild_meaning.specs.Slot.{IsSlotOf}
-use Rattle.wild_meaning.specs.Sequence.{descriptor_call_words}
-use Rattle.wild_meaning.specs.Template.{reads_without_calls}
-use Rattle.wild_meaning.specs.Reference.{IsOffsetSlot}
-use Rattle.wild_references.specs.Laws.{IsLoadedItem}
 use Rattle.wild_references.proofs.KeptItems.{item_lies}
 use Rattle.wild_references.proofs.SlotTerms.{offset_slots, slot_given}
 use Rattle.wild_references.proofs.ThreadPlaces.{offsets_stand}

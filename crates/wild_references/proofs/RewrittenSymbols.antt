@@ -1,26 +1,7 @@
 -- Symbols of a loaded section, as the writer's flags tell them and as the reader does.
-use Rattle.std.proofs.Common.{◌≡◌, ℕ, ◌^◌, ◌<◌, ◌⊎◌, inl, inr, Bool, true, false, length, refl, sym, ap, ◌∙◌, arith, subst}
-use Rattle.std.specs.Prelude.{◌&&◌, ◌||◌, not, Option, Some, None, All}
-use Rattle.wild_words.proofs.Basics.{slice_get_inside}
-use Rattle.wild_words.proofs.ListLemmas.{holds_at}
-use Rattle.wild_types.specs.declared.symbol.Symbol.{Symbol}
-use Rattle.wild_types.specs.declared.symbol.ValueFlags.{ValueFlags}
-use Rattle.wild_types.specs.declared.layout.Layout.{Layout}
-use Rattle.wild_types.specs.Flags.{has_flag, interposable, dynamic, ifunc, non_interposable, copy_relocation, export_dynamic}
-use Rattle.wild_types.specs.Lookups.{canonical}
-use Rattle.wild_slot.specs.Treatment.{flags_at}
-use Rattle.wild_layout.specs.Geometry.{DefinitionNames}
+use Rattle.wild_references.proofs.Common.{◌≡◌, ℕ, ◌^◌, ◌<◌, ◌⊎◌, inl, inr, Bool, true, false, length, refl, sym, ap, ◌∙◌, arith, subst, ◌&&◌, ◌||◌, not, Option, Some, None, All, slice_get_inside, holds_at, Symbol, ValueFlags, Layout, has_flag, interposable, dynamic, ifunc, non_interposable, copy_relocation, export_dynamic, canonical, flags_at, DefinitionNames, Memory, World, Answer, IsSymbol, IsDefinedBy, IsResolved, IsUnresolved, IsLocatedAt, HasRaw, HasFlag, IsValue, HasOwnValue, is_library, IsReplaceable, HasAnswer, with_base, Denotes, IsAnswer, canonical_is, flag_is, IsPlaced}
 use Rattle.wild_layout.specs.SlotOrder.{EachAgrees}
 use Rattle.wild_layout.specs.Numbers.{SymbolNumbers}
-use Rattle.wild_loader.specs.declared.memory.Memory.{Memory}
-use Rattle.wild_loader.specs.declared.world.World.{World}
-use Rattle.wild_loader.specs.declared.world.Answer.{Answer}
-use Rattle.wild_meaning.specs.Value.{IsSymbol, IsDefinedBy, IsResolved, IsUnresolved, IsLocatedAt, HasRaw, HasFlag, IsValue, HasOwnValue, is_library, IsReplaceable, HasAnswer, with_base}
-use Rattle.wild_meaning.specs.Denotes.{Denotes}
-use Rattle.wild_meaning.specs.World.{IsAnswer}
-use Rattle.wild_meaning.proofs.SymbolLemmas.{canonical_is}
-use Rattle.wild_geometry.proofs.JudgedLemmas.{flag_is}
-use Rattle.wild_references.specs.Terms.{IsPlaced}
 
 -- ---- definitions
 

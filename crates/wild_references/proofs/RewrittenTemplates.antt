@@ -1,45 +1,15 @@
 -- The instruction of a row is the one that its reference belongs to: by itself, or as a sequence.
-use Rattle.std.proofs.Common.{◌≡◌, ℕ, ◌+◌, inl, inr, Bool, true, false, List, [], ◌∷◌, refl, sym, ap, ◌∙◌, arith}
-use Rattle.std.specs.Prelude.{◌==◌, ◌&&◌, ◌||◌, not, Option, Some, None, slice_get, option_map, unwrap_or}
-use Rattle.std.proofs.lemmas.Bool.{cases_Bool, eqb-true, eq-eqb, not-true, and_parts}
-use Rattle.std.specs.List.{list_all}
-use Rattle.wild_words.proofs.Basics.{or_first, not_both, implied, listed_passes}
+use Rattle.wild_references.proofs.Common.{◌≡◌, ℕ, ◌+◌, inl, inr, Bool, true, false, List, [], ◌∷◌, refl, sym, ap, ◌∙◌, arith, ◌==◌, ◌&&◌, ◌||◌, not, Option, Some, None, slice_get, option_map, unwrap_or, cases_Bool, eqb-true, eq-eqb, not-true, and_parts, list_all, not_both, implied, listed_passes, Symbol, InputRelocation, Layout, has_flag, ifunc, non_interposable, is_executable, flags_at, SymbolTest, ValueTest, Duty, Question, takes_symbol, takes_value, is_mandatory, rows_x86_64, IsChanging, applied, Row, call_form, is_skip, rewrite_of, question_of, template_start, chosen_listed, Memory, World, Item, Sort, TargetInSlot, size_of, IsSequence, IsSingle, IsOfSequence, flag_is, IsLoadedItem}
+use Rattle.wild_words.proofs.Basics.{or_first}
 use Rattle.wild_records.specs.Abi.Relocation as abi
 use Rattle.wild_types.specs.declared.kind.Machine.TheVariants as machine
-use Rattle.wild_types.specs.declared.symbol.Symbol.{Symbol}
-use Rattle.wild_types.specs.declared.input.InputRelocation.{InputRelocation}
-use Rattle.wild_types.specs.declared.layout.Layout.{Layout}
-use Rattle.wild_types.specs.Flags.{has_flag, ifunc, non_interposable}
-use Rattle.wild_types.specs.Kinds.{is_executable}
-use Rattle.wild_slot.specs.Treatment.{flags_at}
-use Rattle.wild_relax.specs.declared.row.SymbolTest.{SymbolTest}
 use Rattle.wild_relax.specs.declared.row.SymbolTest.TheVariants as symbol
-use Rattle.wild_relax.specs.declared.row.ValueTest.{ValueTest}
 use Rattle.wild_relax.specs.declared.row.ValueTest.TheVariants as value
-use Rattle.wild_relax.specs.declared.row.Duty.{Duty}
 use Rattle.wild_relax.specs.declared.row.Duty.TheVariants as duty
-use Rattle.wild_relax.specs.Question.{Question}
-use Rattle.wild_relax.specs.RowSymbols.{takes_symbol, takes_value, is_mandatory}
-use Rattle.wild_relax.specs.Rows.{rows_x86_64}
-use Rattle.wild_relax.specs.LinkedPattern.{IsChanging}
-use Rattle.wild_relax.proofs.RoomLemmas.{applied}
-use Rattle.wild_relax.specs.declared.row.Row.{Row}
-use Rattle.wild_relax.specs.RowSequences.{call_form}
-use Rattle.wild_relax.specs.Rewrite.{is_skip}
-use Rattle.wild_relax.specs.RewriteX86_64.{rewrite_of}
-use Rattle.wild_layout.specs.Choice.{getter_name, same_names, is_getter, question_of}
-use Rattle.wild_layout.specs.Sites.{template_start}
-use Rattle.wild_layout.proofs.ChoiceLemmas.{chosen_listed}
-use Rattle.wild_loader.specs.declared.memory.Memory.{Memory}
-use Rattle.wild_loader.specs.declared.world.World.{World}
-use Rattle.wild_types.specs.Item.{Item}
-use Rattle.wild_meaning.specs.Sequence.{Sort, TargetInSlot, size_of}
+use Rattle.wild_layout.specs.Choice.{getter_name, same_names, is_getter}
 use Rattle.wild_meaning.specs.Partners.{NamesGetter}
-use Rattle.wild_meaning.specs.Template.{IsSequence, IsSingle, IsOfSequence}
 use Rattle.wild_meaning.proofs.PairLemmas.{sequence_of}
 use Rattle.wild_meaning.proofs.OutputLemmas.{is_program}
-use Rattle.wild_geometry.proofs.JudgedLemmas.{flag_is}
-use Rattle.wild_references.specs.Laws.{IsLoadedItem}
 use Rattle.wild_references.proofs.RewrittenForms.{instruction_of}
 use Rattle.wild_references.proofs.RewrittenPairs.{partner_for, single}
 use Rattle.wild_references.proofs.RewrittenPlaces.{LawsBelow, IsPlacedRow}

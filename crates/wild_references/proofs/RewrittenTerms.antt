@@ -1,51 +1,19 @@
 -- The value in the field of a rewritten instruction, as the laws of the kinds take it.
-use Rattle.std.proofs.Common.{◌≡◌, ℕ, ◌+◌, ◌%◌, ◌^◌, ◌<◌, ◌≤◌, inl, true, length, refl, sym, ◌∙◌, arith, subst, false}
-use Rattle.std.specs.Prelude.{Some, None, Ok, if◌then◌else◌}
-use Rattle.wild_types.specs.declared.kind.Machine.{Machine}
-use Rattle.wild_words.proofs.ListLemmas.{holds_at}
+use Rattle.wild_references.proofs.Common.{◌≡◌, ℕ, ◌+◌, ◌%◌, ◌^◌, ◌<◌, ◌≤◌, inl, true, length, refl, sym, ◌∙◌, arith, subst, false, Some, None, Ok, if◌then◌else◌, Machine, holds_at, InputRelocation, Layout, KeepsAll, place_of, kind_treatment, row_accepts, expression_of, plain, x86_64_row, plain_value, RelocationKind, RelocationKindInfo, Eight, Sign, Signed, Row, rewrite_of, field_in, term_of, weak_resolves_to_place, undefined_weak_target, term_by, NamesSymbol, template_start, Memory, World, IsMovable, IsAbsolute, Item, place_at, IsPlaceRelative, IsLoadedItem, is_expressed, HasTerm, names_merged}
 use Rattle.wild_records.specs.Abi.Relocation.{r_x86_64_64}
 use Rattle.wild_types.specs.declared.kind.Machine.TheVariants as machine
-use Rattle.wild_types.specs.declared.input.InputRelocation.{InputRelocation}
-use Rattle.wild_types.specs.declared.layout.Layout.{Layout}
-use Rattle.wild_types.specs.HeaderOnly.{KeepsAll}
 use Rattle.wild_slot.specs.declared.treatment.Treatment.TheVariants as treatments
-use Rattle.wild_types.specs.Lookups.{place_of}
-use Rattle.wild_slot.specs.Treatment.{kind_treatment, row_accepts}
-use Rattle.wild_reloc.specs.Expression.{expression_of}
-use Rattle.wild_reloc.specs.Table.{plain}
-use Rattle.wild_reloc.specs.TableX86_64.{x86_64_row}
-use Rattle.wild_reloc.specs.Agreement.{plain_value}
-use Rattle.wild_reloc.specs.declared.info.RelocationKind.{RelocationKind}
 use Rattle.wild_reloc.specs.declared.info.RelocationKind.TheVariants as kinds
-use Rattle.wild_reloc.specs.declared.info.RelocationKindInfo.{RelocationKindInfo}
 use Rattle.wild_reloc.specs.declared.info.Width.{Width}
-use Rattle.wild_reloc.specs.declared.info.Width.TheVariants.{Eight}
-use Rattle.wild_reloc.specs.declared.range.Sign.{Sign}
-use Rattle.wild_reloc.specs.declared.range.Sign.TheVariants.{Signed}
 use Rattle.wild_types.proofs.LookupLemmas.{row_here}
-use Rattle.wild_relax.specs.declared.row.Row.{Row}
 use Rattle.wild_relax.proofs.RewriteLemmas as written
-use Rattle.wild_relax.specs.RewriteX86_64.{rewrite_of}
-use Rattle.wild_relax.specs.LinkedPattern.{field_in}
 use Rattle.wild_layout.specs.Decide.{field_at}
 use Rattle.wild_layout.proofs.DecisionLemmas.{term_alone}
-use Rattle.wild_layout.specs.Values.{term_of, value_by, weak_resolves_to_place, undefined_weak_target, term_by}
-use Rattle.wild_layout.specs.Geometry.{NamesSymbol}
-use Rattle.wild_layout.specs.Sites.{template_start}
+use Rattle.wild_layout.specs.Values.{value_by}
 use Rattle.wild_layout.proofs.ChoiceLemmas.{LiesInItsPattern, chosen_lies}
-use Rattle.wild_loader.specs.declared.memory.Memory.{Memory}
-use Rattle.wild_loader.specs.declared.world.World.{World}
-use Rattle.wild_meaning.specs.World.{IsMovable}
-use Rattle.wild_meaning.specs.Value.{IsAbsolute}
-use Rattle.wild_types.specs.Item.{Item}
-use Rattle.wild_meaning.specs.Item.{place_at}
-use Rattle.wild_meaning.specs.Formula.{IsPlaceRelative}
 use Rattle.wild_references.proofs.KeptItems.{ItemLies, item_lies}
-use Rattle.wild_references.specs.Laws.{IsLoadedItem}
-use Rattle.wild_references.specs.Terms.{is_expressed, HasTerm}
 use Rattle.wild_references.proofs.WholeSections.{placed}
 use Rattle.wild_references.proofs.RewrittenPlaces.{IsPlacedRow}
-use Rattle.wild_layout.specs.Merged.{names_merged}
 use Rattle.wild_layout.proofs.MergedLemmas.{term_plain}
 
 -- ---- the item

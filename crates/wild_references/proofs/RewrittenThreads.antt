@@ -1,38 +1,8 @@
 -- What an instruction that is rewritten demands, and that the value in its field lands there: offsets from the thread pointer.
-use Rattle.std.proofs.Common.{◌≡◌, ℕ, ◌+◌, ◌-◌, ◌%◌, ◌^◌, ◌<◌, ◌≤◌, inl, inr, true, false, refl, sym, ap, ◌∙◌, arith, subst}
-use Rattle.std.specs.Prelude.{ℤ, pos, Option, Some}
-use Rattle.std.specs.Int.{w64, cast_unsigned}
-use Rattle.wild_types.specs.declared.kind.Machine.{Machine}
+use Rattle.wild_references.proofs.Common.{◌≡◌, ℕ, ◌+◌, ◌-◌, ◌%◌, ◌^◌, ◌<◌, ◌≤◌, inl, inr, true, false, refl, sym, ap, ◌∙◌, arith, subst, ℤ, pos, Option, Some, w64, cast_unsigned, Machine, OutputKind, InputRelocation, Layout, KeepsAll, interposable, is_executable, is_static_executable, flags_at, ThreadOffset, Row, minus_four, rewrite_of, field_in, template_start, Memory, World, Word, Reader, sum_64, Item, place_at, IsSet, shf_execinstr, IsOffsetBase, HasWord, IsSlot, IsOffset, KnowsOffsets, HasOffsetMode, reads, IsOffsetSlot, word_below, IsLoadedItem}
 use Rattle.wild_types.specs.declared.kind.Machine.TheVariants as machine
-use Rattle.wild_types.specs.declared.kind.OutputKind.{OutputKind}
 use Rattle.wild_types.specs.declared.kind.OutputKind.TheVariants as output
-use Rattle.wild_types.specs.declared.input.InputRelocation.{InputRelocation}
-use Rattle.wild_types.specs.declared.layout.Layout.{Layout}
-use Rattle.wild_types.specs.HeaderOnly.{KeepsAll}
-use Rattle.wild_types.specs.Flags.{interposable}
-use Rattle.wild_types.specs.Kinds.{is_executable, is_static_executable}
-use Rattle.wild_slot.specs.Treatment.{flags_at}
-use Rattle.wild_reloc.specs.Formula.{ThreadOffset}
-use Rattle.wild_relax.specs.declared.row.Row.{Row}
-use Rattle.wild_relax.specs.Question.{minus_four}
-use Rattle.wild_relax.specs.RewriteX86_64.{rewrite_of}
-use Rattle.wild_relax.specs.LinkedPattern.{field_in}
-use Rattle.wild_layout.specs.Sites.{template_start}
-use Rattle.wild_loader.specs.declared.memory.Memory.{Memory}
-use Rattle.wild_loader.specs.declared.world.World.{World}
-use Rattle.wild_loader.specs.declared.instruction.Operand.TheVariants.{Word}
-use Rattle.wild_loader.specs.Instruction.{Reader, sum_64}
-use Rattle.wild_types.specs.Item.{Item}
-use Rattle.wild_meaning.specs.Item.{place_at}
-use Rattle.wild_meaning.specs.Section.{IsSet}
-use Rattle.wild_records.specs.Abi.Section.{shf_execinstr}
-use Rattle.wild_meaning.specs.Thread.{HasOwnOffset, HasThreadOffset, IsOffsetBase}
-use Rattle.wild_meaning.specs.Slot.{HasWord, IsSlot}
-use Rattle.wild_meaning.specs.Formula.{IsOffset, KnowsOffsets, HasOffsetMode}
-use Rattle.wild_meaning.specs.Template.{reads}
-use Rattle.wild_meaning.specs.Reference.{IsOffsetSlot}
-use Rattle.wild_meaning.proofs.WorldLemmas.{word_below}
-use Rattle.wild_references.specs.Laws.{IsLoadedItem}
+use Rattle.wild_meaning.specs.Thread.{HasOwnOffset, HasThreadOffset}
 use Rattle.wild_references.proofs.RewrittenReads.{ReadsOnlySlots, reads_at, reads_there, one_slot}
 use Rattle.wild_references.proofs.RewrittenPlaces.{LawsBelow, IsPlacedRow, ended}
 use Rattle.wild_references.proofs.RewrittenTerms.{written_as, stands_below}

@@ -1,40 +1,13 @@
 -- What the value in the field of a rewritten instruction is, kind by kind.
-use Rattle.std.proofs.Common.{◌≡◌, ℕ, inl, inr, Bool, true, false, refl, sym, ◌∙◌, subst}
-use Rattle.std.specs.Prelude.{length, nat_lt, ◌&&◌, ◌||◌, not, Option, Some, if◌then◌else◌}
+use Rattle.wild_references.proofs.Common.{◌≡◌, ℕ, inl, inr, Bool, true, false, refl, sym, ◌∙◌, subst, length, nat_lt, ◌&&◌, ◌||◌, not, Option, Some, if◌then◌else◌, Machine, OutputKind, InputRelocation, Layout, KeepsAll, Treatment, has_flag, interposable, has_link_time_address, absolute, ifunc, is_executable, is_shared_object, is_position_independent, has_fixed_load_address, canonical, allocated, flags_at, needs_symbolic, is_barred, is_narrow, needs_irelative, moves, address_treatment, kind_treatment, plain, x86_64_row, plain_value, Value, Four, Sign, Signed, Row, rewrite_of, Memory, World, IsMovable, IsAbsolute, IsReplaceable, Item, Gives, IsLoadedItem, IsFollowed}
 use Rattle.std.proofs.lemmas.Bool.{and_right, or_from}
-use Rattle.wild_types.specs.declared.kind.Machine.{Machine}
 use Rattle.wild_types.specs.declared.kind.Machine.TheVariants as machine
 use Rattle.wild_types.specs.declared.kind.RelocationModel.TheVariants as model
-use Rattle.wild_types.specs.declared.kind.OutputKind.{OutputKind}
 use Rattle.wild_types.specs.declared.kind.OutputKind.TheVariants as output
-use Rattle.wild_types.specs.declared.input.InputRelocation.{InputRelocation}
-use Rattle.wild_types.specs.declared.layout.Layout.{Layout}
-use Rattle.wild_types.specs.HeaderOnly.{KeepsAll}
-use Rattle.wild_slot.specs.declared.treatment.Treatment.{Treatment}
 use Rattle.wild_slot.specs.declared.treatment.Treatment.TheVariants as treatments
-use Rattle.wild_types.specs.Flags.{has_flag, interposable, has_link_time_address, absolute, ifunc}
-use Rattle.wild_types.specs.Kinds.{is_executable, is_shared_object, is_position_independent, has_fixed_load_address}
-use Rattle.wild_types.specs.Lookups.{canonical, allocated}
-use Rattle.wild_slot.specs.Treatment.{flags_at, needs_symbolic, has_no_local_address, is_barred_type, is_barred_in_shared, is_barred, is_narrow, needs_irelative, moves, relative_treatment, irelative_treatment, address_treatment, kind_treatment}
-use Rattle.wild_reloc.specs.Table.{plain}
-use Rattle.wild_reloc.specs.TableX86_64.{x86_64_row}
-use Rattle.wild_reloc.specs.Agreement.{plain_value}
-use Rattle.wild_reloc.specs.Formula.{Value}
+use Rattle.wild_slot.specs.Treatment.{has_no_local_address, is_barred_type, is_barred_in_shared, relative_treatment, irelative_treatment}
 use Rattle.wild_reloc.specs.declared.info.RelocationKind.TheVariants as kinds
-use Rattle.wild_reloc.specs.declared.info.Width.TheVariants.{Four}
-use Rattle.wild_reloc.specs.declared.range.Sign.{Sign}
-use Rattle.wild_reloc.specs.declared.range.Sign.TheVariants.{Signed}
-use Rattle.wild_relax.specs.declared.row.Row.{Row}
-use Rattle.wild_relax.specs.RewriteX86_64.{rewrite_of}
-use Rattle.wild_loader.specs.declared.memory.Memory.{Memory}
-use Rattle.wild_loader.specs.declared.world.World.{World}
-use Rattle.wild_meaning.specs.World.{IsMovable}
-use Rattle.wild_meaning.specs.Value.{IsAbsolute, IsReplaceable}
-use Rattle.wild_types.specs.Item.{Item}
-use Rattle.wild_meaning.specs.Formula.{Gives}
 use Rattle.wild_relax.proofs.RowLemmas.{pc32, tpoff32, gottpoff}
-use Rattle.wild_references.specs.Laws.{IsLoadedItem}
-use Rattle.wild_references.specs.Terms.{IsFollowed}
 use Rattle.wild_references.proofs.RewrittenPlaces.{LawsBelow, IsPlacedRow}
 use Rattle.wild_references.proofs.RewrittenSymbols.{definition, own_one}
 use Rattle.wild_references.proofs.RewrittenTerms.{symbol_there, written_as, wide_type, wide, info_is, has_term}

@@ -1,38 +1,10 @@
 -- Instructions of x86-64 that are rewritten hold, and so do the calls that they take along.
-use Rattle.std.proofs.Common.{◌≡◌, ℕ, ◌+◌, ◌≤◌, inl, inr, Bool, true, false, [], ◌∷◌, refl, sym, ap, ◌∙◌, arith, subst}
-use Rattle.std.specs.Prelude.{◌==◌, ◌||◌, not, Contains, Option, Some, None, Ok, slice_get}
-use Rattle.std.specs.List.{list_all}
-use Rattle.std.proofs.lemmas.Bool.{cases_Bool}
-use Rattle.std.proofs.lemmas.Option.{slice_get_within}
-use Rattle.wild_words.proofs.Basics.{or_other, listed_passes}
-use Rattle.wild_reloc.specs.Formula.{Value, Formula, SlotDistance}
-use Rattle.wild_reloc.specs.FormulaX86_64.{x86_64_formula}
-use Rattle.wild_types.specs.declared.input.InputRelocation.{InputRelocation}
-use Rattle.wild_types.specs.declared.layout.Layout.{Layout}
-use Rattle.wild_relax.specs.declared.row.Row.{Row}
-use Rattle.wild_records.specs.Abi.Relocation.{r_x86_64_gotpcrel}
-use Rattle.wild_relax.specs.declared.table.TheConstants.{PLAIN_LEA}
+use Rattle.wild_references.proofs.Common.{◌≡◌, ℕ, ◌+◌, ◌≤◌, inl, inr, Bool, true, false, [], ◌∷◌, refl, sym, ap, ◌∙◌, arith, subst, ◌==◌, ◌||◌, not, Contains, Option, Some, None, Ok, slice_get, list_all, cases_Bool, slice_get_within, or_other, listed_passes, Value, Formula, SlotDistance, x86_64_formula, InputRelocation, Layout, Row, r_x86_64_gotpcrel, PLAIN_LEA, is_skip, rewrite_of, rows_x86_64, pattern_size, keeps_bytes, Decision, Rewritten, Partner, template_start, decide_partner, HasDecision, Memory, World, Item, TargetInSlot, Instruction, size_of, IsSingle, IsTemplate, formula_of, MustHold, HoldsRewritten, ReadsOffsetSlots, IsSlotValue, HasSlotFormula, IsOmitted, Machine, IsLoadedItem}
 use Rattle.wild_references.proofs.TableRows.{plain_is}
-use Rattle.wild_relax.specs.Rewrite.{is_skip}
-use Rattle.wild_relax.specs.RewriteX86_64.{rewrite_of}
-use Rattle.wild_relax.specs.Rows.{rows_x86_64}
-use Rattle.wild_relax.specs.LinkedPattern.{pattern_size, keeps_bytes}
-use Rattle.wild_layout.specs.declared.decision.Decision.{Decision}
-use Rattle.wild_layout.specs.declared.decision.Decision.TheVariants.{Rewritten, Partner}
-use Rattle.wild_layout.specs.Sites.{template_start}
 use Rattle.wild_layout.proofs.ChoiceLemmas.{IsSequence}
-use Rattle.wild_layout.proofs.DecisionLemmas.{decide_partner, sequence_is_rewritten}
-use Rattle.wild_geometry.specs.Loaded.{HasDecision}
-use Rattle.wild_loader.specs.declared.memory.Memory.{Memory}
-use Rattle.wild_loader.specs.declared.world.World.{World}
-use Rattle.wild_types.specs.Item.{Item}
-use Rattle.wild_meaning.specs.Sequence.{TargetInSlot, Instruction, size_of}
-use Rattle.wild_meaning.specs.Template.{IsSingle, IsTemplate}
-use Rattle.wild_meaning.specs.Field.{formula_of}
-use Rattle.wild_meaning.specs.Reference.{CountsFromPlace, MustHold, HoldsWithSequence, HoldsRewritten, ReadsOffsetSlots, IsSlotValue, HasSlotFormula, IsOmitted}
-use Rattle.wild_types.specs.declared.kind.Machine.{Machine}
+use Rattle.wild_layout.proofs.DecisionLemmas.{sequence_is_rewritten}
+use Rattle.wild_meaning.specs.Reference.{CountsFromPlace, HoldsWithSequence}
 use Rattle.wild_types.specs.declared.kind.Machine.TheVariants as machine
-use Rattle.wild_references.specs.Laws.{IsLoadedItem}
 use Rattle.wild_references.specs.EffectLaws.{IsLocatedAt}
 use Rattle.wild_references.proofs.OmittedReferences.{keeps_all}
 use Rattle.wild_references.proofs.RewrittenReads.{IsDone}

@@ -1,47 +1,14 @@
 -- Behind a longer prefix the same bytes are written, and they do what the longer instruction demands.
-use Rattle.std.proofs.Common.{◌≡◌, ℕ, zero, suc, ◌+◌, ◌-◌, ◌<◌, ◌≤◌, ◌⊎◌, inl, inr, Bool, true, false, List, [], ◌∷◌, length, get_or, refl, sym, ap, ◌∙◌, arith, subst}
-use Rattle.std.specs.Prelude.{◌&&◌, ◌||◌, ◌==◌, Some, Ok, slice_get, slice_range, slice_index}
-use Rattle.std.specs.List.{list_all}
-use Rattle.std.proofs.lemmas.Bool.{cases_lt, cases_eq}
-use Rattle.wild_words.specs.Words.{place}
-use Rattle.wild_words.proofs.Basics.{listed_passes}
+use Rattle.wild_references.proofs.Common.{◌≡◌, ℕ, zero, suc, ◌+◌, ◌-◌, ◌<◌, ◌≤◌, ◌⊎◌, inl, inr, Bool, true, false, List, [], ◌∷◌, length, get_or, refl, sym, ap, ◌∙◌, arith, subst, ◌&&◌, ◌||◌, ◌==◌, Some, Ok, slice_get, slice_range, slice_index, list_all, cases_lt, cases_eq, place, listed_passes, Machine, InputRelocation, Layout, KeepsAll, written, Formula, x86_64_formula, RelocationKindInfo, Row, PLAIN_LEA, pattern_cells, pattern_of, pattern_size, keeps_bytes, template_of, distance, Rewritten, question_of, template_start, chosen_listed, IsDecided, HasDecision, byte_in, Holds, Memory, World, Item, place_at, formula_of, form_width, IsInputByte, effect_x86_64, demand_x86_64, Instruction, size_of, instructions_of, Reader, Number, reads_numbers, reads_without_calls, IsLoadedItem}
 use Rattle.wild_records.specs.Abi.Relocation as abi
-use Rattle.wild_types.specs.declared.kind.Machine.{Machine}
 use Rattle.wild_types.specs.declared.kind.Machine.TheVariants as machine
-use Rattle.wild_types.specs.declared.input.InputRelocation.{InputRelocation}
-use Rattle.wild_types.specs.declared.layout.Layout.{Layout}
-use Rattle.wild_types.specs.HeaderOnly.{KeepsAll}
-use Rattle.wild_reloc.specs.Field.{written}
-use Rattle.wild_reloc.specs.Formula.{Formula}
-use Rattle.wild_reloc.specs.FormulaX86_64.{x86_64_formula}
-use Rattle.wild_reloc.specs.declared.info.RelocationKindInfo.{RelocationKindInfo}
 use Rattle.wild_relax.specs.declared.pattern.Cell.TheVariants as cells
-use Rattle.wild_relax.specs.declared.row.Row.{Row}
-use Rattle.wild_relax.specs.declared.table.TheConstants.{PLAIN_LEA, LEA_2}
+use Rattle.wild_relax.specs.declared.table.TheConstants.{LEA_2}
 use Rattle.wild_references.proofs.TableRows.{long_there}
-use Rattle.wild_relax.specs.Pattern.{pattern_cells}
-use Rattle.wild_relax.specs.LinkedPattern.{pattern_of, pattern_size, keeps_bytes, linked_pattern, template_of}
-use Rattle.wild_relax.specs.KeepX86_64.{IsWhole, distance}
-use Rattle.wild_layout.specs.declared.decision.Decision.TheVariants.{Rewritten}
-use Rattle.wild_layout.specs.Choice.{question_of}
-use Rattle.wild_layout.specs.Sites.{template_start}
-use Rattle.wild_layout.proofs.ChoiceLemmas.{chosen_listed}
-use Rattle.wild_geometry.specs.Loaded.{IsDecided, HasDecision}
-use Rattle.wild_loader.specs.Memory.{byte_in, Holds}
-use Rattle.wild_loader.specs.declared.memory.Memory.{Memory}
-use Rattle.wild_loader.specs.declared.world.World.{World}
-use Rattle.wild_types.specs.Item.{Item}
-use Rattle.wild_meaning.specs.Item.{place_at}
-use Rattle.wild_meaning.specs.Field.{formula_of, form_width, IsInputByte}
+use Rattle.wild_relax.specs.LinkedPattern.{linked_pattern}
+use Rattle.wild_relax.specs.KeepX86_64.{IsWhole}
 use Rattle.wild_loader.specs.Instruction as judge
 use Rattle.wild_loader.specs.declared.instruction.Cell.TheVariants as judge-cells
-use Rattle.wild_loader.specs.InstructionX86_64.{effect_x86_64, demand_x86_64}
-use Rattle.wild_meaning.specs.Sequence.{Instruction, size_of, instructions_of}
-use Rattle.wild_loader.specs.Instruction.{Reader}
-use Rattle.wild_loader.specs.declared.instruction.Operand.TheVariants.{Number}
-use Rattle.wild_meaning.specs.WordsAArch64.{reads_numbers}
-use Rattle.wild_meaning.specs.Template.{reads_without_calls}
-use Rattle.wild_references.specs.Laws.{IsLoadedItem}
 use Rattle.wild_references.proofs.Clash.{is_free, are_calls, pair_ok, row_ok, each_row_ok, IsUncovered, apart_templates}
 use Rattle.wild_references.proofs.KeptBytes.{OutOfWindows, input_byte, Window, window, free_not}
 use Rattle.wild_meaning.proofs.SymbolLemmas.{slot_address_of}

@@ -3,40 +3,16 @@
 --   words_are_written   so it is of each relocation of an item
 --   rewritten_word      what is rewritten is a word of a run
 --   asked_there         each word of a run asks the same question
-use Rattle.std.proofs.Common.{◌≡◌, ℕ, ◌+◌, ◌-◌, Bool, true, false, refl, sym, ap, ◌∙◌, subst, arith}
-use Rattle.std.specs.Prelude.{Option, Some, Result, Ok, Err, ◌||◌, if◌then◌else◌, slice_get}
-use Rattle.std.specs.List.{list_all}
-use Rattle.std.proofs.lemmas.Option.{slice_get_within}
-use Rattle.wild_words.proofs.Basics.{or_other, listed_passes}
-use Rattle.wild_types.specs.declared.kind.Machine.{Machine}
+use Rattle.wild_references.proofs.Common.{◌≡◌, ℕ, ◌+◌, ◌-◌, Bool, true, false, refl, sym, ap, ◌∙◌, subst, arith, Option, Some, Result, Ok, Err, ◌||◌, if◌then◌else◌, slice_get, list_all, slice_get_within, or_other, listed_passes, Machine, Fault, InputRelocation, Layout, Item, allows, UnknownSequence, Row, Pattern, Sequence, pattern_of, keeps_bytes, rewrite_of, info_written, rows_aarch64, chosen_row_aarch64, words_before, Decision, Rewritten, infos_from, question_around, choice_on, is_partner, place_to, term_to, decide_with, decide, value_in, rewritten_aarch64, IsDecided, HasDecision, names_merged}
 use Rattle.wild_types.specs.declared.kind.Machine.TheVariants as machine
-use Rattle.wild_types.specs.declared.fault.Fault.{Fault}
 use Rattle.wild_types.specs.declared.fault.Fault.TheVariants as faults
-use Rattle.wild_types.specs.declared.input.InputRelocation.{InputRelocation}
-use Rattle.wild_types.specs.declared.layout.Layout.{Layout}
-use Rattle.wild_types.specs.Item.{Item}
-use Rattle.wild_reloc.specs.Field.{allows}
-use Rattle.wild_relax.specs.declared.reference.UnknownSequence.{UnknownSequence}
-use Rattle.wild_relax.specs.declared.row.Row.{Row}
-use Rattle.wild_relax.specs.declared.pattern.Pattern.{Pattern}
 use Rattle.wild_relax.specs.declared.pattern.Pattern.TheVariants.{Among}
-use Rattle.wild_relax.specs.declared.pattern.Sequence.{Sequence}
-use Rattle.wild_relax.specs.LinkedPattern.{pattern_of, keeps_bytes}
-use Rattle.wild_relax.specs.RewriteX86_64.{rewrite_of, info_written}
-use Rattle.wild_relax.specs.RowsAArch64.{rows_aarch64, chosen_row_aarch64}
-use Rattle.wild_relax.specs.SequenceAArch64.{words_before}
 use Rattle.wild_relax.specs.SequenceRowsAArch64.{question_at}
-use Rattle.wild_layout.specs.declared.decision.Decision.{Decision}
-use Rattle.wild_layout.specs.declared.decision.Decision.TheVariants.{Rewritten}
-use Rattle.wild_layout.specs.Choice.{infos_from, question_for, question_around, choice_around_by, choice_around, choice_on, is_partner}
-use Rattle.wild_layout.specs.Decide.{place_to, term_to, value_to, rewritten_decision, decide_with, decide}
-use Rattle.wild_layout.specs.Values.{value_in}
+use Rattle.wild_layout.specs.Choice.{question_for, choice_around_by, choice_around}
+use Rattle.wild_layout.specs.Decide.{value_to, rewritten_decision}
 use Rattle.wild_layout.proofs.ChoiceLemmas.{no_partner_aarch64}
-use Rattle.wild_layout.proofs.DecisionLemmas.{rewritten_aarch64}
-use Rattle.wild_geometry.specs.Loaded.{IsDecided, HasDecision}
 use Rattle.wild_references.proofs.RewrittenRuns.{IsRewrittenWord, is_word}
 use Rattle.wild_references.proofs.RewrittenOffsets.{IsWrittenWord}
-use Rattle.wild_layout.specs.Merged.{names_merged}
 
 -- ---- the decision
 

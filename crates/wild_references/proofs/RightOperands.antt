@@ -1,29 +1,9 @@
 -- What the operand of an instruction in memory reads as is what is demanded, by its sort.
-use Rattle.std.proofs.Common.{◌≡◌, ℕ, suc, ◌+◌, ◌-◌, ◌*◌, ◌%◌, ◌^◌, ◌<◌, inl, inr, List, length, refl, sym, ap, ◌∙◌, arith, subst}
-use Rattle.std.specs.Prelude.{Option, Some, None, Result, option_map, option_and_then, Contains, slice_index}
-use Rattle.std.specs.Int.{w64, cast_unsigned}
-use Rattle.wild_types.specs.declared.kind.Machine.{Machine}
+use Rattle.wild_references.proofs.Common.{◌≡◌, ℕ, suc, ◌+◌, ◌-◌, ◌*◌, ◌%◌, ◌^◌, ◌<◌, inl, inr, List, length, refl, sym, ap, ◌∙◌, arith, subst, Option, Some, None, Result, option_map, option_and_then, Contains, slice_index, w64, cast_unsigned, Machine, InputRelocation, Layout, Value, Formula, Distance, StubDistance, SlotDistance, AddressSlot, ModulePair, OwnModulePair, ThreadOffset, Descriptor, LoadFault, World, Memory, Holds, byte_in, distance_of, byte_below, Operand, Number, Effect, sum_64, demand_x86_64, Sort, Target, TargetInSlot, AddressInSlot, OffsetInSlot, SymbolPair, OwnPair, Described, DescribedCall, FieldBits, Instruction, size_of, instructions_of, Item, place_at, form_width, formula_of, IsPair, IsSlot, Gives, IsTarget, IsOffset, HasOffsetMode, IsReferent, TakesString, HasOriginAddend, field_origin, reads, effect_of, demand_of, Demands, IsDemanded, old_bytes, DoesDemanded}
 use Rattle.wild_types.specs.declared.kind.Machine.TheVariants as machine
-use Rattle.wild_types.specs.declared.input.InputRelocation.{InputRelocation}
-use Rattle.wild_types.specs.declared.layout.Layout.{Layout}
-use Rattle.wild_reloc.specs.Formula.{Value, Formula, Distance, StubDistance, SlotDistance, AddressSlot, ModulePair, OwnModulePair, ThreadOffset, Descriptor}
-use Rattle.wild_loader.specs.declared.fault.LoadFault.{LoadFault}
-use Rattle.wild_loader.specs.declared.world.World.{World}
-use Rattle.wild_loader.specs.declared.memory.Memory.{Memory}
-use Rattle.wild_loader.specs.Memory.{Holds, byte_in, number_in}
-use Rattle.wild_loader.specs.Changes.{distance_of}
-use Rattle.wild_loader.proofs.MappedSegments.{byte_below}
-use Rattle.wild_loader.specs.declared.instruction.Operand.{Operand}
-use Rattle.wild_loader.specs.declared.instruction.Operand.TheVariants.{Number}
-use Rattle.wild_loader.specs.Instruction.{Effect, sum_64}
-use Rattle.wild_loader.specs.InstructionX86_64.{demand_x86_64}
-use Rattle.wild_meaning.specs.Sequence.{Sort, Target, TargetInSlot, AddressInSlot, OffsetInSlot, SymbolPair, OwnPair, Described, DescribedCall, Address, FieldBits, Instruction, size_of, instructions_of}
-use Rattle.wild_types.specs.Item.{Item}
-use Rattle.wild_meaning.specs.Item.{place_at}
-use Rattle.wild_meaning.specs.Field.{form_width, formula_of}
-use Rattle.wild_meaning.specs.Slot.{IsPair, IsSlot}
-use Rattle.wild_meaning.specs.Formula.{Gives, IsTarget, IsOffset, HasOffsetMode, IsReferent, TakesString}
-use Rattle.wild_meaning.specs.Template.{HasOriginAddend, field_origin, or_none, sum_of, reads, pair_in, effect_of, demand_of, Demands, IsDemanded, old_bytes, DoesDemanded, IsBranchReferent, IsSlotAddress}
+use Rattle.wild_loader.specs.Memory.{number_in}
+use Rattle.wild_meaning.specs.Sequence.{Address}
+use Rattle.wild_meaning.specs.Template.{or_none, sum_of, pair_in, IsBranchReferent, IsSlotAddress}
 use Rattle.wild_meaning.proofs.SymbolLemmas.{stub_referent_is, referent_stands, in_slot_denotes}
 use Rattle.wild_meaning.proofs.PairLemmas.{counts_four}
 use Rattle.wild_references.proofs.Fills.{instructions_do}

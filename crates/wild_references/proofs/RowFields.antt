@@ -1,59 +1,20 @@
 -- The fields of rows that keep the bytes around them: of an own symbol the distance of its stub is that of itself, and so is the offset from the table.
-use Rattle.std.proofs.Common.{◌≡◌, ℕ, ◌+◌, ◌-◌, ◌%◌, ◌^◌, ◌<◌, ◌⊎◌, inl, inr, true, false, refl, sym, ap, ◌∙◌, arith, subst}
-use Rattle.std.specs.Prelude.{Option, Some, Ok, List, length, slice_get}
+use Rattle.wild_references.proofs.Common.{◌≡◌, ℕ, ◌+◌, ◌-◌, ◌%◌, ◌^◌, ◌<◌, ◌⊎◌, inl, inr, true, false, refl, sym, ap, ◌∙◌, arith, subst, Option, Some, Ok, List, length, slice_get, cases_Bool, not-true, holds_at, r_x86_64_pc32, r_x86_64_plt32, r_x86_64_pltoff64, Machine, InputRelocation, Layout, interposable, is_position_independent, row_of, flags_at, RowsAreRead, allows, written, field_width, Value, Formula, Reads, formula, StubDistance, StubFromTable, Distance, FromTable, Plain, Full, x86_64_formula, plain, x86_64_row, RelocationKindInfo, RelocationSize, Four, Eight, Row, rewrite_of, question_of, NamesSymbol, field_site, place_of, displacement, symbol_is_ifunc, address_of, term_of, IsChosen, HasField, Memory, World, Holds, formula_of, form_width, IsSymbolAddress, Gives, IsPlaceRelative, TakesAddress, TakesOffset, table_at, IsReferent, Item, place_at, MustHold, with_base, FieldHolds, IsApplied}
 use Rattle.wild_reloc.specs.declared.expression.Subtrahend.TheVariants as subtrahend
-use Rattle.std.proofs.lemmas.Bool.{cases_Bool, not-true}
-use Rattle.wild_words.proofs.ListLemmas.{holds_at}
-use Rattle.wild_records.specs.Abi.Relocation.{r_x86_64_pc32, r_x86_64_plt32, r_x86_64_gotoff64, r_x86_64_pltoff64}
-use Rattle.wild_types.specs.declared.kind.Machine.{Machine}
+use Rattle.wild_records.specs.Abi.Relocation.{r_x86_64_gotoff64}
 use Rattle.wild_types.specs.declared.kind.Machine.TheVariants as machine
-use Rattle.wild_types.specs.declared.input.InputRelocation.{InputRelocation}
-use Rattle.wild_types.specs.declared.layout.Layout.{Layout}
-use Rattle.wild_types.specs.Flags.{interposable}
-use Rattle.wild_types.specs.Kinds.{is_position_independent}
-use Rattle.wild_types.specs.Rows.{row_of}
-use Rattle.wild_slot.specs.Treatment.{flags_at}
-use Rattle.wild_geometry.specs.MachineFacts.{RowsAreRead}
-use Rattle.wild_reloc.specs.Field.{allows, written, field_width}
-use Rattle.wild_reloc.specs.Formula.{Value, Formula, Reads, formula, StubDistance, StubFromTable, Distance, FromTable, Plain, Full, Signed}
-use Rattle.wild_reloc.specs.FormulaX86_64.{x86_64_formula}
-use Rattle.wild_reloc.specs.Table.{plain}
-use Rattle.wild_reloc.specs.TableX86_64.{x86_64_row}
+use Rattle.wild_reloc.specs.Formula.{Signed}
 use Rattle.wild_reloc.specs.declared.range.Sign.TheVariants as sign
 use Rattle.wild_reloc.specs.declared.info.RelocationKind.TheVariants as kinds
-use Rattle.wild_reloc.specs.declared.info.RelocationKindInfo.{RelocationKindInfo}
-use Rattle.wild_reloc.specs.declared.info.RelocationSize.{RelocationSize}
-use Rattle.wild_reloc.specs.declared.info.Width.TheVariants.{Four, Eight}
 use Rattle.wild_reloc.proofs.FormLemmas.{plt32_formula}
-use Rattle.wild_relax.specs.declared.row.Row.{Row}
 use Rattle.wild_relax.specs.declared.table.TheConstants.{PLT, PLT_OFF}
-use Rattle.wild_relax.specs.RewriteX86_64.{rewrite_of}
-use Rattle.wild_layout.specs.Choice.{question_of}
-use Rattle.wild_layout.specs.Geometry.{NamesSymbol}
-use Rattle.wild_layout.specs.Sites.{field_site}
-use Rattle.wild_types.specs.Lookups.{place_of}
-use Rattle.wild_layout.specs.SymbolValues.{displacement}
-use Rattle.wild_layout.specs.SlotValues.{symbol_is_ifunc, address_of}
-use Rattle.wild_layout.specs.Values.{term_of, value_by}
-use Rattle.wild_layout.proofs.ChoiceLemmas.{IsChosen}
-use Rattle.wild_layout.proofs.DecideLemmas.{HasField}
+use Rattle.wild_layout.specs.Values.{value_by}
 use Rattle.wild_slot.proofs.TreatmentLemmas.{HasValue}
-use Rattle.wild_loader.specs.declared.memory.Memory.{Memory}
-use Rattle.wild_loader.specs.declared.world.World.{World}
-use Rattle.wild_loader.specs.Memory.{Holds}
-use Rattle.wild_meaning.specs.Field.{formula_of, form_width}
-use Rattle.wild_meaning.specs.Formula.{IsSymbolAddress, Gives, IsPlaceRelative, TakesAddress, TakesOffset, table_at, IsReferent}
 use Rattle.wild_meaning.proofs.SymbolLemmas.{referent_is}
-use Rattle.wild_types.specs.Item.{Item}
-use Rattle.wild_meaning.specs.Item.{place_at}
-use Rattle.wild_meaning.specs.Reference.{MustHold}
-use Rattle.wild_meaning.specs.Value.{with_base}
-use Rattle.wild_references.specs.Laws.{FieldHolds}
 use Rattle.wild_references.proofs.Fields.{IsItemLoaded, ReadsForm, old_field, old_long, place_is, place_ends, below_all, row_reads, formula_known, unique_table}
 use Rattle.wild_references.proofs.KnownRows.{row_fits}
 use Rattle.wild_references.proofs.Moves.{distance_is, table_is}
 use Rattle.wild_references.proofs.OwnSymbols.{IsOwnValue, own_value}
-use Rattle.wild_relax.proofs.RoomLemmas.{IsApplied}
 use Rattle.wild_references.proofs.Rows.{chosen_row}
 use Rattle.wild_references.proofs.ValueKinds.{more}
 use Rattle.wild_layout.proofs.DecisionLemmas.{IsKept}

@@ -1,29 +1,7 @@
 -- Which row of rewrites stands at a relocation, and that none does.
-use Rattle.std.proofs.Common.{◌≡◌, ℕ, zero, suc, ◌≤◌, inl, inr, Bool, true, false, List, [], ◌∷◌, length, refl, arith, subst}
-use Rattle.std.specs.Prelude.{Option, Some, None, Ok, slice_get, ◌&&◌, ◌||◌, ◌==◌, not, if◌then◌else◌, Result, Err}
-use Rattle.std.proofs.lemmas.Bool.{cases_Bool}
-use Rattle.std.proofs.lemmas.Bool.Decides.{nat_tests}
-use Rattle.wild_records.specs.Abi.Relocation.{r_x86_64_pc32}
-use Rattle.wild_types.specs.declared.input.InputRelocation.{InputRelocation}
-use Rattle.wild_types.specs.Item.{Item}
-use Rattle.wild_types.specs.declared.layout.Layout.{Layout}
-use Rattle.wild_types.specs.Kinds.{is_executable}
-use Rattle.wild_types.specs.Lookups.{executable}
+use Rattle.wild_references.proofs.Common.{◌≡◌, ℕ, zero, suc, ◌≤◌, inl, inr, Bool, true, false, List, [], ◌∷◌, length, refl, arith, subst, Option, Some, None, Ok, slice_get, ◌&&◌, ◌||◌, ◌==◌, not, if◌then◌else◌, Result, Err, cases_Bool, nat_tests, r_x86_64_pc32, InputRelocation, Item, Layout, is_executable, executable, UnknownSequence, Row, first_standing, row_or_fault, pattern_matches_before, cells_match_at, Question, relocation_of, minus_four, takes_symbol, takes_value, has_its_sequence, rows_x86_64, applies, unknown_sequence, first_row_x86_64, chosen_row_x86_64, is_mandatory, IsApplied, applied, question_of, choice_by, choice_of, is_thread_type, IsChosen, names_merged, info_by}
 use Rattle.wild_relax.specs.declared.pattern.Pattern.TheVariants as pattern
-use Rattle.wild_relax.specs.declared.reference.UnknownSequence.{UnknownSequence}
-use Rattle.wild_relax.specs.declared.row.Row.{Row}
-use Rattle.wild_relax.specs.FirstRow.{first_standing, row_or_fault}
-use Rattle.wild_relax.specs.Pattern.{pattern_matches_before, cells_match_at}
-use Rattle.wild_relax.specs.Question.{Question, relocation_of, minus_four}
-use Rattle.wild_relax.specs.RowSymbols.{takes_symbol, takes_value}
-use Rattle.wild_relax.specs.RowSequences.{has_its_sequence}
-use Rattle.wild_relax.specs.Rows.{rows_x86_64, applies, unknown_sequence, first_row_x86_64, chosen_row_x86_64}
-use Rattle.wild_relax.specs.RowSymbols.{is_mandatory}
-use Rattle.wild_relax.proofs.RoomLemmas.{IsApplied, applied, chosen_is}
-use Rattle.wild_layout.specs.Choice.{question_of, choice_by, choice_of, is_thread_type}
-use Rattle.wild_layout.proofs.ChoiceLemmas.{IsChosen}
-use Rattle.wild_layout.specs.Merged.{names_merged}
-use Rattle.wild_relax.specs.RewriteX86_64.{info_by}
+use Rattle.wild_relax.proofs.RoomLemmas.{chosen_is}
 use Rattle.wild_relax.specs.declared.row.Written.TheVariants as written
 
 -- ---- the first row that stands

@@ -1,29 +1,12 @@
 -- The words of a run that its references keep: each has the bits of its formula's value.
-use Rattle.std.proofs.Common.{◌≡◌, ℕ, ◌+◌, ◌<◌, ◌⊎◌, inl, inr, true, false, List, [], ◌∷◌, length, refl, sym, ◌∙◌, subst}
-use Rattle.std.specs.Prelude.{Bool, slice_range, Some, Contains, ◌||◌, ◌==◌}
-use Rattle.wild_words.specs.Words.{number}
-use Rattle.wild_records.specs.Abi.Relocation.{r_aarch64_tstbr14, r_aarch64_condbr19, r_aarch64_jump26, r_aarch64_call26}
-use Rattle.wild_types.specs.declared.kind.Machine.{Machine}
+use Rattle.wild_references.proofs.Common.{◌≡◌, ℕ, ◌+◌, ◌<◌, ◌⊎◌, inl, inr, true, false, List, [], ◌∷◌, length, refl, sym, ◌∙◌, subst, Bool, slice_range, Some, Contains, ◌||◌, ◌==◌, number, r_aarch64_tstbr14, r_aarch64_condbr19, r_aarch64_jump26, r_aarch64_call26, Machine, InputRelocation, Layout, Item, SymbolAddress, Formula, Reads, Keeps, aarch64_formula, Memory, World, Holds, Instruction, FieldBits, Target, IsOwnByte, descriptor_call_words, offset_pair_words, address_pair_words, instructions_of, place_at, formula_of, form_width, FieldReads, IsInputByte, IsPlaceRelative, Gives, TakesAddress, TakesOffset, IsSequence, IsTemplate, HasPlace, MustHold, UsesOwnDefinition, UsesOwnSymbolOnly, are_several, only_one, FieldHolds}
 use Rattle.wild_types.specs.declared.kind.Machine.TheVariants as machine
-use Rattle.wild_types.specs.declared.input.InputRelocation.{InputRelocation}
-use Rattle.wild_types.specs.declared.layout.Layout.{Layout}
-use Rattle.wild_types.specs.Item.{Item}
-use Rattle.wild_reloc.specs.Formula.{SymbolAddress, Formula, Reads, Keeps}
-use Rattle.wild_reloc.specs.FormulaAArch64.{aarch64_formula}
-use Rattle.wild_loader.specs.declared.memory.Memory.{Memory}
-use Rattle.wild_loader.specs.declared.world.World.{World}
-use Rattle.wild_loader.specs.Memory.{Holds}
-use Rattle.wild_meaning.specs.Sequence.{Instruction, FieldBits, Target, of_word, IsOwnByte, descriptor_call_words, offset_pair_words, address_pair_words, instructions_of}
-use Rattle.wild_meaning.specs.Item.{place_at}
-use Rattle.wild_meaning.specs.Field.{formula_of, form_width, FieldReads, IsInputByte}
-use Rattle.wild_meaning.specs.Formula.{IsPlaceRelative, Gives, TakesAddress, TakesOffset}
-use Rattle.wild_meaning.specs.Template.{IsSequence, IsTemplate}
-use Rattle.wild_meaning.specs.Reference.{HasPlace, CountsFromPlace, HasRelativeInstruction, MustHold, UsesOwnDefinition, UsesOwnSymbolOnly}
+use Rattle.wild_meaning.specs.Sequence.{of_word}
+use Rattle.wild_meaning.specs.Reference.{CountsFromPlace, HasRelativeInstruction}
 use Rattle.wild_meaning.proofs.AmongLemmas.{pick}
 use Rattle.wild_meaning.proofs.OneReference.{has}
-use Rattle.wild_meaning.proofs.PairLemmas.{are_several, some, only_one}
+use Rattle.wild_meaning.proofs.PairLemmas.{some}
 use Rattle.wild_meaning.proofs.InstructionsAArch64.{numbers_in, numbered}
-use Rattle.wild_references.specs.Laws.{FieldHolds}
 use Rattle.wild_references.proofs.SinglesAArch64.{IsWord, is_word}
 
 -- ---- the runs

@@ -1,31 +1,19 @@
 -- Runs of words of AArch64 code with their fields filled.
-use Rattle.std.proofs.Common.{◌≡◌, ℕ, zero, suc, ◌*◌, ◌%◌, ◌^◌, Bool, true, false, List, [], ◌∷◌, refl, sym, ap, ◌∙◌, subst, arith, eqb-true, eq-eqb}
-use Rattle.std.specs.Prelude.{◌==◌, ◌&&◌, ◌||◌, map, Option, Some, None, option_and_then}
-use Rattle.std.proofs.lemmas.Bool.{and_parts, ne_eqb}
-use Rattle.wild_records.specs.Abi.Relocation.{r_aarch64_adr_prel_pg_hi21, r_aarch64_add_abs_lo12_nc, r_aarch64_tlsie_adr_gottprel_page21, r_aarch64_tlsie_ld64_gottprel_lo12_nc, r_aarch64_tlsdesc_adr_page21, r_aarch64_tlsdesc_ld64_lo12, r_aarch64_tlsdesc_add_lo12, r_aarch64_tlsdesc_call}
-use Rattle.wild_reloc.specs.Formula.{AdrField, Imm12Field, immediate, others, sign_extended}
-use Rattle.wild_aarch64.specs.declared.code.Code.{Code}
-use Rattle.wild_aarch64.specs.declared.code.Code.TheVariants.{Adrp, Add, Ldr, Blr}
+use Rattle.wild_references.proofs.Common.{◌≡◌, ℕ, zero, suc, ◌*◌, ◌%◌, ◌^◌, Bool, true, false, List, [], ◌∷◌, refl, sym, ap, ◌∙◌, subst, arith, ◌==◌, ◌&&◌, ◌||◌, map, Option, Some, None, option_and_then, and_parts, ne_eqb, r_aarch64_adr_prel_pg_hi21, r_aarch64_add_abs_lo12_nc, r_aarch64_tlsie_adr_gottprel_page21, r_aarch64_tlsie_ld64_gottprel_lo12_nc, r_aarch64_tlsdesc_adr_page21, r_aarch64_tlsdesc_ld64_lo12, r_aarch64_tlsdesc_add_lo12, r_aarch64_tlsdesc_call, AdrField, Imm12Field, immediate, others, sign_extended, Code, Adrp, Add, Ldr, Blr, has_fixed_bits, read, does, page, run, meaning, shapes, Set, Action, Operand, Number, Word, Reader, Effect, effect, as_value, action_of, has_known_meaning, is_run}
+use Rattle.std.proofs.Common.{eqb-true, eq-eqb}
 use Rattle.wild_aarch64.specs.declared.operand.Operand as run-operand
 use Rattle.wild_aarch64.specs.declared.operand.Operand.TheVariants as has
 use Rattle.wild_aarch64.specs.declared.operand.Deed.TheVariants as runs
 use Rattle.wild_aarch64.specs.declared.template.Template.{Template}
 use Rattle.wild_aarch64.specs.declared.template.Template.TheVariants as kinds
 use Rattle.wild_aarch64.specs.Immediate.{word_with_immediate, bits_of_field, Imm12, Imm21}
-use Rattle.wild_aarch64.specs.Slice.{signed, has_fixed_bits}
+use Rattle.wild_aarch64.specs.Slice.{signed}
 use Rattle.wild_aarch64.specs.Forms.{d, n, adrp, add, ldr}
-use Rattle.wild_aarch64.specs.Code.{read}
-use Rattle.wild_aarch64.specs.Machine.{does, page, sum_64, run, meaning}
-use Rattle.wild_aarch64.specs.Effect.{shapes}
+use Rattle.wild_aarch64.specs.Machine.{sum_64}
 use Rattle.wild_aarch64.specs.Template.{codes_of, fits, begins, register_in}
 use Rattle.wild_aarch64.proofs.FieldLemmas.{adrp_field, add_field, ldr_field}
-use Rattle.wild_loader.specs.declared.instruction.Deed.TheVariants.{Set}
-use Rattle.wild_loader.specs.declared.instruction.Action.{Action}
-use Rattle.wild_loader.specs.declared.instruction.Operand.{Operand}
-use Rattle.wild_loader.specs.declared.instruction.Operand.TheVariants.{Number, Word, Offset}
-use Rattle.wild_loader.specs.Instruction.{Reader, Effect, effect, as_value}
-use Rattle.wild_loader.specs.InstructionAArch64.{action_of}
-use Rattle.wild_meaning.specs.WordsAArch64.{has_known_meaning, are_filled, is_run}
+use Rattle.wild_loader.specs.declared.instruction.Operand.TheVariants.{Offset}
+use Rattle.wild_meaning.specs.WordsAArch64.{are_filled}
 use Rattle.wild_references.proofs.FilledAArch64.{put_back}
 
 -- ---- words whose field is filled

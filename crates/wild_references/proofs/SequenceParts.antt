@@ -1,18 +1,8 @@
 -- The relocations of a sequence are those of the item, and each refers to something.
-use Rattle.std.proofs.Common.{◌≡◌, ℕ, zero, suc, ◌+◌, ◌<◌, Bool, true, List, [], ◌∷◌, length, refl, subst, arith, eq-eqb}
-use Rattle.std.specs.Prelude.{◌==◌, ◌&&◌, ◌≢◌, not, Some, Contains, slice_get, slice_index_or}
-use Rattle.std.specs.List.{list_all}
-use Rattle.std.proofs.lemmas.Bool.{and_parts}
-use Rattle.wild_records.specs.Abi.Relocation.{r_x86_64_none}
-use Rattle.wild_types.specs.declared.kind.Machine.{Machine}
+use Rattle.wild_references.proofs.Common.{◌≡◌, ℕ, zero, suc, ◌+◌, ◌<◌, Bool, true, List, [], ◌∷◌, length, refl, subst, arith, ◌==◌, ◌&&◌, ◌≢◌, not, Some, Contains, slice_get, slice_index_or, list_all, and_parts, r_x86_64_none, Machine, InputRelocation, Layout, Item, listed_passes, Instruction, instructions_of, HasPartners, IsSequence}
+use Rattle.std.proofs.Common.{eq-eqb}
 use Rattle.wild_types.specs.declared.kind.Machine.TheVariants as machine
-use Rattle.wild_types.specs.declared.input.InputRelocation.{InputRelocation}
-use Rattle.wild_types.specs.declared.layout.Layout.{Layout}
-use Rattle.wild_types.specs.Item.{Item}
-use Rattle.wild_words.proofs.Basics.{listed_passes}
-use Rattle.wild_meaning.specs.Sequence.{Instruction, Partner, instructions_of}
-use Rattle.wild_meaning.specs.Partners.{HasPartners}
-use Rattle.wild_meaning.specs.Template.{IsSequence}
+use Rattle.wild_meaning.specs.Sequence.{Partner}
 
 -- ---- no instruction is filled by a relocation that is for nothing
 

@@ -1,38 +1,18 @@
 -- A run of words of AArch64 that its references keep does what it demands.
-use Rattle.std.proofs.Common.{◌≡◌, ℕ, ℤ, ◌+◌, ◌-◌, ◌*◌, ◌/◌, ◌%◌, ◌^◌, ◌<◌, ◌≤◌, ◌⊎◌, inl, inr, true, List, [], ◌∷◌, length, refl, sym, ap, ◌∙◌, subst, arith}
-use Rattle.std.specs.Prelude.{slice_range, slice_index, Option, Some, Contains}
-use Rattle.std.specs.Int.{w64, cast_unsigned}
-use Rattle.wild_words.specs.Words.{number}
-use Rattle.wild_words.proofs.Basics.{length-range, range_byte}
-use Rattle.wild_records.specs.Abi.Relocation.{r_aarch64_adr_prel_pg_hi21, r_aarch64_add_abs_lo12_nc, r_aarch64_tlsie_adr_gottprel_page21, r_aarch64_tlsie_ld64_gottprel_lo12_nc, r_aarch64_tlsdesc_adr_page21, r_aarch64_tlsdesc_ld64_lo12, r_aarch64_tlsdesc_add_lo12, r_aarch64_tlsdesc_call}
-use Rattle.wild_types.specs.declared.kind.Machine.{Machine}
+use Rattle.wild_references.proofs.Common.{◌≡◌, ℕ, ℤ, ◌+◌, ◌-◌, ◌*◌, ◌/◌, ◌%◌, ◌^◌, ◌<◌, ◌≤◌, ◌⊎◌, inl, inr, true, List, [], ◌∷◌, length, refl, sym, ap, ◌∙◌, subst, arith, slice_range, slice_index, Option, Some, Contains, w64, cast_unsigned, number, length-range, range_byte, r_aarch64_adr_prel_pg_hi21, r_aarch64_add_abs_lo12_nc, r_aarch64_tlsie_adr_gottprel_page21, r_aarch64_tlsie_ld64_gottprel_lo12_nc, r_aarch64_tlsdesc_adr_page21, r_aarch64_tlsdesc_ld64_lo12, r_aarch64_tlsdesc_add_lo12, r_aarch64_tlsdesc_call, Machine, InputRelocation, Layout, Item, Value, SymbolPart, PageDistance, SlotAddress, SlotPageDistance, ThreadOffset, Descriptor, AdrField, Imm12Field, WithinPower, Bits, Formula, formula, immediate, aarch64_formula, page, Memory, World, byte_in, Holds, is_run, Instruction, by_word, IsOwnByte, descriptor_call_words, offset_pair_words, address_pair_words, instructions_of, place_at, IsInputByte, IsReferent, IsReferentOnAArch64, IsOffset, page_of, IsUndefinedWeak, IsOneAddress, IsSlot, HasPartners, IsOfSequence, reads, DoesDemanded, only_one, NamesStrings}
 use Rattle.wild_types.specs.declared.kind.Machine.TheVariants as machine
-use Rattle.wild_types.specs.declared.input.InputRelocation.{InputRelocation}
-use Rattle.wild_types.specs.declared.layout.Layout.{Layout}
-use Rattle.wild_types.specs.Item.{Item}
-use Rattle.wild_reloc.specs.Formula.{Value, SymbolPart, PageDistance, SlotAddress, SlotPageDistance, ThreadOffset, Descriptor, AdrField, Imm12Field, NoCheck, WithinPower, Bits, Formula, formula, immediate}
-use Rattle.wild_reloc.specs.FormulaAArch64.{aarch64_formula}
+use Rattle.wild_reloc.specs.Formula.{NoCheck}
 use Rattle.wild_aarch64.specs.declared.template.Template.TheVariants as kinds
-use Rattle.wild_aarch64.specs.Machine.{page, sum_64}
-use Rattle.wild_loader.specs.declared.memory.Memory.{Memory}
-use Rattle.wild_loader.specs.declared.world.World.{World}
-use Rattle.wild_loader.specs.Memory.{byte_in, Holds}
-use Rattle.wild_meaning.specs.WordsAArch64.{is_run}
-use Rattle.wild_meaning.specs.Sequence.{Instruction, Partner, by_word, IsOwnByte, descriptor_call_words, offset_pair_words, address_pair_words, instructions_of}
-use Rattle.wild_meaning.specs.Item.{place_at}
-use Rattle.wild_meaning.specs.Field.{IsInputByte}
-use Rattle.wild_meaning.specs.Formula.{IsReferent, IsReferentOnAArch64, IsOffset, page_of, IsReferentOnMachine}
-use Rattle.wild_meaning.specs.ReferentAArch64.{IsUndefinedWeak, IsOneAddress}
-use Rattle.wild_meaning.specs.Slot.{IsSlot}
-use Rattle.wild_meaning.specs.Partners.{HasPartner, HasPartners}
-use Rattle.wild_meaning.specs.Template.{IsOfSequence, reads, DoesDemanded}
-use Rattle.wild_meaning.proofs.PairLemmas.{only, only_one, one_of_two}
+use Rattle.wild_aarch64.specs.Machine.{sum_64}
+use Rattle.wild_meaning.specs.Sequence.{Partner}
+use Rattle.wild_meaning.specs.Formula.{IsReferentOnMachine}
+use Rattle.wild_meaning.specs.Partners.{HasPartner}
+use Rattle.wild_meaning.proofs.PairLemmas.{only, one_of_two}
 use Rattle.wild_references.proofs.RightOperands.{low_place}
 use Rattle.wild_references.proofs.OneAddress.{one_address, one_slot}
 use Rattle.wild_references.proofs.RunsAArch64.{address_pair_does, slot_pair_does, call_does}
 use Rattle.wild_references.proofs.WordsAArch64.{words_from, words_read, IsWordThere, by_words}
 use Rattle.wild_references.proofs.RunWords.{IsRun, is_run_of, IsKeptRun, IsOfSlot, slot_word, IsOfAddress, HasPart, part_word}
-use Rattle.wild_meaning.specs.Strings.{NamesStrings}
 use Rattle.wild_references.proofs.MergedStrings.{one_string}
 
 -- ---- formulas

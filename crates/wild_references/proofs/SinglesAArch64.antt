@@ -1,28 +1,9 @@
 -- An instruction of one word of AArch64 whose reference keeps it does what it demands.
-use Rattle.std.proofs.Common.{◌≡◌, ℕ, zero, suc, ◌+◌, ◌-◌, ◌%◌, ◌^◌, ◌<◌, ◌≤◌, ◌⊎◌, inl, inr, true, List, [], ◌∷◌, length, refl, sym, ap, ◌∙◌, subst, arith}
-use Rattle.std.specs.Prelude.{◌++◌, map, slice_range, slice_index_or, Some, Contains}
-use Rattle.std.specs.Int.{w64, cast_unsigned}
-use Rattle.wild_words.specs.Words.{number}
-use Rattle.wild_words.proofs.Basics.{length-range}
-use Rattle.wild_records.specs.Abi.Relocation.{r_aarch64_jump26, r_aarch64_call26}
-use Rattle.wild_types.specs.declared.kind.Machine.{Machine}
+use Rattle.wild_references.proofs.Common.{◌≡◌, ℕ, zero, suc, ◌+◌, ◌-◌, ◌%◌, ◌^◌, ◌<◌, ◌≤◌, ◌⊎◌, inl, inr, true, List, [], ◌∷◌, length, refl, sym, ap, ◌∙◌, subst, arith, ◌++◌, map, slice_range, slice_index_or, Some, Contains, w64, cast_unsigned, number, length-range, r_aarch64_jump26, r_aarch64_call26, Machine, InputRelocation, Layout, Item, Formula, formula, Bits, Imm26Field, WithinPower, StubDistance, others, Keeps, aarch64_formula, words_of, World, Memory, Holds, place_at, formula_of, FieldReads, Gives, Sort, Target, FieldBits, Instruction, IsOwnByte, instructions_of, IsInstruction, field_origin, reads, effect_of, demand_of, DoesDemanded, FieldHolds}
 use Rattle.wild_types.specs.declared.kind.Machine.TheVariants as machine
-use Rattle.wild_types.specs.declared.input.InputRelocation.{InputRelocation}
-use Rattle.wild_types.specs.declared.layout.Layout.{Layout}
-use Rattle.wild_types.specs.Item.{Item}
-use Rattle.wild_reloc.specs.Formula.{Formula, formula, Bits, Imm26Field, WithinPower, StubDistance, others, Keeps}
-use Rattle.wild_reloc.specs.FormulaAArch64.{aarch64_formula}
-use Rattle.wild_aarch64.specs.Effect.{words_of}
-use Rattle.wild_loader.specs.declared.world.World.{World}
-use Rattle.wild_loader.specs.declared.memory.Memory.{Memory}
-use Rattle.wild_loader.specs.Memory.{Holds}
 use Rattle.wild_meaning.specs.WordsAArch64.{is_filled, filled_numbers}
-use Rattle.wild_meaning.specs.Item.{place_at}
-use Rattle.wild_meaning.specs.Field.{formula_of, FieldReads}
-use Rattle.wild_meaning.specs.Formula.{Gives}
-use Rattle.wild_meaning.specs.Sequence.{Sort, Target, FieldBits, Instruction, of_word, runs_of_words, IsOwnByte, instructions_of}
-use Rattle.wild_meaning.specs.Template.{IsInstruction, field_origin, reads, effect_of, demand_of, bits_of, DoesDemanded}
-use Rattle.wild_references.specs.Laws.{FieldHolds}
+use Rattle.wild_meaning.specs.Sequence.{of_word, runs_of_words}
+use Rattle.wild_meaning.specs.Template.{bits_of}
 use Rattle.wild_references.proofs.RightOperands.{low_place}
 use Rattle.wild_references.proofs.FilledAArch64.{word_does, width_four, branch_does}
 use Rattle.wild_meaning.proofs.StringLemmas.{branch_referent, goes_to_none}

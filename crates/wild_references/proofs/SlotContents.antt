@@ -1,18 +1,11 @@
 -- What slots without a fault have in memory, item by item.
-use Rattle.std.proofs.Common.{◌≡◌, ℕ, suc, ◌+◌, ◌*◌, List, [], ◌∷◌, ◌++◌, Option, Some, None, refl, sym, ap, ◌∙◌, arith, append_assoc, subst}
-use Rattle.std.specs.Prelude.{⊤, slice_index_or}
+use Rattle.wild_references.proofs.Common.{◌≡◌, ℕ, suc, ◌+◌, ◌*◌, List, [], ◌∷◌, ◌++◌, Option, Some, None, refl, sym, ap, ◌∙◌, arith, append_assoc, subst, ⊤, slice_index_or, SlotItem, SlotWord, IsLoadedWord, HasWords, Memory, World, HasWord}
 use Rattle.std.proofs.lemmas.List.{append-nil}
 use Rattle.wild_slot.specs.declared.slot.SlotFault.{SlotFault}
-use Rattle.wild_slot.specs.declared.slot.SlotItem.{SlotItem}
 use Rattle.wild_slot.specs.declared.slot.SlotItem.TheVariants.{Word, Stub, Fault}
-use Rattle.wild_slot.specs.declared.slot.SlotWord.{SlotWord}
 use Rattle.wild_slot.specs.Slots.{SlotContent, no_slot, add_item, with_item_by, with_item, with_items}
 use Rattle.wild_slot.proofs.SlotLemmas.{fault_stays}
-use Rattle.wild_geometry.specs.Slots.{IsLoadedWord, HasWords}
-use Rattle.wild_loader.specs.declared.memory.Memory.{Memory}
-use Rattle.wild_loader.specs.declared.world.World.{World}
 use Rattle.wild_loader.specs.Memory.{number_in}
-use Rattle.wild_meaning.specs.Slot.{HasWord}
 
 -- the words among items
 abbrev words_of : List SlotItem → List SlotWord

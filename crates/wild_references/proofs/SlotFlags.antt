@@ -1,19 +1,7 @@
 -- What is known of a symbol's flags, its slots and its stub.
-use Rattle.std.proofs.Common.{◌≡◌, ◌≢◌, ℕ, ◌^◌, ◌<◌, Bool, true, false, Option, Some, None, refl, arith, subst, sym}
-use Rattle.std.specs.Prelude.{◌&&◌, ◌||◌, not, is_some, slice_get}
-use Rattle.wild_meaning.proofs.SymbolLemmas.{canonical_is}
-use Rattle.wild_meaning.specs.Value.{IsDefinedBy}
-use Rattle.wild_types.specs.Lookups.{canonical}
-use Rattle.wild_words.proofs.ListLemmas.{holds_at}
-use Rattle.wild_types.specs.declared.symbol.Resolution.{Resolution}
-use Rattle.wild_types.specs.declared.symbol.Symbol.{Symbol}
-use Rattle.wild_types.specs.declared.layout.Layout.{Layout}
-use Rattle.wild_types.specs.Flags.{has_flag, interposable, absolute, dynamic, ifunc}
-use Rattle.wild_types.specs.ResolvedFlags.{HasItsFlags}
+use Rattle.wild_references.proofs.Common.{◌≡◌, ◌≢◌, ℕ, ◌^◌, ◌<◌, Bool, true, false, Option, Some, None, refl, arith, subst, sym, ◌&&◌, ◌||◌, not, is_some, slice_get, canonical_is, IsDefinedBy, canonical, holds_at, Resolution, Symbol, Layout, has_flag, interposable, absolute, dynamic, ifunc, HasItsFlags, got_of, plt_of, has_thread_slot, SymbolsFit}
 use Rattle.wild_plan_rules.specs.SlotFlags.{dynamic_is_interposable, stub_has_slot, thread_slot_alone, resolver_is_own, resolver_moves}
-use Rattle.wild_types.specs.SymbolSlots.{got_of, plt_of, has_thread_slot}
 use Rattle.wild_layout.specs.Numbers.{SymbolNumbers}
-use Rattle.wild_references.specs.Terms.{SymbolsFit}
 
 -- a definition of the layout
 pub record SymbolFits (s : Symbol) : Type 0 where

@@ -1,27 +1,15 @@
 -- A slot that the writer knows of, in memory, is the slot that an expression names.
-use Rattle.std.proofs.Common.{◌≡◌, ℕ, ◌+◌, ◌%◌, ◌^◌, ◌<◌, Bool, true, false, refl, sym, ap, ◌∙◌, arith, subst}
-use Rattle.std.specs.Prelude.{◌&&◌, ◌||◌, not, if◌then◌else◌, Option, Some, None, Ok, option_and_then}
+use Rattle.wild_references.proofs.Common.{◌≡◌, ℕ, ◌+◌, ◌%◌, ◌^◌, ◌<◌, Bool, true, false, refl, sym, ap, ◌∙◌, arith, subst, ◌&&◌, ◌||◌, not, if◌then◌else◌, Option, Some, None, Ok, option_and_then, Resolution, Symbol, ValueFlags, Layout, has_flag, got_tls_offset, got_tls_module, got_tls_descriptor, canonical, HasItsFlags, resolved_got, got_of, has_thread_slot, AddressSlot, ModulePair, ThreadOffset, Descriptor, slot_sort, SlotSort, resolution_of, after_word, after_pair, holds_at, Memory, World, IsSlot}
 use Rattle.wild_types.specs.declared.fault.Missing.TheVariants as missing
-use Rattle.wild_types.specs.declared.symbol.Resolution.{Resolution}
-use Rattle.wild_types.specs.declared.symbol.Symbol.{Symbol}
-use Rattle.wild_types.specs.declared.symbol.ValueFlags.{ValueFlags}
-use Rattle.wild_types.specs.declared.layout.Layout.{Layout}
 use Rattle.wild_types.specs.FilePlaces.{bool_eq}
-use Rattle.wild_types.specs.Flags.{has_flag, got_slot, got_tls_offset, got_tls_module, got_tls_descriptor}
-use Rattle.wild_types.specs.Lookups.{canonical}
-use Rattle.wild_types.specs.ResolvedFlags.{HaveTheirFlags, HasItsFlags}
-use Rattle.wild_types.specs.SymbolSlots.{resolved_got, got_of, has_thread_slot}
+use Rattle.wild_types.specs.Flags.{got_slot}
+use Rattle.wild_types.specs.ResolvedFlags.{HaveTheirFlags}
 use Rattle.wild_plan_rules.specs.SlotFlags.{slot_agrees}
 use Rattle.wild_layout.specs.SlotOrder.{EachAgrees}
-use Rattle.wild_reloc.specs.Formula.{Slot, AddressSlot, ModulePair, ThreadOffset, Descriptor}
-use Rattle.wild_reloc.specs.Expression.{slot_sort}
-use Rattle.wild_reloc.specs.declared.expression.SlotSort.{SlotSort}
+use Rattle.wild_reloc.specs.Formula.{Slot}
 use Rattle.wild_reloc.specs.declared.expression.SlotSort.TheVariants as sorts
-use Rattle.wild_layout.specs.SlotValues.{resolution_of, has_second_slot, after_word, after_pair, slot_from_first, slot_in_resolution, slot_address, slot_of}
-use Rattle.wild_words.proofs.ListLemmas.{holds_at}
-use Rattle.wild_loader.specs.declared.memory.Memory.{Memory}
-use Rattle.wild_loader.specs.declared.world.World.{World}
-use Rattle.wild_meaning.specs.Slot.{HoldsSlot, has_slot_of, offset_from_first, HasSlotAddress, HasSlot, IsSlotOf, IsSlot}
+use Rattle.wild_layout.specs.SlotValues.{has_second_slot, slot_from_first, slot_in_resolution, slot_address, slot_of}
+use Rattle.wild_meaning.specs.Slot.{HoldsSlot, has_slot_of, offset_from_first, HasSlotAddress, HasSlot, IsSlotOf}
 use Rattle.wild_references.proofs.Symbols.{IsResolvedBy, resolved}
 use Rattle.wild_references.proofs.WrittenFields.{given_some}
 

@@ -1,20 +1,5 @@
 -- Whether the output's address for a symbol is its stub's.
-use Rattle.std.proofs.Common.{◌≡◌, ℕ, ◌⊎◌, inl, inr, Bool, true, false, Option, Some, None, refl, sym, ap, ◌∙◌, subst}
-use Rattle.std.specs.Prelude.{◌==◌, option_and_then}
-use Rattle.std.proofs.lemmas.Bool.{cases_Bool, eqb-true, eq-eqb}
-use Rattle.wild_types.specs.declared.symbol.Resolution.{Resolution}
-use Rattle.wild_types.specs.declared.symbol.Symbol.{Symbol}
-use Rattle.wild_types.specs.declared.symbol.ValueFlags.{ValueFlags}
-use Rattle.wild_types.specs.declared.layout.Layout.{Layout}
-use Rattle.wild_types.specs.Flags.{has_flag, absolute, ifunc}
-use Rattle.wild_types.specs.Lookups.{canonical}
-use Rattle.wild_slot.specs.Treatment.{flags_at}
-use Rattle.wild_layout.specs.SlotValues.{resolution_of, stub_of}
-use Rattle.wild_meaning.specs.Reference.{HasStubAddress}
-use Rattle.wild_meaning.specs.Value.{IsSymbol, IsDefinedBy, IsResolved, IsUnresolved, IsLocatedAt, HasRaw, HasFlag}
-use Rattle.wild_meaning.specs.Denotes.{HasStub}
-use Rattle.wild_meaning.proofs.SymbolLemmas.{canonical_is}
-use Rattle.wild_geometry.proofs.JudgedLemmas.{flag_is}
+use Rattle.wild_references.proofs.Common.{◌≡◌, ℕ, ◌⊎◌, inl, inr, Bool, true, false, Option, Some, None, refl, sym, ap, ◌∙◌, subst, ◌==◌, option_and_then, cases_Bool, eqb-true, eq-eqb, Resolution, Symbol, ValueFlags, Layout, has_flag, absolute, ifunc, canonical, flags_at, resolution_of, stub_of, HasStubAddress, IsSymbol, IsDefinedBy, IsResolved, IsUnresolved, IsLocatedAt, HasRaw, HasFlag, HasStub, canonical_is, flag_is}
 use Rattle.wild_references.proofs.Symbols.{IsResolvedBy, resolved, resolved_raw, resolved_flag, flags_are}
 
 -- ---- what is one of its kind

@@ -1,46 +1,27 @@
 -- A stub in memory: its bytes jump to the word of its slot.
-use Rattle.std.proofs.Common.{◌≡◌, ℕ, ◌+◌, ◌-◌, ◌/◌, ◌%◌, ◌^◌, ◌<◌, ◌≤◌, inl, inr, Bool, true, false, List, [], ◌∷◌, ◌++◌, Option, Some, refl, sym, ap, ◌∙◌, arith, subst}
-use Rattle.std.specs.Prelude.{⊤, ◌&&◌, nat_le, nat_lt, option_and_then, slice_get}
-use Rattle.std.proofs.lemmas.Bool.{cases_Bool, and_parts, eqb-true, ltb-true, leb-true}
-use Rattle.wild_words.proofs.ListLemmas.{holds_at}
-use Rattle.wild_words.specs.Words.{word, place}
-use Rattle.wild_reloc.specs.Range.{of_bits, contains}
-use Rattle.wild_reloc.specs.declared.range.Sign.TheVariants.{Signed}
+use Rattle.wild_references.proofs.Common.{◌≡◌, ℕ, ◌+◌, ◌-◌, ◌/◌, ◌%◌, ◌^◌, ◌<◌, ◌≤◌, inl, inr, Bool, true, false, List, [], ◌∷◌, ◌++◌, Option, Some, refl, sym, ap, ◌∙◌, arith, subst, ⊤, ◌&&◌, nat_le, nat_lt, option_and_then, slice_get, cases_Bool, and_parts, eqb-true, ltb-true, leb-true, holds_at, word, place, contains, Signed, page, Memory, Holds, World, byte_below, HasWord, Word, action_of, JumpsBy, word_below, Machine, Symbol, Layout, got_of, processor_of, MovesByPages}
+use Rattle.wild_reloc.specs.Range.{of_bits}
 use Rattle.wild_reloc.specs.declared.instruction.AArch64Instruction.TheVariants.{Adr, Imm12}
 use Rattle.wild_relax.specs.Laws.{StubsJump}
 use Rattle.wild_relax.specs.LawsAArch64.{StubsOfAArch64Jump}
 use Rattle.wild_relax.proofs.FieldsAArch64Lemmas.{fields_agree}
-use Rattle.wild_aarch64.specs.Machine.{page}
 use Rattle.wild_aarch64.specs.Stub as reader
 use Rattle.wild_aarch64.specs.Stub.{HasSlot, IsLocatedAt}
 use Rattle.wild_slot.specs.Stub.{stub_x86_64, displacement_x86_64}
 use Rattle.wild_slot.specs.StubAArch64 as writer
 use Rattle.wild_slot.specs.StubAArch64.{stub_aarch64}
 use Rattle.wild_loader.specs.declared.memory.Machine.TheVariants as machines
-use Rattle.wild_loader.specs.declared.memory.Memory.{Memory}
-use Rattle.wild_loader.specs.Memory.{Holds}
 use Rattle.wild_loader.specs.StepLawsX86_64.{IsSigned32, StubsOfValuesAreRead, stub_bytes}
 use Rattle.wild_loader.specs.StepLawsAArch64 as code
-use Rattle.wild_loader.specs.declared.world.World.{World}
-use Rattle.wild_loader.proofs.MappedSegments.{byte_below}
-use Rattle.wild_meaning.specs.Slot.{HasWord}
-use Rattle.wild_loader.specs.declared.instruction.Operand.TheVariants.{Word}
 use Rattle.wild_loader.specs.Instruction.{jump_through}
-use Rattle.wild_loader.specs.InstructionAArch64.{action_of}
 use Rattle.wild_loader.specs.Reach.{JumpsTo}
-use Rattle.wild_meaning.specs.Jump.{meaning_of, JumpsBy}
+use Rattle.wild_meaning.specs.Jump.{meaning_of}
 use Rattle.wild_meaning.specs.Denotes.{stub_size}
-use Rattle.wild_meaning.proofs.WorldLemmas.{word_below}
-use Rattle.wild_types.specs.declared.kind.Machine.{Machine}
 use Rattle.wild_types.specs.declared.kind.Machine.TheVariants as machine
-use Rattle.wild_types.specs.declared.symbol.Symbol.{Symbol}
-use Rattle.wild_types.specs.declared.layout.Layout.{Layout}
-use Rattle.wild_types.specs.SymbolSlots.{got_of}
 use Rattle.wild_plan_rules.specs.SlotPlaces.{is_even_slot, slot_is_even}
 use Rattle.wild_slot.specs.MachineStub.{stub_of, stub_in}
 use Rattle.wild_slot.proofs.StubLemmas.{length-stub_of}
-use Rattle.wild_meaning.specs.LinkedImage.{processor_of}
-use Rattle.wild_references.specs.Terms.{HasPageBases, MovesByPages}
+use Rattle.wild_references.specs.Terms.{HasPageBases}
 
 -- what a stub does, of either machine
 pub record StubLaws : Type 0 where

@@ -1,31 +1,12 @@
 -- The stub of a symbol: code that goes there comes to the symbol's value.
-use Rattle.std.proofs.Common.{◌≡◌, ℕ, ◌+◌, ◌%◌, ◌^◌, ◌<◌, ◌⊎◌, inl, inr, Bool, true, false, List, ◌∷◌, ◌++◌, Option, Some, None, refl, sym, ap, ◌∙◌, arith, subst}
-use Rattle.std.specs.Prelude.{Ok, if◌then◌else◌, option_and_then}
+use Rattle.wild_references.proofs.Common.{◌≡◌, ℕ, ◌+◌, ◌%◌, ◌^◌, ◌<◌, ◌⊎◌, inl, inr, Bool, true, false, List, ◌∷◌, ◌++◌, Option, Some, None, refl, sym, ap, ◌∙◌, arith, subst, Ok, if◌then◌else◌, option_and_then, SlotItem, Resolution, ValueFlags, Layout, KeepsAll, canonical, setting_of, stub_items, ifunc_address_items, canonical_address_items, distance_if_too_far, resolved_got, plt_of, has_thread_slot, resolution_of, stub_of, stub_address, Memory, World, Value, StubDistance, Distance, InputRelocation, IsTarget, is_listed, branch_types, HasValue, Word, HasWord, JumpsBy, Denotes, HasStub, IsStub, IsPlaced}
 use Rattle.wild_types.specs.declared.fault.Missing.TheVariants as missing
-use Rattle.wild_slot.specs.declared.slot.SlotItem.{SlotItem}
-use Rattle.wild_types.specs.declared.symbol.Resolution.{Resolution}
-use Rattle.wild_types.specs.declared.symbol.ValueFlags.{ValueFlags}
-use Rattle.wild_types.specs.declared.layout.Layout.{Layout}
-use Rattle.wild_types.specs.HeaderOnly.{KeepsAll}
-use Rattle.wild_types.specs.Lookups.{canonical}
-use Rattle.wild_slot.specs.Slots.{setting_of, stub_item, stub_items, ifunc_address_items, canonical_address_items}
-use Rattle.wild_slot.specs.MachineStub.{far_between, distance_if_too_far, stub_in}
-use Rattle.wild_types.specs.SymbolSlots.{resolved_got, resolved_plt, plt_of, has_thread_slot}
+use Rattle.wild_slot.specs.Slots.{stub_item}
+use Rattle.wild_slot.specs.MachineStub.{far_between, stub_in}
+use Rattle.wild_types.specs.SymbolSlots.{resolved_plt}
 use Rattle.wild_plan_rules.proofs.ClauseLemmas.{not_thread}
-use Rattle.wild_layout.specs.SlotValues.{resolution_of, stub_of, stub_address}
-use Rattle.wild_loader.specs.declared.memory.Memory.{Memory}
-use Rattle.wild_loader.specs.declared.world.World.{World}
-use Rattle.wild_reloc.specs.Formula.{Value, StubDistance, Distance}
-use Rattle.wild_types.specs.declared.input.InputRelocation.{InputRelocation}
-use Rattle.wild_meaning.specs.Formula.{IsTarget}
-use Rattle.wild_reloc.specs.BarredTypes.{is_listed}
-use Rattle.wild_meaning.specs.ReferentAArch64.{branch_types, RepresentsOnAArch64}
-use Rattle.wild_meaning.specs.Value.{HasValue}
-use Rattle.wild_loader.specs.declared.instruction.Operand.TheVariants.{Word}
-use Rattle.wild_meaning.specs.Slot.{HasWord}
-use Rattle.wild_meaning.specs.Jump.{JumpsBy}
-use Rattle.wild_meaning.specs.Denotes.{stub_size, Denotes, HasStub, IsStub}
-use Rattle.wild_references.specs.Terms.{IsPlaced}
+use Rattle.wild_meaning.specs.ReferentAArch64.{RepresentsOnAArch64}
+use Rattle.wild_meaning.specs.Denotes.{stub_size}
 use Rattle.wild_references.proofs.FirstSlots.{first_held, items_behind}
 use Rattle.wild_references.proofs.SlotContents.{ItemsHold}
 use Rattle.wild_references.proofs.SlotFlags.{symbol_fits, slot_of_stub}

@@ -1,22 +1,9 @@
 -- What the writer knows of a symbol, and what the reader does.
-use Rattle.std.proofs.Common.{◌≡◌, ℕ, ◌<◌, ◌⊎◌, inl, inr, Bool, true, false, length, get_or, refl, sym, ap, ◌∙◌, subst}
-use Rattle.std.specs.Prelude.{Option, Some, None, All, option_and_then, option_map, unwrap_or, slice_get}
-use Rattle.std.proofs.lemmas.Option.{slice_get-get_or, slice_get_within, get_or_from_slice_get}
-use Rattle.wild_words.proofs.Basics.{slice_get_inside}
-use Rattle.wild_types.specs.declared.symbol.Place.{Place}
+use Rattle.wild_references.proofs.Common.{◌≡◌, ℕ, ◌<◌, ◌⊎◌, inl, inr, Bool, true, false, length, get_or, refl, sym, ap, ◌∙◌, subst, Option, Some, None, All, option_and_then, option_map, unwrap_or, slice_get, slice_get-get_or, slice_get_within, get_or_from_slice_get, slice_get_inside, Place, Resolution, Symbol, ValueFlags, Layout, has_flag, canonical, flags_at, symbol_size, resolution_of, DefinitionNames, IsSymbol, IsDefinedBy, HasRaw, HasFlag, IsReplaceable, may_be_replaced, canonical_is}
 use Rattle.wild_types.specs.declared.symbol.Place.TheVariants as at
-use Rattle.wild_types.specs.declared.symbol.Resolution.{Resolution}
-use Rattle.wild_types.specs.declared.symbol.Symbol.{Symbol}
-use Rattle.wild_types.specs.declared.symbol.ValueFlags.{ValueFlags}
-use Rattle.wild_types.specs.declared.layout.Layout.{Layout}
-use Rattle.wild_types.specs.Flags.{has_flag}
-use Rattle.wild_types.specs.Lookups.{canonical}
-use Rattle.wild_slot.specs.Treatment.{flags_at}
-use Rattle.wild_layout.specs.SymbolValues.{definition_of, is_nowhere, is_undefined, symbol_size}
-use Rattle.wild_layout.specs.SlotValues.{resolution_of}
-use Rattle.wild_layout.specs.Geometry.{DefinitionNames}
-use Rattle.wild_meaning.specs.Value.{IsSymbol, IsDefinedBy, IsUndefined, HasRaw, HasFlag, HasOwnSize, IsReplaceable, may_be_replaced}
-use Rattle.wild_meaning.proofs.SymbolLemmas.{canonical_is, own_definition}
+use Rattle.wild_layout.specs.SymbolValues.{definition_of, is_nowhere, is_undefined}
+use Rattle.wild_meaning.specs.Value.{IsUndefined, HasOwnSize}
+use Rattle.wild_meaning.proofs.SymbolLemmas.{own_definition}
 
 -- ---- definitions
 

@@ -1,12 +1,8 @@
 -- Rows of the table that the laws name, in their places.
-use Rattle.std.proofs.Common.{◌≡◌, Bool, true, [], ◌∷◌, List, refl, arith, subst}
-use Rattle.std.specs.Prelude.{◌==◌, Some, Contains, slice_get}
+use Rattle.wild_references.proofs.Common.{◌≡◌, Bool, true, [], ◌∷◌, List, refl, arith, subst, ◌==◌, Some, Contains, slice_get, r_x86_64_gotpcrel, Row, PLAIN_LEA, GENERAL_NO_PLT, GENERAL_NO_PLT_SLOT, LOCAL_NO_PLT, DESCRIPTOR_CALL, rows_x86_64}
 use Rattle.std.specs.List.{filter}
-use Rattle.wild_records.specs.Abi.Relocation.{r_x86_64_gotpcrel}
-use Rattle.wild_relax.specs.declared.row.Row.{Row}
 use Rattle.wild_layout.proofs.ChoiceLemmas.{kept_listed, of_one}
-use Rattle.wild_relax.specs.declared.table.TheConstants.{PLAIN_LEA, LEA_2, GENERAL_NO_PLT, GENERAL_NO_PLT_SLOT, LOCAL_NO_PLT, DESCRIPTOR, DESCRIPTOR_SLOT, DESCRIPTOR_2, DESCRIPTOR_SLOT_2, DESCRIPTOR_CALL}
-use Rattle.wild_relax.specs.Rows.{rows_x86_64}
+use Rattle.wild_relax.specs.declared.table.TheConstants.{LEA_2, DESCRIPTOR, DESCRIPTOR_SLOT, DESCRIPTOR_2, DESCRIPTOR_SLOT_2}
 
 pub general_there : Contains rows_x86_64 GENERAL_NO_PLT
 unfolding rows_x86_64

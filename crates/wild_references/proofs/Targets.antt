@@ -1,25 +1,7 @@
 -- What the writer takes for S stands for the symbol: its value, or its stub.
-use Rattle.std.proofs.Common.{◌≡◌, ℕ, ◌+◌, ◌%◌, ◌^◌, ◌⊎◌, inl, inr, Bool, true, false, Option, Some, None, refl, sym, ap, ◌∙◌, subst}
-use Rattle.std.specs.Prelude.{Ok}
-use Rattle.std.proofs.lemmas.Bool.{cases_Bool}
+use Rattle.wild_references.proofs.Common.{◌≡◌, ℕ, ◌+◌, ◌%◌, ◌^◌, ◌⊎◌, inl, inr, Bool, true, false, Option, Some, None, refl, sym, ap, ◌∙◌, subst, Ok, cases_Bool, ValueFlags, Layout, KeepsAll, has_flag, absolute, ifunc, flags_at, raw_address, symbol_is_ifunc, address_of, stub_of, Memory, World, IsSymbolAddress, address_denotes, HasStubAddress, HasRaw, HasFlag, HasOwnValue, HasValue, IsAbsolute, IsReplaceable, with_base, HasStub, IsOneAddress, flag_is, IsPlaced}
 use Rattle.wild_types.specs.declared.fault.Missing.TheVariants as missing
-use Rattle.wild_types.specs.declared.symbol.ValueFlags.{ValueFlags}
-use Rattle.wild_types.specs.declared.layout.Layout.{Layout}
-use Rattle.wild_types.specs.HeaderOnly.{KeepsAll}
-use Rattle.wild_types.specs.Flags.{has_flag, absolute, ifunc}
-use Rattle.wild_slot.specs.Treatment.{flags_at}
-use Rattle.wild_layout.specs.SymbolValues.{raw_address}
-use Rattle.wild_layout.specs.SlotValues.{symbol_is_ifunc, address_of, stub_of}
-use Rattle.wild_loader.specs.declared.memory.Memory.{Memory}
-use Rattle.wild_loader.specs.declared.world.World.{World}
-use Rattle.wild_meaning.specs.Formula.{IsSymbolAddress}
-use Rattle.wild_meaning.proofs.SymbolLemmas.{address_denotes}
-use Rattle.wild_meaning.specs.Reference.{HasStubAddress}
-use Rattle.wild_meaning.specs.Value.{HasRaw, HasFlag, HasOwnValue, HasValue, IsAbsolute, IsReplaceable, with_base}
-use Rattle.wild_meaning.specs.Denotes.{HasStub, IsAddressStub, IsAddressOf}
-use Rattle.wild_meaning.specs.ReferentAArch64.{IsOneAddress}
-use Rattle.wild_geometry.proofs.JudgedLemmas.{flag_is}
-use Rattle.wild_references.specs.Terms.{IsPlaced}
+use Rattle.wild_meaning.specs.Denotes.{IsAddressStub, IsAddressOf}
 use Rattle.wild_references.proofs.SlotFlags.{symbol_fits, resolver_not_absolute, listed_at}
 use Rattle.wild_references.proofs.Symbols.{definition_listed, flags_are}
 use Rattle.wild_references.proofs.StubAddresses.{raw_is, stub_given, one_stub, stubbed_or_not}

@@ -1,43 +1,19 @@
 -- The value of each row with a term is what the row's expression gives.
-use Rattle.std.proofs.Common.{◌≡◌, ℕ, ◌+◌, ◌-◌, ◌*◌, ◌/◌, ◌%◌, ◌^◌, ◌<◌, ◌≤◌, ◌⊎◌, inl, inr, Bool, true, false, refl, sym, ap, ◌∙◌, arith, subst}
-use Rattle.std.specs.Prelude.{Option, Some, None, Ok, not, ◌&&◌, ◌||◌, ◌==◌, is_none, if◌then◌else◌}
-use Rattle.std.proofs.lemmas.Bool.{and_parts, eqb-true}
-use Rattle.wild_types.specs.declared.kind.Machine.{Machine}
+use Rattle.wild_references.proofs.Common.{◌≡◌, ℕ, ◌+◌, ◌-◌, ◌*◌, ◌/◌, ◌%◌, ◌^◌, ◌<◌, ◌≤◌, ◌⊎◌, inl, inr, Bool, true, false, refl, sym, ap, ◌∙◌, arith, subst, Option, Some, None, Ok, not, ◌&&◌, ◌||◌, ◌==◌, is_none, if◌then◌else◌, and_parts, eqb-true, Machine, InputRelocation, Layout, KeepsAll, place_of, kind_treatment, row_accepts, expression_of, paged, subtrahend_of, expressed, slot_sort, writes, Value, Distance, StubDistance, StubFromTable, SlotAddress, SlotDistance, SlotPageDistance, SlotSort, Subtrahend, Term, PageMask, RelocationKind, RelocationKindInfo, stub_address, subtract, is_undefined_weak_without_stub, subtracts_place, adds_symbol, weak_resolves_to_place, undefined_weak_target, term_by, Memory, World, Item, place_at, is_listed, branch_types, page_of, IsTarget, IsReferent, IsPlaceRelative, HasOffsetMode, Gives, GivesLinked, TakesAddress, TakesOffset, TakesString, IsSlot, HasStubAddress, IsPlaced, is_expressed, value_by_row, IsDirect, HasTerm, IsFollowed, RowGives, RowGivesLinked, TermGives, IsReplaceable}
 use Rattle.wild_types.specs.declared.kind.Machine.TheVariants as machine
-use Rattle.wild_types.specs.declared.input.InputRelocation.{InputRelocation}
-use Rattle.wild_types.specs.declared.layout.Layout.{Layout}
-use Rattle.wild_types.specs.HeaderOnly.{KeepsAll}
-use Rattle.wild_types.specs.Lookups.{place_of}
 use Rattle.wild_slot.specs.declared.treatment.Treatment.TheVariants as treatments
-use Rattle.wild_slot.specs.Treatment.{named, kind_treatment, is_slot, row_accepts}
+use Rattle.wild_slot.specs.Treatment.{named, is_slot}
 use Rattle.wild_reloc.specs.Agreement as shape
-use Rattle.wild_reloc.specs.Expression.{expression_of, paged, subtrahend_of, expressed, slot_sort, writes}
-use Rattle.wild_reloc.specs.Formula.{Value, Distance, StubDistance, StubFromTable, SlotAddress, SlotDistance, SlotPageDistance, SlotFromTable, SlotFromTablePage}
+use Rattle.wild_reloc.specs.Formula.{SlotFromTable, SlotFromTablePage}
 use Rattle.wild_reloc.specs.declared.expression.Class.TheVariants as class
-use Rattle.wild_reloc.specs.declared.expression.SlotSort.{SlotSort}
 use Rattle.wild_reloc.specs.declared.expression.SlotSort.TheVariants as sorts
-use Rattle.wild_reloc.specs.declared.expression.Subtrahend.{Subtrahend}
 use Rattle.wild_reloc.specs.declared.expression.Subtrahend.TheVariants as subtrahend
-use Rattle.wild_reloc.specs.declared.expression.Term.{Term}
 use Rattle.wild_reloc.specs.declared.expression.Term.TheVariants as term
-use Rattle.wild_reloc.specs.declared.info.PageMask.{PageMask}
 use Rattle.wild_reloc.specs.declared.info.PageMask.TheVariants as masks
-use Rattle.wild_reloc.specs.declared.info.RelocationKind.{RelocationKind}
 use Rattle.wild_reloc.specs.declared.info.RelocationKind.TheVariants as kinds
-use Rattle.wild_reloc.specs.declared.info.RelocationKindInfo.{RelocationKindInfo}
-use Rattle.wild_layout.specs.SlotValues.{stub_address}
-use Rattle.wild_layout.specs.Values.{term_value, subtract, is_undefined_weak_without_stub, subtracts_place, adds_symbol, weak_resolves_to_place, undefined_weak_target, term_by}
-use Rattle.wild_loader.specs.declared.memory.Memory.{Memory}
-use Rattle.wild_loader.specs.declared.world.World.{World}
-use Rattle.wild_types.specs.Item.{Item}
-use Rattle.wild_meaning.specs.Item.{place_at}
-use Rattle.wild_reloc.specs.BarredTypes.{is_listed}
-use Rattle.wild_meaning.specs.ReferentAArch64.{branch_types}
-use Rattle.wild_meaning.specs.Formula.{page_of, IsTarget, IsReferentOnX86_64, IsReferent, IsPlaceRelative, HasOffsetMode, Gives, GivesLinked, TakesAddress, TakesOffset, TakesString}
-use Rattle.wild_meaning.specs.Slot.{IsSlot}
-use Rattle.wild_meaning.specs.Reference.{HasStubAddress}
-use Rattle.wild_references.specs.Terms.{IsPlaced, is_expressed, value_by_row, IsDirect, HasTerm, IsFollowed}
-use Rattle.wild_references.specs.Laws.{RowGives, RowGivesLinked, TermGives, TermGivesLinked, StubsRepresentSymbols, SlotsGive, GivesPart, GivesLinkedPart, PartsGive, PartsGiveLinked}
+use Rattle.wild_layout.specs.Values.{term_value}
+use Rattle.wild_meaning.specs.Formula.{IsReferentOnX86_64}
+use Rattle.wild_references.specs.Laws.{TermGivesLinked, StubsRepresentSymbols, SlotsGive, GivesPart, GivesLinkedPart, PartsGive, PartsGiveLinked}
 use Rattle.wild_references.proofs.AddressSlots.{slots_are_placed}
 use Rattle.wild_references.proofs.DescriptorSlots.{descriptors_stand}
 use Rattle.wild_references.proofs.Referents.{no_mask, with_mask, of_table, sized_is, absent, present, own_parts, not_own, named_absent, own_at, own_referent, referent}
@@ -49,7 +25,6 @@ use Rattle.wild_references.proofs.ThreadKinds.{gives_pointer, links_pointer, giv
 use Rattle.wild_references.proofs.ThreadPlaces.{offsets_stand, pairs_stand, own_pair_stands}
 use Rattle.wild_references.proofs.MovingSymbols.{symbol_named}
 use Rattle.wild_references.proofs.ValueKinds.{more, value_is, taken_is, plain_term, gives_sum, gives_part, gives_distance, gives_from_table, links_sum, links_part, links_distance, links_from_table, gives_table, gives_size}
-use Rattle.wild_meaning.specs.Value.{IsReplaceable}
 
 -- ---- S
 

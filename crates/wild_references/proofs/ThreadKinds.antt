@@ -1,39 +1,15 @@
 -- The offsets in thread-local storage that a relocation writes are what its expression gives.
-use Rattle.std.proofs.Common.{◌≡◌, ℕ, ◌+◌, ◌-◌, ◌%◌, ◌^◌, ◌<◌, ◌⊎◌, inl, inr, true, false, length, refl, sym, ap, ◌∙◌, arith, subst}
-use Rattle.std.specs.Prelude.{Option, Some, None, Result, Ok, Err}
-use Rattle.std.specs.Int.{w64, cast_unsigned}
-use Rattle.std.proofs.lemmas.Bool.{cases_Bool}
-use Rattle.wild_words.proofs.Basics.{slice_get_inside}
-use Rattle.wild_types.specs.declared.fault.Fault.{Fault}
-use Rattle.wild_types.specs.declared.kind.Machine.{Machine}
+use Rattle.wild_references.proofs.Common.{◌≡◌, ℕ, ◌+◌, ◌-◌, ◌%◌, ◌^◌, ◌<◌, ◌⊎◌, inl, inr, true, false, length, refl, sym, ap, ◌∙◌, arith, subst, Option, Some, None, Result, Ok, Err, w64, cast_unsigned, cases_Bool, slice_get_inside, Fault, Machine, InputRelocation, Layout, place_of, kind_treatment, value_of, expression_of, Value, PointerOffset, ModuleOffset, Subtrahend, RelocationKindInfo, RelocationSize, RelocationKind, raw_address, term_of, subtract, adds_symbol, World, Memory, Item, IsOffset, Gives, GivesLinked, TakesAddress, TakesOffset, HasStubAddress, IsOffsetBase, IsReplaceable, IsExecutable, IsFirstModule, IsLoadable, distance_known, executable_is, IsPlaced, is_expressed, value_by_row, HasTerm, IsFollowed, RowGives, RowGivesLinked}
 use Rattle.wild_types.specs.declared.kind.Machine.TheVariants as machine
 use Rattle.wild_types.specs.declared.kind.OutputKind.TheVariants as output
-use Rattle.wild_types.specs.declared.input.InputRelocation.{InputRelocation}
-use Rattle.wild_types.specs.declared.layout.Layout.{Layout}
 use Rattle.wild_slot.specs.declared.treatment.Treatment.TheVariants as treatments
-use Rattle.wild_types.specs.Lookups.{place_of}
-use Rattle.wild_slot.specs.Treatment.{pointer_treatment, kind_treatment}
-use Rattle.wild_reloc.specs.Agreement.{value_of}
-use Rattle.wild_reloc.specs.Expression.{expression_of}
-use Rattle.wild_reloc.specs.Formula.{Value, PointerOffset, ModuleOffset}
-use Rattle.wild_reloc.specs.declared.expression.Subtrahend.{Subtrahend}
+use Rattle.wild_slot.specs.Treatment.{pointer_treatment}
 use Rattle.wild_reloc.specs.declared.expression.Subtrahend.TheVariants as subtrahend
-use Rattle.wild_reloc.specs.declared.info.RelocationKindInfo.{RelocationKindInfo}
-use Rattle.wild_reloc.specs.declared.info.RelocationSize.{RelocationSize}
-use Rattle.wild_reloc.specs.declared.info.RelocationKind.{RelocationKind}
 use Rattle.wild_reloc.specs.declared.info.RelocationKind.TheVariants as kinds
-use Rattle.wild_layout.specs.SymbolValues.{minus, thread_pointer, storage_start, raw_address, is_undefined}
-use Rattle.wild_layout.specs.Values.{offset_from, pointer_offset, term_of, subtract, adds_symbol}
-use Rattle.wild_loader.specs.declared.world.World.{World}
-use Rattle.wild_loader.specs.declared.memory.Memory.{Memory}
-use Rattle.wild_types.specs.Item.{Item}
-use Rattle.wild_meaning.specs.Formula.{IsOffset, IsOwnOffset, Gives, GivesLinked, TakesAddress, TakesOffset}
-use Rattle.wild_meaning.specs.Reference.{HasStubAddress}
-use Rattle.wild_meaning.specs.Thread.{HasDistance, HasOwnOffset, IsOffsetBase}
-use Rattle.wild_meaning.specs.Value.{IsReplaceable}
-use Rattle.wild_meaning.specs.World.{IsExecutable, IsFirstModule, IsLoadable}
-use Rattle.wild_meaning.proofs.WorldLemmas.{distance_known}
-use Rattle.wild_meaning.proofs.OutputLemmas.{executable_is}
+use Rattle.wild_layout.specs.SymbolValues.{minus, thread_pointer, storage_start, is_undefined}
+use Rattle.wild_layout.specs.Values.{offset_from, pointer_offset}
+use Rattle.wild_meaning.specs.Formula.{IsOwnOffset}
+use Rattle.wild_meaning.specs.Thread.{HasDistance, HasOwnOffset}
 use Rattle.wild_references.proofs.WrittenFields.{address_given}
 use Rattle.wild_references.proofs.Values.{has_raw}
 use Rattle.wild_references.proofs.Symbols.{undefined}
@@ -41,8 +17,7 @@ use Rattle.wild_references.proofs.Moves.{less_sum}
 use Rattle.wild_references.proofs.OutputKinds.{loadable_cases, loaded_program}
 use Rattle.wild_references.proofs.ThreadValues.{thread_place, placed_thread, thread_sum, distance_below, pointer_same, own_base, library_base, data_base}
 use Rattle.wild_references.proofs.MovingSymbols.{symbol_named, pointer_kept}
-use Rattle.wild_references.specs.Terms.{IsPlaced, page_mask, is_expressed, value_by_row, HasTerm, IsFollowed}
-use Rattle.wild_references.specs.Laws.{RowGives, RowGivesLinked}
+use Rattle.wild_references.specs.Terms.{page_mask}
 use Rattle.wild_references.proofs.Referents.{no_mask, sized_is}
 use Rattle.wild_references.proofs.ValueKinds.{more, value_is, taken_is, plain_term}
 

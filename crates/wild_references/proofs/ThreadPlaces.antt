@@ -1,35 +1,17 @@
 -- The thread-local slots that the writer knows of have the offsets that the reader asks for.
-use Rattle.std.proofs.Common.{◌≡◌, ℕ, ◌+◌, ◌-◌, ◌%◌, ◌^◌, ◌<◌, inl, inr, Bool, true, false, List, [], ◌∷◌, Some, None, refl, sym, ap, ◌∙◌, arith, subst}
-use Rattle.std.specs.Prelude.{◌||◌, if◌then◌else◌}
-use Rattle.std.specs.Int.{w64, cast_unsigned}
+use Rattle.wild_references.proofs.Common.{◌≡◌, ℕ, ◌+◌, ◌-◌, ◌%◌, ◌^◌, ◌<◌, inl, inr, Bool, true, false, List, [], ◌∷◌, Some, None, refl, sym, ap, ◌∙◌, arith, subst, ◌||◌, if◌then◌else◌, w64, cast_unsigned, DtpMod, Machine, SlotWord, General, Resolution, Layout, KeepsAll, has_flag, got_tls_offset, got_tls_module, got_tls_descriptor, setting_of, minus, has_thread_slot, ThreadOffset, ModulePair, OwnModulePair, after_word, HasWords, Memory, World, HasWord, IsPair, IsExecutable, distance_known, word_below, executable_is, MovesByPages, IsPlaced}
 use Rattle.std.proofs.lemmas.Bool.{or_left}
-use Rattle.wild_reloc.specs.declared.dynamic.DynamicRelocationKind.TheVariants.{DtpMod}
-use Rattle.wild_types.specs.declared.kind.Machine.{Machine}
 use Rattle.wild_types.specs.declared.kind.Machine.TheVariants as machine
 use Rattle.wild_types.specs.declared.kind.OutputKind.TheVariants as output
 use Rattle.wild_slot.specs.declared.slot.SlotEntry.{SlotEntry}
-use Rattle.wild_slot.specs.declared.slot.SlotWord.{SlotWord}
-use Rattle.wild_slot.specs.declared.slot.SlotWord.TheVariants.{Number, General}
-use Rattle.wild_types.specs.declared.symbol.Resolution.{Resolution}
-use Rattle.wild_types.specs.declared.layout.Layout.{Layout}
-use Rattle.wild_types.specs.HeaderOnly.{KeepsAll}
-use Rattle.wild_types.specs.Flags.{has_flag, got_tls_offset, got_tls_module, got_tls_descriptor}
-use Rattle.wild_slot.specs.Slots.{setting_of, storage_pair}
+use Rattle.wild_slot.specs.declared.slot.SlotWord.TheVariants.{Number}
+use Rattle.wild_slot.specs.Slots.{storage_pair}
 use Rattle.wild_needs.specs.SlotShares.{storage_at, storage_words}
-use Rattle.wild_slot.specs.Storage.{minus, thread_pointer}
-use Rattle.wild_types.specs.SymbolSlots.{has_thread_slot}
-use Rattle.wild_reloc.specs.Formula.{ThreadOffset, ModulePair, OwnModulePair}
+use Rattle.wild_slot.specs.Storage.{thread_pointer}
 use Rattle.wild_reloc.specs.declared.expression.SlotSort.TheVariants as sorts
-use Rattle.wild_layout.specs.SlotValues.{after_word}
-use Rattle.wild_geometry.specs.Slots.{HasWords}
-use Rattle.wild_loader.specs.declared.memory.Memory.{Memory}
-use Rattle.wild_loader.specs.declared.world.World.{World}
-use Rattle.wild_meaning.specs.Slot.{HasWord, IsPair, IsOwnPair}
+use Rattle.wild_meaning.specs.Slot.{IsOwnPair}
 use Rattle.wild_meaning.specs.Thread as judge
-use Rattle.wild_meaning.specs.World.{IsExecutable}
-use Rattle.wild_meaning.proofs.WorldLemmas.{distance_known, word_below, next_word}
-use Rattle.wild_meaning.proofs.OutputLemmas.{executable_is}
-use Rattle.wild_references.specs.Terms.{MovesByPages, IsPlaced}
+use Rattle.wild_meaning.proofs.WorldLemmas.{next_word}
 use Rattle.wild_references.proofs.EntryWords.{own_module_filled}
 use Rattle.wild_references.proofs.FirstSlots.{thread_held}
 use Rattle.wild_references.proofs.OutputKinds.{loadable_cases}

@@ -1,30 +1,13 @@
 -- The slots of a thread-local symbol in memory: its offset from the thread pointer, and its pair.
-use Rattle.std.proofs.Common.{◌≡◌, ◌≢◌, ℕ, ◌+◌, ◌-◌, ◌%◌, ◌^◌, ◌<◌, ◌⊎◌, inl, inr, Bool, true, false, List, [], ◌∷◌, ◌++◌, Option, Some, None, refl, sym, ap, ◌∙◌, arith, subst}
-use Rattle.std.specs.Prelude.{Ok, ◌==◌, ◌&&◌, ◌||◌, not, if◌then◌else◌}
-use Rattle.std.specs.Int.{w64, cast_unsigned}
-use Rattle.std.proofs.lemmas.Bool.{eqb-true}
-use Rattle.wild_reloc.specs.declared.dynamic.DynamicRelocationKind.TheVariants.{DtpMod, TpOff}
+use Rattle.wild_references.proofs.Common.{◌≡◌, ◌≢◌, ℕ, ◌+◌, ◌-◌, ◌%◌, ◌^◌, ◌<◌, ◌⊎◌, inl, inr, Bool, true, false, List, [], ◌∷◌, ◌++◌, Option, Some, None, refl, sym, ap, ◌∙◌, arith, subst, Ok, ◌==◌, ◌&&◌, ◌||◌, not, if◌then◌else◌, w64, cast_unsigned, eqb-true, DtpMod, SlotItem, Resolution, ValueFlags, Layout, has_flag, interposable, dynamic, non_interposable, copy_relocation, export_dynamic, got_tls_offset, got_tls_module, is_executable, setting_of, general, named, items_if, thread_items, minus, has_dynamic_symbol, distance_of, Memory, World, HasWord, IsPair, HasRaw, IsReplaceable, is_library, may_be_replaced, IsFirstModule, distance_known, IsPlaced}
+use Rattle.wild_reloc.specs.declared.dynamic.DynamicRelocationKind.TheVariants.{TpOff}
 use Rattle.wild_slot.specs.declared.slot.SlotFault.TheVariants.{TlsOutOfSegment}
-use Rattle.wild_slot.specs.declared.slot.SlotItem.{SlotItem}
 use Rattle.wild_slot.specs.declared.slot.SlotItem.TheVariants.{Fault}
-use Rattle.wild_types.specs.declared.symbol.Resolution.{Resolution}
-use Rattle.wild_types.specs.declared.symbol.ValueFlags.{ValueFlags}
-use Rattle.wild_types.specs.declared.layout.Layout.{Layout}
-use Rattle.wild_types.specs.Flags.{has_flag, interposable, dynamic, non_interposable, copy_relocation, export_dynamic, got_tls_offset, got_tls_module}
-use Rattle.wild_types.specs.Kinds.{is_executable}
-use Rattle.wild_slot.specs.Slots.{setting_of, number, general, named, offset_item, module_item, module_offset, module_offset_item, items_if, module_items, descriptor_items, thread_items}
-use Rattle.wild_slot.specs.Storage.{minus, thread_pointer, is_outside}
-use Rattle.wild_types.specs.SymbolSlots.{has_dynamic_symbol}
-use Rattle.wild_loader.specs.Changes.{distance_of}
-use Rattle.wild_loader.specs.declared.memory.Memory.{Memory}
-use Rattle.wild_loader.specs.declared.world.World.{World}
-use Rattle.wild_meaning.specs.Slot.{HasWord, IsPair}
+use Rattle.wild_slot.specs.Slots.{number, offset_item, module_item, module_offset, module_offset_item, module_items, descriptor_items}
+use Rattle.wild_slot.specs.Storage.{thread_pointer, is_outside}
 use Rattle.wild_meaning.specs.Thread as judge
-use Rattle.wild_meaning.specs.Value.{HasRaw, IsReplaceable, is_library, may_be_replaced}
-use Rattle.wild_meaning.specs.World.{IsFirstModule}
-use Rattle.wild_meaning.proofs.WorldLemmas.{distance_known, next_word}
+use Rattle.wild_meaning.proofs.WorldLemmas.{next_word}
 use Rattle.wild_meaning.proofs.OutputLemmas.{is_program}
-use Rattle.wild_references.specs.Terms.{IsPlaced}
 use Rattle.wild_references.proofs.AnsweredValues.{has_answer, answered_offset, answer_fits, place_same}
 use Rattle.wild_references.proofs.EntryWords.{module_filled, own_module_filled, offset_filled, thread_filled, own_thread_filled}
 use Rattle.wild_references.proofs.FirstSlots.{own_flags}

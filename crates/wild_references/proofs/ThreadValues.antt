@@ -1,24 +1,14 @@
 -- The offset of a symbol from the thread pointer in a legal world.
-use Rattle.std.proofs.Common.{◌≡◌, ℕ, ℤ, ◌+◌, ◌-◌, ◌%◌, ◌^◌, ◌<◌, refl, sym, ap, arith, subst}
-use Rattle.std.specs.Prelude.{Option, Some, Ok}
-use Rattle.std.specs.Int.{w64, cast_unsigned}
-use Rattle.wild_records.proofs.FieldLemmas.{signed_fits}
-use Rattle.wild_types.specs.declared.kind.Machine.{Machine}
+use Rattle.wild_references.proofs.Common.{◌≡◌, ℕ, ℤ, ◌+◌, ◌-◌, ◌%◌, ◌^◌, ◌<◌, refl, sym, ap, arith, subst, Option, Some, Ok, w64, cast_unsigned, signed_fits, Machine, OutputKind, Layout, World, first_value, distance_of, HasRaw, IsOffsetBase, IsExecutable, IsFirstModule, MovesByPages}
 use Rattle.wild_types.specs.declared.kind.Machine.TheVariants as machine
-use Rattle.wild_types.specs.declared.kind.OutputKind.{OutputKind}
 use Rattle.wild_types.specs.declared.kind.OutputKind.TheVariants as output
-use Rattle.wild_types.specs.declared.layout.Layout.{Layout}
 use Rattle.wild_slot.specs.Storage as storage
 use Rattle.wild_loader.specs.declared.fault.LoadFault.TheVariants as faults
-use Rattle.wild_loader.specs.declared.world.World.{World}
 use Rattle.wild_loader.specs.Outcome.{◌>>=◌, known}
-use Rattle.wild_loader.specs.Changes.{first_value, distance_of}
-use Rattle.wild_meaning.specs.Value.{HasRaw}
-use Rattle.wild_meaning.specs.Thread.{thread_pointer_of, thread_pointer, HasDistance, IsThreadPlace, IsOffsetBase}
-use Rattle.wild_meaning.specs.World.{first_module, IsExecutable, IsFirstModule, IsKnownModule}
+use Rattle.wild_meaning.specs.Thread.{thread_pointer_of, thread_pointer, HasDistance, IsThreadPlace}
+use Rattle.wild_meaning.specs.World.{first_module, IsKnownModule}
 use Rattle.wild_meaning.proofs.WorldLemmas.{first_filtered}
 use Rattle.wild_geometry.proofs.MachineLemmas.{rounded_same, facts_of}
-use Rattle.wild_references.specs.Terms.{MovesByPages}
 
 -- so that the world has the distance of its module
 found : (w : World) (m : ℕ) (d : ℤ) → first_value w.modules m ≡ Some d → distance_of w m ≡ Ok (cast_unsigned w64 d)

@@ -1,33 +1,20 @@
 -- A thunk in memory: its bytes jump to its target.
-use Rattle.std.proofs.Common.{◌≡◌, ℕ, ◌+◌, ◌/◌, ◌%◌, ◌^◌, ◌≤◌, true, List, refl, ap, ◌∙◌, arith, subst}
-use Rattle.std.specs.Prelude.{Some, option_and_then}
-use Rattle.wild_types.specs.declared.kind.Machine.{Machine}
+use Rattle.wild_references.proofs.Common.{◌≡◌, ℕ, ◌+◌, ◌/◌, ◌%◌, ◌^◌, ◌≤◌, true, List, refl, ap, ◌∙◌, arith, subst, Some, option_and_then, Machine, Thunk, Layout, page, meaning, words_of, Memory, World, Holds, Number, Jump, action_of, byte_below, processor_of}
 use Rattle.wild_types.specs.declared.kind.Machine.TheVariants as machine
-use Rattle.wild_types.specs.declared.layout.Thunk.{Thunk}
-use Rattle.wild_types.specs.declared.layout.Layout.{Layout}
 use Rattle.wild_reloc.specs.declared.instruction.AArch64Instruction.TheVariants.{Adr, Imm12}
 use Rattle.wild_relax.specs.ThunkAArch64.{thunk_words, thunk_aarch64}
 use Rattle.wild_relax.specs.LawsAArch64.{ThunksReach}
 use Rattle.wild_relax.proofs.FieldsAArch64Lemmas.{fields_agree}
 use Rattle.wild_relax.proofs.AArch64Lemmas.{within}
-use Rattle.wild_aarch64.specs.Machine.{page, meaning, jump_to}
-use Rattle.wild_aarch64.specs.Effect.{words_of}
+use Rattle.wild_aarch64.specs.Machine.{jump_to}
 use Rattle.wild_aarch64.specs.Stub.{thunk}
 use Rattle.wild_slot.specs.StubAArch64.{spelled, distance_from}
 use Rattle.wild_layout.proofs.ThunkLemmas.{length-thunk}
 use Rattle.wild_loader.specs.declared.memory.Machine.TheVariants as machines
-use Rattle.wild_loader.specs.declared.memory.Memory.{Memory}
-use Rattle.wild_loader.specs.declared.world.World.{World}
-use Rattle.wild_loader.specs.Memory.{Holds}
 use Rattle.wild_loader.specs.StepLawsAArch64.{ThunksAreRead}
-use Rattle.wild_loader.specs.declared.instruction.Operand.TheVariants.{Number}
-use Rattle.wild_loader.specs.declared.instruction.Deed.TheVariants.{Jump}
-use Rattle.wild_loader.specs.InstructionAArch64.{action_of}
 use Rattle.wild_loader.specs.Reach.{JumpsTo}
 use Rattle.wild_meaning.specs.Jump.{meaning_of}
-use Rattle.wild_loader.proofs.MappedSegments.{byte_below}
 use Rattle.wild_geometry.specs.Thunks.{HasThunk}
-use Rattle.wild_meaning.specs.LinkedImage.{processor_of}
 use Rattle.wild_references.specs.Thunks.{JumpsToTarget, ThunksJumpToTargets}
 use Rattle.wild_references.proofs.StubCode.{paged_on}
 

@@ -1,50 +1,22 @@
 -- The distance of a thunk is what the expression of a branch gives.
-use Rattle.std.proofs.Common.{◌≡◌, ℕ, ◌+◌, ◌-◌, ◌%◌, ◌^◌, ◌<◌, ◌≤◌, ◌⊎◌, inl, inr, Bool, true, false, List, [], Option, Some, None, refl, sym, ap, ◌∙◌, arith, subst}
-use Rattle.std.specs.Prelude.{◌==◌, Ok, Contains, is_some, if◌then◌else◌, unwrap_or, slice_get}
-use Rattle.std.specs.Int.{w64, cast_unsigned}
-use Rattle.std.proofs.lemmas.Bool.{cases_Bool, or_cases, eqb-true}
-use Rattle.std.proofs.lemmas.Option.{slice_get_within, get_or_from_slice_get}
+use Rattle.wild_references.proofs.Common.{◌≡◌, ℕ, ◌+◌, ◌-◌, ◌%◌, ◌^◌, ◌<◌, ◌≤◌, ◌⊎◌, inl, inr, Bool, true, false, List, [], Option, Some, None, refl, sym, ap, ◌∙◌, arith, subst, ◌==◌, Ok, Contains, is_some, if◌then◌else◌, unwrap_or, slice_get, w64, cast_unsigned, cases_Bool, or_cases, eqb-true, slice_get_within, get_or_from_slice_get, Machine, InputRelocation, Resolution, Thunk, Layout, KeepsAll, Item, is_position_independent, canonical, place_of, is_listed, contains, expression_of, subtrahend_of, Value, Distance, StubDistance, Subtrahend, RelocationKind, RelocationKindInfo, resolution_of, stub_of, stub_address, address_of, term_of, subtract, is_undefined_weak_without_stub, adds_symbol, subtracts_place, weak_resolves_to_place, undefined_weak_target, term_by, Memory, World, Number, JumpsBy, IsReferent, IsReferentOnAArch64, Gives, IsPlaceRelative, TakesAddress, IsAbsolute, value_by_row, HasTerm, IsFollowed, EachThunkJumps, AllowsThunks, names_merged}
 use Rattle.wild_types.specs.declared.fault.Missing.TheVariants as missing
-use Rattle.wild_types.specs.declared.kind.Machine.{Machine}
 use Rattle.wild_types.specs.declared.kind.Machine.TheVariants as machine
-use Rattle.wild_types.specs.declared.input.InputRelocation.{InputRelocation}
-use Rattle.wild_types.specs.declared.symbol.Resolution.{Resolution}
-use Rattle.wild_types.specs.declared.layout.Thunk.{Thunk}
-use Rattle.wild_types.specs.declared.layout.Layout.{Layout}
-use Rattle.wild_types.specs.HeaderOnly.{KeepsAll}
-use Rattle.wild_types.specs.Item.{Item}
-use Rattle.wild_types.specs.Kinds.{is_position_independent}
-use Rattle.wild_types.specs.Lookups.{canonical, place_of}
-use Rattle.wild_reloc.specs.BarredTypes.{is_listed, branches_aarch64}
-use Rattle.wild_reloc.specs.Range.{contains}
-use Rattle.wild_reloc.specs.Expression.{expression_of, subtrahend_of}
-use Rattle.wild_reloc.specs.Formula.{Value, Distance, StubDistance}
-use Rattle.wild_reloc.specs.declared.expression.Subtrahend.{Subtrahend}
+use Rattle.wild_reloc.specs.BarredTypes.{branches_aarch64}
 use Rattle.wild_reloc.specs.declared.expression.Subtrahend.TheVariants as subtrahend
-use Rattle.wild_reloc.specs.declared.info.RelocationKind.{RelocationKind}
 use Rattle.wild_reloc.specs.declared.info.RelocationKind.TheVariants as kinds
-use Rattle.wild_reloc.specs.declared.info.RelocationKindInfo.{RelocationKindInfo}
 use Rattle.wild_layout.specs.Decide.{addend_bits}
 use Rattle.wild_layout.specs.SymbolValues.{minus}
-use Rattle.wild_layout.specs.SlotValues.{resolution_of, stub_of, stub_address, address_of}
 use Rattle.wild_layout.specs.Thunks.{thunk_target, uses_definition, thunk_for}
 use Rattle.wild_layout.proofs.ThunkFieldLemmas.{thunk_found}
-use Rattle.wild_layout.specs.Values.{term_of, subtract, is_undefined_weak_without_stub, adds_symbol, subtracts_place, weak_resolves_to_place, undefined_weak_target, term_by}
-use Rattle.wild_loader.specs.declared.memory.Memory.{Memory}
-use Rattle.wild_loader.specs.declared.world.World.{World}
 use Rattle.wild_types.specs.FileThunks.{thunk_size}
-use Rattle.wild_loader.specs.declared.instruction.Operand.TheVariants.{Number}
-use Rattle.wild_meaning.specs.Jump.{JumpsBy, GoesTo}
-use Rattle.wild_meaning.specs.Formula.{IsReferent, IsReferentOnAArch64, Gives, IsPlaceRelative, TakesAddress}
-use Rattle.wild_meaning.specs.Value.{IsAbsolute}
-use Rattle.wild_references.specs.Terms.{value_by_row, HasTerm, IsFollowed}
-use Rattle.wild_references.specs.Thunks.{JumpsToTarget, EachThunkJumps, AllowsThunks, ThunksGive}
+use Rattle.wild_meaning.specs.Jump.{GoesTo}
+use Rattle.wild_references.specs.Thunks.{JumpsToTarget, ThunksGive}
 use Rattle.wild_references.proofs.Referents.{sized_is, present, not_own, follows}
 use Rattle.wild_references.proofs.StubCode.{StubLaws}
 use Rattle.wild_references.proofs.ThunkTargets.{IsThunkOf, IsTargeted, stub_targeted, symbol_targeted}
 use Rattle.wild_references.proofs.ValueKinds.{more, value_is, taken_is}
 use Rattle.wild_references.proofs.WrittenFields.{given_some}
-use Rattle.wild_layout.specs.Merged.{names_merged}
 use Rattle.wild_layout.proofs.MergedLemmas.{term_plain}
 
 -- ---- the thunk

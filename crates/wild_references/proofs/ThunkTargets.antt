@@ -1,24 +1,9 @@
 -- What a thunk goes on to stands for the symbol of the branch that goes by it.
-use Rattle.std.proofs.Common.{◌≡◌, ℕ, ◌+◌, ◌%◌, ◌^◌, ◌⊎◌, inl, inr, Bool, true, false, Option, Some, None, refl, sym, ap, ◌∙◌, arith, subst}
-use Rattle.std.specs.Prelude.{Ok, option_and_then, option_map, slice_get}
+use Rattle.wild_references.proofs.Common.{◌≡◌, ℕ, ◌+◌, ◌%◌, ◌^◌, ◌⊎◌, inl, inr, Bool, true, false, Option, Some, None, refl, sym, ap, ◌∙◌, arith, subst, Ok, option_and_then, option_map, slice_get, Resolution, Symbol, Thunk, Layout, KeepsAll, raw_value, canonical, raw_address, symbol_is_ifunc, resolution_of, stub_of, address_of, Memory, World, Denotes, IsStub, IsAbsolute, with_base, address_denotes, IsPlaced}
 use Rattle.wild_types.specs.declared.fault.Missing.TheVariants as missing
-use Rattle.wild_types.specs.declared.symbol.Resolution.{Resolution}
-use Rattle.wild_types.specs.declared.symbol.Symbol.{Symbol}
-use Rattle.wild_types.specs.declared.layout.Thunk.{Thunk}
-use Rattle.wild_types.specs.declared.layout.Layout.{Layout}
-use Rattle.wild_types.specs.HeaderOnly.{KeepsAll}
-use Rattle.wild_types.specs.Addresses.{raw_value, placed_value, resolved_or}
-use Rattle.wild_types.specs.Lookups.{canonical}
+use Rattle.wild_types.specs.Addresses.{placed_value, resolved_or}
 use Rattle.wild_layout.specs.Geometry.{DefinitionsAreFinal}
-use Rattle.wild_layout.specs.SymbolValues.{raw_address}
-use Rattle.wild_layout.specs.SlotValues.{symbol_is_ifunc, resolution_of, stub_of, address_of}
 use Rattle.wild_layout.specs.Thunks.{stub_or, thunk_target}
-use Rattle.wild_loader.specs.declared.memory.Memory.{Memory}
-use Rattle.wild_loader.specs.declared.world.World.{World}
-use Rattle.wild_meaning.specs.Denotes.{Denotes, IsStub}
-use Rattle.wild_meaning.specs.Value.{IsAbsolute, with_base}
-use Rattle.wild_meaning.proofs.SymbolLemmas.{address_denotes}
-use Rattle.wild_references.specs.Terms.{IsPlaced}
 use Rattle.wild_references.proofs.StubCode.{StubLaws}
 use Rattle.wild_references.proofs.SymbolStubs.{stub_stands, stub_is}
 use Rattle.wild_references.proofs.Targets.{Follows, IsAddressed, addressed}

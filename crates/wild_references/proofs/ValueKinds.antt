@@ -1,42 +1,17 @@
 -- The value that a relocation writes is what its expression gives, of S and of numbers.
-use Rattle.std.proofs.Common.{◌≡◌, ℕ, ◌+◌, ◌-◌, ◌*◌, ◌/◌, ◌%◌, ◌^◌, ◌≤◌, ◌⊎◌, inl, inr, Bool, true, false, refl, sym, ap, ◌∙◌, arith, subst}
-use Rattle.std.specs.Prelude.{Option, Some, None, Ok, not, ◌&&◌, ◌||◌, if◌then◌else◌}
-use Rattle.std.specs.Int.{w64, cast_unsigned}
-use Rattle.std.proofs.lemmas.Bool.{cases_Bool}
-use Rattle.wild_words.proofs.Basics.{slice_get_inside}
+use Rattle.wild_references.proofs.Common.{◌≡◌, ℕ, ◌+◌, ◌-◌, ◌*◌, ◌/◌, ◌%◌, ◌^◌, ◌≤◌, ◌⊎◌, inl, inr, Bool, true, false, refl, sym, ap, ◌∙◌, arith, subst, Option, Some, None, Ok, not, ◌&&◌, ◌||◌, if◌then◌else◌, w64, cast_unsigned, cases_Bool, slice_get_inside, InputRelocation, Layout, Symbol, ValueFlags, has_flag, absolute, interposable, dynamic, non_interposable, copy_relocation, export_dynamic, is_position_independent, is_shared_object, place_of, allocated, flags_at, address_treatment, kind_treatment, value_of, expression_of, paged, subtrahend_of, expressed, Value, SymbolAddress, Distance, PageDistance, FromTable, Size, Term, Subtrahend, PageMask, RelocationKind, RelocationKindInfo, RelocationSize, ByteSize, BitMasking, symbol_size, term_of, term_at, subtract, adds_symbol, weak_resolves_to_place, undefined_weak_target, term_by, World, Memory, IsSymbol, IsAbsolute, IsReplaceable, with_base, Item, page_of, IsSum, Gives, GivesLinked, IsPlaceRelative, TakesAddress, TakesOffset, table_at, HasStubAddress, IsPlaced, is_expressed, value_by_row, HasTerm, IsFollowed, RowGives, RowGivesLinked}
 use Rattle.wild_types.specs.declared.kind.Machine.TheVariants as machine
-use Rattle.wild_types.specs.declared.input.InputRelocation.{InputRelocation}
-use Rattle.wild_types.specs.declared.layout.Layout.{Layout}
 use Rattle.wild_slot.specs.declared.treatment.Treatment.TheVariants as treatments
-use Rattle.wild_types.specs.declared.symbol.Symbol.{Symbol}
-use Rattle.wild_types.specs.declared.symbol.ValueFlags.{ValueFlags}
-use Rattle.wild_types.specs.Flags.{has_flag, absolute, interposable, dynamic, non_interposable, copy_relocation, export_dynamic}
-use Rattle.wild_types.specs.Kinds.{is_position_independent, is_shared_object}
-use Rattle.wild_types.specs.Lookups.{place_of, allocated}
-use Rattle.wild_slot.specs.Treatment.{flags_at, is_sized, if_defined, address_treatment, size_treatment, kind_treatment}
+use Rattle.wild_slot.specs.Treatment.{is_sized, if_defined, size_treatment}
 use Rattle.wild_reloc.specs.Agreement as shape
-use Rattle.wild_reloc.specs.Agreement.{value_of}
-use Rattle.wild_reloc.specs.Expression.{expression_of, paged, subtrahend_of, expressed}
-use Rattle.wild_reloc.specs.Formula.{Value, SymbolAddress, Distance, PageDistance, FromTable, TableDistance, Size}
-use Rattle.wild_reloc.specs.declared.expression.Term.{Term}
+use Rattle.wild_reloc.specs.Formula.{TableDistance}
 use Rattle.wild_reloc.specs.declared.expression.Term.TheVariants as term
-use Rattle.wild_reloc.specs.declared.expression.Subtrahend.{Subtrahend}
 use Rattle.wild_reloc.specs.declared.expression.Subtrahend.TheVariants as subtrahend
-use Rattle.wild_reloc.specs.declared.info.PageMask.{PageMask}
 use Rattle.wild_reloc.specs.declared.info.PageMask.TheVariants as masks
-use Rattle.wild_reloc.specs.declared.info.RelocationKind.{RelocationKind}
 use Rattle.wild_reloc.specs.declared.info.RelocationKind.TheVariants as kinds
-use Rattle.wild_reloc.specs.declared.info.RelocationKindInfo.{RelocationKindInfo}
-use Rattle.wild_reloc.specs.declared.info.RelocationSize.{RelocationSize}
-use Rattle.wild_reloc.specs.declared.info.RelocationSize.TheVariants.{ByteSize, BitMasking}
-use Rattle.wild_layout.specs.SymbolValues.{symbol_size}
-use Rattle.wild_layout.specs.Values.{term_of, term_at, subtract, adds_symbol, weak_resolves_to_place, undefined_weak_target, term_by, term_value}
-use Rattle.wild_loader.specs.declared.world.World.{World}
-use Rattle.wild_loader.specs.declared.memory.Memory.{Memory}
-use Rattle.wild_meaning.specs.Value.{IsSymbol, IsAbsolute, IsReplaceable, HasOwnSize, with_base}
-use Rattle.wild_types.specs.Item.{Item}
-use Rattle.wild_meaning.specs.Formula.{page_of, IsSum, IsExtent, Gives, IsOwnSum, GivesLinked, IsPlaceRelative, TakesAddress, TakesOffset, table_at}
-use Rattle.wild_meaning.specs.Reference.{HasStubAddress}
+use Rattle.wild_layout.specs.Values.{term_value}
+use Rattle.wild_meaning.specs.Value.{HasOwnSize}
+use Rattle.wild_meaning.specs.Formula.{IsExtent, IsOwnSum}
 use Rattle.wild_references.proofs.OutputKinds.{library_is}
 use Rattle.wild_references.proofs.SlotFlags.{symbol_fits, dynamic_interposable, listed_at}
 use Rattle.wild_references.proofs.Symbols.{sized, replaceable_at, flags_are, definition_there}
@@ -44,8 +19,7 @@ use Rattle.wild_references.proofs.Moves.{sum_is, distance_is, table_is, moved_di
 use Rattle.wild_references.proofs.MovingSymbols.{symbol_named, address_still, distance_still, size_kept, peeled}
 use Rattle.wild_references.proofs.StubCode.{StubLaws, paged_on}
 use Rattle.wild_references.proofs.Referents.{no_mask, with_mask, sized_is, own_parts, Refers, OwnRefers, symbol_value, refers, own_refers}
-use Rattle.wild_references.specs.Terms.{IsPlaced, is_expressed, value_by_row, HasTerm, IsFollowed}
-use Rattle.wild_references.specs.Laws.{RowGives, RowGivesLinked, GivesPart, GivesLinkedPart}
+use Rattle.wild_references.specs.Laws.{GivesPart, GivesLinkedPart}
 
 -- A as it is added
 abbrev pub more : InputRelocation → ℕ

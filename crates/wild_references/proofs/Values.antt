@@ -1,20 +1,12 @@
 -- The writer's value of a symbol is the symbol's address.
-use Rattle.std.proofs.Common.{◌≡◌, ℕ, ◌+◌, ◌%◌, ◌^◌, ◌⊎◌, inl, inr, true, false, refl, sym, ap, ◌∙◌, subst}
-use Rattle.std.specs.Prelude.{Option, Some, None, slice_get, option_and_then, option_map, ◌==◌}
-use Rattle.std.proofs.lemmas.Bool.{cases_Bool, ne_eqb, and_parts, not-true, or_cases}
-use Rattle.wild_types.specs.declared.symbol.Place.{Place}
+use Rattle.wild_references.proofs.Common.{◌≡◌, ℕ, ◌+◌, ◌%◌, ◌^◌, ◌⊎◌, inl, inr, true, false, refl, sym, ap, ◌∙◌, subst, Option, Some, None, slice_get, option_and_then, option_map, ◌==◌, cases_Bool, ne_eqb, and_parts, not-true, or_cases, Place, Symbol, Resolution, InputSection, File, Layout, canonical, raw_value, IsSymbol, IsDefinedBy, IsLocatedAt, IsResolved, IsUnresolved, HasRaw}
 use Rattle.wild_types.specs.declared.symbol.Place.TheVariants as at
-use Rattle.wild_types.specs.declared.symbol.Symbol.{Symbol}
-use Rattle.wild_types.specs.declared.symbol.Resolution.{Resolution}
 use Rattle.wild_types.specs.declared.input.Slot.{Slot}
 use Rattle.wild_types.specs.declared.input.Slot.TheVariants as slot
-use Rattle.wild_types.specs.declared.input.InputSection.{InputSection}
-use Rattle.wild_types.specs.declared.file.File.{File}
-use Rattle.wild_types.specs.declared.layout.Layout.{Layout}
-use Rattle.wild_types.specs.Lookups.{canonical, has_address, is_discarded, files_of, file_of, is_allocated_part}
-use Rattle.wild_types.specs.Addresses.{raw_value, resolved_or, placed_value, address_at, address_in_file, address_in_section}
+use Rattle.wild_types.specs.Lookups.{has_address, is_discarded, files_of, file_of, is_allocated_part}
+use Rattle.wild_types.specs.Addresses.{resolved_or, placed_value, address_at, address_in_file, address_in_section}
 use Rattle.wild_meaning.specs.Section.{IsAllocatedPart, IsPlaced}
-use Rattle.wild_meaning.specs.Value.{IsSymbol, IsDefinedBy, IsOwnFile, IsLocatedAt, IsResolved, IsUnresolved, HasRaw}
+use Rattle.wild_meaning.specs.Value.{IsOwnFile}
 use Rattle.wild_meaning.proofs.BitLemmas.{alloc_bit}
 
 -- ---- where a symbol stands

@@ -1,21 +1,11 @@
 -- The fields of a kept item that memory has as it was decided hold.
-use Rattle.std.proofs.Common.{◌≡◌, sym, subst}
-use Rattle.wild_types.specs.declared.kind.Machine.{Machine}
-use Rattle.wild_types.specs.Item.{Item}
-use Rattle.wild_types.specs.declared.layout.Layout.{Layout}
+use Rattle.wild_references.proofs.Common.{◌≡◌, sym, subst, Machine, Item, Layout, NumbersFit, IsLaidOut, Memory, World, KeepsAll, IsLoadable, processor_of, SymbolsFit, MovesByPages, IsPlaced, HasBytes, IsLoadedItem}
 use Rattle.wild_types.specs.ResolvedFlags.{HaveTheirFlags}
-use Rattle.wild_layout.specs.Numbers.{NumbersFit}
-use Rattle.wild_layout.specs.Geometry.{IsLaidOut}
-use Rattle.wild_loader.specs.declared.memory.Memory.{Memory}
-use Rattle.wild_loader.specs.declared.world.World.{World}
-use Rattle.wild_types.specs.HeaderOnly.{KeepsAll}
 use Rattle.wild_geometry.specs.Slots.{HasSlots}
-use Rattle.wild_meaning.specs.World.{IsLoadable, IsLegal}
-use Rattle.wild_meaning.specs.LinkedImage.{processor_of}
+use Rattle.wild_meaning.specs.World.{IsLegal}
 use Rattle.wild_meaning.proofs.OutputLemmas.{still_fixed, moving_movable}
 use Rattle.wild_references.proofs.KeptItems.{item_lies, addends_fit}
-use Rattle.wild_references.specs.Terms.{SymbolsFit, MovesByPages, IsPlaced}
-use Rattle.wild_references.specs.Laws.{HasBytes, IsLoadedItem, ItemFieldsHold}
+use Rattle.wild_references.specs.Laws.{ItemFieldsHold}
 use Rattle.wild_references.specs.Thunks.{ThunksJumpToTargets}
 use Rattle.wild_references.proofs.Fields.{Tables, KindLaws, LinkedLaws, IsItemLoaded}
 use Rattle.wild_references.proofs.References.{field_holds, field_links}

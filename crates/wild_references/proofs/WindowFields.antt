@@ -1,45 +1,16 @@
 -- The field of a relocation lies in what that writes, or in the sequence that takes it along.
-use Rattle.std.proofs.Common.{◌≡◌, ℕ, ◌+◌, ◌≤◌, ◌⊎◌, inl, inr, Bool, true, false, [], ◌∷◌, length, slice_range, refl, sym, ap, ◌∙◌, arith, subst}
-use Rattle.std.specs.Prelude.{option_map, Option, Some, Ok, ◌==◌, if◌then◌else◌, slice_get, None, ⊤}
-use Rattle.std.specs.List.{list_all}
-use Rattle.std.proofs.lemmas.Bool.{and_parts, eqb-true}
-use Rattle.std.proofs.lemmas.Option.{slice_get_within}
-use Rattle.wild_words.specs.Overlay.{Piece}
+use Rattle.wild_references.proofs.Common.{◌≡◌, ℕ, ◌+◌, ◌≤◌, ◌⊎◌, inl, inr, Bool, true, false, [], ◌∷◌, length, slice_range, refl, sym, ap, ◌∙◌, arith, subst, option_map, Option, Some, Ok, ◌==◌, if◌then◌else◌, slice_get, None, ⊤, list_all, and_parts, eqb-true, slice_get_within, Piece, InputRelocation, Item, Layout, row_of, size_width, field_width, x86_64_rows, x86_64_row, RelocationKind, RelocationKindInfo, RelocationSize, ByteSize, Eight, length-size_written, entry_passes, RelocationInfo, Row, field_of, has_its_sequence, partner_distance, call_form, is_call_number, applies, pattern_of, pattern_size, Decision, Nothing, Field, RelativeAddress, DynamicField, Rewritten, Partner, question_of, choice_of, field_site, template_site, site_for, HasField, decided_moved, decided_left, decided_nothing, field_has, IsChosen, choice_row, chosen_listed, window_in, length-template_site, decide_nothing, decide_moved, decide_left, decide_field, rewritten_x86_64, decide_partner, IsDecided, HasDecision, KeepsInstruction}
 use Rattle.wild_types.specs.declared.kind.Machine.TheVariants as machine
-use Rattle.wild_types.specs.declared.input.InputRelocation.{InputRelocation}
-use Rattle.wild_types.specs.Item.{Item}
-use Rattle.wild_types.specs.declared.layout.Layout.{Layout}
-use Rattle.wild_types.specs.Rows.{row_of}
-use Rattle.wild_reloc.specs.Field.{size_width, field_width}
-use Rattle.wild_reloc.specs.TableX86_64.{x86_64_rows, x86_64_row}
-use Rattle.wild_reloc.specs.declared.info.RelocationKind.{RelocationKind}
 use Rattle.wild_reloc.specs.declared.info.RelocationKind.TheVariants as kinds
-use Rattle.wild_reloc.specs.declared.info.RelocationKindInfo.{RelocationKindInfo}
-use Rattle.wild_reloc.specs.declared.info.RelocationSize.{RelocationSize}
-use Rattle.wild_reloc.specs.declared.info.RelocationSize.TheVariants.{ByteSize}
-use Rattle.wild_reloc.specs.declared.info.Width.TheVariants.{Eight}
-use Rattle.wild_reloc.proofs.PlaceLemmas.{length-size_written}
-use Rattle.wild_reloc.proofs.TableLemmas.{entry_passes}
-use Rattle.wild_relax.specs.declared.reference.RelocationInfo.{RelocationInfo}
-use Rattle.wild_relax.specs.declared.row.Row.{Row}
-use Rattle.wild_relax.specs.Pattern.{field_of}
-use Rattle.wild_relax.specs.RowSequences.{has_its_sequence, partner_distance, call_form, is_call_number, is_partner_at, form_by}
-use Rattle.wild_relax.specs.Rows.{applies}
+use Rattle.wild_relax.specs.RowSequences.{is_partner_at, form_by}
 use Rattle.wild_relax.specs.RowSequences as rows
-use Rattle.wild_relax.specs.LinkedPattern.{pattern_of, pattern_size}
 use Rattle.wild_relax.specs.declared.row.Partner as writer
 use Rattle.wild_relax.proofs.RoomLemmas.{partner_asked}
-use Rattle.wild_layout.specs.declared.decision.Decision.{Decision}
-use Rattle.wild_layout.specs.declared.decision.Decision.TheVariants.{Nothing, Field, RelativeAddress, DynamicField, Rewritten, Partner}
-use Rattle.wild_layout.specs.Choice.{info_of, question_of, choice_of}
-use Rattle.wild_layout.specs.Sites.{field_site, template_site, site_for}
-use Rattle.wild_layout.proofs.DecideLemmas.{HasField, IsNothing, decided_field, decided_moved, decided_left, decided_nothing, field_has, moved_has, left_has}
+use Rattle.wild_layout.specs.Choice.{info_of}
+use Rattle.wild_layout.proofs.DecideLemmas.{IsNothing, decided_field, moved_has, left_has}
 use Rattle.wild_slot.proofs.TreatmentLemmas.{IsSilent}
-use Rattle.wild_layout.proofs.ChoiceLemmas.{IsChosen, choice_row, chosen_listed, IsSequence}
-use Rattle.wild_layout.proofs.SiteLemmas.{window_in, length-template_site}
-use Rattle.wild_layout.proofs.DecisionLemmas.{decide_nothing, decide_moved, decide_left, decide_field, rewritten_x86_64, decide_partner, sequence_is_rewritten}
-use Rattle.wild_geometry.specs.Loaded.{IsDecided, HasDecision}
-use Rattle.wild_references.specs.Laws.{KeepsInstruction}
+use Rattle.wild_layout.proofs.ChoiceLemmas.{IsSequence}
+use Rattle.wild_layout.proofs.DecisionLemmas.{sequence_is_rewritten}
 use Rattle.wild_references.proofs.KnownRows.{formula_there}
 use Rattle.wild_references.proofs.WindowRows.{chosen_stands, width_by, width_of, is_well, each_is_well, field_lies, calls_are_well, call_width_is}
 

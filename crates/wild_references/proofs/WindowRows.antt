@@ -1,25 +1,6 @@
 -- The row that stands at a relocation: what was asked of it, and where its field and its bytes lie.
-use Rattle.std.proofs.Common.{◌≡◌, ℕ, ◌+◌, ◌≤◌, inl, inr, Bool, true, false, refl}
-use Rattle.std.specs.Prelude.{Option, Some, None, Ok, not, ◌&&◌, ◌||◌, ◌==◌, nat_le, if◌then◌else◌}
-use Rattle.std.specs.List.{list_all}
-use Rattle.std.proofs.lemmas.Bool.{and_parts, eqb-true, leb-true, or_cases, and_from}
-use Rattle.wild_types.specs.Kinds.{is_executable}
-use Rattle.wild_types.specs.Lookups.{executable}
-use Rattle.wild_reloc.specs.Formula.{Formula}
-use Rattle.wild_reloc.specs.FormulaX86_64.{x86_64_formula}
-use Rattle.wild_relax.specs.declared.pattern.GeneralForm.{GeneralForm}
+use Rattle.wild_references.proofs.Common.{◌≡◌, ℕ, ◌+◌, ◌≤◌, inl, inr, Bool, true, false, refl, Option, Some, None, Ok, not, ◌&&◌, ◌||◌, ◌==◌, nat_le, if◌then◌else◌, list_all, and_parts, eqb-true, leb-true, or_cases, and_from, is_executable, executable, Formula, x86_64_formula, GeneralForm, Row, Question, relocation_of, minus_four, field_of, pattern_matches_before, takes_value, takes_symbol, partner_distance, call_form, is_call_number, has_its_sequence, rows_x86_64, applies, chosen_row_x86_64, is_mandatory, is_skip, rewrite_of, pattern_of, pattern_size, keeps_bytes, form_width}
 use Rattle.wild_relax.specs.declared.pattern.GeneralForm.TheVariants as general
-use Rattle.wild_relax.specs.declared.row.Row.{Row}
-use Rattle.wild_relax.specs.Question.{Question, relocation_of, minus_four}
-use Rattle.wild_relax.specs.Pattern.{field_of, pattern_matches_before}
-use Rattle.wild_relax.specs.RowSymbols.{takes_value, takes_symbol}
-use Rattle.wild_relax.specs.RowSequences.{partner_distance, call_form, is_call_number, has_its_sequence}
-use Rattle.wild_relax.specs.Rows.{rows_x86_64, applies, chosen_row_x86_64}
-use Rattle.wild_relax.specs.RowSymbols.{is_mandatory}
-use Rattle.wild_relax.specs.Rewrite.{is_skip}
-use Rattle.wild_relax.specs.RewriteX86_64.{rewrite_of}
-use Rattle.wild_relax.specs.LinkedPattern.{pattern_of, pattern_size, keeps_bytes}
-use Rattle.wild_meaning.specs.Field.{form_width}
 use Rattle.wild_relax.proofs.RowLemmas.{either}
 use Rattle.wild_relax.proofs.RoomLemmas.{chosen_is}
 

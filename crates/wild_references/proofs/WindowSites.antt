@@ -1,20 +1,12 @@
 -- What relocations write, apart from each other, and how wide their fields are.
-use Rattle.std.proofs.Common.{◌≡◌, ℕ, ◌+◌, ◌<◌, ◌≤◌, inl, inr, List, [], ◌∷◌, length, take, get_or, refl, ap, ◌∙◌, arith, subst}
-use Rattle.std.specs.List.{flat_map, range_with_len}
-use Rattle.std.proofs.lemmas.Bool.{cases_lt}
-use Rattle.std.proofs.lemmas.Option.{slice_get_within}
+use Rattle.wild_references.proofs.Common.{◌≡◌, ℕ, ◌+◌, ◌<◌, ◌≤◌, inl, inr, List, [], ◌∷◌, length, take, get_or, refl, ap, ◌∙◌, arith, subst, range_with_len, cases_lt, slice_get_within, Piece, Disjoint, InputRelocation, Item, Layout, Decision, site_for, IsDecided, HasDecision}
+use Rattle.std.specs.List.{flat_map}
 use Rattle.std.proofs.lemmas.List.{take-take, get_or-take, length-take-le}
 use Rattle.std.proofs.lemmas.List.Concat.{get_or-flat_map}
 use Rattle.std.proofs.lemmas.List.Folds.{length-flat_map-take}
 use Rattle.std.proofs.lemmas.List.FromFn.{get_or-range_with_len, length-range_with_len}
-use Rattle.wild_words.specs.Overlay.{Piece, Disjoint}
 use Rattle.wild_words.proofs.OrderLemmas.{Disjoint-flip}
-use Rattle.wild_types.specs.declared.input.InputRelocation.{InputRelocation}
-use Rattle.wild_types.specs.Item.{Item}
-use Rattle.wild_types.specs.declared.layout.Layout.{Layout}
-use Rattle.wild_layout.specs.declared.decision.Decision.{Decision}
-use Rattle.wild_layout.specs.Sites.{site_for, site, sites}
-use Rattle.wild_geometry.specs.Loaded.{IsDecided, HasDecision}
+use Rattle.wild_layout.specs.Sites.{site, sites}
 
 -- ---- the site of a decision
 

@@ -1,22 +1,6 @@
 -- No field of another relocation lies among the bytes of an instruction that is rewritten.
-use Rattle.std.proofs.Common.{◌≡◌, ℕ, ◌+◌, ◌<◌, ◌≤◌, ◌⊎◌, inl, inr, length, refl, sym, ap, ◌∙◌, arith, subst}
-use Rattle.std.specs.Prelude.{Some}
-use Rattle.std.proofs.lemmas.Bool.{cases_lt}
-use Rattle.wild_words.specs.Overlay.{Piece, Disjoint}
-use Rattle.wild_types.specs.declared.kind.Machine.{Machine}
+use Rattle.wild_references.proofs.Common.{◌≡◌, ℕ, ◌+◌, ◌<◌, ◌≤◌, ◌⊎◌, inl, inr, length, refl, sym, ap, ◌∙◌, arith, subst, Some, cases_lt, Piece, Disjoint, Machine, InputRelocation, Layout, Item, Formula, Row, pattern_size, Decision, Rewritten, Partner, template_start, template_site, IsDecided, HasDecision, formula_of, form_width, IsOutsideField, WindowsHaveNoOtherField}
 use Rattle.wild_types.specs.declared.kind.Machine.TheVariants as machine
-use Rattle.wild_types.specs.declared.input.InputRelocation.{InputRelocation}
-use Rattle.wild_types.specs.declared.layout.Layout.{Layout}
-use Rattle.wild_types.specs.Item.{Item}
-use Rattle.wild_reloc.specs.Formula.{Formula}
-use Rattle.wild_relax.specs.declared.row.Row.{Row}
-use Rattle.wild_relax.specs.LinkedPattern.{pattern_size}
-use Rattle.wild_layout.specs.declared.decision.Decision.{Decision}
-use Rattle.wild_layout.specs.declared.decision.Decision.TheVariants.{Rewritten, Partner}
-use Rattle.wild_layout.specs.Sites.{template_start, template_site}
-use Rattle.wild_geometry.specs.Loaded.{IsDecided, HasDecision}
-use Rattle.wild_meaning.specs.Field.{formula_of, form_width}
-use Rattle.wild_references.specs.EffectLaws.{IsOutsideField, WindowsHaveNoOtherField}
 use Rattle.wild_references.proofs.WindowRows.{width_by, width_of}
 use Rattle.wild_references.proofs.WindowSites.{sites_apart}
 use Rattle.wild_references.proofs.WindowFields.{window_is, HasSite, has_site}

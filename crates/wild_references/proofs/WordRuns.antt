@@ -3,33 +3,10 @@
 --   own_type        the type of a word that is rewritten
 --   run_word        where a word of a run is rewritten, each is
 --   calls_alone     no relocation has a field in the word of a call
-use Rattle.std.proofs.Common.{◌≡◌, ℕ, zero, suc, ◌+◌, ◌*◌, ◌<◌, ◌≤◌, ◌⊎◌, inl, inr, Bool, true, false, List, [], ◌∷◌, length, get_or, refl, sym, ap, ◌∙◌, subst, arith, eq-eqb}
-use Rattle.std.specs.Prelude.{◌==◌, ◌&&◌, ◌||◌, not, if◌then◌else◌, slice_get, Option, Some, Contains}
-use Rattle.std.specs.List.{list_all}
-use Rattle.std.proofs.lemmas.Bool.{and_parts, eqb-true, not-true, cases_eq}
-use Rattle.std.proofs.lemmas.Option.{slice_get_within, slice_get-get_or, get_or_from_slice_get}
-use Rattle.wild_words.proofs.Basics.{not_both, listed_passes}
+use Rattle.wild_references.proofs.Common.{◌≡◌, ℕ, zero, suc, ◌+◌, ◌*◌, ◌<◌, ◌≤◌, ◌⊎◌, inl, inr, Bool, true, false, List, [], ◌∷◌, length, get_or, refl, sym, ap, ◌∙◌, subst, arith, ◌==◌, ◌&&◌, ◌||◌, not, if◌then◌else◌, slice_get, Option, Some, Contains, list_all, and_parts, eqb-true, not-true, cases_eq, slice_get_within, slice_get-get_or, get_or_from_slice_get, not_both, listed_passes, Machine, InputRelocation, Layout, Item, aarch64_formula, Sequence, DescriptorCall, OffsetSlot, Address, RelocationInfo, Row, CALL_FIRST, Rewriting, rewritings, keeps_bytes, types_of, words_before, relocations_match, RowsApplyTogether, Rewritten, infos_from, question_around, IsDecided, HasDecision, IsOwnByte, descriptor_call_words, formula_of, IsOutsideField, WindowsHaveNoOtherField}
+use Rattle.std.proofs.Common.{eq-eqb}
 use Rattle.wild_records.specs.Abi.Relocation as abi
-use Rattle.wild_types.specs.declared.kind.Machine.{Machine}
-use Rattle.wild_types.specs.declared.input.InputRelocation.{InputRelocation}
-use Rattle.wild_types.specs.declared.layout.Layout.{Layout}
-use Rattle.wild_types.specs.Item.{Item}
-use Rattle.wild_reloc.specs.FormulaAArch64.{aarch64_formula}
-use Rattle.wild_relax.specs.declared.pattern.Sequence.{Sequence}
-use Rattle.wild_relax.specs.declared.pattern.Sequence.TheVariants.{DescriptorCall, OffsetSlot, Address}
-use Rattle.wild_relax.specs.declared.reference.RelocationInfo.{RelocationInfo}
-use Rattle.wild_relax.specs.declared.row.Row.{Row}
-use Rattle.wild_relax.specs.declared.table_aarch64.TheConstants.{CALL_FIRST}
-use Rattle.wild_relax.specs.KeepAArch64.{Rewriting, rewritings}
-use Rattle.wild_relax.specs.LinkedPattern.{keeps_bytes}
-use Rattle.wild_relax.specs.SequenceAArch64.{types_of, words_before, relocations_match}
-use Rattle.wild_relax.specs.SequenceRowsAArch64.{RowsApplyTogether}
-use Rattle.wild_layout.specs.declared.decision.Decision.TheVariants.{Rewritten}
-use Rattle.wild_layout.specs.Choice.{info_at, infos_from, question_around}
-use Rattle.wild_geometry.specs.Loaded.{IsDecided, HasDecision}
-use Rattle.wild_meaning.specs.Sequence.{IsOwnByte, descriptor_call_words}
-use Rattle.wild_meaning.specs.Field.{formula_of}
-use Rattle.wild_references.specs.EffectLaws.{IsOutsideField, WindowsHaveNoOtherField}
+use Rattle.wild_layout.specs.Choice.{info_at}
 use Rattle.wild_references.proofs.Windows.{order}
 use Rattle.wild_references.proofs.WordWindows.{word_here, call_width, no_partner_there}
 use Rattle.wild_references.proofs.RewrittenRuns.{IsRewrittenWord, IsRunThere}

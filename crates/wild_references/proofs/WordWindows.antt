@@ -2,38 +2,11 @@
 --   IsWordHere ..   what the decision says of the word
 --   call_or_wide    its relocation has a field of four bytes, or is that of a call
 --   own_piece       each relocation writes what its field has, or has none
-use Rattle.std.proofs.Common.{◌≡◌, ℕ, ◌+◌, ◌≤◌, ◌⊎◌, inl, inr, Bool, true, false, [], ◌∷◌, length, slice_range, refl, sym, ap, ◌∙◌, arith, subst}
-use Rattle.std.specs.Prelude.{Option, Some, None, Ok, ◌||◌, ◌==◌, if◌then◌else◌}
-use Rattle.std.specs.List.{list_all}
-use Rattle.std.proofs.lemmas.Bool.{cases_Bool, eqb-true}
-use Rattle.wild_words.specs.Overlay.{Piece}
-use Rattle.wild_words.proofs.Basics.{or_other, listed_passes}
-use Rattle.wild_records.specs.Abi.Relocation.{r_x86_64_none, r_aarch64_tlsdesc_call}
-use Rattle.wild_types.specs.declared.kind.Machine.{Machine}
+use Rattle.wild_references.proofs.Common.{◌≡◌, ℕ, ◌+◌, ◌≤◌, ◌⊎◌, inl, inr, Bool, true, false, [], ◌∷◌, length, slice_range, refl, sym, ap, ◌∙◌, arith, subst, Option, Some, None, Ok, ◌||◌, ◌==◌, if◌then◌else◌, list_all, cases_Bool, eqb-true, Piece, or_other, listed_passes, r_x86_64_none, r_aarch64_tlsdesc_call, Machine, InputRelocation, Layout, Item, size_width, Formula, aarch64_formula, x86_64_formula, RelocationSize, ByteSize, Eight, length-size_written, Row, pattern_size, keeps_bytes, rows_aarch64, Decision, Nothing, Field, RelativeAddress, DynamicField, Rewritten, Partner, field_site, template_start, template_site, site_for, HasField, decided_nothing, decide_nothing, decide_partner, rewritten_aarch64, window_in, length-template_site, HasDecision, formula_of, form_width}
 use Rattle.wild_types.specs.declared.kind.Machine.TheVariants as machine
-use Rattle.wild_types.specs.declared.input.InputRelocation.{InputRelocation}
-use Rattle.wild_types.specs.declared.layout.Layout.{Layout}
-use Rattle.wild_types.specs.Item.{Item}
-use Rattle.wild_reloc.specs.Field.{size_width}
-use Rattle.wild_reloc.specs.Formula.{Formula}
-use Rattle.wild_reloc.specs.FormulaAArch64.{aarch64_formula}
-use Rattle.wild_reloc.specs.FormulaX86_64.{x86_64_formula}
-use Rattle.wild_reloc.specs.declared.info.RelocationSize.{RelocationSize}
-use Rattle.wild_reloc.specs.declared.info.RelocationSize.TheVariants.{ByteSize}
-use Rattle.wild_reloc.specs.declared.info.Width.TheVariants.{Eight}
-use Rattle.wild_reloc.proofs.PlaceLemmas.{length-size_written}
-use Rattle.wild_relax.specs.declared.row.Row.{Row}
-use Rattle.wild_relax.specs.LinkedPattern.{pattern_size, keeps_bytes}
-use Rattle.wild_relax.specs.RowsAArch64.{rows_aarch64}
-use Rattle.wild_layout.specs.declared.decision.Decision.{Decision}
-use Rattle.wild_layout.specs.declared.decision.Decision.TheVariants.{Nothing, Field, RelativeAddress, DynamicField, Rewritten, Partner}
-use Rattle.wild_layout.specs.Sites.{field_site, template_start, template_site, site_for}
-use Rattle.wild_layout.proofs.DecideLemmas.{HasField, IsNothing, decided_nothing}
-use Rattle.wild_layout.proofs.DecisionLemmas.{decide_nothing, decide_partner, IsRewrittenAArch64, rewritten_aarch64}
-use Rattle.wild_layout.proofs.SiteLemmas.{window_in, length-template_site}
+use Rattle.wild_layout.proofs.DecideLemmas.{IsNothing}
+use Rattle.wild_layout.proofs.DecisionLemmas.{IsRewrittenAArch64}
 use Rattle.wild_slot.proofs.TreatmentLemmas.{IsSilent}
-use Rattle.wild_geometry.specs.Loaded.{HasDecision}
-use Rattle.wild_meaning.specs.Field.{formula_of, form_width}
 use Rattle.wild_references.proofs.KnownRows.{width_is, none_is, call_known}
 use Rattle.wild_references.proofs.WindowRows.{width_by}
 use Rattle.wild_references.proofs.WindowFields.{kept_field}

@@ -1,24 +1,9 @@
 -- The words that bytes are, in the input and in memory.
-use Rattle.std.proofs.Common.{◌≡◌, ℕ, zero, suc, ◌+◌, ◌-◌, ◌≤◌, inl, inr, List, [], ◌∷◌, length, refl, sym, ap, ◌∙◌, subst, arith}
-use Rattle.std.specs.Prelude.{⊤, take, drop, slice_range, slice_index, Some, option_and_then}
-use Rattle.std.proofs.lemmas.Bool.{cases_lt}
+use Rattle.wild_references.proofs.Common.{◌≡◌, ℕ, zero, suc, ◌+◌, ◌-◌, ◌≤◌, inl, inr, List, [], ◌∷◌, length, refl, sym, ap, ◌∙◌, subst, arith, ⊤, take, drop, slice_range, slice_index, Some, option_and_then, cases_lt, number, Machine, Layout, Item, run, meaning, shapes, words_of, Memory, World, byte_in, Holds, Reader, Effect, effect, as_value, action_of, Instruction, size_of, place_at, effect_of, demand_of, IsDemanded, old_bytes}
 use Rattle.std.proofs.lemmas.List.{drop-drop, length-drop}
-use Rattle.wild_words.specs.Words.{number}
-use Rattle.wild_types.specs.declared.kind.Machine.{Machine}
 use Rattle.wild_types.specs.declared.kind.Machine.TheVariants as machine
-use Rattle.wild_types.specs.declared.layout.Layout.{Layout}
-use Rattle.wild_types.specs.Item.{Item}
-use Rattle.wild_aarch64.specs.Machine.{run, meaning}
-use Rattle.wild_aarch64.specs.Effect.{shapes, words_of}
-use Rattle.wild_loader.specs.declared.memory.Memory.{Memory}
-use Rattle.wild_loader.specs.declared.world.World.{World}
-use Rattle.wild_loader.specs.Memory.{byte_in, Holds}
-use Rattle.wild_loader.specs.Instruction.{Reader, Effect, effect, as_value}
-use Rattle.wild_loader.specs.InstructionAArch64.{action_of}
 use Rattle.wild_loader.proofs.HeldBytes.{held-first, held-rest}
-use Rattle.wild_meaning.specs.Sequence.{Instruction, size_of}
-use Rattle.wild_meaning.specs.Item.{place_at}
-use Rattle.wild_meaning.specs.Template.{effect_of, demand_of, IsDemanded, old_bytes, DoesWith}
+use Rattle.wild_meaning.specs.Template.{DoesWith}
 use Rattle.wild_references.proofs.Does.{read_all, length_read, AreThere, read_holds}
 use Rattle.wild_references.proofs.RunsAArch64.{RunDoes}
 

@@ -1,37 +1,17 @@
 -- What the relocations of a decided section write that keep their instructions.
-use Rattle.std.proofs.Common.{◌≡◌, ℕ, ◌+◌, ◌⊎◌, inl, inr, Bool, refl, sym, ap, subst}
-use Rattle.std.specs.Prelude.{Option, Some, None, Ok, slice_get}
-use Rattle.wild_records.specs.Abi.Relocation.{r_x86_64_none, r_x86_64_tlsdesc_call}
-use Rattle.wild_types.specs.declared.kind.Machine.{Machine}
+use Rattle.wild_references.proofs.Common.{◌≡◌, ℕ, ◌+◌, ◌⊎◌, inl, inr, Bool, refl, sym, ap, subst, Option, Some, None, Ok, slice_get, r_x86_64_none, r_x86_64_tlsdesc_call, Machine, InputRelocation, Item, Layout, RelocationKindInfo, RelocationSize, row_of, Decision, Nothing, Field, RelativeAddress, DynamicField, Rewritten, Partner, raw_address, raw_value, Treatment, treatment, kind_treatment, RelocationKind, decided, decided_moved, decided_left, decided_nothing, IsOwn, decide_nothing, decide_moved, decide_left, decide_field, HasDecision, RowsAreRead, NoValue, NoField, formula_of, KeepsInstruction}
 use Rattle.wild_types.specs.declared.kind.Machine.TheVariants as machine
 use Rattle.wild_types.specs.declared.fault.Missing.{Missing}
 use Rattle.wild_types.specs.declared.fault.Missing.TheVariants as missing
-use Rattle.wild_types.specs.declared.input.InputRelocation.{InputRelocation}
-use Rattle.wild_types.specs.Item.{Item}
-use Rattle.wild_types.specs.declared.layout.Layout.{Layout}
-use Rattle.wild_reloc.specs.declared.info.RelocationKindInfo.{RelocationKindInfo}
-use Rattle.wild_reloc.specs.declared.info.RelocationSize.{RelocationSize}
-use Rattle.wild_types.specs.Rows.{row_of}
-use Rattle.wild_layout.specs.declared.decision.Decision.{Decision}
-use Rattle.wild_layout.specs.declared.decision.Decision.TheVariants.{Nothing, Field, RelativeAddress, DynamicField, Rewritten, Partner}
-use Rattle.wild_layout.specs.SymbolValues.{resolved_address, raw_address}
-use Rattle.wild_types.specs.Addresses.{raw_value}
-use Rattle.wild_slot.specs.declared.treatment.Treatment.{Treatment}
+use Rattle.wild_layout.specs.SymbolValues.{resolved_address}
 use Rattle.wild_slot.specs.declared.treatment.Treatment.TheVariants as treatments
-use Rattle.wild_slot.specs.Treatment.{treatment, kind_treatment}
-use Rattle.wild_reloc.specs.declared.info.RelocationKind.{RelocationKind}
 use Rattle.wild_reloc.specs.declared.info.RelocationKind.TheVariants as kinds
-use Rattle.wild_layout.specs.Decide.{decided, decide_by}
-use Rattle.wild_layout.proofs.DecideLemmas.{IsField, IsMoved, IsLeft, decided_field, decided_moved, decided_left, decided_nothing}
+use Rattle.wild_layout.specs.Decide.{decide_by}
+use Rattle.wild_layout.proofs.DecideLemmas.{IsField, IsMoved, IsLeft, decided_field}
 use Rattle.wild_slot.proofs.TreatmentLemmas.{has_value}
 use Rattle.wild_references.proofs.KnownRows.{RowFits, row_fits, none_is, call_is, call_known}
-use Rattle.wild_layout.proofs.DecisionLemmas.{IsOwn, IsKept, IsKeptAArch64, decide_nothing, decide_moved, decide_left, decide_field}
-use Rattle.wild_geometry.specs.Loaded.{HasDecision}
-use Rattle.wild_geometry.specs.MachineFacts.{RowsAreRead}
+use Rattle.wild_layout.proofs.DecisionLemmas.{IsKept, IsKeptAArch64}
 use Rattle.wild_references.proofs.MovingSymbols.{treated_by}
-use Rattle.wild_reloc.specs.Formula.{NoValue, NoField}
-use Rattle.wild_meaning.specs.Field.{formula_of}
-use Rattle.wild_references.specs.Laws.{KeepsInstruction}
 
 -- ---- relocations
 

@@ -36,12 +36,12 @@ abbrev pub PlainInstructionsDo : Type 0
 PlainInstructionsDo = (l : Layout) (w : World) (m : Memory) (item : Item) (r : InputRelocation) → IsReference item r → MustHold l w item r → (UsesOwnSymbolOnly l item r → ⊥) → (start : ℕ) (o : Instruction) (first : InputRelocation) → IsTemplate l item r start o first
     → IsFilledPlainly l w m item start o first → DoesDemanded (reads w m) l w m item first start o
 
--- the field reads the same of each number with the same bits below its page of 4096 bytes
+-- if the field reads as a number, it reads as each number with the same bits below its page of 4096 bytes
 abbrev pub ReadsLowBits : Form → Type 0
 ReadsLowBits form = (bytes : List ℕ) (v x : ℕ) → Reads form bytes v → v % 4096 ≡ x % 4096 → Reads form bytes x
 
 -- The row of a relocation type has a formula, with a field as wide, and agrees with it. A field with only the offset of an address in
--- its page reads the same of each number with that offset.
+-- its page reads as each number with that offset.
 pub record HasFormula (m : Machine) (n : ℕ) (row : RelocationKindInfo) : Type 0 where
   pub formula : Formula
   pub known : formula_of m n ≡ Some formula

@@ -1,14 +1,8 @@
 -- Items that ascend, one symbol's behind those of the symbols before it.
-use Rattle.std.proofs.Common.{◌≡◌, ℕ, zero, suc, ◌+◌, ◌*◌, ◌≤◌, List, [], ◌∷◌, ◌++◌, All, subst, arith}
-use Rattle.std.specs.List.{flat_map}
-use Rattle.std.proofs.lemmas.List.Elements.{All-nil, All-cons, All-head, All-tail, All-append, All-weaker}
+use Rattle.wild_slots.proofs.Common.{◌≡◌, ℕ, zero, suc, ◌+◌, ◌*◌, ◌≤◌, List, [], ◌∷◌, ◌++◌, All, subst, arith, flat_map, All-nil, All-cons, All-head, All-tail, All-append, All-weaker, slots, Symbol, Layout, total, Ascend}
 use Rattle.std.proofs.lemmas.List.Kept.{AllPairs-cons}
 use Rattle.wild_words.proofs.ListLemmas.{AllPairs-nil, AllPairs-append}
-use Rattle.wild_relr.specs.RunWords.{slots}
-use Rattle.wild_types.specs.declared.symbol.Symbol.{Symbol}
-use Rattle.wild_types.specs.declared.layout.Layout.{Layout}
-use Rattle.wild_types.specs.Lists.{total}
-use Rattle.wild_slots.specs.AscendingPlaces.{LiesWithin, Ascend}
+use Rattle.wild_slots.specs.AscendingPlaces.{LiesWithin}
 use Rattle.wild_slots.proofs.WalkLemmas.{AllAfter}
 use Rattle.wild_slots.proofs.OrderLemmas.{IsPlacedAfter, total-push}
 

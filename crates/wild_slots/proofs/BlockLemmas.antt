@@ -1,34 +1,17 @@
 -- A group's block of slots has no gap.
-use Rattle.std.proofs.Common.{◌≡◌, ◌≢◌, ℕ, zero, suc, ◌+◌, ◌-◌, ◌*◌, ◌%◌, ◌^◌, ◌≤◌, inl, inr, true, List, [], ◌∷◌, ◌++◌, length, min, Some, None, All, Contains, refl, sym, ap, ◌∙◌, subst, arith}
-use Rattle.std.specs.Prelude.{Option, not, ◌==◌, unwrap_or}
-use Rattle.std.specs.List.{flat_map}
-use Rattle.std.proofs.lemmas.Bool.{cases_Bool, or_cases, not-true, eqb-true, eqb-false}
-use Rattle.std.proofs.lemmas.List.Elements.{All-nil, All-cons, All-head, All-tail, All-weaker}
-use Rattle.wild_words.proofs.ListLemmas.{All-flat_map, flat_map-flat_map}
-use Rattle.wild_relr.specs.RunWords.{slots}
+use Rattle.wild_slots.proofs.Common.{◌≡◌, ◌≢◌, ℕ, zero, suc, ◌+◌, ◌-◌, ◌*◌, ◌%◌, ◌^◌, ◌≤◌, inl, inr, true, List, [], ◌∷◌, ◌++◌, length, min, Some, None, All, Contains, refl, sym, ap, ◌∙◌, subst, arith, Option, not, ◌==◌, unwrap_or, flat_map, cases_Bool, eqb-true, All-nil, All-cons, All-head, All-tail, All-weaker, All-flat_map, slots, Role, Group, Symbol, Layout, SlotWord, Number, Address, InRelrGot, General, Plt, total, next, at_places, got_of, slots_address, own_symbols, slots_of, words_in, symbol_share, start_of, first_free, table_bytes, HasSlotsInOrder, group_symbols, place_in, word_places}
+use Rattle.std.proofs.lemmas.Bool.{or_cases, not-true, eqb-false}
+use Rattle.wild_words.proofs.ListLemmas.{flat_map-flat_map}
 use Rattle.wild_relr.proofs.BlockLemmas.{slots-append}
 use Rattle.wild_types.specs.declared.part.Part.{Part}
-use Rattle.wild_types.specs.declared.part.Role.{Role}
 use Rattle.wild_types.specs.declared.part.Role.TheVariants as role
-use Rattle.wild_types.specs.declared.file.Group.{Group}
-use Rattle.wild_types.specs.declared.symbol.Symbol.{Symbol}
-use Rattle.wild_types.specs.declared.layout.Layout.{Layout}
-use Rattle.wild_slot.specs.declared.slot.SlotWord.{SlotWord}
-use Rattle.wild_slot.specs.declared.slot.SlotWord.TheVariants.{Number, Address, InRelrGot, General, Plt}
 use Rattle.wild_slot.specs.declared.slot_parts.WordPart.TheVariants as words
-use Rattle.wild_types.specs.Lists.{total}
 use Rattle.wild_types.specs.Parts.{has_role, part_with}
-use Rattle.wild_slot.specs.SlotParts.{next, at_places}
-use Rattle.wild_types.specs.SymbolSlots.{got_of, slots_address}
-use Rattle.wild_types.specs.FileSymbols.{own_symbols}
-use Rattle.wild_slot.specs.SymbolWords.{slots_of}
-use Rattle.wild_needs.specs.SlotShares.{words_in, symbol_share, relr_got_places, group_relr_got, block_of}
-use Rattle.wild_plan_rules.specs.SlotPlaces.{address_of_part, start_of, first_free, is_even_slot, slot_is_even, block_has_base}
+use Rattle.wild_needs.specs.SlotShares.{relr_got_places, group_relr_got, block_of}
+use Rattle.wild_plan_rules.specs.SlotPlaces.{address_of_part, is_even_slot, slot_is_even, block_has_base}
 use Rattle.wild_types.proofs.ListLemmas.{total-append}
-use Rattle.wild_layout.specs.TablePlaces.{table_bytes}
-use Rattle.wild_layout.specs.SlotOrder.{SlotsFollow, HasSlotsInOrder}
-use Rattle.wild_slots.specs.Order.{group_symbols, end_of}
-use Rattle.wild_slots.specs.AscendingPlaces.{place_in, word_places}
+use Rattle.wild_layout.specs.SlotOrder.{SlotsFollow}
+use Rattle.wild_slots.specs.Order.{end_of}
 use Rattle.wild_slots.specs.Blocks.{IsWhole}
 use Rattle.wild_slots.proofs.WalkLemmas.{AllAfter, Piece-from_contains}
 use Rattle.wild_slots.proofs.OrderLemmas.{IsPlacedAfter, total-push, AreInOrder-from_test}

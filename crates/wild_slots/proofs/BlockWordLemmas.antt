@@ -1,27 +1,12 @@
 -- Words of a block of slots: only the first word of a symbol is one, and it is the only one where flags and slots agree.
-use Rattle.std.proofs.Common.{◌≡◌, ℕ, inl, inr, ◌⊎◌, Bool, true, false, List, [], ◌∷◌, ◌≤◌, length, Some, None, All, refl, sym, ap, ◌∙◌, subst, arith}
-use Rattle.std.specs.Prelude.{Option, not, ◌&&◌, if◌then◌else◌, is_some}
-use Rattle.std.proofs.lemmas.Bool.{cases_Bool, and_parts, or_cases, not-true}
+use Rattle.wild_slots.proofs.Common.{◌≡◌, ℕ, inl, inr, ◌⊎◌, Bool, true, false, List, [], ◌∷◌, ◌≤◌, length, Some, None, All, refl, sym, ap, ◌∙◌, subst, arith, Option, not, ◌&&◌, if◌then◌else◌, is_some, cases_Bool, and_parts, All-nil, All-cons, All-head, All-tail, All-append, All-weaker, Resolution, Symbol, Layout, Setting, SlotWord, Number, Address, InRelrGot, General, Plt, SlotItem, Word, Stub, Fault, is_position_independent, has_flag, ifunc, got_of, has_thread_slot, setting_of, slot, items_at, with_items, no_slot, add_item, thread_items, plain_item, stub_items, address_items, slots_of, resolved_slots, begins_relr_got, distance_if_too_far, HasItsFlags}
+use Rattle.std.proofs.lemmas.Bool.{or_cases, not-true}
 use Rattle.std.proofs.lemmas.List.{nil_from_length}
-use Rattle.std.proofs.lemmas.List.Elements.{All-nil, All-cons, All-head, All-tail, All-append, All-weaker}
-use Rattle.wild_types.specs.declared.symbol.Resolution.{Resolution}
-use Rattle.wild_types.specs.declared.symbol.Symbol.{Symbol}
 use Rattle.wild_types.specs.declared.symbol.ValueFlags.{ValueFlags}
-use Rattle.wild_types.specs.declared.layout.Layout.{Layout}
-use Rattle.wild_slot.specs.declared.slot.Setting.{Setting}
-use Rattle.wild_slot.specs.declared.slot.SlotWord.{SlotWord}
-use Rattle.wild_slot.specs.declared.slot.SlotWord.TheVariants.{Number, Address, InRelrGot, General, Plt}
-use Rattle.wild_slot.specs.declared.slot.SlotItem.{SlotItem}
-use Rattle.wild_slot.specs.declared.slot.SlotItem.TheVariants.{Word, Stub, Fault}
-use Rattle.wild_types.specs.Kinds.{is_position_independent}
-use Rattle.wild_types.specs.Flags.{has_flag, has_link_time_address, ifunc, canonical_plt, ifunc_got_for_address, canonical_plt_got_for_address}
-use Rattle.wild_types.specs.SymbolSlots.{got_of, has_thread_slot, has_dynamic_symbol}
-use Rattle.wild_slot.specs.Slots.{setting_of, slot, items_at, with_items, no_slot, add_item, thread_items, plain_item, named, stub_items, address_items}
-use Rattle.wild_slot.specs.SymbolWords.{slots_of, resolved_slots}
-use Rattle.wild_slot.specs.SlotParts.{begins_relr_got}
+use Rattle.wild_types.specs.Flags.{has_link_time_address, canonical_plt, ifunc_got_for_address, canonical_plt_got_for_address}
+use Rattle.wild_types.specs.SymbolSlots.{has_dynamic_symbol}
+use Rattle.wild_slot.specs.Slots.{named}
 use Rattle.wild_plan_rules.specs.SlotFlags.{takes_block_word, second_slot_fits}
-use Rattle.wild_slot.specs.MachineStub.{distance_if_too_far}
-use Rattle.wild_types.specs.ResolvedFlags.{HasItsFlags}
 use Rattle.wild_needs.proofs.SlotBlockLemmas.{behind_plain}
 use Rattle.wild_slots.proofs.ItemLemmas.{ItemHas, More-items, All-words, none_more, of_stub}
 use Rattle.wild_slots.proofs.SlotLemmas.{IsOther, Shape, shape, threads_other}

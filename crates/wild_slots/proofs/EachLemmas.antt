@@ -1,23 +1,11 @@
 -- Each word of a symbol stands at its own address.
-use Rattle.std.proofs.Common.{◌≡◌, ℕ, zero, suc, ◌+◌, ◌*◌, Bool, true, false, List, [], ◌∷◌, Some, All, refl, ap, subst, arith, slice_get}
-use Rattle.std.specs.Prelude.{Option, unwrap_or}
+use Rattle.wild_slots.proofs.Common.{◌≡◌, ℕ, zero, suc, ◌+◌, ◌*◌, Bool, true, false, List, [], ◌∷◌, Some, All, refl, ap, subst, arith, slice_get, Option, unwrap_or, holds_at, word_bytes, Symbol, Layout, SlotWord, Number, Address, InRelrGot, General, Plt, got_of, slots_address, word_of, slot_words, begins_relr_got, slots_of, words_in, HasSlotsInOrder}
 use Rattle.std.proofs.lemmas.Option.{same_Some}
 use Rattle.wild_words.specs.Words.{word, HasBytesAt}
-use Rattle.wild_words.proofs.ListLemmas.{holds_at}
 use Rattle.wild_words.proofs.RecordLemmas.{HasBytesAt-left}
-use Rattle.wild_relr.specs.WriterState.{word_bytes}
 use Rattle.wild_relr.proofs.SpellLemmas.{HasBytesAt-word}
 use Rattle.wild_types.specs.declared.part.Role.TheVariants as role
-use Rattle.wild_types.specs.declared.symbol.Symbol.{Symbol}
-use Rattle.wild_types.specs.declared.layout.Layout.{Layout}
-use Rattle.wild_slot.specs.declared.slot.SlotWord.{SlotWord}
-use Rattle.wild_slot.specs.declared.slot.SlotWord.TheVariants.{Number, Address, InRelrGot, General, Plt}
 use Rattle.wild_slot.specs.declared.slot_parts.WordPart.TheVariants as words
-use Rattle.wild_types.specs.SymbolSlots.{got_of, slots_address}
-use Rattle.wild_slot.specs.SlotParts.{word_of, slot_words, begins_relr_got}
-use Rattle.wild_slot.specs.SymbolWords.{slots_of}
-use Rattle.wild_needs.specs.SlotShares.{words_in}
-use Rattle.wild_layout.specs.SlotOrder.{HasSlotsInOrder}
 use Rattle.wild_slots.specs.SlotPlaces.{IsLocatedAt, WordsArePlaced, WordIsPlaced}
 use Rattle.wild_slots.proofs.BlockWordLemmas.{NotInBlock, first_alone, none_in_block}
 use Rattle.wild_slots.proofs.PlaceLemmas.{word_at}

@@ -1,25 +1,10 @@
 -- What holds of the words of a symbol; slots of outputs at their own addresses.
-use Rattle.std.proofs.Common.{◌≡◌, ℕ, inl, inr, Bool, false, List, [], ◌∷◌, get_or, Some, None, All, refl, sym, subst}
-use Rattle.std.specs.Prelude.{Option}
-use Rattle.std.specs.List.{flat_map}
-use Rattle.std.proofs.lemmas.List.Elements.{All-nil, All-cons, All-head, All-tail, All-weaker}
+use Rattle.wild_slots.proofs.Common.{◌≡◌, ℕ, inl, inr, Bool, false, List, [], ◌∷◌, get_or, Some, None, All, refl, sym, subst, Option, flat_map, All-nil, All-cons, All-head, All-tail, All-weaker, File, Resolution, Symbol, Layout, Setting, SlotWord, Number, Address, InRelrGot, General, Plt, is_position_independent, word_of, setting_of, slot, distance_if_too_far, own_symbols, slots_of, resolved_slots, words_in}
 use Rattle.wild_types.specs.declared.kind.Machine.{Machine}
-use Rattle.wild_types.specs.declared.file.File.{File}
-use Rattle.wild_types.specs.declared.symbol.Resolution.{Resolution}
-use Rattle.wild_types.specs.declared.symbol.Symbol.{Symbol}
-use Rattle.wild_types.specs.declared.layout.Layout.{Layout}
-use Rattle.wild_slot.specs.declared.slot.Setting.{Setting}
-use Rattle.wild_slot.specs.declared.slot.SlotWord.{SlotWord}
-use Rattle.wild_slot.specs.declared.slot.SlotWord.TheVariants.{Number, Address, InRelrGot, General, Plt}
 use Rattle.wild_slot.specs.declared.slot_parts.WordPart.TheVariants as words
 use Rattle.wild_slot.specs.declared.slot_parts.EntryPart.TheVariants as entries
-use Rattle.wild_types.specs.Kinds.{is_position_independent}
-use Rattle.wild_slot.specs.SlotParts.{word_of, entry_of, relr_slot_place}
-use Rattle.wild_slot.specs.Slots.{setting_of, slot}
-use Rattle.wild_slot.specs.MachineStub.{distance_if_too_far}
-use Rattle.wild_types.specs.FileSymbols.{own_symbols}
-use Rattle.wild_slot.specs.SymbolWords.{slots_of, resolved_slots}
-use Rattle.wild_needs.specs.SlotShares.{words_in, relr_got_place, relr_got_places, group_relr_got}
+use Rattle.wild_slot.specs.SlotParts.{entry_of, relr_slot_place}
+use Rattle.wild_needs.specs.SlotShares.{relr_got_place, relr_got_places, group_relr_got}
 use Rattle.wild_layout.specs.SlotBytes.{symbol_entries, relr_slots_in, slot_words_of, slot_entries_of, flat_places_of}
 use Rattle.wild_slots.specs.Entries.{MovesNothing}
 use Rattle.wild_slots.proofs.SlotLemmas.{IsOther, IsFirst, Shape, shape}

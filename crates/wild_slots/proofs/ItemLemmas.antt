@@ -1,13 +1,7 @@
 -- The words of items, one behind the other.
-use Rattle.std.proofs.Common.{◌≡◌, ℕ, Bool, true, false, List, [], ◌∷◌, ◌++◌, Some, None, All, refl, sym, ap, ◌∙◌, subst}
-use Rattle.std.specs.Prelude.{Option}
-use Rattle.std.proofs.lemmas.List.{append-nil, append_assoc}
-use Rattle.std.proofs.lemmas.List.Elements.{All-nil, All-cons, All-head, All-tail, All-append}
-use Rattle.wild_slot.specs.declared.slot.SlotWord.{SlotWord}
+use Rattle.wild_slots.proofs.Common.{◌≡◌, ℕ, Bool, true, false, List, [], ◌∷◌, ◌++◌, Some, None, All, refl, sym, ap, ◌∙◌, subst, Option, append-nil, append_assoc, All-nil, All-cons, All-head, All-tail, All-append, SlotWord, SlotItem, Word, Stub, Fault, no_slot, with_items, stub_items}
 use Rattle.wild_slot.specs.declared.slot.SlotFault.{SlotFault}
-use Rattle.wild_slot.specs.declared.slot.SlotItem.{SlotItem}
-use Rattle.wild_slot.specs.declared.slot.SlotItem.TheVariants.{Word, Stub, Fault}
-use Rattle.wild_slot.specs.Slots.{SlotContent, no_slot, with_item_by, with_item, with_items, named, items_if, stub_item, stub_items}
+use Rattle.wild_slot.specs.Slots.{SlotContent, with_item_by, with_item, named, items_if, stub_item}
 use Rattle.wild_slot.proofs.SlotLemmas.{fault_stays}
 
 -- an item that is a word has what is said of it

@@ -1,30 +1,16 @@
 -- Which entries the words of slots have, and where they come from.
-use Rattle.std.proofs.Common.{◌≡◌, ℕ, suc, ◌+◌, ◌*◌, ◌%◌, ◌^◌, ◌<◌, inl, inr, List, [], ◌∷◌, get_or, Some, None, All, Contains, refl, sym, ap, ◌∙◌, subst, arith, slice_get}
-use Rattle.std.specs.Prelude.{Option, option_to_list, unwrap_or}
-use Rattle.std.proofs.lemmas.List.Elements.{All-nil, All-cons, All-append, All-weaker, All-contains_itself, All-contains}
-use Rattle.wild_words.proofs.ListLemmas.{All-flat_map}
+use Rattle.wild_slots.proofs.Common.{◌≡◌, ℕ, suc, ◌+◌, ◌*◌, ◌%◌, ◌^◌, ◌<◌, inl, inr, List, [], ◌∷◌, get_or, Some, None, All, Contains, refl, sym, ap, ◌∙◌, subst, arith, slice_get, Option, option_to_list, unwrap_or, All-nil, All-cons, All-append, All-weaker, All-flat_map, File, Resolution, Symbol, Layout, Setting, SlotWord, Number, Address, InRelrGot, General, Plt, has_flag, ifunc, HasItsFlags, next, at_places, setting_of, got_of, slots_address, own_symbols, slots_of}
+use Rattle.std.proofs.lemmas.List.Elements.{All-contains_itself, All-contains}
 use Rattle.wild_words.proofs.Basics.{of_if}
 use Rattle.wild_reloc.specs.declared.dynamic.DynamicRelocationKind.TheVariants.{DtpMod}
-use Rattle.wild_types.specs.declared.file.File.{File}
-use Rattle.wild_types.specs.declared.symbol.Resolution.{Resolution}
-use Rattle.wild_types.specs.declared.symbol.Symbol.{Symbol}
 use Rattle.wild_types.specs.declared.symbol.ValueFlags.{ValueFlags}
-use Rattle.wild_types.specs.declared.layout.Layout.{Layout}
-use Rattle.wild_slot.specs.declared.slot.Setting.{Setting}
 use Rattle.wild_slot.specs.declared.slot.SlotEntry.{SlotEntry}
-use Rattle.wild_slot.specs.declared.slot.SlotWord.{SlotWord}
-use Rattle.wild_slot.specs.declared.slot.SlotWord.TheVariants.{Number, Address, InRelrGot, General, Plt}
 use Rattle.wild_slot.specs.declared.slot_parts.EntryPart.{EntryPart}
-use Rattle.wild_types.specs.Flags.{has_flag, ifunc}
 use Rattle.wild_types.specs.Kinds.{is_executable}
-use Rattle.wild_types.specs.ResolvedFlags.{HasItsFlags}
 use Rattle.wild_slot.specs.Storage.{minus}
-use Rattle.wild_slot.specs.SlotParts.{next, at_places, entry_of}
-use Rattle.wild_slot.specs.Slots.{setting_of, storage_pair}
-use Rattle.wild_types.specs.SymbolSlots.{got_of, slots_address}
-use Rattle.wild_types.specs.FileSymbols.{own_symbols}
+use Rattle.wild_slot.specs.SlotParts.{entry_of}
+use Rattle.wild_slot.specs.Slots.{storage_pair}
 use Rattle.wild_types.proofs.FileLemmas.{All-own}
-use Rattle.wild_slot.specs.SymbolWords.{slots_of}
 use Rattle.wild_needs.specs.SlotShares.{storage_at, storage_words}
 use Rattle.wild_layout.specs.SlotBytes.{symbol_entries, slot_entries_of}
 use Rattle.wild_slots.specs.Entries.{IsKnownEntry, entry_in, EntriesAreKnown, IsOfWord}

@@ -1,3 +1,4 @@
+mod Common
 mod Resolved
 pub mod ItemLemmas
 mod SlotLemmas

@@ -1,24 +1,15 @@
 -- The symbols that files write, each at the places behind those before it.
-use Rattle.std.proofs.Common.{◌≡◌, ℕ, ◌+◌, ◌-◌, ◌<◌, ◌≤◌, inl, inr, Bool, true, false, List, [], ◌∷◌, ◌++◌, length, drop, get_or, Some, None, Ok, Err, Contains, refl, sym, ap, ◌∙◌, subst, arith, slice_get, slice_range}
-use Rattle.std.specs.Prelude.{Option, Result, not, ◌&&◌, ◌==◌, nat_lt, if◌then◌else◌}
-use Rattle.std.proofs.lemmas.Bool.{cases_Bool, cases_lt, and_parts, and_cases, eqb-true, ltb-false, not-false}
+use Rattle.wild_slots.proofs.Common.{◌≡◌, ℕ, ◌+◌, ◌-◌, ◌<◌, ◌≤◌, inl, inr, Bool, true, false, List, [], ◌∷◌, ◌++◌, length, drop, get_or, Some, None, Ok, Err, Contains, refl, sym, ap, ◌∙◌, subst, arith, slice_get, slice_range, Option, Result, not, ◌&&◌, ◌==◌, nat_lt, if◌then◌else◌, cases_Bool, and_parts, eqb-true, File, Symbol, Layout, total, got_of, stub_size, symbol_share, own_symbols, slots_of, first_free, group_symbols, written_symbols}
+use Rattle.std.proofs.lemmas.Bool.{cases_lt, and_cases, ltb-false, not-false}
 use Rattle.std.proofs.lemmas.Option.{slice_get_within, get_or_from_slice_get}
 use Rattle.std.proofs.lemmas.List.{length-take, length-drop, get_or-take, get_or-drop}
 use Rattle.std.proofs.lemmas.List.Elements.{All-contains, Contains-append_left, Contains-append_right}
 use Rattle.wild_types.specs.declared.part.Role.TheVariants as role
-use Rattle.wild_types.specs.declared.file.File.{File}
-use Rattle.wild_types.specs.declared.symbol.Symbol.{Symbol}
-use Rattle.wild_types.specs.declared.layout.Layout.{Layout}
 use Rattle.wild_plan_rules.specs.declared.slot_places.SlotCursor.{SlotCursor}
-use Rattle.wild_types.specs.Lists.{total}
-use Rattle.wild_types.specs.SymbolSlots.{got_of, lacks_slots}
-use Rattle.wild_needs.specs.SlotShares.{stub_size, symbol_share}
+use Rattle.wild_types.specs.SymbolSlots.{lacks_slots}
 use Rattle.wild_types.specs.FileRoles.{writes_slots}
-use Rattle.wild_types.specs.FileSymbols.{own_symbols}
-use Rattle.wild_slot.specs.SymbolWords.{slots_of}
-use Rattle.wild_plan_rules.specs.SlotPlaces.{first_free, has_next_places, free_after, walk, symbol_step, slot_before, unless_some, range_step, file_step, group_step, last_astray, slots_astray}
+use Rattle.wild_plan_rules.specs.SlotPlaces.{has_next_places, free_after, walk, symbol_step, slot_before, unless_some, range_step, file_step, group_step, last_astray, slots_astray}
 use Rattle.wild_types.proofs.ListLemmas.{All-from_none_fails, total-append}
-use Rattle.wild_slots.specs.Order.{group_symbols, written_symbols}
 use Rattle.wild_slots.proofs.WalkLemmas.{AllAfter, Walked, Walked-none, Walked-more, through_both, same_Ok, walk_through}
 
 -- the free places behind those of the symbols so far

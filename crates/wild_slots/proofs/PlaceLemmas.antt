@@ -1,15 +1,7 @@
 -- The words of slots by their places and parts.
-use Rattle.std.proofs.Common.{◌≡◌, ℕ, zero, suc, ◌+◌, ◌*◌, ◌%◌, ◌^◌, ◌<◌, ◌≤◌, Bool, List, [], ◌∷◌, length, get_or, Some, None, All, refl, sym, ap, ◌∙◌, arith, slice_get}
-use Rattle.std.specs.Prelude.{Option, option_to_list}
-use Rattle.std.proofs.lemmas.List.{length-append}
-use Rattle.std.proofs.lemmas.List.Elements.{All-head, All-tail}
-use Rattle.wild_relr.specs.RunWords.{slots}
-use Rattle.wild_slot.specs.declared.slot.SlotWord.{SlotWord}
-use Rattle.wild_slot.specs.declared.slot.SlotWord.TheVariants.{Number, Address, InRelrGot, General, Plt}
+use Rattle.wild_slots.proofs.Common.{◌≡◌, ℕ, zero, suc, ◌+◌, ◌*◌, ◌%◌, ◌^◌, ◌<◌, ◌≤◌, Bool, List, [], ◌∷◌, length, get_or, Some, None, All, refl, sym, ap, ◌∙◌, arith, slice_get, Option, option_to_list, length-append, All-head, All-tail, slots, SlotWord, Number, Address, InRelrGot, General, Plt, next, at_places, word_of, slot_words, place_in}
 use Rattle.wild_slot.specs.declared.slot_parts.WordPart.{WordPart}
 use Rattle.wild_slot.specs.declared.slot_parts.WordPart.TheVariants as words
-use Rattle.wild_slot.specs.SlotParts.{next, at_places, word_of, slot_words}
-use Rattle.wild_slots.specs.AscendingPlaces.{place_in}
 use Rattle.wild_slots.proofs.BlockWordLemmas.{NotInBlock}
 
 -- words that give nothing

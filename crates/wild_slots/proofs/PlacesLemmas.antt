@@ -1,24 +1,12 @@
 -- The places of all words and stubs ascend.
-use Rattle.std.proofs.Common.{◌≡◌, ℕ, ◌+◌, ◌*◌, ◌^◌, ◌≤◌, inl, inr, List, [], length, get_or, All, sym, ap, ◌∙◌, subst, arith}
-use Rattle.std.specs.List.{flat_map}
+use Rattle.wild_slots.proofs.Common.{◌≡◌, ℕ, ◌+◌, ◌*◌, ◌^◌, ◌≤◌, inl, inr, List, [], length, get_or, All, sym, ap, ◌∙◌, subst, arith, flat_map, length-append, slots, word_bytes, length-word_bytes, Role, Group, Symbol, Layout, total, stub_size, words_in, symbol_share, header_words, start_of, first_free, HasSlotsInOrder, group_symbols, written_symbols, Ascend, word_places}
 use Rattle.std.proofs.lemmas.Bool.{cases_lt}
-use Rattle.std.proofs.lemmas.List.{length-append, nil_from_length}
+use Rattle.std.proofs.lemmas.List.{nil_from_length}
 use Rattle.std.proofs.lemmas.Option.{slice_get-get_or}
-use Rattle.wild_relr.specs.RunWords.{slots}
-use Rattle.wild_relr.specs.WriterState.{word_bytes}
-use Rattle.wild_relr.proofs.SpellLemmas.{length-word_bytes}
-use Rattle.wild_types.specs.declared.part.Role.{Role}
 use Rattle.wild_types.specs.declared.part.Role.TheVariants as role
-use Rattle.wild_types.specs.declared.file.Group.{Group}
-use Rattle.wild_types.specs.declared.symbol.Symbol.{Symbol}
-use Rattle.wild_types.specs.declared.layout.Layout.{Layout}
 use Rattle.wild_slot.specs.declared.slot_parts.WordPart.TheVariants as words
-use Rattle.wild_types.specs.Lists.{total}
-use Rattle.wild_needs.specs.SlotShares.{stub_size, words_in, symbol_share, header_words}
-use Rattle.wild_plan_rules.specs.SlotPlaces.{start_of, first_free}
-use Rattle.wild_layout.specs.SlotOrder.{HasSlotsInOrder}
-use Rattle.wild_slots.specs.Order.{group_symbols, written_symbols, end_of}
-use Rattle.wild_slots.specs.AscendingPlaces.{Ascend, word_places, stub_places, HasAscendingPlaces}
+use Rattle.wild_slots.specs.Order.{end_of}
+use Rattle.wild_slots.specs.AscendingPlaces.{stub_places, HasAscendingPlaces}
 use Rattle.wild_slots.proofs.OrderLemmas.{AreInOrder-from_test}
 use Rattle.wild_slots.proofs.TableLemmas.{IsTable, symbol_bytes, got_table, block_table, stub_table, length-symbols, headless, headed}
 use Rattle.wild_slots.proofs.AscendLemmas.{Ascend-none, Ascend-wider, Ascend-slots, AscendAt, ascend_all}

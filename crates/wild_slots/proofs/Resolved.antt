@@ -1,9 +1,5 @@
 -- Symbols that have a resolution.
-use Rattle.std.proofs.Common.{◌≡◌, ℕ, true, Some, None, refl}
-use Rattle.std.specs.Prelude.{Option, is_some}
-use Rattle.wild_types.specs.declared.symbol.Resolution.{Resolution}
-use Rattle.wild_types.specs.declared.symbol.Symbol.{Symbol}
-use Rattle.wild_types.specs.SymbolSlots.{got_of, resolved_got}
+use Rattle.wild_slots.proofs.Common.{◌≡◌, ℕ, true, Some, None, refl, Option, is_some, Resolution, Symbol, got_of, resolved_got}
 
 -- a symbol with a slot has a resolution
 pub has_resolution : (s : Symbol) (at : ℕ) → got_of s ≡ Some at → is_some s.resolution ≡ true

@@ -1,23 +1,14 @@
 -- Which words the slots of a symbol have: those of thread-local data, or one for its address and what stands behind it.
-use Rattle.std.proofs.Common.{◌≡◌, ℕ, inl, inr, ◌⊎◌, Bool, true, false, List, [], ◌∷◌, ◌++◌, Some, None, All, refl, sym, subst}
-use Rattle.std.specs.Prelude.{Option, not, ◌&&◌, ◌==◌, if◌then◌else◌}
-use Rattle.std.proofs.lemmas.Bool.{and_parts}
-use Rattle.std.proofs.lemmas.List.Elements.{All-nil, All-cons, All-append}
+use Rattle.wild_slots.proofs.Common.{◌≡◌, ℕ, inl, inr, ◌⊎◌, Bool, true, false, List, [], ◌∷◌, ◌++◌, Some, None, All, refl, sym, subst, Option, not, ◌&&◌, ◌==◌, if◌then◌else◌, and_parts, All-nil, All-cons, All-append, Resolution, Setting, SlotWord, Number, Address, InRelrGot, General, Plt, SlotItem, Word, Stub, Fault, is_position_independent, has_flag, ifunc, has_thread_slot, slot, items_at, with_items, no_slot, add_item, thread_items, plain_item, stub_items, address_items}
 use Rattle.wild_words.proofs.Basics.{of_if}
 use Rattle.wild_reloc.specs.declared.dynamic.DynamicRelocationKind.{DynamicRelocationKind}
 use Rattle.wild_reloc.specs.declared.dynamic.DynamicRelocationKind.TheVariants.{GotEntry, JumpSlot, DtpMod, DtpOff, TpOff, TlsDesc, Irelative}
-use Rattle.wild_types.specs.declared.symbol.Resolution.{Resolution}
-use Rattle.wild_slot.specs.declared.slot.Setting.{Setting}
 use Rattle.wild_slot.specs.declared.slot.SlotEntry.{SlotEntry}
-use Rattle.wild_slot.specs.declared.slot.SlotWord.{SlotWord}
-use Rattle.wild_slot.specs.declared.slot.SlotWord.TheVariants.{Number, Address, InRelrGot, General, Plt}
-use Rattle.wild_slot.specs.declared.slot.SlotItem.{SlotItem}
-use Rattle.wild_slot.specs.declared.slot.SlotItem.TheVariants.{Word, Stub, Fault}
-use Rattle.wild_types.specs.Kinds.{is_executable, is_static_executable, is_position_independent}
-use Rattle.wild_types.specs.Flags.{has_flag, interposable, has_link_time_address, dynamic, ifunc, got_tls_offset, got_tls_module, got_tls_descriptor, canonical_plt, ifunc_got_for_address, canonical_plt_got_for_address}
-use Rattle.wild_types.specs.SymbolSlots.{has_thread_slot, has_dynamic_symbol}
+use Rattle.wild_types.specs.Kinds.{is_executable, is_static_executable}
+use Rattle.wild_types.specs.Flags.{interposable, has_link_time_address, dynamic, got_tls_offset, got_tls_module, got_tls_descriptor, canonical_plt, ifunc_got_for_address, canonical_plt_got_for_address}
+use Rattle.wild_types.specs.SymbolSlots.{has_dynamic_symbol}
 use Rattle.wild_slot.specs.Storage.{is_outside}
-use Rattle.wild_slot.specs.Slots.{is_replaceable, slot, items_at, with_items, no_slot, add_item, offset_item, module_item, module_offset, module_offset_item, described, descriptor_item, offset_items, module_items, descriptor_items, thread_items, plain_item, stub_items, stub_address, ifunc_address_items, canonical_address_items, address_items, number}
+use Rattle.wild_slot.specs.Slots.{is_replaceable, offset_item, module_item, module_offset, module_offset_item, described, descriptor_item, offset_items, module_items, descriptor_items, stub_address, ifunc_address_items, canonical_address_items, number}
 use Rattle.wild_needs.proofs.SlotBlockLemmas.{behind_plain}
 use Rattle.wild_slots.specs.Entries.{NamesSymbols, NamesModules}
 use Rattle.wild_slots.proofs.ItemLemmas.{ItemHas, More-items, All-words, of_named, of_where, of_one, of_stub}

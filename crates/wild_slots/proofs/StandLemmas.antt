@@ -1,37 +1,19 @@
 -- The words and the stub of each symbol stand at their addresses.
-use Rattle.std.proofs.Common.{◌≡◌, ℕ, ◌+◌, ◌-◌, ◌*◌, ◌≤◌, inl, inr, Bool, true, false, List, [], ◌∷◌, ◌++◌, length, Some, Contains, refl, sym, ap, ◌∙◌, subst, arith, slice_get}
-use Rattle.std.specs.Prelude.{Option, if◌then◌else◌, replicate, unwrap_or}
-use Rattle.std.specs.List.{flat_map}
-use Rattle.std.proofs.lemmas.Bool.{cases_Bool, and_parts}
-use Rattle.std.proofs.lemmas.List.{length-replicate, append_assoc}
+use Rattle.wild_slots.proofs.Common.{◌≡◌, ℕ, ◌+◌, ◌-◌, ◌*◌, ◌≤◌, inl, inr, Bool, true, false, List, [], ◌∷◌, ◌++◌, length, Some, Contains, refl, sym, ap, ◌∙◌, subst, arith, slice_get, Option, if◌then◌else◌, replicate, unwrap_or, flat_map, cases_Bool, and_parts, append_assoc, holds_at, word_bytes, length-word_bytes, Role, File, Symbol, Layout, SlotWord, InRelrGot, total, slot_words, begins_relr_got, got_of, plt_of, slots_address, own_symbols, slots_of, symbol_share, header_words, start_of, table_bytes, HasItsFlags, HasSlotsInOrder, group_symbols, written_symbols}
+use Rattle.std.proofs.lemmas.List.{length-replicate}
 use Rattle.std.proofs.lemmas.List.Concat.{flat_map-append}
 use Rattle.std.proofs.lemmas.List.Elements.{Contains-append_cases}
 use Rattle.wild_words.specs.Words.{HasBytesAt}
-use Rattle.wild_words.proofs.ListLemmas.{Contains-here, Contains-there, holds_at}
+use Rattle.wild_words.proofs.ListLemmas.{Contains-here, Contains-there}
 use Rattle.wild_words.proofs.OverlayLemmas.{HasBytesAt-inner}
 use Rattle.wild_words.proofs.RecordLemmas.{HasBytesAt-left, HasBytesAt-right}
-use Rattle.wild_relr.specs.WriterState.{word_bytes}
-use Rattle.wild_relr.proofs.SpellLemmas.{word_bytes-append, length-word_bytes}
-use Rattle.wild_types.specs.declared.part.Role.{Role}
+use Rattle.wild_relr.proofs.SpellLemmas.{word_bytes-append}
 use Rattle.wild_types.specs.declared.part.Role.TheVariants as role
-use Rattle.wild_types.specs.declared.file.File.{File}
-use Rattle.wild_types.specs.declared.symbol.Symbol.{Symbol}
-use Rattle.wild_types.specs.declared.layout.Layout.{Layout}
-use Rattle.wild_slot.specs.declared.slot.SlotWord.{SlotWord}
-use Rattle.wild_slot.specs.declared.slot.SlotWord.TheVariants.{InRelrGot}
 use Rattle.wild_slot.specs.declared.slot_parts.WordPart.TheVariants as words
-use Rattle.wild_types.specs.Lists.{total}
-use Rattle.wild_slot.specs.SlotParts.{slot_words, begins_relr_got}
-use Rattle.wild_types.specs.SymbolSlots.{got_of, plt_of, slots_address}
 use Rattle.wild_types.specs.FileRoles.{writes_slots}
-use Rattle.wild_types.specs.FileSymbols.{own_symbols}
-use Rattle.wild_slot.specs.SymbolWords.{slots_of}
-use Rattle.wild_needs.specs.SlotShares.{symbol_share, header_words, storage_words}
-use Rattle.wild_plan_rules.specs.SlotPlaces.{start_of, is_free_place}
-use Rattle.wild_layout.specs.TablePlaces.{table_bytes}
-use Rattle.wild_types.specs.ResolvedFlags.{HasItsFlags}
-use Rattle.wild_layout.specs.SlotOrder.{HasSlotsInOrder}
-use Rattle.wild_slots.specs.Order.{group_symbols, written_symbols, IsWritten}
+use Rattle.wild_needs.specs.SlotShares.{storage_words}
+use Rattle.wild_plan_rules.specs.SlotPlaces.{is_free_place}
+use Rattle.wild_slots.specs.Order.{IsWritten}
 use Rattle.wild_slots.specs.SlotPlaces.{IsLocatedAt, WordsArePlaced, SymbolIsPlaced}
 use Rattle.wild_slots.proofs.Resolved.{has_resolution}
 use Rattle.wild_slots.proofs.WalkLemmas.{Cut, Cut-from_contains}

@@ -1,21 +1,9 @@
 -- A stub that has a place is there, where nothing failed.
-use Rattle.std.proofs.Common.{◌≡◌, ℕ, Bool, true, false, List, ◌∷◌, ◌++◌, Some, None, refl, ap, ◌∙◌, slice_get}
-use Rattle.std.specs.Prelude.{Option, if◌then◌else◌}
-use Rattle.wild_words.proofs.ListLemmas.{holds_at}
-use Rattle.wild_types.specs.declared.symbol.Resolution.{Resolution}
-use Rattle.wild_types.specs.declared.symbol.Symbol.{Symbol}
-use Rattle.wild_types.specs.declared.layout.Layout.{Layout}
-use Rattle.wild_slot.specs.declared.slot.Setting.{Setting}
+use Rattle.wild_slots.proofs.Common.{◌≡◌, ℕ, Bool, true, false, List, ◌∷◌, ◌++◌, Some, None, refl, ap, ◌∙◌, slice_get, Option, if◌then◌else◌, holds_at, Resolution, Symbol, Layout, Setting, SlotItem, Stub, got_of, resolved_got, plt_of, has_thread_slot, setting_of, slot, items_at, no_slot, add_item, with_items, thread_items, plain_item, stub_items, address_items, slots_of, resolved_slots, distance_if_too_far, HasItsFlags, HasSlotsInOrder}
 use Rattle.wild_slot.specs.declared.slot.SlotFault.{SlotFault}
-use Rattle.wild_slot.specs.declared.slot.SlotItem.{SlotItem}
-use Rattle.wild_slot.specs.declared.slot.SlotItem.TheVariants.{Stub}
-use Rattle.wild_types.specs.SymbolSlots.{got_of, resolved_got, plt_of, resolved_plt, has_thread_slot}
-use Rattle.wild_slot.specs.Slots.{SlotContent, setting_of, slot, items_at, no_slot, add_item, with_item, with_item_by, with_items, thread_items, plain_item, stub_item, stub_items, ifunc_address_items, canonical_address_items, address_items}
-use Rattle.wild_slot.specs.SymbolWords.{slots_of, resolved_slots}
-use Rattle.wild_slot.specs.MachineStub.{distance_if_too_far}
-use Rattle.wild_types.specs.ResolvedFlags.{HasItsFlags}
+use Rattle.wild_types.specs.SymbolSlots.{resolved_plt}
+use Rattle.wild_slot.specs.Slots.{SlotContent, with_item, with_item_by, stub_item, ifunc_address_items, canonical_address_items}
 use Rattle.wild_plan_rules.proofs.ClauseLemmas.{not_thread}
-use Rattle.wild_layout.specs.SlotOrder.{HasSlotsInOrder}
 use Rattle.wild_slots.proofs.Resolved.{has_resolution}
 use Rattle.wild_slots.proofs.ItemLemmas.{fault_first, stub_stays}
 

@@ -1,32 +1,12 @@
 -- Where the words and the stub of a symbol stand that stands behind others.
-use Rattle.std.proofs.Common.{◌≡◌, ℕ, ◌+◌, ◌*◌, ◌^◌, ◌≤◌, Bool, true, false, List, [], ◌∷◌, length, get_or, Some, None, All, refl, sym, ap, ◌∙◌, subst, arith}
-use Rattle.std.specs.Prelude.{Option, if◌then◌else◌, option_to_list, unwrap_or, is_some}
-use Rattle.std.proofs.lemmas.Bool.{and_parts, eqb-true}
-use Rattle.std.proofs.lemmas.List.Elements.{All-nil}
-use Rattle.wild_words.proofs.ListLemmas.{All-flat_map}
-use Rattle.wild_relr.specs.RunWords.{slots}
+use Rattle.wild_slots.proofs.Common.{◌≡◌, ℕ, ◌+◌, ◌*◌, ◌^◌, ◌≤◌, Bool, true, false, List, [], ◌∷◌, length, get_or, Some, None, All, refl, sym, ap, ◌∙◌, subst, arith, Option, if◌then◌else◌, option_to_list, unwrap_or, is_some, and_parts, eqb-true, All-nil, All-flat_map, slots, Group, Resolution, Symbol, Layout, SlotWord, Number, Address, InRelrGot, General, Plt, next, at_places, slot_words, begins_relr_got, got_of, resolved_got, plt_of, slots_address, setting_of, slot, with_items, no_slot, items_at, stub_size, words_in, symbol_share, own_symbols, slots_of, resolved_slots, distance_if_too_far, HasItsFlags, group_symbols, written_symbols, Ascend, place_in, word_places}
 use Rattle.wild_types.specs.declared.part.Role.TheVariants as role
-use Rattle.wild_types.specs.declared.file.Group.{Group}
-use Rattle.wild_types.specs.declared.symbol.Resolution.{Resolution}
-use Rattle.wild_types.specs.declared.symbol.Symbol.{Symbol}
-use Rattle.wild_types.specs.declared.layout.Layout.{Layout}
 use Rattle.wild_plan_rules.specs.declared.slot_places.SlotCursor.{SlotCursor}
-use Rattle.wild_slot.specs.declared.slot.SlotWord.{SlotWord}
-use Rattle.wild_slot.specs.declared.slot.SlotWord.TheVariants.{Number, Address, InRelrGot, General, Plt}
 use Rattle.wild_slot.specs.declared.slot_parts.WordPart.TheVariants as words
-use Rattle.wild_slot.specs.SlotParts.{next, at_places, slot_words, begins_relr_got}
-use Rattle.wild_types.specs.SymbolSlots.{got_of, resolved_got, plt_of, slots_address}
-use Rattle.wild_slot.specs.Slots.{setting_of, slot, with_items, no_slot, items_at}
 use Rattle.wild_plan_rules.specs.SlotFlags.{second_slot_fits}
-use Rattle.wild_needs.specs.SlotShares.{stub_size, words_in, symbol_share}
-use Rattle.wild_types.specs.FileSymbols.{own_symbols}
-use Rattle.wild_slot.specs.SymbolWords.{slots_of, resolved_slots}
 use Rattle.wild_plan_rules.specs.SlotPlaces.{is_free_place}
-use Rattle.wild_slot.specs.MachineStub.{distance_if_too_far}
-use Rattle.wild_types.specs.ResolvedFlags.{HasItsFlags}
 use Rattle.wild_types.proofs.FileLemmas.{All-own}
-use Rattle.wild_slots.specs.Order.{group_symbols, written_symbols}
-use Rattle.wild_slots.specs.AscendingPlaces.{Ascend, place_in, word_places, stub_places}
+use Rattle.wild_slots.specs.AscendingPlaces.{stub_places}
 use Rattle.wild_slots.proofs.Resolved.{has_resolution}
 use Rattle.wild_slots.proofs.OrderLemmas.{IsPlacedAfter}
 use Rattle.wild_slots.proofs.BlockWordLemmas.{NotInBlock, FirstAlone, first_alone, none_in_block, begins, only_word}

@@ -1,35 +1,16 @@
 -- What the tables of slots and stubs hold: what stands once, and what each symbol gives.
-use Rattle.std.proofs.Common.{◌≡◌, ℕ, ◌+◌, ◌≤◌, inl, inr, Bool, true, false, List, [], ◌∷◌, ◌++◌, length, None, All, refl, sym, ap, ◌∙◌, arith}
-use Rattle.std.specs.Prelude.{◌&&◌, ◌==◌, if◌then◌else◌}
-use Rattle.std.specs.List.{flat_map}
-use Rattle.std.proofs.lemmas.Bool.{cases_Bool, and_parts}
-use Rattle.std.proofs.lemmas.List.{append-nil, append_assoc, length-append}
+use Rattle.wild_slots.proofs.Common.{◌≡◌, ℕ, ◌+◌, ◌≤◌, inl, inr, Bool, true, false, List, [], ◌∷◌, ◌++◌, length, None, All, refl, sym, ap, ◌∙◌, arith, ◌&&◌, ◌==◌, if◌then◌else◌, flat_map, cases_Bool, and_parts, append-nil, append_assoc, length-append, All-nil, All-cons, All-head, All-tail, word_bytes, length-word_bytes, Role, File, Group, Symbol, Layout, total, stub_size, words_in, symbol_share, header_words, own_symbols, slots_of, slots_address, table_bytes, group_symbols, written_symbols}
 use Rattle.std.proofs.lemmas.List.Concat.{flat_map-append}
-use Rattle.std.proofs.lemmas.List.Elements.{All-nil, All-cons, All-head, All-tail}
 use Rattle.wild_words.specs.Words.{word}
 use Rattle.wild_words.proofs.ListLemmas.{flat_map-flat_map}
-use Rattle.wild_relr.specs.WriterState.{word_bytes}
-use Rattle.wild_relr.proofs.SpellLemmas.{length-word_bytes}
-use Rattle.wild_types.specs.declared.part.Role.{Role}
 use Rattle.wild_types.specs.declared.part.Role.TheVariants as role
-use Rattle.wild_types.specs.declared.file.File.{File}
-use Rattle.wild_types.specs.declared.file.Group.{Group}
-use Rattle.wild_types.specs.declared.symbol.Symbol.{Symbol}
-use Rattle.wild_types.specs.declared.layout.Layout.{Layout}
 use Rattle.wild_slot.specs.declared.slot_parts.WordPart.TheVariants as words
-use Rattle.wild_types.specs.Lists.{total}
 use Rattle.wild_types.specs.FileRoles.{is_prelude, is_epilogue}
 use Rattle.wild_types.specs.FilePlaces.{bool_eq, file_position_fits, later_positions_fit, group_positions_fit, first_misplaced_file}
-use Rattle.wild_needs.specs.SlotShares.{stub_size, words_in, symbol_share, header_words}
-use Rattle.wild_types.specs.FileSymbols.{own_symbols}
-use Rattle.wild_slot.specs.SymbolWords.{slots_of}
-use Rattle.wild_types.specs.SymbolSlots.{slots_address}
 use Rattle.wild_placement.specs.PlacedSections.{placed_files}
 use Rattle.wild_placement.proofs.PlacedFiles.{ReadsNoSection, placed_files_same}
 use Rattle.wild_layout.specs.SlotBytes.{stub_bytes, slot_words_of, stubs_of, slot_bytes}
 use Rattle.wild_layout.specs.Content.{file_content, group_bytes, content}
-use Rattle.wild_layout.specs.TablePlaces.{table_bytes}
-use Rattle.wild_slots.specs.Order.{group_symbols, written_symbols}
 use Rattle.wild_slot.specs.MachineStub.{stub_in}
 use Rattle.wild_slot.proofs.StubLemmas.{length-stub_of}
 

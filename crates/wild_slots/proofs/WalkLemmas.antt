@@ -1,8 +1,5 @@
 -- Walks with a state: what holds of each item and of the items before it.
-use Rattle.std.proofs.Common.{◌≡◌, ℕ, zero, suc, ◌<◌, List, [], ◌∷◌, ◌++◌, length, get_or, Contains, Ok, Err, refl, sym, ap, ◌∙◌, subst, arith}
-use Rattle.std.specs.Prelude.{Result}
-use Rattle.std.specs.List.{flat_map}
-use Rattle.std.proofs.lemmas.List.{append-nil, append_assoc}
+use Rattle.wild_slots.proofs.Common.{◌≡◌, ℕ, zero, suc, ◌<◌, List, [], ◌∷◌, ◌++◌, length, get_or, Contains, Ok, Err, refl, sym, ap, ◌∙◌, subst, arith, Result, flat_map, append-nil, append_assoc}
 use Rattle.wild_plan_rules.specs.SlotPlaces.{and_then, walk}
 
 -- each item stands in that relation to the items before it, and those of front

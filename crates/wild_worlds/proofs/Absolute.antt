@@ -1,13 +1,8 @@
 -- In a layout without faults no IFUNC is absolute.
-use Rattle.std.proofs.Common.{◌≡◌, Bool, true, false, sym, ap, ◌∙◌, subst, ℕ}
-use Rattle.std.specs.Prelude.{◌||◌, not, slice_get, Some}
+use Rattle.wild_worlds.proofs.Common.{◌≡◌, Bool, true, false, sym, ap, ◌∙◌, subst, ℕ, ◌||◌, not, slice_get, Some, Symbol, has_flag, absolute, ifunc, LayoutsAreLaidOut, one_symbol}
 use Rattle.wild_meaning.proofs.SymbolLemmas.{canonical_is}
-use Rattle.wild_types.specs.declared.symbol.Symbol.{Symbol}
-use Rattle.wild_types.specs.Flags.{has_flag, absolute, ifunc}
 use Rattle.wild_plan_rules.specs.SlotFlags.{resolver_moves}
-use Rattle.wild_layout.specs.Geometry.{LayoutsAreLaidOut}
 use Rattle.wild_layout.proofs.FaultLemmas.{laid_out}
-use Rattle.wild_laws.proofs.Symbols.{one_symbol}
 use Rattle.wild_worlds.specs.References.{ResolversAreNotAbsolute}
 
 never_both : (s : Symbol) → resolver_moves s ≡ true → has_flag s.flags ifunc ≡ true → has_flag s.flags absolute ≡ true → ⊥

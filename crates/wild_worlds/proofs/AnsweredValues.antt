@@ -1,16 +1,10 @@
 -- The values of symbols whose resolvers answer, and of those that the world answers.
-use Rattle.std.proofs.Common.{◌≡◌, ℕ, ◌+◌, ◌%◌, ◌^◌, inl, inr, true, refl, sym, ap, ◌∙◌, subst}
-use Rattle.std.specs.Prelude.{Ok}
+use Rattle.wild_worlds.proofs.Common.{◌≡◌, ℕ, ◌+◌, ◌%◌, ◌^◌, inl, inr, true, refl, sym, ap, ◌∙◌, subst, Ok, Symbol, Layout, has_flag, absolute, ifunc, World, answer_at, IsDefinedBy, HasRaw, HasFlag, HasResolver, IsLegal, one_symbol, own_value}
 use Rattle.wild_words.proofs.ListLemmas.{holds_at}
-use Rattle.wild_types.specs.declared.symbol.Symbol.{Symbol}
-use Rattle.wild_types.specs.declared.layout.Layout.{Layout}
-use Rattle.wild_types.specs.Flags.{has_flag, absolute, ifunc}
-use Rattle.wild_loader.specs.declared.world.World.{World}
-use Rattle.wild_loader.specs.Changes.{answer_at}
-use Rattle.wild_meaning.specs.Value.{IsDefinedBy, IsResolved, HasRaw, HasFlag, HasOwnValue}
-use Rattle.wild_meaning.specs.World.{HasResolver, IsAnsweredOnce, IsLegal}
+use Rattle.wild_meaning.specs.Value.{IsResolved, HasOwnValue}
+use Rattle.wild_meaning.specs.World.{IsAnsweredOnce}
 use Rattle.wild_worlds.specs.Symbols.{ResolversAnswer, WorldsAnswer}
-use Rattle.wild_laws.proofs.Symbols.{one_symbol, one_answer, some_flag, own_value, given_value, answered_value}
+use Rattle.wild_laws.proofs.Symbols.{one_answer, some_flag, given_value, answered_value}
 use Rattle.wild_worlds.proofs.Resolvers.{once_answered}
 
 with_answer : (l : Layout) (w : World) (i raw a : ℕ) → HasRaw l i raw → HasFlag l i ifunc true → answer_at w ((w.base + raw) % 2 ^ 64) ≡ Ok a → HasOwnValue l w i a

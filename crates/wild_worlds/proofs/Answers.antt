@@ -1,25 +1,17 @@
 -- A world that answers for each dynamic symbol: what another module has of one that may be replaced, else what the output has.
-use Rattle.std.proofs.Common.{◌≡◌, ℕ, suc, ◌+◌, ◌-◌, ◌%◌, ◌^◌, ◌<◌, ◌⊎◌, inl, inr, Bool, true, false, List, [], ◌∷◌, length, get_or, refl, sym, ap, ◌∙◌, arith, subst}
-use Rattle.std.specs.Prelude.{Option, Some, None, Ok, All, map, nat_le, option_map, slice_get}
-use Rattle.std.proofs.lemmas.Bool.{cases_Bool, leb-true, leb-false}
+use Rattle.wild_worlds.proofs.Common.{◌≡◌, ℕ, suc, ◌+◌, ◌-◌, ◌%◌, ◌^◌, ◌<◌, ◌⊎◌, inl, inr, Bool, true, false, List, [], ◌∷◌, length, get_or, refl, sym, ap, ◌∙◌, arith, subst, Option, Some, None, Ok, All, map, nat_le, option_map, slice_get, cases_Bool, All-nil, Resolution, Symbol, Layout, has_flag, absolute, ifunc, SymbolNumbers, World, answer_at, IsDefinedBy, HasRaw, IsReplaceable, AnswersSymbols, AreAddresses, OtherModule, AreNumbers, IsConsistent, one_symbol}
+use Rattle.std.proofs.lemmas.Bool.{leb-true, leb-false}
 use Rattle.std.proofs.lemmas.List.{length-map}
-use Rattle.std.proofs.lemmas.List.Elements.{All-nil, All-cons}
+use Rattle.std.proofs.lemmas.List.Elements.{All-cons}
 use Rattle.std.proofs.lemmas.Option.{slice_get-map, slice_get-get_or, slice_get_within}
 use Rattle.wild_words.proofs.ListLemmas.{holds_at}
-use Rattle.wild_types.specs.declared.symbol.Resolution.{Resolution}
-use Rattle.wild_types.specs.declared.symbol.Symbol.{Symbol}
-use Rattle.wild_types.specs.declared.layout.Layout.{Layout}
-use Rattle.wild_types.specs.Flags.{has_flag, absolute, ifunc}
 use Rattle.wild_needs.specs.DynamicSymbols.{dynamic_symbols}
-use Rattle.wild_layout.specs.Numbers.{SymbolNumbers}
 use Rattle.wild_layout.specs.Geometry.{IsLaidOut}
 use Rattle.wild_loader.specs.declared.world.Answer.{Answer}
-use Rattle.wild_loader.specs.declared.world.World.{World}
-use Rattle.wild_loader.specs.Changes.{answer_at}
-use Rattle.wild_meaning.specs.Value.{IsSymbol, IsDefinedBy, IsResolved, IsUnresolved, IsLocatedAt, HasRaw, IsReplaceable, IsValue, HasAnswer, with_base, may_be_replaced}
-use Rattle.wild_meaning.specs.World.{IsKnownModule, IsAnswer, IsOwnAnswer, HasCopy, HasRoomFor, DoNotOverlap, AnswersSymbols, first_module}
-use Rattle.wild_worlds.specs.Worlds.{AreAnswered, AreAddresses, OtherModule, AreNumbers, IsOtherAnswer, IsConsistent, other_module}
-use Rattle.wild_laws.proofs.Symbols.{one_definition, one_symbol}
+use Rattle.wild_meaning.specs.Value.{IsSymbol, IsResolved, IsUnresolved, IsLocatedAt, IsValue, HasAnswer, with_base, may_be_replaced}
+use Rattle.wild_meaning.specs.World.{IsKnownModule, IsAnswer, IsOwnAnswer, HasCopy, HasRoomFor, DoNotOverlap, first_module}
+use Rattle.wild_worlds.specs.Worlds.{AreAnswered, IsOtherAnswer, other_module}
+use Rattle.wild_laws.proofs.Symbols.{one_definition}
 
 -- ---- the answers
 

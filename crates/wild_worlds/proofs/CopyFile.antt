@@ -1,37 +1,12 @@
 -- The program with a copied symbol is linked in a legal world, where the loader copies the symbol's bytes.
-use Rattle.std.proofs.Common.{◌≡◌, ℕ, zero, suc, ◌+◌, ◌^◌, ◌<◌, ◌≤◌, inl, inr, Bool, true, false, List, [], ◌∷◌, refl, sym, ap, ◌∙◌, arith, subst}
-use Rattle.std.specs.Prelude.{◌&&◌, nat_lt, Some, None, All, slice_get}
-use Rattle.std.specs.Int.{w64}
-use Rattle.std.specs.List.{list_all}
-use Rattle.std.proofs.lemmas.Bool.{and_parts, ltb-true}
-use Rattle.std.proofs.lemmas.Int.{fits_signed_from_abs}
-use Rattle.std.proofs.lemmas.List.Elements.{All-nil, All-from_recursion, All-weaker}
-use lib.Count.{ones}
-use lib.IntN.{pos, negsuc}
-use Rattle.wild_words.proofs.ListLemmas.{All-from_list_all}
-use Rattle.wild_records.specs.Dynamic.{DynamicEntryFits}
-use Rattle.wild_records.specs.declared.dynamic.DynamicEntry.{DynamicEntry}
+use Rattle.wild_worlds.proofs.Common.{◌≡◌, ℕ, zero, suc, ◌+◌, ◌^◌, ◌<◌, ◌≤◌, inl, inr, Bool, true, false, List, [], ◌∷◌, refl, sym, ap, ◌∙◌, arith, subst, ◌&&◌, nat_lt, Some, None, All, slice_get, w64, list_all, and_parts, ltb-true, fits_signed_from_abs, All-nil, All-from_recursion, All-weaker, ones, pos, negsuc, All-from_list_all, DynamicEntryFits, DynamicEntry, Segment, Resolution, File, Group, has_flag, ifunc, absolute, HasItsFlags, HaveTheirFlags, dynamic_entries, entry_address, errors, NumbersFit, AddendFits, InputNumbers, InputsFit, SegmentNumbers, SectionNumbers, ResolutionNumbers, SymbolNumbers, IsDefinedBy, HasRaw, HasFlag, HasResolver, AnswersSymbols, IsLegal, ImagesAreSound, section_with, errors_on_literals, HasRoomAbove}
 use Rattle.wild_types.specs.declared.kind.Machine.TheVariants as machine
 use Rattle.wild_types.specs.declared.kind.OutputKind.TheVariants as output
 use Rattle.wild_types.specs.declared.kind.RelocationModel.TheVariants as model
-use Rattle.wild_types.specs.declared.section.Segment.{Segment}
-use Rattle.wild_types.specs.declared.symbol.Resolution.{Resolution}
-use Rattle.wild_types.specs.declared.file.File.{File}
-use Rattle.wild_types.specs.declared.file.Group.{Group}
-use Rattle.wild_types.specs.Flags.{has_flag, ifunc, absolute}
-use Rattle.wild_types.specs.ResolvedFlags.{HasItsFlags, HaveTheirFlags}
-use Rattle.wild_needs.specs.Dynamic.{dynamic_entries}
-use Rattle.wild_table_formats.specs.Headers.{entry_address}
-use Rattle.wild_layout.specs.Faults.{errors}
-use Rattle.wild_layout.specs.Numbers.{NumbersFit, AddendFits, InputNumbers, InputsFit, SegmentNumbers, SectionNumbers, ResolutionNumbers, SymbolNumbers}
 use Rattle.wild_loader.specs.declared.world.Answer.{Answer}
-use Rattle.wild_meaning.specs.Value.{IsDefinedBy, HasRaw, HasFlag, HasAnswer}
-use Rattle.wild_meaning.specs.World.{HasResolver, IsAnswer, IsAnswered, IsOwnAnswer, IsKnownModule, IsFirstModule, IsPastFileBytes, HasCopy, HasRoomFor, AnswersSymbols, IsLegal}
-use Rattle.wild_laws.specs.Laws.{ImagesAreSound}
+use Rattle.wild_meaning.specs.Value.{HasAnswer}
+use Rattle.wild_meaning.specs.World.{IsAnswer, IsAnswered, IsOwnAnswer, IsKnownModule, IsFirstModule, IsPastFileBytes, HasCopy, HasRoomFor}
 use Rattle.wild_laws.proofs.Symbols.{one_definition, one_answer}
-use Rattle.wild_sample_layouts.specs.PlanOfGroups.{section_with}
-use Rattle.wild_sample_layouts.proofs.OnLiterals.{errors_on_literals}
-use Rattle.wild_worlds.specs.Worlds.{HasRoomAbove}
 use Rattle.wild_worlds.specs.CopyFile.{copied_data, data_reference, reading_code, copy_sections, copy_segments, copy_files, copy_group, copy_file, data_bytes, no_answer, data_answer, copy_world}
 use Rattle.wild_worlds.specs.Joined.{IsMetWithCopy}
 use Rattle.wild_worlds.proofs.Answers.{raw_is}

@@ -1,70 +1,40 @@
 -- The layout for debuggers alone has all that the headline asks for.
-use Rattle.std.proofs.Common.{◌≡◌, ℕ, zero, suc, ◌+◌, ◌-◌, ◌%◌, ◌^◌, ◌<◌, ◌≤◌, ◌⊎◌, inl, inr, Bool, true, false, List, [], ◌∷◌, refl, sym, ap, ◌∙◌, arith, subst}
-use Rattle.std.specs.Prelude.{◌&&◌, nat_lt, if◌then◌else◌, Some, None, All, Contains, slice_get, slice_index_or}
-use Rattle.std.specs.Int.{w64}
-use Rattle.std.specs.List.{list_all}
-use Rattle.std.proofs.lemmas.Bool.{and_parts, ltb-true}
-use Rattle.std.proofs.lemmas.Int.{fits_signed_from_abs}
-use Rattle.std.proofs.lemmas.List.Elements.{All-nil, All-from_recursion, All-weaker, All-contains, Contains-append_right}
-use lib.Count.{ones}
-use lib.IntN.{pos, negsuc}
+use Rattle.wild_worlds.proofs.Common.{◌≡◌, ℕ, zero, suc, ◌+◌, ◌-◌, ◌%◌, ◌^◌, ◌<◌, ◌≤◌, ◌⊎◌, inl, inr, Bool, true, false, List, [], ◌∷◌, refl, sym, ap, ◌∙◌, arith, subst, ◌&&◌, nat_lt, if◌then◌else◌, Some, None, All, Contains, slice_get, slice_index_or, w64, list_all, and_parts, ltb-true, fits_signed_from_abs, All-nil, All-from_recursion, All-weaker, ones, pos, negsuc, All-from_list_all, DynamicEntryFits, DynamicEntry, Formula, formula, Plain, Signed, x86_64_formula, Segment, Resolution, Symbol, InputRelocation, File, Group, has_flag, absolute, ifunc, HasItsFlags, HaveTheirFlags, dynamic_entries, entry_address, World, errors, LayoutsAreLaidOut, NumbersFit, AddendFits, InputNumbers, InputsFit, SegmentNumbers, SectionNumbers, ResolutionNumbers, SymbolNumbers, IsAbsolute, HasFlag, HasRaw, IsReplaceable, formula_of, Instruction, OfSection, IsCheckedAtZeroOnly, ImagesAreSound, not_both, one_symbol, own_value, section_with, HasRoomAbove, OtherModule, AreNumbers, IsConsistent, HasWorld, errors_on_literals}
+use Rattle.std.proofs.lemmas.List.Elements.{All-contains, Contains-append_right}
 use Rattle.wild_words.specs.Words.{number}
-use Rattle.wild_words.proofs.ListLemmas.{All-from_list_all, Contains-here}
+use Rattle.wild_words.proofs.ListLemmas.{Contains-here}
 use Rattle.wild_records.specs.Abi.Relocation.{r_x86_64_64, r_x86_64_pc32}
 use Rattle.wild_records.specs.Abi.Section.{shf_execinstr}
-use Rattle.wild_records.specs.Dynamic.{DynamicEntryFits}
-use Rattle.wild_records.specs.declared.dynamic.DynamicEntry.{DynamicEntry}
-use Rattle.wild_reloc.specs.Formula.{Value, Formula, formula, SymbolAddress, Distance, Size, Plain, Full, Signed, sign_extended}
-use Rattle.wild_reloc.specs.FormulaX86_64.{x86_64_formula}
+use Rattle.wild_reloc.specs.Formula.{Value, SymbolAddress, Distance, Size, Full, sign_extended}
 use Rattle.wild_types.specs.declared.kind.Machine.TheVariants as machine
 use Rattle.wild_types.specs.declared.kind.OutputKind.TheVariants as output
 use Rattle.wild_types.specs.declared.kind.RelocationModel.TheVariants as model
 use Rattle.wild_types.specs.declared.part.Part.{Part}
 use Rattle.wild_types.specs.declared.section.Section.{Section}
-use Rattle.wild_types.specs.declared.section.Segment.{Segment}
-use Rattle.wild_types.specs.declared.symbol.Resolution.{Resolution}
-use Rattle.wild_types.specs.declared.symbol.Symbol.{Symbol}
-use Rattle.wild_types.specs.declared.input.InputRelocation.{InputRelocation}
 use Rattle.wild_types.specs.declared.input.InputSection.{InputSection}
 use Rattle.wild_types.specs.declared.input.Slot.TheVariants as slot
-use Rattle.wild_types.specs.declared.file.File.{File}
-use Rattle.wild_types.specs.declared.file.Group.{Group}
-use Rattle.wild_types.specs.Flags.{has_flag, absolute, ifunc}
 use Rattle.wild_types.specs.Item.{Item, item_with}
-use Rattle.wild_types.specs.ResolvedFlags.{HasItsFlags, HaveTheirFlags}
-use Rattle.wild_needs.specs.Dynamic.{dynamic_entries}
-use Rattle.wild_table_formats.specs.Headers.{entry_address}
 use Rattle.wild_loader.specs.declared.memory.Memory.{Memory}
-use Rattle.wild_loader.specs.declared.world.World.{World}
 use Rattle.wild_loader.specs.Memory.{number_in}
 use Rattle.wild_loader.proofs.HeldBytes.{number-held}
-use Rattle.wild_layout.specs.Faults.{errors}
 use Rattle.wild_layout.specs.Image.{bytes}
-use Rattle.wild_layout.specs.Geometry.{LayoutsAreLaidOut}
-use Rattle.wild_layout.specs.Numbers.{NumbersFit, AddendFits, InputNumbers, InputsFit, SegmentNumbers, SectionNumbers, ResolutionNumbers, SymbolNumbers}
 use Rattle.wild_meaning.specs.Section.{IsSet, IsHeaderOnly}
-use Rattle.wild_meaning.specs.Value.{IsAbsolute, HasFlag, HasRaw, IsReplaceable}
 use Rattle.wild_meaning.specs.Denotes.{HasStub, Denotes}
-use Rattle.wild_meaning.specs.Field.{formula_of, FieldReads}
+use Rattle.wild_meaning.specs.Field.{FieldReads}
 use Rattle.wild_meaning.specs.Formula.{TakesString, Gives}
 use Rattle.wild_meaning.specs.Frames.{IsFrameInput}
-use Rattle.wild_meaning.specs.Sequence.{Instruction}
 use Rattle.wild_meaning.specs.Template.{IsTemplate}
-use Rattle.wild_meaning.specs.Item.{IsInput, IsKept, IsKeptSection, IsReference, OfSection, OfFrames, placed_item, place_at}
-use Rattle.wild_meaning.specs.Reference.{ReferenceHolds, IsCheckedAtZeroOnly, UsesOwnSymbolOnly, IsFilled, TakesEntry, IsSlotValue, NamesSlot, TakesStub, UsesStubAddress, UsesStubOrThunk, IsOmitted}
+use Rattle.wild_meaning.specs.Item.{IsInput, IsKept, IsKeptSection, IsReference, OfFrames, placed_item, place_at}
+use Rattle.wild_meaning.specs.Reference.{ReferenceHolds, UsesOwnSymbolOnly, IsFilled, TakesEntry, IsSlotValue, NamesSlot, TakesStub, UsesStubAddress, UsesStubOrThunk, IsOmitted}
 use Rattle.wild_meaning.specs.LinkedImage.{IsLinked}
 use Rattle.wild_meaning.specs.Worked.Builders.{Refuses}
 use Rattle.wild_meaning.specs.Worked.Refusals.{HasWrongNumber}
 use Rattle.wild_meaning.proofs.StringLemmas.{nothing_named}
 use Rattle.wild_meaning.proofs.SymbolLemmas.{referent_stands}
-use Rattle.wild_laws.specs.Laws.{ImagesAreSound}
-use Rattle.wild_laws.proofs.Symbols.{not_both, one_symbol, own_value, moved_value}
-use Rattle.wild_sample_layouts.specs.PlanOfGroups.{section_with}
-use Rattle.wild_worlds.specs.Worlds.{HasRoomAbove, OtherModule, AreNumbers, IsConsistent, HasWorld}
+use Rattle.wild_laws.proofs.Symbols.{moved_value}
 use Rattle.wild_worlds.specs.DebugFile.{function, note_distance, note_address, note_bytes, note, code_call, code, note_part, code_part, note_section, code_section, debug_sections, debug_segments, debug_object, debug_files, debug_group, debug_file}
 use Rattle.wild_worlds.specs.Joined.{HasNote, HasOmittedSection, IsJoinedForDebuggers, IsMetForDebuggers}
 use Rattle.wild_worlds.proofs.Answers.{raw_is}
-use Rattle.wild_sample_layouts.proofs.OnLiterals.{errors_on_literals}
 use Rattle.wild_worlds.proofs.Premises.{few_alone}
 use Rattle.wild_worlds.proofs.Worlds.{worlds_there}
 

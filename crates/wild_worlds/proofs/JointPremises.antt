@@ -1,42 +1,23 @@
 -- The layouts that call a function, and the one for debuggers alone, have all that the headline asks for.
-use Rattle.std.proofs.Common.{◌≡◌, ℕ, ◌+◌, ◌^◌, ◌<◌, ◌≤◌, inr, false, [], ◌∷◌, refl, ap, sym, ◌∙◌, arith, subst}
-use Rattle.std.specs.Prelude.{Option, Some, None, All}
-use Rattle.std.proofs.lemmas.List.Elements.{All-from_recursion}
-use lib.IntN.{pos}
-use Rattle.wild_records.specs.Abi.Relocation.{r_x86_64_gotpcrelx, r_aarch64_call26}
-use Rattle.wild_reloc.specs.Formula.{formula, SlotDistance, AddressSlot, StubDistance, Plain, Signed, Bits, Imm26Field, WithinPower}
-use Rattle.wild_reloc.specs.FormulaX86_64.{x86_64_formula}
+use Rattle.wild_worlds.proofs.Common.{◌≡◌, ℕ, ◌+◌, ◌^◌, ◌<◌, ◌≤◌, inr, false, [], ◌∷◌, refl, ap, sym, ◌∙◌, arith, subst, Option, Some, None, All, All-from_recursion, pos, r_x86_64_gotpcrelx, formula, Plain, Signed, x86_64_formula, OutputKind, Segment, Resolution, Symbol, InputRelocation, HasItsFlags, has_flag, absolute, errors, LayoutsAreLaidOut, NumbersFit, IsAbsolute, HasFlag, OfSection, IsCheckedAtZeroOnly, ImagesAreSound, not_both, HasRoomAbove, OtherModule, AreNumbers, IsConsistent, HasWorld}
+use Rattle.wild_records.specs.Abi.Relocation.{r_aarch64_call26}
+use Rattle.wild_reloc.specs.Formula.{SlotDistance, AddressSlot, StubDistance, Bits, Imm26Field, WithinPower}
 use Rattle.wild_reloc.specs.FormulaAArch64.{aarch64_formula}
 use Rattle.wild_types.specs.declared.kind.Machine.TheVariants as machine
-use Rattle.wild_types.specs.declared.kind.OutputKind.{OutputKind}
 use Rattle.wild_types.specs.declared.kind.OutputKind.TheVariants as output
 use Rattle.wild_types.specs.declared.kind.RelocationModel.TheVariants as model
 use Rattle.wild_types.specs.declared.part.Role.{Role}
 use Rattle.wild_types.specs.declared.part.Role.TheVariants as role
-use Rattle.wild_types.specs.declared.section.Segment.{Segment}
 use Rattle.wild_types.specs.declared.symbol.Place.{Place}
 use Rattle.wild_types.specs.declared.symbol.Place.TheVariants as at
-use Rattle.wild_types.specs.declared.symbol.Resolution.{Resolution}
-use Rattle.wild_types.specs.declared.symbol.Symbol.{Symbol}
-use Rattle.wild_types.specs.declared.input.InputRelocation.{InputRelocation}
-use Rattle.wild_types.specs.ResolvedFlags.{HasItsFlags}
-use Rattle.wild_types.specs.Flags.{has_flag, absolute}
-use Rattle.wild_layout.specs.Faults.{errors}
 use Rattle.wild_layout.specs.Image.{bytes}
-use Rattle.wild_layout.specs.Geometry.{LayoutsAreLaidOut}
-use Rattle.wild_layout.specs.Numbers.{NumbersFit}
 use Rattle.wild_meaning.specs.Section.{IsForDebuggers}
 use Rattle.wild_meaning.specs.World.{IsMovable}
-use Rattle.wild_meaning.specs.Value.{IsAbsolute, HasFlag}
 use Rattle.wild_types.specs.Item.{item_with}
-use Rattle.wild_meaning.specs.Item.{IsKept, OfSection}
-use Rattle.wild_meaning.specs.Reference.{IsCheckedAtZeroOnly}
+use Rattle.wild_meaning.specs.Item.{IsKept}
 use Rattle.wild_meaning.specs.LinkedImage.{IsSound}
-use Rattle.wild_laws.specs.Laws.{ImagesAreSound}
-use Rattle.wild_laws.proofs.Symbols.{not_both}
 use Rattle.wild_sample_layouts.specs.CallingPlans.{Code, called_function, calling_layout, calling_segments, code_at, stub_at, call_reference, branch_reference, by_slot, of_words, by_stub, by_branch, calling_code, calling_static, calling_dynamic, calling_shared, calling_words, calling_words_static, calling_words_shared}
 use Rattle.wild_sample_layouts.specs.Laws.{CallingFaults, CallingNumbers}
-use Rattle.wild_worlds.specs.Worlds.{HasRoomAbove, OtherModule, AreNumbers, IsConsistent, HasWorld}
 use Rattle.wild_worlds.specs.Joined.{HasCall, IsJoined, IsMet, PremisesAreJoined}
 use Rattle.wild_worlds.proofs.DebugFile.{debuggers_joined}
 use Rattle.wild_worlds.proofs.MixedFile.{mixed_linked}

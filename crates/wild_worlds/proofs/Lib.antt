@@ -1,4 +1,5 @@
 mod Absolute
+mod Common
 mod Premises
 mod OneSlot
 mod Worked

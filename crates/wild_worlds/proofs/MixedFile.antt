@@ -1,41 +1,15 @@
 -- The layout with much in it is linked in a legal world.
-use Rattle.std.proofs.Common.{◌≡◌, ℕ, ◌+◌, ◌^◌, ◌<◌, ◌≤◌, inr, Bool, true, List, [], ◌∷◌, refl, sym, ap, arith, subst}
-use Rattle.std.specs.Prelude.{⊤, ◌&&◌, nat_lt, Some, None, All, slice_get}
-use Rattle.std.specs.Int.{w64}
-use Rattle.std.specs.List.{list_all}
-use Rattle.std.proofs.lemmas.Bool.{and_parts, ltb-true}
-use Rattle.std.proofs.lemmas.Int.{fits_signed_from_abs}
-use Rattle.std.proofs.lemmas.List.Elements.{All-nil, All-from_recursion, All-weaker}
-use lib.Count.{ones}
-use lib.IntN.{pos, negsuc}
-use Rattle.wild_words.proofs.ListLemmas.{All-from_list_all}
-use Rattle.wild_records.specs.Dynamic.{DynamicEntryFits}
-use Rattle.wild_records.specs.declared.dynamic.DynamicEntry.{DynamicEntry}
+use Rattle.wild_worlds.proofs.Common.{◌≡◌, ℕ, ◌+◌, ◌^◌, ◌<◌, ◌≤◌, inr, Bool, true, List, [], ◌∷◌, refl, sym, ap, arith, subst, ◌&&◌, nat_lt, Some, None, All, slice_get, w64, list_all, and_parts, ltb-true, fits_signed_from_abs, All-nil, All-from_recursion, All-weaker, ones, pos, negsuc, All-from_list_all, DynamicEntryFits, DynamicEntry, Segment, Resolution, Symbol, File, Group, has_flag, ifunc, HasItsFlags, HaveTheirFlags, dynamic_entries, entry_address, errors, LayoutsAreLaidOut, NumbersFit, AddendFits, InputNumbers, InputsFit, SegmentNumbers, SectionNumbers, ResolutionNumbers, SymbolNumbers, HasFlag, ImagesAreSound, section_with, errors_on_literals, HasRoomAbove, OtherModule, AreNumbers, IsConsistent, HasWorld}
+use Rattle.std.specs.Prelude.{⊤}
 use Rattle.wild_types.specs.declared.kind.Machine.TheVariants as machine
 use Rattle.wild_types.specs.declared.kind.OutputKind.TheVariants as output
 use Rattle.wild_types.specs.declared.kind.RelocationModel.TheVariants as model
-use Rattle.wild_types.specs.declared.section.Segment.{Segment}
-use Rattle.wild_types.specs.declared.symbol.Resolution.{Resolution}
-use Rattle.wild_types.specs.declared.symbol.Symbol.{Symbol}
-use Rattle.wild_types.specs.declared.file.File.{File}
-use Rattle.wild_types.specs.declared.file.Group.{Group}
-use Rattle.wild_types.specs.Flags.{has_flag, ifunc, got_tls_offset}
-use Rattle.wild_types.specs.ResolvedFlags.{HasItsFlags, HaveTheirFlags}
+use Rattle.wild_types.specs.Flags.{got_tls_offset}
 use Rattle.wild_frames.specs.Frames.{entry_with_id, entry_of_size, found, walk, rest_of, entry_bytes, tail_of, malformed_in, unsorted_in, list_error}
 use Rattle.wild_placement.specs.FrameInputs.{target_of}
 use Rattle.wild_placement.specs.PlacedSections.{kept_relocations, moved_relocations}
-use Rattle.wild_needs.specs.Dynamic.{dynamic_entries}
-use Rattle.wild_table_formats.specs.Headers.{entry_address}
 use Rattle.wild_relax.specs.LinkedPattern.{template_of}
-use Rattle.wild_layout.specs.Faults.{errors}
-use Rattle.wild_layout.specs.Geometry.{LayoutsAreLaidOut}
-use Rattle.wild_layout.specs.Numbers.{NumbersFit, AddendFits, InputNumbers, InputsFit, SegmentNumbers, SectionNumbers, ResolutionNumbers, SymbolNumbers}
-use Rattle.wild_meaning.specs.Value.{HasFlag}
 use Rattle.wild_meaning.specs.Frames.{kept_bytes}
-use Rattle.wild_laws.specs.Laws.{ImagesAreSound}
-use Rattle.wild_sample_layouts.specs.PlanOfGroups.{section_with}
-use Rattle.wild_sample_layouts.proofs.OnLiterals.{errors_on_literals}
-use Rattle.wild_worlds.specs.Worlds.{HasRoomAbove, OtherModule, AreNumbers, IsConsistent, HasWorld}
 use Rattle.wild_worlds.specs.MixedFile.{resolver, thread, string_section, function, mixed_symbols, slot_call, offset_load, code, thread_data, strings, string_address, sorted, function_distance, frames, mixed_inputs, mixed_sections, mixed_segments, mixed_object, mixed_files, mixed_group, merged_string, mixed_file}
 use Rattle.wild_worlds.specs.Joined.{HasManySorts, IsLinkedElsewhere, IsMetWithMany}
 use Rattle.wild_worlds.proofs.Worlds.{worlds_there}

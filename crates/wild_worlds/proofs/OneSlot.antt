@@ -1,12 +1,8 @@
 -- A symbol has one slot of a sort, and an own one its whole size.
-use Rattle.std.proofs.Common.{◌≡◌, ℕ, ◌+◌, ◌%◌, ◌^◌, inl, inr, true, Some, None, sym, ap, ◌∙◌, subst}
-use Rattle.wild_types.specs.declared.symbol.Resolution.{Resolution}
-use Rattle.wild_types.specs.declared.symbol.Symbol.{Symbol}
-use Rattle.wild_types.specs.declared.layout.Layout.{Layout}
+use Rattle.wild_worlds.proofs.Common.{◌≡◌, ℕ, ◌+◌, ◌%◌, ◌^◌, inl, inr, true, Some, None, sym, ap, ◌∙◌, subst, Resolution, Symbol, Layout, IsReplaceable, one_symbol}
 use Rattle.wild_reloc.specs.Formula.{Slot, AddressSlot, ModulePair, OwnModulePair, ThreadOffset, Descriptor}
 use Rattle.wild_meaning.specs.Slot.{offset_from_first, HasSlotAddress, HasSlot}
-use Rattle.wild_meaning.specs.Value.{IsReplaceable}
-use Rattle.wild_laws.proofs.Symbols.{one_symbol, not_replaceable}
+use Rattle.wild_laws.proofs.Symbols.{not_replaceable}
 use Rattle.wild_worlds.specs.Symbols.{SlotsAreOne, SizesAreWhole}
 
 decided_one : (sort : Slot) (l : Layout) (i p q : ℕ) → HasSlotAddress sort l i p → HasSlotAddress sort l i q → p ≡ q

@@ -1,37 +1,28 @@
 -- The premises of the headline are met: kinds, kept items, references and symbols.
-use Rattle.std.proofs.Common.{◌≡◌, ℕ, ◌+◌, ◌%◌, ◌^◌, ◌⊎◌, inl, inr, Bool, true, false, List, [], ◌∷◌, refl, sym, ap, ◌∙◌, arith, subst}
-use Rattle.std.specs.Prelude.{Option, Some, None, Contains, ◌≢◌, not, ◌&&◌, ◌||◌, ◌==◌}
-use Rattle.std.specs.List.{list_all}
-use Rattle.std.proofs.lemmas.Bool.{cases_Bool, and_parts, eqb-true}
+use Rattle.wild_worlds.proofs.Common.{◌≡◌, ℕ, ◌+◌, ◌%◌, ◌^◌, ◌⊎◌, inl, inr, Bool, true, false, List, [], ◌∷◌, refl, sym, ap, ◌∙◌, arith, subst, Option, Some, None, Contains, ◌≢◌, not, ◌&&◌, ◌||◌, ◌==◌, list_all, cases_Bool, and_parts, eqb-true, r_x86_64_gotpcrelx, OutputKind, InputRelocation, Layout, absolute, ifunc, Formula, World, HasRaw, HasFlag, IsReplaceable, IsAbsolute, OfSection, formula_of, Instruction, IsCheckedAtZeroOnly, not_both, own_value}
 use Rattle.wild_words.proofs.Basics.{implied, or_other, listed_passes}
-use Rattle.wild_records.specs.Abi.Relocation.{r_x86_64_gotpcrel, r_x86_64_gotpcrelx, r_aarch64_adr_prel_pg_hi21, r_aarch64_add_abs_lo12_nc}
+use Rattle.wild_records.specs.Abi.Relocation.{r_x86_64_gotpcrel, r_aarch64_adr_prel_pg_hi21, r_aarch64_add_abs_lo12_nc}
 use Rattle.wild_records.specs.Abi.Section.{shf_execinstr}
 use Rattle.wild_types.specs.declared.kind.RelocationModel.TheVariants as model
-use Rattle.wild_types.specs.declared.kind.OutputKind.{OutputKind}
 use Rattle.wild_types.specs.declared.kind.OutputKind.TheVariants as output
 use Rattle.wild_types.specs.declared.kind.Machine.{Machine}
 use Rattle.wild_types.specs.declared.kind.Machine.TheVariants as machine
-use Rattle.wild_types.specs.declared.input.InputRelocation.{InputRelocation}
-use Rattle.wild_types.specs.declared.layout.Layout.{Layout}
-use Rattle.wild_types.specs.Flags.{absolute, ifunc}
-use Rattle.wild_reloc.specs.Formula.{Value, Formula, SymbolAddress}
+use Rattle.wild_reloc.specs.Formula.{Value, SymbolAddress}
 use Rattle.wild_loader.specs.declared.memory.Memory.{Memory}
-use Rattle.wild_loader.specs.declared.world.World.{World}
 use Rattle.wild_meaning.specs.World.{IsFixed, IsMovable, IsLoadable}
-use Rattle.wild_meaning.specs.Value.{HasRaw, HasFlag, HasOwnValue, IsReplaceable, IsAbsolute}
+use Rattle.wild_meaning.specs.Value.{HasOwnValue}
 use Rattle.wild_loader.specs.Reach.{Reaches}
 use Rattle.wild_meaning.specs.Denotes.{HasStub, Denotes}
 use Rattle.wild_types.specs.declared.part.Part.{Part}
 use Rattle.wild_types.specs.Lists.{total}
 use Rattle.wild_types.specs.Item.{Item}
-use Rattle.wild_meaning.specs.Item.{IsLoadedSlot, OfSection, OfFrames}
+use Rattle.wild_meaning.specs.Item.{IsLoadedSlot, OfFrames}
 use Rattle.wild_meaning.specs.Frames.{IsFrameInput, frames_item, address_of_part, kept_of_file, kept_bytes}
-use Rattle.wild_meaning.specs.Field.{formula_of}
 use Rattle.wild_meaning.specs.Formula.{IsPlaceRelative, TakesAddress, TakesOffset}
 use Rattle.wild_meaning.specs.Section.{IsSet}
-use Rattle.wild_meaning.specs.Sequence.{Sort, TargetInSlot, Address, Partner, Instruction, instructions_of}
+use Rattle.wild_meaning.specs.Sequence.{Sort, TargetInSlot, Address, Partner, instructions_of}
 use Rattle.wild_meaning.specs.Template.{IsTemplate}
-use Rattle.wild_meaning.specs.Reference.{HasPlace, CountsFromPlace, HasRelativeInstruction, IsCheckedAtZeroOnly, MustHold, IsFilledByLoader, HasStubAddress, UsesOwnDefinition, UsesOwnSymbolOnly}
+use Rattle.wild_meaning.specs.Reference.{HasPlace, CountsFromPlace, HasRelativeInstruction, MustHold, IsFilledByLoader, HasStubAddress, UsesOwnDefinition, UsesOwnSymbolOnly}
 use Rattle.wild_meaning.proofs.BitLemmas.{bit_alloc, thread_local_bit}
 use Rattle.wild_meaning.proofs.PairLemmas.{are_several, as_double, counts_by_slot}
 use Rattle.wild_meaning.proofs.OneReference.{has}
@@ -40,7 +31,7 @@ use Rattle.wild_worlds.specs.Worlds.{KindsAreLoaded}
 use Rattle.wild_worlds.specs.References.{SectionsAreKept, SortedAreKept, FramesAreKept, RelocationsRefer, ReferencesAreChecked, SlotsAreChecked, FewUseOwnSymbolOnly, ZerosAreChecked, ResolversAreNotAbsolute}
 use Rattle.wild_worlds.specs.Symbols.{AddressesMove}
 use Rattle.wild_laws.proofs.FirstPath.{kept}
-use Rattle.wild_laws.proofs.Symbols.{not_both, not_replaceable, own_value, moved_value}
+use Rattle.wild_laws.proofs.Symbols.{not_replaceable, moved_value}
 
 -- ---- kinds
 

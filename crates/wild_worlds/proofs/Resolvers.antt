@@ -1,19 +1,11 @@
 -- A world that answers for each resolver of a layout once.
-use Rattle.std.proofs.Common.{◌≡◌, ℕ, ◌+◌, ◌%◌, ◌^◌, inl, inr, Bool, true, false, List, [], ◌∷◌, refl, sym, ap, ◌∙◌, subst, eq-eqb}
-use Rattle.std.specs.Prelude.{◌==◌, not, if◌then◌else◌, Option, Some, None, Ok, All}
+use Rattle.wild_worlds.proofs.Common.{◌≡◌, ℕ, ◌+◌, ◌%◌, ◌^◌, inl, inr, Bool, true, false, List, [], ◌∷◌, refl, sym, ap, ◌∙◌, subst, eq-eqb, ◌==◌, not, if◌then◌else◌, Option, Some, None, Ok, All, cases_Bool, eqb-true, All-nil, All-weaker, Resolution, Symbol, Layout, has_flag, ifunc, World, answer_at, HasResolver, AreAddresses}
 use Rattle.std.specs.List.{filter}
-use Rattle.std.proofs.lemmas.Bool.{cases_Bool, eqb-true}
-use Rattle.std.proofs.lemmas.List.Elements.{All-nil, All-cons, All-weaker}
-use Rattle.wild_types.specs.declared.symbol.Resolution.{Resolution}
-use Rattle.wild_types.specs.declared.symbol.Symbol.{Symbol}
-use Rattle.wild_types.specs.declared.layout.Layout.{Layout}
-use Rattle.wild_types.specs.Flags.{has_flag, ifunc}
+use Rattle.std.proofs.lemmas.List.Elements.{All-cons}
 use Rattle.wild_loader.specs.declared.fault.LoadFault.TheVariants as faults
-use Rattle.wild_loader.specs.declared.world.World.{World}
 use Rattle.wild_loader.specs.Outcome.{known}
-use Rattle.wild_loader.specs.Changes.{first_value, answer_at}
-use Rattle.wild_meaning.specs.World.{HasResolver}
-use Rattle.wild_worlds.specs.Worlds.{HasResolvers, AreAnswered, AreAddresses, NoResolversNeeded}
+use Rattle.wild_loader.specs.Changes.{first_value}
+use Rattle.wild_worlds.specs.Worlds.{HasResolvers, AreAnswered, NoResolversNeeded}
 
 -- ---- one pair for a key
 

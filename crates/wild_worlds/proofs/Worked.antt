@@ -1,32 +1,25 @@
 -- The worked examples' code is that of the instructions that it should be.
-use Rattle.std.proofs.Common.{◌≡◌, ℕ, zero, suc, ◌+◌, ◌<◌, ◌≤◌, ◌⊎◌, inl, inr, Bool, true, false, List, [], ◌∷◌, length, get_or, refl, sym, ap, ◌∙◌, arith, subst, eq-eqb}
-use Rattle.std.specs.Prelude.{Some, None, Contains, slice_range, slice_get, ◌≢◌, not, ◌||◌, ◌==◌, nat_le}
-use Rattle.std.specs.List.{list_all}
+use Rattle.wild_worlds.proofs.Common.{◌≡◌, ℕ, zero, suc, ◌+◌, ◌<◌, ◌≤◌, ◌⊎◌, inl, inr, Bool, true, false, List, [], ◌∷◌, length, get_or, refl, sym, ap, ◌∙◌, arith, subst, eq-eqb, Some, None, Contains, slice_range, slice_get, ◌≢◌, not, ◌||◌, ◌==◌, nat_le, list_all, r_x86_64_gotpcrelx, InputRelocation, Layout, Formula, formula, Plain, Signed, x86_64_formula, formula_of, HasFlag, Instruction, not_both}
 use Rattle.std.proofs.lemmas.Bool.{leb-true, le-leb}
 use Rattle.std.proofs.lemmas.Option.{slice_get_past}
 use Rattle.wild_words.proofs.Basics.{listed_passes}
 use Rattle.wild_words.specs.Words.{number}
-use Rattle.wild_records.specs.Abi.Relocation.{r_x86_64_none, r_x86_64_pc32, r_x86_64_plt32, r_x86_64_gotpcrel, r_x86_64_gotpcrelx, r_x86_64_rex_gotpcrelx, r_x86_64_tlsgd, r_aarch64_jump26, r_aarch64_call26, r_aarch64_add_abs_lo12_nc, r_aarch64_tlsdesc_adr_page21, r_aarch64_tlsdesc_ld64_lo12, r_aarch64_tlsdesc_add_lo12, r_aarch64_tlsdesc_call}
+use Rattle.wild_records.specs.Abi.Relocation.{r_x86_64_none, r_x86_64_pc32, r_x86_64_plt32, r_x86_64_gotpcrel, r_x86_64_rex_gotpcrelx, r_x86_64_tlsgd, r_aarch64_jump26, r_aarch64_call26, r_aarch64_add_abs_lo12_nc, r_aarch64_tlsdesc_adr_page21, r_aarch64_tlsdesc_ld64_lo12, r_aarch64_tlsdesc_add_lo12, r_aarch64_tlsdesc_call}
 use Rattle.wild_types.specs.declared.kind.Machine.{Machine}
 use Rattle.wild_types.specs.declared.kind.Machine.TheVariants as machine
-use Rattle.wild_types.specs.declared.input.InputRelocation.{InputRelocation}
-use Rattle.wild_types.specs.declared.layout.Layout.{Layout}
 use Rattle.wild_types.specs.Flags.{non_interposable, undefined_weak}
-use Rattle.wild_reloc.specs.Formula.{Formula, formula, Plain, Signed, SlotDistance, SlotAddress, SlotPageDistance, ModulePair, Descriptor, NoValue, NoField, Bits, AdrField, Imm12Field, WithinPower, NoCheck}
-use Rattle.wild_reloc.specs.FormulaX86_64.{x86_64_formula}
+use Rattle.wild_reloc.specs.Formula.{SlotDistance, SlotAddress, SlotPageDistance, ModulePair, Descriptor, NoValue, NoField, Bits, AdrField, Imm12Field, WithinPower, NoCheck}
 use Rattle.wild_reloc.specs.FormulaAArch64.{aarch64_formula}
 use Rattle.wild_reloc.proofs.FormLemmas.{plt32_formula}
 use Rattle.wild_loader.specs.declared.instruction.Deed.TheVariants.{Call, Jump}
 use Rattle.wild_loader.specs.Instruction.{matches_cells}
-use Rattle.wild_meaning.specs.Field.{formula_of, form_width, InNoField}
-use Rattle.wild_meaning.specs.Value.{HasFlag}
-use Rattle.wild_meaning.specs.Sequence.{Instruction, size_of, instructions_of, IsOwnByte, address_pair_words, descriptor_call_words}
+use Rattle.wild_meaning.specs.Field.{form_width, InNoField}
+use Rattle.wild_meaning.specs.Sequence.{size_of, instructions_of, IsOwnByte, address_pair_words, descriptor_call_words}
 use Rattle.wild_aarch64.specs.Effect.{words_of}
 use Rattle.wild_aarch64.specs.Code.{read, read_address, read_access, read_vector_access, read_literal, read_transfer, read_condition}
 use Rattle.wild_meaning.specs.Template.{HasOriginAddend, IsInstruction, IsSequence}
 use Rattle.wild_meaning.proofs.PairLemmas.{as_its_call}
 use Rattle.wild_meaning.proofs.InstructionsAArch64.{IsAlone, alone_template}
-use Rattle.wild_laws.proofs.Symbols.{not_both}
 use Rattle.wild_sample_layouts.specs.CallingPlans.{branch_reference, branch_bytes}
 use Rattle.wild_worlds.specs.Worked.{WorkedBranchesAreChecked, WorkedAddressesAreChecked, IsWorked, IsPaired, ComputesThreadAddress, worked_relocation, worked_item, direct_code, indirect_code, load_code, direct_branch, indirect_branch, load, general, branch_word, jump_word, jump_code, word_relocation, address_code, page_relocation, address_relocations, descriptor_code, descriptor_relocation, descriptor_relocations, AreOfRun, pair_relocation, getter_relocation, general_item}
 

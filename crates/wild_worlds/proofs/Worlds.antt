@@ -1,27 +1,21 @@
 -- Legal worlds are there.
-use Rattle.std.proofs.Common.{◌≡◌, ℕ, ℤ, ◌+◌, ◌-◌, ◌%◌, ◌^◌, ◌<◌, ◌≤◌, inl, inr, [], ◌∷◌, ◌++◌, length, get_or, refl, sym, ap, ◌∙◌, arith, subst}
-use Rattle.std.specs.Int.{w64, cast_unsigned, cast_signed}
+use Rattle.wild_worlds.proofs.Common.{◌≡◌, ℕ, ℤ, ◌+◌, ◌-◌, ◌%◌, ◌^◌, ◌<◌, ◌≤◌, inl, inr, [], ◌∷◌, ◌++◌, length, get_or, refl, sym, ap, ◌∙◌, arith, subst, w64, OutputKind, Layout, LayoutsAreLaidOut, World, Result, Ok, IsLegal, AnswersSymbols, cases_Bool, eqb-true, Segment, errors, AreAddresses, OtherModule, AreNumbers, IsConsistent, HasWorld}
+use Rattle.std.specs.Int.{cast_unsigned, cast_signed}
 use Rattle.std.specs.Int.RustNames.{FitsSigned}
 use Rattle.std.proofs.Math.Nat.{zero-mod}
 use Rattle.std.proofs.lemmas.Int.{of_z-to_z, ints}
-use Rattle.wild_types.specs.declared.kind.OutputKind.{OutputKind}
 use Rattle.wild_types.specs.declared.kind.OutputKind.TheVariants as output
-use Rattle.wild_types.specs.declared.layout.Layout.{Layout}
-use Rattle.wild_layout.specs.Geometry.{IsLaidOut, LayoutsAreLaidOut}
+use Rattle.wild_layout.specs.Geometry.{IsLaidOut}
 use Rattle.wild_loader.specs.declared.fault.LoadFault.{LoadFault}
-use Rattle.wild_loader.specs.declared.world.World.{World}
 use Rattle.wild_loader.specs.Changes.{distance_of}
-use Rattle.std.specs.Prelude.{Result, Ok}
 use Rattle.wild_meaning.specs.Thread.{thread_pointer, IsOwnDistance}
-use Rattle.wild_meaning.specs.World.{IsExecutable, IsFirstModule, IsLegal, AnswersSymbols, first_module}
-use Rattle.std.proofs.lemmas.Bool.{cases_Bool, eqb-true}
-use Rattle.wild_types.specs.declared.section.Segment.{Segment}
+use Rattle.wild_meaning.specs.World.{IsExecutable, IsFirstModule, first_module}
 use Rattle.wild_types.specs.Kinds.{is_partial_link}
 use Rattle.wild_plan_rules.specs.WellFormed.{first_clause}
-use Rattle.wild_layout.specs.Faults.{flat_map_from, clause_errors, part_errors, group_errors, errors}
+use Rattle.wild_layout.specs.Faults.{flat_map_from, clause_errors, part_errors, group_errors}
 use Rattle.wild_layout.proofs.FaultLemmas.{clause_holds, first_empty, rest_empty, laid_out}
 use Rattle.wild_geometry.proofs.PlacedSectionLemmas.{AllClausesHold, AllClausesHold-from_clauses}
-use Rattle.wild_worlds.specs.Worlds.{KnowsModule, AreAddresses, OtherModule, AreNumbers, IsConsistent, ZeroIsLegal, MovedIsLegal, HasWorld, WorldsAreThere, other_module}
+use Rattle.wild_worlds.specs.Worlds.{KnowsModule, ZeroIsLegal, MovedIsLegal, WorldsAreThere, other_module}
 use Rattle.wild_worlds.specs.Symbols.{OffsetsCount}
 use Rattle.wild_worlds.proofs.Premises.{apart_kinds}
 use Rattle.wild_worlds.proofs.Resolvers.{pairs_of, HasPairs, has_resolvers, are_answered}

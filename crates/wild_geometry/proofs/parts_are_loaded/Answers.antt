@@ -1,6 +1,5 @@
-use Rattle.std.specs.Prelude.{◌++◌}
-use Rattle.wild_plan_rules.specs.WellFormed.{first_clause}
-use Rattle.wild_layout.specs.Faults.{clause_errors, part_errors, group_errors, flat_map_from, errors}
+use Rattle.wild_geometry.proofs.Common.{◌++◌, first_clause, part_errors, flat_map_from}
+use Rattle.wild_layout.specs.Faults.{clause_errors, group_errors, errors}
 use Rattle.wild_layout.proofs.FaultLemmas.{clause_holds, first_empty, rest_empty}
 use Rattle.wild_geometry.proofs.PlacedSectionLemmas.{AllClausesHold-from_clauses}
 use Rattle.wild_geometry.proofs.CarriedLemmas.{EachPartIsLoaded-from_clauses}

@@ -1,18 +1,9 @@
-use Rattle.std.proofs.Common.{◌≡◌, ℕ, suc, ◌+◌, ◌-◌, ◌<◌, ◌≤◌, ◌⊎◌, inl, inr, List, [], ◌∷◌, ◌++◌, length, get_or, take, flat_map, sym, ap, ◌∙◌, arith, subst}
-use Rattle.std.specs.Prelude.{slice_index}
+use Rattle.wild_geometry.proofs.Common.{◌≡◌, ℕ, suc, ◌+◌, ◌-◌, ◌<◌, ◌≤◌, ◌⊎◌, inl, inr, List, [], ◌∷◌, ◌++◌, length, get_or, take, flat_map, sym, ap, ◌∙◌, arith, subst, slice_index, length-append, AreDisjoint, Group, Layout, total, image_size, content, IsLaidOut, pieces}
 use Rattle.std.proofs.lemmas.Bool.{cases_lt}
-use Rattle.std.proofs.lemmas.List.{length-append}
 use Rattle.wild_words.specs.Words.{HasBytesAt}
-use Rattle.wild_words.specs.Overlay.{AreDisjoint}
 use Rattle.wild_words.proofs.OverlayLemmas.{HasBytesAt-overlay, length-overlay}
 use Rattle.wild_words.proofs.RecordLemmas.{HasBytesAt-left, HasBytesAt-right}
-use Rattle.wild_types.specs.declared.file.Group.{Group}
-use Rattle.wild_types.specs.declared.layout.Layout.{Layout}
-use Rattle.wild_types.specs.Lists.{total}
-use Rattle.wild_types.specs.Lookups.{image_size}
-use Rattle.wild_layout.specs.Content.{content}
-use Rattle.wild_layout.specs.Geometry.{IsLaidOut}
-use Rattle.wild_layout.specs.Image.{bytes, pieces, padding}
+use Rattle.wild_layout.specs.Image.{bytes, padding}
 use Rattle.wild_layout.proofs.LayoutLemmas.{length-padding}
 use Rattle.wild_geometry.proofs.tables_are_placed.Goals as goal
 

@@ -2,8 +2,7 @@ use Rattle.wild_outlines.proofs.ChangedItems.{found_group, found_at, outline-cha
 use Rattle.wild_outlines.proofs.ChangedLemmas.{bytes-changed}
 use Rattle.wild_outlines.proofs.GroupsPieces.{group_pieces-outline}
 use Rattle.wild_outlines.proofs.PaddingLemmas.{padding-outline}
-use Rattle.wild_change.specs.Change.{changed_layout}
-use Rattle.wild_layout.specs.Image.{group_pieces, padding}
+use Rattle.wild_outlines.proofs.Common.{changed_layout, group_pieces, padding}
 use Rattle.wild_outlines.proofs.changed_bytes.Goals as goal
 
 pub returns : goal.returns

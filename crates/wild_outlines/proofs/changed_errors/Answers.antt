@@ -1,5 +1,4 @@
-use Rattle.wild_change.specs.Change.{changed_layout}
-use Rattle.wild_layout.specs.Faults.{group_errors}
+use Rattle.wild_outlines.proofs.Common.{changed_layout, group_errors}
 use Rattle.wild_outlines.proofs.ChangedItems.{outline-changed, same_by_outline}
 use Rattle.wild_outlines.proofs.ChangedLemmas.{none_before, errors-changed}
 use Rattle.wild_outlines.proofs.ClausesLemmas.{clauses_hold}

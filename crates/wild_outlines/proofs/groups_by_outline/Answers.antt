@@ -1,4 +1,4 @@
-use Rattle.std.proofs.Common.{sym}
+use Rattle.wild_outlines.proofs.Common.{sym}
 use Rattle.wild_outlines.proofs.GroupsFaults.{group_errors-outline}
 use Rattle.wild_outlines.proofs.GroupsPieces.{group_pieces-outline}
 use Rattle.wild_outlines.proofs.groups_by_outline.Goals as goal

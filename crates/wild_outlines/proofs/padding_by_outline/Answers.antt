@@ -1,4 +1,4 @@
-use Rattle.std.proofs.Common.{sym}
+use Rattle.wild_outlines.proofs.Common.{sym}
 use Rattle.wild_outlines.proofs.PaddingLemmas.{padding-outline}
 use Rattle.wild_outlines.proofs.padding_by_outline.Goals as goal
 

@@ -1,4 +1,4 @@
-use Rattle.std.proofs.Common.{sym, ap, option_to_list}
+use Rattle.wild_outlines.proofs.Common.{sym, ap, option_to_list}
 use Rattle.wild_needs.specs.EntryPoint.{EntryPoint}
 use Rattle.wild_outlines.proofs.ClausesTests.{image_size-outline}
 use Rattle.wild_outlines.proofs.ClausesSlots.{slots_of-outline}

@@ -1,9 +1,6 @@
-use Rattle.std.proofs.Common.{refl}
+use Rattle.wild_references.proofs.Common.{refl, plain, Four, Signed}
 use Rattle.wild_reloc.specs.declared.expression.SlotSort.TheVariants as sorts
-use Rattle.wild_reloc.specs.Table.{plain}
 use Rattle.wild_reloc.specs.declared.info.RelocationKind.TheVariants as kinds
-use Rattle.wild_reloc.specs.declared.info.Width.TheVariants.{Four}
-use Rattle.wild_reloc.specs.declared.range.Sign.TheVariants.{Signed}
 use Rattle.wild_references.proofs.RewrittenPlaces.{LawsBelow}
 use Rattle.wild_references.proofs.RewrittenAArch64.{LawsOfWords}
 use Rattle.wild_references.proofs.RewrittenLaws.{rewritten_stand, rewritten_hold, partners_hold}

@@ -1,9 +1,6 @@
-use Rattle.std.proofs.Common.{◌≡◌, take, arith, subst, List}
-use Rattle.std.specs.Prelude.{All}
+use Rattle.wild_bound.proofs.Common.{◌≡◌, take, arith, subst, List, All, AnswerNumbers, Answer}
 use Rattle.std.proofs.lemmas.List.{take_all}
 use Rattle.std.proofs.lemmas.List.Elements.{All-more}
-use Rattle.wild_bound.specs.Premises.{AnswerNumbers}
-use Rattle.wild_loader.specs.declared.world.Answer.{Answer}
 use Rattle.wild_bound.proofs.numbers.answers_fit.Goals as goal
 
 abbrev Fits : Answer → Type 0

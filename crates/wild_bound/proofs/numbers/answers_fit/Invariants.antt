@@ -1,6 +1,4 @@
-use Rattle.std.proofs.Common.{take}
-use Rattle.std.specs.Prelude.{All}
-use Rattle.wild_bound.specs.Premises.{AnswerNumbers}
+use Rattle.wild_bound.proofs.Common.{take, All, AnswerNumbers}
 use Rattle.wild_bound.proofs.numbers.answers_fit.Given as goal
 
 abbrev pub invariant-loop-answer : goal.invariant-loop-answer

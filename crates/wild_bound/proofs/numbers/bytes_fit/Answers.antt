@@ -1,4 +1,4 @@
-use Rattle.std.proofs.Common.{ℕ, ◌<◌, subst}
+use Rattle.wild_bound.proofs.Common.{ℕ, ◌<◌, subst}
 use Rattle.std.proofs.lemmas.List.{get_or_default}
 use Rattle.wild_bound.proofs.numbers.bytes_fit.Goals as goal
 

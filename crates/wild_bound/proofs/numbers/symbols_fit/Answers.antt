@@ -1,9 +1,6 @@
-use Rattle.std.proofs.Common.{◌≡◌, take, arith, subst, List}
-use Rattle.std.specs.Prelude.{All}
+use Rattle.wild_bound.proofs.Common.{◌≡◌, take, arith, subst, List, All, SymbolNumbers, Symbol}
 use Rattle.std.proofs.lemmas.List.{take_all}
 use Rattle.std.proofs.lemmas.List.Elements.{All-more}
-use Rattle.wild_bound.specs.Premises.{SymbolNumbers}
-use Rattle.wild_types.specs.declared.symbol.Symbol.{Symbol}
 use Rattle.wild_bound.proofs.numbers.symbols_fit.Goals as goal
 
 abbrev Fits : Symbol → Type 0

@@ -1,6 +1,4 @@
-use Rattle.std.proofs.Common.{take}
-use Rattle.std.specs.Prelude.{All}
-use Rattle.wild_bound.specs.Premises.{SymbolNumbers}
+use Rattle.wild_bound.proofs.Common.{take, All, SymbolNumbers}
 use Rattle.wild_bound.proofs.numbers.symbols_fit.Given as goal
 
 abbrev pub invariant-loop-symbol : goal.invariant-loop-symbol

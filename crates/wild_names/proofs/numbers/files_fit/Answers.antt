@@ -1,9 +1,4 @@
-use Rattle.std.proofs.Common.{◌≡◌, take, arith, subst, List}
-use Rattle.std.specs.Prelude.{All}
-use Rattle.std.proofs.lemmas.List.{take_all}
-use Rattle.std.proofs.lemmas.List.Elements.{All-more}
-use Rattle.wild_types.specs.declared.file.File.{File}
-use Rattle.wild_names.specs.VersionLaws.{IndexesFit}
+use Rattle.wild_names.proofs.Common.{◌≡◌, take, arith, subst, List, All, take_all, All-more, File, IndexesFit}
 use Rattle.wild_names.proofs.numbers.files_fit.Goals as goal
 
 -- one of them fits

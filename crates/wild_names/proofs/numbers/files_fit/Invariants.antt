@@ -1,6 +1,4 @@
-use Rattle.std.proofs.Common.{take}
-use Rattle.std.specs.Prelude.{All}
-use Rattle.wild_names.specs.VersionLaws.{IndexesFit}
+use Rattle.wild_names.proofs.Common.{take, All, IndexesFit}
 use Rattle.wild_names.proofs.numbers.files_fit.Given as goal
 
 abbrev pub invariant-loop-file : goal.invariant-loop-file

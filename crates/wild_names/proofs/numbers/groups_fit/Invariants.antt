@@ -1,7 +1,4 @@
-use Rattle.std.proofs.Common.{take}
-use Rattle.std.specs.Prelude.{All}
-use Rattle.wild_types.specs.declared.file.Group.{Group}
-use Rattle.wild_names.specs.VersionLaws.{IndexesFit}
+use Rattle.wild_names.proofs.Common.{take, All, Group, IndexesFit}
 use Rattle.wild_names.proofs.numbers.groups_fit.Given as goal
 
 abbrev pub invariant-loop-group : goal.invariant-loop-group

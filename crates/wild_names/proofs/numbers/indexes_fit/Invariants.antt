@@ -1,6 +1,4 @@
-use Rattle.std.proofs.Common.{◌<◌, ◌^◌, take}
-use Rattle.std.specs.Prelude.{All}
-use Rattle.wild_types.specs.declared.file.NeededVersion.{NeededVersion}
+use Rattle.wild_names.proofs.Common.{◌<◌, ◌^◌, take, All, NeededVersion}
 use Rattle.wild_names.proofs.numbers.indexes_fit.Given as goal
 
 abbrev pub invariant-loop-version : goal.invariant-loop-version

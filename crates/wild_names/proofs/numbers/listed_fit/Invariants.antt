@@ -1,6 +1,4 @@
-use Rattle.std.proofs.Common.{◌<◌, ◌^◌, take}
-use Rattle.std.specs.Prelude.{All}
-use Rattle.wild_types.specs.declared.layout.DynamicSymbol.{DynamicSymbol}
+use Rattle.wild_names.proofs.Common.{◌<◌, ◌^◌, take, All, DynamicSymbol}
 use Rattle.wild_names.proofs.numbers.listed_fit.Given as goal
 
 abbrev pub invariant-loop-symbol : goal.invariant-loop-symbol

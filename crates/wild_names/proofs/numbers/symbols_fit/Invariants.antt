@@ -1,6 +1,4 @@
-use Rattle.std.proofs.Common.{◌<◌, ◌^◌, take}
-use Rattle.std.specs.Prelude.{All}
-use Rattle.wild_types.specs.declared.symbol.Symbol.{Symbol}
+use Rattle.wild_names.proofs.Common.{◌<◌, ◌^◌, take, All, Symbol}
 use Rattle.wild_names.proofs.numbers.symbols_fit.Given as goal
 
 abbrev pub invariant-loop-symbol : goal.invariant-loop-symbol

@@ -1,4 +1,4 @@
-use Rattle.wild_layout.proofs.FaultLemmas.{laid_out}
+use Rattle.wild_names.proofs.Common.{laid_out}
 use Rattle.wild_names.proofs.objects.relinking_is_faithful.Goals as goal
 use Rattle.wild_names.proofs.Relinked.{relinked}
 
