@@ -5,8 +5,7 @@ pub use Rattle.std.proofs.lemmas.List.Elements.{All-cons, All-nil}
 pub use Rattle.std.proofs.lemmas.Option.{get_or_from_slice_get, slice_get-get_or, slice_get_within}
 pub use Rattle.std.specs.Int.{cast_unsigned, w64}
 pub use Rattle.std.specs.List.{list_all, range_with_len}
-pub use Rattle.std.specs.Prelude.{All, Bool, Contains, Err, FitsSigned, List, None, Ok, Option, Result, Some, [], bit_and, drop, false, get_or, if◌then◌else◌, is_none, is_some, length, map, nat_le, nat_lt, negsuc, not, option_and_then, option_map, pos, slice_get, slice_index, slice_index_or, slice_range, suc, take, true, unwrap_or, ℕ, ℤ, ⊤, ◌%◌, ◌&&◌, ◌*◌, ◌++◌, ◌+◌, ◌-◌, ◌/◌, ◌<◌, ◌==◌, ◌^◌, ◌||◌, ◌∷◌, ◌≡◌, ◌≢◌, ◌≤◌, ◌⊎◌}
-unfoldable pub use Rattle.std.specs.Prelude.{zero}
+pub use Rattle.std.specs.Prelude.{All, Bool, Contains, Err, FitsSigned, List, None, Ok, Option, Result, Some, [], bit_and, drop, false, get_or, if◌then◌else◌, is_none, is_some, length, map, nat_le, nat_lt, negsuc, not, option_and_then, option_map, pos, slice_get, slice_index, slice_index_or, slice_range, suc, take, true, unwrap_or, zero, ℕ, ℤ, ⊤, ◌%◌, ◌&&◌, ◌*◌, ◌++◌, ◌+◌, ◌-◌, ◌/◌, ◌<◌, ◌==◌, ◌^◌, ◌||◌, ◌∷◌, ◌≡◌, ◌≢◌, ◌≤◌, ◌⊎◌}
 unfoldable pub use Rattle.wild_aarch64.specs.Code.{read}
 pub use Rattle.wild_aarch64.specs.Effect.{shapes, words_of}
 pub use Rattle.wild_aarch64.specs.Machine.{does, meaning, page, run}
@@ -22,8 +21,8 @@ pub use Rattle.wild_layout.proofs.DecideLemmas.{HasField, decided_left, decided_
 pub use Rattle.wild_layout.proofs.DecisionLemmas.{IsOwn, decide_field, decide_left, decide_moved, decide_nothing, decide_partner, own_choice, rewritten_aarch64, rewritten_x86_64}
 pub use Rattle.wild_layout.proofs.SiteLemmas.{length-template_site, window_in}
 pub use Rattle.wild_layout.proofs.ThunkFieldLemmas.{ComesTo}
-pub use Rattle.wild_layout.specs.Choice.{choice, choice_of, choice_on, infos_from, is_thread_type, nameless, question_around, question_of, takes_next}
-unfoldable pub use Rattle.wild_layout.specs.Choice.{choice_by, is_partner}
+pub use Rattle.wild_layout.specs.Choice.{choice, choice_of, choice_on, infos_from, is_partner, is_thread_type, nameless, question_around, question_of, takes_next}
+unfoldable pub use Rattle.wild_layout.specs.Choice.{choice_by}
 pub use Rattle.wild_layout.specs.Decide.{decide_with, place_to, term_to}
 unfoldable pub use Rattle.wild_layout.specs.Decide.{decide, decided}
 pub use Rattle.wild_layout.specs.Geometry.{DefinitionNames, IsLaidOut, NamesSymbol}
