@@ -129,6 +129,23 @@ holds_within P all b within h = λ k d low.
     let g = get_or b.groups.now k d in
     holds_at P all (b.first + k) g (within k g (slice_get-get_or b.groups.now k d low)) h
 
+-- what holds of each batch's groups, by their numbers, holds of all groups
+in_front : (F : ℕ → Group → Type 0) (own rest : List Group) (n j m : ℕ) (g : Group) → m ≡ n + j → slice_get (own ++ rest) j ≡ Some g → ((i k : ℕ) (x : Group) → k ≡ n + i → slice_get own i ≡ Some x → F k x) → ((i k : ℕ) (x : Group) → k ≡ n + length own + i → slice_get rest i ≡ Some x → F k x) → F m g
+in_front F [] rest n j m g e at here later = later j m g (omega (arith, e)) at
+in_front F (x ∷ own) rest n zero m g e at here later = here 0 m g e at
+in_front F (x ∷ own) rest n (suc j) m g e at here later =
+    in_front F own rest (n + 1) j m g (omega (arith, e)) at (λ i k y f a. here (suc i) k y (omega (arith, f)) a) (λ i k y f a. later i k y (omega (arith, f)) a)
+
+pub holds_of_all : (F : ℕ → Group → Type 0) (n : ℕ) (gs : List Group) (bs : List Batch) → AreCut n gs bs → ((i : ℕ) (b : Batch) → slice_get bs i ≡ Some b → (j : ℕ) (g : Group) → slice_get b.groups.now j ≡ Some g → F (b.first + j) g) → (j m : ℕ) (g : Group) → m ≡ n + j → slice_get gs j ≡ Some g → F m g
+holds_of_all F n gs [] h each j m g e at = (let none : slice_get [] j ≡ Some g = subst (λ (xs : List Group). slice_get xs j ≡ Some g) h at in cc)
+holds_of_all F n gs (b ∷ bs) h each j m g e at =
+    let own = b.groups.now in
+    let first = h.0.first in
+    let split : slice_get (own ++ drop (length own) gs) j ≡ Some g = subst (λ (xs : List Group). slice_get xs j ≡ Some g) h.0.groups at in
+    in_front F own (drop (length own) gs) n j m g e split
+    (λ i k x f a. (let same : b.first + i ≡ k = omega (arith, first, f) in subst (λ (q : ℕ). F q x) same (each 0 b refl i x a)))
+    (λ i k x f a. holds_of_all F (n + length own) (drop (length own) gs) bs h.1 (λ q c d. each (suc q) c d) i k x f a)
+
 -- ---- groups that are cut, batch after batch
 
 -- with whatever batches of the rest, these are batches of all

@@ -10,6 +10,7 @@ pub mod AppendLemmas
 pub mod GatherLemmas
 pub mod BatchLemmas
 pub mod PlainLemmas
+pub mod ShareLemmas
 pub mod KindLemmas
 pub mod RelaOrGroupLemmas
 pub mod StandingLemmas

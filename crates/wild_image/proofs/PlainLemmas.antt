@@ -93,18 +93,18 @@ others_have_none l first h is all = λ i j p g part group behind raw.
     (let size : given i first ≡ p.size = eqb-true _ _ (rw raw at (all i p part)) in
     none_behind_all (given i) l.groups j p.size first g is group behind size (sums_hold l h i p part))
 
--- one more part
-part_more : (F : ℕ → Part → Type 0) (l : Layout) (items : List Part) (i : ℕ) (d : Part) → items ≡ l.parts → i < length items → ((k : ℕ) (p : Part) → k < i → slice_get l.parts k ≡ Some p → F k p) → F i (get_or items i d) → (k : ℕ) (p : Part) → k < i + 1 → slice_get l.parts k ≡ Some p → F k p
-part_more F l items i d same inside before here k p low at = elim (cases_order k i) [
+-- one more item
+pub item_more : {X : Type 0} (F : ℕ → X → Type 0) (xs items : List X) (i : ℕ) (d : X) → items ≡ xs → i < length items → ((k : ℕ) (x : X) → k < i → slice_get xs k ≡ Some x → F k x) → F i (get_or items i d) → (k : ℕ) (x : X) → k < i + 1 → slice_get xs k ≡ Some x → F k x
+item_more {X} F xs items i d same inside before here k x low at = elim (cases_order k i) [
   | inl e ↦
-      (let there : get_or items k d ≡ p = ap (λ (ps : List Part). get_or ps k d) same ∙ get_or_from_slice_get l.parts k p d at in
-      subst (λ (q : Part). F k q) there (subst (λ (n : ℕ). F n (get_or items n d)) (sym e) here))
-  | inr (inl b) ↦ before k p b at
+      (let there : get_or items k d ≡ x = ap (λ (ys : List X). get_or ys k d) same ∙ get_or_from_slice_get xs k x d at in
+      subst (λ (y : X). F k y) there (subst (λ (n : ℕ). F n (get_or items n d)) (sym e) here))
+  | inr (inl b) ↦ before k x b at
   | inr (inr c) ↦ absurd (omega (arith, c, low))
 ]
 
 pub all_more : (l : Layout) (first : Group) (items : List Part) (i : ℕ) (d : Part) → items ≡ l.parts → i < length items → ((k : ℕ) (p : Part) → k < i → slice_get l.parts k ≡ Some p → has_all k p first ≡ true) → has_all i (get_or items i d) first ≡ true → (k : ℕ) (p : Part) → k < i + 1 → slice_get l.parts k ≡ Some p → has_all k p first ≡ true
-all_more l first = part_more (λ k p. has_all k p first ≡ true) l
+all_more l first = item_more (λ k p. has_all k p first ≡ true) l.parts
 
 -- no part of a group behind the first that needs nothing has a fault
 pub others_plain : (l : Layout) (i j : ℕ) (p : Part) (g : Group) → slice_get l.parts i ≡ Some p → slice_get l.groups j ≡ Some g → OthersHaveNone l → 1 ≤ j → ((q : Role) → group_share l q g ≡ 0) → share_faults l i p j g ≡ []
@@ -130,4 +130,4 @@ shares_none l h =
     (let x : m ≡ i = omega arith in let y : n ≡ j = omega arith in rw (x, y) (h j g found i p at))))
 
 pub share_more : (l : Layout) (j : ℕ) (g : Group) (items : List Part) (i : ℕ) (d : Part) → items ≡ l.parts → i < length items → ((k : ℕ) (p : Part) → k < i → slice_get l.parts k ≡ Some p → share_faults l k p j g ≡ []) → share_faults l i (get_or items i d) j g ≡ [] → (k : ℕ) (p : Part) → k < i + 1 → slice_get l.parts k ≡ Some p → share_faults l k p j g ≡ []
-share_more l j g = part_more (λ k p. share_faults l k p j g ≡ []) l
+share_more l j g = item_more (λ k p. share_faults l k p j g ≡ []) l.parts

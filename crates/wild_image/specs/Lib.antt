@@ -5,6 +5,7 @@ pub mod Jobs
 pub mod RelocationCounts
 pub mod Pieces
 pub mod Steps
+pub mod ShareChecks
 pub mod Placed
 pub mod Owners
 pub mod LayoutFacts

@@ -19,7 +19,8 @@ use crate::group_writer::{GroupWriter, ImageWriter};
 use crate::job::{GroupJob, Outcome};
 use crate::layout_facts::LayoutFacts;
 use crate::padding::padded_prefix;
-use crate::shares::{check_shares_in, first_has_all};
+use crate::share_job::check_shares_by_workers;
+use crate::shares::first_has_all;
 use std::alloc::{AllocError, Global};
 use wild_clauses::{LayoutSurvey, well_formed_with};
 use wild_contents::make_search_table;
@@ -202,7 +203,7 @@ fn write_prefix_gated<A: Arch, G: Gate, E: GroupWriter<A, G>>(
         seen.inner_groups_need_no_tables,
         first_has_all(layout),
     );
-    check_shares_in(layout, facts)?;
+    check_shares_by_workers(executor, alloc, layout, facts, workers)?;
     layouts_are_laid_out();
     let needs_owner_files = layout.kind.is_partial_link() || !seen.unmerged;
     write_laid_out::<A, G, E>(

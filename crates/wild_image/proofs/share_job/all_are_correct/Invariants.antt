@@ -1,0 +1,7 @@
+use Rattle.std.proofs.Common.{◌≡◌, ℕ, ◌<◌, true}
+use Rattle.std.specs.Prelude.{Some, slice_get}
+use Rattle.wild_image.specs.declared.share_job.ShareCheck.{ShareCheck}
+use Rattle.wild_image.proofs.share_job.all_are_correct.Given as goal
+
+abbrev pub invariant-loop-check : goal.invariant-loop-check
+invariant-loop-check l = (i : ℕ) (o : ShareCheck) → i < l.check-index → slice_get l.checks i ≡ Some o → o.is_correct ≡ true

@@ -1,0 +1,8 @@
+use Rattle.std.proofs.Common.{◌≡◌, ℕ, ◌+◌, ◌<◌}
+use Rattle.std.specs.Prelude.{Some, slice_get}
+use Rattle.wild_types.specs.declared.file.Group.{Group}
+use Rattle.wild_image.specs.Steps.{HasCorrectShares}
+use Rattle.wild_image.proofs.shares.batch_is_correct.Given as goal
+
+abbrev pub invariant-loop-i : goal.invariant-loop-i
+invariant-loop-i l = (j : ℕ) (g : Group) → j < l.i → slice_get l.batch.groups.now j ≡ Some g → HasCorrectShares l.layout (l.batch.first + j) g
