@@ -60,6 +60,7 @@ def rust(source, crate, names):
     text = re.sub(r'crate::shim::(vec|format)!', r'crate::shim::\1_in!', text)
     text = re.sub(r'\.(to_vec|to_string|replace)\((?=(?:rt\.)?alloc\b)', r'.try_\1(', text)
     text = re.sub(r'\.sort_by_key\((?=\s*alloc\b)', '.try_sort_by_key(', text)
+    text = re.sub(r'\.collect\((?=\s*alloc\b)', '.try_collect_in(', text)
     text = re.sub(r'(?<![:\w])prove!', 'debug_assert!', text)
     text = re.sub(r'\bfn fmt<W: (?:fmt::)?Write>', 'fn fmt', text)
     text = text.replace('Formatter<W>', "Formatter<'_>")

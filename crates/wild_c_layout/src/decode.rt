@@ -37,6 +37,16 @@ pub fn decode_all<T: Drop, C: Decode<T>>(
     Ok(Items::from_vec(items))
 }
 
+/// The vector of the values that structs of numbers represent, in order.
+fn collect_plain<T: Drop, C: DecodePlain<T>>(
+    alloc: Global,
+    structs: &[C],
+) -> Result<Vec<T>, AllocError>
+    ensures { IfOk result (λ v. v.items ≡ map C.value_of structs.now) }
+{
+    structs.iter().map(|each| each.value()).collect(alloc)
+}
+
 /// The values that structs of numbers represent, in order.
 pub fn decode_plain<T: Drop, C: DecodePlain<T>>(
     alloc: Global,
@@ -44,9 +54,5 @@ pub fn decode_plain<T: Drop, C: DecodePlain<T>>(
 ) -> Result<Items<T>, AllocError>
     ensures { IfOk result (λ xs. xs ≡ map C.value_of structs.now) }
 {
-    let mut items = Vec::with_capacity(alloc, structs.len())?;
-    for each in structs {
-        items.push(each.value())?;
-    }
-    Ok(Items::from_vec(items))
+    Ok(Items::from_vec(collect_plain(alloc, structs)?))
 }

@@ -216,7 +216,7 @@ placed_again next memories others runs same placed e f = record {
 
 -- ---- a placement is removed
 
--- what is left after one number is taken out
+-- the memories after one number is removed
 memory_after_removal : (n q : ℕ) (memories after : Memories) (x : Memory) → after q ≡ cond (is_eq (nat_cmp n q)) None (memories q) → after q ≡ Some x → (memories q ≡ Some x) × ((n == q) ≡ false)
 memory_after_removal n q memories after x step h =
     elim (cases_Bool (n == q)) [
@@ -224,7 +224,7 @@ memory_after_removal n q memories after x step h =
       | inr f ↦ (let kept : after q ≡ memories q = step ∙ ap (λ (b : Bool). cond b None (memories q)) (is_key n q ∙ f) in (sym kept ∙ h, f))
     ]
 
--- what is left after the runs of a memory are taken out
+-- the runs after those of a memory are removed
 run_after_removal : (rs : List Run) (a : ℕ) (runs rest : Runs) (x : LoadedRun) → rest a ≡ without_runs rs runs a → rest a ≡ Some x → (runs a ≡ Some x) × (any_begins rs a ≡ false)
 run_after_removal rs a runs rest x step h =
     elim (cases_Bool (any_begins rs a)) [

@@ -17,7 +17,7 @@ use Rattle.wild_meaning.specs.LinkedImage.{IsLinked}
 use Rattle.wild_placer.specs.Plain.{load_plain, is_plain}
 use Rattle.wild_placer.specs.Place.{layout_memory}
 
--- memory has what the output requires: each reference of a kept item holds, and every other byte is as it should be
+-- memory is as the output requires: each reference of a kept item holds, and every other byte is as it should be
 pub record IsPlacedSoundly (l : Layout) (w : World) (m : Memory) : Type 0 where
   pub linked : IsLinked l w (bytes l)
   pub same : linked.memory ≡ m

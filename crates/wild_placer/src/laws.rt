@@ -6,7 +6,7 @@ use wild_laws::images_are_sound;
 use wild_loaded::headers_are_present;
 use wild_records::{file_header_is_read, program_header_is_read, section_header_is_read};
 
-/// The memory of a layout in a legal world has what the output requires: each reference of a kept item holds, with the exceptions of a
+/// The memory of a layout in a legal world is as the output requires: each reference of a kept item holds, with the exceptions of a
 /// loaded image.
 pub fn placements_are_sound()
     ensures { PlacementsAreSound }

@@ -60,7 +60,7 @@ impl<T: fmt::Debug> fmt::Debug for List<'_, T> {
     }
 }
 
-/// An image, and what is known about it.
+/// An image, its warning and its counts.
 #[derive(Clone, Debug)]
 pub struct Image {
     pub bytes: Vec<u8>,

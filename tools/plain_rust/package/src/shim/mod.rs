@@ -22,7 +22,7 @@ pub mod prelude {
     #[cfg(test)]
     pub use super::test::HostRuntime;
     pub use super::string::{String, TryReplace as _, TryToString as _};
-    pub use super::vec::{TrySortByKey as _, TryToVec as _, Vec};
+    pub use super::vec::{TryCollect as _, TrySortByKey as _, TryToVec as _, Vec};
 }
 
 macro_rules! vec_in {

@@ -162,6 +162,26 @@ impl io::Write for Vec<u8> {
     }
 }
 
+/// `collect` with an allocator.
+pub trait TryCollect<T> {
+    fn try_collect_in(self, alloc: Global) -> Result<Vec<T>, AllocError>;
+}
+
+impl<I: Iterator> TryCollect<I::Item> for I {
+    fn try_collect_in(self, alloc: Global) -> Result<Vec<I::Item>, AllocError> {
+        let (least, most) = self.size_hint();
+        let mut made = Vec::with_capacity(alloc, least)?;
+        if most == Some(least) {
+            made.0.extend(self);
+        } else {
+            for entry in self {
+                made.push(entry)?;
+            }
+        }
+        Ok(made)
+    }
+}
+
 /// `to_vec` with an allocator.
 pub trait TryToVec<T> {
     fn try_to_vec(&self, alloc: Global) -> Result<Vec<T>, AllocError>;
