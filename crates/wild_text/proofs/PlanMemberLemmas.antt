@@ -17,7 +17,7 @@ use Rattle.serde_json.specs.Find.{get, get_member}
 use Rattle.serde_json.proofs.Views.{get_member-put, get_member-put_other}
 use Rattle.wild_json.specs.Values.{data_of, members_from, view, members_view}
 use Rattle.wild_json.specs.Names.{first_unknown}
-use Rattle.wild_json.specs.Texts.{value_at, items_at, OpensArray}
+use Rattle.wild_json.specs.Texts.{value_at, items_at, members_at, OpensArray, IsItemNext, IsArrayEnd, IsNameNext, IsObjectEnd}
 use Rattle.wild_types.specs.declared.layout.Layout.{Layout}
 use Rattle.wild_types.specs.declared.symbol.Symbol.{Symbol}
 use Rattle.wild_types.specs.declared.layout.DynamicSymbol.{DynamicSymbol}
@@ -295,6 +295,25 @@ more_read read ds xs d x e h rest =
 pub all_read : {X : Type 0} (read : Data → Result X (List ℕ)) (ds : List Data) (xs : List X) → AreRead read ds xs → items_from read 0 (items_before ds no_items) ≡ Ok xs
 all_read read ds xs h = h no_items ∙ ap (λ (ys : List _). Ok ys) (append-nil xs)
 
+-- an open array began at the tokens old; its items so far are xs, and the tokens now come next
+abbrev pub RestOfItems : {X : Type 0} → (Data → Result X (List ℕ)) → ℕ → List Token → List Token → List X → Type 0
+RestOfItems reads depth old now xs = (n : ℕ) × (done : List Data) × (length now ≤ n) × (items_at (length old) depth old ≡ parse_map (items_before done) (items_at n depth now)) × AreRead reads done xs
+
+pub items_begin : {X : Type 0} (reads : Data → Result X (List ℕ)) (depth : ℕ) (old : List Token) → RestOfItems reads depth old old []
+items_begin reads depth old = (length old, [], omega arith, none_before (items_at (length old) depth old), none_read reads)
+
+pub items_go_on : {X : Type 0} (reads : Data → Result X (List ℕ)) (depth : ℕ) (old now next : List Token) (xs : List X) (d : Data) (x : X) → IsItemNext depth now d next → length next < length now → reads d ≡ Ok x
+    → RestOfItems reads depth old now xs → RestOfItems reads depth old next (xs ++ x ∷ [])
+items_go_on reads depth old now next xs d x is less read r =
+    let enough : length now ≤ r.0 = r.2 in
+    let some : 0 < r.0 = omega arith in
+    let rest : length next ≤ r.0 - 1 = omega arith in
+    (r.0 - 1, r.1 ++ d ∷ [], rest, r.3 ∙ ap (parse_map (items_before r.1)) (is r.0 some) ∙ one_more r.1 d (items_at (r.0 - 1) depth next), more_read reads r.1 xs d x read r.4)
+
+pub items_end : {X : Type 0} (reads : Data → Result X (List ℕ)) (depth : ℕ) (old now new : List Token) (xs : List X) → IsArrayEnd depth now new → RestOfItems reads depth old now xs
+    → (ds : Items) × (items_at (length old) depth old ≡ Some (ds, new)) × (items_from reads 0 ds ≡ Ok xs)
+items_end reads depth old now new xs is r = (items_before r.1 no_items, r.3 ∙ ap (parse_map (items_before r.1)) (is r.0 r.2), all_read reads r.1 xs r.4)
+
 pub list_next : {X : Type 0} (reads : Data → Result X (List ℕ)) (depth : ℕ) (old mid new : List Token) (ds : Items) (xs : List X) → OpensArray depth old mid → items_at (length mid) (depth - 1) mid ≡ Some (ds, new) → items_from reads 0 ds ≡ Ok xs
     → IsNext (list_in reads) depth old xs new
 list_next reads depth old mid new ds xs opens items read = (array ds, opens ∙ ap (parse_map array) items, read)
@@ -324,3 +343,21 @@ kept_next depth old new m after k v short known next is same = (view v, next, λ
 
 pub by_name : (k n : List ℕ) (depth : ℕ) (old new : List Token) (m after : PlanMembers) → bytes_eq k n ≡ true → AddsMember depth old new n m after → AddsMember depth old new k m after
 by_name k n depth old new m after e h = subst (λ (q : List ℕ). AddsMember depth old new q m after) (sym ((bytes_eq-Decides k n).0 e)) h
+
+-- an open object began at the tokens old; m has what its members so far encode, and the tokens now come next
+abbrev pub RestOfMembers : ℕ → List Token → List Token → PlanMembers → Type 0
+RestOfMembers depth old now m = (n : ℕ) × (found : Members) × (length now ≤ n) × (members_at (length old) depth no_members old ≡ members_at n depth found now) × AreMembers found m
+
+pub members_begin : (depth : ℕ) (old : List Token) (m : PlanMembers) → AreMembers no_members m → RestOfMembers depth old old m
+members_begin depth old m none = (length old, no_members, omega arith, refl, none)
+
+pub members_go_on : (depth : ℕ) (old now mid next : List Token) (name : List ℕ) (m after : PlanMembers) → IsNameNext now name mid → length mid < length now → length next < length mid → AddsMember depth mid next name m after
+    → RestOfMembers depth old now m → RestOfMembers depth old next after
+members_go_on depth old now mid next name m after is first less adds r =
+    let enough : length now ≤ r.0 = r.2 in
+    let some : 0 < r.0 = omega arith in
+    let rest : length next ≤ r.0 - 1 = omega arith in
+    (r.0 - 1, put name adds.0 r.1, rest, r.3 ∙ is r.0 depth r.1 adds.0 next some adds.1, adds.2 r.1 r.4)
+
+pub members_end : (depth : ℕ) (old now new : List Token) (m : PlanMembers) → IsObjectEnd now new → RestOfMembers depth old now m → (found : Members) × (members_at (length old) depth no_members old ≡ Some (found, new)) × AreMembers found m
+members_end depth old now new m is r = (r.1, r.3 ∙ is r.0 depth r.1 r.2, r.4)

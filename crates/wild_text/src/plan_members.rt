@@ -61,6 +61,7 @@ impl From<PlanFault> for Stop {
 }
 
 /// The items of an open array, to its end.
+#[tactic(auto, using(crate::proofs::PlanMemberLemmas::items_begin, crate::proofs::PlanMemberLemmas::items_go_on, crate::proofs::PlanMemberLemmas::items_end))]
 fn read_items<T: Planned + Drop>(
     alloc: Global,
     reader: &mut Reader<'_>,
@@ -258,6 +259,7 @@ impl<'a> PlanMembers<'a> {
 }
 
 /// The members of an open object, to its end.
+#[tactic(auto, using(crate::proofs::PlanMemberLemmas::members_begin, crate::proofs::PlanMemberLemmas::members_go_on, crate::proofs::PlanMemberLemmas::members_end))]
 fn read_object<'a>(
     alloc: Global,
     reader: &mut Reader<'a>,
