@@ -1,6 +1,7 @@
 //! The data of texts.
-ghost use Rattle.std.specs.Prelude.{◌≡◌, ◌<◌, length, true, [], Some, None, Err, IfOk, OnOk, MatchOption};
+ghost use Rattle.std.specs.Prelude.{◌≡◌, ◌<◌, ℕ, List, length, true, Some, None, Err, IfOk, OnOk, MatchOption};
 ghost use Rattle.json.specs.Lex.{tokens};
+ghost use Rattle.serde_json.specs.Data.{Data};
 ghost use Rattle.serde_json.specs.Read.{read};
 ghost use Rattle.wild_json.specs.declared.fault.TextFault.TheVariants.{NoJson};
 ghost use Rattle.wild_json.specs.Values.{view};
@@ -111,9 +112,10 @@ pub fn next_name<'a>(reader: &mut Reader<'a>) -> Result<Option<&'a str>, TextFau
     }
 }
 
-/// Whether a text that is read to its end as a value of that data has this data.
+/// Whether the text ends here: then its value is the one that was read.
+#[tactic(auto, using(crate::proofs::TextLemmas::text_read))]
 pub fn is_end(reader: &mut Reader<'_>) -> bool
-    ensures { result ≡ true → reader.old ≡ [] }
+    ensures { result ≡ true → (text : List ℕ) (d : Data) → value_at MAX_DEPTH (tokens text) ≡ Some (d, reader.old) → read text ≡ Some d }
 {
     reader.next().is_none()
 }

@@ -1,6 +1,6 @@
 -- What was read of a plan, member by member, is what the plan encodes.
 use Rattle.std.proofs.Common.{◌≡◌, ℕ, suc, ◌+◌, ◌-◌, ◌<◌, ◌≤◌, List, [], ◌∷◌, ◌++◌, length, codes, Bool, true, false, bytes_eq, Option, Some, None, option_map, Result, Ok, Err, Bor, Ordering, Less, Equal, Greater, nat_cmp, true≢false, decimal, refl, sym, ap, ◌∙◌, subst, arith, append_assoc, append-nil}
-use Rattle.std.specs.Prelude.{if◌then◌else◌}
+use Rattle.std.specs.Prelude.{if◌then◌else◌, IfOk}
 use Rattle.std.specs.List.{list_any}
 use Rattle.std.specs.Ordering.{match_ordering}
 use Rattle.std.specs.Cmp.Lexicographic.{slice_cmp}
@@ -8,23 +8,25 @@ use Rattle.std.specs.declared.alloc.Global.{Global}
 use Rattle.std.proofs.lemmas.Slice.Eq.{bytes_eq-Decides}
 use Rattle.std.proofs.lemmas.List.{length-append}
 use Rattle.json.specs.Token.{Token}
+use Rattle.json.specs.Lex.{tokens}
 use Rattle.json.specs.Json as json
 use Rattle.json.specs.Json.{parse_map}
 use Rattle.json.specs.Value.{value_view, members_view as json_members}
 use Rattle.json.specs.declared.value.Value.{Value}
 use Rattle.serde_json.specs.Data.{Data, array, object, Items, no_items, item, Members, no_members, member, put}
 use Rattle.serde_json.specs.Find.{get, get_member}
+use Rattle.serde_json.specs.Read.{read}
 use Rattle.serde_json.proofs.Views.{get_member-put, get_member-put_other}
 use Rattle.wild_json.specs.Values.{data_of, members_from, view, members_view}
 use Rattle.wild_json.specs.Names.{first_unknown}
-use Rattle.wild_json.specs.Texts.{value_at, items_at, OpensArray}
+use Rattle.wild_json.specs.Texts.{value_at, items_at, members_at, OpensArray, IsItemNext, IsArrayEnd, IsNameNext, IsObjectEnd, OpensObject}
 use Rattle.wild_types.specs.declared.layout.Layout.{Layout}
 use Rattle.wild_types.specs.declared.symbol.Symbol.{Symbol}
 use Rattle.wild_types.specs.declared.layout.DynamicSymbol.{DynamicSymbol}
 use Rattle.wild_types.specs.declared.layout.SortedSection.{SortedSection}
 use Rattle.wild_types.specs.declared.layout.Merged.{Merged}
 use Rattle.wild_types.specs.declared.file.Group.{Group}
-use Rattle.wild_text.specs.Reads.{◌>>=◌, in_member}
+use Rattle.wild_text.specs.Reads.{◌>>=◌, in_member, Gives}
 use Rattle.wild_text.specs.Values.{items_from, list_in}
 use Rattle.wild_text.specs.Members.{field}
 use Rattle.wild_text.specs.Symbols.{symbol_in, dynamic_symbol_in}
@@ -32,6 +34,7 @@ use Rattle.wild_text.specs.Input.{group_in}
 use Rattle.wild_text.specs.Extras.{sorted_section_in, merged_in}
 use Rattle.wild_text.specs.Plan.{head_in, frame_in, body_in, rest_in, members_in, layout_in, layout_members}
 use Rattle.wild_text.specs.PlanMembers.{IsNext, given_or, body_with, rest_with, members_with, no_lists, is_long, IsListOf, AreMembers, AddsMember}
+use Rattle.wild_text.specs.declared.fault.PlanFault.{PlanFault}
 use Rattle.wild_text.specs.declared.plan.LongLists.{LongLists}
 use Rattle.wild_text.specs.declared.plan_members.PlanMembers.{PlanMembers}
 use Rattle.wild_text.proofs.ItemLemmas.{with_front, regroup}
@@ -245,6 +248,10 @@ pub layout_is : (m : PlanMembers) (found : Members) (l : Layout) → AreMembers 
 unfolding layout_in
 layout_is m found l h e = rw (← members_same m found h, e, h.known) refl
 
+pub layout_given : (m : PlanMembers) (read : Result Layout PlanFault) → Gives read (members_with m.lists (object (members_view m.kept.items))) → IfOk read (λ l. (found : Members) → AreMembers found m → layout_in (object found) ≡ Ok l)
+layout_given m (Ok l) e found are = layout_is m found l are e
+layout_given m (Err fault) e = tt
+
 -- no list was read before
 pub body_without : (d : Data) → body_with None None None d ≡ body_in d
 unfolding body_with body_in
@@ -295,6 +302,42 @@ more_read read ds xs d x e h rest =
 pub all_read : {X : Type 0} (read : Data → Result X (List ℕ)) (ds : List Data) (xs : List X) → AreRead read ds xs → items_from read 0 (items_before ds no_items) ≡ Ok xs
 all_read read ds xs h = h no_items ∙ ap (λ (ys : List _). Ok ys) (append-nil xs)
 
+-- an open array began at the tokens old; its items so far are xs, and the tokens now come next
+pub record RestOfItems {X : Type 0} (reads : Data → Result X (List ℕ)) (depth : ℕ) (old now : List Token) (xs : List X) : Type 0 where
+  pub bound : ℕ
+  pub done : List Data
+  pub enough : length now ≤ bound
+  pub rest : items_at (length old) depth old ≡ parse_map (items_before done) (items_at bound depth now)
+  pub items : AreRead reads done xs
+  pub shorter : length now ≤ length old
+
+pub items_begin : {X : Type 0} (reads : Data → Result X (List ℕ)) (depth : ℕ) (old : List Token) → RestOfItems reads depth old old []
+items_begin reads depth old = record {
+  bound = length old;
+  done = [];
+  enough = omega arith;
+  rest = none_before (items_at (length old) depth old);
+  items = none_read reads;
+  shorter = omega arith;
+}
+
+pub items_go_on : {X : Type 0} (reads : Data → Result X (List ℕ)) (depth : ℕ) (old now next : List Token) (xs : List X) (d : Data) (x : X) → IsItemNext depth now d next → length next < length now → reads d ≡ Ok x
+    → RestOfItems reads depth old now xs → RestOfItems reads depth old next (xs ++ x ∷ [])
+items_go_on reads depth old now next xs d x is less read r =
+    let some : 0 < r.bound = omega (arith, r.enough) in
+    record {
+      bound = r.bound - 1;
+      done = r.done ++ d ∷ [];
+      enough = omega (arith, r.enough);
+      rest = r.rest ∙ ap (parse_map (items_before r.done)) (is r.bound some) ∙ one_more r.done d (items_at (r.bound - 1) depth next);
+      items = more_read reads r.done xs d x read r.items;
+      shorter = omega (arith, r.shorter);
+    }
+
+pub items_end : {X : Type 0} (reads : Data → Result X (List ℕ)) (depth : ℕ) (old now new : List Token) (xs : List X) → IsArrayEnd depth now new → RestOfItems reads depth old now xs
+    → (ds : Items) × (items_at (length old) depth old ≡ Some (ds, new)) × (items_from reads 0 ds ≡ Ok xs)
+items_end reads depth old now new xs is r = (items_before r.done no_items, r.rest ∙ ap (parse_map (items_before r.done)) (is r.bound r.enough), all_read reads r.done xs r.items)
+
 pub list_next : {X : Type 0} (reads : Data → Result X (List ℕ)) (depth : ℕ) (old mid new : List Token) (ds : Items) (xs : List X) → OpensArray depth old mid → items_at (length mid) (depth - 1) mid ≡ Some (ds, new) → items_from reads 0 ds ≡ Ok xs
     → IsNext (list_in reads) depth old xs new
 list_next reads depth old mid new ds xs opens items read = (array ds, opens ∙ ap (parse_map array) items, read)
@@ -324,3 +367,35 @@ kept_next depth old new m after k v short known next is same = (view v, next, λ
 
 pub by_name : (k n : List ℕ) (depth : ℕ) (old new : List Token) (m after : PlanMembers) → bytes_eq k n ≡ true → AddsMember depth old new n m after → AddsMember depth old new k m after
 by_name k n depth old new m after e h = subst (λ (q : List ℕ). AddsMember depth old new q m after) (sym ((bytes_eq-Decides k n).0 e)) h
+
+-- an open object began at the tokens old; m holds its members so far, and the tokens now come next
+pub record RestOfMembers (depth : ℕ) (old now : List Token) (m : PlanMembers) : Type 0 where
+  pub bound : ℕ
+  pub found : Members
+  pub enough : length now ≤ bound
+  pub rest : members_at (length old) depth no_members old ≡ members_at bound depth found now
+  pub members : AreMembers found m
+
+pub members_begin : (depth : ℕ) (old : List Token) (m : PlanMembers) → AreMembers no_members m → RestOfMembers depth old old m
+members_begin depth old m none = record { bound = length old; found = no_members; enough = omega arith; rest = refl; members = none }
+
+pub members_go_on : (depth : ℕ) (old now mid next : List Token) (name : List ℕ) (m after : PlanMembers) → IsNameNext now name mid → length mid < length now → length next < length mid → AddsMember depth mid next name m after
+    → RestOfMembers depth old now m → RestOfMembers depth old next after
+members_go_on depth old now mid next name m after is first less adds r =
+    let some : 0 < r.bound = omega (arith, r.enough) in
+    record {
+      bound = r.bound - 1;
+      found = put name adds.0 r.found;
+      enough = omega (arith, r.enough);
+      rest = r.rest ∙ is r.bound depth r.found adds.0 next some adds.1;
+      members = adds.2 r.found r.members;
+    }
+
+pub members_end : (depth : ℕ) (old now new : List Token) (m : PlanMembers) → IsObjectEnd now new → RestOfMembers depth old now m → (found : Members) × (members_at (length old) depth no_members old ≡ Some (found, new)) × AreMembers found m
+members_end depth old now new m is r = (r.found, r.rest ∙ is r.bound depth r.found r.enough, r.members)
+
+-- ---- the whole text
+
+pub plan_read : (text : List ℕ) (mid new : List Token) (found : Members) (m : PlanMembers) (l : Layout) → OpensObject 127 (tokens text) mid → members_at (length mid) 126 no_members mid ≡ Some (found, new) → AreMembers found m
+    → ((t : List ℕ) (d : Data) → value_at 127 (tokens t) ≡ Some (d, new) → read t ≡ Some d) → ((ms : Members) → AreMembers ms m → layout_in (object ms) ≡ Ok l) → (d : Data) × (read text ≡ Some d) × (layout_in d ≡ Ok l)
+plan_read text mid new found m l opens members are ends layout = (object found, ends text (object found) (opens ∙ ap (parse_map object) members), layout found are)

@@ -27,7 +27,7 @@ resolver_in d = do
   all_known ← known_only (codes "address" ∷ codes "answer" ∷ []) d
   Ok (address, answer)
 
--- the images, of which there has to be one
+-- the images; there has to be at least one
 abbrev pub unless_empty : List NamedImage → Result (List NamedImage) (List ℕ)
 unless_empty [] = Err (codes "/images")
 unless_empty (image ∷ images) = Ok (image ∷ images)

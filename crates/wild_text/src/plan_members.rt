@@ -61,6 +61,7 @@ impl From<PlanFault> for Stop {
 }
 
 /// The items of an open array, to its end.
+#[tactic(auto, using(crate::proofs::PlanMemberLemmas::items_begin, crate::proofs::PlanMemberLemmas::items_end))]
 fn read_items<T: Planned + Drop>(
     alloc: Global,
     reader: &mut Reader<'_>,
@@ -114,7 +115,6 @@ impl<'a> PlanMembers<'a> {
     }
 
     /// Reads the symbols.
-    #[tactic(auto, using(crate::proofs::PlanMemberLemmas::symbols_next))]
     fn read_symbols(
         &mut self,
         alloc: Global,
@@ -131,7 +131,6 @@ impl<'a> PlanMembers<'a> {
     }
 
     /// Reads the groups.
-    #[tactic(auto, using(crate::proofs::PlanMemberLemmas::groups_next))]
     fn read_groups(
         &mut self,
         alloc: Global,
@@ -148,7 +147,6 @@ impl<'a> PlanMembers<'a> {
     }
 
     /// Reads the dynamic symbols.
-    #[tactic(auto, using(crate::proofs::PlanMemberLemmas::dynsyms_next))]
     fn read_dynsyms(
         &mut self,
         alloc: Global,
@@ -165,7 +163,6 @@ impl<'a> PlanMembers<'a> {
     }
 
     /// Reads the sections in an order of the plan's.
-    #[tactic(auto, using(crate::proofs::PlanMemberLemmas::sorted_next))]
     fn read_sorted(
         &mut self,
         alloc: Global,
@@ -182,7 +179,6 @@ impl<'a> PlanMembers<'a> {
     }
 
     /// Reads the merged strings.
-    #[tactic(auto, using(crate::proofs::PlanMemberLemmas::merged_next))]
     fn read_merged(
         &mut self,
         alloc: Global,
@@ -199,7 +195,6 @@ impl<'a> PlanMembers<'a> {
     }
 
     /// Keeps the value of a member of that name.
-    #[tactic(auto, using(crate::proofs::PlanMemberLemmas::kept_next))]
     fn keep(
         &mut self,
         alloc: Global,
@@ -248,7 +243,6 @@ impl<'a> PlanMembers<'a> {
     }
 
     /// The layout of all members of a plan.
-    #[tactic(auto, using(crate::proofs::PlanMemberLemmas::layout_is))]
     fn layout(self, alloc: Global) -> Result<Layout, PlanFault>
         ensures { IfOk result (λ l. (found : Members) → AreMembers found self.entry → layout_in (object found) ≡ Ok l) }
     {
@@ -258,6 +252,7 @@ impl<'a> PlanMembers<'a> {
 }
 
 /// The members of an open object, to its end.
+#[tactic(auto, using(crate::proofs::PlanMemberLemmas::members_begin, crate::proofs::PlanMemberLemmas::members_end))]
 fn read_object<'a>(
     alloc: Global,
     reader: &mut Reader<'a>,

@@ -43,7 +43,7 @@ impl Planned for (u64, u64) {
     }
 }
 
-/// The images, of which there has to be one.
+/// The images; there has to be at least one.
 #[tactic(auto, unfolding(crate::specs::Space::images_in))]
 fn read_images(alloc: Global, json: &Value<'_>) -> std::result::Result<Items<NamedImage>, PlanFault>
     ensures { Gives result (images_in (view json.now)) }
