@@ -9,7 +9,7 @@ use serde_json::Value;
 use std::alloc::{AllocError, Global};
 use std::thread::Threads;
 use wild_explain_reasons::{
-    push_advice, push_all, push_fields, push_image, push_needs, push_no_plan, push_owner,
+    Text, push_advice, push_all, push_fields, push_image, push_needs, push_no_plan, push_owner,
     push_reason,
 };
 use wild_image::{Threaded, write_layout};
@@ -30,11 +30,12 @@ fn refusal_of(
         Fault::OutOfMemory => Err(AllocError),
         _ => {
             let line = refusal_answer(alloc, error)?;
-            let mut reason = String::new(alloc);
+            let mut reason = Text::new(alloc);
             push_reason(&mut reason, alloc, layout, error)?;
             if all {
-                push_all(&mut reason, layout)?;
+                push_all(&mut reason, layout);
             }
+            let reason = reason.finish()?;
             let text = format!(in alloc; "{line}{reason}")?;
             Ok((REFUSED, text))
         }
@@ -49,18 +50,18 @@ fn image_words(
     image: &[u8],
     view: View,
 ) -> Result<String, AllocError> {
-    let mut text = String::new(alloc);
-    push_image(&mut text, layout)?;
+    let mut text = Text::new(alloc);
+    push_image(&mut text, layout);
     if !layout.options.only_keep_debug {
         push_advice(&mut text, alloc, layout)?;
     }
     if let Some(offset) = view.byte {
-        push_owner(&mut text, layout, offset)?;
+        push_owner(&mut text, layout, offset);
     }
     if view.relocations {
-        push_fields(&mut text, layout, image)?;
+        push_fields(&mut text, layout, image);
     }
-    Ok(text)
+    text.finish()
 }
 
 /// A line and the text after it.
@@ -117,9 +118,9 @@ fn layout_answer(
     match command {
         Command::Explain(view) => explain_layout(rt, alloc, layout, view),
         Command::Needs => {
-            let mut text = String::new(alloc);
-            push_needs(&mut text, layout)?;
-            Ok((LINKED, text))
+            let mut text = Text::new(alloc);
+            push_needs(&mut text, layout);
+            Ok((LINKED, text.finish()?))
         }
     }
 }
@@ -147,8 +148,9 @@ fn no_plan_reason(alloc: Global, bytes: &[u8], path: &str) -> Result<String, All
 {
     let line = no_plan_answer(alloc, path)?;
     let found = found_at(alloc, bytes, path)?;
-    let mut reason = String::new(alloc);
-    push_no_plan(&mut reason, path, found.as_str())?;
+    let mut reason = Text::new(alloc);
+    push_no_plan(&mut reason, path, found.as_str());
+    let reason = reason.finish()?;
     let text = join_lines(alloc, line.as_str(), reason.as_str())?;
     Ok(text)
 }

@@ -7,14 +7,14 @@ use crate::linking::{push_library, push_listed, push_local, push_path};
 use crate::names::{push_section, push_symbol};
 use crate::segments::{has_addresses, push_permissions, push_segments};
 use crate::stores::{Barriers, push_slots, push_stores};
+use crate::text::Text;
 use std::alloc::{AllocError, Global};
-use std::fmt::Write;
 use wild_needs::elf_entry_address;
 use wild_records::abi::segment::{PF_X, PT_LOAD};
 use wild_types::{File, Layout, Role, SymbolIndex, is_allocated, is_there, is_writable, part_with};
 
 /// Adds an allocated section that begins before the end of those before it.
-fn push_overlaps(out: &mut String, layout: &Layout) -> Result<(), AllocError> {
+fn push_overlaps(out: &mut Text, layout: &Layout) {
     let mut before: usize = 0;
     let mut low: u64 = 0;
     let mut end: u64 = 0;
@@ -22,11 +22,11 @@ fn push_overlaps(out: &mut String, layout: &Layout) -> Result<(), AllocError> {
         if has_addresses(section) {
             let last = section.address.saturating_add(section.size);
             if section.address < end && low < last {
-                write!(out, "advice: /sections/{i} lies over /sections/{before}: ")?;
-                push_section(out, layout, i)?;
-                write!(out, ", ")?;
-                push_section(out, layout, before)?;
-                writeln!(out)?;
+                write!(out, "advice: /sections/{i} lies over /sections/{before}: ");
+                push_section(out, layout, i);
+                out.push_str(", ");
+                push_section(out, layout, before);
+                out.push_str("\n");
             }
             if end < last {
                 before = i;
@@ -35,11 +35,10 @@ fn push_overlaps(out: &mut String, layout: &Layout) -> Result<(), AllocError> {
             }
         }
     }
-    Ok(())
 }
 
 /// Adds zeroed sections that a segment fills with file bytes.
-fn push_zeros(out: &mut String, layout: &Layout) -> Result<(), AllocError> {
+fn push_zeros(out: &mut Text, layout: &Layout) {
     for (i, section) in layout.sections.as_slice().iter().enumerate() {
         let address = section.address;
         let mut filled_by = None;
@@ -57,34 +56,32 @@ fn push_zeros(out: &mut String, layout: &Layout) -> Result<(), AllocError> {
             write!(
                 out,
                 "advice: /segments/{segment}/file_size reaches address {address} of "
-            )?;
-            push_section(out, layout, i)?;
-            writeln!(out, ": its zeros are bytes of the file")?;
+            );
+            push_section(out, layout, i);
+            out.push_str(": its zeros are bytes of the file\n");
         }
     }
-    Ok(())
 }
 
 /// Adds parts of hash tables without a shape, in lines that begin with a word.
-pub(crate) fn push_shapes(out: &mut String, layout: &Layout, word: &str) -> Result<(), AllocError> {
+pub(crate) fn push_shapes(out: &mut Text, layout: &Layout, word: &str) {
     let parts = layout.parts.as_slice();
     if is_there(Role::SysvHash, parts) && layout.sysv_hash.is_none() {
         writeln!(
             out,
             "{word}: a part has the role sysv_hash, and /sysv_hash is not given: the table is empty"
-        )?;
+        );
     }
     if is_there(Role::GnuHash, parts) && layout.gnu_hash.is_none() {
         writeln!(
             out,
             "{word}: a part has the role gnu_hash, and /gnu_hash is not given: the table is empty"
-        )?;
+        );
     }
-    Ok(())
 }
 
 /// Adds a base of the GOT that is not in it.
-fn push_base(out: &mut String, layout: &Layout) -> Result<(), AllocError> {
+fn push_base(out: &mut Text, layout: &Layout) {
     let base = layout.got_base;
     let parts = layout.parts.as_slice();
     if let Some(part) = part_with(Role::Got, parts) {
@@ -93,14 +90,13 @@ fn push_base(out: &mut String, layout: &Layout) -> Result<(), AllocError> {
             writeln!(
                 out,
                 "advice: /got_base is {base}, and the part got has addresses {start} to {end}: relocations with GOT in their value count from there"
-            )?;
+            );
         }
     }
-    Ok(())
 }
 
 /// Adds the copies of a library's symbols that have no room in writable data.
-fn push_copies(out: &mut String, layout: &Layout, file: &File) -> Result<(), AllocError> {
+fn push_copies(out: &mut Text, layout: &Layout, file: &File) {
     for copy in file.copied() {
         let definition: SymbolIndex = layout.canonical(*copy);
         let Some(symbol) = layout.symbols.as_slice().get(definition.0) else {
@@ -119,19 +115,18 @@ fn push_copies(out: &mut String, layout: &Layout, file: &File) -> Result<(), All
                 || is_allocated(section.flags) && is_writable(section.flags) && is_in;
         }
         if !has_room {
-            write!(out, "advice: the copy of ")?;
-            push_symbol(out, layout, definition.0)?;
+            out.push_str("advice: the copy of ");
+            push_symbol(out, layout, definition.0);
             writeln!(
                 out,
                 " has no room: {size} bytes at address {address} lie in no writable section"
-            )?;
+            );
         }
     }
-    Ok(())
 }
 
 /// Adds an entry address that is in no executable segment.
-fn push_entry(out: &mut String, layout: &Layout) -> Result<(), AllocError> {
+fn push_entry(out: &mut Text, layout: &Layout) {
     let (entry, _) = elf_entry_address(layout);
     let mut is_executable = false;
     for segment in layout.segments.as_slice() {
@@ -144,40 +139,39 @@ fn push_entry(out: &mut String, layout: &Layout) -> Result<(), AllocError> {
         writeln!(
             out,
             "advice: /entry is address {entry}, which no executable segment has"
-        )?;
+        );
     }
-    Ok(())
 }
 
 /// Adds what would go wrong when the image is loaded or run. A relocatable object is not loaded.
-pub fn push_advice(out: &mut String, alloc: Global, layout: &Layout) -> Result<(), AllocError> {
+pub fn push_advice(out: &mut Text, alloc: Global, layout: &Layout) -> Result<(), AllocError> {
     if layout.kind.is_partial_link() {
         if layout.options.strip_all {
             let text = "has no effect: a relocatable object has its table of symbols";
-            push_hint(out, ADVICE, Item::Plan, "/options/strip_all", text)?;
+            push_hint(out, ADVICE, Item::Plan, "/options/strip_all", text);
         }
         return Ok(());
     }
-    push_segments(out, layout)?;
-    push_overlaps(out, layout)?;
-    push_zeros(out, layout)?;
-    push_base(out, layout)?;
-    push_shapes(out, layout, ADVICE)?;
-    push_entry(out, layout)?;
-    push_path(out, layout, ADVICE)?;
-    push_listed(out, layout)?;
+    push_segments(out, layout);
+    push_overlaps(out, layout);
+    push_zeros(out, layout);
+    push_base(out, layout);
+    push_shapes(out, layout, ADVICE);
+    push_entry(out, layout);
+    push_path(out, layout, ADVICE);
+    push_listed(out, layout);
     let barriers = Barriers::of(alloc, layout)?;
-    push_permissions(out, layout, &barriers)?;
+    push_permissions(out, layout, &barriers);
     for (i, group) in layout.groups.as_slice().iter().enumerate() {
         for (j, file) in group.files.as_slice().iter().enumerate() {
-            push_copies(out, layout, file)?;
-            push_copies_over(out, layout, file)?;
-            push_values(out, layout, file)?;
-            push_sections(out, layout, (i, j), file)?;
-            push_library(out, layout, ADVICE, Item::File(i, j), file)?;
-            push_local(out, layout, file)?;
-            push_slots(out, layout, &barriers, file)?;
-            push_stores(out, layout, &barriers, (i, j), file)?;
+            push_copies(out, layout, file);
+            push_copies_over(out, layout, file);
+            push_values(out, layout, file);
+            push_sections(out, layout, (i, j), file);
+            push_library(out, layout, ADVICE, Item::File(i, j), file);
+            push_local(out, layout, file);
+            push_slots(out, layout, &barriers, file);
+            push_stores(out, layout, &barriers, (i, j), file);
         }
     }
     Ok(())

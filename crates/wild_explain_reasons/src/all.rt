@@ -8,8 +8,7 @@ use crate::tests::{
     EntryTest, FileTest, GroupTest, InputTest, MergedTest, PartTest, PlanTest, SegmentTest,
     SymbolTest, Test, ThunkTest,
 };
-use std::alloc::AllocError;
-use std::fmt::Write;
+use crate::text::Text;
 use wild_needs::needs;
 use wild_types::Layout;
 
@@ -80,52 +79,46 @@ fn count_of(layout: &Layout, test: &Test) -> usize {
 }
 
 /// Adds the items that fail some tests, each test by itself.
-fn push_rows(out: &mut String, layout: &Layout, rows: &[Row]) -> Result<(), AllocError> {
+fn push_rows(out: &mut Text, layout: &Layout, rows: &[Row]) {
     for row in rows {
         let (clause, test, _, _) = row;
         if is_alone(test) {
             for index in 0..count_of(layout, test) {
                 if let Some(found) = find(layout, index, test) {
-                    writeln!(out, "fails: clause {clause}, index {index}")?;
-                    push_row(out, layout, index, row, found)?;
+                    writeln!(out, "fails: clause {clause}, index {index}");
+                    push_row(out, layout, index, row, found);
                 }
             }
         }
     }
-    Ok(())
 }
 
 /// Adds the first of some tests that a clause has and an item fails at an index, and returns whether there is one. Without a clause and an
 /// index, adds the items that fail some tests, and returns false.
 fn push_some_tests(
-    out: &mut String,
+    out: &mut Text,
     layout: &Layout,
     at: Option<(u32, usize)>,
     rows: &[Row],
-) -> Result<bool, AllocError> {
+) -> bool {
     match at {
         Some((clause, index)) => push_first(out, layout, clause, index, rows),
         None => {
-            push_rows(out, layout, rows)?;
-            Ok(false)
+            push_rows(out, layout, rows);
+            false
         }
     }
 }
 
 /// The same for all tests.
-pub(crate) fn push_tests(
-    out: &mut String,
-    layout: &Layout,
-    at: Option<(u32, usize)>,
-) -> Result<(), AllocError> {
-    if !push_some_tests(out, layout, at, &LAYOUT_ROWS)? {
-        push_some_tests(out, layout, at, &TABLE_ROWS)?;
+pub(crate) fn push_tests(out: &mut Text, layout: &Layout, at: Option<(u32, usize)>) {
+    if !push_some_tests(out, layout, at, &LAYOUT_ROWS) {
+        push_some_tests(out, layout, at, &TABLE_ROWS);
     }
-    Ok(())
 }
 
 /// Adds the shares that differ from what the groups have to write.
-fn push_shares(out: &mut String, layout: &Layout) -> Result<(), AllocError> {
+fn push_shares(out: &mut Text, layout: &Layout) {
     for (i, group) in layout.groups.as_slice().iter().enumerate() {
         for part in 0..layout.parts.len() {
             let (given, needed) = (group.given(part), needs(layout, part, i));
@@ -134,16 +127,15 @@ fn push_shares(out: &mut String, layout: &Layout) -> Result<(), AllocError> {
                 writeln!(
                     out,
                     "fails: /groups/{i}/part_sizes/{part} ({word}) is {given}, expected {needed}"
-                )?;
+                );
             }
         }
     }
-    Ok(())
 }
 
 /// Adds all items that fail a test of a clause which depends on no other item, and all shares that are not what is needed. A fault of a clause
 /// may be the cause of later ones.
-pub fn push_all(out: &mut String, layout: &Layout) -> Result<(), AllocError> {
-    push_tests(out, layout, None)?;
+pub fn push_all(out: &mut Text, layout: &Layout) {
+    push_tests(out, layout, None);
     push_shares(out, layout)
 }

@@ -17,10 +17,9 @@ use crate::partial::test_made;
 use crate::plan::{push_plan, test_plan};
 use crate::symbols::{test_symbol, undefined_entries};
 use crate::tests::{FileTest, InputTest, PartTest, PlanTest, SectionTest, Test};
+use crate::text::Text;
 use crate::thunks::find_thunk;
 use crate::verdict::{Finding, Verdict, due, plain};
-use std::alloc::AllocError;
-use std::fmt::Write;
 use wild_types::{Layout, Role, field_bytes, has_role};
 
 /// For each clause, from the first on, its name and what is likely wrong in a plan that fails it.
@@ -266,56 +265,45 @@ pub(crate) fn find(layout: &Layout, index: usize, test: &Test) -> Option<Finding
 }
 
 /// Adds what an input section has: of a test of relocations, the first that fails it and the end of its field.
-fn push_input_found(
-    out: &mut String,
-    layout: &Layout,
-    at: SectionPlace,
-    test: &InputTest,
-) -> Result<(), AllocError> {
+fn push_input_found(out: &mut Text, layout: &Layout, at: SectionPlace, test: &InputTest) {
     if let Some(section) = section_at(layout, at)
         && let Some(index) = wrong_relocation(layout, section, test)
         && let Some(relocation) = section.relocations.as_slice().get(index)
     {
         let width = field_bytes(layout.machine, relocation.number) as u64;
         let (end, size) = (relocation.offset.saturating_add(width), section.size);
-        write!(out, "/{index}\nfound: ")?;
-        push_relocation(out, layout, section, index)?;
-        write!(out, "; its field ends at {end}, the section at {size}")?;
+        write!(out, "/{index}\nfound: ");
+        push_relocation(out, layout, section, index);
+        write!(out, "; its field ends at {end}, the section at {size}");
         if let InputTest::Fields = test {
             let last = size.saturating_sub(width);
-            write!(out, "; expected an offset up to {last}")?;
+            write!(out, "; expected an offset up to {last}");
         }
-        return Ok(());
+        return;
     }
-    write!(out, "\nfound: ")?;
+    out.push_str("\nfound: ");
     push_found(out, layout, Item::Input(at))
 }
 
 /// Adds what fails, its path, what the plan has there, and what was expected.
-pub(crate) fn push_row(
-    out: &mut String,
-    layout: &Layout,
-    index: usize,
-    row: &Row,
-    found: Finding,
-) -> Result<(), AllocError> {
+pub(crate) fn push_row(out: &mut Text, layout: &Layout, index: usize, row: &Row, found: Finding) {
     let (_, test, what, member) = row;
-    write!(out, "what: {what}\nwhere: ")?;
-    push_item(out, found.item)?;
-    write!(out, "{member}")?;
+    write!(out, "what: {what}\nwhere: ");
+    push_item(out, found.item);
+    write!(out, "{member}");
     if let Item::Part(part) = found.item {
         let word = part_word(layout, part);
-        write!(out, " ({word})")?;
+        write!(out, " ({word})");
     }
     match (found.item, test) {
         (_, Test::Plan(test)) => {
-            write!(out, "\nfound: ")?;
-            push_plan(out, layout, index, test)?;
+            out.push_str("\nfound: ");
+            push_plan(out, layout, index, test);
         }
-        (Item::Input(at), Test::Input(test)) => push_input_found(out, layout, at, test)?,
+        (Item::Input(at), Test::Input(test)) => push_input_found(out, layout, at, test),
         _ => {
-            write!(out, "\nfound: ")?;
-            push_found(out, layout, found.item)?;
+            out.push_str("\nfound: ");
+            push_found(out, layout, found.item);
         }
     }
     if let Some(expected) = found.verdict.expected {
@@ -324,52 +312,45 @@ pub(crate) fn push_row(
             Test::Section(SectionTest::Bytes) => "the first such byte is",
             _ => "expected",
         };
-        write!(out, "; {word} {expected}")?;
+        write!(out, "; {word} {expected}");
     }
-    writeln!(out)?;
-    push_likely(out, layout, test, found.item)?;
+    out.push_str("\n");
+    push_likely(out, layout, test, found.item);
     if let Test::Plan(PlanTest::NoTable) = test {
-        push_demand(out, layout, index)?;
+        push_demand(out, layout, index);
     }
     if let Test::Part(PartTest::Shares) = test
         && let Some(part) = layout.parts.as_slice().get(index)
         && has_role(Role::Raw, part)
     {
-        push_room(out, layout, index, part)?;
+        push_room(out, layout, index, part);
     }
-    Ok(())
 }
 
 /// Adds the first of some tests that an item fails. Returns whether there is one.
 pub(crate) fn push_first(
-    out: &mut String,
+    out: &mut Text,
     layout: &Layout,
     clause: u32,
     index: usize,
     rows: &[Row],
-) -> Result<bool, AllocError> {
+) -> bool {
     for row in rows {
         if row.0 == clause
             && let Some(found) = find(layout, index, &row.1)
         {
-            push_row(out, layout, index, row, found)?;
-            return Ok(true);
+            push_row(out, layout, index, row, found);
+            return true;
         }
     }
-    Ok(false)
+    false
 }
 
 /// Adds the reason for a clause that fails.
-pub(crate) fn push_clause(
-    out: &mut String,
-    layout: &Layout,
-    clause: u32,
-    index: usize,
-) -> Result<(), AllocError> {
+pub(crate) fn push_clause(out: &mut Text, layout: &Layout, clause: u32, index: usize) {
     if let Some((title, likely)) = clause_words(clause) {
-        writeln!(out, "clause {clause}: {title}")?;
-        push_tests(out, layout, Some((clause, index)))?;
-        writeln!(out, "likely: {likely}")?;
+        writeln!(out, "clause {clause}: {title}");
+        push_tests(out, layout, Some((clause, index)));
+        writeln!(out, "likely: {likely}");
     }
-    Ok(())
 }

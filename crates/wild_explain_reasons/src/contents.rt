@@ -2,8 +2,7 @@
 
 use crate::hints::{ADVICE, push_expected, push_hint};
 use crate::items::{Item, SectionPlace, push_item};
-use std::alloc::AllocError;
-use std::fmt::Write;
+use crate::text::Text;
 use wild_types::{File, InputSection, Layout, Part, Place, Slot, Symbol, is_allocated};
 
 /// The address of a symbol by its place and its value, if it is in an allocated input section of its file and no other symbol defines it.
@@ -22,11 +21,7 @@ fn placed_value(file: &File, symbol: &Symbol) -> Option<u64> {
 }
 
 /// Adds the first symbol of a file whose `raw_value` is not the address of its place and value.
-pub(crate) fn push_values(
-    out: &mut String,
-    layout: &Layout,
-    file: &File,
-) -> Result<(), AllocError> {
+pub(crate) fn push_values(out: &mut Text, layout: &Layout, file: &File) {
     for (i, symbol) in layout.symbols_of(file).iter().enumerate() {
         if let Some(resolution) = symbol.resolution
             && let Some(address) = placed_value(file, symbol)
@@ -39,50 +34,38 @@ pub(crate) fn push_values(
             return push_expected(out, ADVICE, item, "/resolution/raw_value", numbers, why);
         }
     }
-    Ok(())
 }
 
 /// Adds the first string of a section that is out of order, or outside the part of the strings.
-fn push_strings(
-    out: &mut String,
-    at: SectionPlace,
-    section: &InputSection,
-    part: &Part,
-) -> Result<(), AllocError> {
+fn push_strings(out: &mut Text, at: SectionPlace, section: &InputSection, part: &Part) {
     let (start, end) = (part.address, part.address.saturating_add(part.size));
     let mut before = 0;
     for (i, string) in section.strings.as_slice().iter().enumerate() {
         let (offset, address) = (string.offset, string.address);
         if offset < before {
-            write!(out, "advice: ")?;
-            push_item(out, Item::Input(at))?;
+            out.push_str("advice: ");
+            push_item(out, Item::Input(at));
             writeln!(
                 out,
                 "/strings/{i}/offset is {offset}, expected {before} or more: the items ascend, and others are not found"
-            )?;
-            return Ok(());
+            );
+            return;
         }
         if address < start || end <= address {
-            write!(out, "advice: ")?;
-            push_item(out, Item::Input(at))?;
+            out.push_str("advice: ");
+            push_item(out, Item::Input(at));
             writeln!(
                 out,
                 "/strings/{i}/address is {address}, expected from {start} to {end}: the part of the strings"
-            )?;
-            return Ok(());
+            );
+            return;
         }
         before = offset;
     }
-    Ok(())
 }
 
 /// Adds what is wrong with the merged strings of a file, and its sections for debuggers without that slot.
-pub(crate) fn push_sections(
-    out: &mut String,
-    layout: &Layout,
-    place: (usize, usize),
-    file: &File,
-) -> Result<(), AllocError> {
+pub(crate) fn push_sections(out: &mut Text, layout: &Layout, place: (usize, usize), file: &File) {
     let (group, number) = place;
     for (i, section) in file.sections.as_slice().iter().enumerate() {
         let at = SectionPlace {
@@ -93,28 +76,27 @@ pub(crate) fn push_sections(
         match section.slot {
             Slot::Merge => {
                 if let Some(part) = layout.parts.as_slice().get(section.part) {
-                    push_strings(out, at, section, part)?;
+                    push_strings(out, at, section, part);
                 }
             }
             Slot::Loaded if section.name.as_slice().starts_with(b".debug_") => {
                 let text =
                     "is `loaded`, expected `debug` for a section that debuggers read: code that was left out has a tombstone then";
-                push_hint(out, ADVICE, Item::Input(at), "/slot", text)?;
+                push_hint(out, ADVICE, Item::Input(at), "/slot", text);
             }
             _ => {}
         }
     }
-    Ok(())
 }
 
 /// The copies of a file that lie over an input section with bytes or zeros, which a loader overwrites.
 fn push_over(
-    out: &mut String,
+    out: &mut Text,
     layout: &Layout,
     copied: &File,
     at: SectionPlace,
     section: &InputSection,
-) -> Result<(), AllocError> {
+) {
     for copy in copied.copied() {
         let definition = layout.canonical(*copy).0;
         if let Some(symbol) = layout.symbols.as_slice().get(definition)
@@ -126,16 +108,15 @@ fn push_over(
                 write!(
                     out,
                     "advice: /symbols/{definition}/resolution/raw_value is {address}, where "
-                )?;
-                push_item(out, Item::Input(at))?;
+                );
+                push_item(out, Item::Input(at));
                 writeln!(
                     out,
                     " is: a loader copies {size} bytes over it; expected a place of its own"
-                )?;
+                );
             }
         }
     }
-    Ok(())
 }
 
 /// The addresses from the first copy of a file to the end of the last one.
@@ -153,13 +134,9 @@ fn copied_range(layout: &Layout, file: &File) -> (u64, u64) {
 }
 
 /// Adds the copies of a file that have no bytes, and those that lie over input sections.
-pub(crate) fn push_copies_over(
-    out: &mut String,
-    layout: &Layout,
-    copied: &File,
-) -> Result<(), AllocError> {
+pub(crate) fn push_copies_over(out: &mut Text, layout: &Layout, copied: &File) {
     if copied.copied().len() == 0 {
-        return Ok(());
+        return;
     }
     for copy in copied.copied() {
         let definition = layout.canonical(*copy).0;
@@ -168,7 +145,7 @@ pub(crate) fn push_copies_over(
         {
             let text =
                 "is 0, and the symbol is copied: expected the size that the library has, as a loader copies so many bytes";
-            push_hint(out, ADVICE, Item::Symbol(definition), "/size", text)?;
+            push_hint(out, ADVICE, Item::Symbol(definition), "/size", text);
         }
     }
     let (low, high) = copied_range(layout, copied);
@@ -183,10 +160,9 @@ pub(crate) fn push_copies_over(
                         file,
                         section,
                     };
-                    push_over(out, layout, copied, at, input)?;
+                    push_over(out, layout, copied, at, input);
                 }
             }
         }
     }
-    Ok(())
 }

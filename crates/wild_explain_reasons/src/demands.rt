@@ -4,8 +4,7 @@ use crate::faults::push_relocation;
 use crate::hints::{LIKELY, push_hint};
 use crate::items::{Item, SectionPlace, push_decided, push_item, section_at};
 use crate::names::role_at;
-use std::alloc::AllocError;
-use std::fmt::Write;
+use crate::text::Text;
 use wild_needs::total_share;
 use wild_slot::{
     EntryPart, SymbolSlots, Treatment, WordPart, begins_relr_got, count_entries, count_relr_slots,
@@ -134,39 +133,32 @@ fn first_demand(layout: &Layout, role: Role) -> Option<(Item, Option<usize>)> {
 }
 
 /// Adds an item that needs bytes: its path, and a relocation or a symbol as it is.
-fn push_demanding(
-    out: &mut String,
-    layout: &Layout,
-    item: Item,
-    index: Option<usize>,
-) -> Result<(), AllocError> {
-    push_item(out, item)?;
+fn push_demanding(out: &mut Text, layout: &Layout, item: Item, index: Option<usize>) {
+    push_item(out, item);
     match (item, index) {
         (Item::Input(at), Some(index)) => {
-            write!(out, "/relocations/{index}, ")?;
+            write!(out, "/relocations/{index}, ");
             if let Some(section) = section_at(layout, at) {
-                push_relocation(out, layout, section, index)?;
+                push_relocation(out, layout, section, index);
             }
         }
         (Item::Symbol(symbol), _) => {
-            write!(out, ", ")?;
-            push_decided(out, layout, symbol)?;
+            out.push_str(", ");
+            push_decided(out, layout, symbol);
         }
-        (Item::File(_, _), _) => write!(out, "/copies")?,
-        _ => write!(out, "/slot")?,
+        (Item::File(_, _), _) => out.push_str("/copies"),
+        _ => out.push_str("/slot"),
     }
-    Ok(())
 }
 
 /// Adds the option that a part of RELR words needs.
-fn push_packed(out: &mut String, layout: &Layout) -> Result<(), AllocError> {
+fn push_packed(out: &mut Text, layout: &Layout) {
     let parts = layout.parts.as_slice();
     let has_part = is_there(Role::RelrDyn, parts) || is_there(Role::GotRelr, parts);
     if has_part && !layout.options.relr {
         let text = "is false, expected true: a part has the role relr_dyn or got_relr";
-        push_hint(out, LIKELY, Item::Plan, "/options/relr", text)?;
+        push_hint(out, LIKELY, Item::Plan, "/options/relr", text);
     }
-    Ok(())
 }
 
 /// The symbol that an item refers to: the symbol itself, or the definition of the symbol of its relocation.
@@ -183,13 +175,7 @@ fn symbol_of(layout: &Layout, item: Item, index: Option<usize>) -> Option<Symbol
 }
 
 /// Adds the flag that the symbol of an item likely lacks.
-fn push_flags(
-    out: &mut String,
-    layout: &Layout,
-    role: Role,
-    item: Item,
-    index: Option<usize>,
-) -> Result<(), AllocError> {
+fn push_flags(out: &mut Text, layout: &Layout, role: Role, item: Item, index: Option<usize>) {
     if let Some(symbol) = symbol_of(layout, item, index)
         && let Some(found) = layout.symbols.as_slice().get(symbol.0)
         && !found.flags.is_dynamic()
@@ -198,18 +184,17 @@ fn push_flags(
         if matches!(found.place, Place::Undefined) && !found.flags.is_undefined_weak() {
             let text =
                 "is without DYNAMIC, and the symbol is undefined: expected where another module defines it";
-            push_hint(out, LIKELY, item, "/flags", text)?;
+            push_hint(out, LIKELY, item, "/flags", text);
         } else if matches!(role, Role::RelaDynGeneral) && found.flags.is_interposable() {
             let text =
                 "is without NON_INTERPOSABLE: expected where no other module may define the symbol";
-            push_hint(out, LIKELY, item, "/flags", text)?;
+            push_hint(out, LIKELY, item, "/flags", text);
         }
     }
-    Ok(())
 }
 
 /// Adds the role of the part of frames, or their slot in a relocatable object.
-fn push_frame_part(out: &mut String, layout: &Layout, item: Item) -> Result<(), AllocError> {
+fn push_frame_part(out: &mut Text, layout: &Layout, item: Item) {
     if let Item::Input(at) = item
         && let Some(section) = section_at(layout, at)
         && section.slot.is_frame()
@@ -222,32 +207,27 @@ fn push_frame_part(out: &mut String, layout: &Layout, item: Item) -> Result<(), 
         let text = "is expected to be eh_frame: it is the part of a section of slot `frame`";
         return push_hint(out, LIKELY, Item::Part(section.part), "/role", text);
     }
-    Ok(())
 }
 
 /// Adds what needs a table that has no part: the first item, the members on which that depends, and the other tables without a part.
-pub(crate) fn push_demand(
-    out: &mut String,
-    layout: &Layout,
-    index: usize,
-) -> Result<(), AllocError> {
+pub(crate) fn push_demand(out: &mut Text, layout: &Layout, index: usize) {
     let Some((_, role)) = role_at(index) else {
-        return Ok(());
+        return;
     };
     let text = depends_on(role);
     let demand = first_demand(layout, role);
-    write!(out, "needed: ")?;
+    out.push_str("needed: ");
     if let Some((item, relocation)) = demand {
-        write!(out, "for ")?;
-        push_demanding(out, layout, item, relocation)?;
-        write!(out, "; ")?;
+        out.push_str("for ");
+        push_demanding(out, layout, item, relocation);
+        out.push_str("; ");
     }
-    writeln!(out, "it depends on {text}")?;
+    writeln!(out, "it depends on {text}");
     if let Some((item, relocation)) = demand {
-        push_flags(out, layout, role, item, relocation)?;
-        push_frame_part(out, layout, item)?;
+        push_flags(out, layout, role, item, relocation);
+        push_frame_part(out, layout, item);
     }
-    push_packed(out, layout)?;
+    push_packed(out, layout);
     for i in index.saturating_add(1)..30 {
         if let Some((word, other)) = role_at(i)
             && !is_there(other, layout.parts.as_slice())
@@ -257,9 +237,8 @@ pub(crate) fn push_demand(
                 writeln!(
                     out,
                     "also: no part has the role {word}, needed {needed} bytes"
-                )?;
+                );
             }
         }
     }
-    Ok(())
 }

@@ -3,9 +3,8 @@
 use crate::items::{Item, SectionPlace, push_decided, push_found, push_item, section_at};
 use crate::names::{push_name, push_symbol, push_type};
 use crate::symbol_places::push_lacking;
+use crate::text::Text;
 use crate::thunks::refused_thunk;
-use std::alloc::AllocError;
-use std::fmt::Write;
 use wild_reloc::RelocationSize;
 use wild_slot::{SlotFault, SymbolSlots};
 use wild_types::{
@@ -219,39 +218,28 @@ pub(crate) fn words_of(fault: Fault, is_debug: bool) -> (&'static str, &'static 
 }
 
 /// Adds a relocation: its type, its offset, its symbol and its addend.
-pub fn push_relocation(
-    out: &mut String,
-    layout: &Layout,
-    section: &InputSection,
-    index: usize,
-) -> Result<(), AllocError> {
+pub fn push_relocation(out: &mut Text, layout: &Layout, section: &InputSection, index: usize) {
     let Some(relocation) = section.relocations.as_slice().get(index) else {
-        return Ok(());
+        return;
     };
     let offset = relocation.offset;
     let addend = relocation.addend;
-    push_type(out, layout.machine, relocation.number)?;
-    write!(out, " at offset {offset} of ")?;
-    push_name(out, section.name.as_slice())?;
-    write!(out, ", addend {addend}")?;
+    push_type(out, layout.machine, relocation.number);
+    write!(out, " at offset {offset} of ");
+    push_name(out, section.name.as_slice());
+    write!(out, ", addend {addend}");
     if let Some(symbol) = relocation.symbol {
-        write!(out, ", ")?;
-        push_symbol(out, layout, symbol.0)?;
+        out.push_str(", ");
+        push_symbol(out, layout, symbol.0);
         let definition = layout.canonical(symbol).0;
         if definition != symbol.0 {
-            write!(out, ", defined by symbol {definition}")?;
+            write!(out, ", defined by symbol {definition}");
         }
     }
-    Ok(())
 }
 
 /// Adds the values that the field of a relocation at an offset takes, and the next type's machine.
-fn push_range(
-    out: &mut String,
-    layout: &Layout,
-    at: SectionPlace,
-    offset: Option<u64>,
-) -> Result<(), AllocError> {
+fn push_range(out: &mut Text, layout: &Layout, at: SectionPlace, offset: Option<u64>) {
     if let Some(section) = section_at(layout, at)
         && let Some(offset) = offset
         && let Some(index) = relocation_at(section, offset)
@@ -260,12 +248,11 @@ fn push_range(
     {
         let (below, above) = (row.range.below, row.range.above.saturating_sub(1));
         let multiple = row.alignment;
-        write!(out, ", expected from -{below} to {above}")?;
+        write!(out, ", expected from -{below} to {above}");
         if multiple > 1 {
-            write!(out, ", and a multiple of {multiple}")?;
+            write!(out, ", and a multiple of {multiple}");
         }
     }
-    Ok(())
 }
 
 /// The first relocation of a section at an offset.
@@ -295,34 +282,23 @@ fn fields_with(layout: &Layout, section: &InputSection, byte: u64) -> Option<(us
 }
 
 /// Adds two relocations whose fields have a byte.
-fn push_overlap(
-    out: &mut String,
-    layout: &Layout,
-    at: SectionPlace,
-    byte: u64,
-) -> Result<(), AllocError> {
+fn push_overlap(out: &mut Text, layout: &Layout, at: SectionPlace, byte: u64) {
     if let Some(section) = section_at(layout, at)
         && let Some((first, second)) = fields_with(layout, section, byte)
     {
-        write!(out, "where: ")?;
-        push_item(out, Item::Input(at))?;
-        write!(out, "/relocations/{second}/offset\nfound: ")?;
-        push_relocation(out, layout, section, second)?;
-        write!(out, "; /relocations/{first}: ")?;
-        push_relocation(out, layout, section, first)?;
+        out.push_str("where: ");
+        push_item(out, Item::Input(at));
+        write!(out, "/relocations/{second}/offset\nfound: ");
+        push_relocation(out, layout, section, second);
+        write!(out, "; /relocations/{first}: ");
+        push_relocation(out, layout, section, first);
     }
-    Ok(())
 }
 
 /// Adds the relocations of AArch64 instructions with a byte whose offset is no multiple of 4.
-fn push_odd(
-    out: &mut String,
-    layout: &Layout,
-    at: SectionPlace,
-    byte: u64,
-) -> Result<(), AllocError> {
+fn push_odd(out: &mut Text, layout: &Layout, at: SectionPlace, byte: u64) {
     let Some(section) = section_at(layout, at) else {
-        return Ok(());
+        return;
     };
     for (i, relocation) in section.relocations.as_slice().iter().enumerate() {
         let offset = relocation.offset;
@@ -333,19 +309,18 @@ fn push_odd(
             && matches!(row.size, RelocationSize::BitMasking(_))
         {
             let even = offset / 4 * 4;
-            write!(out, "likely: ")?;
-            push_item(out, Item::Input(at))?;
+            out.push_str("likely: ");
+            push_item(out, Item::Input(at));
             writeln!(
                 out,
                 "/relocations/{i}/offset is {offset}, expected a multiple of 4 (such as {even}): an instruction has four bytes"
-            )?;
+            );
         }
     }
-    Ok(())
 }
 
 /// Adds the numbers of a fault.
-fn push_numbers(out: &mut String, layout: &Layout, fault: Fault) -> Result<(), AllocError> {
+fn push_numbers(out: &mut Text, layout: &Layout, fault: Fault) {
     match fault {
         Fault::OutOfRange { value }
         | Fault::NoThunk { value }
@@ -353,18 +328,17 @@ fn push_numbers(out: &mut String, layout: &Layout, fault: Fault) -> Result<(), A
         | Fault::FrameOffsetOverflow { value }
         | Fault::PltTooFar { value } => {
             let signed = value.cast_signed();
-            write!(out, "; value {signed}")?;
+            write!(out, "; value {signed}");
         }
         Fault::TlsOutOfSegment { value } => {
             let (start, end) = (layout.tls.start, layout.tls.end);
-            write!(out, "; address {value}, expected from {start} to {end}")?;
+            write!(out, "; address {value}, expected from {start} to {end}");
         }
-        Fault::OverlappingSites { byte } => write!(out, "; byte {byte}")?,
-        Fault::IfuncAddend { addend } => write!(out, "; addend {addend}, expected 0")?,
-        Fault::ThunkAddend { addend } => write!(out, "; addend {addend}, expected 0")?,
+        Fault::OverlappingSites { byte } => write!(out, "; byte {byte}"),
+        Fault::IfuncAddend { addend } => write!(out, "; addend {addend}, expected 0"),
+        Fault::ThunkAddend { addend } => write!(out, "; addend {addend}, expected 0"),
         _ => {}
     }
-    Ok(())
 }
 
 /// The first symbol of a file whose slots are refused with that value.
@@ -388,13 +362,13 @@ fn refused_slot(layout: &Layout, at: At, fault: Fault) -> Option<usize> {
 }
 
 /// Adds the place of a fault that is in no input section.
-fn push_outside(out: &mut String, layout: &Layout, fault: Fault, at: At) -> Result<(), AllocError> {
+fn push_outside(out: &mut Text, layout: &Layout, fault: Fault, at: At) {
     if let Fault::ThunkOutOfRange { value } = fault
         && let Some(thunk) = refused_thunk(layout, at, value)
     {
-        write!(out, "where: ")?;
-        push_item(out, thunk)?;
-        write!(out, "\nfound: ")?;
+        out.push_str("where: ");
+        push_item(out, thunk);
+        out.push_str("\nfound: ");
         return push_found(out, layout, thunk);
     }
     let symbol = match fault {
@@ -402,50 +376,44 @@ fn push_outside(out: &mut String, layout: &Layout, fault: Fault, at: At) -> Resu
         _ => refused_slot(layout, at, fault),
     };
     if let Some(symbol) = symbol {
-        write!(out, "where: /symbols/{symbol}/resolution\nfound: ")?;
+        write!(out, "where: /symbols/{symbol}/resolution\nfound: ");
         return push_decided(out, layout, symbol);
     }
     if let (Some(group), Some(file)) = (at.group, at.file) {
         let item = Item::File(group, file);
-        write!(out, "where: ")?;
-        push_item(out, item)?;
-        write!(out, "\nfound: ")?;
-        push_found(out, layout, item)?;
+        out.push_str("where: ");
+        push_item(out, item);
+        out.push_str("\nfound: ");
+        push_found(out, layout, item);
     }
-    Ok(())
 }
 
 /// Adds the place of a fault in an input section, and what the plan has there.
-fn push_inside(
-    out: &mut String,
-    layout: &Layout,
-    at: SectionPlace,
-    offset: Option<u64>,
-) -> Result<(), AllocError> {
+fn push_inside(out: &mut Text, layout: &Layout, at: SectionPlace, offset: Option<u64>) {
     let Some(section) = section_at(layout, at) else {
-        return Ok(());
+        return;
     };
-    write!(out, "where: ")?;
-    push_item(out, Item::Input(at))?;
-    write!(out, "/relocations")?;
+    out.push_str("where: ");
+    push_item(out, Item::Input(at));
+    out.push_str("/relocations");
     let index = match offset {
         Some(offset) => relocation_at(section, offset),
         None => None,
     };
     match index {
         Some(index) => {
-            write!(out, "/{index}\nfound: ")?;
+            write!(out, "/{index}\nfound: ");
             push_relocation(out, layout, section, index)
         }
         None => {
-            write!(out, "\nfound: ")?;
+            out.push_str("\nfound: ");
             push_name(out, section.name.as_slice())
         }
     }
 }
 
 /// Adds that a relocation type is one of the other machine.
-fn push_other_machine(out: &mut String, layout: &Layout, number: u32) -> Result<(), AllocError> {
+fn push_other_machine(out: &mut Text, layout: &Layout, number: u32) {
     let (other, word) = match layout.machine {
         Machine::X86_64 => (Machine::AArch64, "aarch64"),
         Machine::AArch64 => (Machine::X86_64, "x86_64"),
@@ -454,20 +422,14 @@ fn push_other_machine(out: &mut String, layout: &Layout, number: u32) -> Result<
         write!(
             out,
             "likely: /machine is expected to be `{word}`, which has the type "
-        )?;
-        push_type(out, other, number)?;
-        writeln!(out)?;
+        );
+        push_type(out, other, number);
+        out.push_str("\n");
     }
-    Ok(())
 }
 
 /// Adds why a relocation, a slot, a copy or a symbol is refused: what is wrong, its path, what the plan has there, and the remedy.
-pub(crate) fn push_fault(
-    out: &mut String,
-    layout: &Layout,
-    fault: Fault,
-    at: At,
-) -> Result<(), AllocError> {
+pub(crate) fn push_fault(out: &mut Text, layout: &Layout, fault: Fault, at: At) {
     let place = match (at.group, at.file, at.section) {
         (Some(group), Some(file), Some(section)) => Some(SectionPlace {
             group,
@@ -484,30 +446,29 @@ pub(crate) fn push_fault(
         None => false,
     };
     let (what, remedy) = words_of(fault, is_debug);
-    writeln!(out, "what: {what}")?;
+    writeln!(out, "what: {what}");
     match (place, fault) {
-        (Some(place), Fault::OverlappingSites { byte }) => push_overlap(out, layout, place, byte)?,
-        (Some(place), _) => push_inside(out, layout, place, at.offset)?,
-        (None, _) => push_outside(out, layout, fault, at)?,
+        (Some(place), Fault::OverlappingSites { byte }) => push_overlap(out, layout, place, byte),
+        (Some(place), _) => push_inside(out, layout, place, at.offset),
+        (None, _) => push_outside(out, layout, fault, at),
     }
-    push_numbers(out, layout, fault)?;
+    push_numbers(out, layout, fault);
     if let Some(place) = place
         && matches!(fault, Fault::OutOfRange { .. } | Fault::NoThunk { .. })
     {
-        push_range(out, layout, place, at.offset)?;
+        push_range(out, layout, place, at.offset);
     }
-    writeln!(out)?;
-    push_lacking(out, layout, fault)?;
+    out.push_str("\n");
+    push_lacking(out, layout, fault);
     if let (Some(place), Fault::OverlappingSites { byte }, Machine::AArch64) = (
         place,
         fault,
         layout.machine,
     ) {
-        push_odd(out, layout, place, byte)?;
+        push_odd(out, layout, place, byte);
     }
     if let Fault::UnsupportedRelocation { number } = fault {
-        push_other_machine(out, layout, number)?;
+        push_other_machine(out, layout, number);
     }
-    writeln!(out, "remedy: {remedy}")?;
-    Ok(())
+    writeln!(out, "remedy: {remedy}");
 }

@@ -3,8 +3,7 @@
 use crate::faults::push_relocation;
 use crate::items::{Item, SectionPlace, push_item};
 use crate::names::push_resolution;
-use std::alloc::AllocError;
-use std::fmt::Write;
+use crate::text::Text;
 use wild_records::abi::relocation::R_AARCH64_TLSDESC_CALL;
 use wild_reloc::RelocationSize;
 use wild_slot::{Treatment, treatment_of};
@@ -16,12 +15,11 @@ fn byte_at(bytes: &[u8], offset: u64) -> u8 {
 }
 
 /// Adds `count` bytes from an offset on, in hex.
-fn push_bytes(out: &mut String, bytes: &[u8], offset: u64, count: u64) -> Result<(), AllocError> {
+fn push_bytes(out: &mut Text, bytes: &[u8], offset: u64, count: u64) {
     for i in 0..count {
         let byte = byte_at(bytes, offset.saturating_add(i));
-        write!(out, "{byte:02x}")?;
+        write!(out, "{byte:02x}");
     }
-    Ok(())
 }
 
 /// The word of 4 bytes at an offset.
@@ -126,12 +124,12 @@ fn done_word(
 
 /// Adds what the relocations of a section wrote.
 fn push_section_fields(
-    out: &mut String,
+    out: &mut Text,
     layout: &Layout,
     at: SectionPlace,
     section: &InputSection,
     image: &[u8],
-) -> Result<(), AllocError> {
+) {
     let start = match layout.parts.as_slice().get(section.part) {
         Some(part) => {
             let from_part = section.address.saturating_sub(part.address);
@@ -143,28 +141,27 @@ fn push_section_fields(
         let offset = relocation.offset;
         let width = field_bytes(layout.machine, relocation.number) as u64;
         let word = done_word(layout, section, i, image, start);
-        push_item(out, Item::Input(at))?;
-        write!(out, "/relocations/{i}: ")?;
-        push_relocation(out, layout, section, i)?;
-        write!(out, "; {word}")?;
+        push_item(out, Item::Input(at));
+        write!(out, "/relocations/{i}: ");
+        push_relocation(out, layout, section, i);
+        write!(out, "; {word}");
         if let Some(symbol) = relocation.symbol
             && let Some(found) = layout.symbols.as_slice().get(layout.canonical(symbol).0)
             && let Some(resolution) = found.resolution
         {
-            push_resolution(out, resolution)?;
+            push_resolution(out, resolution);
         }
-        write!(out, "; field ")?;
-        push_bytes(out, section.bytes.as_slice(), offset, width)?;
-        write!(out, " is now ")?;
-        push_bytes(out, image, start.saturating_add(offset), width)?;
-        writeln!(out)?;
+        out.push_str("; field ");
+        push_bytes(out, section.bytes.as_slice(), offset, width);
+        out.push_str(" is now ");
+        push_bytes(out, image, start.saturating_add(offset), width);
+        out.push_str("\n");
     }
-    Ok(())
 }
 
 /// Adds what each relocation of an image wrote: what is done with it, the addresses of its symbol, and its field before and after. A
 /// relocatable object keeps them in tables.
-pub fn push_fields(out: &mut String, layout: &Layout, image: &[u8]) -> Result<(), AllocError> {
+pub fn push_fields(out: &mut Text, layout: &Layout, image: &[u8]) {
     for (group, found) in layout.groups.as_slice().iter().enumerate() {
         for (file, held) in found.files.as_slice().iter().enumerate() {
             for (section, input) in held.sections.as_slice().iter().enumerate() {
@@ -175,10 +172,9 @@ pub fn push_fields(out: &mut String, layout: &Layout, image: &[u8]) -> Result<()
                         file,
                         section,
                     };
-                    push_section_fields(out, layout, at, input, image)?;
+                    push_section_fields(out, layout, at, input, image);
                 }
             }
         }
     }
-    Ok(())
 }

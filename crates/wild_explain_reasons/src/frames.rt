@@ -3,8 +3,8 @@
 use crate::faults::{relocation_at, words_of};
 use crate::fields::word_at;
 use crate::items::{Item, SectionPlace, push_item};
+use crate::text::Text;
 use std::alloc::{AllocError, Global};
-use std::fmt::Write;
 use wild_frames::{BadFrame, FrameError, FrameSource, Target, count_frames, write_eh_frame_data};
 use wild_placement::FileFrames;
 use wild_types::{Fault, FrameFault, InputRelocation, InputSection, Layout};
@@ -20,7 +20,7 @@ fn relocation_of(section: &InputSection, bad: BadFrame) -> Option<usize> {
 
 /// Adds the first fault of a section's frames, if there is one, and returns whether there is.
 fn push_bad_frame(
-    out: &mut String,
+    out: &mut Text,
     alloc: Global,
     at: SectionPlace,
     frames: &FileFrames<'_>,
@@ -33,15 +33,15 @@ fn push_bad_frame(
         Err(FrameError::Bad(bad)) => {
             let (what, remedy) = words_of(Fault::BadFrameData { why: bad.why }, false);
             let offset = bad.offset;
-            write!(out, "likely: ")?;
-            push_item(out, Item::Input(at))?;
+            out.push_str("likely: ");
+            push_item(out, Item::Input(at));
             if let Some(index) = relocation_of(frames.section, bad) {
-                write!(out, "/relocations/{index}")?;
+                write!(out, "/relocations/{index}");
             }
             writeln!(
                 out,
                 " has a fault of frames at offset {offset}, from where none is kept: {what}; {remedy}"
-            )?;
+            );
             Ok(true)
         }
     }
@@ -77,11 +77,7 @@ fn why_dropped(
 }
 
 /// Adds the FDEs of a section that are dropped, each with its offset and the reason.
-fn push_dropped(
-    out: &mut String,
-    at: SectionPlace,
-    frames: &FileFrames<'_>,
-) -> Result<(), AllocError> {
+fn push_dropped(out: &mut Text, at: SectionPlace, frames: &FileFrames<'_>) {
     let bytes = frames.bytes();
     let size = bytes.len() as u64;
     let relocations = frames.relocations();
@@ -90,24 +86,23 @@ fn push_dropped(
     for _ in 0..bytes.len() {
         let length = u64::from(word_at(bytes, entry));
         if size < entry.saturating_add(8) || length == 0 {
-            return Ok(());
+            return;
         }
         let is_fde = word_at(bytes, entry.saturating_add(4)) != 0;
         next = skip_relocations(relocations, next, entry);
         let why = why_dropped(frames, entry, relocations.get(next));
         if is_fde && !why.is_empty() {
-            write!(out, "likely: ")?;
-            push_item(out, Item::Input(at))?;
-            writeln!(out, " has an FDE at offset {entry} that is dropped: {why}")?;
+            out.push_str("likely: ");
+            push_item(out, Item::Input(at));
+            writeln!(out, " has an FDE at offset {entry} that is dropped: {why}");
         }
         entry = entry.saturating_add(length).saturating_add(4);
     }
-    Ok(())
 }
 
 /// Adds what keeps frames out of the image, for each input section of frames.
 pub(crate) fn push_frames(
-    out: &mut String,
+    out: &mut Text,
     alloc: Global,
     layout: &Layout,
 ) -> Result<(), AllocError> {
@@ -125,7 +120,7 @@ pub(crate) fn push_frames(
                     section: input,
                 };
                 if input.slot.is_frame() && !push_bad_frame(out, alloc, at, &frames)? {
-                    push_dropped(out, at, &frames)?;
+                    push_dropped(out, at, &frames);
                 }
             }
         }

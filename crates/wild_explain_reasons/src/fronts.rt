@@ -3,8 +3,8 @@
 use crate::hints::{LIKELY, push_expected};
 use crate::items::{Item, SectionPlace, section_at};
 use crate::tests::{MergedTest, PlanTest, SortedTest};
+use crate::text::Text;
 use crate::verdict::{Verdict, due, plain};
-use std::alloc::AllocError;
 use wild_types::{InputSection, Layout, Merged, Role, Slot, SortedSection, has_role};
 
 /// Whether an entry of the order fails a test.
@@ -67,7 +67,7 @@ fn others_stand(layout: &Layout, part: usize, from: usize) -> bool {
 }
 
 /// Adds the part whose room merged strings fill, if they name that part and do not fill it.
-pub(crate) fn push_front(out: &mut String, layout: &Layout, part: usize) -> Result<(), AllocError> {
+pub(crate) fn push_front(out: &mut Text, layout: &Layout, part: usize) {
     for (i, merged) in layout.merged.as_slice().iter().enumerate() {
         let size = size_of(merged);
         if merged.part != part || size == room(layout, part) {
@@ -81,7 +81,6 @@ pub(crate) fn push_front(out: &mut String, layout: &Layout, part: usize) -> Resu
             }
         }
     }
-    Ok(())
 }
 
 /// Whether the front of a part is that of merged strings or of the linker's name of itself.

@@ -2,8 +2,7 @@
 
 use crate::fronts::size_of;
 use crate::names::{push_name, push_resolution, push_section, push_symbol, role_word};
-use std::alloc::AllocError;
-use std::fmt::Write;
+use crate::text::Text;
 use wild_records::gnu_hash;
 use wild_types::{InputSection, Layout, Slot, SymbolIndex};
 
@@ -37,28 +36,36 @@ pub enum Item {
 }
 
 /// Adds the path of an item.
-pub fn push_item(out: &mut String, item: Item) -> Result<(), AllocError> {
+pub fn push_item(out: &mut Text, item: Item) {
     match item {
         Item::Plan => {}
-        Item::Part(i) => write!(out, "/parts/{i}")?,
-        Item::Section(i) => write!(out, "/sections/{i}")?,
-        Item::Segment(i) => write!(out, "/segments/{i}")?,
-        Item::Symbol(i) => write!(out, "/symbols/{i}")?,
-        Item::Listed(i) => write!(out, "/dynsyms/{i}")?,
-        Item::Version(i) => write!(out, "/verdefs/{i}")?,
-        Item::Auxiliary(i) => write!(out, "/options/auxiliary/{i}")?,
-        Item::Thunk(i, j) => write!(out, "/thunk_blocks/{i}/{j}")?,
-        Item::Sorted(i) => write!(out, "/sorted/{i}")?,
-        Item::Merged(i) => write!(out, "/merged/{i}")?,
-        Item::Property(i) => write!(out, "/properties/{i}")?,
-        Item::Group(i) => write!(out, "/groups/{i}")?,
-        Item::File(i, j) => write!(out, "/groups/{i}/files/{j}")?,
+        Item::Part(i) => out.push_index("/parts/", i),
+        Item::Section(i) => out.push_index("/sections/", i),
+        Item::Segment(i) => out.push_index("/segments/", i),
+        Item::Symbol(i) => out.push_index("/symbols/", i),
+        Item::Listed(i) => out.push_index("/dynsyms/", i),
+        Item::Version(i) => out.push_index("/verdefs/", i),
+        Item::Auxiliary(i) => out.push_index("/options/auxiliary/", i),
+        Item::Thunk(i, j) => {
+            out.push_index("/thunk_blocks/", i);
+            out.push_index("/", j);
+        }
+        Item::Sorted(i) => out.push_index("/sorted/", i),
+        Item::Merged(i) => out.push_index("/merged/", i),
+        Item::Property(i) => out.push_index("/properties/", i),
+        Item::Group(i) => out.push_index("/groups/", i),
+        Item::File(i, j) => push_file_path(out, i, j),
         Item::Input(at) => {
-            let (i, j, section) = (at.group, at.file, at.section);
-            write!(out, "/groups/{i}/files/{j}/sections/{section}")?;
+            push_file_path(out, at.group, at.file);
+            out.push_index("/sections/", at.section);
         }
     }
-    Ok(())
+}
+
+/// Adds the path of a file.
+fn push_file_path(out: &mut Text, group: usize, file: usize) {
+    out.push_index("/groups/", group);
+    out.push_index("/files/", file);
 }
 
 /// The input section at a place.
@@ -68,70 +75,63 @@ pub(crate) fn section_at(layout: &Layout, at: SectionPlace) -> Option<&InputSect
     file.sections.as_slice().get(at.section)
 }
 
-/// Adds the members of a part, a section or a segment.
-fn push_header(out: &mut String, layout: &Layout, item: Item) -> Result<(), AllocError> {
-    match item {
-        Item::Part(i) => {
-            if let Some(found) = layout.parts.as_slice().get(i) {
-                let (offset, address, size) = (found.offset, found.address, found.size);
-                let align = found.align;
-                write!(
-                    out,
-                    "offset {offset}, address {address}, size {size}, align {align}, in "
-                )?;
-                push_section(out, layout, found.section.0)?;
-            }
-        }
-        Item::Section(i) => {
-            push_section(out, layout, i)?;
-            if let Some(found) = layout.sections.as_slice().get(i) {
-                let (kind, flags, align) = (found.kind, found.flags, found.align);
-                let (offset, address, size) = (found.offset, found.address, found.size);
-                write!(
-                    out,
-                    " kind {kind}, flags {flags}, offset {offset}, address {address}, size {size}, align {align}"
-                )?;
-            }
-        }
-        Item::Segment(i) => {
-            if let Some(found) = layout.segments.as_slice().get(i) {
-                let (kind, align) = (found.kind, found.align);
-                let (offset, address) = (found.offset, found.address);
-                let (file_size, mem_size) = (found.file_size, found.mem_size);
-                write!(
-                    out,
-                    "kind {kind}, offset {offset}, address {address}, file_size {file_size}, mem_size {mem_size}, align {align}"
-                )?;
-            }
-        }
-        _ => {}
+/// Adds the members of a part.
+fn push_part(out: &mut Text, layout: &Layout, index: usize) {
+    if let Some(found) = layout.parts.as_slice().get(index) {
+        let (offset, address, size) = (found.offset, found.address, found.size);
+        let align = found.align;
+        write!(
+            out,
+            "offset {offset}, address {address}, size {size}, align {align}, in "
+        );
+        push_section(out, layout, found.section.0);
     }
-    Ok(())
+}
+
+/// Adds the members of an output section.
+fn push_output(out: &mut Text, layout: &Layout, index: usize) {
+    push_section(out, layout, index);
+    if let Some(found) = layout.sections.as_slice().get(index) {
+        let (kind, flags, align) = (found.kind, found.flags, found.align);
+        let (offset, address, size) = (found.offset, found.address, found.size);
+        write!(
+            out,
+            " kind {kind}, flags {flags}, offset {offset}, address {address}, size {size}, align {align}"
+        );
+    }
+}
+
+/// Adds the members of a segment.
+fn push_segment(out: &mut Text, layout: &Layout, index: usize) {
+    if let Some(found) = layout.segments.as_slice().get(index) {
+        let (kind, align) = (found.kind, found.align);
+        let (offset, address) = (found.offset, found.address);
+        let (file_size, mem_size) = (found.file_size, found.mem_size);
+        write!(
+            out,
+            "kind {kind}, offset {offset}, address {address}, file_size {file_size}, mem_size {mem_size}, align {align}"
+        );
+    }
 }
 
 /// Adds a symbol, its resolution, and its definition if that is another symbol.
-pub(crate) fn push_decided(
-    out: &mut String,
-    layout: &Layout,
-    index: usize,
-) -> Result<(), AllocError> {
-    push_symbol(out, layout, index)?;
+pub(crate) fn push_decided(out: &mut Text, layout: &Layout, index: usize) {
+    push_symbol(out, layout, index);
     let definition = layout.canonical(SymbolIndex(index)).0;
     if definition != index {
-        write!(out, "; its definition is symbol {definition}")?;
+        write!(out, "; its definition is symbol {definition}");
     }
     if let Some(symbol) = layout.symbols.as_slice().get(index)
         && let Some(resolution) = symbol.resolution
     {
-        push_resolution(out, resolution)?;
+        push_resolution(out, resolution);
     }
-    Ok(())
 }
 
 /// Adds the members of an input section.
-fn push_input(out: &mut String, layout: &Layout, at: SectionPlace) -> Result<(), AllocError> {
+fn push_input(out: &mut Text, layout: &Layout, at: SectionPlace) {
     let Some(section) = section_at(layout, at) else {
-        return Ok(());
+        return;
     };
     let slot = match section.slot {
         Slot::Discard => "discard",
@@ -146,26 +146,20 @@ fn push_input(out: &mut String, layout: &Layout, at: SectionPlace) -> Result<(),
     let bytes = section.bytes.len();
     let (address, size, flags) = (section.address, section.size, section.flags);
     let (nobits, part) = (section.nobits, section.part);
-    push_name(out, section.name.as_slice())?;
+    push_name(out, section.name.as_slice());
     write!(
         out,
         " slot {slot}, address {address}, size {size}, {bytes} bytes, nobits {nobits}, flags {flags}, part {part}"
-    )?;
+    );
     if let Some(found) = layout.parts.as_slice().get(part) {
         let word = role_word(found.role);
         let outer = found.section.0;
-        write!(out, " ({word}) in section {outer}")?;
+        write!(out, " ({word}) in section {outer}");
     }
-    Ok(())
 }
 
 /// Adds the members of a file.
-fn push_file(
-    out: &mut String,
-    layout: &Layout,
-    group: usize,
-    file: usize,
-) -> Result<(), AllocError> {
+fn push_file(out: &mut Text, layout: &Layout, group: usize, file: usize) {
     if let Some(found) = layout.groups.as_slice().get(group)
         && let Some(held) = found.files.as_slice().get(file)
     {
@@ -175,17 +169,16 @@ fn push_file(
         write!(
             out,
             "file {file} of {files} in group {group} of {groups}, symbols from {first} on, {count} of {symbols}, {copies} copies"
-        )?;
+        );
         if held.thunk_block != 0 {
             let (block, blocks) = (held.thunk_block, layout.thunk_blocks.len());
-            write!(out, ", thunk_block {block} of {blocks}")?;
+            write!(out, ", thunk_block {block} of {blocks}");
         }
     }
-    Ok(())
 }
 
 /// Adds the members of a group.
-fn push_group(out: &mut String, layout: &Layout, group: usize) -> Result<(), AllocError> {
+fn push_group(out: &mut Text, layout: &Layout, group: usize) {
     if let Some(found) = layout.groups.as_slice().get(group) {
         let (shares, parts) = (found.part_sizes.len(), layout.parts.len());
         let (files, strings, names) = (found.files.len(), found.dynstr_start, found.strtab_start);
@@ -194,86 +187,98 @@ fn push_group(out: &mut String, layout: &Layout, group: usize) -> Result<(), All
         write!(
             out,
             "{files} files, {shares} shares of {parts} parts, dynstr_start {strings}, strtab_start {names}, eh_frame_start {frames}, symtab_local_start {local}, symtab_global_start {global}"
-        )?;
+        );
     }
-    Ok(())
 }
 
-/// Adds the members of an item of one of the short lists of the plan.
-fn push_entry(out: &mut String, layout: &Layout, item: Item) -> Result<(), AllocError> {
+/// Adds the members of an item of `dynsyms`.
+fn push_listed(out: &mut Text, layout: &Layout, index: usize) {
+    if let Some(found) = layout.dynsyms.as_slice().get(index) {
+        let (symbol, symbols) = (found.symbol.0, layout.symbols.len());
+        push_name(out, found.name.as_slice());
+        write!(out, " symbol {symbol} of {symbols} symbols");
+        if let Some(shape) = layout.gnu_hash
+            && shape.buckets != 0
+        {
+            let count = shape.buckets;
+            let bucket = gnu_hash(found.name.as_slice()) % count;
+            write!(out, ", bucket {bucket} of {count}");
+        }
+    }
+}
+
+/// Adds the members of an item of `verdefs`.
+fn push_version(out: &mut Text, layout: &Layout, index: usize) {
+    if let Some(found) = layout.verdefs.as_slice().get(index) {
+        let count = layout.verdefs.len();
+        push_name(out, found.name.as_slice());
+        if let Some(parent) = found.parent {
+            write!(out, ", parent {parent} of {count} versions");
+        }
+    }
+}
+
+/// Adds the members of a thunk.
+fn push_thunk(out: &mut Text, layout: &Layout, block: usize, index: usize) {
+    if let Some(block) = layout.thunk_blocks.as_slice().get(block)
+        && let Some(found) = block.as_slice().get(index)
+    {
+        let (symbol, symbols) = (found.symbol.0, layout.symbols.len());
+        let (address, count) = (found.address, block.len());
+        write!(
+            out,
+            "thunk {index} of {count}, symbol {symbol} of {symbols} symbols, address {address}"
+        );
+    }
+}
+
+/// Adds the members of an item of `merged`.
+fn push_merged(out: &mut Text, layout: &Layout, index: usize) {
+    if let Some(found) = layout.merged.as_slice().get(index) {
+        let (part, count, size) = (found.part, found.strings.len(), size_of(found));
+        write!(out, "part {part}, {count} strings of {size} bytes");
+    }
+}
+
+/// Adds the members of an item of `sorted`, `properties` or `options/auxiliary`.
+fn push_entry(out: &mut Text, layout: &Layout, item: Item) {
     match item {
-        Item::Listed(i) => {
-            if let Some(found) = layout.dynsyms.as_slice().get(i) {
-                let (symbol, symbols) = (found.symbol.0, layout.symbols.len());
-                push_name(out, found.name.as_slice())?;
-                write!(out, " symbol {symbol} of {symbols} symbols")?;
-                if let Some(shape) = layout.gnu_hash
-                    && shape.buckets != 0
-                {
-                    let count = shape.buckets;
-                    let bucket = gnu_hash(found.name.as_slice()) % count;
-                    write!(out, ", bucket {bucket} of {count}")?;
-                }
-            }
-        }
-        Item::Version(i) => {
-            if let Some(found) = layout.verdefs.as_slice().get(i) {
-                let count = layout.verdefs.len();
-                push_name(out, found.name.as_slice())?;
-                if let Some(parent) = found.parent {
-                    write!(out, ", parent {parent} of {count} versions")?;
-                }
-            }
-        }
-        Item::Thunk(i, j) => {
-            if let Some(block) = layout.thunk_blocks.as_slice().get(i)
-                && let Some(found) = block.as_slice().get(j)
-            {
-                let (symbol, symbols) = (found.symbol.0, layout.symbols.len());
-                let (address, count) = (found.address, block.len());
-                write!(
-                    out,
-                    "thunk {j} of {count}, symbol {symbol} of {symbols} symbols, address {address}"
-                )?;
-            }
-        }
         Item::Auxiliary(i) => {
             if let Some(name) = layout.options.auxiliary.as_slice().get(i) {
-                push_name(out, name.as_slice())?;
+                push_name(out, name.as_slice());
             }
         }
         Item::Sorted(i) => {
             if let Some(found) = layout.sorted.as_slice().get(i) {
                 let (group, file, section) = (found.group, found.file, found.section);
-                write!(out, "group {group}, file {file}, section {section}")?;
-            }
-        }
-        Item::Merged(i) => {
-            if let Some(found) = layout.merged.as_slice().get(i) {
-                let (part, count, size) = (found.part, found.strings.len(), size_of(found));
-                write!(out, "part {part}, {count} strings of {size} bytes")?;
+                write!(out, "group {group}, file {file}, section {section}");
             }
         }
         Item::Property(i) => {
             if let Some(found) = layout.properties.as_slice().get(i) {
                 let ptype = found.ptype;
-                write!(out, "type {ptype}")?;
+                write!(out, "type {ptype}");
             }
         }
         _ => {}
     }
-    Ok(())
 }
 
 /// Adds the members of an item.
-pub(crate) fn push_found(out: &mut String, layout: &Layout, item: Item) -> Result<(), AllocError> {
+pub(crate) fn push_found(out: &mut Text, layout: &Layout, item: Item) {
     match item {
-        Item::Plan => Ok(()),
+        Item::Plan => {}
+        Item::Part(i) => push_part(out, layout, i),
+        Item::Section(i) => push_output(out, layout, i),
+        Item::Segment(i) => push_segment(out, layout, i),
         Item::Symbol(i) => push_decided(out, layout, i),
+        Item::Listed(i) => push_listed(out, layout, i),
+        Item::Version(i) => push_version(out, layout, i),
+        Item::Thunk(i, j) => push_thunk(out, layout, i, j),
+        Item::Merged(i) => push_merged(out, layout, i),
         Item::Group(i) => push_group(out, layout, i),
         Item::File(i, j) => push_file(out, layout, i, j),
         Item::Input(at) => push_input(out, layout, at),
-        Item::Part(_) | Item::Section(_) | Item::Segment(_) => push_header(out, layout, item),
-        _ => push_entry(out, layout, item),
+        Item::Auxiliary(_) | Item::Sorted(_) | Item::Property(_) => push_entry(out, layout, item),
     }
 }

@@ -31,6 +31,7 @@ mod symbol_places;
 mod symbols;
 mod table_rows;
 mod tests;
+mod text;
 mod thunks;
 mod verdict;
 
@@ -44,3 +45,4 @@ pub use names::{part_word, push_resolution, push_type};
 pub use needs::{push_image, push_needs};
 pub use owner::push_owner;
 pub use reason::push_reason;
+pub use text::Text;

@@ -8,14 +8,13 @@ use crate::names::push_symbol;
 use crate::symbol_places::place_of_symbol;
 use crate::symbols::position_of;
 use crate::tests::{InputTest, PartTest, SectionTest, SegmentTest, SymbolTest, Test};
-use std::alloc::AllocError;
-use std::fmt::Write;
+use crate::text::Text;
 use wild_records::Rela;
 use wild_records::abi::segment::PT_LOAD;
 use wild_types::{File, InputSection, Layout, Part, Role, Slot, has_role, is_allocated};
 
 /// Adds that the list of sections does not begin with the empty section 0.
-fn push_first_section(out: &mut String, layout: &Layout) -> Result<(), AllocError> {
+fn push_first_section(out: &mut Text, layout: &Layout) {
     if let Some(first) = layout.sections.as_slice().get(0)
         && (first.kind != 0 || first.name.len() != 0)
     {
@@ -25,13 +24,12 @@ fn push_first_section(out: &mut String, layout: &Layout) -> Result<(), AllocErro
             Item::Section(0),
             "",
             "is expected to be {}: without it each part names the section after its own",
-        )?;
+        );
     }
-    Ok(())
 }
 
 /// Adds the part before one in the file, if it does not lie in its section.
-fn push_part_before(out: &mut String, layout: &Layout, index: usize) -> Result<(), AllocError> {
+fn push_part_before(out: &mut Text, layout: &Layout, index: usize) {
     let mut before: Option<(usize, Part)> = None;
     for (i, part) in layout.parts.as_slice().iter().enumerate() {
         if i < index && layout.takes_file_bytes(part.section) {
@@ -39,23 +37,17 @@ fn push_part_before(out: &mut String, layout: &Layout, index: usize) -> Result<(
         }
     }
     if let Some((i, part)) = before {
-        push_distance(out, layout, i, &part)?;
+        push_distance(out, layout, i, &part);
     }
-    Ok(())
 }
 
 /// Adds the offset that a part would have at its section's distance of address and offset, if it does not lie in the section.
-fn push_distance(
-    out: &mut String,
-    layout: &Layout,
-    index: usize,
-    part: &Part,
-) -> Result<(), AllocError> {
+fn push_distance(out: &mut Text, layout: &Layout, index: usize, part: &Part) {
     let Some(section) = layout.sections.as_slice().get(part.section.0) else {
-        return Ok(());
+        return;
     };
     if part.section.0 == 0 || lies_in(layout, section, part) {
-        return Ok(());
+        return;
     }
     let ahead = if is_allocated(section.flags) {
         part.address.saturating_sub(section.address)
@@ -74,9 +66,9 @@ fn push_distance(
 }
 
 /// Adds the section that a part lies in, if that is not the section that it names; else the offset at the section's distance.
-fn push_holder(out: &mut String, layout: &Layout, index: usize) -> Result<(), AllocError> {
+fn push_holder(out: &mut Text, layout: &Layout, index: usize) {
     let Some(part) = layout.parts.as_slice().get(index) else {
-        return Ok(());
+        return;
     };
     for (i, section) in layout.sections.as_slice().iter().enumerate() {
         if i != 0 && layout.fills_file(section) && lies_in(layout, section, part) {
@@ -89,14 +81,9 @@ fn push_holder(out: &mut String, layout: &Layout, index: usize) -> Result<(), Al
 }
 
 /// Adds the last loaded segment before the first byte of a section that no segment has, with the offset or the size that it needs.
-fn push_short_segment(
-    out: &mut String,
-    layout: &Layout,
-    index: usize,
-    in_file: bool,
-) -> Result<(), AllocError> {
+fn push_short_segment(out: &mut Text, layout: &Layout, index: usize, in_file: bool) {
     let Some(section) = layout.sections.as_slice().get(index) else {
-        return Ok(());
+        return;
     };
     if section.address == 0 {
         let text =
@@ -111,7 +98,7 @@ fn push_short_segment(
         }
     }
     let Some((i, segment)) = last else {
-        return Ok(());
+        return;
     };
     let ahead = section.address.saturating_sub(segment.address);
     let offset = section.offset.saturating_sub(ahead);
@@ -137,7 +124,7 @@ fn push_short_segment(
 }
 
 /// Adds the first member of a `PT_DYNAMIC` segment that is not that of the part.
-fn push_dynamic(out: &mut String, layout: &Layout, index: usize) -> Result<(), AllocError> {
+fn push_dynamic(out: &mut Text, layout: &Layout, index: usize) {
     if let Some(segment) = layout.segments.as_slice().get(index)
         && let Some((_, part)) = first_of(layout, Role::Dynamic)
     {
@@ -154,11 +141,10 @@ fn push_dynamic(out: &mut String, layout: &Layout, index: usize) -> Result<(), A
             }
         }
     }
-    Ok(())
 }
 
 /// Adds the first file whose range of symbols does not begin where those before it end, or that has input sections and no symbols.
-fn push_range(out: &mut String, layout: &Layout) -> Result<(), AllocError> {
+fn push_range(out: &mut Text, layout: &Layout) {
     let mut end: usize = 0;
     for (i, group) in layout.groups.as_slice().iter().enumerate() {
         for (j, file) in group.files.as_slice().iter().enumerate() {
@@ -175,11 +161,10 @@ fn push_range(out: &mut String, layout: &Layout) -> Result<(), AllocError> {
             end = end.saturating_add(file.symbol_count);
         }
     }
-    Ok(())
 }
 
 /// Adds why a symbol is in no input section: its file has fewer, or no file has the symbol.
-fn push_symbol_place(out: &mut String, layout: &Layout, symbol: usize) -> Result<(), AllocError> {
+fn push_symbol_place(out: &mut Text, layout: &Layout, symbol: usize) {
     if let Some(at) = place_of_symbol(layout, symbol)
         && let Some(group) = layout.groups.as_slice().get(at.group)
         && let Some(file) = group.files.as_slice().get(at.file)
@@ -188,25 +173,21 @@ fn push_symbol_place(out: &mut String, layout: &Layout, symbol: usize) -> Result
         write!(
             out,
             "likely: /symbols/{symbol}/place/section is {section}, expected below {count}: "
-        )?;
-        push_item(out, Item::File(at.group, at.file))?;
-        writeln!(out, " has so many input sections")?;
-        return Ok(());
+        );
+        push_item(out, Item::File(at.group, at.file));
+        out.push_str(" has so many input sections\n");
+        return;
     }
     push_range(out, layout)
 }
 
 /// Adds that the dynamic symbol table has no entry of a symbol.
-fn push_unlisted(out: &mut String, layout: &Layout, index: usize) -> Result<(), AllocError> {
+fn push_unlisted(out: &mut Text, layout: &Layout, index: usize) {
     if position_of(layout, index).is_none() {
-        write!(out, "likely: /dynsyms has no item of ")?;
-        push_symbol(out, layout, index)?;
-        writeln!(
-            out,
-            ", and the symbol is no undefined entry: list it, or give it no `dynsym`"
-        )?;
+        out.push_str("likely: /dynsyms has no item of ");
+        push_symbol(out, layout, index);
+        out.push_str(", and the symbol is no undefined entry: list it, or give it no `dynsym`\n");
     }
-    Ok(())
 }
 
 /// The first raw part in an output section of that name.
@@ -224,12 +205,7 @@ fn part_named(layout: &Layout, name: &[u8]) -> Option<usize> {
 }
 
 /// Adds the part whose section has the name of an input section, if the input section names another one.
-fn push_part_named(
-    out: &mut String,
-    layout: &Layout,
-    at: SectionPlace,
-    section: &InputSection,
-) -> Result<(), AllocError> {
+fn push_part_named(out: &mut Text, layout: &Layout, at: SectionPlace, section: &InputSection) {
     let item = Item::Input(at);
     if let Some(part) = layout.parts.as_slice().get(section.part)
         && has_role(Role::EhFrame, part)
@@ -244,17 +220,12 @@ fn push_part_named(
             let why = "that part's section has the name of the input section";
             push_expected(out, LIKELY, item, "/part", numbers, why)
         }
-        _ => Ok(()),
+        _ => {}
     }
 }
 
 /// Adds the section of a file whose relocations a table has by its name and its size.
-fn push_target(
-    out: &mut String,
-    at: SectionPlace,
-    file: &File,
-    table: &InputSection,
-) -> Result<(), AllocError> {
+fn push_target(out: &mut Text, at: SectionPlace, file: &File, table: &InputSection) {
     let name = table.name.as_slice();
     for (i, section) in file.sections.as_slice().iter().enumerate() {
         let count = section.relocations.len() as u64;
@@ -269,18 +240,12 @@ fn push_target(
             return push_expected(out, LIKELY, Item::Input(at), "/target", numbers, why);
         }
     }
-    Ok(())
 }
 
 /// Adds what likely made an input section fail a test.
-fn push_input(
-    out: &mut String,
-    layout: &Layout,
-    test: &InputTest,
-    at: SectionPlace,
-) -> Result<(), AllocError> {
+fn push_input(out: &mut Text, layout: &Layout, test: &InputTest, at: SectionPlace) {
     let Some(section) = section_at(layout, at) else {
-        return Ok(());
+        return;
     };
     match test {
         InputTest::ShareStart
@@ -297,28 +262,22 @@ fn push_input(
             if let Some(group) = layout.groups.as_slice().get(at.group)
                 && let Some(file) = group.files.as_slice().get(at.file)
             {
-                push_target(out, at, file, section)?;
+                push_target(out, at, file, section);
             }
-            Ok(())
         }
         InputTest::Partial if matches!(section.slot, Slot::Rela) => {
             let text = "is `rela`, and /kind is not `partial`";
             push_hint(out, LIKELY, Item::Input(at), "/slot", text)
         }
-        _ => Ok(()),
+        _ => {}
     }
 }
 
 /// Adds what likely made an item fail a test.
-pub(crate) fn push_likely(
-    out: &mut String,
-    layout: &Layout,
-    test: &Test,
-    item: Item,
-) -> Result<(), AllocError> {
+pub(crate) fn push_likely(out: &mut Text, layout: &Layout, test: &Test, item: Item) {
     match (test, item) {
         (Test::Part(PartTest::Order), Item::Part(part)) => {
-            push_first_section(out, layout)?;
+            push_first_section(out, layout);
             push_part_before(out, layout, part)
         }
         (Test::Part(PartTest::SectionRange), Item::Part(part)) => push_holder(out, layout, part),
@@ -338,6 +297,6 @@ pub(crate) fn push_likely(
             push_unlisted(out, layout, symbol)
         }
         (Test::Input(test), Item::Input(at)) => push_input(out, layout, test, at),
-        _ => Ok(()),
+        _ => {}
     }
 }

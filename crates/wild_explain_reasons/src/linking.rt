@@ -2,8 +2,7 @@
 
 use crate::items::{Item, push_item};
 use crate::names::push_symbol;
-use std::alloc::AllocError;
-use std::fmt::Write;
+use crate::text::Text;
 use wild_needs::is_undefined_entry;
 use wild_types::{File, Layout, Role, is_there};
 
@@ -11,54 +10,44 @@ use wild_types::{File, Layout, Role, is_there};
 const STB_LOCAL: u8 = 0;
 
 /// Adds a library without a name, or the name of a library at a file that is none.
-pub(crate) fn push_library(
-    out: &mut String,
-    layout: &Layout,
-    word: &str,
-    item: Item,
-    file: &File,
-) -> Result<(), AllocError> {
+pub(crate) fn push_library(out: &mut Text, layout: &Layout, word: &str, item: Item, file: &File) {
     let is_named = !file.lib_name.as_slice().is_empty();
     if !layout.kind.needs_dynamic() || file.role.is_library() == is_named {
-        return Ok(());
+        return;
     }
-    write!(out, "{word}: ")?;
-    push_item(out, item)?;
+    write!(out, "{word}: ");
+    push_item(out, item);
     if is_named {
-        writeln!(
-            out,
-            "/lib_name is given, and the file's role is not `dynamic`: no DT_NEEDED names the library"
-        )?;
+        out.push_str(
+            "/lib_name is given, and the file's role is not `dynamic`: no DT_NEEDED names the library\n",
+        );
     } else {
-        writeln!(
-            out,
-            "/lib_name is not given, and the file's role is `dynamic`: its DT_NEEDED names no library"
-        )?;
+        out.push_str(
+            "/lib_name is not given, and the file's role is `dynamic`: its DT_NEEDED names no library\n",
+        );
     }
-    Ok(())
 }
 
 /// Adds a path of the dynamic linker without its part, or the part without a path.
-pub(crate) fn push_path(out: &mut String, layout: &Layout, word: &str) -> Result<(), AllocError> {
+pub(crate) fn push_path(out: &mut Text, layout: &Layout, word: &str) {
     let is_given = !layout.interp.as_slice().is_empty();
     let is_held = is_there(Role::Interp, layout.parts.as_slice());
     if is_held && !is_given {
         writeln!(
             out,
             "{word}: a part has the role interp, and /interp is not given: the part is empty, and names no dynamic linker"
-        )?;
+        );
     }
     if is_given && !is_held {
         writeln!(
             out,
             "{word}: /interp is given, and no part has the role interp: the path stands nowhere"
-        )?;
+        );
     }
-    Ok(())
 }
 
 /// Adds the first local symbol in `dynsyms`, and how many of them there are.
-pub(crate) fn push_listed(out: &mut String, layout: &Layout) -> Result<(), AllocError> {
+pub(crate) fn push_listed(out: &mut Text, layout: &Layout) {
     let mut first: Option<(usize, usize)> = None;
     let mut count: usize = 0;
     for (i, listed) in layout.dynsyms.as_slice().iter().enumerate() {
@@ -74,32 +63,29 @@ pub(crate) fn push_listed(out: &mut String, layout: &Layout) -> Result<(), Alloc
         write!(
             out,
             "advice: /symbols/{number}/info has local binding, and /dynsyms/{i} lists "
-        )?;
-        push_symbol(out, layout, number)?;
+        );
+        push_symbol(out, layout, number);
         writeln!(
             out,
             ": no other module finds it (16 and the type is a global one); {count} such in `dynsyms`"
-        )?;
+        );
     }
-    Ok(())
 }
 
 /// Adds the first local symbol of a file that the dynamic symbol table has as an undefined one.
-pub(crate) fn push_local(out: &mut String, layout: &Layout, file: &File) -> Result<(), AllocError> {
+pub(crate) fn push_local(out: &mut Text, layout: &Layout, file: &File) {
     for (i, symbol) in layout.symbols_of(file).iter().enumerate() {
         if symbol.info / 16 == STB_LOCAL && is_undefined_entry(file.role, symbol) {
             let number = file.first_symbol.0.saturating_add(i);
             write!(
                 out,
                 "advice: /symbols/{number}/info has local binding, and "
-            )?;
-            push_symbol(out, layout, number)?;
-            writeln!(
-                out,
-                " is undefined in the dynamic symbol table: no other module's definition is looked for (16 and the type is a global one)"
-            )?;
-            return Ok(());
+            );
+            push_symbol(out, layout, number);
+            out.push_str(
+                " is undefined in the dynamic symbol table: no other module's definition is looked for (16 and the type is a global one)\n",
+            );
+            return;
         }
     }
-    Ok(())
 }

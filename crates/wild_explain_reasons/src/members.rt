@@ -1,7 +1,6 @@
 //! The members of each object of a plan.
 
-use std::alloc::AllocError;
-use std::fmt::Write;
+use crate::text::Text;
 
 /// For each kind of object its path, with `*` for an index in a list, and its members.
 const MEMBERS: [(&str, &str); 26] = [
@@ -159,7 +158,7 @@ fn has_name(names: &str, name: &str) -> bool {
 
 /// Adds why a text is no plan, from the path of its first wrong member and what is found there: what is wrong, the path, and the members or
 /// values that are expected.
-pub fn push_no_plan(out: &mut String, path: &str, found: &str) -> Result<(), AllocError> {
+pub fn push_no_plan(out: &mut Text, path: &str, found: &str) {
     let (outer, name) = match path.rsplit_once("/") {
         Some(steps) => steps,
         None => ("?", path),
@@ -169,19 +168,18 @@ pub fn push_no_plan(out: &mut String, path: &str, found: &str) -> Result<(), All
             writeln!(
                 out,
                 "what: the member is unknown\nwhere: {path}\nknown: {members}"
-            )?;
-            return Ok(());
+            );
+            return;
         }
         Some(_) =>
             "the member has another value than docs/PLAN.md says, or does not go with another one",
         None => "the member is unknown, or its value has another type than docs/PLAN.md says",
     };
-    writeln!(out, "what: {what}\nwhere: {path}")?;
+    writeln!(out, "what: {what}\nwhere: {path}");
     let expected = match values_of(path) {
         Some(values) => values,
         None if outer == "/options" || has_name(FLAGS, name) => "true, false",
         None => "a whole number in the range of the member, a list or an object (docs/PLAN.md)",
     };
-    writeln!(out, "found: {found}; expected {expected}")?;
-    Ok(())
+    writeln!(out, "found: {found}; expected {expected}");
 }

@@ -1,7 +1,6 @@
 //! How roles, flags and names are written.
 
-use std::alloc::AllocError;
-use std::fmt::Write;
+use crate::text::Text;
 use wild_reloc::{aarch64, x86_64};
 use wild_types::{Layout, Machine, Resolution, Role, place_of};
 
@@ -61,79 +60,66 @@ pub fn part_word(layout: &Layout, part: usize) -> &'static str {
 }
 
 /// Adds a name: as it is if it is UTF-8 without ASCII control characters, else in hex.
-pub(crate) fn push_name(out: &mut String, name: &[u8]) -> Result<(), AllocError> {
+pub(crate) fn push_name(out: &mut Text, name: &[u8]) {
     if name.is_empty() {
-        write!(out, "(no name)")?;
-        return Ok(());
+        out.push_str("(no name)");
+        return;
     }
     let mut is_plain = true;
     for byte in name {
         is_plain = is_plain && b' ' <= *byte && *byte != 0x7f;
     }
     match str::from_utf8(name) {
-        Ok(text) if is_plain => write!(out, "`{text}`")?,
+        Ok(text) if is_plain => write!(out, "`{text}`"),
         _ => {
             for byte in name {
-                write!(out, "{byte:02x}")?;
+                write!(out, "{byte:02x}");
             }
         }
     }
-    Ok(())
 }
 
 /// Adds the name of an output section.
-pub(crate) fn push_section(
-    out: &mut String,
-    layout: &Layout,
-    section: usize,
-) -> Result<(), AllocError> {
-    write!(out, "section {section}")?;
+pub(crate) fn push_section(out: &mut Text, layout: &Layout, section: usize) {
+    write!(out, "section {section}");
     if let Some(found) = layout.sections.as_slice().get(section) {
-        write!(out, " ")?;
-        push_name(out, found.name.as_slice())?;
+        out.push_str(" ");
+        push_name(out, found.name.as_slice());
     }
-    Ok(())
 }
 
 /// Adds the name of a symbol.
-pub(crate) fn push_symbol(
-    out: &mut String,
-    layout: &Layout,
-    symbol: usize,
-) -> Result<(), AllocError> {
-    write!(out, "symbol {symbol}")?;
+pub(crate) fn push_symbol(out: &mut Text, layout: &Layout, symbol: usize) {
+    write!(out, "symbol {symbol}");
     if let Some(found) = layout.symbols.as_slice().get(symbol) {
-        write!(out, " ")?;
-        push_name(out, found.name.as_slice())?;
+        out.push_str(" ");
+        push_name(out, found.name.as_slice());
     }
-    Ok(())
 }
 
 /// Adds the name of a relocation type of a machine.
-pub fn push_type(out: &mut String, machine: Machine, number: u32) -> Result<(), AllocError> {
+pub fn push_type(out: &mut Text, machine: Machine, number: u32) {
     let name = match machine {
         Machine::X86_64 => x86_64::rel_type_to_string(number),
         Machine::AArch64 => aarch64::rel_type_to_string(number),
     };
     match name.name() {
-        Some(name) => write!(out, "{name} ({number})")?,
-        None => write!(out, "type {number}")?,
+        Some(name) => write!(out, "{name} ({number})"),
+        None => write!(out, "type {number}"),
     }
-    Ok(())
 }
 
 /// Adds the resolution of a symbol.
-pub fn push_resolution(out: &mut String, resolution: Resolution) -> Result<(), AllocError> {
+pub fn push_resolution(out: &mut Text, resolution: Resolution) {
     let value = resolution.raw_value;
-    write!(out, "; symbol at {value}")?;
+    write!(out, "; symbol at {value}");
     if let Some(slot) = resolution.got_address {
-        write!(out, ", slot at {slot}")?;
+        write!(out, ", slot at {slot}");
     }
     if let Some(stub) = resolution.plt_address {
-        write!(out, ", stub at {stub}")?;
+        write!(out, ", stub at {stub}");
     }
     if let Some(index) = resolution.dynamic_symbol_index {
-        write!(out, ", dynsym {index}")?;
+        write!(out, ", dynsym {index}");
     }
-    Ok(())
 }

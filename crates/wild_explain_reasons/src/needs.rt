@@ -1,13 +1,12 @@
 //! How many bytes each part needs, and how many it has in an image.
 
 use crate::names::role_word;
-use std::alloc::AllocError;
-use std::fmt::Write;
+use crate::text::Text;
 use wild_needs::needs;
 use wild_types::{Group, Layout, Part, Role, has_role};
 
 /// Adds how many bytes each part needs, and how many each group needs of it. For a raw part these are those of `part_sizes`.
-pub fn push_needs(out: &mut String, layout: &Layout) -> Result<(), AllocError> {
+pub fn push_needs(out: &mut Text, layout: &Layout) {
     for (i, part) in layout.parts.as_slice().iter().enumerate() {
         let word = role_word(part.role);
         let size = part.size;
@@ -23,20 +22,19 @@ pub fn push_needs(out: &mut String, layout: &Layout) -> Result<(), AllocError> {
         writeln!(
             out,
             "/parts/{i}/size {needed} ({word}; it has {size}{whose})"
-        )?;
+        );
     }
     for group in 0..layout.groups.len() {
-        write!(out, "/groups/{group}/part_sizes [")?;
+        write!(out, "/groups/{group}/part_sizes [");
         for i in 0..layout.parts.len() {
             if i != 0 {
-                write!(out, ",")?;
+                out.push_str(",");
             }
             let needed = needs(layout, i, group);
-            write!(out, "{needed}")?;
+            write!(out, "{needed}");
         }
-        writeln!(out, "]")?;
+        out.push_str("]\n");
     }
-    Ok(())
 }
 
 /// The end of the last input section of a group in a raw part, in the order of the files.
@@ -54,12 +52,7 @@ fn end_in(group: &Group, part: usize) -> Option<u64> {
 }
 
 /// Adds the first group whose share of a raw part does not end with its last input section there.
-pub(crate) fn push_room(
-    out: &mut String,
-    layout: &Layout,
-    index: usize,
-    part: &Part,
-) -> Result<(), AllocError> {
+pub(crate) fn push_room(out: &mut Text, layout: &Layout, index: usize, part: &Part) {
     let mut from = part.address;
     for (i, group) in layout.groups.as_slice().iter().enumerate() {
         let share = group.given(index);
@@ -71,28 +64,26 @@ pub(crate) fn push_room(
             writeln!(
                 out,
                 "raw: /groups/{i}/part_sizes/{index} is {share}; the group's last input section there ends {room} bytes behind address {from}, where its share begins"
-            )?;
-            return Ok(());
+            );
+            return;
         }
         from = to;
     }
-    Ok(())
 }
 
 /// Adds how many bytes each part has, and how many each group has of it.
-pub fn push_image(out: &mut String, layout: &Layout) -> Result<(), AllocError> {
+pub fn push_image(out: &mut Text, layout: &Layout) {
     for (i, part) in layout.parts.as_slice().iter().enumerate() {
         let word = role_word(part.role);
         let (offset, address, size) = (part.offset, part.address, part.size);
         write!(
             out,
             "part {i} {word}: offset {offset}, address {address}, size {size}; by group"
-        )?;
+        );
         for group in layout.groups.as_slice() {
             let given = group.given(i);
-            write!(out, " {given}")?;
+            write!(out, " {given}");
         }
-        writeln!(out)?;
+        out.push_str("\n");
     }
-    Ok(())
 }

@@ -5,10 +5,9 @@ use crate::headers::segments_before;
 use crate::names::{role_at, role_word};
 use crate::symbols::{offset_after_reserved, undefined_entries};
 use crate::tests::PlanTest;
+use crate::text::Text;
 use crate::thunks::has_thunks;
 use crate::verdict::{Verdict, due, plain};
-use std::alloc::AllocError;
-use std::fmt::Write;
 use wild_needs::total_share;
 use wild_types::{Entry, GnuHash, Layout, Role, has_role, is_there};
 use wild_words::Bytes;
@@ -121,55 +120,50 @@ pub(crate) fn test_plan(layout: &Layout, index: usize, test: &PlanTest) -> Verdi
 }
 
 /// Adds what a test of the plan looked at.
-pub(crate) fn push_plan(
-    out: &mut String,
-    layout: &Layout,
-    index: usize,
-    test: &PlanTest,
-) -> Result<(), AllocError> {
+pub(crate) fn push_plan(out: &mut Text, layout: &Layout, index: usize, test: &PlanTest) {
     match test {
         PlanTest::PageSize => {
             let page = layout.page_size;
-            write!(out, "{page}")?;
+            write!(out, "{page}");
         }
         PlanTest::ThreadAlign | PlanTest::ThreadEnd | PlanTest::ThreadStart => {
             let (start, end, align) = (layout.tls.start, layout.tls.end, layout.tls.align);
-            write!(out, "start {start}, end {end}, align {align}")?;
+            write!(out, "start {start}, end {end}, align {align}");
         }
         PlanTest::Missing(role) => {
             let word = role_word(*role);
-            write!(out, "no part of role {word}")?;
+            write!(out, "no part of role {word}");
         }
         PlanTest::PrimaryPart | PlanTest::Primary => {
             let (part, parts) = (layout.primary_part, layout.parts.len());
-            write!(out, "part {part} of {parts} parts")?;
+            write!(out, "part {part} of {parts} parts");
         }
         PlanTest::IdentityPart
         | PlanTest::IdentityRaw
         | PlanTest::IdentitySize
         | PlanTest::IdentityAlone => {
             let (part, size) = (layout.identity.part, layout.identity.bytes.len());
-            write!(out, "part {part}, {size} bytes")?;
+            write!(out, "part {part}, {size} bytes");
         }
         PlanTest::Entry => {
             if let Some(Entry::Symbol(symbol)) = layout.entry {
                 let (symbol, symbols) = (symbol.0, layout.symbols.len());
-                write!(out, "symbol {symbol} of {symbols} symbols")?;
+                write!(out, "symbol {symbol} of {symbols} symbols");
             }
         }
         PlanTest::Interpreter => {
             let length = layout.interp.len();
-            write!(out, "{length} bytes")?;
+            write!(out, "{length} bytes");
         }
         PlanTest::StaticDynamic | PlanTest::NoTable => {
             if let Some((word, role)) = role_at(index) {
                 let needed = total_share(layout, role);
-                write!(out, "role {word}, needed {needed} bytes")?;
+                write!(out, "role {word}, needed {needed} bytes");
             }
         }
         PlanTest::Pair | PlanTest::NoPair | PlanTest::PartialPair => {
             let pair = layout.tlsld.unwrap_or(0);
-            write!(out, "{pair}")?;
+            write!(out, "{pair}");
         }
         PlanTest::GnuBuckets | PlanTest::GnuBloom | PlanTest::GnuShift | PlanTest::GnuBase => {
             if let Some(shape) = layout.gnu_hash {
@@ -178,7 +172,7 @@ pub(crate) fn push_plan(
                 write!(
                     out,
                     "buckets {buckets} (1 or more), bloom_count {words} (1 or more), bloom_shift {shift} (below 32), base {base}"
-                )?;
+                );
             }
         }
         _ => {
@@ -188,8 +182,7 @@ pub(crate) fn push_plan(
             write!(
                 out,
                 "{sections} sections (section 0 is `{{}}`), {groups} groups, {segments} segments, {symbols} symbols, {listed} `dynsyms`, option `versions` {versions}"
-            )?;
+            );
         }
     }
-    Ok(())
 }

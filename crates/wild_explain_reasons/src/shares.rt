@@ -6,20 +6,20 @@ use crate::hints::{LIKELY, push_hint};
 use crate::items::{Item, push_item};
 use crate::names::push_symbol;
 use crate::segments::push_missing;
+use crate::text::Text;
 use std::alloc::{AllocError, Global};
-use std::fmt::Write;
 use wild_types::{Layout, Part, Place, Role, Slot};
 
 /// Adds the number of segments, and segments that are missing.
-fn push_segment_count(out: &mut String, layout: &Layout, part: &Part) -> Result<(), AllocError> {
+fn push_segment_count(out: &mut Text, layout: &Layout, part: &Part) {
     let room = part.size / 56;
     let count = layout.segments.len() as u64;
     if count != room {
         write!(
             out,
             "likely: /segments has {count} items, and the part has room for {room}"
-        )?;
-        writeln!(out, ": a program header has 56 bytes")?;
+        );
+        out.push_str(": a program header has 56 bytes\n");
     }
     push_missing(out, layout, LIKELY)
 }
@@ -45,7 +45,7 @@ fn is_marked(marks: &[bool], index: usize) -> bool {
 }
 
 /// Adds the symbols with COPY_RELOCATION that no library copies.
-fn push_uncopied(out: &mut String, alloc: Global, layout: &Layout) -> Result<(), AllocError> {
+fn push_uncopied(out: &mut Text, alloc: Global, layout: &Layout) -> Result<(), AllocError> {
     let mut copied = no_marks(alloc, layout.symbols.len())?;
     for group in layout.groups.as_slice() {
         for file in group.files.as_slice() {
@@ -59,11 +59,11 @@ fn push_uncopied(out: &mut String, alloc: Global, layout: &Layout) -> Result<(),
             for (k, symbol) in layout.symbols_of(file).iter().enumerate() {
                 let number = file.first_symbol.0.saturating_add(k);
                 if symbol.flags.needs_copy_relocation() && !is_marked(&copied, number) {
-                    write!(out, "likely: ")?;
-                    push_item(out, Item::File(i, j))?;
-                    write!(out, "/copies is without ")?;
-                    push_symbol(out, layout, number)?;
-                    writeln!(out, ", which has the flag COPY_RELOCATION")?;
+                    out.push_str("likely: ");
+                    push_item(out, Item::File(i, j));
+                    out.push_str("/copies is without ");
+                    push_symbol(out, layout, number);
+                    out.push_str(", which has the flag COPY_RELOCATION\n");
                 }
             }
         }
@@ -72,7 +72,7 @@ fn push_uncopied(out: &mut String, alloc: Global, layout: &Layout) -> Result<(),
 }
 
 /// Adds the output sections of a relocatable object that have input sections and no section symbol.
-fn push_nameless(out: &mut String, alloc: Global, layout: &Layout) -> Result<(), AllocError> {
+fn push_nameless(out: &mut Text, alloc: Global, layout: &Layout) -> Result<(), AllocError> {
     let mut filled = no_marks(alloc, layout.sections.len())?;
     let mut alone = no_marks(alloc, layout.sections.len())?;
     for group in layout.groups.as_slice() {
@@ -92,14 +92,14 @@ fn push_nameless(out: &mut String, alloc: Global, layout: &Layout) -> Result<(),
         if is_marked(&filled, i) && !is_named {
             let text =
                 "is false, and no input section has `singleton` with that section: it has no symbol in the table";
-            push_hint(out, LIKELY, Item::Section(i), "/section_symbol", text)?;
+            push_hint(out, LIKELY, Item::Section(i), "/section_symbol", text);
         }
     }
     Ok(())
 }
 
 /// Adds the symbols that relocations name and that `.symtab` leaves out.
-fn push_omitted(out: &mut String, alloc: Global, layout: &Layout) -> Result<(), AllocError> {
+fn push_omitted(out: &mut Text, alloc: Global, layout: &Layout) -> Result<(), AllocError> {
     let mut named = no_marks(alloc, layout.symbols.len())?;
     for group in layout.groups.as_slice() {
         for file in group.files.as_slice() {
@@ -117,7 +117,7 @@ fn push_omitted(out: &mut String, alloc: Global, layout: &Layout) -> Result<(), 
         if is_marked(&named, i) && is_undefined && !symbol.emit {
             let text =
                 "is false, and relocations name the undefined symbol: it has no entry in the table";
-            push_hint(out, LIKELY, Item::Symbol(i), "/emit", text)?;
+            push_hint(out, LIKELY, Item::Symbol(i), "/emit", text);
         }
     }
     Ok(())
@@ -125,7 +125,7 @@ fn push_omitted(out: &mut String, alloc: Global, layout: &Layout) -> Result<(), 
 
 /// Adds what likely made a group's share of a part wrong.
 pub(crate) fn push_share_causes(
-    out: &mut String,
+    out: &mut Text,
     alloc: Global,
     layout: &Layout,
     part: usize,
@@ -138,12 +138,13 @@ pub(crate) fn push_share_causes(
         Role::SysvHash | Role::GnuHash => push_shapes(out, layout, LIKELY),
         Role::EhFrameHdr if !layout.options.eh_frame_hdr => {
             let text = "is false, and a part has the role eh_frame_hdr: the table is empty";
-            push_hint(out, LIKELY, Item::Plan, "/options/eh_frame_hdr", text)
+            push_hint(out, LIKELY, Item::Plan, "/options/eh_frame_hdr", text);
         }
-        Role::EhFrame | Role::EhFrameHdr => push_frames(out, alloc, layout),
-        Role::RelaDynGeneral => push_uncopied(out, alloc, layout),
-        Role::SymtabLocal if layout.kind.is_partial_link() => push_nameless(out, alloc, layout),
-        Role::SymtabLocal | Role::SymtabGlobal | Role::Strtab => push_omitted(out, alloc, layout),
-        _ => Ok(()),
+        Role::EhFrame | Role::EhFrameHdr => push_frames(out, alloc, layout)?,
+        Role::RelaDynGeneral => push_uncopied(out, alloc, layout)?,
+        Role::SymtabLocal if layout.kind.is_partial_link() => push_nameless(out, alloc, layout)?,
+        Role::SymtabLocal | Role::SymtabGlobal | Role::Strtab => push_omitted(out, alloc, layout)?,
+        _ => {}
     }
+    Ok(())
 }

@@ -2,8 +2,8 @@
 
 use crate::headers::first_of;
 use crate::items::{Item, SectionPlace, push_item};
+use crate::text::Text;
 use std::alloc::{AllocError, Global};
-use std::fmt::Write;
 use wild_records::abi::segment::{PF_W, PT_LOAD};
 use wild_slot::{SlotWord, SymbolSlots, Treatment, begins_relr_got, treatment_of};
 use wild_types::{File, InputSection, Layout, Role, SectionIndex, Segment, Slot, is_writable};
@@ -76,37 +76,26 @@ impl Barriers {
 }
 
 /// Adds what a loader stores, and what keeps it from that.
-fn push_barrier(
-    out: &mut String,
-    stored: Item,
-    relocation: Option<usize>,
-    barrier: Item,
-) -> Result<(), AllocError> {
-    write!(out, "advice: ")?;
-    push_item(out, stored)?;
+fn push_barrier(out: &mut Text, stored: Item, relocation: Option<usize>, barrier: Item) {
+    out.push_str("advice: ");
+    push_item(out, stored);
     match relocation {
-        Some(index) => write!(out, "/relocations/{index}")?,
-        None => write!(out, "/resolution/got")?,
+        Some(index) => write!(out, "/relocations/{index}"),
+        None => out.push_str("/resolution/got"),
     }
-    write!(out, " is stored at when the image is loaded, and ")?;
-    push_item(out, barrier)?;
+    out.push_str(" is stored at when the image is loaded, and ");
+    push_item(out, barrier);
     let end = match barrier {
         Item::Segment(_) => "(flag 2, PF_W): that faults, but where /options/textrel is set",
         _ => "(flag 1, SHF_WRITE)",
     };
-    writeln!(out, " is not writable {end}")?;
-    Ok(())
+    writeln!(out, " is not writable {end}");
 }
 
 /// Adds the first symbol of a file with a slot that a loader stores in memory that is not writable.
-pub(crate) fn push_slots(
-    out: &mut String,
-    layout: &Layout,
-    barriers: &Barriers,
-    file: &File,
-) -> Result<(), AllocError> {
+pub(crate) fn push_slots(out: &mut Text, layout: &Layout, barriers: &Barriers, file: &File) {
     if layout.options.textrel || barriers.got.is_none() && barriers.block.is_none() {
-        return Ok(());
+        return;
     }
     for (i, symbol) in layout.own_symbols(file).iter().enumerate() {
         let slots = SymbolSlots::of(layout, symbol);
@@ -126,7 +115,6 @@ pub(crate) fn push_slots(
             return push_barrier(out, stored, None, barrier);
         }
     }
-    Ok(())
 }
 
 /// The first relocation of a section whose field a loader stores.
@@ -147,12 +135,12 @@ fn first_stored(layout: &Layout, section: &InputSection) -> Option<usize> {
 
 /// Adds, for each section of a file except frames, the first relocation whose field a loader stores in memory that is not writable.
 pub(crate) fn push_stores(
-    out: &mut String,
+    out: &mut Text,
     layout: &Layout,
     barriers: &Barriers,
     at: (usize, usize),
     file: &File,
-) -> Result<(), AllocError> {
+) {
     let (group, number) = at;
     for (i, section) in file.sections.as_slice().iter().enumerate() {
         let is_read = matches!(section.slot, Slot::Loaded | Slot::Sorted) && !section.nobits;
@@ -172,8 +160,7 @@ pub(crate) fn push_stores(
                 file: number,
                 section: i,
             });
-            push_barrier(out, stored, Some(index), barrier)?;
+            push_barrier(out, stored, Some(index), barrier);
         }
     }
-    Ok(())
 }

@@ -2,8 +2,7 @@
 
 use crate::hints::{LIKELY, push_hint};
 use crate::items::{Item, SectionPlace, section_at};
-use std::alloc::AllocError;
-use std::fmt::Write;
+use crate::text::Text;
 use wild_types::{Fault, Layout, Missing, Place, Slot};
 
 /// The input section that a symbol is in.
@@ -27,7 +26,7 @@ pub(crate) fn place_of_symbol(layout: &Layout, symbol: usize) -> Option<SectionP
 }
 
 /// Adds the symbol that has the name of another one and a resolution, if the other one names no definition.
-fn push_namesake(out: &mut String, layout: &Layout, symbol: usize) -> Result<(), AllocError> {
+fn push_namesake(out: &mut Text, layout: &Layout, symbol: usize) {
     let symbols = layout.symbols.as_slice();
     if let Some(own) = symbols.get(symbol)
         && own.definition.is_none()
@@ -41,21 +40,16 @@ fn push_namesake(out: &mut String, layout: &Layout, symbol: usize) -> Result<(),
                 write!(
                     out,
                     "likely: /symbols/{symbol}/definition is not given, expected {i}: "
-                )?;
-                writeln!(out, "that symbol has the same name and a resolution")?;
-                return Ok(());
+                );
+                out.push_str("that symbol has the same name and a resolution\n");
+                return;
             }
         }
     }
-    Ok(())
 }
 
 /// Adds that the input section of a symbol has no place in the output for it.
-fn push_symbol_without_place(
-    out: &mut String,
-    layout: &Layout,
-    symbol: usize,
-) -> Result<(), AllocError> {
+fn push_symbol_without_place(out: &mut Text, layout: &Layout, symbol: usize) {
     if let Some(at) = place_of_symbol(layout, symbol)
         && let Some(section) = section_at(layout, at)
     {
@@ -74,26 +68,20 @@ fn push_symbol_without_place(
             _ => {}
         }
     }
-    Ok(())
 }
 
 /// Adds what likely made a symbol lack what a relocation takes.
-pub(crate) fn push_lacking(
-    out: &mut String,
-    layout: &Layout,
-    fault: Fault,
-) -> Result<(), AllocError> {
+pub(crate) fn push_lacking(out: &mut Text, layout: &Layout, fault: Fault) {
     let Fault::MissingResolution { what, symbol } = fault else {
-        return Ok(());
+        return;
     };
-    push_namesake(out, layout, symbol)?;
+    push_namesake(out, layout, symbol);
     if let Missing::Address = what {
-        push_symbol_without_place(out, layout, symbol)?;
+        push_symbol_without_place(out, layout, symbol);
     }
     if matches!(what, Missing::Stub | Missing::Slot) && !layout.options.relax {
         let text =
             "is false: with it, references to a symbol of the output need no stub and no slot";
-        push_hint(out, LIKELY, Item::Plan, "/options/relax", text)?;
+        push_hint(out, LIKELY, Item::Plan, "/options/relax", text);
     }
-    Ok(())
 }
