@@ -1,28 +1,10 @@
 -- Laws of bytes that are taken from the front of others.
-use Rattle.std.proofs.Common.{◌≡◌, ℕ, ◌+◌, ◌<◌, ◌≤◌, Bool, true, false, inl, inr, if◌then◌else◌, [], ◌∷◌, refl, List, ◌++◌, length, take, drop, get_or, sym, ap, ◌∙◌, arith, subst}
-use Rattle.std.specs.Prelude.{All, Some, slice_get}
-use Rattle.std.specs.List.{flat_map}
-use Rattle.std.proofs.lemmas.List.{append_assoc, get_or_default, drop_more, drop_at, take_at, length-append, append-nil, drop_all}
-use Rattle.std.proofs.lemmas.Option.{slice_get-get_or}
-use Rattle.wild_words.specs.Overlay.{Piece}
-use Rattle.wild_image.specs.Prefix.{place_in_prefix, overlay_prefix}
+use Rattle.wild_image.proofs.Common.{◌≡◌, ℕ, ◌+◌, ◌<◌, ◌≤◌, Bool, true, false, inl, inr, if◌then◌else◌, [], ◌∷◌, refl, List, ◌++◌, length, take, drop, get_or, sym, ap, ◌∙◌, arith, subst, All, Some, slice_get, flat_map, append_assoc, get_or_default, drop_more, take_at, length-append, append-nil, drop_all, slice_get-get_or, Piece, place_in_prefix, overlay_prefix, InputSection, File, Group, Layout, has_range, is_filled, is_header_only_part, image_size, SortedSection, with_word_order, as_loaded, unread, sorted_input, section_bytes, thunk_bytes, file_thunks, thunk_piece, cases_Bool, section_owned, ranged_owned, sorted_owned, ranged_in, sorted_in, ranged_piece, sorted_pieces, BeginsWith, HasRest, RangedLies, SortedLies}
+use Rattle.std.proofs.lemmas.List.{drop_at}
 use Rattle.wild_image.proofs.PrefixLemmas.{overlay_prefix-more}
-use Rattle.wild_types.specs.declared.input.InputSection.{InputSection}
-use Rattle.wild_types.specs.declared.file.File.{File}
-use Rattle.wild_types.specs.declared.file.Group.{Group}
 use Rattle.wild_types.specs.declared.layout.Thunk.{Thunk}
-use Rattle.wild_types.specs.declared.layout.Layout.{Layout}
-use Rattle.wild_types.specs.Lookups.{has_range, is_filled, is_header_only_part, image_size}
-use Rattle.wild_types.specs.declared.layout.SortedSection.{SortedSection}
-use Rattle.wild_placement.specs.ReversedWords.{with_word_order}
-use Rattle.wild_placement.specs.PlacedSections.{as_loaded, unread, sorted_input}
-use Rattle.wild_layout.specs.Sites.{section_bytes}
-use Rattle.wild_layout.specs.Thunks.{thunk_bytes, file_thunks}
-use Rattle.wild_layout.specs.Image.{offset_in, unless_omitted, section_piece, thunk_offset, thunk_piece}
-use Rattle.std.proofs.lemmas.Bool.{cases_Bool}
-use Rattle.wild_image.specs.Pieces.{placed_in_range, has_room, ranged_room, place_in, section_owned, ranged_owned, sorted_owned, in_part, owned_in, ranged_in, sorted_in}
-use Rattle.wild_image.specs.Owners.{ranged_piece, sorted_pieces}
-use Rattle.wild_image.specs.Append.{BeginsWith, HasRest, RangedLies, SortedLies}
+use Rattle.wild_layout.specs.Image.{offset_in, unless_omitted, section_piece, thunk_offset}
+use Rattle.wild_image.specs.Pieces.{placed_in_range, has_room, ranged_room, place_in, in_part, owned_in}
 use Rattle.wild_image.proofs.StandingLemmas.{piece_at, StandsFor, ranged_stands, ranged_none, sorted_stands, one_input, one_owned, one_piece, one_in, one_lies}
 
 -- what is left behind the first i items, whatever stands behind them all

@@ -1,34 +1,23 @@
 -- Outputs without slots, a dynamic section and a table of all symbols.
-use Rattle.std.proofs.Common.{◌≡◌, ℕ, ◌+◌, Bool, true, false, not, ◌&&◌, if◌then◌else◌, List, [], ◌∷◌, ◌++◌, refl, sym, ap, ◌∙◌}
-use Rattle.std.specs.Prelude.{Option, Some, None}
-use Rattle.std.specs.List.{flat_map, list_all}
-use Rattle.std.proofs.lemmas.Bool.{and_parts, and_from, not-true}
-use Rattle.std.proofs.lemmas.List.{append-nil}
-use Rattle.wild_types.specs.declared.fault.Error.{Error}
-use Rattle.wild_types.specs.declared.file.File.{File}
+use Rattle.wild_image.proofs.Common.{◌≡◌, ℕ, ◌+◌, Bool, true, false, not, ◌&&◌, if◌then◌else◌, List, [], ◌∷◌, ◌++◌, refl, sym, ap, ◌∙◌, Option, Some, None, flat_map, list_all, and_parts, append-nil, Error, File, Group, Layout, is_prelude, is_epilogue, thunks_of, is_header_only_part, is_header_only_role, of_last_file, frames_at, thunk_bytes, flat_map_from, sorted_errors, sections_errors, files_errors, group_errors, all_sorted, merged_and_identity_bytes}
+use Rattle.std.proofs.lemmas.Bool.{and_from, not-true}
 use Rattle.wild_types.specs.declared.file.FileRole.{FileRole}
 use Rattle.wild_types.specs.declared.file.FileRole.TheVariants as file_role
-use Rattle.wild_types.specs.declared.file.Group.{Group}
-use Rattle.wild_types.specs.declared.layout.Layout.{Layout}
 use Rattle.wild_types.specs.declared.symbol.Symbol.{Symbol}
-use Rattle.wild_types.specs.FileRoles.{is_prelude, is_epilogue, is_library}
+use Rattle.wild_types.specs.FileRoles.{is_library}
 use Rattle.wild_types.specs.FileSymbols.{own_symbols, copies_of}
-use Rattle.wild_types.specs.FileThunks.{block_of, thunks_of}
+use Rattle.wild_types.specs.FileThunks.{block_of}
 use Rattle.wild_types.specs.Flags.{has_flag, dynamic}
 use Rattle.wild_types.specs.Kinds.{needs_dynamic, needs_dynsym}
-use Rattle.wild_types.specs.Lookups.{has_symtab, is_header_only_part}
-use Rattle.wild_types.specs.HeaderOnly.{is_header_only_role}
+use Rattle.wild_types.specs.Lookups.{has_symtab}
 use Rattle.wild_types.specs.SymbolSlots.{lacks_slots}
 use Rattle.wild_slot.specs.declared.slot.SlotFault.{SlotFault}
 use Rattle.wild_slot.specs.Slots.{SlotContent}
 use Rattle.wild_slot.specs.SymbolWords.{slots_of}
-use Rattle.wild_placement.specs.PlacedSections.{of_last_file, frames_at}
 use Rattle.wild_needs.specs.Needs.{lacks_slots_and_import, has_no_dynamic_tables}
 use Rattle.wild_needs.proofs.SlotShareLemmas.{no_slots, own_without}
-use Rattle.wild_layout.specs.Thunks.{thunk_bytes}
-use Rattle.wild_layout.specs.Faults.{flat_map_from, at_file, slot_role, slot_refusal, symbol_errors, slot_errors, copy_errors, thunk_error, thunk_errors, exported_error, exported_errors, sorted_errors, sections_errors, file_errors, files_errors, group_errors}
+use Rattle.wild_layout.specs.Faults.{at_file, slot_role, slot_refusal, symbol_errors, slot_errors, copy_errors, thunk_error, thunk_errors, exported_error, exported_errors, file_errors}
 use Rattle.wild_contents.proofs.SymtabFaultLemmas.{no_table}
-use Rattle.wild_image.specs.Pieces.{all_sorted, merged_and_identity_bytes}
 use Rattle.wild_image.specs.Placed.{is_object, is_plain_object, file_trailer_errors, file_trailer_bytes}
 use Rattle.wild_image.proofs.PlacedLemmas.{file_faults_by}
 

@@ -1,21 +1,7 @@
 -- Laws of batches: groups that are cut, and what comes of all batches.
-use Rattle.std.proofs.Common.{◌≡◌, ℕ, zero, suc, ◌+◌, ◌<◌, ◌≤◌, List, [], ◌∷◌, ◌++◌, map, length, take, drop, get_or, refl, sym, ap, ◌∙◌, arith, subst, All}
-use Rattle.std.specs.Prelude.{Some, slice_get}
-use Rattle.std.specs.List.{flat_map}
-use Rattle.std.proofs.lemmas.List.{append_assoc, append-nil, drop-drop, drop_at, drop_more, length-append, take_more, length-take-le}
-use Rattle.std.proofs.lemmas.Option.{slice_get-get_or}
-use Rattle.wild_words.specs.Overlay.{Piece}
-use Rattle.wild_image.specs.Prefix.{overlay_prefix}
-use Rattle.wild_types.specs.declared.fault.Error.{Error}
-use Rattle.wild_types.specs.declared.file.Group.{Group}
-use Rattle.wild_types.specs.declared.layout.Layout.{Layout}
-use Rattle.wild_types.specs.Faults.{Refuses}
-use Rattle.wild_types.specs.Lists.{total}
-use Rattle.wild_layout.specs.Faults.{flat_map_from}
-use Rattle.wild_words.proofs.ListLemmas.{holds_at}
-use Rattle.wild_image.specs.Append.{HasStarts}
-use Rattle.wild_image.specs.Batches.{firsts, AreBatches, IsWithin}
-use Rattle.wild_image.specs.declared.batch.Batch.{Batch}
+use Rattle.wild_image.proofs.Common.{◌≡◌, ℕ, zero, suc, ◌+◌, ◌<◌, ◌≤◌, List, [], ◌∷◌, ◌++◌, map, length, take, drop, get_or, refl, sym, ap, ◌∙◌, arith, subst, All, Some, slice_get, flat_map, append_assoc, append-nil, drop_more, length-append, take_more, length-take-le, slice_get-get_or, Piece, overlay_prefix, Error, Group, Layout, Refuses, total, flat_map_from, holds_at, HasStarts, AreBatches, Batch}
+use Rattle.std.proofs.lemmas.List.{drop-drop, drop_at}
+use Rattle.wild_image.specs.Batches.{firsts, IsWithin}
 use Rattle.wild_sections.proofs.FaultLemmas.{flat_map_from-append, one_from}
 use Rattle.wild_types.proofs.ListLemmas.{total-append}
 use Rattle.wild_image.proofs.PrefixLemmas.{overlay_prefix-append}

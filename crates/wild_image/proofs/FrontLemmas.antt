@@ -1,16 +1,7 @@
 -- Laws of bytes at the front of a part.
-use Rattle.std.proofs.Common.{◌≡◌, ℕ, ◌+◌, ◌<◌, ◌≤◌, ◌==◌, inl, inr, Bool, true, false, not, ◌&&◌, if◌then◌else◌, List, [], ◌∷◌, ◌++◌, length, set, get_or, refl, sym, ap, ◌∙◌, arith}
-use Rattle.std.proofs.lemmas.Bool.{cases_Bool, eqb-true, and_parts}
-use Rattle.std.proofs.lemmas.Option.{get_or_from_slice_get, slice_get_within}
-use Rattle.std.specs.Prelude.{Option, Some, slice_get}
-use Rattle.wild_words.specs.Overlay.{Piece}
-use Rattle.wild_image.specs.Prefix.{place_in_prefix, overlay_prefix}
-use Rattle.wild_types.specs.declared.part.Part.{Part}
-use Rattle.wild_types.specs.declared.layout.Layout.{Layout}
-use Rattle.wild_types.specs.Lookups.{section_of_part, is_header_only_at, is_header_only_part, image_size}
-use Rattle.wild_layout.specs.Image.{some_piece, offset_of_part, front_piece}
+use Rattle.wild_image.proofs.Common.{◌≡◌, ℕ, ◌+◌, ◌<◌, ◌≤◌, ◌==◌, inl, inr, Bool, true, false, not, ◌&&◌, if◌then◌else◌, List, [], ◌∷◌, ◌++◌, length, set, get_or, refl, sym, ap, ◌∙◌, arith, cases_Bool, eqb-true, and_parts, get_or_from_slice_get, slice_get_within, Option, Some, slice_get, Piece, place_in_prefix, overlay_prefix, Part, Layout, section_of_part, is_header_only_at, is_header_only_part, image_size, front_piece, SomeLies}
+use Rattle.wild_layout.specs.Image.{some_piece, offset_of_part}
 use Rattle.wild_layout.specs.SectionPlaces.{FrontLies}
-use Rattle.wild_image.specs.Append.{SomeLies}
 
 put_some : (k : ℕ) (bs out next : List ℕ) → 1 ≤ length bs → next ≡ place_in_prefix k bs out → next ≡ overlay_prefix (some_piece k bs) out
 put_some k bs out next some e =

@@ -1,27 +1,12 @@
 -- Laws of what the groups count, gathered.
-use Rattle.std.proofs.Common.{◌≡◌, ℕ, suc, ◌+◌, ◌^◌, ◌<◌, ◌==◌, not, ◌&&◌, Bool, true, false, if◌then◌else◌, List, [], ◌∷◌, length, get_or, refl, sym, ◌∙◌, arith, All}
-use Rattle.std.specs.Prelude.{Option, Some, None, slice_get}
-use Rattle.std.specs.List.{flat_map}
-use Rattle.std.proofs.lemmas.List.Elements.{All-nil}
-use Rattle.std.proofs.lemmas.List.FromFn.{fill_by_all}
-use Rattle.wild_words.proofs.ListLemmas.{All-flat_map, All-optional, holds_at}
-use Rattle.wild_types.specs.declared.part.Part.{Part}
-use Rattle.wild_types.specs.declared.input.InputSection.{InputSection}
-use Rattle.wild_types.specs.declared.file.Group.{Group}
-use Rattle.wild_types.specs.declared.layout.Layout.{Layout}
-use Rattle.wild_types.specs.Kinds.{is_partial_link}
-use Rattle.wild_types.specs.Lists.{total}
-use Rattle.wild_types.specs.HeaderOnly.{is_omitted}
-use Rattle.wild_types.specs.Lookups.{is_counted, section_of, section_of_part}
-use Rattle.wild_plan_rules.specs.Places.{relocation_count}
+use Rattle.wild_image.proofs.Common.{◌≡◌, ℕ, suc, ◌+◌, ◌^◌, ◌<◌, ◌==◌, not, ◌&&◌, Bool, true, false, if◌then◌else◌, List, [], ◌∷◌, length, get_or, refl, sym, ◌∙◌, arith, All, Option, Some, None, slice_get, flat_map, All-nil, fill_by_all, holds_at, Part, InputSection, Group, Layout, is_partial_link, total, is_omitted, section_of, section_of_part, relocation_count, IsLaidOut, section_pairs, file_pairs, group_pairs, AreBatches, pairs_at, Batch}
+use Rattle.wild_words.proofs.ListLemmas.{All-flat_map, All-optional}
+use Rattle.wild_types.specs.Lookups.{is_counted}
 use Rattle.wild_layout.specs.Image.{counted, count_of, counts}
-use Rattle.wild_layout.specs.Geometry.{IsLaidOut}
 use Rattle.wild_crew.specs.Sums.{between, n_if, counted as counted_in}
 use Rattle.wild_crew.specs.FinalCore.{sum_of, AreTotals}
 use Rattle.wild_image.specs.Steps.{group_relocations, file_counted, group_counted}
-use Rattle.wild_image.specs.Pieces.{section_pairs, file_pairs, group_pairs}
-use Rattle.wild_image.specs.Batches.{AreBatches, batch_pairs, pairs_of, pairs_at}
-use Rattle.wild_image.specs.declared.batch.Batch.{Batch}
+use Rattle.wild_image.specs.Batches.{batch_pairs, pairs_of}
 use Rattle.wild_image.proofs.BatchLemmas.{cut_of, total_joined}
 use Rattle.wild_image.proofs.CountLemmas.{group_counted-le, total_le}
 use Rattle.wild_image.proofs.PairLemmas.{IsBelow, counted-append, pairs_counted, pairs_below_of}

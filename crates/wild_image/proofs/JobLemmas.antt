@@ -1,20 +1,9 @@
 -- Laws of the groups as work.
-use Rattle.std.proofs.Common.{◌≡◌, ℕ, ◌^◌, ◌<◌, ◌-◌, List, [], length, arith, subst, Result, Ok, Err}
-use Rattle.std.specs.Prelude.{Some, slice_get, IfOk, OnOk}
-use Rattle.wild_types.specs.declared.fault.Error.{Error}
-use Rattle.wild_types.specs.declared.file.Group.{Group}
-use Rattle.wild_types.specs.declared.layout.Layout.{Layout}
-use Rattle.wild_types.specs.Faults.{Answers, Refuses}
+use Rattle.wild_image.proofs.Common.{◌≡◌, ℕ, ◌^◌, ◌<◌, ◌-◌, List, [], length, arith, subst, Result, Ok, Err, Some, slice_get, IfOk, OnOk, Error, Group, Layout, Answers, Refuses, first_clause, overlay, group_errors, group_pieces, group_pairs, batch_errors, pairs_at, Batch, GroupBytes}
 use Rattle.wild_plan_rules.specs.ClauseTests.{check_sizes, check_counts}
-use Rattle.wild_plan_rules.specs.WellFormed.{first_clause}
 use Rattle.wild_plan_rules.proofs.ClauseLemmas.{first_holds, rest_holds}
-use Rattle.wild_words.specs.Overlay.{overlay}
-use Rattle.wild_layout.specs.Faults.{group_errors}
-use Rattle.wild_layout.specs.Image.{group_pieces}
-use Rattle.wild_image.specs.Pieces.{group_parts, group_pairs}
-use Rattle.wild_image.specs.Batches.{batch_errors, HasBatch, batch_pairs, pairs_at, GivesBatch}
-use Rattle.wild_image.specs.declared.batch.Batch.{Batch}
-use Rattle.wild_image.specs.declared.buffer.GroupBytes.{GroupBytes}
+use Rattle.wild_image.specs.Pieces.{group_parts}
+use Rattle.wild_image.specs.Batches.{HasBatch, batch_pairs, GivesBatch}
 use Rattle.wild_image.specs.Jobs.{GivesPiece, PutsPieces}
 use Rattle.wild_image.specs.declared.piece.GroupPiece.{GroupPiece}
 use Rattle.wild_image.proofs.OutputLemmas.{few_lists}

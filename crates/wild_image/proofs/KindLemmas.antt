@@ -1,23 +1,13 @@
 -- Which sections are a relocatable object's, and which are not.
-use Rattle.std.proofs.Common.{◌≡◌, Bool, true, false, not, ◌&&◌, ◌||◌, List, get_or, All, Ok, refl}
-use Rattle.std.proofs.lemmas.Bool.{and_parts}
+use Rattle.wild_image.proofs.Common.{◌≡◌, Bool, true, false, not, ◌&&◌, ◌||◌, List, get_or, All, Ok, refl, and_parts, Slot, InputSection, File, Group, Layout, is_partial_link, is_rela, is_debug, first_clause, IsOfKind}
 use Rattle.wild_words.proofs.ListLemmas.{All-from_list_all}
-use Rattle.wild_types.specs.declared.input.Slot.{Slot}
-use Rattle.wild_types.specs.declared.input.InputSection.{InputSection}
-use Rattle.wild_types.specs.declared.file.File.{File}
-use Rattle.wild_types.specs.declared.file.Group.{Group}
-use Rattle.wild_types.specs.declared.layout.Layout.{Layout}
-use Rattle.wild_types.specs.Kinds.{is_partial_link}
-use Rattle.wild_types.specs.Lookups.{is_rela, is_debug}
 use Rattle.wild_types.specs.Lists.{unless, first_failing}
 use Rattle.wild_types.proofs.ListLemmas.{All-from_none_fails}
 use Rattle.wild_plan_rules.specs.Contents.{each_in, each_section}
 use Rattle.wild_plan_rules.specs.Partial.{has_no_segments, has_no_slot, has_no_pair, has_no_thunks, lists_no_symbols, has_no_index, is_no_debug, is_of_kind}
 use Rattle.wild_plan_rules.specs.ClauseTests.{fails, check_partial}
-use Rattle.wild_plan_rules.specs.WellFormed.{first_clause}
 use Rattle.wild_plan_rules.proofs.ClauseLemmas.{None-from_fails}
 use Rattle.wild_geometry.proofs.ClauseLemmas.{Both-from_first_error, NoneFails-from_first_clause}
-use Rattle.wild_image.specs.Append.{IsOfKind}
 
 -- each section of some files is of its kind of output
 abbrev pub OfKind : Layout → List File → Type 0

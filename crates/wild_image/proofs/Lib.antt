@@ -1,3 +1,4 @@
+pub mod Common
 pub mod PaddingLemmas
 pub mod ChangedLemmas
 pub mod CountLemmas

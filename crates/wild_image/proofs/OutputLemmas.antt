@@ -1,45 +1,28 @@
 -- Laws of the whole image, and of all faults.
-use Rattle.std.proofs.Common.{◌≡◌, ℕ, ◌+◌, ◌^◌, ◌<◌, ◌≤◌, ◌-◌, inl, inr, All, nat_le, List, [], ◌∷◌, ◌++◌, length, take, drop, Result, Ok, Err, refl, sym, ap, ◌∙◌, arith, subst, nat_lt}
-use Rattle.std.specs.Prelude.{Contains, IfOk, Some, slice_get, slice_index, min}
-use Rattle.std.proofs.lemmas.List.{take_all, take_min, take-append-le, length-append, length-drop, get_or_append_left, get_or-append_right, get_or-drop}
-use Rattle.std.proofs.lemmas.Option.{get_or_from_slice_get, slice_get_within}
-use Rattle.std.proofs.lemmas.Bool.{cases_Bool, cases_lt, and_parts, ltb-true}
-use Rattle.wild_words.specs.Overlay.{Piece, overlay, AreDisjoint}
+use Rattle.wild_image.proofs.Common.{◌≡◌, ℕ, ◌+◌, ◌^◌, ◌<◌, ◌≤◌, ◌-◌, inl, inr, All, nat_le, List, [], ◌∷◌, ◌++◌, length, take, drop, Result, Ok, Err, refl, sym, ap, ◌∙◌, arith, subst, nat_lt, Contains, IfOk, Some, slice_get, slice_index, min, take_all, length-append, get_or_from_slice_get, slice_get_within, cases_Bool, and_parts, Piece, overlay, Group, image_size, IsPadded, flat_map, AreBatches, batch_errors, batch_pieces, Batch, overlay_prefix, Error, Layout, relocation_count, first_clause, group_pieces, padding, flat_map_from, part_errors, group_errors, IsLaidOut, Part, Role, has_role, All-head, All-tail, Refuses}
+use Rattle.std.proofs.lemmas.List.{take_min, take-append-le, length-drop, get_or_append_left, get_or-append_right, get_or-drop}
+use Rattle.std.proofs.lemmas.Bool.{cases_lt, ltb-true}
+use Rattle.wild_words.specs.Overlay.{AreDisjoint}
 use Rattle.wild_words.proofs.Basics.{All-each}
 use Rattle.wild_words.proofs.OverlayLemmas.{length-overlay}
-use Rattle.wild_types.specs.declared.file.Group.{Group}
-use Rattle.wild_types.specs.Lookups.{image_size}
-use Rattle.wild_geometry.specs.OwnedBytes.{IsPadded}
 use Rattle.wild_geometry.proofs.InterleaveLemmas.{Contains-flat_map_from}
-use Rattle.std.specs.List.{flat_map}
-use Rattle.wild_image.specs.Batches.{AreBatches, batch_errors, batch_pieces}
-use Rattle.wild_image.specs.declared.batch.Batch.{Batch}
-use Rattle.wild_image.specs.Prefix.{overlay_prefix}
 use Rattle.wild_image.proofs.BatchLemmas.{cut_of, joined}
 use Rattle.wild_image.proofs.PrefixLemmas.{overlay_taken, overlay_whole}
 use Rattle.wild_image.specs.declared.output.SizedOutput.{SizedOutput}
-use Rattle.wild_types.specs.declared.fault.Error.{Error}
-use Rattle.wild_types.specs.declared.layout.Layout.{Layout}
-use Rattle.wild_plan_rules.specs.Places.{relocation_count}
 use Rattle.wild_needs.specs.Needs.{total_share, name_bytes}
 use Rattle.wild_plan_rules.specs.Counts.{counts_fit}
 use Rattle.wild_needs.specs.Versions.{versions_fit}
 use Rattle.wild_plan_rules.specs.ClauseTests.{check_sizes, check_counts}
-use Rattle.wild_plan_rules.specs.WellFormed.{first_clause}
 use Rattle.wild_table_formats.specs.Headers.{section_of_role}
-use Rattle.wild_layout.specs.Image.{group_pieces, pieces, padding, bytes}
-use Rattle.wild_layout.specs.Faults.{clause_errors, flat_map_from, part_errors, group_errors, errors}
-use Rattle.wild_layout.specs.Geometry.{IsLaidOut}
+use Rattle.wild_layout.specs.Image.{pieces, bytes}
+use Rattle.wild_layout.specs.Faults.{clause_errors, errors}
 use Rattle.wild_layout.proofs.FaultLemmas.{clause_holds}
 use Rattle.wild_sections.specs.Fits.{FieldsFit}
-use Rattle.wild_types.specs.declared.part.Part.{Part}
-use Rattle.wild_types.specs.declared.part.Role.{Role}
-use Rattle.wild_types.specs.Parts.{has_role, part_with}
+use Rattle.wild_types.specs.Parts.{part_with}
 use Rattle.wild_placement.specs.PlacedSections.{part_address}
 use Rattle.wild_layout.specs.SearchTable.{address_of_role}
-use Rattle.std.proofs.lemmas.List.Elements.{All-head, All-tail, All-contains}
+use Rattle.std.proofs.lemmas.List.Elements.{All-contains}
 use Rattle.wild_types.specs.declared.part.Role.TheVariants as role
-use Rattle.wild_types.specs.Faults.{Refuses}
 use Rattle.wild_plan_rules.proofs.ClauseLemmas.{test_holds, first_holds, rest_holds}
 use Rattle.wild_table_formats.proofs.HeaderLengths.{role_below}
 use Rattle.wild_layout.proofs.LayoutLemmas.{definitions_fit, length-padding}

@@ -1,22 +1,10 @@
 -- Laws of what a group owns of each part.
-use Rattle.std.proofs.Common.{◌≡◌, ℕ, ◌+◌, ◌<◌, inl, inr, ◌==◌, if◌then◌else◌, Bool, true, false, not, ◌&&◌, List, [], ◌∷◌, ◌++◌, length, map, take, set, get_or, refl, sym, ap, ◌∙◌, arith, subst}
-use Rattle.std.specs.Prelude.{Option, Some, slice_get, Result, Ok, Err, OnOk}
-use Rattle.std.specs.List.{flat_map}
+use Rattle.wild_image.proofs.Common.{◌≡◌, ℕ, ◌+◌, ◌<◌, inl, inr, ◌==◌, if◌then◌else◌, Bool, true, false, not, ◌&&◌, List, [], ◌∷◌, ◌++◌, length, map, take, set, get_or, refl, sym, ap, ◌∙◌, arith, subst, Option, Some, slice_get, Result, Ok, Err, OnOk, flat_map, flat_map-more, eqb-true, append-nil, nil_from_length, append_assoc, get_or-set_same, get_or-set_other, get_or_default, get_or_from_slice_get, slice_get_within, fill_by_all, Part, InputSection, File, Group, Layout, section_of_part, is_filled, is_header_only_at, is_header_only_part, section_bytes, table_given, front_in}
 use Rattle.wild_words.proofs.Basics.{slice_get_inside}
-use Rattle.wild_words.proofs.ListLemmas.{flat_map-more}
-use Rattle.std.proofs.lemmas.Bool.{cases_eq, eqb-true, eq-eqb, ne_eqb}
-use Rattle.std.proofs.lemmas.List.{append-nil, nil_from_length, append_assoc, get_or-set_same, get_or-set_other, get_or_default, get_or-map, map_more, length-map}
-use Rattle.std.proofs.lemmas.Option.{get_or_from_slice_get, slice_get_within}
-use Rattle.std.proofs.lemmas.List.FromFn.{fill_by_all}
-use Rattle.wild_types.specs.declared.part.Part.{Part}
-use Rattle.wild_types.specs.declared.input.InputSection.{InputSection}
-use Rattle.wild_types.specs.declared.file.File.{File}
-use Rattle.wild_types.specs.declared.file.Group.{Group}
-use Rattle.wild_types.specs.declared.layout.Layout.{Layout}
-use Rattle.wild_types.specs.Lookups.{section_of_part, is_filled, is_header_only_at, is_header_only_part}
-use Rattle.wild_layout.specs.Sites.{section_bytes}
+use Rattle.std.proofs.lemmas.Bool.{cases_eq, eq-eqb, ne_eqb}
+use Rattle.std.proofs.lemmas.List.{get_or-map, map_more, length-map}
 use Rattle.wild_layout.specs.Content.{content}
-use Rattle.wild_image.specs.Pieces.{role_of, table_given, group_given, front_in, in_part, group_owned, group_part, group_parts}
+use Rattle.wild_image.specs.Pieces.{role_of, group_given, in_part, group_owned, group_part, group_parts}
 
 -- bytes behind those of one part, which stand there or nowhere
 pub part_taken : (part : ℕ) (bytes : List ℕ) (parts : List (List ℕ)) (d new : List ℕ) → part < length parts → new ≡ get_or parts part d ++ bytes

@@ -1,14 +1,8 @@
 -- Laws of pairs that are added to the one before.
-use Rattle.std.proofs.Common.{◌≡◌, ℕ, zero, suc, ◌+◌, ◌-◌, ◌^◌, ◌<◌, ◌==◌, ◌&&◌, Bool, true, false, if◌then◌else◌, List, [], ◌∷◌, ◌++◌, length, take, set, get_or, refl, sym, ap, ◌∙◌, arith, subst, All}
-use Rattle.std.specs.Prelude.{Option, Some, None, slice_get, nat_lt}
-use Rattle.std.specs.List.{flat_map}
-use Rattle.std.proofs.lemmas.Bool.{and_parts, eqb-true}
-use Rattle.std.proofs.lemmas.List.{append-nil, append_assoc}
-use Rattle.std.proofs.lemmas.List.Elements.{All-head, All-tail, All-push, All-set}
-use Rattle.std.proofs.lemmas.Option.{slice_get_within}
-use Rattle.wild_words.proofs.ListLemmas.{flat_map-more}
+use Rattle.wild_image.proofs.Common.{◌≡◌, ℕ, zero, suc, ◌+◌, ◌-◌, ◌^◌, ◌<◌, ◌==◌, ◌&&◌, Bool, true, false, if◌then◌else◌, List, [], ◌∷◌, ◌++◌, length, take, set, get_or, refl, sym, ap, ◌∙◌, arith, subst, All, Option, Some, None, slice_get, nat_lt, flat_map, and_parts, eqb-true, append-nil, append_assoc, All-head, All-tail, slice_get_within, flat_map-more, with_pairs}
+use Rattle.std.proofs.lemmas.List.Elements.{All-push, All-set}
 use Rattle.wild_crew.specs.Sums.{n_if, counted}
-use Rattle.wild_image.specs.RelocationCounts.{with_more, put_pair, with_pair, with_pairs}
+use Rattle.wild_image.specs.RelocationCounts.{with_more, put_pair, with_pair}
 
 -- ---- the last pair
 

@@ -1,50 +1,31 @@
 -- Laws of sections as they stand, of their faults, and of the walks over them.
-use Rattle.std.proofs.Common.{◌≡◌, ℕ, ◌+◌, ◌<◌, ◌≤◌, Bool, true, false, inl, inr, not, ◌&&◌, ◌||◌, if◌then◌else◌, List, [], ◌∷◌, ◌++◌, map, length, drop, get_or, All, refl, sym, ap, ◌∙◌, subst}
-use Rattle.std.specs.List.{flat_map, list_any}
-use Rattle.std.proofs.lemmas.Bool.{cases_Bool, true≢false}
-use Rattle.std.proofs.lemmas.List.{append-nil, append_assoc, drop_more, drop_all}
-use Rattle.std.proofs.lemmas.List.Elements.{All-nil, All-cons, All-head, All-tail}
-use Rattle.std.specs.Prelude.{Option, Some, None}
+use Rattle.wild_image.proofs.Common.{◌≡◌, ℕ, ◌+◌, ◌<◌, ◌≤◌, Bool, true, false, inl, inr, not, ◌&&◌, ◌||◌, if◌then◌else◌, List, [], ◌∷◌, ◌++◌, map, length, drop, get_or, All, refl, sym, ap, ◌∙◌, subst, flat_map, list_any, cases_Bool, true≢false, append-nil, append_assoc, drop_more, drop_all, All-nil, All-head, All-tail, Option, Some, None, Error, Slot, InputSection, File, Group, SortedSection, Layout, Refuses, is_prelude, is_partial_link, is_header_only_role, is_omitted, has_range, has_fields, is_read, has_written_relocations, is_frame, is_debug, is_rela, has_range_bytes, is_filled, is_header_only_part, with_word_order, reversed_section, kept_size, as_loaded, without_relocations, unread, placed_by, placed_section, placed_sections, placed_from, placed_files, address_after, file_frames, frames_at, sorted_input, of_last_file, PlacedContent, section_bytes, MovesApart, frame_bytes_of, sections_errors, sorted_errors, files_errors, group_errors, SectionLies, file_thunks, section_owned, file_sections, trailer_bytes, file_bytes, CanBeReversed, IsOfKind, StandFrom, PlacedApart, HasOrigins, IsWhole}
+use Rattle.std.proofs.lemmas.List.Elements.{All-cons}
 use Rattle.wild_types.specs.declared.fault.Fault.{Fault}
-use Rattle.wild_types.specs.declared.fault.Error.{Error}
-use Rattle.wild_types.specs.declared.input.Slot.{Slot}
 use Rattle.wild_types.specs.declared.input.Slot.TheVariants as slot
-use Rattle.wild_types.specs.declared.input.InputSection.{InputSection}
-use Rattle.wild_types.specs.declared.file.File.{File}
-use Rattle.wild_types.specs.declared.file.Group.{Group}
-use Rattle.wild_types.specs.declared.layout.SortedSection.{SortedSection}
-use Rattle.wild_types.specs.declared.layout.Layout.{Layout}
-use Rattle.wild_types.specs.Faults.{Refuses}
-use Rattle.wild_types.specs.FileRoles.{is_prelude}
 use Rattle.wild_types.specs.Item.{item_of, block_for}
 use Rattle.wild_types.specs.declared.input.InputRelocation.{InputRelocation}
-use Rattle.wild_types.specs.Kinds.{is_partial_link}
 use Rattle.wild_types.specs.declared.part.Role.TheVariants as role
-use Rattle.wild_types.specs.HeaderOnly.{is_header_only_role, is_omitted}
-use Rattle.wild_types.specs.Lookups.{has_relocations, has_range, has_fields, is_read, has_written_relocations, is_frame, is_debug, is_rela, has_range_bytes, is_filled, is_header_only_part}
+use Rattle.wild_types.specs.Lookups.{has_relocations}
 use Rattle.wild_frames.specs.declared.entry.BadFrame.{BadFrame}
 use Rattle.wild_frames.specs.Faults.{frame_errors}
-use Rattle.wild_placement.specs.ReversedWords.{with_word_order, reversed_section}
-use Rattle.wild_placement.specs.FrameInputs.{frames_of, kept_size}
-use Rattle.wild_placement.specs.PlacedSections.{Input, as_loaded, without_relocations, unread, rela_with_target, origins_of, placed_by, placed_section, placed_sections, placed_file, placed_from, placed_files, address_after, file_frames, frames_at, sorted_input, of_last_file}
-use Rattle.wild_placement.specs.PlacedInputs.{PlacedContent, placed_content, sorted_content, frame_faults}
+use Rattle.wild_placement.specs.FrameInputs.{frames_of}
+use Rattle.wild_placement.specs.PlacedSections.{Input, rela_with_target, origins_of, placed_file}
+use Rattle.wild_placement.specs.PlacedInputs.{placed_content, sorted_content, frame_faults}
 use Rattle.wild_layout.specs.Image.{unless_omitted}
-use Rattle.wild_layout.specs.Sites.{item_bytes, section_bytes, MovesApart}
+use Rattle.wild_layout.specs.Sites.{item_bytes}
 use Rattle.wild_layout.proofs.PartialLemmas.{section_bytes_zeros}
-use Rattle.wild_layout.specs.Content.{frame_bytes_of, frames_bytes, end_of_frames}
-use Rattle.wild_layout.specs.Faults.{item_errors, debug_errors, frame_refusal, bad_frames, placed_section_errors_by, section_errors, sections_errors, sorted_errors, sorted_errors_of, file_errors, files_errors, group_errors, first_errors, entry_errors, thunk_errors, at_file}
+use Rattle.wild_layout.specs.Content.{frames_bytes, end_of_frames}
+use Rattle.wild_layout.specs.Faults.{item_errors, debug_errors, frame_refusal, bad_frames, placed_section_errors_by, section_errors, sorted_errors_of, file_errors, first_errors, entry_errors, thunk_errors, at_file}
 use Rattle.wild_layout.specs.SearchTable.{search_table, search_table_faults}
-use Rattle.wild_layout.specs.SectionPlaces.{SectionLies}
-use Rattle.wild_layout.specs.Thunks.{file_thunks}
 use Rattle.wild_layout.proofs.MovedSites.{placed_section_moves, turned_or_stays, debug_count}
 use Rattle.wild_sections.proofs.FaultLemmas.{Refuses-front}
 use Rattle.wild_words.proofs.ListLemmas.{nil_parts}
 use Rattle.wild_contents.specs.declared.search_table.SearchTable.{SearchTable}
 use Rattle.wild_contents.specs.SearchTable.{IsSearchTable, IsTableFor, FaultIsFirst}
 use Rattle.wild_contents.specs.PlacedSections.{HasSearchTable, HaveSearchTable, group_frames}
-use Rattle.wild_image.specs.Pieces.{section_owned, file_sections, trailer_bytes, file_bytes}
-use Rattle.wild_image.specs.Append.{CanBeReversed, IsOfKind, InputStands, SortedStands, FileStands, StandFrom}
-use Rattle.wild_image.specs.Placed.{written_faults, kept_section_faults, placed_section_faults, PlacedApart, HasOrigins, IsWhole, zeros_of, first_of, HasTableOrFault, file_trailer_errors, file_trailer_bytes}
+use Rattle.wild_image.specs.Append.{InputStands, SortedStands, FileStands}
+use Rattle.wild_image.specs.Placed.{written_faults, kept_section_faults, placed_section_faults, zeros_of, first_of, HasTableOrFault, file_trailer_errors, file_trailer_bytes}
 use Rattle.wild_image.proofs.RelaOrGroupLemmas.{debug_slot, not_given}
 use Rattle.wild_image.proofs.StandingLemmas.{of_sections, no_owned, unread_by, one_input}
 

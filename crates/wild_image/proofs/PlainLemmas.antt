@@ -1,25 +1,14 @@
 -- Groups that need nothing but their input sections.
-use Rattle.std.proofs.Common.{◌≡◌, ℕ, zero, suc, ◌+◌, ◌<◌, ◌≤◌, inl, inr, Bool, true, false, List, [], ◌∷◌, length, get_or, refl, sym, ap, ◌∙◌, arith, subst}
-use Rattle.std.specs.Prelude.{min, ◌-◌, ◌^◌, ◌&&◌, take, Ok, Some, slice_get}
-use Rattle.std.specs.List.{list_all}
-use Rattle.std.proofs.lemmas.Bool.{cases_Bool, cases_order, eqb-true, le-ltb, and_parts}
-use Rattle.std.proofs.lemmas.Option.{get_or_from_slice_get, slice_get_within}
-use Rattle.wild_types.specs.declared.file.Group.{Group}
-use Rattle.wild_types.specs.declared.layout.Layout.{Layout}
-use Rattle.wild_types.specs.declared.part.Part.{Part}
-use Rattle.wild_types.specs.declared.part.Role.{Role}
+use Rattle.wild_image.proofs.Common.{◌≡◌, ℕ, zero, suc, ◌+◌, ◌<◌, ◌≤◌, inl, inr, Bool, true, false, List, [], ◌∷◌, length, get_or, refl, sym, ap, ◌∙◌, arith, subst, min, ◌-◌, ◌^◌, ◌&&◌, take, Ok, Some, slice_get, list_all, cases_Bool, cases_order, eqb-true, and_parts, get_or_from_slice_get, slice_get_within, Group, Layout, Part, Role, given, total, has_role, first_clause, flat_map_from, share_faults, part_faults, has_all}
+use Rattle.std.proofs.lemmas.Bool.{le-ltb}
 use Rattle.wild_types.specs.declared.part.Role.TheVariants as role
-use Rattle.wild_types.specs.FilePlaces.{given}
-use Rattle.wild_types.specs.Lists.{total}
-use Rattle.wild_types.specs.Parts.{has_role}
-use Rattle.wild_plan_rules.specs.WellFormed.{first_clause}
 use Rattle.wild_geometry.proofs.ClauseLemmas.{NoneFails-from_first_clause, SharesHold-from_check}
 use Rattle.wild_geometry.proofs.ShareLemmas.{size_from_shares}
 use Rattle.wild_geometry.proofs.TableLemmas.{role_place-0}
 use Rattle.wild_needs.specs.Needs.{group_share, needs_of, needs, has_no_dynamic_tables, group_needs_no_tables, inner_groups, inner_groups_need_no_tables}
 use Rattle.wild_needs.proofs.NoTableLemmas.{bare_needs}
-use Rattle.wild_layout.specs.Faults.{flat_map_from, has_spare, share_errors}
-use Rattle.wild_image.specs.Steps.{share_faults, part_faults, has_all, OthersHaveNone}
+use Rattle.wild_layout.specs.Faults.{has_spare, share_errors}
+use Rattle.wild_image.specs.Steps.{OthersHaveNone}
 
 -- ---- what they need
 

@@ -1,14 +1,8 @@
 -- Laws of bytes that are written over the first bytes of an image.
-use Rattle.std.proofs.Common.{◌≡◌, ℕ, ◌+◌, ◌-◌, ◌<◌, ◌≤◌, List, [], ◌∷◌, ◌++◌, length, take, get_or, refl, sym, ap, ◌∙◌, arith, subst}
-use Rattle.std.specs.Prelude.{All}
-use Rattle.std.specs.List.{flat_map}
-use Rattle.std.proofs.lemmas.List.{take_all, places, same_lists}
-use Rattle.std.proofs.lemmas.List.Elements.{All-head, All-tail}
+use Rattle.wild_image.proofs.Common.{◌≡◌, ℕ, ◌+◌, ◌-◌, ◌<◌, ◌≤◌, List, [], ◌∷◌, ◌++◌, length, take, get_or, refl, sym, ap, ◌∙◌, arith, subst, All, flat_map, take_all, All-head, All-tail, Piece, overlay, flat_map-more, place_in_prefix, overlay_prefix}
+use Rattle.std.proofs.lemmas.List.{places, same_lists}
 use Rattle.wild_words.specs.Words.{place}
-use Rattle.wild_words.specs.Overlay.{Piece, overlay}
-use Rattle.wild_words.proofs.ListLemmas.{flat_map-more}
 use Rattle.wild_words.proofs.OverlayLemmas.{length-place}
-use Rattle.wild_image.specs.Prefix.{place_in_prefix, overlay_prefix}
 
 -- ---- one piece
 

@@ -1,9 +1,7 @@
 -- Laws of what is computed once for all groups.
-use Rattle.std.proofs.Common.{◌≡◌, ℕ, ◌+◌, ◌<◌, ◌≤◌, ◌-◌, List, [], ◌∷◌, ◌++◌, length, inl, inr, refl, ap, sym, subst, ◌∙◌, arith, nat_lt, get_or}
-use Rattle.std.proofs.lemmas.Bool.{cases_Bool, ltb-true, ltb-false}
+use Rattle.wild_image.proofs.Common.{◌≡◌, ℕ, ◌+◌, ◌<◌, ◌≤◌, ◌-◌, List, [], ◌∷◌, ◌++◌, length, inl, inr, refl, ap, sym, subst, ◌∙◌, arith, nat_lt, get_or, cases_Bool, Layout, HasStarts}
+use Rattle.std.proofs.lemmas.Bool.{ltb-true, ltb-false}
 use Rattle.std.proofs.lemmas.List.{get_or_append_left, get_or-append_right}
-use Rattle.wild_types.specs.declared.layout.Layout.{Layout}
-use Rattle.wild_image.specs.Append.{HasStarts}
 
 -- the starts of one group more
 pub starts_added : (l : Layout) (j : ℕ) (all : List (List ℕ)) (now : List ℕ) → length all ≡ j → ((k : ℕ) → k < j → HasStarts l k (get_or all k [])) → HasStarts l j now → (k : ℕ) → k < j + 1 → HasStarts l k (get_or (all ++ now ∷ []) k [])

@@ -1,27 +1,14 @@
 -- Laws of sections that debuggers read, and of what is made of tables of relocations and of groups.
-use Rattle.std.proofs.Common.{◌≡◌, ℕ, Bool, true, false, inl, inr, not, ◌&&◌, if◌then◌else◌, List, [], ◌++◌, length, All, refl, sym, ap, ◌∙◌, subst, arith}
-use Rattle.std.specs.Prelude.{Result, Ok, Err, OnOk, ◌==◌}
-use Rattle.std.proofs.lemmas.Bool.{cases_Bool, eqb-true, not-false, and_parts}
-use Rattle.std.proofs.lemmas.List.{append-nil, nil_from_length}
-use Rattle.wild_types.specs.declared.fault.Error.{Error}
-use Rattle.wild_types.specs.declared.input.Slot.{Slot}
+use Rattle.wild_image.proofs.Common.{◌≡◌, ℕ, Bool, true, false, inl, inr, not, ◌&&◌, if◌then◌else◌, List, [], ◌++◌, length, All, refl, sym, ap, ◌∙◌, subst, arith, Result, Ok, Err, OnOk, ◌==◌, cases_Bool, eqb-true, and_parts, append-nil, nil_from_length, Error, Slot, InputSection, File, Layout, Answers, is_header_only_role, is_omitted, has_range, has_fields, is_read, has_written_relocations, is_frame, is_debug, is_rela, has_range_bytes, is_filled, is_header_only_part, PlacedContent, section_bytes, FieldLies, SectionLies, section_owned}
+use Rattle.std.proofs.lemmas.Bool.{not-false}
 use Rattle.wild_types.specs.declared.input.Slot.TheVariants as slot
-use Rattle.wild_types.specs.declared.input.InputSection.{InputSection}
-use Rattle.wild_types.specs.declared.file.File.{File}
-use Rattle.wild_types.specs.declared.layout.Layout.{Layout}
-use Rattle.wild_types.specs.Faults.{Answers}
 use Rattle.wild_types.specs.declared.part.Role.TheVariants as role
-use Rattle.wild_types.specs.HeaderOnly.{is_header_only_role, is_omitted}
-use Rattle.wild_types.specs.Lookups.{has_range, has_relocations, has_fields, has_counted, is_read, has_written_relocations, is_frame, is_debug, is_rela, has_range_bytes, is_filled, is_header_only_part}
-use Rattle.wild_placement.specs.PlacedInputs.{PlacedContent}
+use Rattle.wild_types.specs.Lookups.{has_relocations, has_counted}
 use Rattle.wild_layout.specs.Debug.{debug_bytes}
 use Rattle.wild_layout.specs.Partial.{rela_bytes_of, group_words}
-use Rattle.wild_layout.specs.Sites.{section_bytes}
 use Rattle.wild_layout.specs.Faults.{debug_errors}
-use Rattle.wild_layout.specs.SectionPlaces.{FieldLies, SectionLies}
 use Rattle.wild_layout.proofs.DebugLemmas.{length-debug_bytes}
 use Rattle.wild_layout.proofs.PartialLemmas.{section_bytes_debug, section_bytes_rela, section_bytes_group}
-use Rattle.wild_image.specs.Pieces.{section_owned}
 use Rattle.wild_image.specs.Placed.{written_faults, kept_section_faults, IsRelaOrGroup}
 
 -- ---- what debuggers read

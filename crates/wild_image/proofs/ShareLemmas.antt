@@ -1,15 +1,7 @@
 -- Laws of shares that are checked batch by batch.
-use Rattle.std.proofs.Common.{◌≡◌, ℕ, ◌+◌, inl, inr, true, List, [], length, sym, arith, subst}
-use Rattle.std.specs.Prelude.{Some, slice_get}
-use Rattle.std.proofs.lemmas.Option.{slice_get_cases, slice_get_within}
-use Rattle.wild_types.specs.declared.file.Group.{Group}
-use Rattle.wild_types.specs.declared.layout.Layout.{Layout}
-use Rattle.wild_layout.specs.Faults.{flat_map_from}
-use Rattle.wild_image.specs.Batches.{AreBatches}
+use Rattle.wild_image.proofs.Common.{◌≡◌, ℕ, ◌+◌, inl, inr, true, List, [], length, sym, arith, subst, Some, slice_get, slice_get_within, Group, Layout, flat_map_from, AreBatches, part_faults, HasCorrectShares, Batch, ShareCheck}
+use Rattle.std.proofs.lemmas.Option.{slice_get_cases}
 use Rattle.wild_image.specs.ShareChecks.{HasCorrectGroups, GivesCheck}
-use Rattle.wild_image.specs.Steps.{part_faults, HasCorrectShares}
-use Rattle.wild_image.specs.declared.batch.Batch.{Batch}
-use Rattle.wild_image.specs.declared.share_job.ShareCheck.{ShareCheck}
 use Rattle.wild_image.proofs.BatchLemmas.{cut_of, holds_of_all}
 use Rattle.wild_image.proofs.PlainLemmas.{shares_none}
 

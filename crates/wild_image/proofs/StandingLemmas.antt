@@ -1,33 +1,17 @@
 -- Laws of sections that stand in the output, beside those of the plan.
-use Rattle.std.proofs.Common.{◌≡◌, ℕ, zero, suc, ◌^◌, ◌<◌, ◌≤◌, ◌+◌, ◌==◌, Bool, true, false, not, ◌&&◌, ◌||◌, if◌then◌else◌, List, [], ◌∷◌, ◌++◌, map, length, All, Ok, refl, sym, ap, ◌∙◌, subst, get_or, arith}
-use Rattle.std.specs.Prelude.{Contains, replicate, Option, Some, None, option_to_list, slice_get}
-use Rattle.std.specs.List.{flat_map}
-use Rattle.std.proofs.lemmas.List.{append-nil}
-use Rattle.std.proofs.lemmas.Option.{get_or_from_slice_get, slice_get_within}
-use Rattle.std.proofs.lemmas.List.Elements.{All-nil, All-cons, All-head, All-tail}
-use Rattle.wild_words.specs.Overlay.{Piece}
+use Rattle.wild_image.proofs.Common.{◌≡◌, ℕ, zero, suc, ◌^◌, ◌<◌, ◌≤◌, ◌+◌, ◌==◌, Bool, true, false, not, ◌&&◌, ◌||◌, if◌then◌else◌, List, [], ◌∷◌, ◌++◌, map, length, All, Ok, refl, sym, ap, ◌∙◌, subst, get_or, arith, Contains, replicate, Option, Some, None, option_to_list, slice_get, flat_map, append-nil, get_or_from_slice_get, slice_get_within, All-nil, All-head, All-tail, Piece, Slot, InputSection, File, Group, SortedSection, Layout, is_prelude, is_epilogue, is_partial_link, has_range, has_fields, is_rela, is_filled, section_of, is_header_only_part, reversed_section, with_word_order, kept_size, as_loaded, without_relocations, unread, placed_by, placed_section, placed_sections, placed_from, placed_files, address_after, file_frames, sorted_input, of_last_file, section_bytes, merged_bytes, owned_pieces, of_first_file, SectionLies, IsLaidOut, first_clause, section_owned, sorted_owned, sorted_in, ranged_piece, sorted_pieces, file_pieces_in_order, MergedLies, RangedLies, SortedLies, FileLies, CanBeReversed, IsOfKind, StandFrom, GroupStands}
+use Rattle.std.proofs.lemmas.List.Elements.{All-cons}
 use Rattle.wild_words.proofs.ListLemmas.{flat_map-flat_map, flat_map-same, All-append-left, All-append-right, All-from_flat_map}
-use Rattle.wild_types.specs.declared.input.Slot.{Slot}
 use Rattle.wild_types.specs.declared.input.Slot.TheVariants as slot
-use Rattle.wild_types.specs.declared.input.InputSection.{InputSection}
-use Rattle.wild_types.specs.declared.file.File.{File}
-use Rattle.wild_types.specs.declared.file.Group.{Group}
-use Rattle.wild_types.specs.declared.layout.SortedSection.{SortedSection}
-use Rattle.wild_types.specs.declared.layout.Layout.{Layout}
-use Rattle.wild_types.specs.FileRoles.{is_prelude, is_epilogue}
-use Rattle.wild_types.specs.Kinds.{is_partial_link}
-use Rattle.wild_types.specs.Lookups.{has_range, has_counted, has_fields, is_rela, is_filled, section_of, has_data, is_header_only_part}
-use Rattle.wild_placement.specs.ReversedWords.{reversed_section, with_word_order}
-use Rattle.wild_placement.specs.FrameInputs.{frames_of, kept_size}
-use Rattle.wild_placement.specs.PlacedSections.{Input, as_loaded, without_relocations, unread, placed_frames, sorted_by, sorted_in_file, sorted_in_group, files_at, placed_by, placed_section, placed_sections, placed_file, placed_from, placed_files, address_after, file_frames, sorted_input, sorted_inputs, sorted_sections, of_last_file, processed_sections}
-use Rattle.wild_layout.specs.Sites.{bytes_by, section_bytes}
-use Rattle.wild_layout.specs.Image.{offset_in, merged_bytes, section_piece, section_pieces, sorted_piece, file_pieces, owned_pieces, of_first_file, merged_and_identity_pieces, thunk_pieces}
-use Rattle.wild_layout.specs.SectionPlaces.{SectionLies, IsWord, FrontLies, PartLies}
-use Rattle.wild_layout.specs.Geometry.{IsLaidOut}
-use Rattle.wild_plan_rules.specs.WellFormed.{first_clause}
-use Rattle.wild_image.specs.Pieces.{placed_in_range, has_room, some_by, ranged_room, section_owned, input_owned, sorted_owned, owned_in, input_in, sorted_in}
-use Rattle.wild_image.specs.Owners.{ranged_piece, ranged_pieces, sorted_pieces, all_sorted_pieces, trailer_pieces, file_pieces_in_order}
-use Rattle.wild_image.specs.Append.{MergedLies, RangedLies, InputLies, SortedLies, FileLies, EachFileLies, CanBeReversed, IsOfKind, InputStands, SortedStands, FileStands, StandFrom, GroupStands, EachStands}
+use Rattle.wild_types.specs.Lookups.{has_counted, has_data}
+use Rattle.wild_placement.specs.FrameInputs.{frames_of}
+use Rattle.wild_placement.specs.PlacedSections.{Input, placed_frames, sorted_by, sorted_in_file, sorted_in_group, files_at, placed_file, sorted_inputs, sorted_sections, processed_sections}
+use Rattle.wild_layout.specs.Sites.{bytes_by}
+use Rattle.wild_layout.specs.Image.{offset_in, section_piece, section_pieces, sorted_piece, file_pieces, merged_and_identity_pieces, thunk_pieces}
+use Rattle.wild_layout.specs.SectionPlaces.{IsWord, FrontLies, PartLies}
+use Rattle.wild_image.specs.Pieces.{placed_in_range, has_room, some_by, ranged_room, input_owned, owned_in, input_in}
+use Rattle.wild_image.specs.Owners.{ranged_pieces, all_sorted_pieces, trailer_pieces}
+use Rattle.wild_image.specs.Append.{InputLies, EachFileLies, InputStands, SortedStands, FileStands, EachStands}
 use Rattle.wild_image.proofs.KindLemmas.{OfKind, each_of_kind}
 
 -- ---- one section

@@ -1,30 +1,14 @@
 -- Laws of sections that stand as the plan has them.
-use Rattle.std.proofs.Common.{◌≡◌, ℕ, ◌<◌, ◌^◌, Bool, true, false, not, ◌&&◌, if◌then◌else◌, List, [], ◌++◌, length, replicate, All, refl, sym, ap, ◌∙◌, subst, arith}
-use Rattle.std.proofs.lemmas.Bool.{and_parts, not-true, true≢false}
-use Rattle.std.proofs.lemmas.List.{append-nil}
-use Rattle.wild_types.specs.declared.fault.Error.{Error}
-use Rattle.wild_types.specs.Faults.{Refuses}
-use Rattle.wild_types.specs.declared.input.Slot.{Slot}
+use Rattle.wild_image.proofs.Common.{◌≡◌, ℕ, ◌<◌, ◌^◌, Bool, true, false, not, ◌&&◌, if◌then◌else◌, List, [], ◌++◌, length, replicate, All, refl, sym, ap, ◌∙◌, subst, arith, and_parts, true≢false, append-nil, Error, Refuses, Slot, InputSection, File, Layout, is_partial_link, is_header_only_role, is_omitted, has_fields, has_written_relocations, is_frame, is_debug, has_range_bytes, is_filled, is_header_only_part, with_word_order, reversed_section, kept_size, without_relocations, placed_by, placed_section, address_after, section_bytes, MovesApart, frame_bytes_of, SectionLies, FieldLies, section_owned, GroupBytes}
+use Rattle.std.proofs.lemmas.Bool.{not-true}
 use Rattle.wild_types.specs.declared.input.Slot.TheVariants as slot
-use Rattle.wild_types.specs.declared.input.InputSection.{InputSection}
-use Rattle.wild_types.specs.declared.file.File.{File}
-use Rattle.wild_types.specs.declared.layout.Layout.{Layout}
 use Rattle.wild_types.specs.Item.{item_of, item_with, block_for}
-use Rattle.wild_types.specs.Kinds.{is_partial_link}
 use Rattle.wild_types.specs.declared.part.Role.TheVariants as role
-use Rattle.wild_types.specs.HeaderOnly.{is_header_only_role, is_omitted}
-use Rattle.wild_types.specs.Lookups.{is_loaded, has_fields, has_written_relocations, is_frame, is_debug, has_range_bytes, is_filled, is_header_only_part}
-use Rattle.wild_placement.specs.ReversedWords.{with_word_order, reversed_section}
-use Rattle.wild_placement.specs.FrameInputs.{kept_size}
-use Rattle.wild_placement.specs.PlacedSections.{without_relocations, placed_by, placed_section, address_after}
-use Rattle.wild_layout.specs.Sites.{item_bytes, section_bytes, bytes_by, MovesApart}
-use Rattle.wild_layout.specs.Content.{frame_bytes_of}
+use Rattle.wild_types.specs.Lookups.{is_loaded}
+use Rattle.wild_layout.specs.Sites.{item_bytes, bytes_by}
 use Rattle.wild_layout.specs.Faults.{placed_section_errors, placed_section_errors_by, section_errors}
-use Rattle.wild_layout.specs.SectionPlaces.{SectionLies, FieldLies}
 use Rattle.wild_layout.proofs.MovedSites.{turned_or_stays}
-use Rattle.wild_image.specs.Pieces.{section_owned}
 use Rattle.wild_image.specs.Placed.{is_written_unchanged, IsWrittenUnchanged, unchanged_errors, unchanged_bytes}
-use Rattle.wild_image.specs.declared.buffer.GroupBytes.{GroupBytes}
 
 loaded_slot : (k : Slot) → is_loaded k ≡ true → k ≡ slot.Loaded
 loaded_slot slot.Loaded e = refl

@@ -1,10 +1,5 @@
-use Rattle.std.proofs.Common.{◌≡◌, ◌∙◌, ap, length, rules, arith, refl, sym}
-use Rattle.std.specs.Prelude.{slice_get, Some, All}
-use Rattle.std.proofs.lemmas.Option.{slice_get_read}
-use Rattle.wild_types.specs.declared.file.Group.{Group}
+use Rattle.wild_image.proofs.Common.{◌≡◌, ◌∙◌, ap, length, rules, arith, refl, sym, slice_get, Some, All, slice_get_read, Group, FileLies, batch_errors, batch_pieces}
 use Rattle.wild_image.specs.declared.job.Outcome.{Outcome}
-use Rattle.wild_image.specs.Append.{FileLies}
-use Rattle.wild_image.specs.Batches.{batch_errors, batch_pieces}
 use Rattle.wild_image.proofs.PrefixLemmas.{overlay_prefix_read}
 use Rattle.wild_sections.proofs.FaultLemmas.{none_more, refuses_read}
 use Rattle.wild_image.proofs.JobLemmas.{bytes_given, fault_given}

@@ -1,7 +1,4 @@
-use Rattle.std.proofs.Common.{◌≡◌, [], take}
-use Rattle.std.specs.List.{flat_map}
-use Rattle.wild_image.specs.Prefix.{overlay_prefix}
-use Rattle.wild_image.specs.Batches.{batch_errors, batch_pieces}
+use Rattle.wild_image.proofs.Common.{◌≡◌, [], take, flat_map, overlay_prefix, batch_errors, batch_pieces}
 use Rattle.wild_image.proofs.BatchLemmas.{IsNext}
 use Rattle.wild_image.proofs.append.append_all.Given as goal
 

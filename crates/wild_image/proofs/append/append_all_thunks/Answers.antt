@@ -1,5 +1,4 @@
-use Rattle.wild_layout.specs.Thunks.{thunk_bytes}
-use Rattle.wild_layout.specs.Image.{thunk_piece}
+use Rattle.wild_image.proofs.Common.{thunk_bytes, thunk_piece}
 use Rattle.wild_image.proofs.PrefixLemmas.{overlay_prefix_read}
 use Rattle.wild_image.proofs.AppendLemmas.{next_begins, stands_more}
 use Rattle.wild_image.proofs.append.append_all_thunks.Goals as goal

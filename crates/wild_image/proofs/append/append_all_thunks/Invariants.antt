@@ -1,8 +1,4 @@
-use Rattle.std.proofs.Common.{◌≡◌, take}
-use Rattle.std.specs.List.{flat_map}
-use Rattle.wild_image.specs.Prefix.{overlay_prefix}
-use Rattle.wild_layout.specs.Thunks.{thunk_bytes}
-use Rattle.wild_layout.specs.Image.{thunk_piece}
+use Rattle.wild_image.proofs.Common.{◌≡◌, take, flat_map, overlay_prefix, thunk_bytes, thunk_piece}
 use Rattle.wild_image.proofs.AppendLemmas.{IsPlacedAfter}
 use Rattle.wild_image.proofs.append.append_all_thunks.Given as goal
 

@@ -1,12 +1,4 @@
-use Rattle.std.proofs.Common.{◌≡◌, ◌+◌, List, length, arith, rules, sym, ap, ◌∙◌, subst}
-use Rattle.std.specs.Prelude.{All, slice_get, Some, ℕ}
-use Rattle.std.proofs.lemmas.Option.{slice_get_read}
-use Rattle.wild_words.specs.Overlay.{Piece}
-use Rattle.wild_image.specs.Prefix.{overlay_prefix}
-use Rattle.wild_types.specs.declared.file.Group.{Group}
-use Rattle.wild_layout.specs.Image.{table_pieces, owned_pieces, group_pieces}
-use Rattle.wild_image.specs.Append.{HasStarts, FileLies}
-use Rattle.wild_image.specs.Pieces.{group_tables, group_files}
+use Rattle.wild_image.proofs.Common.{◌≡◌, ◌+◌, List, length, arith, rules, sym, ap, ◌∙◌, subst, All, slice_get, Some, ℕ, slice_get_read, Piece, overlay_prefix, Group, table_pieces, owned_pieces, group_pieces, HasStarts, FileLies, group_tables, group_files}
 use Rattle.wild_image.proofs.PrefixLemmas.{overlay_prefix-append}
 use Rattle.wild_image.proofs.AppendLemmas.{begins_all, next_begins, stands_more}
 use Rattle.wild_image.proofs.BatchLemmas.{overlay_prefix_behind}

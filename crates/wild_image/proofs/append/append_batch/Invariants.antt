@@ -1,9 +1,4 @@
-use Rattle.std.proofs.Common.{◌≡◌, ◌+◌, take}
-use Rattle.wild_image.specs.Prefix.{overlay_prefix}
-use Rattle.wild_layout.specs.Image.{group_pieces}
-use Rattle.wild_layout.specs.Faults.{flat_map_from}
-use Rattle.wild_image.specs.Append.{HasStarts}
-use Rattle.wild_image.specs.Pieces.{group_tables, group_files}
+use Rattle.wild_image.proofs.Common.{◌≡◌, ◌+◌, take, overlay_prefix, group_pieces, flat_map_from, HasStarts, group_tables, group_files}
 use Rattle.wild_image.proofs.AppendLemmas.{IsPlacedAfter}
 use Rattle.wild_image.proofs.append.append_batch.Given as goal
 

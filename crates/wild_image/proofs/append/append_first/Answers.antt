@@ -1,5 +1,4 @@
-use Rattle.std.proofs.Common.{◌≡◌, true, rules}
-use Rattle.wild_types.specs.FileRoles.{is_prelude}
+use Rattle.wild_image.proofs.Common.{◌≡◌, true, rules, is_prelude}
 use Rattle.wild_image.proofs.append.append_first.Goals as goal
 
 pub append_merged_and_identity-requires-clause-merged : goal.append_merged_and_identity-requires-clause-merged

@@ -1,7 +1,4 @@
-use Rattle.std.proofs.Common.{List, sym, ap, ◌∙◌}
-use Rattle.wild_words.specs.Overlay.{Piece}
-use Rattle.wild_image.specs.Prefix.{overlay_prefix}
-use Rattle.wild_layout.specs.Image.{table_pieces, owned_pieces}
+use Rattle.wild_image.proofs.Common.{List, sym, ap, ◌∙◌, Piece, overlay_prefix, table_pieces, owned_pieces}
 use Rattle.wild_image.proofs.PrefixLemmas.{overlay_prefix-append}
 use Rattle.wild_image.proofs.AppendLemmas.{begins_all}
 use Rattle.wild_image.proofs.StandingLemmas.{pieces_of_group}

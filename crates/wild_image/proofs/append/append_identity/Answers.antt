@@ -1,8 +1,4 @@
-use Rattle.std.proofs.Common.{◌∙◌, List, ℕ, ap, sym, subst}
-use Rattle.wild_words.specs.Overlay.{Piece}
-use Rattle.wild_image.specs.Prefix.{overlay_prefix}
-use Rattle.wild_layout.specs.Image.{front_piece}
-use Rattle.wild_image.specs.Append.{SomeLies}
+use Rattle.wild_image.proofs.Common.{◌∙◌, List, ℕ, ap, sym, subst, Piece, overlay_prefix, front_piece, SomeLies}
 use Rattle.wild_image.proofs.AppendLemmas.{cut_off}
 use Rattle.wild_image.proofs.append.append_identity.Goals as goal
 

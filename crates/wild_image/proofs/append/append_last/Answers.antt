@@ -1,5 +1,4 @@
-use Rattle.std.proofs.Common.{◌≡◌, true, rules}
-use Rattle.wild_types.specs.FileRoles.{is_epilogue}
+use Rattle.wild_image.proofs.Common.{◌≡◌, true, rules, is_epilogue}
 use Rattle.wild_image.proofs.append.append_last.Goals as goal
 
 pub append_sorted-requires-clause-lies : goal.append_sorted-requires-clause-lies

@@ -1,8 +1,4 @@
-use Rattle.std.proofs.Common.{◌∙◌, sym, ap}
-use Rattle.std.specs.List.{flat_map}
-use Rattle.wild_image.specs.Prefix.{overlay_prefix}
-use Rattle.wild_layout.specs.Image.{merged_bytes, front_piece}
-use Rattle.wild_image.specs.Owners.{merged_piece}
+use Rattle.wild_image.proofs.Common.{◌∙◌, sym, ap, flat_map, overlay_prefix, merged_bytes, front_piece, merged_piece}
 use Rattle.wild_image.proofs.AppendLemmas.{both_begin, both_go_on, both_end}
 use Rattle.wild_image.proofs.PrefixLemmas.{overlay_prefix-append}
 use Rattle.wild_image.proofs.append.append_merged_and_identity.Goals as goal

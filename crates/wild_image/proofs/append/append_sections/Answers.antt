@@ -1,8 +1,4 @@
-use Rattle.std.proofs.Common.{◌+◌, ◌≤◌, ◌∙◌, length, arith, subst, ℕ}
-use Rattle.std.specs.Prelude.{List}
-use Rattle.wild_image.specs.Owners.{ranged_piece}
-use Rattle.wild_image.specs.Pieces.{ranged_owned}
-use Rattle.wild_image.specs.Append.{RangedLies, HasRest}
+use Rattle.wild_image.proofs.Common.{◌+◌, ◌≤◌, ◌∙◌, length, arith, subst, ℕ, List, ranged_piece, ranged_owned, RangedLies, HasRest}
 use Rattle.wild_image.proofs.PrefixLemmas.{overlay_prefix_read}
 use Rattle.wild_image.proofs.AppendLemmas.{next_begins, stands_more, lies_read, ranged_taken}
 use Rattle.wild_image.proofs.append.append_sections.Goals as goal

@@ -1,6 +1,4 @@
-use Rattle.wild_image.specs.Owners.{sorted_pieces}
-use Rattle.wild_image.specs.Pieces.{sorted_owned}
-use Rattle.wild_image.specs.Append.{SortedLies}
+use Rattle.wild_image.proofs.Common.{sorted_pieces, sorted_owned, SortedLies}
 use Rattle.wild_image.proofs.AppendLemmas.{lies_at, begins_at, stands_at, overlay_prefix_at}
 use Rattle.wild_image.proofs.append.append_sorted.Goals as goal
 

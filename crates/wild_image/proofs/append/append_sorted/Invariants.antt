@@ -1,8 +1,4 @@
-use Rattle.std.proofs.Common.{◌≡◌, take}
-use Rattle.std.specs.List.{flat_map}
-use Rattle.wild_image.specs.Prefix.{overlay_prefix}
-use Rattle.wild_image.specs.Owners.{sorted_pieces}
-use Rattle.wild_image.specs.Pieces.{sorted_owned}
+use Rattle.wild_image.proofs.Common.{◌≡◌, take, flat_map, overlay_prefix, sorted_pieces, sorted_owned}
 use Rattle.wild_image.proofs.AppendLemmas.{IsPlacedAfter}
 use Rattle.wild_image.proofs.append.append_sorted.Given as goal
 

@@ -1,5 +1,4 @@
-use Rattle.std.proofs.Common.{◌+◌, ◌≤◌, ◌∙◌, length, refl, sym, ap, arith}
-use Rattle.wild_placement.specs.PlacedInputs.{inputs}
+use Rattle.wild_image.proofs.Common.{◌+◌, ◌≤◌, ◌∙◌, length, refl, sym, ap, arith, inputs}
 use Rattle.wild_image.proofs.AppendLemmas.{sorted_taken}
 use Rattle.wild_image.proofs.append.append_sorted_section.Goals as goal
 

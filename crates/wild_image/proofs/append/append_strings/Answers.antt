@@ -1,7 +1,4 @@
-use Rattle.wild_image.specs.Owners.{merged_piece}
-use Rattle.wild_layout.specs.Image.{merged_bytes}
-use Rattle.std.proofs.Common.{sym, subst}
-use Rattle.wild_image.specs.Append.{MergedLies}
+use Rattle.wild_image.proofs.Common.{merged_piece, merged_bytes, sym, subst, MergedLies}
 use Rattle.wild_image.proofs.PrefixLemmas.{overlay_prefix_read}
 use Rattle.wild_image.proofs.AppendLemmas.{next_begins, stands_more}
 use Rattle.wild_image.proofs.append.append_strings.Goals as goal

@@ -1,8 +1,4 @@
-use Rattle.std.proofs.Common.{◌≡◌, take}
-use Rattle.std.specs.List.{flat_map}
-use Rattle.wild_image.specs.Prefix.{overlay_prefix}
-use Rattle.wild_image.specs.Owners.{merged_piece}
-use Rattle.wild_layout.specs.Image.{merged_bytes}
+use Rattle.wild_image.proofs.Common.{◌≡◌, take, flat_map, overlay_prefix, merged_piece, merged_bytes}
 use Rattle.wild_image.proofs.AppendLemmas.{IsPlacedAfter}
 use Rattle.wild_image.proofs.append.append_strings.Given as goal
 

@@ -1,7 +1,5 @@
-use Rattle.std.proofs.Common.{ℕ, ◌+◌, ◌≤◌, ◌∙◌, ap, arith}
-use Rattle.wild_types.specs.FilePlaces.{given}
+use Rattle.wild_image.proofs.Common.{ℕ, ◌+◌, ◌≤◌, ◌∙◌, ap, arith, given, table_given}
 use Rattle.wild_layout.specs.Image.{shares_before}
-use Rattle.wild_image.specs.Pieces.{table_given}
 use Rattle.wild_image.proofs.AppendLemmas.{cut_off}
 use Rattle.wild_image.proofs.TableLemmas.{in_part, start_given, table_put, table_not_put, table_stays}
 use Rattle.wild_image.proofs.append.append_table.Goals as goal

@@ -1,7 +1,4 @@
-use Rattle.std.proofs.Common.{◌∙◌, ap, sym, length, arith}
-use Rattle.std.proofs.lemmas.Bool.{eqb-true}
-use Rattle.wild_image.specs.Pieces.{table_given, group_tables}
-use Rattle.wild_layout.specs.Image.{table_piece}
+use Rattle.wild_image.proofs.Common.{◌∙◌, ap, sym, length, arith, eqb-true, table_given, group_tables, table_piece}
 use Rattle.wild_image.proofs.AppendLemmas.{next_begins_at, stands_more_at, read_at}
 use Rattle.wild_image.proofs.TableLemmas.{overlay_prefix_from, none_left, tables_stay, stays_behind, starts_stay, start_fits, start_more, start_read, starts_more, starts_moved}
 use Rattle.wild_image.proofs.append.append_tables.Goals as goal

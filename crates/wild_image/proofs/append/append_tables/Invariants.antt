@@ -1,8 +1,4 @@
-use Rattle.std.proofs.Common.{◌≡◌, take}
-use Rattle.wild_image.specs.Prefix.{overlay_prefix}
-use Rattle.wild_image.specs.Pieces.{table_given}
-use Rattle.wild_layout.specs.Image.{table_piece}
-use Rattle.wild_layout.specs.Faults.{flat_map_from}
+use Rattle.wild_image.proofs.Common.{◌≡◌, take, overlay_prefix, table_given, table_piece, flat_map_from}
 use Rattle.wild_image.proofs.AppendLemmas.{IsPlacedAfter}
 use Rattle.wild_image.proofs.TableLemmas.{AreMoved}
 use Rattle.wild_image.proofs.append.append_tables.Given as goal

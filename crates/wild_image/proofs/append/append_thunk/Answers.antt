@@ -1,5 +1,4 @@
-use Rattle.std.proofs.Common.{◌∙◌}
-use Rattle.wild_layout.specs.Thunks.{thunk_bytes}
+use Rattle.wild_image.proofs.Common.{◌∙◌, thunk_bytes}
 use Rattle.wild_layout.proofs.ThunkLemmas.{length-thunk_bytes}
 use Rattle.wild_image.proofs.AppendLemmas.{cut_off, thunk_appended}
 use Rattle.wild_image.proofs.append.append_thunk.Goals as goal

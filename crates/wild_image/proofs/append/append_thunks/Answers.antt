@@ -1,12 +1,4 @@
-use Rattle.std.proofs.Common.{◌≡◌, true, false, List, ℕ, sym, ap, ◌∙◌, subst}
-use Rattle.std.specs.List.{flat_map}
-use Rattle.wild_words.specs.Overlay.{Piece}
-use Rattle.wild_image.specs.Prefix.{overlay_prefix}
-use Rattle.wild_types.specs.FileThunks.{thunks_of}
-use Rattle.wild_types.specs.Lookups.{is_header_only_part}
-use Rattle.wild_layout.specs.Image.{thunk_piece}
-use Rattle.wild_layout.specs.Thunks.{file_thunks}
-use Rattle.wild_image.specs.Append.{BeginsWith, HasRest}
+use Rattle.wild_image.proofs.Common.{◌≡◌, true, false, List, ℕ, sym, ap, ◌∙◌, subst, flat_map, Piece, overlay_prefix, thunks_of, is_header_only_part, thunk_piece, file_thunks, BeginsWith, HasRest}
 use Rattle.wild_image.proofs.AppendLemmas.{all_written, none_written}
 use Rattle.wild_image.proofs.append.append_thunks.Goals as goal
 

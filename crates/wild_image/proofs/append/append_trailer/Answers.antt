@@ -1,9 +1,5 @@
-use Rattle.std.proofs.Common.{◌∙◌, sym, ap}
-use Rattle.std.specs.List.{flat_map}
-use Rattle.wild_image.specs.Prefix.{overlay_prefix}
-use Rattle.wild_placement.specs.PlacedSections.{of_last_file}
-use Rattle.wild_layout.specs.Image.{merged_and_identity_pieces, of_first_file}
-use Rattle.wild_image.specs.Pieces.{all_sorted, merged_and_identity_bytes}
+use Rattle.wild_image.proofs.Common.{◌∙◌, sym, ap, flat_map, overlay_prefix, of_last_file, of_first_file, all_sorted, merged_and_identity_bytes}
+use Rattle.wild_layout.specs.Image.{merged_and_identity_pieces}
 use Rattle.wild_image.specs.Owners.{all_sorted_pieces}
 use Rattle.wild_image.proofs.AppendLemmas.{both_begin, both_go_on, both_end}
 use Rattle.wild_image.proofs.PrefixLemmas.{overlay_prefix-append}

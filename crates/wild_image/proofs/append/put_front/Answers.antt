@@ -1,4 +1,4 @@
-use Rattle.std.proofs.Common.{sym, ◌∙◌}
+use Rattle.wild_image.proofs.Common.{sym, ◌∙◌}
 use Rattle.wild_image.proofs.FrontLemmas.{front_not_put, writes_some, writes_part}
 use Rattle.wild_image.proofs.append.put_front.Goals as goal
 

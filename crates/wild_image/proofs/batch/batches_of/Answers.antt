@@ -1,5 +1,4 @@
-use Rattle.std.proofs.Common.{sym, ◌∙◌}
-use Rattle.std.proofs.lemmas.Bool.{eqb-true}
+use Rattle.wild_image.proofs.Common.{sym, ◌∙◌, eqb-true}
 use Rattle.wild_image.proofs.BatchLemmas.{cut_done}
 use Rattle.wild_image.proofs.batch.batches_of.Goals as goal
 

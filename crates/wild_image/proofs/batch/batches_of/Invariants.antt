@@ -1,4 +1,4 @@
-use Rattle.std.proofs.Common.{◌≡◌, ◌+◌, ◌≤◌, length}
+use Rattle.wild_image.proofs.Common.{◌≡◌, ◌+◌, ◌≤◌, length}
 use Rattle.wild_image.proofs.BatchLemmas.{IsCut}
 use Rattle.wild_image.proofs.batch.batches_of.Given as goal
 

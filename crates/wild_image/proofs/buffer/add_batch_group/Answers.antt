@@ -1,6 +1,5 @@
-use Rattle.std.proofs.Common.{◌≡◌, ◌++◌, ◌∙◌}
+use Rattle.wild_image.proofs.Common.{◌≡◌, ◌++◌, ◌∙◌, group_tables}
 use Rattle.wild_contents.proofs.FileTableLemmas.{none_added}
-use Rattle.wild_image.specs.Pieces.{group_tables}
 use Rattle.wild_image.proofs.TableLemmas.{on_ok_any}
 use Rattle.wild_image.proofs.buffer.add_batch_group.Goals as goal
 

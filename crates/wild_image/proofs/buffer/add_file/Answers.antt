@@ -1,5 +1,4 @@
-use Rattle.std.proofs.Common.{sym, ◌∙◌}
-use Rattle.std.proofs.lemmas.Bool.{and_parts}
+use Rattle.wild_image.proofs.Common.{sym, ◌∙◌, and_parts}
 use Rattle.wild_layout.specs.Content.{end_of_frames}
 use Rattle.wild_image.specs.Placed.{is_plain_object}
 use Rattle.wild_image.proofs.BareLemmas.{object_fine, none_behind, no_end_behind}

@@ -1,13 +1,7 @@
-use Rattle.std.proofs.Common.{◌∙◌, sym, ap, arith, subst}
-use Rattle.std.proofs.lemmas.Result.{err_from_is_err_and}
-use Rattle.wild_layout.specs.Content.{frame_bytes_of}
-use Rattle.wild_image.specs.Append.{CanBeReversed}
-use Rattle.wild_image.specs.Pieces.{section_owned}
+use Rattle.wild_image.proofs.Common.{◌∙◌, sym, ap, arith, subst, err_from_is_err_and, frame_bytes_of, CanBeReversed, section_owned, GroupBytes, SectionLies}
 use Rattle.wild_contents.proofs.PlacedLemmas.{reach_more, reach_done, behind_small}
 use Rattle.wild_image.proofs.PlacedLemmas.{faults_more, faults_refuse, lies_head, lies_tail, given_more}
 use Rattle.wild_image.proofs.UnchangedLemmas.{unchanged_parts, unchanged_section_placed, so_refuses, Adds, so_adds}
-use Rattle.wild_image.specs.declared.buffer.GroupBytes.{GroupBytes}
-use Rattle.wild_layout.specs.SectionPlaces.{SectionLies}
 use Rattle.wild_image.proofs.buffer.add_file_sections.Goals as goal
 use Rattle.wild_image.proofs.buffer.add_file_sections.Goals.{then-is_written_unchanged+in_ok-add_unchanged, else-is_written_unchanged+in_ok-next}
 

@@ -1,14 +1,5 @@
-use Rattle.std.proofs.Common.{◌≡◌, false, ◌<◌, ◌^◌, ◌++◌, drop, All}
-use Rattle.std.specs.List.{flat_map}
+use Rattle.wild_image.proofs.Common.{◌≡◌, false, ◌<◌, ◌^◌, ◌++◌, drop, All, flat_map, is_header_only_role, total, kept_size, placed_sections, file_frames, address_after, frame_bytes_of, sections_errors, SectionLies, section_owned}
 use Rattle.wild_types.specs.declared.part.Role.TheVariants as role
-use Rattle.wild_types.specs.HeaderOnly.{is_header_only_role}
-use Rattle.wild_types.specs.Lists.{total}
-use Rattle.wild_placement.specs.FrameInputs.{kept_size}
-use Rattle.wild_placement.specs.PlacedSections.{placed_sections, file_frames, address_after}
-use Rattle.wild_layout.specs.Content.{frame_bytes_of}
-use Rattle.wild_layout.specs.Faults.{sections_errors}
-use Rattle.wild_layout.specs.SectionPlaces.{SectionLies}
-use Rattle.wild_image.specs.Pieces.{section_owned}
 use Rattle.wild_image.proofs.buffer.add_file_sections.Given as goal
 
 abbrev pub invariant-loop-i : goal.invariant-loop-i

@@ -1,12 +1,6 @@
-use Rattle.std.proofs.Common.{◌≡◌, false, ◌++◌, drop, take}
-use Rattle.std.specs.List.{flat_map}
+use Rattle.wild_image.proofs.Common.{◌≡◌, false, ◌++◌, drop, take, flat_map, is_header_only_role, placed_from, placed_files, frames_at, files_errors, file_bytes, StandFrom}
 use Rattle.wild_types.specs.declared.part.Role.TheVariants as role
-use Rattle.wild_types.specs.HeaderOnly.{is_header_only_role}
-use Rattle.wild_placement.specs.PlacedSections.{placed_from, placed_files, frames_at}
 use Rattle.wild_layout.specs.Content.{frames_bytes}
-use Rattle.wild_layout.specs.Faults.{files_errors}
-use Rattle.wild_image.specs.Pieces.{file_bytes}
-use Rattle.wild_image.specs.Append.{StandFrom}
 use Rattle.wild_image.proofs.buffer.add_files.Given as goal
 
 abbrev pub invariant-loop-i : goal.invariant-loop-i

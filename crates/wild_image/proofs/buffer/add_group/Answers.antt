@@ -1,4 +1,4 @@
-use Rattle.std.proofs.Common.{List, ℕ, sym, subst}
+use Rattle.wild_image.proofs.Common.{List, ℕ, sym, subst}
 use Rattle.wild_contents.specs.PlacedSections.{HaveSearchTable}
 use Rattle.wild_image.proofs.PlacedLemmas.{table_of_group}
 use Rattle.wild_image.proofs.buffer.add_group.Goals as goal

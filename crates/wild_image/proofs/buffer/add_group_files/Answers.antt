@@ -1,4 +1,4 @@
-use Rattle.std.proofs.Common.{◌≡◌, true, rules, sym, ◌∙◌}
+use Rattle.wild_image.proofs.Common.{◌≡◌, true, rules, sym, ◌∙◌}
 use Rattle.wild_image.proofs.BareLemmas.{group_fine}
 use Rattle.wild_image.proofs.buffer.add_group_files.Goals as goal
 

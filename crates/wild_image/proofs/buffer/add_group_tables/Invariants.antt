@@ -1,6 +1,4 @@
-use Rattle.std.proofs.Common.{◌≡◌, ◌++◌, take}
-use Rattle.std.specs.List.{flat_map}
-use Rattle.wild_image.specs.Pieces.{table_given}
+use Rattle.wild_image.proofs.Common.{◌≡◌, ◌++◌, take, flat_map, table_given}
 use Rattle.wild_image.proofs.buffer.add_group_tables.Given as goal
 
 abbrev pub invariant-loop-i : goal.invariant-loop-i

@@ -1,6 +1,4 @@
-use Rattle.std.proofs.Common.{◌≡◌, ◌++◌, take}
-use Rattle.std.specs.List.{flat_map}
-use Rattle.wild_layout.specs.Image.{merged_bytes}
+use Rattle.wild_image.proofs.Common.{◌≡◌, ◌++◌, take, flat_map, merged_bytes}
 use Rattle.wild_image.proofs.buffer.add_merged_and_identity.Given as goal
 
 abbrev pub invariant-loop-merged : goal.invariant-loop-merged

@@ -1,10 +1,4 @@
-use Rattle.std.proofs.Common.{◌≡◌, true, false, List, rules, refl, sym, ◌∙◌, subst}
-use Rattle.wild_types.specs.declared.fault.Error.{Error}
-use Rattle.wild_types.specs.declared.input.InputSection.{InputSection}
-use Rattle.wild_types.specs.Faults.{Answers}
-use Rattle.wild_types.specs.HeaderOnly.{is_omitted}
-use Rattle.wild_types.specs.Lookups.{is_read}
-use Rattle.std.proofs.lemmas.Result.{on_ok_weaker}
+use Rattle.wild_image.proofs.Common.{◌≡◌, true, false, List, rules, refl, sym, ◌∙◌, subst, Error, InputSection, Answers, is_omitted, is_read, on_ok_weaker}
 use Rattle.wild_image.proofs.RelaOrGroupLemmas.{ok_holds}
 use Rattle.wild_image.proofs.PlacedLemmas.{no_frames_added, plain_frames, dropped_owned, dropped_frames, dropped_faults, unread_faults, faults_kept}
 use Rattle.wild_image.proofs.buffer.add_placed.Goals as goal

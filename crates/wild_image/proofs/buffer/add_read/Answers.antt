@@ -1,5 +1,4 @@
-use Rattle.std.proofs.Common.{◌≡◌, false, rules}
-use Rattle.wild_types.specs.Lookups.{is_frame, is_filled}
+use Rattle.wild_image.proofs.Common.{◌≡◌, false, rules, is_frame, is_filled}
 use Rattle.wild_image.proofs.PlacedLemmas.{none_given}
 use Rattle.wild_image.proofs.buffer.add_read.Goals as goal
 

@@ -1,8 +1,4 @@
-use Rattle.std.proofs.Common.{◌≡◌, true, sym, subst}
-use Rattle.wild_types.specs.Lookups.{is_read}
-use Rattle.wild_placement.specs.PlacedInputs.{PlacedContent}
-use Rattle.wild_image.specs.Placed.{PlacedApart, HasOrigins, IsWhole}
-use Rattle.wild_image.specs.Append.{IsOfKind}
+use Rattle.wild_image.proofs.Common.{◌≡◌, true, sym, subst, is_read, PlacedContent, PlacedApart, HasOrigins, IsWhole, IsOfKind}
 use Rattle.wild_image.proofs.PlacedLemmas.{placed_section_whole, placed_content_apart, placed_content_origins, placed_section_kind}
 use Rattle.wild_image.proofs.buffer.add_section.Goals as goal
 

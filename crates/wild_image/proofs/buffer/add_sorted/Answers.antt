@@ -1,9 +1,4 @@
-use Rattle.std.proofs.Common.{List, subst}
-use Rattle.std.proofs.lemmas.Result.{err_from_is_err_and}
-use Rattle.std.specs.List.{flat_map}
-use Rattle.wild_types.specs.declared.layout.SortedSection.{SortedSection}
-use Rattle.wild_types.specs.Faults.{Refuses}
-use Rattle.wild_layout.specs.Faults.{sorted_errors}
+use Rattle.wild_image.proofs.Common.{List, subst, err_from_is_err_and, flat_map, SortedSection, Refuses, sorted_errors}
 use Rattle.wild_sections.proofs.FaultLemmas.{refuses_at}
 use Rattle.wild_image.proofs.buffer.add_sorted.Goals as goal
 

@@ -1,7 +1,4 @@
-use Rattle.std.proofs.Common.{◌≡◌, [], ◌++◌, take}
-use Rattle.std.specs.List.{flat_map}
-use Rattle.wild_layout.specs.Faults.{sorted_errors}
-use Rattle.wild_image.specs.Pieces.{sorted_owned}
+use Rattle.wild_image.proofs.Common.{◌≡◌, [], ◌++◌, take, flat_map, sorted_errors, sorted_owned}
 use Rattle.wild_image.proofs.buffer.add_sorted.Given as goal
 
 abbrev pub invariant-loop-entry : goal.invariant-loop-entry

@@ -1,10 +1,4 @@
-use Rattle.std.proofs.Common.{◌≡◌, ◌∙◌, true, sym, ap, subst}
-use Rattle.std.proofs.lemmas.Result.{on_ok_weaker}
-use Rattle.wild_types.specs.Lookups.{is_read, is_frame}
-use Rattle.wild_placement.specs.PlacedInputs.{PlacedContent, inputs}
-use Rattle.wild_layout.specs.SectionPlaces.{SectionLies}
-use Rattle.wild_image.specs.Placed.{IsWhole, HasOrigins, PlacedApart}
-use Rattle.wild_image.specs.Append.{IsOfKind}
+use Rattle.wild_image.proofs.Common.{◌≡◌, ◌∙◌, true, sym, ap, subst, on_ok_weaker, is_read, is_frame, PlacedContent, inputs, SectionLies, IsWhole, HasOrigins, PlacedApart, IsOfKind}
 use Rattle.wild_image.proofs.PlacedLemmas.{sorted_whole, sorted_apart, sorted_kind, sorted_origins, sorted_plain, one_stands}
 use Rattle.wild_image.proofs.buffer.add_sorted_section.Goals as goal
 

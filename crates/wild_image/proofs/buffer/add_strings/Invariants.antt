@@ -1,5 +1,4 @@
-use Rattle.std.proofs.Common.{◌≡◌, ◌++◌, List, ℕ, take}
-use Rattle.std.specs.List.{flat_map}
+use Rattle.wild_image.proofs.Common.{◌≡◌, ◌++◌, List, ℕ, take, flat_map}
 use Rattle.wild_image.proofs.buffer.add_strings.Given as goal
 
 abbrev pub invariant-loop-string : goal.invariant-loop-string

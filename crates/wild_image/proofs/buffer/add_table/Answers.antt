@@ -1,9 +1,6 @@
-use Rattle.std.proofs.Common.{arith, ap, List, ℕ, ◌++◌, sym, ◌∙◌}
-use Rattle.std.proofs.lemmas.List.{nil_from_length}
-use Rattle.std.proofs.lemmas.Result.{on_ok_weaker}
+use Rattle.wild_image.proofs.Common.{arith, ap, List, ℕ, ◌++◌, sym, ◌∙◌, nil_from_length, on_ok_weaker, table_given}
 use Rattle.wild_types.specs.declared.part.Role.TheVariants as role
 use Rattle.wild_contents.proofs.FileTableLemmas.{none_added}
-use Rattle.wild_image.specs.Pieces.{table_given}
 use Rattle.wild_image.proofs.TableLemmas.{written_is, part_written, given_whole, role_written}
 use Rattle.wild_image.proofs.buffer.add_table.Goals as goal
 

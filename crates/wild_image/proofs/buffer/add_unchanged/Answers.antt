@@ -1,8 +1,6 @@
-use Rattle.std.proofs.Common.{List, length, All, sym, subst}
+use Rattle.wild_image.proofs.Common.{List, length, All, sym, subst, FieldLies, MovesApart}
 use Rattle.wild_types.specs.declared.input.InputRelocation.{InputRelocation}
 use Rattle.wild_types.specs.Item.{Item, item_now}
-use Rattle.wild_layout.specs.SectionPlaces.{FieldLies}
-use Rattle.wild_layout.specs.Sites.{MovesApart}
 use Rattle.wild_image.proofs.UnchangedLemmas.{unchanged_parts, unchanged_lie, unchanged_moves}
 use Rattle.wild_image.proofs.buffer.add_unchanged.Goals as goal
 

@@ -1,5 +1,4 @@
-use Rattle.std.proofs.Common.{◌≡◌, true, rules}
-use Rattle.wild_types.specs.Lookups.{is_filled}
+use Rattle.wild_image.proofs.Common.{◌≡◌, true, rules, is_filled}
 use Rattle.wild_image.proofs.buffer.add_unread.Goals as goal
 
 pub add_rela_or_group-requires-clause-long : goal.add_rela_or_group-requires-clause-long

@@ -1,12 +1,6 @@
-use Rattle.std.proofs.Common.{[], sym, ap, ◌∙◌}
-use Rattle.std.proofs.lemmas.List.{take_all}
-use Rattle.std.proofs.lemmas.Result.{err_from_is_err_and}
-use Rattle.std.specs.List.{flat_map}
-use Rattle.wild_layout.specs.Faults.{flat_map_from, group_errors}
-use Rattle.wild_image.specs.Pieces.{group_tables, group_files}
+use Rattle.wild_image.proofs.Common.{[], sym, ap, ◌∙◌, take_all, err_from_is_err_and, flat_map, flat_map_from, group_errors, group_tables, group_files, GivesItsShares}
 use Rattle.wild_sections.proofs.FaultLemmas.{none_behind, refuses_behind}
 use Rattle.wild_image.proofs.OwnedLemmas.{bytes_read}
-use Rattle.wild_image.specs.Append.{GivesItsShares}
 use Rattle.wild_image.proofs.AppendLemmas.{lies_read}
 use Rattle.wild_image.proofs.TableLemmas.{none_told, gives_nothing}
 use Rattle.wild_image.proofs.PlacedLemmas.{table_of_all}

@@ -1,7 +1,4 @@
-use Rattle.std.proofs.Common.{◌≡◌, [], take}
-use Rattle.std.specs.List.{flat_map}
-use Rattle.wild_layout.specs.Faults.{flat_map_from, group_errors}
-use Rattle.wild_image.specs.Pieces.{group_tables, group_files}
+use Rattle.wild_image.proofs.Common.{◌≡◌, [], take, flat_map, flat_map_from, group_errors, group_tables, group_files}
 use Rattle.wild_image.proofs.buffer.bytes_of_batch.Given as goal
 
 abbrev pub invariant-loop-i : goal.invariant-loop-i

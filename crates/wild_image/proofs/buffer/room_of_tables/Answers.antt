@@ -1,5 +1,4 @@
-use Rattle.std.proofs.Common.{◌≤◌, length, ap, arith, rules}
-use Rattle.std.proofs.lemmas.Option.{slice_get_within}
+use Rattle.wild_image.proofs.Common.{◌≤◌, length, ap, arith, rules, slice_get_within}
 use Rattle.wild_image.proofs.AppendLemmas.{read_at}
 use Rattle.wild_image.proofs.TableLemmas.{nothing_more, others_give_nothing}
 use Rattle.wild_image.proofs.buffer.room_of_tables.Goals as goal

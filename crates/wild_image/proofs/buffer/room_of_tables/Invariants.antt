@@ -1,8 +1,4 @@
-use Rattle.std.proofs.Common.{◌≡◌, ℕ, ◌<◌}
-use Rattle.std.specs.Prelude.{Some, slice_get}
-use Rattle.wild_types.specs.declared.part.Part.{Part}
-use Rattle.wild_types.specs.FilePlaces.{given}
-use Rattle.wild_types.specs.Lists.{total}
+use Rattle.wild_image.proofs.Common.{◌≡◌, ℕ, ◌<◌, Some, slice_get, Part, given, total}
 use Rattle.wild_image.specs.Pieces.{written}
 use Rattle.wild_image.proofs.buffer.room_of_tables.Given as goal
 

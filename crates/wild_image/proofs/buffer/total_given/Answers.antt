@@ -1,7 +1,4 @@
-use Rattle.std.proofs.Common.{◌≡◌, ◌∙◌, ap, sym, arith}
-use Rattle.std.proofs.lemmas.List.{take_all}
-use Rattle.wild_types.specs.FilePlaces.{given}
-use Rattle.wild_types.specs.Lists.{total}
+use Rattle.wild_image.proofs.Common.{◌≡◌, ◌∙◌, ap, sym, arith, take_all, given, total}
 use Rattle.wild_image.proofs.TableLemmas.{none_more}
 use Rattle.wild_image.proofs.buffer.total_given.Goals as goal
 

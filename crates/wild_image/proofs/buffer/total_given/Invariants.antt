@@ -1,6 +1,4 @@
-use Rattle.std.proofs.Common.{◌≡◌, take}
-use Rattle.wild_types.specs.Lists.{total}
-use Rattle.wild_types.specs.FilePlaces.{given}
+use Rattle.wild_image.proofs.Common.{◌≡◌, take, total, given}
 use Rattle.wild_image.proofs.buffer.total_given.Given as goal
 
 abbrev pub invariant-loop-group : goal.invariant-loop-group

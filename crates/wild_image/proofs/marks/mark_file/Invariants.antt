@@ -1,8 +1,5 @@
-use Rattle.std.proofs.Common.{take}
-use Rattle.std.specs.List.{list_any}
-use Rattle.wild_types.specs.FileThunks.{thunks_of}
+use Rattle.wild_image.proofs.Common.{take, list_any, thunks_of, Marks}
 use Rattle.wild_layout.specs.Image.{thunk_owns}
-use Rattle.wild_image.specs.Padding.{Marks}
 use Rattle.wild_image.proofs.marks.mark_file.Given as goal
 
 abbrev pub invariant-loop-thunk : goal.invariant-loop-thunk

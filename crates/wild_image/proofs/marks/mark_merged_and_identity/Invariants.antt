@@ -1,8 +1,6 @@
-use Rattle.std.proofs.Common.{take}
-use Rattle.std.specs.List.{list_any}
+use Rattle.wild_image.proofs.Common.{take, list_any, merged_bytes, Marks}
 use Rattle.wild_types.specs.declared.layout.Merged.{Merged}
-use Rattle.wild_layout.specs.Image.{front_owns, merged_bytes}
-use Rattle.wild_image.specs.Padding.{Marks}
+use Rattle.wild_layout.specs.Image.{front_owns}
 use Rattle.wild_image.proofs.marks.mark_merged_and_identity.Given as goal
 
 abbrev pub invariant-loop-merged : goal.invariant-loop-merged

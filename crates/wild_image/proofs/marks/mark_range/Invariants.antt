@@ -1,5 +1,4 @@
-use Rattle.std.proofs.Common.{◌&&◌, nat_le, nat_lt}
-use Rattle.wild_image.specs.Padding.{Marks}
+use Rattle.wild_image.proofs.Common.{◌&&◌, nat_le, nat_lt, Marks}
 use Rattle.wild_image.proofs.marks.mark_range.Given as goal
 
 abbrev pub invariant-loop-k : goal.invariant-loop-k

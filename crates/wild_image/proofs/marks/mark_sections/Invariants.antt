@@ -1,7 +1,5 @@
-use Rattle.std.proofs.Common.{take}
-use Rattle.std.specs.List.{list_any}
+use Rattle.wild_image.proofs.Common.{take, list_any, Marks}
 use Rattle.wild_layout.specs.Image.{section_owns}
-use Rattle.wild_image.specs.Padding.{Marks}
 use Rattle.wild_image.proofs.marks.mark_sections.Given as goal
 
 abbrev pub invariant-loop-section : goal.invariant-loop-section

@@ -1,6 +1,4 @@
-use Rattle.std.proofs.Common.{◌≡◌, ◌-◌, ◌^◌, ℕ, List, length, take}
-use Rattle.std.specs.Prelude.{min}
-use Rattle.std.specs.List.{flat_map}
+use Rattle.wild_image.proofs.Common.{◌≡◌, ◌-◌, ◌^◌, ℕ, List, length, take, min, flat_map}
 use Rattle.wild_image.proofs.marks.strings_size.Given as goal
 
 abbrev pub invariant-loop-string : goal.invariant-loop-string

@@ -1,10 +1,4 @@
-use Rattle.std.proofs.Common.{◌≡◌, length, sym, ◌∙◌, arith, rules, subst}
-use Rattle.std.specs.Prelude.{min}
-use Rattle.std.proofs.lemmas.List.{take_at}
-use Rattle.std.proofs.lemmas.Result.{err_from_is_err_and}
-use Rattle.wild_types.specs.Lookups.{image_size}
-use Rattle.wild_layout.specs.Faults.{group_errors}
-use Rattle.wild_geometry.specs.OwnedBytes.{IsPadded}
+use Rattle.wild_image.proofs.Common.{◌≡◌, length, sym, ◌∙◌, arith, rules, subst, min, take_at, err_from_is_err_and, image_size, group_errors, IsPadded}
 use Rattle.wild_image.proofs.StandingLemmas.{each_file_lies}
 use Rattle.wild_image.proofs.BatchLemmas.{cut_of, joined}
 use Rattle.wild_image.proofs.OutputLemmas.{prefix_of_batches, batches_refused}

@@ -1,8 +1,4 @@
-use Rattle.std.proofs.Common.{subst, List}
-use Rattle.std.proofs.lemmas.Result.{err_from_is_err_and}
-use Rattle.wild_types.specs.declared.fault.Error.{Error}
-use Rattle.wild_types.specs.Faults.{Answers}
-use Rattle.wild_plan_rules.specs.WellFormed.{first_clause}
+use Rattle.wild_image.proofs.Common.{subst, List, err_from_is_err_and, Error, Answers, first_clause}
 use Rattle.wild_layout.proofs.FaultLemmas.{clause_holds}
 use Rattle.wild_image.proofs.JobLemmas.{few_groups}
 use Rattle.wild_image.proofs.OutputLemmas.{file_trailer_errors, few_relocations, clause_refused, share_refused, bytes_fit}

@@ -1,13 +1,7 @@
-use Rattle.std.proofs.Common.{◌≡◌, ℕ, List, [], ◌<◌, ◌^◌, length, ap, arith, subst, sym}
+use Rattle.wild_image.proofs.Common.{◌≡◌, ℕ, List, [], ◌<◌, ◌^◌, length, ap, arith, subst, sym, Group, Layout, relocation_count, flat_map_from, part_errors, IsLaidOut, Batch, AreBatches, pairs_at}
 use Rattle.wild_crew.specs.FinalCore.{AreTotals}
 use Rattle.wild_types.specs.declared.part.Role.TheVariants as role
-use Rattle.wild_types.specs.declared.file.Group.{Group}
-use Rattle.wild_types.specs.declared.layout.Layout.{Layout}
-use Rattle.wild_plan_rules.specs.Places.{relocation_count}
-use Rattle.wild_layout.specs.Faults.{flat_map_from, part_errors}
-use Rattle.wild_layout.specs.Geometry.{IsLaidOut}
-use Rattle.wild_image.specs.declared.batch.Batch.{Batch}
-use Rattle.wild_image.specs.Batches.{AreBatches, GivesBatch, pairs_at}
+use Rattle.wild_image.specs.Batches.{GivesBatch}
 use Rattle.wild_image.specs.LayoutFacts.{AreFactsOf}
 use Rattle.wild_image.proofs.OutputLemmas.{FieldsFit-IsLaidOut, role_address}
 use Rattle.wild_image.proofs.GatherLemmas.{pairs_below, sums_fit, totals_are}

@@ -1,4 +1,4 @@
-use Rattle.std.proofs.Common.{◌≡◌, ℕ, ◌<◌, ◌≤◌, true}
+use Rattle.wild_image.proofs.Common.{◌≡◌, ℕ, ◌<◌, ◌≤◌, true}
 use Rattle.wild_image.specs.Padding.{is_taken}
 use Rattle.wild_image.proofs.padding.are_taken.Given as goal
 

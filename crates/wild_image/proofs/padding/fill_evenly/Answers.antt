@@ -1,5 +1,5 @@
-use Rattle.std.proofs.Common.{◌≡◌, ℕ, ◌-◌, length, take, drop, replicate, arith, rules, ap, ◌∙◌}
-use Rattle.std.proofs.lemmas.List.{length-drop, length-take-le}
+use Rattle.wild_image.proofs.Common.{◌≡◌, ℕ, ◌-◌, length, take, drop, replicate, arith, rules, ap, ◌∙◌, length-take-le}
+use Rattle.std.proofs.lemmas.List.{length-drop}
 use Rattle.wild_image.proofs.PaddingLemmas.{range_filled}
 use Rattle.wild_image.proofs.padding.fill_evenly.Goals as goal
 

@@ -1,5 +1,4 @@
-use Rattle.std.proofs.Common.{◌+◌, ◌<◌, ◌≤◌, true, false, length, arith, ◌∙◌}
-use Rattle.std.proofs.lemmas.List.{get_or_default}
+use Rattle.wild_image.proofs.Common.{◌+◌, ◌<◌, ◌≤◌, true, false, length, arith, ◌∙◌, get_or_default}
 use Rattle.wild_image.proofs.PaddingLemmas.{fills_taken, fills_past, fills_free}
 use Rattle.wild_image.proofs.padding.fill_range.Goals.{then-taken-k, else-taken-k}
 use Rattle.wild_image.proofs.padding.fill_range.Goals as goal

@@ -1,4 +1,4 @@
-use Rattle.std.proofs.Common.{◌≡◌, ◌≤◌, ◌-◌}
+use Rattle.wild_image.proofs.Common.{◌≡◌, ◌≤◌, ◌-◌}
 use Rattle.wild_layout.specs.Image.{run}
 use Rattle.wild_image.specs.Padding.{free, Fills}
 use Rattle.wild_image.proofs.padding.fill_range.Given as goal

@@ -1,6 +1,4 @@
-use Rattle.std.proofs.Common.{◌≡◌, ℕ, List, true, rules, ap}
-use Rattle.std.specs.Prelude.{slice_index}
-use Rattle.wild_types.specs.Lookups.{fills_file}
+use Rattle.wild_image.proofs.Common.{◌≡◌, ℕ, List, true, rules, ap, slice_index, fills_file}
 use Rattle.wild_image.proofs.PaddingLemmas.{section_covered}
 use Rattle.wild_image.proofs.padding.fill_whole_section.Goals as goal
 

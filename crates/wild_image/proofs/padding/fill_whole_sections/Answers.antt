@@ -1,4 +1,4 @@
-use Rattle.std.proofs.Common.{List, ◌-◌, length, drop, get_or, arith, ap, ◌∙◌}
+use Rattle.wild_image.proofs.Common.{List, ◌-◌, length, drop, get_or, arith, ap, ◌∙◌}
 use Rattle.wild_types.specs.declared.section.Section.{Section}
 use Rattle.wild_image.proofs.PaddingLemmas.{fills_from_end, fills_from_before, filled_whole}
 use Rattle.wild_image.proofs.padding.fill_whole_sections.Goals as goal

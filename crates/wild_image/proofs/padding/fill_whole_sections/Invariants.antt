@@ -1,4 +1,4 @@
-use Rattle.std.proofs.Common.{drop}
+use Rattle.wild_image.proofs.Common.{drop}
 use Rattle.wild_image.proofs.PaddingLemmas.{FillsFrom}
 use Rattle.wild_image.proofs.padding.fill_whole_sections.Given as goal
 

@@ -1,5 +1,4 @@
-use Rattle.std.proofs.Common.{◌≡◌, drop}
-use Rattle.std.specs.List.{list_all}
+use Rattle.wild_image.proofs.Common.{◌≡◌, drop, list_all}
 use Rattle.wild_image.specs.Padding.{fills_evenly, has_even_fillings}
 use Rattle.wild_image.proofs.padding.has_even_fillings.Given as goal
 

@@ -1,8 +1,4 @@
-use Rattle.std.proofs.Common.{◌≡◌, ℕ, length, arith, rules, sym, subst}
-use Rattle.std.specs.Prelude.{min}
-use Rattle.std.proofs.lemmas.List.{take_at}
-use Rattle.wild_types.specs.Lookups.{image_size}
-use Rattle.wild_geometry.specs.OwnedBytes.{IsPadded}
+use Rattle.wild_image.proofs.Common.{◌≡◌, ℕ, length, arith, rules, sym, subst, min, take_at, image_size, IsPadded}
 use Rattle.wild_image.proofs.padding.padded_prefix.Goals as goal
 
 pub returns : goal.returns

@@ -1,7 +1,6 @@
 use Rattle.wild_contents.specs.VersionCounts.{NeedsFit}
-use Rattle.wild_image.specs.Append.{GroupStands}
+use Rattle.wild_image.proofs.Common.{GroupStands, holds_at}
 use Rattle.wild_contents.proofs.VersionLemmas.{needs_fit}
-use Rattle.wild_words.proofs.ListLemmas.{holds_at}
 use Rattle.wild_image.proofs.StandingLemmas.{each_stands}
 use Rattle.wild_image.proofs.TableLemmas.{gives_its_shares}
 use Rattle.wild_image.proofs.piece.group_bytes.Goals as goal

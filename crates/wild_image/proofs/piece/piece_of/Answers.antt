@@ -1,8 +1,4 @@
-use Rattle.std.proofs.Common.{arith}
-use Rattle.std.specs.Prelude.{All}
-use Rattle.wild_types.specs.declared.file.Group.{Group}
-use Rattle.wild_image.specs.Append.{FileLies}
-use Rattle.wild_words.proofs.ListLemmas.{holds_at}
+use Rattle.wild_image.proofs.Common.{arith, All, Group, FileLies, holds_at}
 use Rattle.wild_image.proofs.GatherLemmas.{section_below}
 use Rattle.wild_image.proofs.StandingLemmas.{each_file_lies}
 use Rattle.wild_image.proofs.TableLemmas.{gives_its_shares}

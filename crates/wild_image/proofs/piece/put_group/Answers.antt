@@ -1,9 +1,4 @@
-use Rattle.std.proofs.Common.{◌≡◌, [], get_or, arith, rules, subst, sym}
-use Rattle.std.specs.Prelude.{All}
-use Rattle.std.proofs.lemmas.Option.{slice_get_within}
-use Rattle.wild_types.specs.declared.file.Group.{Group}
-use Rattle.wild_image.specs.Append.{FileLies, HasStarts}
-use Rattle.wild_words.proofs.ListLemmas.{holds_at}
+use Rattle.wild_image.proofs.Common.{◌≡◌, [], get_or, arith, rules, subst, sym, All, slice_get_within, Group, FileLies, HasStarts, holds_at}
 use Rattle.wild_image.proofs.OutputLemmas.{group_written}
 use Rattle.wild_image.proofs.PlacedLemmas.{table_of_all}
 use Rattle.wild_image.proofs.StandingLemmas.{each_file_lies}

@@ -1,10 +1,5 @@
-use Rattle.std.proofs.Common.{◌≡◌, [], length, rules, subst, sym}
-use Rattle.std.specs.Prelude.{slice_get, Some}
-use Rattle.std.proofs.lemmas.Option.{slice_get_read}
+use Rattle.wild_image.proofs.Common.{◌≡◌, [], length, rules, subst, sym, slice_get, Some, slice_get_read, Layout, flat_map_from, part_errors, IsLaidOut}
 use Rattle.wild_types.specs.declared.part.Role.TheVariants as role
-use Rattle.wild_types.specs.declared.layout.Layout.{Layout}
-use Rattle.wild_layout.specs.Faults.{flat_map_from, part_errors}
-use Rattle.wild_layout.specs.Geometry.{IsLaidOut}
 use Rattle.wild_image.specs.Jobs.{GivesPiece}
 use Rattle.wild_image.proofs.OutputLemmas.{FieldsFit-IsLaidOut, role_address}
 use Rattle.wild_image.proofs.JobLemmas.{piece_found}

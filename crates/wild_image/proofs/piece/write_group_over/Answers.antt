@@ -1,8 +1,4 @@
-use Rattle.std.proofs.Common.{◌≡◌, [], length, rules, sym, subst}
-use Rattle.std.specs.Prelude.{slice_get, Some}
-use Rattle.std.proofs.lemmas.Option.{slice_get_read}
-use Rattle.wild_types.specs.declared.layout.Layout.{Layout}
-use Rattle.wild_layout.specs.Faults.{flat_map_from, part_errors}
+use Rattle.wild_image.proofs.Common.{◌≡◌, [], length, rules, sym, subst, slice_get, Some, slice_get_read, Layout, flat_map_from, part_errors}
 use Rattle.wild_image.specs.Jobs.{PutsPieces}
 use Rattle.wild_image.specs.Prepared.{IsPrepared}
 use Rattle.wild_image.proofs.OutputLemmas.{FieldsFit-IsLaidOut}

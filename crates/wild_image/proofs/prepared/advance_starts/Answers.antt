@@ -1,4 +1,4 @@
-use Rattle.std.proofs.Common.{ap, length, arith}
+use Rattle.wild_image.proofs.Common.{ap, length, arith}
 use Rattle.wild_image.proofs.AppendLemmas.{read_at}
 use Rattle.wild_image.proofs.ChangedLemmas.{not_changed}
 use Rattle.wild_image.proofs.TableLemmas.{start_fits, start_more, start_read, starts_more, starts_moved}

@@ -1,4 +1,4 @@
-use Rattle.std.proofs.Common.{rules}
+use Rattle.wild_image.proofs.Common.{rules}
 use Rattle.wild_image.proofs.TableLemmas.{starts_at_first}
 use Rattle.wild_image.proofs.prepared.group_starts.Goals as goal
 

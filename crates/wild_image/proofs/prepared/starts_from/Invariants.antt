@@ -1,6 +1,4 @@
-use Rattle.std.proofs.Common.{◌≡◌, ℕ, ◌<◌, [], length}
-use Rattle.std.specs.Prelude.{slice_index_or}
-use Rattle.wild_image.specs.Append.{HasStarts}
+use Rattle.wild_image.proofs.Common.{◌≡◌, ℕ, ◌<◌, [], length, slice_index_or, HasStarts}
 use Rattle.wild_image.proofs.prepared.starts_from.Given as goal
 
 abbrev pub invariant-loop-j : goal.invariant-loop-j

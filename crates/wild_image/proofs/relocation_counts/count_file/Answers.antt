@@ -1,4 +1,4 @@
-use Rattle.wild_image.specs.Pieces.{section_pairs}
+use Rattle.wild_image.proofs.Common.{section_pairs}
 use Rattle.wild_image.proofs.PairLemmas.{pairs_on}
 use Rattle.wild_image.proofs.relocation_counts.count_file.Goals as goal
 

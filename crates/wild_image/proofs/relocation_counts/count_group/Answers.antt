@@ -1,4 +1,4 @@
-use Rattle.wild_image.specs.Pieces.{file_pairs}
+use Rattle.wild_image.proofs.Common.{file_pairs}
 use Rattle.wild_image.proofs.PairLemmas.{pairs_on}
 use Rattle.wild_image.proofs.relocation_counts.count_group.Goals as goal
 

@@ -1,7 +1,4 @@
-use Rattle.std.proofs.Common.{◌≡◌, take}
-use Rattle.std.specs.List.{flat_map}
-use Rattle.wild_image.specs.RelocationCounts.{with_pairs}
-use Rattle.wild_image.specs.Pieces.{file_pairs}
+use Rattle.wild_image.proofs.Common.{◌≡◌, take, flat_map, with_pairs, file_pairs}
 use Rattle.wild_image.proofs.relocation_counts.count_group.Given as goal
 
 abbrev pub invariant-loop-file : goal.invariant-loop-file

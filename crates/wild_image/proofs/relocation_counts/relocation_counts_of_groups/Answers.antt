@@ -1,5 +1,4 @@
-use Rattle.std.proofs.Common.{true, [], refl}
-use Rattle.wild_image.specs.Pieces.{group_pairs}
+use Rattle.wild_image.proofs.Common.{true, [], refl, group_pairs}
 use Rattle.wild_image.proofs.PairLemmas.{pairs_on}
 use Rattle.wild_image.proofs.relocation_counts.relocation_counts_of_groups.Goals as goal
 

@@ -1,7 +1,4 @@
-use Rattle.std.proofs.Common.{◌≡◌, true, [], take}
-use Rattle.std.specs.List.{flat_map}
-use Rattle.wild_image.specs.RelocationCounts.{with_pairs}
-use Rattle.wild_image.specs.Pieces.{group_pairs}
+use Rattle.wild_image.proofs.Common.{◌≡◌, true, [], take, flat_map, with_pairs, group_pairs}
 use Rattle.wild_image.proofs.relocation_counts.relocation_counts_of_groups.Given as goal
 
 abbrev pub invariant-loop-group : goal.invariant-loop-group

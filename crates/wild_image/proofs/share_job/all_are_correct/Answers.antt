@@ -1,5 +1,4 @@
-use Rattle.std.proofs.Common.{arith}
-use Rattle.std.proofs.lemmas.Option.{slice_get_within}
+use Rattle.wild_image.proofs.Common.{arith, slice_get_within}
 use Rattle.wild_image.proofs.share_job.all_are_correct.Goals as goal
 
 pub returns : goal.returns

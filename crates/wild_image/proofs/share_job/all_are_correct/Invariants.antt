@@ -1,6 +1,4 @@
-use Rattle.std.proofs.Common.{◌≡◌, ℕ, ◌<◌, true}
-use Rattle.std.specs.Prelude.{Some, slice_get}
-use Rattle.wild_image.specs.declared.share_job.ShareCheck.{ShareCheck}
+use Rattle.wild_image.proofs.Common.{◌≡◌, ℕ, ◌<◌, true, Some, slice_get, ShareCheck}
 use Rattle.wild_image.proofs.share_job.all_are_correct.Given as goal
 
 abbrev pub invariant-loop-check : goal.invariant-loop-check

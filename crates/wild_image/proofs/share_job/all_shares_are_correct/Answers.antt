@@ -1,9 +1,4 @@
-use Rattle.std.proofs.Common.{◌≡◌, ℕ, true, List, length, ap, arith, subst, sym}
-use Rattle.std.specs.Prelude.{Some, slice_get}
-use Rattle.wild_types.specs.declared.file.Group.{Group}
-use Rattle.wild_image.specs.declared.batch.Batch.{Batch}
-use Rattle.wild_image.specs.declared.share_job.ShareCheck.{ShareCheck}
-use Rattle.wild_image.specs.Batches.{AreBatches}
+use Rattle.wild_image.proofs.Common.{◌≡◌, ℕ, true, List, length, ap, arith, subst, sym, Some, slice_get, Group, Batch, ShareCheck, AreBatches}
 use Rattle.wild_image.proofs.ShareLemmas.{checked_shares}
 use Rattle.wild_image.proofs.share_job.all_shares_are_correct.Goals as goal
 

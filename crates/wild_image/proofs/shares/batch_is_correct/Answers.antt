@@ -1,7 +1,4 @@
-use Rattle.std.proofs.Common.{◌≡◌, ◌+◌, true, refl, arith, rules, subst}
-use Rattle.std.proofs.lemmas.Option.{slice_get_within}
-use Rattle.wild_types.specs.declared.file.Group.{Group}
-use Rattle.wild_image.specs.Steps.{HasCorrectShares}
+use Rattle.wild_image.proofs.Common.{◌≡◌, ◌+◌, true, refl, arith, rules, subst, slice_get_within, Group, HasCorrectShares}
 use Rattle.wild_image.proofs.AppendLemmas.{read_at}
 use Rattle.wild_image.proofs.PlainLemmas.{item_more}
 use Rattle.wild_image.proofs.shares.batch_is_correct.Goals as goal

@@ -1,7 +1,4 @@
-use Rattle.std.proofs.Common.{◌≡◌, ℕ, ◌+◌, ◌<◌}
-use Rattle.std.specs.Prelude.{Some, slice_get}
-use Rattle.wild_types.specs.declared.file.Group.{Group}
-use Rattle.wild_image.specs.Steps.{HasCorrectShares}
+use Rattle.wild_image.proofs.Common.{◌≡◌, ℕ, ◌+◌, ◌<◌, Some, slice_get, Group, HasCorrectShares}
 use Rattle.wild_image.proofs.shares.batch_is_correct.Given as goal
 
 abbrev pub invariant-loop-i : goal.invariant-loop-i

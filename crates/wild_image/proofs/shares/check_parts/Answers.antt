@@ -1,5 +1,4 @@
-use Rattle.std.proofs.lemmas.Result.{err_from_is_err_and}
-use Rattle.wild_image.specs.Steps.{part_faults}
+use Rattle.wild_image.proofs.Common.{err_from_is_err_and, part_faults}
 use Rattle.wild_sections.proofs.FaultLemmas.{none_from, refuses_from}
 use Rattle.wild_image.proofs.shares.check_parts.Goals as goal
 

@@ -1,6 +1,4 @@
-use Rattle.std.proofs.Common.{◌≡◌, [], take}
-use Rattle.wild_layout.specs.Faults.{flat_map_from}
-use Rattle.wild_image.specs.Steps.{part_faults}
+use Rattle.wild_image.proofs.Common.{◌≡◌, [], take, flat_map_from, part_faults}
 use Rattle.wild_image.proofs.shares.check_parts.Given as goal
 
 abbrev pub invariant-loop-i : goal.invariant-loop-i

@@ -1,6 +1,4 @@
-use Rattle.std.proofs.Common.{sym, ap, ◌∙◌, List, option_copied}
-use Rattle.std.specs.Prelude.{slice_get}
-use Rattle.wild_types.specs.declared.file.Group.{Group}
+use Rattle.wild_image.proofs.Common.{sym, ap, ◌∙◌, List, option_copied, slice_get, Group}
 use Rattle.wild_image.proofs.PlainLemmas.{others_have_none}
 use Rattle.wild_image.proofs.shares.first_has_all.Goals as goal
 

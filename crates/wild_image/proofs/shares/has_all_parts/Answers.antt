@@ -1,7 +1,4 @@
-use Rattle.std.proofs.Common.{◌≡◌, true, length, ap, sym, ◌∙◌, arith, rules, subst}
-use Rattle.std.proofs.lemmas.Option.{slice_get_within}
-use Rattle.wild_types.specs.declared.part.Part.{Part}
-use Rattle.wild_image.specs.Steps.{has_all}
+use Rattle.wild_image.proofs.Common.{◌≡◌, true, length, ap, sym, ◌∙◌, arith, rules, subst, slice_get_within, Part, has_all}
 use Rattle.wild_image.proofs.PlainLemmas.{all_more}
 use Rattle.wild_image.proofs.shares.has_all_parts.Goals as goal
 

@@ -1,4 +1,4 @@
-use Rattle.std.proofs.Common.{rules, sym, ◌∙◌}
+use Rattle.wild_image.proofs.Common.{rules, sym, ◌∙◌}
 use Rattle.wild_image.proofs.PlainLemmas.{share_raw, share_plain}
 use Rattle.wild_image.proofs.shares.share_is_correct.Goals as goal
 

@@ -1,7 +1,4 @@
-use Rattle.std.proofs.Common.{◌≡◌, ◌≤◌, true, [], length, ap, arith, rules, subst}
-use Rattle.std.proofs.lemmas.Option.{slice_get_within}
-use Rattle.wild_types.specs.declared.part.Part.{Part}
-use Rattle.wild_image.specs.Steps.{share_faults}
+use Rattle.wild_image.proofs.Common.{◌≡◌, ◌≤◌, true, [], length, ap, arith, rules, subst, slice_get_within, Part, share_faults}
 use Rattle.wild_image.proofs.AppendLemmas.{read_at}
 use Rattle.wild_image.proofs.PlainLemmas.{others_plain, share_more}
 use Rattle.wild_image.proofs.shares.shares_are_correct.Goals as goal

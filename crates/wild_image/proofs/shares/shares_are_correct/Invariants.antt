@@ -1,7 +1,4 @@
-use Rattle.std.proofs.Common.{◌≡◌, ℕ, ◌<◌, []}
-use Rattle.std.specs.Prelude.{Some, slice_get}
-use Rattle.wild_types.specs.declared.part.Part.{Part}
-use Rattle.wild_image.specs.Steps.{share_faults}
+use Rattle.wild_image.proofs.Common.{◌≡◌, ℕ, ◌<◌, [], Some, slice_get, Part, share_faults}
 use Rattle.wild_image.proofs.shares.shares_are_correct.Given as goal
 
 abbrev pub invariant-loop-i : goal.invariant-loop-i

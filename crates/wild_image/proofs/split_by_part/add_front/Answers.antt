@@ -1,5 +1,4 @@
-use Rattle.std.proofs.Common.{List, ℕ, ◌++◌, [], get_or, sym, ap, ◌∙◌}
-use Rattle.std.proofs.lemmas.Result.{on_ok_weaker}
+use Rattle.wild_image.proofs.Common.{List, ℕ, ◌++◌, [], get_or, sym, ap, ◌∙◌, on_ok_weaker}
 use Rattle.wild_image.proofs.FrontLemmas.{writes_some, writes_part}
 use Rattle.wild_image.proofs.OwnedLemmas.{front_none, front_written}
 use Rattle.wild_image.proofs.split_by_part.add_front.Goals as goal

@@ -1,4 +1,4 @@
-use Rattle.std.proofs.Common.{◌<◌, length, arith}
+use Rattle.wild_image.proofs.Common.{◌<◌, length, arith}
 use Rattle.wild_image.proofs.FrontLemmas.{front_part}
 use Rattle.wild_image.proofs.OwnedLemmas.{part_taken}
 use Rattle.wild_image.proofs.split_by_part.add_some.Goals as goal

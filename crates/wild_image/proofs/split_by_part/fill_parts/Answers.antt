@@ -1,4 +1,4 @@
-use Rattle.std.proofs.Common.{length, ap, ◌∙◌}
+use Rattle.wild_image.proofs.Common.{length, ap, ◌∙◌}
 use Rattle.std.proofs.lemmas.List.{length-map}
 use Rattle.wild_image.proofs.OwnedLemmas.{parts_are}
 use Rattle.wild_image.proofs.split_by_part.fill_parts.Goals as goal

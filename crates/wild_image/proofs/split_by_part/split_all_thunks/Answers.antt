@@ -1,5 +1,4 @@
-use Rattle.wild_layout.specs.Thunks.{thunk_bytes}
-use Rattle.wild_image.specs.Pieces.{thunk_in}
+use Rattle.wild_image.proofs.Common.{thunk_bytes, thunk_in}
 use Rattle.wild_image.proofs.AppendLemmas.{next_begins, stands_more}
 use Rattle.wild_image.proofs.OwnedLemmas.{owned_read}
 use Rattle.wild_image.proofs.split_by_part.split_all_thunks.Goals as goal

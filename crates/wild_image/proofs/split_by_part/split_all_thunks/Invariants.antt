@@ -1,7 +1,4 @@
-use Rattle.std.proofs.Common.{◌≡◌, [], ◌++◌, ℕ, ◌<◌, length, get_or, take}
-use Rattle.std.specs.List.{flat_map}
-use Rattle.wild_layout.specs.Thunks.{thunk_bytes}
-use Rattle.wild_image.specs.Pieces.{thunk_in}
+use Rattle.wild_image.proofs.Common.{◌≡◌, [], ◌++◌, ℕ, ◌<◌, length, get_or, take, flat_map, thunk_bytes, thunk_in}
 use Rattle.wild_image.proofs.AppendLemmas.{IsPlacedAfter}
 use Rattle.wild_image.proofs.split_by_part.split_all_thunks.Given as goal
 

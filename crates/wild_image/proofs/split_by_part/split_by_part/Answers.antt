@@ -1,4 +1,4 @@
-use Rattle.std.proofs.Common.{◌∙◌}
+use Rattle.wild_image.proofs.Common.{◌∙◌}
 use Rattle.wild_image.proofs.AppendLemmas.{begins_all}
 use Rattle.wild_image.proofs.split_by_part.split_by_part.Goals as goal
 

@@ -1,6 +1,5 @@
-use Rattle.std.specs.Prelude.{◌++◌, ℕ}
-use Rattle.std.proofs.lemmas.Result.{IfOk-weaker}
-use Rattle.wild_image.specs.Pieces.{file_sections, trailer_bytes, sections_owned, trailer_in, thunks_in}
+use Rattle.wild_image.proofs.Common.{◌++◌, ℕ, IfOk-weaker, file_sections, trailer_bytes}
+use Rattle.wild_image.specs.Pieces.{sections_owned, trailer_in, thunks_in}
 use Rattle.wild_image.proofs.AppendLemmas.{thunks_written, both_begin, both_go_on, both_end}
 use Rattle.wild_image.proofs.OwnedLemmas.{owned_twice}
 use Rattle.wild_image.proofs.split_by_part.split_file.Goals as goal

@@ -1,6 +1,5 @@
-use Rattle.std.proofs.Common.{sym, subst}
-use Rattle.wild_image.specs.Pieces.{file_bytes, file_owned, group_files}
-use Rattle.wild_image.specs.Append.{FileLies}
+use Rattle.wild_image.proofs.Common.{sym, subst, file_bytes, group_files, FileLies}
+use Rattle.wild_image.specs.Pieces.{file_owned}
 use Rattle.wild_image.proofs.AppendLemmas.{next_begins, stands_more}
 use Rattle.wild_image.proofs.OwnedLemmas.{owned_read}
 use Rattle.wild_image.proofs.split_by_part.split_files.Goals as goal

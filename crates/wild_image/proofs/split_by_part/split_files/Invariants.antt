@@ -1,6 +1,5 @@
-use Rattle.std.proofs.Common.{◌≡◌, [], ◌++◌, ℕ, ◌<◌, length, get_or, take}
-use Rattle.std.specs.List.{flat_map}
-use Rattle.wild_image.specs.Pieces.{file_bytes, file_owned}
+use Rattle.wild_image.proofs.Common.{◌≡◌, [], ◌++◌, ℕ, ◌<◌, length, get_or, take, flat_map, file_bytes}
+use Rattle.wild_image.specs.Pieces.{file_owned}
 use Rattle.wild_image.proofs.AppendLemmas.{IsPlacedAfter}
 use Rattle.wild_image.proofs.split_by_part.split_files.Given as goal
 

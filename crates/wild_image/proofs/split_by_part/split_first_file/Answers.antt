@@ -1,5 +1,4 @@
-use Rattle.std.proofs.Common.{◌≡◌, true, rules}
-use Rattle.wild_types.specs.FileRoles.{is_prelude}
+use Rattle.wild_image.proofs.Common.{◌≡◌, true, rules, is_prelude}
 use Rattle.wild_image.proofs.split_by_part.split_first_file.Goals as goal
 
 pub split_merged_and_identity-requires-clause-merged : goal.split_merged_and_identity-requires-clause-merged

@@ -1,6 +1,4 @@
-use Rattle.std.proofs.Common.{◌∙◌, ◌++◌, [], List, ℕ, get_or, ap, sym, subst}
-use Rattle.wild_image.specs.Append.{SomeLies}
-use Rattle.wild_image.specs.Pieces.{front_in}
+use Rattle.wild_image.proofs.Common.{◌∙◌, ◌++◌, [], List, ℕ, get_or, ap, sym, subst, SomeLies, front_in}
 use Rattle.wild_image.proofs.AppendLemmas.{cut_off}
 use Rattle.wild_image.proofs.split_by_part.split_identity.Goals as goal
 

@@ -1,5 +1,4 @@
-use Rattle.std.proofs.Common.{◌≡◌, true, rules}
-use Rattle.wild_types.specs.FileRoles.{is_epilogue}
+use Rattle.wild_image.proofs.Common.{◌≡◌, true, rules, is_epilogue}
 use Rattle.wild_image.proofs.split_by_part.split_last_file.Goals as goal
 
 pub split_sorted-requires-clause-lies : goal.split_sorted-requires-clause-lies

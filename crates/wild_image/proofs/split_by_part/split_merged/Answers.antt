@@ -1,7 +1,4 @@
-use Rattle.std.proofs.Common.{◌∙◌, ◌++◌, [], List, ℕ, get_or, ap, sym, subst}
-use Rattle.wild_layout.specs.Image.{merged_bytes}
-use Rattle.wild_image.specs.Append.{SomeLies}
-use Rattle.wild_image.specs.Pieces.{front_in}
+use Rattle.wild_image.proofs.Common.{◌∙◌, ◌++◌, [], List, ℕ, get_or, ap, sym, subst, merged_bytes, SomeLies, front_in}
 use Rattle.wild_image.proofs.AppendLemmas.{cut_off}
 use Rattle.wild_image.proofs.split_by_part.split_merged.Goals as goal
 

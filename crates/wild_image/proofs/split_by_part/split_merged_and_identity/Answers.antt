@@ -1,8 +1,4 @@
-use Rattle.std.proofs.Common.{ℕ}
-use Rattle.std.specs.List.{flat_map}
-use Rattle.std.proofs.lemmas.Result.{IfOk-weaker}
-use Rattle.wild_layout.specs.Image.{merged_bytes}
-use Rattle.wild_image.specs.Pieces.{merged_in, front_in}
+use Rattle.wild_image.proofs.Common.{ℕ, flat_map, IfOk-weaker, merged_bytes, merged_in, front_in}
 use Rattle.wild_image.proofs.AppendLemmas.{both_begin, both_go_on, both_end}
 use Rattle.wild_image.proofs.OwnedLemmas.{owned_twice}
 use Rattle.wild_image.proofs.split_by_part.split_merged_and_identity.Goals as goal

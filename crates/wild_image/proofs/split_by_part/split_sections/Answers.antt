@@ -1,7 +1,4 @@
-use Rattle.std.proofs.Common.{◌≡◌, ◌+◌, ◌++◌, ◌<◌, ◌≤◌, ◌∙◌, [], ℕ, length, ap, arith, get_or}
-use Rattle.std.specs.Prelude.{List}
-use Rattle.wild_image.specs.Pieces.{ranged_owned, ranged_in}
-use Rattle.wild_image.specs.Append.{RangedLies}
+use Rattle.wild_image.proofs.Common.{◌≡◌, ◌+◌, ◌++◌, ◌<◌, ◌≤◌, ◌∙◌, [], ℕ, length, ap, arith, get_or, List, ranged_owned, ranged_in, RangedLies}
 use Rattle.wild_image.proofs.AppendLemmas.{next_begins, stands_more, lies_read, ranged_taken}
 use Rattle.wild_image.proofs.OwnedLemmas.{owned_read}
 use Rattle.wild_image.proofs.split_by_part.split_sections.Goals as goal

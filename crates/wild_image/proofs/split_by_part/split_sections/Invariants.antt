@@ -1,6 +1,4 @@
-use Rattle.std.proofs.Common.{◌≡◌, [], ◌++◌, ℕ, ◌<◌, length, get_or, take}
-use Rattle.std.specs.List.{flat_map}
-use Rattle.wild_image.specs.Pieces.{ranged_owned, ranged_in}
+use Rattle.wild_image.proofs.Common.{◌≡◌, [], ◌++◌, ℕ, ◌<◌, length, get_or, take, flat_map, ranged_owned, ranged_in}
 use Rattle.wild_image.proofs.AppendLemmas.{IsPlacedAfter}
 use Rattle.wild_image.proofs.split_by_part.split_sections.Given as goal
 

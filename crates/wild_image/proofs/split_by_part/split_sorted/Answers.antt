@@ -1,5 +1,4 @@
-use Rattle.wild_image.specs.Pieces.{sorted_owned, sorted_in}
-use Rattle.wild_image.specs.Append.{SortedLies}
+use Rattle.wild_image.proofs.Common.{sorted_owned, sorted_in, SortedLies}
 use Rattle.wild_image.proofs.AppendLemmas.{lies_at, begins_at, stands_at}
 use Rattle.wild_image.proofs.OwnedLemmas.{owned_at}
 use Rattle.wild_image.proofs.split_by_part.split_sorted.Goals as goal

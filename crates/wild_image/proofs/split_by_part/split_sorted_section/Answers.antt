@@ -1,7 +1,4 @@
-use Rattle.std.proofs.Common.{◌≡◌, ◌+◌, ◌++◌, ◌<◌, ◌≤◌, ◌∙◌, List, [], ℕ, length, get_or, refl, sym, ap, arith}
-use Rattle.std.proofs.lemmas.List.{append-nil}
-use Rattle.std.proofs.lemmas.Result.{IfOk-weaker, on_ok_weaker}
-use Rattle.wild_placement.specs.PlacedInputs.{inputs}
+use Rattle.wild_image.proofs.Common.{◌≡◌, ◌+◌, ◌++◌, ◌<◌, ◌≤◌, ◌∙◌, List, [], ℕ, length, get_or, refl, sym, ap, arith, append-nil, IfOk-weaker, on_ok_weaker, inputs}
 use Rattle.wild_image.proofs.AppendLemmas.{sorted_taken}
 use Rattle.wild_image.proofs.split_by_part.split_sorted_section.Goals as goal
 

@@ -1,7 +1,4 @@
-use Rattle.std.proofs.Common.{sym, subst}
-use Rattle.wild_layout.specs.Image.{merged_bytes}
-use Rattle.wild_image.specs.Pieces.{merged_in}
-use Rattle.wild_image.specs.Append.{MergedLies}
+use Rattle.wild_image.proofs.Common.{sym, subst, merged_bytes, merged_in, MergedLies}
 use Rattle.wild_image.proofs.AppendLemmas.{next_begins, stands_more}
 use Rattle.wild_image.proofs.OwnedLemmas.{owned_read}
 use Rattle.wild_image.proofs.split_by_part.split_strings.Goals as goal

@@ -1,5 +1,4 @@
-use Rattle.std.proofs.Common.{◌≡◌, ℕ, List, ◌++◌, [], ◌∷◌, ap, ◌∙◌}
-use Rattle.wild_image.specs.Pieces.{table_given}
+use Rattle.wild_image.proofs.Common.{◌≡◌, ℕ, List, ◌++◌, [], ◌∷◌, ap, ◌∙◌, table_given}
 use Rattle.wild_image.proofs.AppendLemmas.{CutOff, cut_off, next_begins_at, stands_more_at, read_at}
 use Rattle.wild_image.proofs.OwnedLemmas.{map_read}
 use Rattle.wild_image.proofs.TableLemmas.{written_is}

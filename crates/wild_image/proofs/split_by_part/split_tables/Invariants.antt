@@ -1,5 +1,4 @@
-use Rattle.std.proofs.Common.{◌≡◌, map, take}
-use Rattle.wild_image.specs.Pieces.{table_given}
+use Rattle.wild_image.proofs.Common.{◌≡◌, map, take, table_given}
 use Rattle.wild_image.proofs.AppendLemmas.{IsPlacedAfter}
 use Rattle.wild_image.proofs.split_by_part.split_tables.Given as goal
 

@@ -1,6 +1,4 @@
-use Rattle.std.proofs.Common.{◌++◌, List, ℕ, get_or, ap, ◌∙◌, arith}
-use Rattle.std.proofs.lemmas.Option.{slice_get_within}
-use Rattle.wild_layout.specs.Thunks.{thunk_bytes}
+use Rattle.wild_image.proofs.Common.{◌++◌, List, ℕ, get_or, ap, ◌∙◌, arith, slice_get_within, thunk_bytes}
 use Rattle.wild_layout.proofs.ThunkLemmas.{length-thunk_bytes}
 use Rattle.wild_image.proofs.AppendLemmas.{cut_off}
 use Rattle.wild_image.proofs.OwnedLemmas.{part_taken}

@@ -1,12 +1,4 @@
-use Rattle.std.proofs.Common.{◌≡◌, true, false, List, ℕ, ◌++◌, [], get_or, sym, ap, ◌∙◌, subst}
-use Rattle.std.specs.List.{flat_map}
-use Rattle.std.proofs.lemmas.List.{append-nil}
-use Rattle.std.proofs.lemmas.Result.{on_ok_weaker, IfOk-weaker}
-use Rattle.wild_types.specs.FileThunks.{thunks_of}
-use Rattle.wild_types.specs.Lookups.{is_header_only_part}
-use Rattle.wild_layout.specs.Thunks.{file_thunks}
-use Rattle.wild_image.specs.Append.{BeginsWith, HasRest}
-use Rattle.wild_image.specs.Pieces.{thunk_in}
+use Rattle.wild_image.proofs.Common.{◌≡◌, true, false, List, ℕ, ◌++◌, [], get_or, sym, ap, ◌∙◌, subst, flat_map, append-nil, on_ok_weaker, IfOk-weaker, thunks_of, is_header_only_part, file_thunks, BeginsWith, HasRest, thunk_in}
 use Rattle.wild_image.proofs.AppendLemmas.{all_written, none_written}
 use Rattle.wild_image.proofs.split_by_part.split_thunks.Goals as goal
 

@@ -1,8 +1,5 @@
-use Rattle.std.proofs.Common.{ℕ}
-use Rattle.std.proofs.lemmas.Result.{IfOk-weaker}
-use Rattle.wild_placement.specs.PlacedSections.{of_last_file}
-use Rattle.wild_layout.specs.Image.{of_first_file}
-use Rattle.wild_image.specs.Pieces.{all_sorted, merged_and_identity_bytes, all_sorted_in, merged_and_identity_in}
+use Rattle.wild_image.proofs.Common.{ℕ, IfOk-weaker, of_last_file, of_first_file, all_sorted, merged_and_identity_bytes}
+use Rattle.wild_image.specs.Pieces.{all_sorted_in, merged_and_identity_in}
 use Rattle.wild_image.proofs.AppendLemmas.{both_begin, both_go_on, both_end}
 use Rattle.wild_image.proofs.OwnedLemmas.{owned_twice}
 use Rattle.wild_image.proofs.split_by_part.split_trailer.Goals as goal

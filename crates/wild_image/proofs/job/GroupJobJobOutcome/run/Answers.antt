@@ -1,8 +1,5 @@
-use Rattle.std.proofs.Common.{◌≡◌, get_or, refl, arith}
-use Rattle.std.specs.Prelude.{slice_get, Some}
-use Rattle.std.proofs.lemmas.Option.{slice_get-get_or}
+use Rattle.wild_image.proofs.Common.{◌≡◌, get_or, refl, arith, slice_get, Some, slice_get-get_or, GivesItsShares, GroupStands}
 use Rattle.wild_contents.specs.VersionCounts.{NeedsFit}
-use Rattle.wild_image.specs.Append.{GivesItsShares, GroupStands}
 use Rattle.wild_contents.proofs.VersionLemmas.{needs_fit}
 use Rattle.wild_image.proofs.JobLemmas.{gives_found, pairs_found, few_groups}
 use Rattle.wild_image.proofs.StandingLemmas.{each_stands}

@@ -1,7 +1,5 @@
-use Rattle.std.proofs.Common.{subst, sym}
+use Rattle.wild_image.proofs.Common.{subst, sym, Layout, IsLaidOut}
 use Rattle.wild_types.specs.declared.part.Role.TheVariants as role
-use Rattle.wild_types.specs.declared.layout.Layout.{Layout}
-use Rattle.wild_layout.specs.Geometry.{IsLaidOut}
 use Rattle.wild_contents.specs.SearchTable.{IsSearchTable}
 use Rattle.wild_image.proofs.OutputLemmas.{FieldsFit-IsLaidOut, role_address}
 use Rattle.wild_image.proofs.prepared.Prepared.of.Goals as goal

@@ -1,6 +1,4 @@
-use Rattle.std.proofs.Common.{◌≡◌, get_or, refl, arith}
-use Rattle.std.specs.Prelude.{slice_get, Some}
-use Rattle.std.proofs.lemmas.Option.{slice_get-get_or}
+use Rattle.wild_image.proofs.Common.{◌≡◌, get_or, refl, arith, slice_get, Some, slice_get-get_or}
 use Rattle.wild_image.proofs.BatchLemmas.{cut_of, batches_within, batches_end}
 use Rattle.wild_image.proofs.share_job.ShareJobJobShareCheck.run.Goals as goal
 
