@@ -15,7 +15,7 @@ use Rattle.wild_text.specs.Values.{items_from}
 abbrev pub with_front : {X : Type 0} → List X → Result (List X) (List ℕ) → Result (List X) (List ℕ)
 with_front front read = read >>= λ xs. Ok (front ++ xs)
 
-regroup : {X : Type 0} (front : List X) (x : X) (read : Result (List X) (List ℕ)) → with_front front (read >>= λ xs. Ok (x ∷ xs)) ≡ with_front (front ++ x ∷ []) read
+pub regroup : {X : Type 0} (front : List X) (x : X) (read : Result (List X) (List ℕ)) → with_front front (read >>= λ xs. Ok (x ∷ xs)) ≡ with_front (front ++ x ∷ []) read
 regroup front x (Ok xs) = ap (λ (ys : List _). Ok ys) (sym (append_assoc front (x ∷ []) xs))
 regroup front x (Err p) = refl
 

@@ -198,7 +198,7 @@ list_is : {X : Type 0} (name : List ℕ) (read : Data → Result X (List ℕ)) (
 list_is name read found kept None h = rw h refl
 list_is name read found kept (Some xs) h = rw (h.1, h.2) refl
 
-SameShort : Members → Members → Type 0
+abbrev SameShort : Members → Members → Type 0
 SameShort kept found = (k : List ℕ) → is_long k ≡ false → get_member k kept ≡ get_member k found
 
 head_same : (kept found : Members) → SameShort kept found → head_in (object kept) ≡ head_in (object found)
@@ -249,7 +249,7 @@ unfolding layout_in
 layout_is m found l h e = rw (← members_same m found h, e, h.known) refl
 
 pub layout_given : (m : PlanMembers) (read : Result Layout PlanFault) → Gives read (members_with m.lists (object (members_view m.kept.items))) → IfOk read (λ l. (found : Members) → AreMembers found m → layout_in (object found) ≡ Ok l)
-layout_given m (Ok l) e found are = layout_is m found l are e
+layout_given m (Ok l) e = λ found are. layout_is m found l are e
 layout_given m (Err fault) e = tt
 
 -- no list was read before
