@@ -1,5 +1,5 @@
 -- What was read of a plan, member by member, is what the plan encodes.
-use Rattle.std.proofs.Common.{◌≡◌, ℕ, suc, ◌+◌, ◌-◌, ◌<◌, ◌≤◌, List, [], ◌∷◌, ◌++◌, length, codes, Bool, true, false, bytes_eq, Option, Some, None, option_map, Result, Ok, Err, Bor, Ordering, Less, Equal, Greater, nat_cmp, true≢false, decimal, refl, sym, ap, ◌∙◌, subst, arith, append_assoc, append-nil}
+use Rattle.std.proofs.Common.{◌≡◌, ℕ, ◌+◌, ◌-◌, ◌<◌, ◌≤◌, List, [], ◌∷◌, ◌++◌, length, codes, Bool, true, false, bytes_eq, Option, Some, None, Result, Ok, Err, Bor, Ordering, Less, Equal, Greater, nat_cmp, true≢false, refl, sym, ap, ◌∙◌, subst, arith, append-nil}
 use Rattle.std.specs.Prelude.{if◌then◌else◌, IfOk}
 use Rattle.std.specs.List.{list_any}
 use Rattle.std.specs.Ordering.{match_ordering}
@@ -9,12 +9,11 @@ use Rattle.std.proofs.lemmas.Slice.Eq.{bytes_eq-Decides}
 use Rattle.std.proofs.lemmas.List.{length-append}
 use Rattle.json.specs.Token.{Token}
 use Rattle.json.specs.Lex.{tokens}
-use Rattle.json.specs.Json as json
 use Rattle.json.specs.Json.{parse_map}
 use Rattle.json.specs.Value.{value_view, members_view as json_members}
 use Rattle.json.specs.declared.value.Value.{Value}
 use Rattle.serde_json.specs.Data.{Data, array, object, Items, no_items, item, Members, no_members, member, put}
-use Rattle.serde_json.specs.Find.{get, get_member}
+use Rattle.serde_json.specs.Find.{get_member}
 use Rattle.serde_json.specs.Read.{read}
 use Rattle.serde_json.proofs.Views.{get_member-put, get_member-put_other}
 use Rattle.wild_json.specs.Values.{data_of, members_from, view, members_view}
@@ -26,7 +25,7 @@ use Rattle.wild_types.specs.declared.layout.DynamicSymbol.{DynamicSymbol}
 use Rattle.wild_types.specs.declared.layout.SortedSection.{SortedSection}
 use Rattle.wild_types.specs.declared.layout.Merged.{Merged}
 use Rattle.wild_types.specs.declared.file.Group.{Group}
-use Rattle.wild_text.specs.Reads.{◌>>=◌, in_member, Gives}
+use Rattle.wild_text.specs.Reads.{Gives}
 use Rattle.wild_text.specs.Values.{items_from, list_in}
 use Rattle.wild_text.specs.Members.{field}
 use Rattle.wild_text.specs.Symbols.{symbol_in, dynamic_symbol_in}
@@ -35,7 +34,6 @@ use Rattle.wild_text.specs.Extras.{sorted_section_in, merged_in}
 use Rattle.wild_text.specs.Plan.{head_in, frame_in, body_in, rest_in, members_in, layout_in, layout_members}
 use Rattle.wild_text.specs.PlanMembers.{IsNext, given_or, body_with, rest_with, members_with, no_lists, is_long, IsListOf, AreMembers, AddsMember}
 use Rattle.wild_text.specs.declared.fault.PlanFault.{PlanFault}
-use Rattle.wild_text.specs.declared.plan.LongLists.{LongLists}
 use Rattle.wild_text.specs.declared.plan_members.PlanMembers.{PlanMembers}
 use Rattle.wild_text.proofs.ItemLemmas.{with_front, regroup}
 

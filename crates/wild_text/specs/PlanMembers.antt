@@ -2,7 +2,7 @@
 --   IsNext reads depth old x new   the next value of the tokens encodes x, and the new tokens come after it
 --   members_with ls d              the layout of these lists and of the other members of a value
 --   AreMembers found m             the members that were found encode m
-use Rattle.std.specs.Prelude.{◌≡◌, ℕ, List, [], ◌∷◌, codes, ◌||◌, Bool, false, Option, Some, None, Result, Ok}
+use Rattle.std.specs.Prelude.{◌≡◌, ℕ, List, [], codes, ◌||◌, Bool, false, Option, Some, None, Result, Ok}
 use Rattle.std.specs.Str.{bytes_eq}
 use Rattle.json.specs.Token.{Token}
 use Rattle.serde_json.specs.Data.{Data, Members, put}
