@@ -1,5 +1,5 @@
 -- The text for bytes that are no plan.
-use Rattle.std.proofs.Common.{◌≡◌, ℕ, List, Some, Result, Err, string_bytes, refl, sym, ap}
+use Rattle.std.proofs.Common.{ℕ, List, Some, Result, Err, string_bytes, sym, ap}
 use Rattle.serde_json.specs.Data.{Data}
 use Rattle.wild_text.specs.declared.fault.InputFault.{InputFault}
 use Rattle.wild_text.specs.declared.fault.InputFault.TheVariants as faults
