@@ -5,7 +5,7 @@ use Rattle.wild_sections.proofs.DefiningFileLemmas.{merged_missing}
 use Rattle.wild_sections.proofs.merged_symbols.section_of.Goals as goal
 
 pub returns-in-None : goal.returns-in-None
-returns-in-None g c =
+returns-in-None c =
     let past = ltb-false _ _ (sym c.in-None.ensures.lookup.0) in
     let e : c.symbol.inside.0 ≡ c.args.symbol = c.symbol.view_is in
     let n = ap length c.as_slice.ensures in
