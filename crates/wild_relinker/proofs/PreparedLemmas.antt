@@ -1,6 +1,6 @@
 -- What was prepared for a layout is prepared for each layout with the same outline.
 use Rattle.std.proofs.Common.{◌≡◌, ◌≤◌, ℕ, ◌+◌, ◌-◌, List, [], ◌∷◌, length, take, drop, not, ◌&&◌, ◌||◌, if◌then◌else◌, Bool, false, refl, sym, ap, ◌∙◌, subst}
-use Rattle.std.specs.Prelude.{Option, Some, None, slice_get, option_map, map}
+use Rattle.std.specs.Prelude.{Option, Some, None, slice_get, option_map, is_some, map}
 use Rattle.std.specs.List.{list_all, range_with_len}
 use Rattle.std.specs.Option.{option_or}
 use Rattle.std.proofs.lemmas.List.{length-map, take-map, drop-map}
@@ -11,6 +11,7 @@ use Rattle.wild_types.specs.declared.part.Part.{Part}
 use Rattle.wild_types.specs.declared.part.Role.TheVariants as role
 use Rattle.wild_types.specs.declared.layout.Layout.{Layout}
 use Rattle.wild_types.specs.declared.input.InputSection.{InputSection}
+use Rattle.wild_types.specs.declared.input.MergedString.{MergedString}
 use Rattle.wild_types.specs.Addresses.{raw_value}
 use Rattle.wild_types.specs.FilePlaces.{given}
 use Rattle.wild_types.specs.HeaderOnly.{is_header_only_role}
@@ -25,13 +26,14 @@ use Rattle.wild_table_formats.specs.DynamicFields.{named_sections}
 use Rattle.wild_table_formats.specs.SectionSymbols.{symbol_index}
 use Rattle.wild_symbols.specs.SymbolNumbers.{found}
 use Rattle.wild_layout.specs.Image.{shares_before}
+use Rattle.wild_layout.specs.Merged.{names_merged}
 use Rattle.wild_layout.specs.SearchTable.{search_table, search_table_faults}
 use Rattle.wild_layout.specs.SlotValues.{symbol_is_ifunc}
 use Rattle.wild_sections.specs.DefiningFiles.{HasDefiningFiles, defining_file_if, defining_file_in, defining_file_among, layout_needs_owner_files}
 use Rattle.wild_sections.specs.Indexes.{HasIndexes}
 use Rattle.wild_sections.specs.Strings.{section_ascends, all_ascend}
 use Rattle.wild_sections.specs.SymbolFiles.{HasSymbolFiles, symbol_file_in, place_or}
-use Rattle.wild_sections.specs.Targets.{HasTargets, has_targets, may_be_merged, target_of}
+use Rattle.wild_sections.specs.Targets.{HasTargets, has_targets, target_of}
 use Rattle.wild_sections.specs.Values.{HasValues}
 use Rattle.wild_sections.specs.declared.defining_file.DefiningFile.{DefiningFile}
 use Rattle.wild_sections.specs.declared.file_of_symbol.SymbolFile.{SymbolFile}
@@ -50,6 +52,7 @@ use Rattle.wild_outlines.proofs.FramesTable.{search_table-outline, search_table_
 use Rattle.wild_outlines.proofs.GroupsPieces.{shares_before-outline}
 use Rattle.wild_outlines.proofs.ListLemmas.{map-same}
 use Rattle.wild_outlines.proofs.ValuesFiles.{raw_value-outline}
+use Rattle.wild_outlines.proofs.ValuesSymbols.{merged_strings-outline}
 
 -- ---- facts of the layout
 
@@ -112,8 +115,8 @@ owner_files-outline l = ap (λ (b : Bool). is_partial_link l.kind || not b) (unm
 
 target_of-outline : (l : Layout) (i : ℕ) → target_of (outline l) i ≡ target_of l i
 target_of-outline l i =
-    ap (λ (b : Bool). if symbol_is_ifunc l i || may_be_merged b (slice_get l.symbols i) then None else raw_value (outline l) i) (owner_files-outline l)
-    ∙ ap (λ (o : Option ℕ). if symbol_is_ifunc l i || may_be_merged (layout_needs_owner_files l) (slice_get l.symbols i) then None else o) (raw_value-outline l i)
+    ap (λ (o : Option (List MergedString)). if symbol_is_ifunc l i || is_some o then None else raw_value (outline l) i) (merged_strings-outline l i)
+    ∙ ap (λ (o : Option ℕ). if symbol_is_ifunc l i || names_merged l (Some i) then None else o) (raw_value-outline l i)
 
 symbol_file_in-outline : (l : Layout) (i : ℕ) (o : Option File) → option_map (symbol_file_in (outline l) i) (option_map outline_file o) ≡ option_map (symbol_file_in l i) o
 symbol_file_in-outline l i None = refl

@@ -36,7 +36,7 @@ use Rattle.wild_layout.specs.Decide.{field_or_thunk, field_at, place_to, value_t
 use Rattle.wild_layout.proofs.QuestionLemmas.{none_before}
 use Rattle.wild_sections.specs.Targets.{IsOwnTarget}
 use Rattle.wild_sections.specs.Calls.{IsCalled}
-use Rattle.wild_sections.proofs.TargetLemmas.{IsPlain, is_plain, unmerged_named, target_address, is_machine, near_row, near_term, near_reached}
+use Rattle.wild_sections.proofs.TargetLemmas.{IsPlain, is_plain, target_address, is_machine, near_row, near_term, near_reached}
 
 -- ---- the call
 
@@ -117,7 +117,7 @@ row_of_call l s k r i a number called own =
     let other : (r.number == r_x86_64_pc32) ≡ false = ap (λ (n : ℕ). n == r_x86_64_pc32) number in
     ap (λ (m : Machine). choice_on m l s k r) (is_machine l.machine own.target.output)
     ∙ ap (choice_by l s r next) called.named
-    ∙ by_rows l s r next i other (unmerged_named l i (is_plain l i a own.target.is).unmerged)
+    ∙ by_rows l s r next i other (is_plain l i a own.target.is).unmerged
     ∙ row_is_chosen (question_of l s r i next) (call_is_own l s r next i a number called own)
 
 -- ---- the value

@@ -140,14 +140,6 @@ or_true false b h = rw h refl
 asked : (l : Layout) → are_unmerged l ≡ false → layout_needs_owner_files l ≡ true
 asked l h = or_true (is_partial_link l.kind) (are_unmerged l) h
 
--- where no file is looked for, no symbol stands for merged strings
-pub unasked : (l : Layout) (o : Option ℕ) → layout_needs_owner_files l ≡ false → names_merged l o ≡ false
-unasked l o h =
-    elim (cases_Bool (are_unmerged l)) [
-      | inl t ↦ none_named l o (all_unmerged l.groups t)
-      | inr n ↦ (let e = asked l n in cc)
-    ]
-
 or_left : (a b : Bool) → a ≡ true → (a || b) ≡ true
 or_left a b h = rw h refl
 
@@ -230,6 +222,20 @@ merged_fileless l i s o plain listed is none = told_by l i s None plain listed (
 pub merged_plain : (l : Layout) (i : ℕ) → is_plain_own (flags_at l i) ≡ false → None ≡ merged_strings l i
 unfolding merged_strings
 merged_plain l i h = rw h refl
+
+none_found : {X Y : Type 0} (f : X → Option Y) (o : Option X) → ((x : X) → f x ≡ None) → option_and_then f o ≡ None
+none_found f None h = refl
+none_found f (Some x) h = h x
+
+no_strings_in : (s : Symbol) (f : File) → is_section_symbol s ≡ false → strings_in f s ≡ None
+no_strings_in s f h = rw h refl
+
+-- a symbol that is no section symbol has no strings
+pub merged_other : (l : Layout) (i : ℕ) (s : Symbol) → slice_get l.symbols i ≡ Some s → is_section_symbol s ≡ false → None ≡ merged_strings l i
+unfolding merged_strings
+merged_other l i s listed other =
+    sym (none_by (is_plain_own (flags_at l i)) (option_and_then (strings_of_symbol (files_of l.groups) i) (slice_get l.symbols i))
+    (ap (option_and_then (strings_of_symbol (files_of l.groups) i)) listed ∙ none_found (λ (f : File). strings_in f s) (file_of (files_of l.groups) i) (λ f. no_strings_in s f other)))
 
 pub merged_missing : (l : Layout) (i : ℕ) → slice_get l.symbols i ≡ None → None ≡ merged_strings l i
 unfolding merged_strings

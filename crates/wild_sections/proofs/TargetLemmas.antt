@@ -1,6 +1,6 @@
 -- Laws of the table of the targets of distances.
 use Rattle.std.proofs.Common.{◌≡◌, ℕ, ◌+◌, ◌<◌, inl, inr, Bool, true, false, List, [], ◌∷◌, ◌++◌, length, get_or, map, refl, sym, ap, ◌∙◌, arith, subst}
-use Rattle.std.specs.Prelude.{◌||◌, if◌then◌else◌, Option, Some, None, option_and_then, Ok, Err, slice_get}
+use Rattle.std.specs.Prelude.{◌||◌, if◌then◌else◌, Option, Some, Ok, Err}
 use Rattle.std.specs.List.{range_with_len}
 use Rattle.std.proofs.lemmas.Bool.{cases_Bool}
 use Rattle.std.proofs.lemmas.List.FromFn.{get_or-map-range_with_len, length-map-range_with_len, map-range_with_len_more}
@@ -16,12 +16,9 @@ use Rattle.wild_reloc.specs.declared.info.RelocationKindInfo.{RelocationKindInfo
 use Rattle.wild_types.specs.declared.kind.Machine.{Machine}
 use Rattle.wild_types.specs.declared.kind.Machine.TheVariants as machine
 use Rattle.wild_types.specs.declared.input.InputRelocation.{InputRelocation}
-use Rattle.wild_types.specs.declared.input.MergedString.{MergedString}
-use Rattle.wild_types.specs.declared.symbol.Symbol.{Symbol}
-use Rattle.wild_types.specs.declared.file.File.{File}
 use Rattle.wild_types.specs.declared.layout.Layout.{Layout}
 use Rattle.wild_types.specs.Item.{Item}
-use Rattle.wild_types.specs.Lookups.{files_of, file_of, place_of}
+use Rattle.wild_types.specs.Lookups.{place_of}
 use Rattle.wild_types.specs.Rows.{row_of}
 use Rattle.wild_types.specs.Addresses.{raw_value}
 use Rattle.wild_types.specs.Flags.{interposable}
@@ -29,16 +26,14 @@ use Rattle.wild_slot.specs.Treatment.{flags_at, is_barred}
 use Rattle.wild_layout.specs.declared.decision.Decision.TheVariants.{Field}
 use Rattle.wild_layout.specs.SymbolValues.{displacement}
 use Rattle.wild_layout.specs.SlotValues.{symbol_is_ifunc, address_of}
-use Rattle.wild_layout.specs.Merged.{is_section_symbol, strings_in, strings_of_symbol, is_plain_own, merged_strings, names_merged, address_for}
+use Rattle.wild_layout.specs.Merged.{names_merged, address_for}
 use Rattle.wild_reloc.specs.declared.expression.Term.TheVariants as terms
 use Rattle.wild_types.specs.declared.fault.Fault.TheVariants as faults
 use Rattle.wild_layout.specs.Values.{weak_resolves_to_place, undefined_weak_target, term_by, term_at}
 use Rattle.wild_layout.specs.Decide.{field_for, field_or_thunk, decided}
 use Rattle.wild_layout.proofs.MergedLemmas.{address_plain}
-use Rattle.wild_sections.specs.DefiningFiles.{layout_needs_owner_files}
-use Rattle.wild_sections.specs.Targets.{is_x86_64, has_targets, may_be_merged, target_of, HasTargets, IsTarget, IsKnownTarget, IsOwnTarget}
+use Rattle.wild_sections.specs.Targets.{is_x86_64, has_targets, target_of, HasTargets, IsTarget, IsKnownTarget, IsOwnTarget}
 use Rattle.wild_sections.proofs.DistanceLemmas.{known_decided}
-use Rattle.wild_sections.proofs.DefiningFileLemmas.{unasked}
 
 -- ---- the table
 
@@ -71,41 +66,14 @@ or_false false b h = (refl, h)
 -- a symbol with a target is not chosen, and stands for no merged strings
 pub record IsPlain (l : Layout) (i a : ℕ) : Type 0 where
   pub unchosen : symbol_is_ifunc l i ≡ false
-  pub unmerged : may_be_merged (layout_needs_owner_files l) (slice_get l.symbols i) ≡ false
+  pub unmerged : names_merged l (Some i) ≡ false
   pub value : raw_value l i ≡ Some a
 
 pub is_plain : (l : Layout) (i a : ℕ) → target_of l i ≡ Some a → IsPlain l i a
 is_plain l i a h =
-    elim (cases_Bool (symbol_is_ifunc l i || may_be_merged (layout_needs_owner_files l) (slice_get l.symbols i))) [
+    elim (cases_Bool (symbol_is_ifunc l i || names_merged l (Some i))) [
       | inl t ↦ cc (rw t at h)
-      | inr n ↦ (let p = or_false (symbol_is_ifunc l i) (may_be_merged (layout_needs_owner_files l) (slice_get l.symbols i)) n in record { unchosen = p.0; unmerged = p.1; value = rw n at h })
-    ]
-
-none_by : (b : Bool) (o : Option (List MergedString)) → o ≡ None → (if b then o else None) ≡ None
-none_by true o h = h
-none_by false o h = refl
-
-and_then_none : {X Y : Type 0} (f : X → Option Y) (o : Option X) → ((x : X) → f x ≡ None) → option_and_then f o ≡ None
-and_then_none f None h = refl
-and_then_none f (Some x) h = h x
-
-no_section : (f : File) (s : Symbol) → is_section_symbol s ≡ false → strings_in f s ≡ None
-no_section f s h = rw h refl
-
--- a symbol that is no section symbol has no strings
-none_told : (l : Layout) (i : ℕ) (o : Option Symbol) → may_be_merged true o ≡ false → option_and_then (strings_of_symbol (files_of l.groups) i) o ≡ None
-none_told l i None h = cc
-none_told l i (Some s) h = and_then_none (λ (f : File). strings_in f s) (file_of (files_of l.groups) i) (λ f. no_section f s h)
-
-none_named : (l : Layout) (i : ℕ) → may_be_merged true (slice_get l.symbols i) ≡ false → names_merged l (Some i) ≡ false
-unfolding merged_strings
-none_named l i h = rw (none_by (is_plain_own (flags_at l i)) (option_and_then (strings_of_symbol (files_of l.groups) i) (slice_get l.symbols i)) (none_told l i (slice_get l.symbols i) h)) refl
-
-pub unmerged_named : (l : Layout) (i : ℕ) → may_be_merged (layout_needs_owner_files l) (slice_get l.symbols i) ≡ false → names_merged l (Some i) ≡ false
-unmerged_named l i h =
-    elim (cases_Bool (layout_needs_owner_files l)) [
-      | inl t ↦ none_named l i (rw t at h)
-      | inr n ↦ unasked l (Some i) n
+      | inr n ↦ (let p = or_false (symbol_is_ifunc l i) (names_merged l (Some i)) n in record { unchosen = p.0; unmerged = p.1; value = rw n at h })
     ]
 
 address_is : (l : Layout) (i a : ℕ) → IsPlain l i a → address_of l (Some i) ≡ Ok a
@@ -115,7 +83,7 @@ address_is l i a p = rw (p.unchosen, p.value) refl
 pub target_address : (l : Layout) (r : InputRelocation) (i a : ℕ) → r.symbol ≡ Some i → target_of l i ≡ Some a → address_for l r ≡ Ok a
 target_address l r i a named h =
     let p = is_plain l i a h in
-    let unmerged : names_merged l r.symbol ≡ false = ap (names_merged l) named ∙ unmerged_named l i p.unmerged in
+    let unmerged : names_merged l r.symbol ≡ false = ap (names_merged l) named ∙ p.unmerged in
     address_plain l r unmerged ∙ ap (address_of l) named ∙ address_is l i a p
 
 pub known_by : (l : Layout) (i t a : ℕ) → Some t ≡ Some a → IsTarget l i t → ((flags n : ℕ) → is_barred l flags n i ≡ false) → IsKnownTarget l i a

@@ -4,18 +4,16 @@
 --   HasTargets l ts       the table of these for all symbols; empty for other outputs
 --   IsKnownTarget l i a   symbol i has address a in the table, and each field of a distance can hold its distance
 --   IsOwnTarget l i a     symbol i has address a in the table, and is not interposable
-use Rattle.std.specs.Prelude.{◌≡◌, ℕ, ◌<◌, ◌&&◌, ◌||◌, Bool, true, false, if◌then◌else◌, List, map, length, Option, Some, None, slice_get}
+use Rattle.std.specs.Prelude.{◌≡◌, ℕ, ◌<◌, ◌||◌, Bool, true, false, if◌then◌else◌, List, map, length, Option, Some, None}
 use Rattle.std.specs.List.{range_with_len}
 use Rattle.wild_types.specs.declared.kind.Machine.{Machine}
 use Rattle.wild_types.specs.declared.kind.Machine.TheVariants as machine
-use Rattle.wild_types.specs.declared.symbol.Symbol.{Symbol}
 use Rattle.wild_types.specs.declared.layout.Layout.{Layout}
 use Rattle.wild_types.specs.Addresses.{raw_value}
 use Rattle.wild_types.specs.Flags.{interposable}
 use Rattle.wild_slot.specs.Treatment.{flags_at, is_barred}
 use Rattle.wild_layout.specs.SlotValues.{symbol_is_ifunc}
-use Rattle.wild_layout.specs.Merged.{is_section_symbol}
-use Rattle.wild_sections.specs.DefiningFiles.{layout_needs_owner_files}
+use Rattle.wild_layout.specs.Merged.{names_merged}
 
 abbrev pub is_x86_64 : Machine → Bool
 is_x86_64 machine.X86_64 = true
@@ -24,14 +22,9 @@ is_x86_64 machine.AArch64 = false
 abbrev pub has_targets : Layout → Bool
 has_targets l = is_x86_64 l.machine
 
--- the symbol may be the section symbol of merged strings
-abbrev pub may_be_merged : Bool → Option Symbol → Bool
-may_be_merged needs_owner_files None = needs_owner_files
-may_be_merged needs_owner_files (Some s) = needs_owner_files && is_section_symbol s
-
 -- None for an IFUNC, and if the address may depend on the addend
 abbrev pub target_of : Layout → ℕ → Option ℕ
-target_of l i = if symbol_is_ifunc l i || may_be_merged (layout_needs_owner_files l) (slice_get l.symbols i) then None else raw_value l i
+target_of l i = if symbol_is_ifunc l i || names_merged l (Some i) then None else raw_value l i
 
 pub record HasTargets (l : Layout) (targets : List (Option ℕ)) : Type 0 where
   pub all : targets ≡ map (target_of l) (range_with_len 0 (length targets))

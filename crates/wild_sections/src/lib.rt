@@ -9,6 +9,7 @@ mod fields;
 mod file_of_symbol;
 mod indirect;
 mod merged;
+mod merged_symbols;
 mod origin;
 mod overlap;
 mod partial;

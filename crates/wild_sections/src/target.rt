@@ -1,12 +1,13 @@
 //! A table of symbol addresses for the fast paths of S + A - P, where the address depends on the symbol only.
-ghost use Rattle.std.specs.Prelude.{◌≡◌, ℕ, ◌<◌, true, false, length, Some, IfOk, slice_get};
-ghost use Rattle.wild_sections.specs.DefiningFiles.{layout_needs_owner_files};
+ghost use Rattle.std.specs.Prelude.{◌≡◌, ℕ, ◌<◌, true, false, length, Some, IfOk};
+ghost use Rattle.wild_sections.specs.DefiningFiles.{HasDefiningFiles};
 ghost use Rattle.wild_slot.specs.Treatment.{is_barred};
-ghost use Rattle.wild_sections.specs.Targets.{has_targets, may_be_merged, target_of, HasTargets, IsTarget, IsKnownTarget, IsOwnTarget};
+ghost use Rattle.wild_sections.specs.Targets.{has_targets, target_of, HasTargets, IsTarget, IsKnownTarget, IsOwnTarget};
 ghost use Rattle.wild_sections.specs.Values.{HasValues};
 
+use crate::defining_file::DefiningFile;
 use crate::indirect::symbol_is_ifunc;
-use crate::merged::is_section_symbol;
+use crate::merged_symbols::names_merged;
 use crate::values::Resolved;
 use std::alloc::{AllocError, Global};
 use wild_relax::Arch;
@@ -20,33 +21,21 @@ fn has_targets(layout: &Layout) -> bool
     matches!(layout.machine, Machine::X86_64)
 }
 
-/// Whether the symbol may be the section symbol of merged strings.
-fn may_be_merged(needs_owner_files: bool, layout: &Layout, index: usize) -> bool
-    ensures { result ≡ may_be_merged needs_owner_files (slice_get layout.now.symbols index) }
-{
-    needs_owner_files
-        && match layout.symbols.as_slice().get(index) {
-            Some(symbol) => is_section_symbol(symbol),
-            None => true,
-        }
-}
-
-/// The address of a symbol; None for an IFUNC, and for a symbol that may name merged strings.
+/// The address of a symbol; None for an IFUNC, and for the section symbol of a merged section.
 #[tactic(auto, using(crate::proofs::ValueLemmas::table_values))]
 fn target_of(
     layout: &Layout,
     values: &[Option<u64>],
-    needs_owner_files: bool,
+    owners: &[Option<DefiningFile>],
     index: usize,
 ) -> Option<u64>
-    requires needs_owner_files { needs_owner_files ≡ layout_needs_owner_files layout.now }
+    requires owners { HasDefiningFiles layout.now owners.now }
     requires values { HasValues layout.now values.now }
     requires index { index < length values.now }
     ensures { result ≡ target_of layout.now index }
 {
-    if symbol_is_ifunc(layout, SymbolIndex(index))
-        || may_be_merged(needs_owner_files, layout, index)
-    {
+    let symbol = SymbolIndex(index);
+    if symbol_is_ifunc(layout, symbol) || names_merged(layout, owners, symbol) {
         None
     } else {
         values[index]
@@ -59,9 +48,9 @@ pub(crate) fn targets_of(
     alloc: Global,
     layout: &Layout,
     values: &[Option<u64>],
-    needs_owner_files: bool,
+    owners: &[Option<DefiningFile>],
 ) -> Result<Vec<Option<u64>>, AllocError>
-    requires needs_owner_files { needs_owner_files ≡ layout_needs_owner_files layout.now }
+    requires owners { HasDefiningFiles layout.now owners.now }
     requires values { HasValues layout.now values.now }
     ensures { IfOk result (λ v. HasTargets layout.now v.items) }
 {
@@ -71,7 +60,7 @@ pub(crate) fn targets_of(
     let count = values.len();
     let mut targets = Vec::with_capacity(alloc, count)?;
     for i in 0..count {
-        targets.push(target_of(layout, values, needs_owner_files, i))?;
+        targets.push(target_of(layout, values, owners, i))?;
     }
     Ok(targets)
 }

@@ -11,10 +11,8 @@ ghost use Rattle.wild_sections.specs.SymbolFiles.{symbol_file_of, HasSymbolFiles
 ghost use Rattle.wild_types.specs.Addresses.{raw_value};
 ghost use Rattle.wild_sections.specs.Values.{HasValues};
 ghost use Rattle.wild_sections.specs.Fits.{FieldsFit};
-ghost use Rattle.wild_slot.specs.Treatment.{flags_at};
-ghost use Rattle.wild_layout.specs.Merged.{is_plain_own, merged_strings, names_merged, string_place};
+ghost use Rattle.wild_layout.specs.Merged.{merged_strings, names_merged, string_place};
 ghost use Rattle.wild_types.specs.declared.input.MergedString.{MergedString};
-ghost use Rattle.wild_types.specs.declared.input.InputSection.{InputSection};
 ghost use Rattle.wild_sections.specs.Strings.{all_ascend, section_ascends};
 ghost use Rattle.wild_plan_rules.specs.MergedSections.{are_unmerged};
 ghost use Rattle.wild_sections.specs.DefiningFiles.{HasDefiningFiles, defining_file_among, layout_needs_owner_files};
@@ -22,17 +20,17 @@ ghost use Rattle.wild_sections.specs.Targets.{HasTargets};
 ghost use Rattle.wild_sections.specs.Indexes.{HasIndexes};
 ghost use Rattle.wild_sections.specs.SymbolTables.{HasSymbolTables};
 
-use crate::defining_file::{DefiningFile, file_at, find_defining_files};
+use crate::defining_file::{DefiningFile, find_defining_files};
 use crate::file_of_symbol::SymbolFile;
-use crate::merged::{IsUnmerged, StringsAscend, is_plain_own, merged_section, string_place};
+use crate::merged::{IsUnmerged, StringsAscend, string_place};
+use crate::merged_symbols::{file_of, names_merged, section_of_merged};
 use crate::per_symbol::place_groups;
 use crate::target::targets_of;
 use std::alloc::{AllocError, Global};
 use std::marker::PhantomData;
 use wild_relax::Arch;
-use wild_slot::flags_at;
 use wild_symbols::{NamedSections, build_sym_index_map, named_sections};
-use wild_types::{File, InputSection, Layout, Symbol, SymbolIndex, all_pass};
+use wild_types::{File, Layout, Symbol, SymbolIndex, all_pass};
 
 /// The value in the resolution of the symbol's definition.
 fn decided(layout: &Layout, symbol: SymbolIndex) -> Option<u64>
@@ -182,9 +180,9 @@ impl SymbolTables {
         ensures { IfOk result (λ t. HasSymbolTables layout.now t) }
     {
         let values = values_of(alloc, layout)?;
-        let targets = targets_of(alloc, layout, &values, needs_owner_files)?;
-        let symbol_files = symbol_files_of(alloc, layout)?;
         let owners = defining_files_of(alloc, layout, needs_owner_files)?;
+        let targets = targets_of(alloc, layout, &values, &owners)?;
+        let symbol_files = symbol_files_of(alloc, layout)?;
         let indexes = indexes_of(alloc, layout)?;
         Ok(SymbolTables {
             named: named_sections(layout),
@@ -274,15 +272,11 @@ impl<'a, A: Arch> Resolved<'a, A> {
     }
 
     /// The file whose range of symbols has a symbol, by one table access.
-    #[tactic(auto, using(crate::proofs::DefiningFileLemmas::owner_there, crate::proofs::DefiningFileLemmas::owner_missing))]
     pub(crate) fn file(&self, symbol: SymbolIndex) -> Option<&'a File>
         requires { symbol < length self.now.owners.now }
         ensures { option_copied result ≡ file_of (files_of self.now.layout.now.groups) symbol }
     {
-        match self.owners[symbol.0] {
-            Some(owner) => file_at(self.layout, owner),
-            None => None,
-        }
+        file_of(self.layout, self.owners, symbol)
     }
 
     /// The indexes of all symbols in the `.symtab` of a relocatable output.
@@ -293,52 +287,11 @@ impl<'a, A: Arch> Resolved<'a, A> {
         self.indexes
     }
 
-    /// The merged section of which a symbol, which the output defines, is the section symbol.
-    #[tactic(auto, using(crate::proofs::DefiningFileLemmas::merged_is, crate::proofs::DefiningFileLemmas::merged_fileless))]
-    fn section_in(&self, index: SymbolIndex, symbol: &Symbol) -> Option<&'a InputSection>
-        requires known { index < length self.now.owners.now }
-        requires plain { is_plain_own (flags_at self.now.layout.now index) ≡ true }
-        requires symbol { slice_get self.now.layout.now.symbols index ≡ Some symbol.now }
-        ensures { option_map (λ (s : InputSection). s.strings) (option_copied result) ≡ merged_strings self.now.layout.now index }
-    {
-        match self.file(index) {
-            Some(file) => merged_section(file, symbol),
-            None => None,
-        }
-    }
-
-    /// The same for any symbol whose file is known.
-    #[tactic(auto, using(crate::proofs::DefiningFileLemmas::merged_plain, crate::proofs::DefiningFileLemmas::merged_missing))]
-    fn section_of(&self, symbol: SymbolIndex) -> Option<&'a InputSection>
-        requires { symbol < length self.now.owners.now }
-        ensures { option_map (λ (s : InputSection). s.strings) (option_copied result) ≡ merged_strings self.now.layout.now symbol }
-    {
-        if !is_plain_own(flags_at(self.layout, symbol)) {
-            return None;
-        }
-        match self.layout.symbols.as_slice().get(symbol.0) {
-            Some(found) => self.section_in(symbol, found),
-            None => None,
-        }
-    }
-
-    /// The merged section of which a symbol is the section symbol.
-    #[tactic(auto, using(crate::proofs::DefiningFileLemmas::merged_past))]
-    fn merged_section(&self, symbol: SymbolIndex) -> Option<&'a InputSection>
-        ensures { option_map (λ (s : InputSection). s.strings) (option_copied result) ≡ merged_strings self.now.layout.now symbol }
-    {
-        if symbol.0 < self.owners.len() {
-            self.section_of(symbol)
-        } else {
-            None
-        }
-    }
-
     /// Whether a symbol is the section symbol of a merged section.
     pub fn names_merged(&self, symbol: SymbolIndex) -> bool
         ensures { result ≡ names_merged self.now.layout.now (Some symbol) }
     {
-        self.has_strings() && self.merged_section(symbol).is_some()
+        names_merged(self.layout, self.owners, symbol)
     }
 
     /// The address of a byte of the merged section whose section symbol this is; None if it is no such symbol.
@@ -346,7 +299,7 @@ impl<'a, A: Arch> Resolved<'a, A> {
     pub(crate) fn string_place(&self, symbol: SymbolIndex, byte: u64) -> Option<Option<u64>>
         ensures { result ≡ option_map (λ (ss : List MergedString). string_place ss byte) (merged_strings self.now.layout.now symbol) }
     {
-        match self.merged_section(symbol) {
+        match section_of_merged(self.layout, self.owners, symbol) {
             Some(section) => Some(string_place(section.strings.as_slice(), self.ascend, byte)),
             None => None,
         }
