@@ -1,9 +1,8 @@
 //! All items that fail a test which looks at one item and at no other.
 
-use crate::clauses::{find, push_first, push_row};
-use crate::layout_rows::{LAYOUT_ROWS, Row};
+use crate::clauses::{find, push_row, rows_of};
+use crate::layout_rows::Row;
 use crate::names::part_word;
-use crate::table_rows::TABLE_ROWS;
 use crate::tests::{
     EntryTest, FileTest, GroupTest, InputTest, MergedTest, PartTest, PlanTest, SegmentTest,
     SymbolTest, Test, ThunkTest,
@@ -78,42 +77,30 @@ fn count_of(layout: &Layout, test: &Test) -> usize {
     }
 }
 
-/// Adds the items that fail some tests, each test by itself.
-fn push_rows(out: &mut Text, layout: &Layout, rows: &[Row]) {
-    for row in rows {
-        let (clause, test, _, _) = row;
-        if is_alone(test) {
-            for index in 0..count_of(layout, test) {
-                if let Some(found) = find(layout, index, test) {
-                    writeln!(out, "fails: clause {clause}, index {index}");
-                    push_row(out, layout, index, row, found);
-                }
+/// The clauses in the order in which their tests are listed: those on places, then those on indexes, slots, tables and names.
+const CLAUSES: [u32; 22] = [
+    1, 2, 3, 4, 5, 6, 7, 8, 10, 9, 11, 12, 13, 14, 15, 16, 17, 18, 19, 20, 21, 22,
+];
+
+/// Adds the items that fail a test of a clause, by themselves.
+fn push_failing(out: &mut Text, layout: &Layout, clause: u32, row: &Row) {
+    let (test, _, _) = row;
+    for index in 0..count_of(layout, test) {
+        if let Some(found) = find(layout, index, test) {
+            writeln!(out, "fails: clause {clause}, index {index}");
+            push_row(out, layout, index, row, found);
+        }
+    }
+}
+
+/// Adds the items that fail the tests of the clauses, each test by itself.
+fn push_tests(out: &mut Text, layout: &Layout) {
+    for clause in &CLAUSES {
+        for row in rows_of(*clause) {
+            if is_alone(&row.0) {
+                push_failing(out, layout, *clause, row);
             }
         }
-    }
-}
-
-/// Adds the first of some tests that a clause has and an item fails at an index, and returns whether there is one. Without a clause and an
-/// index, adds the items that fail some tests, and returns false.
-fn push_some_tests(
-    out: &mut Text,
-    layout: &Layout,
-    at: Option<(u32, usize)>,
-    rows: &[Row],
-) -> bool {
-    match at {
-        Some((clause, index)) => push_first(out, layout, clause, index, rows),
-        None => {
-            push_rows(out, layout, rows);
-            false
-        }
-    }
-}
-
-/// The same for all tests.
-pub(crate) fn push_tests(out: &mut Text, layout: &Layout, at: Option<(u32, usize)>) {
-    if !push_some_tests(out, layout, at, &LAYOUT_ROWS) {
-        push_some_tests(out, layout, at, &TABLE_ROWS);
     }
 }
 
@@ -136,6 +123,6 @@ fn push_shares(out: &mut Text, layout: &Layout) {
 /// Adds all items that fail a test of a clause which depends on no other item, and all shares that are not what is needed. A fault of a clause
 /// may be the cause of later ones.
 pub fn push_all(out: &mut Text, layout: &Layout) {
-    push_tests(out, layout, None);
+    push_tests(out, layout);
     push_shares(out, layout)
 }

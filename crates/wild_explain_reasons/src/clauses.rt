@@ -1,12 +1,11 @@
 //! For each clause: its name, the members that are likely wrong if it fails, and the first of its tests that an item fails.
 
-use crate::all::push_tests;
 use crate::demands::push_demand;
 use crate::faults::push_relocation;
 use crate::fronts::{is_named_once, test_merged, test_sorted, types_before};
 use crate::headers::{first_of, test_part, test_section, test_segment};
 use crate::items::{Item, SectionPlace, push_found, push_item, section_at};
-use crate::layout_rows::Row;
+use crate::layout_rows::{Row, layout_rows};
 use crate::likely::push_likely;
 use crate::lists::{
     first_astray, test_file, test_group, test_input, test_listed, test_version, wrong_relocation,
@@ -16,107 +15,73 @@ use crate::needs::push_room;
 use crate::partial::test_made;
 use crate::plan::{push_plan, test_plan};
 use crate::symbols::{test_symbol, undefined_entries};
+use crate::table_rows::table_rows;
 use crate::tests::{FileTest, InputTest, PartTest, PlanTest, SectionTest, Test};
 use crate::text::Text;
 use crate::thunks::find_thunk;
 use crate::verdict::{Finding, Verdict, due, plain};
 use wild_types::{Layout, Role, field_bytes, has_role};
 
-/// For each clause, from the first on, its name and what is likely wrong in a plan that fails it.
-const CLAUSES: [(&str, &str); 22] = [
-    (
-        "sizes and alignments",
-        "`page_size` left out; `align` of a section left out (0, which section 0 alone may have); an `align` of 0 at a part",
-    ),
-    (
-        "counts",
-        "`sections` without section 0 (`{}`); `groups` left out",
-    ),
-    (
-        "the order of the parts",
-        "`offset` behind a part that has grown, or not rounded up to `align`; `parts` not in the order of the file; `{}` missing at the head of `sections`",
-    ),
-    (
-        "the roles",
-        "`role` left out (`raw`); `strip_all` left out, so that `.symtab` is asked for; a part left out, of a table or of a member (`interp`, `build_id`, `properties`)",
-    ),
-    (
-        "parts in sections",
-        "`address`, `offset` or `size` of a part that was moved without its section; `section` of the part, counted without section 0",
-    ),
-    (
-        "segments",
-        "a segment that did not move or grow with what stands in it; `address` and `offset` that leave different remainders by `page_size`; `file_size` or `mem_size` counted from the section and not from the segment",
-    ),
-    (
-        "shares, prelude and epilogue",
-        "`part_sizes` that was not changed with a part's `size`, or has no entry for a part that was added; of a raw part, which nobody counts, another number than the bytes from where the group's share begins to where its last input section there ends, with what lies between them; `role` left out of the prelude or the epilogue (`object`)",
-    ),
-    (
-        "input sections in their parts",
-        "`slot` left out (`discard`); `address` behind an input section that has grown; `size` other than the number of bytes; `nobits` left out of zeroed data; `flags` of the input section without 2; `part` counted among sections; a sorted section left out of `sorted`",
-    ),
-    (
-        "indexes",
-        "`symbol_count` left out; `first_symbol` that was not moved with a symbol that was added; a `definition` that is itself defined elsewhere; `singleton` or `members` counted without section 0",
-    ),
-    (
-        "fields",
-        "`offset` of the relocation, counted from the part or the file; the offset of the instruction and not of its field; `malformed` outside frames",
-    ),
-    (
-        "where slots and stubs stand",
-        "`got` behind a symbol whose flag was added or taken away; `got` counted in `got` where the slot stands in `got_relr`, or the other way round; `got` without the 16 bytes of `tlsld`; a symbol with a slot in no file's range",
-    ),
-    (
-        "where thunks stand",
-        "`owns_thunk_block` left out of the file behind which a block stands, or given to two files; `address` of the thunks behind an input section that has grown; thunks in a plan for x86-64",
-    ),
-    (
-        "the dynamic symbol table",
-        "`dynsym` counted without the null symbol, or not moved with an undefined entry that was added; a library without the role `dynamic`; a resolution at a library's symbol that nothing refers to; `dynsyms` in another order",
-    ),
-    (
-        "flags and slots",
-        "`got` or `plt` left at a symbol whose flag was taken away, or the flag without the address; `NON_INTERPOSABLE` at a library's symbol",
-    ),
-    (
-        "thread-local data",
-        "`start` or `align` of `tls`, where a section with more alignment was put in front",
-    ),
-    (
-        "where a group's strings, frames and symbols begin",
-        "a start left out of a group behind the first, counted from the start of the file, or in entries and not in bytes",
-    ),
-    (
-        "hash tables",
-        "`base` without the null symbol or an undefined entry; `dynsyms` in the order of their names and not of their buckets",
-    ),
-    (
-        "versions",
-        "`last` left at a library that is no longer the last; a `parent` counted as the index of a version; the option `versions` without the part, or the part without the option",
-    ),
-    (
-        "names",
-        "a name written with the zero that ends it in the object; `interp` without the zero that ends it",
-    ),
-    (
-        "reversed sections",
-        "`reversed` at a section of other things than words of 8 bytes; a relocation of 4 bytes, or R_X86_64_NONE, in it",
-    ),
-    (
-        "relocatable objects",
-        "`segments`, `dynsyms`, `got` or `plt` in a plan of kind `partial`; slot `debug` in place of `loaded`; `size` of a table that was not changed with the relocations of its target; `target` counted among all sections; `size` of a group without the word of its flags",
-    ),
-    (
-        "merged strings, the linker's name of itself, properties, images of debug sections alone",
-        "the first group's entry of `part_sizes` for the part, which was not changed with the strings; a property listed twice; `only_keep_debug` in a plan of kind `partial`",
-    ),
+/// The names of the clauses, from the first on.
+const TITLES: [&str; 22] = [
+    "sizes and alignments",
+    "counts",
+    "the order of the parts",
+    "the roles",
+    "parts in sections",
+    "segments",
+    "shares, prelude and epilogue",
+    "input sections in their parts",
+    "indexes",
+    "fields",
+    "where slots and stubs stand",
+    "where thunks stand",
+    "the dynamic symbol table",
+    "flags and slots",
+    "thread-local data",
+    "where a group's strings, frames and symbols begin",
+    "hash tables",
+    "versions",
+    "names",
+    "reversed sections",
+    "relocatable objects",
+    "merged strings, the linker's name of itself, properties, images of debug sections alone",
 ];
 
-/// The name of a clause, and what is likely wrong in a plan that fails it.
-fn clause_words(clause: u32) -> Option<(&'static str, &'static str)> {
-    CLAUSES.get((clause as usize).saturating_sub(1)).copied()
+/// For each clause, from the first on, what is likely wrong in a plan that fails it.
+const MISTAKES: [&str; 22] = [
+    "`page_size` left out; `align` of a section left out (0, which section 0 alone may have); an `align` of 0 at a part",
+    "`sections` without section 0 (`{}`); `groups` left out",
+    "`offset` behind a part that has grown, or not rounded up to `align`; `parts` not in the order of the file; `{}` missing at the head of `sections`",
+    "`role` left out (`raw`); `strip_all` left out, so that `.symtab` is asked for; a part left out, of a table or of a member (`interp`, `build_id`, `properties`)",
+    "`address`, `offset` or `size` of a part that was moved without its section; `section` of the part, counted without section 0",
+    "a segment that did not move or grow with what stands in it; `address` and `offset` that leave different remainders by `page_size`; `file_size` or `mem_size` counted from the section and not from the segment",
+    "`part_sizes` that was not changed with a part's `size`, or has no entry for a part that was added; of a raw part, which nobody counts, another number than the bytes from where the group's share begins to where its last input section there ends, with what lies between them; `role` left out of the prelude or the epilogue (`object`)",
+    "`slot` left out (`discard`); `address` behind an input section that has grown; `size` other than the number of bytes; `nobits` left out of zeroed data; `flags` of the input section without 2; `part` counted among sections; a sorted section left out of `sorted`",
+    "`symbol_count` left out; `first_symbol` that was not moved with a symbol that was added; a `definition` that is itself defined elsewhere; `singleton` or `members` counted without section 0",
+    "`offset` of the relocation, counted from the part or the file; the offset of the instruction and not of its field; `malformed` outside frames",
+    "`got` behind a symbol whose flag was added or taken away; `got` counted in `got` where the slot stands in `got_relr`, or the other way round; `got` without the 16 bytes of `tlsld`; a symbol with a slot in no file's range",
+    "`owns_thunk_block` left out of the file behind which a block stands, or given to two files; `address` of the thunks behind an input section that has grown; thunks in a plan for x86-64",
+    "`dynsym` counted without the null symbol, or not moved with an undefined entry that was added; a library without the role `dynamic`; a resolution at a library's symbol that nothing refers to; `dynsyms` in another order",
+    "`got` or `plt` left at a symbol whose flag was taken away, or the flag without the address; `NON_INTERPOSABLE` at a library's symbol",
+    "`start` or `align` of `tls`, where a section with more alignment was put in front",
+    "a start left out of a group behind the first, counted from the start of the file, or in entries and not in bytes",
+    "`base` without the null symbol or an undefined entry; `dynsyms` in the order of their names and not of their buckets",
+    "`last` left at a library that is no longer the last; a `parent` counted as the index of a version; the option `versions` without the part, or the part without the option",
+    "a name written with the zero that ends it in the object; `interp` without the zero that ends it",
+    "`reversed` at a section of other things than words of 8 bytes; a relocation of 4 bytes, or R_X86_64_NONE, in it",
+    "`segments`, `dynsyms`, `got` or `plt` in a plan of kind `partial`; slot `debug` in place of `loaded`; `size` of a table that was not changed with the relocations of its target; `target` counted among all sections; `size` of a group without the word of its flags",
+    "the first group's entry of `part_sizes` for the part, which was not changed with the strings; a property listed twice; `only_keep_debug` in a plan of kind `partial`",
+];
+
+/// The name of the clause with that place in the list.
+fn title_at(place: usize) -> Option<&'static str> {
+    TITLES.get(place).copied()
+}
+
+/// What is likely wrong in a plan that fails the clause with that place in the list.
+fn mistake_at(place: usize) -> Option<&'static str> {
+    MISTAKES.get(place).copied()
 }
 
 /// The item, if it fails.
@@ -287,7 +252,7 @@ fn push_input_found(out: &mut Text, layout: &Layout, at: SectionPlace, test: &In
 
 /// Adds what fails, its path, what the plan has there, and what was expected.
 pub(crate) fn push_row(out: &mut Text, layout: &Layout, index: usize, row: &Row, found: Finding) {
-    let (_, test, what, member) = row;
+    let (test, what, member) = row;
     write!(out, "what: {what}\nwhere: ");
     push_item(out, found.item);
     write!(out, "{member}");
@@ -327,30 +292,32 @@ pub(crate) fn push_row(out: &mut Text, layout: &Layout, index: usize, row: &Row,
     }
 }
 
-/// Adds the first of some tests that an item fails. Returns whether there is one.
-pub(crate) fn push_first(
-    out: &mut Text,
-    layout: &Layout,
-    clause: u32,
-    index: usize,
-    rows: &[Row],
-) -> bool {
+/// Adds the first of some tests that an item fails.
+fn push_first(out: &mut Text, layout: &Layout, index: usize, rows: &[Row]) {
     for row in rows {
-        if row.0 == clause
-            && let Some(found) = find(layout, index, &row.1)
-        {
+        if let Some(found) = find(layout, index, &row.0) {
             push_row(out, layout, index, row, found);
-            return true;
+            return;
         }
     }
-    false
+}
+
+/// The tests of a clause.
+pub(crate) fn rows_of(clause: u32) -> &'static [Row] {
+    match clause {
+        1..=8 | 10 => layout_rows(clause),
+        _ => table_rows(clause),
+    }
 }
 
 /// Adds the reason for a clause that fails.
 pub(crate) fn push_clause(out: &mut Text, layout: &Layout, clause: u32, index: usize) {
-    if let Some((title, likely)) = clause_words(clause) {
+    let place = (clause as usize).saturating_sub(1);
+    if let Some(title) = title_at(place)
+        && let Some(mistake) = mistake_at(place)
+    {
         writeln!(out, "clause {clause}: {title}");
-        push_tests(out, layout, Some((clause, index)));
-        writeln!(out, "likely: {likely}");
+        push_first(out, layout, index, rows_of(clause));
+        writeln!(out, "likely: {mistake}");
     }
 }

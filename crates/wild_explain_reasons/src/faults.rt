@@ -11,210 +11,144 @@ use wild_types::{
     At, Fault, FrameFault, InputSection, Layout, Machine, Missing, field_bytes, row_of,
 };
 
-/// What is wrong with a relocation, a slot, a symbol or a section of frames, and the remedy. `words_number` has the row of a fault.
-const FAULT_WORDS: [(&str, &str); 27] = [
-    // 0: FrameFault::Malformed
-    (
-        "the reader of the input failed at a relocation of frames",
-        "give the relocation as the input has it",
-    ),
-    // 1: FrameFault::Unsorted
-    (
-        "a relocation of frames stands before the one in front of it",
-        "sort the relocations of the section by `offset`",
-    ),
-    // 2: FrameFault::Cut
-    (
-        "an entry of frames ends behind its section",
-        "give the section all its bytes, or correct the entry's length",
-    ),
-    // 3: FrameFault::Short
-    (
-        "an entry of frames has no room for its id, or one that is kept none for where its code begins",
-        "correct the entry's length; only the last one may be 0",
-    ),
-    // 4: FrameFault::PcBegin
-    (
-        "where the code of a frame begins is told by no symbol, or by one that stands in no input section",
-        "give the relocation at byte 8 of the entry the symbol of its code",
-    ),
-    // 5: FrameFault::Cie
-    (
-        "an entry's id leads to no CIE of its section",
-        "correct the id: the distance from itself back to the CIE",
-    ),
-    // 6: FrameFault::Field
-    (
-        "the field of a relocation ends behind its entry of frames",
-        "correct its `offset` or its `number`",
-    ),
-    // 7: UnsupportedRelocation
-    (
-        "the relocation type is not known, or it needs a symbol and names none",
-        "resolve the relocation to a type that is known, or give it its symbol",
-    ),
-    // 8: RecompileWithPic
-    (
-        "the field cannot hold an address that is known only where the image is loaded",
-        "compile position-independent code (-fPIE, for a shared object -fPIC), or give the symbol NON_INTERPOSABLE, or ABSOLUTE where its value does not move; another module's symbol a stub or a copy",
-    ),
-    // 9: Missing::Address
-    (
-        "the symbol has no address: its definition has no resolution, and it stands in no input section with an address",
-        "resolve the symbol (`resolution`, or `definition` where another symbol defines it), or place its section",
-    ),
-    // 10: Missing::Slot
-    (
-        "the relocation takes a slot, and the symbol's definition has none of that sort",
-        "give the symbol the flag and the slot (`got`; GOT, GOT_TLS_OFFSET, GOT_TLS_MODULE or GOT_TLS_DESCRIPTOR), its `definition` where another symbol has it, or the plan `tlsld`",
-    ),
-    // 11: Missing::Stub
-    (
-        "a stub is needed, and the symbol's definition has none",
-        "give the symbol PLT and a stub (`plt`), its `definition`, or on x86-64 write a call of a function that is known as R_X86_64_PC32",
-    ),
-    // 12: Missing::DynamicSymbol
-    (
-        "a loader looks the symbol up, and its definition has no index in the dynamic symbol table",
-        "give it `dynsym` (and list it in `dynsyms` where the output defines it), or the flag NON_INTERPOSABLE where no other module may have it",
-    ),
-    // 13: Missing::Section
-    (
-        "the symbol's entry has no output section",
-        "correct `place`, or the name of the section (.bss, .tbss)",
-    ),
-    // 14: UnknownSequence
-    (
-        "an instruction is to be rewritten, and its bytes, its addend or the relocation of its call are not what that needs",
-        "keep the sequences of the ABI whole, with all their relocations, one behind the other",
-    ),
-    // 15: IfuncAddend
-    (
-        "an entry stores what a resolver answers, and has nothing to add to it",
-        "take the function's address itself, and add in code",
-    ),
-    // 16: NoThunk
-    (
-        "the target of a branch is out of its range, and the block of its file has no thunk of the symbol's definition",
-        "give the block one, or move the sections nearer",
-    ),
-    // 17: ThunkOutOfRange
-    (
-        "a thunk is out of the range of a branch, or its target is 4 GiB or more from it",
-        "move the sections nearer, or give the file a block of its own",
-    ),
-    // 18: ThunkAddend
-    (
-        "the target of a branch is out of its range, and a thunk has nothing to add to it",
-        "branch to a symbol at the place itself, or move the sections nearer",
-    ),
-    // 19: PltTooFar
-    (
-        "a stub is too far from its slot",
-        "move the parts plt_got and got nearer",
-    ),
-    // 20: TlsOutOfSegment
-    (
-        "the address of a thread-local symbol with a slot is not in the thread-local data",
-        "correct `tls` or `raw_value`",
-    ),
-    // 21: StaticTlsDesc
-    (
-        "a static executable has nothing that fills a descriptor",
-        "take another model of thread-local storage",
-    ),
-    // 22: FrameOffsetOverflow
-    (
-        "the search table of frames tells distances of four signed bytes, and one is greater",
-        "move the parts eh_frame_hdr and eh_frame, and the code, nearer",
-    ),
-    // 23: OutOfRange
-    (
-        "the value does not fit the field",
-        "move the sections nearer, or use a wider type",
-    ),
-    // 24: OverlappingSites
-    (
-        "two relocations write one byte of the section",
-        "remove one of them",
-    ),
-    // 25: out of memory
-    ("memory was refused", "give it more memory"),
-    // 26: UnsupportedRelocation, in a debug section
-    (
-        "the relocation type is not known, or is not of an address, of a place in the thread-local data or of one from the thread pointer: no other is told in a debug section",
-        "resolve the relocation to a type that is known, with its symbol",
-    ),
-];
-
-/// The row of a fault.
-fn words_number(fault: Fault) -> usize {
-    match fault {
-        Fault::BadFrameData {
-            why: FrameFault::Malformed,
-        } => 0,
-        Fault::BadFrameData {
-            why: FrameFault::Unsorted,
-        } => 1,
-        Fault::BadFrameData {
-            why: FrameFault::Cut,
-        } => 2,
-        Fault::BadFrameData {
-            why: FrameFault::Short,
-        } => 3,
-        Fault::BadFrameData {
-            why: FrameFault::PcBegin,
-        } => 4,
-        Fault::BadFrameData {
-            why: FrameFault::Cie,
-        } => 5,
-        Fault::BadFrameData {
-            why: FrameFault::Field,
-        } => 6,
-        Fault::UnsupportedRelocation { .. } => 7,
-        Fault::RecompileWithPic { .. } => 8,
-        Fault::MissingResolution {
-            what: Missing::Address,
-            ..
-        } => 9,
-        Fault::MissingResolution {
-            what: Missing::Slot,
-            ..
-        } => 10,
-        Fault::MissingResolution {
-            what: Missing::Stub,
-            ..
-        } => 11,
-        Fault::MissingResolution {
-            what: Missing::DynamicSymbol,
-            ..
-        } => 12,
-        Fault::MissingResolution {
-            what: Missing::Section,
-            ..
-        } => 13,
-        Fault::UnknownSequence { .. } => 14,
-        Fault::IfuncAddend { .. } => 15,
-        Fault::NoThunk { .. } => 16,
-        Fault::ThunkOutOfRange { .. } => 17,
-        Fault::ThunkAddend { .. } => 18,
-        Fault::PltTooFar { .. } => 19,
-        Fault::TlsOutOfSegment { .. } => 20,
-        Fault::StaticTlsDesc { .. } => 21,
-        Fault::FrameOffsetOverflow { .. } => 22,
-        Fault::OutOfRange { .. } => 23,
-        Fault::OverlappingSites { .. } => 24,
-        _ => 25,
+/// What is wrong with a section of frames, and the remedy.
+fn frame_words(why: FrameFault) -> (&'static str, &'static str) {
+    match why {
+        FrameFault::Malformed => (
+            "the reader of the input failed at a relocation of frames",
+            "give the relocation as the input has it",
+        ),
+        FrameFault::Unsorted => (
+            "a relocation of frames stands before the one in front of it",
+            "sort the relocations of the section by `offset`",
+        ),
+        FrameFault::Cut => (
+            "an entry of frames ends behind its section",
+            "give the section all its bytes, or correct the entry's length",
+        ),
+        FrameFault::Short => (
+            "an entry of frames has no room for its id, or one that is kept none for where its code begins",
+            "correct the entry's length; only the last one may be 0",
+        ),
+        FrameFault::PcBegin => (
+            "where the code of a frame begins is told by no symbol, or by one that stands in no input section",
+            "give the relocation at byte 8 of the entry the symbol of its code",
+        ),
+        FrameFault::Cie => (
+            "an entry's id leads to no CIE of its section",
+            "correct the id: the distance from itself back to the CIE",
+        ),
+        FrameFault::Field => (
+            "the field of a relocation ends behind its entry of frames",
+            "correct its `offset` or its `number`",
+        ),
     }
 }
 
-/// The explanation and the remedy for a fault, which may be in a debug section.
+/// What is wrong with a symbol that lacks a member, and the remedy.
+fn missing_words(what: Missing) -> (&'static str, &'static str) {
+    match what {
+        Missing::Address => (
+            "the symbol has no address: its definition has no resolution, and it stands in no input section with an address",
+            "resolve the symbol (`resolution`, or `definition` where another symbol defines it), or place its section",
+        ),
+        Missing::Slot => (
+            "the relocation takes a slot, and the symbol's definition has none of that sort",
+            "give the symbol the flag and the slot (`got`; GOT, GOT_TLS_OFFSET, GOT_TLS_MODULE or GOT_TLS_DESCRIPTOR), its `definition` where another symbol has it, or the plan `tlsld`",
+        ),
+        Missing::Stub => (
+            "a stub is needed, and the symbol's definition has none",
+            "give the symbol PLT and a stub (`plt`), its `definition`, or on x86-64 write a call of a function that is known as R_X86_64_PC32",
+        ),
+        Missing::DynamicSymbol => (
+            "a loader looks the symbol up, and its definition has no index in the dynamic symbol table",
+            "give it `dynsym` (and list it in `dynsyms` where the output defines it), or the flag NON_INTERPOSABLE where no other module may have it",
+        ),
+        Missing::Section => (
+            "the symbol's entry has no output section",
+            "correct `place`, or the name of the section (.bss, .tbss)",
+        ),
+    }
+}
+
+/// What is wrong with an address that is too far away or in the wrong place, and the remedy. Any other fault is that memory was refused.
+fn distance_words(fault: Fault) -> (&'static str, &'static str) {
+    match fault {
+        Fault::NoThunk { .. } => (
+            "the target of a branch is out of its range, and the block of its file has no thunk of the symbol's definition",
+            "give the block one, or move the sections nearer",
+        ),
+        Fault::ThunkOutOfRange { .. } => (
+            "a thunk is out of the range of a branch, or its target is 4 GiB or more from it",
+            "move the sections nearer, or give the file a block of its own",
+        ),
+        Fault::ThunkAddend { .. } => (
+            "the target of a branch is out of its range, and a thunk has nothing to add to it",
+            "branch to a symbol at the place itself, or move the sections nearer",
+        ),
+        Fault::PltTooFar { .. } => (
+            "a stub is too far from its slot",
+            "move the parts plt_got and got nearer",
+        ),
+        Fault::TlsOutOfSegment { .. } => (
+            "the address of a thread-local symbol with a slot is not in the thread-local data",
+            "correct `tls` or `raw_value`",
+        ),
+        Fault::FrameOffsetOverflow { .. } => (
+            "the search table of frames tells distances of four signed bytes, and one is greater",
+            "move the parts eh_frame_hdr and eh_frame, and the code, nearer",
+        ),
+        Fault::OutOfRange { .. } => (
+            "the value does not fit the field",
+            "move the sections nearer, or use a wider type",
+        ),
+        _ => ("memory was refused", "give it more memory"),
+    }
+}
+
+/// What is wrong with a relocation type in a section, and the remedy.
+fn type_words(is_debug: bool) -> (&'static str, &'static str) {
+    if is_debug {
+        (
+            "the relocation type is not known, or is not of an address, of a place in the thread-local data or of one from the thread pointer: no other is told in a debug section",
+            "resolve the relocation to a type that is known, with its symbol",
+        )
+    } else {
+        (
+            "the relocation type is not known, or it needs a symbol and names none",
+            "resolve the relocation to a type that is known, or give it its symbol",
+        )
+    }
+}
+
+/// What is wrong, and the remedy, for a fault that may be in a debug section.
 pub(crate) fn words_of(fault: Fault, is_debug: bool) -> (&'static str, &'static str) {
-    let number = match fault {
-        Fault::UnsupportedRelocation { .. } if is_debug => 26,
-        _ => words_number(fault),
-    };
-    FAULT_WORDS.get(number).copied().unwrap_or(("", ""))
+    match fault {
+        Fault::BadFrameData { why } => frame_words(why),
+        Fault::MissingResolution { what, .. } => missing_words(what),
+        Fault::UnsupportedRelocation { .. } => type_words(is_debug),
+        Fault::RecompileWithPic { .. } => (
+            "the field cannot hold an address that is known only where the image is loaded",
+            "compile position-independent code (-fPIE, for a shared object -fPIC), or give the symbol NON_INTERPOSABLE, or ABSOLUTE where its value does not move; another module's symbol a stub or a copy",
+        ),
+        Fault::UnknownSequence { .. } => (
+            "an instruction is to be rewritten, and its bytes, its addend or the relocation of its call are not what that needs",
+            "keep the sequences of the ABI whole, with all their relocations, one behind the other",
+        ),
+        Fault::IfuncAddend { .. } => (
+            "an entry stores what a resolver answers, and has nothing to add to it",
+            "take the function's address itself, and add in code",
+        ),
+        Fault::StaticTlsDesc { .. } => (
+            "a static executable has nothing that fills a descriptor",
+            "take another model of thread-local storage",
+        ),
+        Fault::OverlappingSites { .. } => (
+            "two relocations write one byte of the section",
+            "remove one of them",
+        ),
+        _ => distance_words(fault),
+    }
 }
 
 /// Adds a relocation: its type, its offset, its symbol and its addend.
