@@ -10,6 +10,7 @@ crates/wild_json_c/out/libwild_json_c.a, which `./build --library` makes; withou
 - Each plan has that answer by `wild_link_json` too.
 - Calls by four threads at once, and calls with each allocation refused in turn.
 - The same under valgrind, if it is there: no error, no leak.
+- All this over the toolchain's liblibc_c.a; the answers of plans and these calls also over wild_arena.c.
 - The examples in C and C++, and with cargo the one in Rust, write programs that run.
 
 It needs gcc, g++ and, for the toolchain's liblibc_c.a, `rt`.
@@ -165,6 +166,7 @@ def check_plans(room, libraries):
         written = subprocess.run([sys.executable, HERE / "plan_to_c.py"], stdin=plan.open(), capture_output=True, check=True)
         (room / "plan.c").write_bytes(written.stdout)
         check_plan(room, plan.stem, libraries, answer)
+        check_plan(room, f"{plan.stem}_arena", [libraries[0], HERE / "wild_arena.c"], answer)
 
 
 def check_json(room, libraries):
