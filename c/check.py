@@ -1,6 +1,7 @@
 #!/usr/bin/env python3
-"""Checks the libraries for C beside the gate: check.py [LIBRARY [JSON_LIBRARY]] (default: crates/wild_c/out/libwild_c.a and
-crates/wild_json_c/out/libwild_json_c.a, which `./build --library` makes; without the second its checks are left out).
+"""Checks the libraries for C beside the gate: check.py [LIBRARY [JSON_LIBRARY [PLACE_LIBRARY]]] (default: crates/wild_c/out/libwild_c.a,
+crates/wild_json_c/out/libwild_json_c.a and crates/wild_c_place/out/libwild_c_place.a, which `./build --library` makes; without the second
+or the third its checks are left out).
 
 - wild.h compiles as C11 and as C++17 without a warning. Its structs have the members, offsets and sizes of the structs of
   wild_c_layout, its enums have their numbers; so have those of rust/wild.
@@ -8,8 +9,10 @@ crates/wild_json_c/out/libwild_json_c.a, which `./build --library` makes; withou
 - Each plan, written as structs, has the answer of plans/*.answer.
 - Each row of a page with a change of a plan and its answer has that answer, unless JSON alone can express the change.
 - Each plan has that answer by `wild_link_json` too.
+- Each plan has the memory by `wild_place` that the command `place` prints.
 - Calls by four threads at once, and calls with each allocation refused in turn.
 - The same under valgrind, if it is there: no error, no leak.
+- All this over the toolchain's liblibc_c.a; the answers of plans and these calls also over wild_arena.c.
 - The examples in C and C++, and with cargo the one in Rust, write programs that run.
 
 It needs gcc, g++ and, for the toolchain's liblibc_c.a, `rt`.
@@ -77,9 +80,13 @@ def placed(members, structs, enums=()):
     return -(-at // most) * most, most, offsets
 
 
+def structs_of_crate(crate):
+    return structs_of("".join(path.read_text() for path in sorted((TOP / f"crates/{crate}/src").glob("*.rt"))), "C")
+
+
 def check_structs(room):
-    text = "".join(path.read_text() for path in sorted((TOP / "crates/wild_c_layout/src").glob("*.rt")))
-    ours = structs_of(text, "C")
+    of_layout = structs_of_crate("wild_c_layout")
+    ours = {**of_layout, **structs_of_crate("wild_c_place")}
     lists = {"Bytes": "bytes", "ThunkBlock": "thunk_block"}  # structs of one list, which C has as the list itself
     lines = ['#include "wild.h"', "#include <stddef.h>"]
     for name, members in ours.items():
@@ -95,7 +102,7 @@ def check_structs(room):
     enums = re.findall(r"^    (\w+): \w+(?: = \d+)?,", rust, re.M)
     theirs = structs_of(rust, "")
     theirs["Warning"] = re.findall(r"^    (\w+): (.*),$", re.search(r"struct RawWarning \{\n(.*?)\n\}", rust, re.S)[1], re.M)
-    for name, members in ours.items():
+    for name, members in of_layout.items():
         if name not in lists:
             check(f"rust/wild: {name}", name in theirs and placed(members, ours) == placed(theirs[name], theirs, enums), theirs.get(name))
 
@@ -113,10 +120,10 @@ def check_choices(header, rust):
         check(f"rust/wild: {kind}s", listed == ["Library" if kind == "FileRole" and name == "Dynamic" else name for name in ours], listed)
 
 
-def fault_names():
+def fault_names(crate="wild_types", kind="Fault"):
     """The names of faults, in the order of the sources."""
-    fault = (TOP / "crates/wild_types/src/fault.rt").read_text()
-    names = re.findall(r"^    (\w+)(?: \{|,)$", re.search(r"pub enum Fault \{\n(.*?)\n\}", fault, re.S)[1], re.M)
+    fault = (TOP / f"crates/{crate}/src/fault.rt").read_text()
+    names = re.findall(r"^    (\w+)(?: \{[^\n]*|,)$", re.search(rf"pub enum {kind} \{{\n(.*?)\n\}}", fault, re.S)[1], re.M)
     return [name for name in names if name != "OutOfMemory"]
 
 
@@ -124,9 +131,10 @@ def check_numbers():
     """Choices, faults and flags of the header against the sources."""
     header = (HERE / "wild.h").read_text()
     check_choices(header, (TOP / "rust/wild/src/structs.rs").read_text())
-    listed = re.search(r"enum \{\s*(WILD_MALFORMED_LAYOUT.*?)\};", header, re.S)[1]
-    given = [word.split("=")[0].strip() for word in listed.split(",")]
-    check("faults", given == [f"WILD_{snake(name).upper()}" for name in fault_names()], given)
+    for what, first, names in (("faults", "WILD_MALFORMED_LAYOUT", fault_names()), ("faults of loading", "WILD_NOT_ELF", fault_names("wild_loader", "LoadFault"))):
+        listed = re.search(rf"enum \{{\s*({first}.*?)\}};", header, re.S)[1]
+        given = [word.split("=")[0].strip() for word in listed.split(",")]
+        check(what, given == [f"WILD_{snake(name).upper()}" for name in names], given)
     symbol = (TOP / "crates/wild_types/src/symbol.rt").read_text()
     flags = re.findall(r"^        const (\w+) = (\d+);", symbol, re.M)
     check("flags", all(re.search(rf"WILD_FLAG_{name} = {bit}\b", header) for name, bit in flags), flags)
@@ -165,6 +173,7 @@ def check_plans(room, libraries):
         written = subprocess.run([sys.executable, HERE / "plan_to_c.py"], stdin=plan.open(), capture_output=True, check=True)
         (room / "plan.c").write_bytes(written.stdout)
         check_plan(room, plan.stem, libraries, answer)
+        check_plan(room, f"{plan.stem}_arena", [libraries[0], HERE / "wild_arena.c"], answer)
 
 
 def check_json(room, libraries):
@@ -176,6 +185,23 @@ def check_json(room, libraries):
     for text, status, said in (("{", 3, "not a plan: json\n"), ('{"page_size":-1}', 3, "not a plan: /page_size\n"), ("{}", 1, "refused MalformedLayout clause=1 index=0\n")):
         ran = subprocess.run([program], input=text, capture_output=True, text=True)
         check(f"{text}: by JSON", (ran.returncode, ran.stdout) == (status, said), (ran.returncode, ran.stdout))
+
+
+def check_place(room, libraries):
+    """Each plan by wild_place, in a world without answers, and by the command `place`."""
+    for plan in sorted((TOP / "plans").glob("*.json")):
+        written = subprocess.run([sys.executable, HERE / "plan_to_c.py"], stdin=plan.open(), capture_output=True, check=True)
+        (room / "plan.c").write_bytes(written.stdout)
+        program = built(room, f"{plan.stem}_place", ["plan.c", HERE / "place.c"], libraries)
+        ran = subprocess.run([program], capture_output=True, text=True)
+        text = f'{{"plan":{plan.read_text()}}}'
+        wanted = subprocess.run([TOP / "place", "1"], input=text, capture_output=True, text=True)
+        said = wanted.stdout
+        if wanted.returncode == 10:
+            name, value = said.split()[2], re.search(r"=(\d+)$", said.strip())
+            said = f"not placed {fault_names('wild_loader', 'LoadFault').index(name) + 1} {value[1] if value else 0}\n"
+        same = ran.returncode == wanted.returncode and (ran.returncode not in (0, 10) or ran.stdout == said)
+        check(f"{plan.stem}: place, status {wanted.returncode}", same, (ran.returncode, ran.stdout[:200], said[:200]))
 
 
 def check_rows(room, libraries):
@@ -234,6 +260,7 @@ def main():
     heap = Path(shutil.which("rt") or "/").resolve().parent.parent / "c/liblibc_c.a"
     libraries = [library, heap]
     by_json = Path(sys.argv[2] if len(sys.argv) > 2 else TOP / "crates/wild_json_c/out/libwild_json_c.a").resolve()
+    placer = Path(sys.argv[3] if len(sys.argv) > 3 else TOP / "crates/wild_c_place/out/libwild_c_place.a").resolve()
     with tempfile.TemporaryDirectory() as folder:
         room = Path(folder)
         (room / "both.c").write_text('#include "wild.h"\nint main(void) { wild_layout l = WILD_LAYOUT_INIT; return (int)l.kind; }\n')
@@ -249,6 +276,10 @@ def main():
             check_json(room, [by_json, heap])
         else:
             print(f"left out: plans in JSON, without {by_json}")
+        if placer.exists():
+            check_place(room, [placer, heap])
+        else:
+            print(f"left out: memory, without {placer}")
         check_examples(room, libraries)
     if failures:
         sys.exit(f"check.py: {len(failures)} wrong: {', '.join(failures[:10])}")

@@ -266,7 +266,8 @@ enum {
     WILD_NO_LAYOUT = 3,  /* a number is none of its enum, or the version is another; of wild_link_json: the text is no plan; of
                             wild_fault_text: the struct has no fault */
     WILD_NO_MEMORY = 6,  /* out of memory */
-    WILD_WRONG_SIZE = 8  /* a buffer has another size than what is written into it */
+    WILD_WRONG_SIZE = 8, /* the size of a buffer is not that of the output */
+    WILD_NOT_PLACED = 10 /* of wild_place: the loader does not load the image */
 };
 
 /* Faults: the names of docs/FAULTS.md, in its order. */
@@ -296,6 +297,42 @@ typedef struct {
     uint64_t symbol, address;
 } wild_warning;
 
+/* The world in which an image is loaded (docs/PLACER.md): the base, an answer for each dynamic symbol index, what resolvers return, and
+   where the thread-local data of modules is. */
+typedef struct {
+    uint64_t address; /* of the symbol */
+    uint64_t module, offset; /* of its thread-local data */
+    uint64_t size;
+    wild_bytes bytes; /* at first */
+} wild_answer;
+#define WILD_ANSWER_INIT { 0, 0, 0, 0, WILD_EMPTY(uint8_t) }
+WILD_LIST(wild_answers, wild_answer);
+
+typedef struct { uint64_t address, answer; } wild_resolver;
+WILD_LIST(wild_resolvers, wild_resolver);
+
+typedef struct { uint64_t module; int64_t distance; } wild_module; /* the distance of its data from the thread pointer */
+WILD_LIST(wild_modules, wild_module);
+
+typedef struct {
+    uint64_t base;
+    wild_answers symbols;
+    wild_resolvers resolvers;
+    wild_modules modules;
+    uint64_t own_module;
+} wild_world;
+#define WILD_WORLD_INIT { 0, WILD_EMPTY(wild_answer), WILD_EMPTY(wild_resolver), WILD_EMPTY(wild_module), 0 }
+
+/* Why an image is not loaded: the names of docs/PLACER.md. The value is an offset, a tag, a number, an index, a value or an address. */
+enum {
+    WILD_NOT_ELF = 1, WILD_CUT, WILD_NO_TABLE, WILD_UNKNOWN_DYNAMIC, WILD_UNKNOWN_SYMBOL, WILD_NO_ANSWER, WILD_UNLOADED, WILD_WRAPS,
+    WILD_OVERLAP
+};
+typedef struct {
+    uint32_t fault;
+    uint64_t value;
+} wild_load_fault;
+
 /* The size of the image in bytes. WILD_WRONG_SIZE: it is 2^64 or more. */
 uint32_t wild_image_size(const wild_layout *layout, uint64_t *size);
 
@@ -313,6 +350,12 @@ uint32_t wild_needs(const wild_layout *layout, uint64_t *sizes, size_t sizes_len
    No line is longer than WILD_FAULT_TEXT. */
 #define WILD_FAULT_TEXT 256u
 uint32_t wild_fault_text(const wild_fault *fault, uint8_t *out, size_t out_len, size_t *used);
+
+/* Writes the memory of the layout in the world into `out`: the bytes of the loaded segments, of each as many as its mem_size, one segment
+   after another. `out` must have the sum of these sizes. Only WILD_WRITTEN changes `out`, only WILD_REFUSED changes `fault`, only
+   WILD_NOT_PLACED changes `load_fault`. In libwild_c_place.a. */
+uint32_t wild_place(const wild_layout *layout, const wild_world *world, uint8_t *out, size_t out_len, wild_fault *fault,
+                    wild_load_fault *load_fault);
 
 /* The text that `link 1` prints for a plan in JSON (docs/PLAN.md), into the front of `out`, and its length into `used`. The status is that of
    `link`: 0, 1 or 3. WILD_WRONG_SIZE: the text is longer than `out`; only `used` was written. In libwild_json_c.a. */
