@@ -45,6 +45,7 @@ use Rattle.wild_checker.specs.declared.instructions.SlotUse.{SlotUse}
 use Rattle.wild_checker.specs.declared.instructions.SlotUse.TheVariants as uses
 use Rattle.wild_checker.specs.declared.instructions.SlotInstruction.{SlotInstruction}
 use Rattle.wild_checker.specs.Loaded.{Loaded}
+use Rattle.wild_checker.specs.Files.{file_for}
 use Rattle.wild_checker.specs.References.{addend_of, knows_offsets}
 use Rattle.wild_checker.specs.Slots.{stub_term, is_at_stub}
 use Rattle.wild_checker.specs.Symbols.{loaded_term}
@@ -183,7 +184,7 @@ same_effect k f sort (Some i) a old (Some new) = same_actions k f sort i (code_a
 
 -- the code in place of an instruction of the input has the effect that this requires, in every world
 abbrev pub is_rewrite : Loaded → File → InputSection → InputRelocation → Shape → ℕ → Bool
-is_rewrite k f s r t start = same_effect k f t.sort r.symbol (s.address + start) (slice_range s.bytes start (r.offset + 4)) (code_bytes k.memory (s.address + start) (length t.cells))
+is_rewrite k f s r t start = same_effect k (file_for k f r.symbol) t.sort r.symbol (s.address + start) (slice_range s.bytes start (r.offset + 4)) (code_bytes k.memory (s.address + start) (length t.cells))
 
 -- ---- a walk over the relocations of a section
 

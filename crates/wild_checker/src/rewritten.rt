@@ -11,6 +11,7 @@ ghost use Rattle.wild_loader.specs.Rows.{template_of};
 ghost use Rattle.wild_checker.specs.Loaded.{loaded_now};
 ghost use Rattle.wild_checker.specs.Rewritten.{shape_of, sort_of, nop, code_action, code_bytes, same_deed, operand_term, is_no_difference, is_low, is_stub_in_slot, is_offset, is_required, is_operand, same_effect, is_rewritten, bytes_after, next_cursor, begins_none, is_in_code, rewritten_start};
 
+use crate::files::file_for;
 use crate::instructions::{SlotInstruction, SlotUse, instruction_before};
 use crate::loaded::LoadedRef;
 use crate::references::{addend, knows_offsets};
@@ -352,6 +353,7 @@ fn is_rewritten(
     let start = end - size;
     let address = section.address + start as u64;
     let old = &section.bytes.as_slice()[start..end];
+    let file = file_for(loaded, file, relocation.symbol);
     cursor.clear <= start as u128
         && is_same_effect(
             loaded,
