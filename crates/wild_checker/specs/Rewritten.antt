@@ -215,14 +215,15 @@ abbrev pub is_for_x86_64 : Machine → Bool
 is_for_x86_64 machine.X86_64 = true
 is_for_x86_64 machine.AArch64 = false
 
--- the relocation is in code and in no sequence, and its addend only compensates for the origin of its field's distance
+-- The relocation is in code and in no sequence, and its addend only compensates for the origin of its field's distance. The next address
+-- of its instruction is an address too.
 abbrev pub is_in_code : Loaded → InputSection → Cursor → InputRelocation → Bool
 is_in_code k s c r =
     is_for_x86_64 k.layout.machine
     && (s.flags / shf_execinstr % 2 == 1
     && (begins_none c.last
     && ((addend_of r + 4) % 2 ^ 64 == 0
-    && (nat_le (r.offset + 4) (length s.bytes) && nat_lt (s.address + r.offset + 4) (2 ^ 64)))))
+    && (nat_le (r.offset + 4) (length s.bytes) && nat_lt (s.address + r.offset + 5) (2 ^ 64)))))
 
 -- an instruction of the input that ends at an offset starts after all earlier ones, and was rewritten
 abbrev pub is_rewritten : Loaded → File → InputSection → Cursor → InputRelocation → Shape → ℕ → Bool
