@@ -7,7 +7,7 @@
 --   is_rewrite ..         the code in memory has the effect that the input's instruction requires, in every world
 --   next_cursor m c r     where a walk over a section's relocations is after one
 --   rewritten_start ..    the start of a relocation's instruction, if that was rewritten and has the effect that it requires
-use Rattle.std.specs.Prelude.{ℕ, ◌+◌, ◌-◌, ◌/◌, ◌%◌, ◌^◌, ◌==◌, ◌&&◌, ◌||◌, Bool, true, false, not, if◌then◌else◌, nat_le, nat_lt, max, length, map, slice_get, slice_range, take, List, [], ◌∷◌, ◌++◌, Option, Some, None, option_map, option_and_then}
+use Rattle.std.specs.Prelude.{ℕ, ◌+◌, ◌-◌, ◌/◌, ◌%◌, ◌^◌, ◌==◌, ◌&&◌, ◌||◌, Bool, true, false, not, if◌then◌else◌, nat_le, nat_lt, max, length, map, slice_get, slice_range, take, List, [], ◌∷◌, ◌++◌, Option, Some, None, option_and_then}
 use Rattle.std.specs.List.{filter, flat_map}
 use Rattle.wild_words.specs.Words.{word}
 use Rattle.wild_records.specs.Abi.Relocation.{r_x86_64_tlsgd, r_x86_64_tlsld, r_x86_64_pltoff64, r_x86_64_tlsdesc_call}
