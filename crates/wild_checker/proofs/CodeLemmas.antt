@@ -1,15 +1,15 @@
 -- What code means at a loaded address, by what it means at its address in the layout.
-use Rattle.std.proofs.Common.{◌≡◌, ℕ, ◌+◌, ◌-◌, ◌%◌, ◌^◌, ◌<◌, ◌⊎◌, ◌&&◌, inl, inr, Bool, true, false, List, [], ◌∷◌, ◌++◌, length, drop, nat_le, refl, sym, ap, ◌∙◌, arith, subst}
-use Rattle.std.specs.Prelude.{Option, Some, None, if◌then◌else◌, ◌==◌, ⊤, option_and_then}
+use Rattle.std.proofs.Common.{◌≡◌, ℕ, ◌+◌, ◌-◌, ◌%◌, ◌^◌, ◌<◌, ◌⊎◌, ◌&&◌, inl, inr, Bool, true, false, List, [], ◌∷◌, ◌++◌, length, nat_le, refl, sym, ap, ◌∙◌, arith, subst}
+use Rattle.std.specs.Prelude.{Option, Some, None, if◌then◌else◌, ◌==◌, ⊤}
 use Rattle.std.proofs.lemmas.Bool.{cases_Bool, eq-eqb, eqb-true, and_parts}
 use Rattle.wild_loader.specs.declared.instruction.Action.{Action}
 use Rattle.wild_loader.specs.declared.instruction.Deed.{Deed}
-use Rattle.wild_loader.specs.declared.instruction.Deed.TheVariants.{Set, Add, Subtract, Compare, Call, Jump, SetThreadAddress}
+use Rattle.wild_loader.specs.declared.instruction.Deed.TheVariants.{Set, Add, Subtract, Compare, Call, Jump}
 use Rattle.wild_loader.specs.declared.instruction.Operand.{Operand}
 use Rattle.wild_loader.specs.declared.instruction.Operand.TheVariants.{Number, Word, Pair, Offset}
 use Rattle.wild_loader.specs.declared.world.World.{World}
 use Rattle.wild_loader.specs.Effect.{first_match}
-use Rattle.wild_loader.specs.Instruction.{Template, matches_cells, are_idle, template_fills, first_meaning, sum_64, signed_at}
+use Rattle.wild_loader.specs.Instruction.{Template, matches_cells, template_fills, first_meaning, sum_64, signed_at}
 use Rattle.wild_loader.specs.CodeX86_64.{Prefix, no_prefix, rex, rex2, with_slot, with_immediate, with_prefix, branch}
 use Rattle.wild_loader.specs.InstructionX86_64.{whole_sequences, branches, short, templates_x86_64, meaning_x86_64}
 use Rattle.wild_terms.specs.declared.outline.Outline.{Outline}

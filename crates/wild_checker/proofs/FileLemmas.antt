@@ -1,14 +1,17 @@
 -- Where the files' ranges of symbols ascend, a file that has a symbol is the symbol's own.
 use Rattle.std.proofs.Common.{◌≡◌, ℕ, ◌+◌, ◌<◌, ◌≤◌, Bool, true, false, ◌&&◌, List, [], ◌∷◌, ◌++◌, get_or, nat_le, nat_lt, refl, ◌∙◌, arith}
-use Rattle.std.specs.Prelude.{Option, Some, None, All, Contains, if◌then◌else◌, ◌==◌, is_some, option_and_then}
+use Rattle.std.specs.Prelude.{Option, Some, None, All, Contains, if◌then◌else◌, ◌==◌, is_some, option_and_then, slice_get}
 use Rattle.std.proofs.lemmas.Bool.{eqb-true, leb-true, ltb-true, and_parts}
 use Rattle.std.proofs.lemmas.Bool.Decides.{nat_tests}
 use Rattle.std.proofs.lemmas.List.Elements.{All-nil, All-cons, All-contains, All-weaker}
+use Rattle.wild_words.proofs.Basics.{listed_at}
 use Rattle.wild_words.proofs.ListLemmas.{All-from_flat_map}
 use Rattle.wild_types.specs.declared.file.File.{File}
 use Rattle.wild_types.specs.declared.file.Group.{Group}
 use Rattle.wild_types.specs.declared.layout.Layout.{Layout}
 use Rattle.wild_types.specs.Lookups.{files_of, file_of}
+use Rattle.wild_checker.specs.declared.loaded.FileSite.{FileSite}
+use Rattle.wild_checker.specs.Files.{file_at}
 use Rattle.wild_checker.specs.Symbols.{end_of_file, end_of_files, end_of_groups, are_ordered}
 
 -- ---- one file
@@ -122,3 +125,18 @@ own_file l g f i ordered in-groups in-files h = by (end_of_groups 0 l.groups) re
         let of-files = All-contains (λ (g : Group). All (IsFirst (files_of l.groups)) g.files) l.groups g of-groups in-groups in
         let both = and_parts (nat_le f.first_symbol i) (nat_lt i (f.first_symbol + f.symbol_count)) h in
         All-contains (IsFirst (files_of l.groups)) g.files f of-files in-files i (leb-true f.first_symbol i both.0, ltb-true i (f.first_symbol + f.symbol_count) both.1)
+
+-- ---- the file at a position
+
+pub record IsListed (l : Layout) (f : File) : Type 0 where
+  pub group : Group
+  pub grouped : Contains l.groups group
+  pub filed : Contains group.files f
+
+pub listed_by : (l : Layout) (site : Option FileSite) (f : File) → file_at l site ≡ Some f → IsListed l f
+listed_by l None f h = cc
+listed_by l (Some site) f h = by (slice_get l.groups site.group) refl h
+  where
+    by : (o : Option Group) → slice_get l.groups site.group ≡ o → option_and_then (λ (g : Group). slice_get g.files site.file) o ≡ Some f → IsListed l f
+    by None e h = cc
+    by (Some g) e h = record { group = g; grouped = listed_at l.groups site.group g e; filed = listed_at g.files site.file f h }

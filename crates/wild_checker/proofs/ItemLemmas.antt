@@ -33,6 +33,7 @@ use Rattle.wild_terms.specs.declared.term.Term.{Term}
 use Rattle.wild_terms.specs.Values.{value_of}
 use Rattle.wild_references.specs.Laws.{FieldHolds}
 use Rattle.wild_references.specs.PlainLaws.{RowsHaveFormulas}
+use Rattle.wild_checker.specs.Files.{file_for}
 use Rattle.wild_checker.specs.Loaded.{Loaded}
 use Rattle.wild_checker.specs.References.{old_field, value_term, word_term, value_holds, is_inside, field_holds, has_offset_mode, is_mark, mark_holds, holds_by_row, reference_holds}
 use Rattle.wild_checker.specs.Sections.{is_settled}
@@ -45,7 +46,7 @@ use Rattle.wild_types.specs.declared.kind.Machine.TheVariants as machine
 use Rattle.wild_meaning.proofs.PairLemmas.{as_double}
 use Rattle.wild_checker.specs.declared.rewritten.Cursor.{Cursor}
 use Rattle.wild_checker.specs.Rewritten.{rewritten_start, first_cursor}
-use Rattle.wild_checker.proofs.PlacedSections.{Laws, IsItem, IsChecked}
+use Rattle.wild_checker.proofs.PlacedSections.{Laws, IsItem, IsChecked, item_for}
 use Rattle.wild_checker.proofs.PlainLemmas.{IsKeptAt, none_if, pair_kept, input_byte, own_kept}
 use Rattle.wild_checker.proofs.RewrittenLemmas.{IsRewritten, rewritten, number_is, size_is, formula_is, position_of, single, holds_rewritten}
 use Rattle.wild_checker.proofs.WalkLemmas.{InRewritten, cursor_at, settled_at}
@@ -58,9 +59,8 @@ data IsFound (k : Loaded) (f : File) (s : InputSection) (r : InputRelocation) : 
   -- the field has a value
   Field : (row : RelocationKindInfo) → row_of k.layout.machine r.number ≡ Some row → (x : Term) → (value_term k f s r row ≡ Some x) ⊎ (word_term k s r row ≡ Some x) → is_inside s r row ≡ true → value_holds k s r row x ≡ true → IsFound k f s r
 
-found : (k : Loaded) (f : File) (s : InputSection) (r : InputRelocation) → reference_holds k f s r ≡ true → IsFound k f s r
-unfolding reference_holds
-found k f s r h = by_row (row_of k.layout.machine r.number) refl h
+found_by : (k : Loaded) (f : File) (s : InputSection) (r : InputRelocation) → holds_by_row k f s r (row_of k.layout.machine r.number) ≡ true → IsFound k f s r
+found_by k f s r h = by_row (row_of k.layout.machine r.number) refl h
   where
     by_value : (row : RelocationKindInfo) → row_of k.layout.machine r.number ≡ Some row → (o : Option Term) → ((x : Term) → o ≡ Some x → (value_term k f s r row ≡ Some x) ⊎ (word_term k s r row ≡ Some x)) → field_holds k s r row o ≡ true → IsFound k f s r
     by_value row e None is h = cc
@@ -81,6 +81,10 @@ found k f s r h = by_row (row_of k.layout.machine r.number) refl h
     by_row : (o : Option RelocationKindInfo) → row_of k.layout.machine r.number ≡ o → holds_by_row k f s r o ≡ true → IsFound k f s r
     by_row None e h = cc
     by_row (Some row) e h = by_mark row e (is_mark (expression_of row.kind).term) refl h
+
+found : (k : Loaded) (f : File) (s : InputSection) (r : InputRelocation) → reference_holds k f s r ≡ true → IsFound k (file_for k f r.symbol) s r
+unfolding reference_holds
+found k f s r h = found_by k (file_for k f r.symbol) s r h
 
 -- the field has its formula's value, and no other module may define a symbol whose address it has
 record IsRight (k : Loaded) (w : World) (m : Memory) (item : Item) (r : InputRelocation) : Type 0 where
@@ -159,9 +163,15 @@ right_field k f w m item s r row x laws n is known there h =
 right : (k : Loaded) (f : File) (w : World) (m : Memory) (item : Item) (s : InputSection) (r : InputRelocation) → Laws → IsItem k f w m item s → reference_holds k f s r ≡ true → IsRight k w m item r
 right k f w m item s r laws n h = by (found k f s r h)
   where
-    by : IsFound k f s r → IsRight k w m item r
-    by (Mark row is mark h) = right_mark k f w m item s r row laws n is mark h
-    by (Field row is x known there h) = right_field k f w m item s r row x laws n is known there h
+    g : File
+    g = file_for k f r.symbol
+
+    placed : IsItem k g w m item s
+    placed = item_for k f w m item s r.symbol n
+
+    by : IsFound k g s r → IsRight k w m item r
+    by (Mark row is mark h) = right_mark k g w m item s r row laws placed is mark h
+    by (Field row is x known there h) = right_field k g w m item s r row x laws placed is known there h
 
 -- ---- the item
 

@@ -1,6 +1,6 @@
 -- What is known of a section of the layout that was looked at, in a memory that follows the terms.
-use Rattle.std.proofs.Common.{◌≡◌, ℕ, ◌%◌, true}
-use Rattle.std.specs.Prelude.{None}
+use Rattle.std.proofs.Common.{◌≡◌, ℕ, ◌%◌, true, refl}
+use Rattle.std.specs.Prelude.{Option, None, Some, unwrap_or}
 use Rattle.wild_reloc.specs.Agreement.{WidthsHold}
 use Rattle.wild_types.specs.declared.file.File.{File}
 use Rattle.wild_types.specs.declared.input.InputSection.{InputSection}
@@ -12,9 +12,11 @@ use Rattle.wild_terms.specs.Laws.{Follows}
 use Rattle.wild_references.specs.PlainLaws.{PlainInstructionsDo, RowsHaveFormulas}
 use Rattle.wild_references.proofs.StubCode.{StubLaws}
 use Rattle.wild_checker.specs.Bytes.{are_in_order}
+use Rattle.wild_checker.specs.Files.{site_of, find_file, file_for}
 use Rattle.wild_checker.specs.Loaded.{Loaded}
 use Rattle.wild_checker.specs.Rewritten.{first_cursor}
 use Rattle.wild_checker.specs.Sections.{changed_gap, first_doubt}
+use Rattle.wild_checker.proofs.FileLemmas.{listed_by}
 use Rattle.wild_checker.proofs.ValueLemmas.{Known}
 
 pub record Laws : Type 0 where
@@ -39,3 +41,17 @@ pub record IsChecked (k : Loaded) (f : File) (s : InputSection) : Type 0 where
   pub order : are_in_order k.layout.machine 0 s.relocations ≡ true
   pub references : first_doubt k f s first_cursor 0 s.relocations ≡ None
   pub bytes : changed_gap k f s first_cursor s.relocations ≡ None
+
+-- the same with the file in which a symbol is looked for
+known_for : (k : Loaded) (f : File) (w : World) (o : Option ℕ) → Known k f w → Known k (file_for k f o) w
+known_for k f w None n = n
+known_for k f w (Some i) n = by (find_file k i) refl
+  where
+    by : (o : Option File) → find_file k i ≡ o → Known k (unwrap_or o f) w
+    by None e = n
+    by (Some g) e =
+        let at = listed_by k.layout (site_of k.files i) g e in
+        record { group = at.group; grouped = at.grouped; filed = at.filed; ordered = n.ordered; numbers = n.numbers; world = n.world; own = n.own; resolvers = n.resolvers; raw = n.raw }
+
+pub item_for : (k : Loaded) (f : File) (w : World) (m : Memory) (item : Item) (s : InputSection) (o : Option ℕ) → IsItem k f w m item s → IsItem k (file_for k f o) w m item s
+item_for k f w m item s o n = record { address = n.address; flags = n.flags; bytes = n.bytes; relocations = n.relocations; small = n.small; known = known_for k f w o n.known; follows = n.follows; pages = n.pages }

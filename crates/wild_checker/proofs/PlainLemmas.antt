@@ -1,5 +1,5 @@
 -- Where the instruction of a relocation was not rewritten, its own bytes are the input's, and all of its fields hold.
-use Rattle.std.proofs.Common.{◌≡◌, ℕ, zero, suc, ◌+◌, ◌-◌, ◌<◌, ◌≤◌, ◌⊎◌, inl, inr, Bool, true, false, List, [], ◌∷◌, length, get_or, refl, sym, ap, ◌∙◌, arith, subst}
+use Rattle.std.proofs.Common.{◌≡◌, ℕ, zero, suc, ◌+◌, ◌-◌, ◌<◌, ◌≤◌, ◌⊎◌, inl, inr, true, false, List, [], ◌∷◌, length, get_or, refl, sym, ap, ◌∙◌, arith, subst}
 use Rattle.std.specs.Prelude.{Option, Some, None, All, Contains, ⊤, slice_get, slice_index}
 use Rattle.std.proofs.lemmas.Bool.{cases_lt, cases_eq}
 use Rattle.std.proofs.lemmas.List.Elements.{All-contains}
@@ -17,12 +17,12 @@ use Rattle.wild_types.specs.Rows.{row_of, field_bytes}
 use Rattle.wild_loader.specs.declared.memory.Memory.{Memory}
 use Rattle.wild_loader.specs.declared.world.World.{World}
 use Rattle.wild_loader.specs.Memory.{byte_in}
-use Rattle.wild_meaning.specs.Field.{formula_of, form_width, InNoField, IsInputByte}
+use Rattle.wild_meaning.specs.Field.{formula_of, form_width, IsInputByte}
 use Rattle.wild_meaning.specs.Item.{place_at}
 use Rattle.wild_meaning.specs.Sequence.{Instruction, Partner, size_of, IsOutsidePartners, IsOwnByte, instructions_of}
-use Rattle.wild_meaning.specs.Template.{IsInstruction, IsSingle, IsOfSequence, IsTemplate}
+use Rattle.wild_meaning.specs.Template.{IsInstruction, IsSingle, IsTemplate}
 use Rattle.wild_meaning.proofs.AmongLemmas.{Among, pick}
-use Rattle.wild_meaning.proofs.PairLemmas.{IsGetterCall, PairOf, as_pair, are_several, only_one}
+use Rattle.wild_meaning.proofs.PairLemmas.{IsGetterCall, as_pair, are_several, only_one}
 use Rattle.wild_checker.specs.Bytes.{field_end}
 use Rattle.wild_checker.specs.Loaded.{Loaded}
 use Rattle.wild_checker.specs.Rewritten.{has_no_partner, bytes_after, reach, begins_none, rewritten_start, first_cursor}

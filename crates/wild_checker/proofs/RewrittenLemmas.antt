@@ -1,7 +1,7 @@
 -- A reference whose rewritten instruction is accepted holds: the code in memory has the effect that the input's instruction requires.
-use Rattle.std.proofs.Common.{◌≡◌, ℕ, zero, suc, ◌+◌, ◌-◌, ◌/◌, ◌%◌, ◌^◌, ◌<◌, ◌≤◌, ◌⊎◌, ◌&&◌, ◌||◌, inl, inr, Bool, true, false, List, [], ◌∷◌, length, take, get_or, nat_le, nat_lt, refl, sym, ap, ◌∙◌, arith, subst}
-use Rattle.std.specs.Prelude.{Option, Some, None, All, Contains, if◌then◌else◌, not, ◌==◌, ⊤, is_some, slice_get, slice_range, option_map, option_and_then}
-use Rattle.std.proofs.lemmas.Bool.{cases_Bool, cases_lt, cases_eq, eq-eqb, eqb-true, leb-true, ltb-true, and_parts, or_cases, not-true}
+use Rattle.std.proofs.Common.{◌≡◌, ℕ, zero, suc, ◌+◌, ◌-◌, ◌/◌, ◌%◌, ◌^◌, ◌<◌, ◌≤◌, ◌⊎◌, ◌&&◌, ◌||◌, inl, inr, Bool, true, false, List, [], ◌∷◌, length, take, get_or, nat_le, refl, sym, ap, ◌∙◌, arith, subst}
+use Rattle.std.specs.Prelude.{Option, Some, None, All, Contains, if◌then◌else◌, not, ◌==◌, is_some, slice_get, slice_range, option_map, option_and_then}
+use Rattle.std.proofs.lemmas.Bool.{cases_Bool, cases_lt, cases_eq, eqb-true, leb-true, and_parts, or_cases, not-true}
 use Rattle.std.specs.List.{list_all}
 use Rattle.wild_words.specs.Words.{word}
 use Rattle.wild_words.proofs.Basics.{All-each, listed_passes}
@@ -39,18 +39,18 @@ use Rattle.wild_loader.specs.InstructionX86_64.{meaning_x86_64, effect_x86_64, d
 use Rattle.wild_loader.specs.Memory.{Holds}
 use Rattle.wild_meaning.specs.Field.{formula_of, form_width, InNoField}
 use Rattle.wild_meaning.specs.Formula.{IsTarget, IsOffset, KnowsOffsets}
-use Rattle.wild_meaning.specs.Item.{place_at, IsReference}
+use Rattle.wild_meaning.specs.Item.{place_at}
 use Rattle.wild_meaning.specs.Jump.{meaning_of}
 use Rattle.wild_meaning.specs.Reference.{HoldsRewritten, ReadsOffsetSlots}
 use Rattle.wild_meaning.specs.Section.{IsSet}
 use Rattle.wild_meaning.specs.Sequence.{Sort, TargetInSlot, AddressInSlot, OffsetInSlot, Described, Target, SymbolPair, OwnPair, DescribedCall, Address, FieldBits, Instruction, Partner, size_of, IsOwnByte, instructions_of}
 use Rattle.wild_meaning.specs.Slot.{IsInAddressSlot}
-use Rattle.wild_meaning.specs.Template.{HasOriginAddend, IsInstruction, IsSequence, IsSingle, IsSlotAddress, Demands, IsDemanded, DoesWith, DoesDemanded, reads_without_calls, effect_of, demand_of, old_bytes}
+use Rattle.wild_meaning.specs.Template.{HasOriginAddend, IsInstruction, IsSequence, IsSingle, IsSlotAddress, Demands, IsDemanded, DoesDemanded, reads_without_calls, effect_of, demand_of, old_bytes}
 use Rattle.wild_meaning.specs.Thread.{HasThreadOffset}
 use Rattle.wild_meaning.specs.Denotes.{Denotes}
 use Rattle.wild_meaning.proofs.AmongLemmas.{Among, pick}
 use Rattle.wild_meaning.proofs.OneReference.{no_words}
-use Rattle.wild_meaning.proofs.PairLemmas.{IsGetterCall, as_its_call, are_several}
+use Rattle.wild_meaning.proofs.PairLemmas.{as_its_call, are_several}
 use Rattle.wild_meaning.proofs.SymbolLemmas.{own_definition}
 use Rattle.wild_terms.specs.declared.term.Atom.{Atom}
 use Rattle.wild_terms.specs.declared.term.Atom.TheVariants.{Zero, Base, Address as AddressOf, Module, Offset, ThreadOffset, Size, OwnModule, OwnDistance, Resolver}
@@ -61,17 +61,17 @@ use Rattle.wild_terms.specs.Values.{value_of}
 use Rattle.wild_terms.specs.Laws.{Follows}
 use Rattle.wild_references.specs.PlainLaws.{RowsHaveFormulas}
 use Rattle.wild_checker.specs.declared.rewritten.Cursor.{Cursor}
-use Rattle.wild_checker.specs.Bytes.{field_end, are_in_order}
+use Rattle.wild_checker.specs.Files.{file_for}
 use Rattle.wild_checker.specs.Loaded.{Loaded}
 use Rattle.wild_checker.specs.References.{addend_of, knows_offsets, holds_by_row, reference_holds}
-use Rattle.wild_checker.specs.Rewritten.{Shape, shapes, ends_at, first_shape, shape_before, code_action, bytes_by, code_bytes, same_deed, operand_term, is_low, is_stub_in_slot, is_offset, is_required_by, is_required, is_operand, same_actions, same_effect, is_rewrite, reach, begins_none, is_for_x86_64, is_in_code, is_rewritten, start_by, rewritten_start, first_cursor}
+use Rattle.wild_checker.specs.Rewritten.{Shape, shapes, first_shape, shape_before, code_action, bytes_by, code_bytes, same_deed, operand_term, is_low, is_stub_in_slot, is_offset, is_required_by, is_required, is_operand, same_actions, same_effect, is_rewrite, begins_none, is_for_x86_64, is_in_code, is_rewritten, start_by, rewritten_start, first_cursor}
 use Rattle.wild_checker.specs.Sections.{is_settled}
 use Rattle.wild_checker.specs.Slots.{stub_term, is_at_stub}
 use Rattle.wild_checker.specs.Symbols.{loaded_term}
 use Rattle.wild_checker.specs.Threads.{thread_term, may_be_zero}
 use Rattle.wild_checker.proofs.CodeLemmas.{IsMoved, HasNumber, moved_code, number_at_place, low_bits, deed_is}
-use Rattle.wild_checker.proofs.PlacedSections.{Laws, IsItem, IsChecked}
-use Rattle.wild_checker.proofs.ShapeLemmas.{IsInSlot, IsShaped, IsFound, found_shape, EndsThere, longest}
+use Rattle.wild_checker.proofs.PlacedSections.{Laws, IsItem, IsChecked, item_for}
+use Rattle.wild_checker.proofs.ShapeLemmas.{IsInSlot, IsFound, found_shape, EndsThere, longest}
 use Rattle.wild_checker.proofs.SlotLemmas.{CodeLaws, stub_is, stub_address, at_stub}
 use Rattle.wild_checker.proofs.ThreadLemmas.{thread_is, zero_is}
 use Rattle.wild_checker.proofs.ValueLemmas.{Known, loaded_value}
@@ -173,7 +173,7 @@ row_there : (k : Loaded) (f : File) (s : InputSection) (r : InputRelocation) →
 unfolding reference_holds
 row_there k f s r h = by (row_of k.layout.machine r.number) refl h
   where
-    by : (o : Option RelocationKindInfo) → row_of k.layout.machine r.number ≡ o → holds_by_row k f s r o ≡ true → (row : RelocationKindInfo) × (row_of k.layout.machine r.number ≡ Some row)
+    by : (o : Option RelocationKindInfo) → row_of k.layout.machine r.number ≡ o → holds_by_row k (file_for k f r.symbol) s r o ≡ true → (row : RelocationKindInfo) × (row_of k.layout.machine r.number ≡ Some row)
     by None e h = cc
     by (Some row) e h = (row, e)
 
@@ -618,8 +618,11 @@ done k f w m item s c r start laws n h = record {
     old : List ℕ
     old = slice_range s.bytes start (r.offset + 4)
 
-    p : IsCompared k f r h.shape.sort a old (code_bytes k.memory a (length h.shape.cells))
-    p = compared k f r h.shape.sort a old (code_bytes k.memory a (length h.shape.cells)) h.effect
+    g : File
+    g = file_for k f r.symbol
+
+    p : IsCompared k g r h.shape.sort a old (code_bytes k.memory a (length h.shape.cells))
+    p = compared k g r h.shape.sort a old (code_bytes k.memory a (length h.shape.cells)) h.effect
 
     place : w.base + a ≡ place_at w item start
     place = let address = n.address in omega (arith, address)
@@ -637,7 +640,7 @@ done k f w m item s c r start laws n h = record {
     held = subst (λ (x : ℕ). Holds m x p.new) place there.held
 
     need : IsRequired k w m item r h.shape.sort p.after.width p.term
-    need = required k f w m item s r p.symbol h.shape.sort p.after.width p.term laws n (subst (λ (x : ℕ). IsSet x shf_execinstr) (sym n.flags) h.code.code) p.named p.required
+    need = required k g w m item s r p.symbol h.shape.sort p.after.width p.term laws (item_for k f w m item s r.symbol n) (subst (λ (x : ℕ). IsSet x shf_execinstr) (sym n.flags) h.code.code) p.named p.required
 
     number : HasNumber w (w.base + a) p.new p.after p.term
     number = number_at_place k.outline w a p.new p.after p.next p.term n.known.world p.acts p.moves p.operand

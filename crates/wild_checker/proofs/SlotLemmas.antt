@@ -1,7 +1,7 @@
 -- Slots and stubs that are found to hold a symbol's value are the symbol's.
-use Rattle.std.proofs.Common.{◌≡◌, ℕ, ◌+◌, ◌-◌, ◌/◌, ◌%◌, ◌^◌, ◌<◌, ◌⊎◌, inl, inr, Bool, true, false, ◌&&◌, List, [], ◌∷◌, length, nat_le, nat_lt, refl, sym, ap, ◌∙◌, arith, subst}
+use Rattle.std.proofs.Common.{◌≡◌, ℕ, ◌+◌, ◌-◌, ◌%◌, ◌^◌, ◌<◌, ◌⊎◌, inl, inr, Bool, true, false, ◌&&◌, nat_lt, refl, sym, ap, ◌∙◌, arith, subst}
 use Rattle.std.specs.Prelude.{Option, Some, None, Ok, if◌then◌else◌, ◌==◌, ◌||◌, not, slice_get, slice_index, option_map, option_and_then}
-use Rattle.std.proofs.lemmas.Bool.{eqb-true, leb-true, ltb-true, and_parts, or_cases, not-true}
+use Rattle.std.proofs.lemmas.Bool.{eqb-true, and_parts, or_cases, not-true}
 use Rattle.wild_words.specs.Words.{word, number}
 use Rattle.wild_words.proofs.WordLemmas.{length-word, number-word}
 use Rattle.wild_reloc.specs.declared.expression.SlotSort.{SlotSort}
@@ -46,7 +46,7 @@ use Rattle.wild_checker.specs.Loaded.{Loaded}
 use Rattle.wild_checker.specs.Bytes.{has_bytes}
 use Rattle.wild_checker.specs.Symbols.{raw_in, is_equal, loaded_term}
 use Rattle.wild_checker.specs.Threads.{module_term, offset_term, thread_term, may_be_zero, begin_offset}
-use Rattle.wild_checker.specs.Slots.{is_known, are_same, holds_value, holds_pair, holds_slot, slot_place, slot_by, symbol_slot, own_pair_by, slot_term, is_for, has_places, is_stub, is_strong, stub_by, stub_term, is_at_stub, holds_stub, holds_address}
+use Rattle.wild_checker.specs.Slots.{is_known, are_same, holds_value, holds_pair, holds_slot, slot_place, slot_by, symbol_slot, own_pair_by, slot_term, is_for, has_places, is_stub, is_strong, stub_by, stub_term, is_at_stub, holds_stub}
 use Rattle.wild_checker.proofs.ByteLemmas.{bytes_held}
 use Rattle.wild_checker.proofs.ValueLemmas.{Known, mapped, raw_is, one_symbol, loaded_value}
 use Rattle.wild_checker.proofs.ThreadLemmas.{thread_is, zero_is, pair_is, begin_is}

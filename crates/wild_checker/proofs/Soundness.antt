@@ -40,8 +40,7 @@ use Rattle.wild_checker.specs.Rewritten.{first_cursor}
 use Rattle.wild_checker.specs.Search.{in_groups}
 use Rattle.wild_checker.specs.Sections.{is_loaded_slot, is_in_memory, has_frames, is_in_order, changed_gap, changed_byte, first_doubt, doubtful_reference}
 use Rattle.wild_checker.specs.Segments.{segment_doubt}
-use Rattle.wild_checker.specs.Symbols.{are_ordered}
-use Rattle.wild_checker.specs.Verdict.{HoldsIn, by_reference, by_byte, whole, by_segment, IsRefusal, IsReadVerdict, IsOutlined, YesIsFounded}
+use Rattle.wild_checker.specs.Verdict.{HoldsIn, by_reference, by_byte, whole, loaded_image, by_segment, IsRefusal, IsReadVerdict, IsOutlined, YesIsFounded}
 use Rattle.wild_checker.proofs.ItemLemmas.{item_holds}
 use Rattle.wild_checker.proofs.PlacedSections.{Laws, IsChecked}
 use Rattle.wild_checker.proofs.SegmentLemmas.{room_for}
@@ -52,15 +51,15 @@ use Rattle.wild_checker.proofs.ValueLemmas.{Known}
 
 record Found (l : Layout) (o : Outline) (image : List ℕ) (t : Symbolic) : Type 0 where
   segments : segment_doubt l image ≡ Ok None
-  bytes : in_groups (changed_byte (record { layout = l; outline = o; memory = t; ordered = are_ordered l })) 0 l.groups ≡ None
-  references : in_groups (doubtful_reference (record { layout = l; outline = o; memory = t; ordered = are_ordered l })) 0 l.groups ≡ None
+  bytes : in_groups (changed_byte (loaded_image l o t)) 0 l.groups ≡ None
+  references : in_groups (doubtful_reference (loaded_image l o t)) 0 l.groups ≡ None
 
 found : (l : Layout) (o : Outline) (image : List ℕ) (t : Symbolic) (d : Option ℕ) → segment_doubt l image ≡ Ok d → Yes ≡ by_segment l o t d → Found l o image t
 found l o image t (Some index) d h = cc
 found l o image t None d h = by_debug l.options.only_keep_debug h
   where
     k : Loaded
-    k = record { layout = l; outline = o; memory = t; ordered = are_ordered l }
+    k = loaded_image l o t
 
     by_references : in_groups (changed_byte k) 0 l.groups ≡ None → (x : Option Site) → in_groups (doubtful_reference k) 0 l.groups ≡ x → Yes ≡ by_reference x → Found l o image t
     by_references b None e h = record { segments = d; bytes = b; references = e }
@@ -137,14 +136,14 @@ small_section l g f s n in-groups in-files in-sections =
 kept_holds : (l : Layout) (o : Outline) (w : World) (m : Memory) (image : List ℕ) (t : Symbolic) → Laws → RawValuesAreAddresses → NumbersFit l → IsWorldOf o w → IsLegal l w → Follows w t m → Found l o image t → (item : Item) → IsKept l item → ItemHolds l w m item
 kept_holds l o w m image t laws raw numbers world legal follows h item (OfSection s k e) =
     let i = k.input in
-    let loaded : Loaded = record { layout = l; outline = o; memory = t; ordered = are_ordered l } in
+    let loaded : Loaded = loaded_image l o t in
     let r = none_at (doubtful_reference loaded) l.groups i.group i.file s h.references i.grouped i.filed i.listed in
     let b = none_at (changed_byte loaded) l.groups i.group i.file s h.bytes i.grouped i.filed i.listed in
     let p = plain loaded i.file s (no_frames s k.loaded) (in_memory s k.loaded k.room k.has_data) r b in
     let known : Known loaded i.file w = record { group = i.group; grouped = i.grouped; filed = i.filed; ordered = refl; numbers = numbers; world = world; own = legal.symbols.known; resolvers = legal.resolvers; raw = raw } in
     subst (ItemHolds l w m) (sym e) (holds loaded i.file w m s laws known follows (small_section l i.group i.file s numbers i.grouped i.filed i.listed) (page_base w.base l.page_size legal.aligned) p)
 kept_holds l o w m image t laws raw numbers world legal follows h item (OfFrames s k e) =
-    let loaded : Loaded = record { layout = l; outline = o; memory = t; ordered = are_ordered l } in
+    let loaded : Loaded = loaded_image l o t in
     let r = none_at (doubtful_reference loaded) l.groups k.group k.file s h.references k.grouped (contains_middle k.files k.files_behind k.group.files k.file k.filed) (contains_middle k.sections k.sections_behind k.file.sections s k.listed) in
     let frame = k.frame in
     let filled = k.has_data in

@@ -1,8 +1,7 @@
 -- The term of a symbol has the symbol's value.
-use Rattle.std.proofs.Common.{◌≡◌, ℕ, ◌+◌, ◌%◌, ◌^◌, ◌<◌, ◌⊎◌, inl, inr, Bool, true, false, ◌&&◌, length, nat_le, nat_lt, refl, sym, ap, ◌∙◌, arith, subst}
-use Rattle.std.specs.Prelude.{Option, Some, None, Ok, All, Contains, unwrap_or, if◌then◌else◌, ◌==◌, not, slice_get, is_some, option_map, option_and_then}
-use Rattle.std.proofs.lemmas.Bool.{eq-eqb, ltb-true, and_parts, or_cases, not-true}
-use Rattle.wild_words.proofs.Basics.{slice_get_inside}
+use Rattle.std.proofs.Common.{◌≡◌, ℕ, ◌+◌, ◌%◌, ◌^◌, ◌<◌, ◌⊎◌, inl, inr, Bool, true, false, ◌&&◌, nat_le, nat_lt, refl, sym, ap, ◌∙◌, arith, subst}
+use Rattle.std.specs.Prelude.{Option, Some, None, Ok, All, Contains, unwrap_or, if◌then◌else◌, ◌==◌, not, slice_get, option_map, option_and_then}
+use Rattle.std.proofs.lemmas.Bool.{eq-eqb, and_parts, or_cases, not-true}
 use Rattle.wild_words.proofs.ListLemmas.{holds_at}
 use Rattle.wild_records.specs.Abi.Symbol.{stt_section}
 use Rattle.wild_reloc.specs.Formula.{Value, SymbolPart, Distance, PageDistance, StubDistance}

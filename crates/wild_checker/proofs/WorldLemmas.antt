@@ -33,14 +33,14 @@ use Rattle.wild_meaning.specs.World.{IsOwnAnswer, first_module, IsFixed, IsLoada
 use Rattle.wild_meaning.proofs.SymbolLemmas.{canonical_is, own_definition}
 use Rattle.wild_meaning.proofs.WorldLemmas.{first_filtered}
 use Rattle.wild_terms.specs.declared.outline.KnownAnswer.{KnownAnswer}
-use Rattle.wild_terms.specs.declared.outline.KnownAnswer.TheVariants.{Foreign, Own}
+use Rattle.wild_terms.specs.declared.outline.KnownAnswer.TheVariants.{Foreign}
 use Rattle.wild_terms.specs.declared.outline.Outline.{Outline}
 use Rattle.wild_terms.specs.declared.term.Atom.TheVariants.{Base}
 use Rattle.wild_terms.specs.Terms.{number_term}
 use Rattle.wild_terms.specs.Outline.{has_resolver}
 use Rattle.wild_terms.specs.Values.{value_of}
 use Rattle.wild_terms.specs.Values as terms
-use Rattle.wild_checker.specs.Outline.{end_by, index_by, index_end, greatest_end, address_by, resolver_of, next_multiple, pointer_of, program_of, answer_count, own_address, own_answer, is_own, with_answer, with_resolved, with_symbol, with_symbols, known_answers, IsOutlineOf, WorldsAreOutlined}
+use Rattle.wild_checker.specs.Outline.{end_by, index_by, index_end, greatest_end, address_by, resolver_of, next_multiple, pointer_of, program_of, answer_count, own_answer, is_own, with_answer, with_resolved, with_symbol, with_symbols, known_answers, IsOutlineOf, WorldsAreOutlined}
 
 -- ---- answers
 

@@ -1,5 +1,6 @@
 pub mod Search
 pub mod Loaded
+pub mod Files
 pub mod Bytes
 pub mod Symbols
 pub mod Threads

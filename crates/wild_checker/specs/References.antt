@@ -40,6 +40,7 @@ use Rattle.wild_terms.specs.Terms.{number_term, sum, difference}
 use Rattle.wild_terms.specs.Outline.{based, size_of}
 use Rattle.wild_terms.specs.Symbolic.{Symbolic, term_at}
 use Rattle.wild_checker.specs.Loaded.{Loaded}
+use Rattle.wild_checker.specs.Files.{file_for}
 use Rattle.wild_checker.specs.Bytes.{has_bytes}
 use Rattle.wild_checker.specs.Search.{or_else}
 use Rattle.wild_checker.specs.Slots.{is_known, slot_term, stub_term, is_at_stub}
@@ -255,4 +256,4 @@ holds_by_row k f s r (Some row) = if is_mark (expression_of row.kind).term then 
 
 -- the field has the value of the reference's formula in every world
 unfoldable pub reference_holds : Loaded → File → InputSection → InputRelocation → Bool
-reference_holds k f s r = holds_by_row k f s r (row_of k.layout.machine r.number)
+reference_holds k f s r = holds_by_row k (file_for k f r.symbol) s r (row_of k.layout.machine r.number)

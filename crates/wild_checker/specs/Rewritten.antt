@@ -7,7 +7,7 @@
 --   is_rewrite ..         the code in memory has the effect that the input's instruction requires, in every world
 --   next_cursor m c r     where a walk over a section's relocations is after one
 --   rewritten_start ..    the start of a relocation's instruction, if that was rewritten and has the effect that it requires
-use Rattle.std.specs.Prelude.{ℕ, ◌+◌, ◌-◌, ◌/◌, ◌%◌, ◌^◌, ◌==◌, ◌&&◌, ◌||◌, Bool, true, false, not, if◌then◌else◌, nat_le, nat_lt, max, length, map, slice_get, slice_range, take, List, [], ◌∷◌, ◌++◌, Option, Some, None, option_map, option_and_then}
+use Rattle.std.specs.Prelude.{ℕ, ◌+◌, ◌-◌, ◌/◌, ◌%◌, ◌^◌, ◌==◌, ◌&&◌, ◌||◌, Bool, true, false, not, if◌then◌else◌, nat_le, nat_lt, max, length, map, slice_get, slice_range, take, List, [], ◌∷◌, ◌++◌, Option, Some, None, option_and_then}
 use Rattle.std.specs.List.{filter, flat_map}
 use Rattle.wild_words.specs.Words.{word}
 use Rattle.wild_records.specs.Abi.Relocation.{r_x86_64_tlsgd, r_x86_64_tlsld, r_x86_64_pltoff64, r_x86_64_tlsdesc_call}
@@ -45,6 +45,7 @@ use Rattle.wild_checker.specs.declared.instructions.SlotUse.{SlotUse}
 use Rattle.wild_checker.specs.declared.instructions.SlotUse.TheVariants as uses
 use Rattle.wild_checker.specs.declared.instructions.SlotInstruction.{SlotInstruction}
 use Rattle.wild_checker.specs.Loaded.{Loaded}
+use Rattle.wild_checker.specs.Files.{file_for}
 use Rattle.wild_checker.specs.References.{addend_of, knows_offsets}
 use Rattle.wild_checker.specs.Slots.{stub_term, is_at_stub}
 use Rattle.wild_checker.specs.Symbols.{loaded_term}
@@ -183,7 +184,7 @@ same_effect k f sort (Some i) a old (Some new) = same_actions k f sort i (code_a
 
 -- the code in place of an instruction of the input has the effect that this requires, in every world
 abbrev pub is_rewrite : Loaded → File → InputSection → InputRelocation → Shape → ℕ → Bool
-is_rewrite k f s r t start = same_effect k f t.sort r.symbol (s.address + start) (slice_range s.bytes start (r.offset + 4)) (code_bytes k.memory (s.address + start) (length t.cells))
+is_rewrite k f s r t start = same_effect k (file_for k f r.symbol) t.sort r.symbol (s.address + start) (slice_range s.bytes start (r.offset + 4)) (code_bytes k.memory (s.address + start) (length t.cells))
 
 -- ---- a walk over the relocations of a section
 
@@ -214,14 +215,15 @@ abbrev pub is_for_x86_64 : Machine → Bool
 is_for_x86_64 machine.X86_64 = true
 is_for_x86_64 machine.AArch64 = false
 
--- the relocation is in code and in no sequence, and its addend only compensates for the origin of its field's distance
+-- The relocation is in code and in no sequence, and its addend only compensates for the origin of its field's distance. The next address
+-- of its instruction is an address too.
 abbrev pub is_in_code : Loaded → InputSection → Cursor → InputRelocation → Bool
 is_in_code k s c r =
     is_for_x86_64 k.layout.machine
     && (s.flags / shf_execinstr % 2 == 1
     && (begins_none c.last
     && ((addend_of r + 4) % 2 ^ 64 == 0
-    && (nat_le (r.offset + 4) (length s.bytes) && nat_lt (s.address + r.offset + 4) (2 ^ 64)))))
+    && (nat_le (r.offset + 4) (length s.bytes) && nat_lt (s.address + r.offset + 5) (2 ^ 64)))))
 
 -- an instruction of the input that ends at an offset starts after all earlier ones, and was rewritten
 abbrev pub is_rewritten : Loaded → File → InputSection → Cursor → InputRelocation → Shape → ℕ → Bool

@@ -4,7 +4,7 @@
 --   slot_term k f sort i    the address of the slot of a sort for symbol i, if it has that content
 --   stub_term k f i         the address of symbol i's stub, if it jumps by the symbol's first slot, and that holds the symbol's value
 --   is_at_stub k f i d      the output uses the stub's address as symbol i's
-use Rattle.std.specs.Prelude.{ℕ, ◌+◌, ◌-◌, ◌^◌, ◌%◌, ◌&&◌, ◌||◌, Bool, true, false, not, ◌==◌, if◌then◌else◌, nat_lt, nat_le, slice_get, Option, Some, None, option_map, option_and_then}
+use Rattle.std.specs.Prelude.{ℕ, ◌+◌, ◌-◌, ◌^◌, ◌%◌, ◌&&◌, ◌||◌, Bool, true, false, not, ◌==◌, if◌then◌else◌, nat_lt, slice_get, Option, Some, None, option_map, option_and_then}
 use Rattle.wild_reloc.specs.declared.expression.SlotSort.{SlotSort}
 use Rattle.wild_reloc.specs.declared.expression.SlotSort.TheVariants as sorts
 use Rattle.wild_reloc.specs.Expression.{slot_sort}

@@ -6,7 +6,7 @@
 --   known_answer o x       the answer for a dynamic symbol, as far as the outline fixes it
 --   loaded_term k f i d    symbol i's value, also where another module may define the symbol
 --   names_no_strings k f i symbol i is not that of a section of merged strings
-use Rattle.std.specs.Prelude.{ℕ, ◌+◌, ◌%◌, ◌^◌, ◌==◌, ◌&&◌, ◌||◌, Bool, true, false, not, if◌then◌else◌, nat_lt, nat_le, length, slice_get, List, [], ◌∷◌, Option, Some, None, is_some, option_map, option_and_then}
+use Rattle.std.specs.Prelude.{ℕ, ◌+◌, ◌%◌, ◌^◌, ◌==◌, ◌&&◌, ◌||◌, Bool, true, false, not, if◌then◌else◌, nat_lt, nat_le, slice_get, List, [], ◌∷◌, Option, Some, None, is_some, option_map, option_and_then}
 use Rattle.wild_records.specs.Abi.Symbol.{stt_section}
 use Rattle.wild_types.specs.declared.file.File.{File}
 use Rattle.wild_types.specs.declared.file.Group.{Group}

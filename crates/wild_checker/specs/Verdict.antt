@@ -19,6 +19,7 @@ use Rattle.wild_meaning.specs.Reference.{ItemHolds}
 use Rattle.wild_terms.specs.declared.outline.Outline.{Outline}
 use Rattle.wild_terms.specs.Symbolic.{Symbolic, IsSorted, terms_of}
 use Rattle.wild_checker.specs.Loaded.{Loaded}
+use Rattle.wild_checker.specs.Files.{file_table}
 use Rattle.wild_checker.specs.declared.question.Site.{Site}
 use Rattle.wild_checker.specs.declared.verdict.Doubt.TheVariants as doubts
 use Rattle.wild_checker.specs.declared.verdict.Verdict.{Verdict}
@@ -54,10 +55,14 @@ by_byte k (Some site) = No (doubts.Byte site)
 abbrev pub whole : Site
 whole = record { group = 0; file = 0; section = 0; index = 0 }
 
+-- what the references of an image are checked against
+abbrev pub loaded_image : Layout → Outline → Symbolic → Loaded
+loaded_image l o t = record { layout = l; outline = o; memory = t; ordered = are_ordered l; files = file_table l (are_ordered l) }
+
 -- the verdict on an image whose segments to load are the layout's: the first changed byte, else the first reference
 abbrev pub sections_verdict : Layout → Outline → Symbolic → Verdict
 sections_verdict l o t =
-    let k : Loaded = record { layout = l; outline = o; memory = t; ordered = are_ordered l } in
+    let k = loaded_image l o t in
     if l.options.only_keep_debug then No (doubts.Reference whole) else by_byte k (in_groups (changed_byte k) 0 l.groups)
 
 abbrev pub by_segment : Layout → Outline → Symbolic → Option ℕ → Verdict

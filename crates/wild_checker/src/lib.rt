@@ -2,6 +2,7 @@
 #![tactic(auto)]
 
 mod bytes;
+mod files;
 mod instructions;
 mod laws;
 mod loaded;

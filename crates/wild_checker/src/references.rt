@@ -5,6 +5,7 @@ ghost use Rattle.wild_checker.specs.Loaded.{loaded_now};
 ghost use Rattle.wild_checker.specs.References.{plain_referent, is_x86_64, address_by, address_referent, referent_term, addend_of, place_term, table_term, distance_term, page_term, page_distance, less, branch_term, slot_referent, named_slot, knows_offsets, has_offset_mode, slot_less, size_term, term_less, value_by_parts, is_nothing, is_symbol, is_word, foreign_term, word_term, value_term, is_eight, is_whole, number_holds, is_part, value_holds, is_inside, is_mark, mark_holds, field_holds, reference_holds};
 
 use crate::bytes::has_bytes;
+use crate::files::file_for;
 use crate::loaded::LoadedRef;
 use crate::slots::{is_at_stub, is_known, slot_term, stub_term};
 use crate::symbols::{
@@ -559,6 +560,7 @@ pub(crate) fn reference_holds(
             if is_mark(row.kind.expression().term) {
                 return mark_holds(loaded, section, relocation, &row);
             }
+            let file = file_for(loaded, file, relocation.symbol);
             let value = value_term(loaded, file, section, relocation, &row);
             if field_holds(loaded, section, relocation, &row, value) {
                 return true;

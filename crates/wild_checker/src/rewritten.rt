@@ -9,8 +9,9 @@ ghost use Rattle.wild_words.specs.Words.{word};
 ghost use Rattle.wild_loader.specs.Instruction.{are_idle, template_fills};
 ghost use Rattle.wild_loader.specs.Rows.{template_of};
 ghost use Rattle.wild_checker.specs.Loaded.{loaded_now};
-ghost use Rattle.wild_checker.specs.Rewritten.{shape_of, sort_of, nop, code_action, code_bytes, same_deed, operand_term, is_no_difference, is_low, is_stub_in_slot, is_offset, is_required, is_operand, same_effect, is_rewritten, bytes_after, next_cursor, begins_none, is_in_code, rewritten_start};
+ghost use Rattle.wild_checker.specs.Rewritten.{shape_of, sort_of, nop, code_action, code_bytes, same_deed, operand_term, is_no_difference, is_low, is_stub_in_slot, is_offset, is_required, is_operand, same_effect, is_rewrite, is_rewritten, bytes_after, next_cursor, begins_none, is_in_code, rewritten_start};
 
+use crate::files::file_for;
 use crate::instructions::{SlotInstruction, SlotUse, instruction_before};
 use crate::loaded::LoadedRef;
 use crate::references::{addend, knows_offsets};
@@ -220,7 +221,7 @@ fn is_operand(
     }
 }
 
-/// Whether code in memory has the effect that an instruction of the input at that address requires, in every world.
+/// Whether `count` bytes of code in memory have the effect that an instruction of the input at that address requires, in every world.
 fn is_same_effect(
     loaded: &LoadedRef,
     file: &File,
@@ -228,17 +229,18 @@ fn is_same_effect(
     symbol: Option<SymbolIndex>,
     address: u64,
     old: &[u8],
+    count: usize,
 ) -> bool
     requires { address + 1 < 2 ^ 64 }
-    ensures { result ≡ same_effect (loaded_now loaded.now) file.now (sort_of slot_use) symbol address old.now (code_bytes loaded.now.memory.now address (length old.now)) }
+    ensures { result ≡ same_effect (loaded_now loaded.now) file.now (sort_of slot_use) symbol address old.now (code_bytes loaded.now.memory.now address count) }
 {
     let Some(symbol) = symbol else {
         return false;
     };
-    let Some(bytes) = code_bytes(loaded.memory, address, old.len()) else {
+    let Some(bytes) = code_bytes(loaded.memory, address, count) else {
         return false;
     };
-    let new = &bytes[..old.len()];
+    let new = &bytes[..count];
     let before = code_action(address, old);
     let after = code_action(address, new);
     let next = code_action(address + 1, new);
@@ -328,7 +330,36 @@ fn is_in_code(
         && begins_none(cursor.last)
         && addend(relocation).wrapping_add(4) == 0
         && relocation.offset as u128 + 4 <= section.bytes.len() as u128
-        && section.address as u128 + relocation.offset as u128 + 4 < 1 << 64
+        && section.address as u128 + relocation.offset as u128 + 5 < 1 << 64
+}
+
+/// Whether the code in place of an instruction of the input has the effect that this requires.
+fn is_rewrite(
+    loaded: &LoadedRef,
+    file: &File,
+    section: &InputSection,
+    relocation: &InputRelocation,
+    instruction: &SlotInstruction,
+    start: usize,
+) -> bool
+    requires inside { relocation.now.offset + 4 ≤ length section.now.bytes }
+    requires before { start ≤ relocation.now.offset + 4 }
+    requires low { section.now.address + relocation.now.offset + 5 < 2 ^ 64 }
+    ensures { result ≡ is_rewrite (loaded_now loaded.now) file.now section.now relocation.now (shape_of instruction.now) start }
+{
+    let home = file_for(loaded, file, relocation.symbol);
+    let end = relocation.offset as usize + 4;
+    let old = &section.bytes.as_slice()[start..end];
+    let address = section.address + start as u64;
+    is_same_effect(
+        loaded,
+        home,
+        instruction.slot_use,
+        relocation.symbol,
+        address,
+        old,
+        instruction.size(),
+    )
 }
 
 /// Whether an instruction of the input that ends at an offset starts after all earlier ones, and was rewritten.
@@ -341,7 +372,7 @@ fn is_rewritten(
     instruction: &SlotInstruction,
 ) -> bool
     requires inside { relocation.now.offset + 4 ≤ length section.now.bytes }
-    requires low { section.now.address + relocation.now.offset + 4 < 2 ^ 64 }
+    requires low { section.now.address + relocation.now.offset + 5 < 2 ^ 64 }
     ensures { result ≡ is_rewritten (loaded_now loaded.now) file.now section.now cursor relocation.now (shape_of instruction.now) (relocation.now.offset + 4) }
 {
     let size = instruction.size();
@@ -350,17 +381,8 @@ fn is_rewritten(
         return false;
     }
     let start = end - size;
-    let address = section.address + start as u64;
-    let old = &section.bytes.as_slice()[start..end];
     cursor.clear <= start as u128
-        && is_same_effect(
-            loaded,
-            file,
-            instruction.slot_use,
-            relocation.symbol,
-            address,
-            old,
-        )
+        && is_rewrite(loaded, file, section, relocation, instruction, start)
 }
 
 /// The start of a relocation's instruction, if that was rewritten and has the effect that it requires.

@@ -3,6 +3,7 @@ ghost use Rattle.std.specs.Prelude.{◌≡◌, IfOk};
 ghost use Rattle.wild_checker.specs.declared.verdict.Verdict.TheVariants.{Yes};
 ghost use Rattle.wild_checker.specs.Verdict.{sections_verdict, IsSegmentVerdict, IsRefusal, IsOutlined, IsAnswer, HoldsEverywhere};
 
+use crate::files::file_table;
 use crate::laws::yes_is_founded;
 use crate::loaded::LoadedRef;
 use crate::outline::outline_of;
@@ -50,26 +51,33 @@ const WHOLE: Site = Site {
 };
 
 /// The verdict on an image whose segments to load are the layout's.
-fn sections_verdict(layout: &Layout, outline: &Outline, memory: &TermMemory) -> Verdict
-    ensures { result ≡ sections_verdict layout.now outline.now memory.now }
+fn sections_verdict(
+    alloc: Global,
+    layout: &Layout,
+    outline: &Outline,
+    memory: &TermMemory,
+) -> Result<Verdict, AllocError>
+    ensures { IfOk result (λ v. v ≡ sections_verdict layout.now outline.now memory.now) }
 {
     if layout.options.only_keep_debug {
-        return Verdict::No(Doubt::Reference(WHOLE));
+        return Ok(Verdict::No(Doubt::Reference(WHOLE)));
     }
     let groups = layout.groups.as_slice();
     let ordered = are_ordered(layout);
+    let files = file_table(alloc, layout, ordered)?;
     let loaded = LoadedRef {
         layout,
         outline,
         memory,
         ordered,
+        files: files.as_slice(),
     };
     if let Some(site) = ask_groups(&ChangedByte { loaded }, groups) {
-        return Verdict::No(Doubt::Byte(site));
+        return Ok(Verdict::No(Doubt::Byte(site)));
     }
     match ask_groups(&DoubtfulReference { loaded }, groups) {
-        Some(site) => Verdict::No(Doubt::Reference(site)),
-        None => Verdict::Yes,
+        Some(site) => Ok(Verdict::No(Doubt::Reference(site))),
+        None => Ok(Verdict::Yes),
     }
 }
 
@@ -85,7 +93,7 @@ fn loaded_verdict(
 {
     match segment_doubt(alloc, layout, image)? {
         Some(index) => Ok(Verdict::No(Doubt::Segment { index })),
-        None => Ok(sections_verdict(layout, outline, memory)),
+        None => Ok(sections_verdict(alloc, layout, outline, memory)?),
     }
 }
 

@@ -1,4 +1,4 @@
-use Rattle.std.proofs.Common.{◌≡◌, ◌+◌, drop}
+use Rattle.std.proofs.Common.{◌≡◌, drop}
 use Rattle.wild_checker.specs.Loaded.{loaded_now}
 use Rattle.wild_checker.specs.Rewritten.{first_cursor}
 use Rattle.wild_checker.specs.Sections.{first_doubt}
