@@ -1,12 +1,6 @@
 -- Bytes that are found to be the same in every world are in memory.
-use Rattle.std.proofs.Common.{◌≡◌, ℕ, ◌+◌, true, List, refl, sym, ap, ◌∙◌, arith}
-use Rattle.std.specs.Prelude.{Option, Some, None, not, is_some, slice_index}
-use Rattle.wild_loader.specs.declared.memory.Memory.{Memory}
-use Rattle.wild_loader.specs.declared.world.World.{World}
-use Rattle.wild_loader.specs.Memory.{Holds, byte_in}
-use Rattle.wild_terms.specs.Laws.{Follows}
-use Rattle.wild_terms.specs.Symbolic.{Symbolic}
-use Rattle.wild_checker.specs.Bytes.{first_changed, has_bytes}
+use Rattle.wild_checker.proofs.Common.{◌≡◌, ℕ, ◌+◌, true, List, refl, sym, ap, ◌∙◌, arith, Option, Some, None, not, is_some, slice_index, Memory, World, Holds, Follows, Symbolic, first_changed, has_bytes}
+use Rattle.wild_loader.specs.Memory.{byte_in}
 use Rattle.wild_checker.proofs.SiteLemmas.{no_change}
 
 has_none : {X : Type 0} (o : Option X) → not (is_some o) ≡ true → o ≡ None

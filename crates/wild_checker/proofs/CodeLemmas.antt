@@ -1,23 +1,15 @@
 -- What code means at a loaded address, by what it means at its address in the layout.
-use Rattle.std.proofs.Common.{◌≡◌, ℕ, ◌+◌, ◌-◌, ◌%◌, ◌^◌, ◌<◌, ◌⊎◌, ◌&&◌, inl, inr, Bool, true, false, List, [], ◌∷◌, ◌++◌, length, nat_le, refl, sym, ap, ◌∙◌, arith, subst}
-use Rattle.std.specs.Prelude.{Option, Some, None, if◌then◌else◌, ◌==◌, ⊤}
-use Rattle.std.proofs.lemmas.Bool.{cases_Bool, eq-eqb, eqb-true, and_parts}
+use Rattle.wild_checker.proofs.Common.{◌≡◌, ℕ, ◌+◌, ◌-◌, ◌%◌, ◌^◌, ◌<◌, ◌⊎◌, ◌&&◌, inl, inr, Bool, true, false, List, [], ◌∷◌, ◌++◌, length, nat_le, refl, sym, ap, ◌∙◌, arith, subst, Option, Some, None, if◌then◌else◌, ◌==◌, ⊤, eq-eqb, eqb-true, and_parts, Number, Word, World, matches_cells, Outline, Term, number_term, sum, difference, based, value_of, IsWorldOf, based_is, sums_are, differences_are}
+use Rattle.std.proofs.lemmas.Bool.{cases_Bool}
 use Rattle.wild_loader.specs.declared.instruction.Action.{Action}
 use Rattle.wild_loader.specs.declared.instruction.Deed.{Deed}
 use Rattle.wild_loader.specs.declared.instruction.Deed.TheVariants.{Set, Add, Subtract, Compare, Call, Jump}
 use Rattle.wild_loader.specs.declared.instruction.Operand.{Operand}
-use Rattle.wild_loader.specs.declared.instruction.Operand.TheVariants.{Number, Word, Pair, Offset}
-use Rattle.wild_loader.specs.declared.world.World.{World}
+use Rattle.wild_loader.specs.declared.instruction.Operand.TheVariants.{Pair, Offset}
 use Rattle.wild_loader.specs.Effect.{first_match}
-use Rattle.wild_loader.specs.Instruction.{Template, matches_cells, template_fills, first_meaning, sum_64, signed_at}
+use Rattle.wild_loader.specs.Instruction.{Template, template_fills, first_meaning, sum_64, signed_at}
 use Rattle.wild_loader.specs.CodeX86_64.{Prefix, no_prefix, rex, rex2, with_slot, with_immediate, with_prefix, branch}
 use Rattle.wild_loader.specs.InstructionX86_64.{whole_sequences, branches, short, templates_x86_64, meaning_x86_64}
-use Rattle.wild_terms.specs.declared.outline.Outline.{Outline}
-use Rattle.wild_terms.specs.declared.term.Term.{Term}
-use Rattle.wild_terms.specs.Terms.{number_term, sum, difference}
-use Rattle.wild_terms.specs.Outline.{based}
-use Rattle.wild_terms.specs.Values.{value_of, IsWorldOf}
-use Rattle.wild_terms.proofs.ValueLemmas.{based_is, sums_are, differences_are}
 use Rattle.wild_checker.specs.Rewritten.{nop, action_by, code_action, same_deed, operand_term, is_no_difference, is_low}
 
 some_is : {X : Type 0} (x y : X) → (let o : Option X = Some x in o) ≡ Some y → x ≡ y

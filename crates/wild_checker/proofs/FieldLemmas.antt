@@ -1,41 +1,20 @@
 -- A field that is found to have a term has its value in memory.
-use Rattle.std.proofs.Common.{◌≡◌, ℕ, ◌+◌, ◌-◌, ◌%◌, ◌^◌, ◌<◌, ◌≤◌, ◌⊎◌, inl, inr, Bool, true, false, ◌&&◌, List, length, nat_le, nat_lt, refl, sym, ap, ◌∙◌, arith, subst}
-use Rattle.std.specs.Prelude.{All, if◌then◌else◌, ◌==◌, ◌||◌, slice_index, slice_range}
-use Rattle.std.proofs.lemmas.Bool.{eqb-true, leb-true, ltb-true, and_parts, and_from, or_left}
+use Rattle.wild_checker.proofs.Common.{◌≡◌, ℕ, ◌+◌, ◌-◌, ◌%◌, ◌^◌, ◌<◌, ◌≤◌, ◌⊎◌, inl, inr, Bool, true, false, ◌&&◌, List, length, nat_le, nat_lt, refl, sym, ap, ◌∙◌, arith, subst, All, if◌then◌else◌, ◌==◌, ◌||◌, slice_index, slice_range, eqb-true, leb-true, and_parts, and_from, word, RelocationKindInfo, RelocationSize, ByteSize, BitMasking, WidthsHold, field_width, expression_of, InputRelocation, InputSection, Machine, Item, Memory, World, Holds, place_at, form_width, Atom, Term, value_of, Follows, Symbolic, term_at, Loaded, has_bytes}
+use Rattle.std.proofs.lemmas.Bool.{ltb-true, or_left}
 use Rattle.std.proofs.lemmas.Bool.Decides.{nat_tests}
-use Rattle.wild_words.specs.Words.{word}
 use Rattle.wild_words.proofs.Basics.{length-range}
 use Rattle.wild_reloc.specs.declared.expression.Class.{Class}
 use Rattle.wild_reloc.specs.declared.expression.Class.TheVariants as class
-use Rattle.wild_reloc.specs.declared.info.RelocationKindInfo.{RelocationKindInfo}
-use Rattle.wild_reloc.specs.declared.info.RelocationSize.{RelocationSize}
-use Rattle.wild_reloc.specs.declared.info.RelocationSize.TheVariants.{ByteSize, BitMasking}
 use Rattle.wild_reloc.specs.declared.info.Width.TheVariants.{Zero, One, Two, Four, Eight}
 use Rattle.wild_reloc.specs.declared.range.AllowedRange.{AllowedRange}
-use Rattle.wild_reloc.specs.Agreement.{WidthsHold}
-use Rattle.wild_reloc.specs.Field.{field_width, is_aligned, allows, size_written, written}
-use Rattle.wild_reloc.specs.Expression.{expression_of}
+use Rattle.wild_reloc.specs.Field.{is_aligned, allows, size_written, written}
 use Rattle.wild_reloc.specs.Formula.{Reads, Keeps}
 use Rattle.wild_reloc.specs.Range.{contains}
-use Rattle.wild_types.specs.declared.input.InputRelocation.{InputRelocation}
-use Rattle.wild_types.specs.declared.input.InputSection.{InputSection}
-use Rattle.wild_types.specs.declared.kind.Machine.{Machine}
-use Rattle.wild_types.specs.Item.{Item}
-use Rattle.wild_loader.specs.declared.memory.Memory.{Memory}
-use Rattle.wild_loader.specs.declared.world.World.{World}
-use Rattle.wild_loader.specs.Memory.{Holds}
 use Rattle.wild_loader.proofs.MappedSegments.{byte_below}
-use Rattle.wild_meaning.specs.Item.{place_at}
-use Rattle.wild_meaning.specs.Field.{form_width, FieldReads}
-use Rattle.wild_terms.specs.declared.term.Atom.{Atom}
+use Rattle.wild_meaning.specs.Field.{FieldReads}
 use Rattle.wild_terms.specs.declared.term.Atom.TheVariants as atoms
-use Rattle.wild_terms.specs.declared.term.Term.{Term}
-use Rattle.wild_terms.specs.Values.{atom_value, value_of}
-use Rattle.wild_terms.specs.Laws.{Follows}
-use Rattle.wild_terms.specs.Symbolic.{Symbolic, term_at}
+use Rattle.wild_terms.specs.Values.{atom_value}
 use Rattle.wild_references.specs.PlainLaws.{HasFormula}
-use Rattle.wild_checker.specs.Loaded.{Loaded}
-use Rattle.wild_checker.specs.Bytes.{has_bytes}
 use Rattle.wild_checker.specs.Slots.{is_known}
 use Rattle.wild_checker.specs.References.{is_eight, is_whole, is_part, old_field, number_holds, holds_by, value_holds, is_inside}
 use Rattle.wild_checker.proofs.ByteLemmas.{bytes_held}

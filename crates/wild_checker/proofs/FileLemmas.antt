@@ -1,14 +1,9 @@
 -- Where the files' ranges of symbols ascend, a file that has a symbol is the symbol's own.
-use Rattle.std.proofs.Common.{◌≡◌, ℕ, ◌+◌, ◌<◌, ◌≤◌, Bool, true, false, ◌&&◌, List, [], ◌∷◌, ◌++◌, get_or, nat_le, nat_lt, refl, ◌∙◌, arith}
-use Rattle.std.specs.Prelude.{Option, Some, None, All, Contains, if◌then◌else◌, ◌==◌, is_some, option_and_then, slice_get}
-use Rattle.std.proofs.lemmas.Bool.{eqb-true, leb-true, ltb-true, and_parts}
+use Rattle.wild_checker.proofs.Common.{◌≡◌, ℕ, ◌+◌, ◌<◌, ◌≤◌, Bool, true, false, ◌&&◌, List, [], ◌∷◌, ◌++◌, get_or, nat_le, nat_lt, refl, ◌∙◌, arith, Option, Some, None, All, Contains, if◌then◌else◌, ◌==◌, is_some, option_and_then, slice_get, eqb-true, leb-true, and_parts, All-nil, All-cons, All-contains, listed_at, File, Group, Layout}
+use Rattle.std.proofs.lemmas.Bool.{ltb-true}
 use Rattle.std.proofs.lemmas.Bool.Decides.{nat_tests}
-use Rattle.std.proofs.lemmas.List.Elements.{All-nil, All-cons, All-contains, All-weaker}
-use Rattle.wild_words.proofs.Basics.{listed_at}
+use Rattle.std.proofs.lemmas.List.Elements.{All-weaker}
 use Rattle.wild_words.proofs.ListLemmas.{All-from_flat_map}
-use Rattle.wild_types.specs.declared.file.File.{File}
-use Rattle.wild_types.specs.declared.file.Group.{Group}
-use Rattle.wild_types.specs.declared.layout.Layout.{Layout}
 use Rattle.wild_types.specs.Lookups.{files_of, file_of}
 use Rattle.wild_checker.specs.declared.loaded.FileSite.{FileSite}
 use Rattle.wild_checker.specs.Files.{file_at}

@@ -1,7 +1,5 @@
 -- The term of a reference has the value of its formula.
-use Rattle.std.proofs.Common.{◌≡◌, ℕ, ◌+◌, ◌-◌, ◌/◌, ◌%◌, ◌^◌, ◌<◌, ◌⊎◌, ◌&&◌, inl, inr, Bool, true, false, refl, sym, ap, ◌∙◌, arith, subst}
-use Rattle.std.specs.Prelude.{Option, Some, None, if◌then◌else◌, ◌==◌, not, slice_get, option_map, option_and_then}
-use Rattle.std.proofs.lemmas.Bool.{eq-eqb, eqb-true, and_parts, and_from, not-true}
+use Rattle.wild_checker.proofs.Common.{◌≡◌, ℕ, ◌+◌, ◌-◌, ◌/◌, ◌%◌, ◌^◌, ◌<◌, ◌⊎◌, ◌&&◌, inl, inr, Bool, true, false, refl, sym, ap, ◌∙◌, arith, subst, Option, Some, None, if◌then◌else◌, ◌==◌, not, slice_get, option_map, option_and_then, eq-eqb, eqb-true, and_parts, and_from, not-true, RelocationKindInfo, RelocationSize, ByteSize, BitMasking, expression_of, field_width, Value, Formula, SlotDistance, File, InputRelocation, InputSection, Machine, OutputKind, Layout, Symbol, has_flag, Item, canonical, Memory, World, StubLaws, HasValue, HasFlag, may_be_replaced, place_at, form_width, canonical_is, own_definition, Outline, Atom, Term, Follows, number_term, sum, difference, based, value_of, IsWorldOf, based_is, sums_are, differences_are, Loaded, IndexedAnswer, stub_term, is_at_stub, index_of, known_answer}
 use Rattle.wild_records.specs.Abi.Section.{shf_write, shf_execinstr}
 use Rattle.wild_reloc.specs.declared.expression.SlotSort.{SlotSort}
 use Rattle.wild_reloc.specs.declared.expression.SlotSort.TheVariants as sorts
@@ -9,54 +7,31 @@ use Rattle.wild_reloc.specs.declared.expression.Subtrahend.{Subtrahend}
 use Rattle.wild_reloc.specs.declared.expression.Subtrahend.TheVariants as subtrahend
 use Rattle.wild_reloc.specs.declared.expression.Term as expression
 use Rattle.wild_reloc.specs.declared.expression.Term.TheVariants as terms
-use Rattle.wild_reloc.specs.declared.info.RelocationKindInfo.{RelocationKindInfo}
-use Rattle.wild_reloc.specs.declared.info.RelocationSize.{RelocationSize}
-use Rattle.wild_reloc.specs.declared.info.RelocationSize.TheVariants.{ByteSize, BitMasking}
 use Rattle.wild_reloc.specs.declared.info.Width.TheVariants.{Zero, One, Two, Four, Eight}
 use Rattle.wild_reloc.specs.Agreement.{sized}
 use Rattle.wild_reloc.specs.declared.instruction.BitMask.{BitMask}
-use Rattle.wild_reloc.specs.Expression.{expression_of, subtrahend_of, slot_sort, expressed}
-use Rattle.wild_reloc.specs.Field.{field_width, size_width}
-use Rattle.wild_reloc.specs.Formula.{Value, Formula, AddressSlot, ModulePair, OwnModulePair, ThreadOffset, Descriptor, SlotAddress, SlotPageDistance, SlotFromTablePage, PointerOffset, ModuleOffset, Size, SymbolAddress, SymbolPart, Distance, PageDistance, FromTable, StubDistance, StubFromTable, TableDistance, SlotDistance, SlotFromTable}
-use Rattle.wild_types.specs.declared.file.File.{File}
-use Rattle.wild_types.specs.declared.input.InputRelocation.{InputRelocation}
-use Rattle.wild_types.specs.declared.input.InputSection.{InputSection}
-use Rattle.wild_types.specs.declared.kind.Machine.{Machine}
+use Rattle.wild_reloc.specs.Expression.{subtrahend_of, slot_sort, expressed}
+use Rattle.wild_reloc.specs.Field.{size_width}
+use Rattle.wild_reloc.specs.Formula.{AddressSlot, ModulePair, OwnModulePair, ThreadOffset, Descriptor, SlotAddress, SlotPageDistance, SlotFromTablePage, PointerOffset, ModuleOffset, Size, SymbolAddress, SymbolPart, Distance, PageDistance, FromTable, StubDistance, StubFromTable, TableDistance, SlotFromTable}
 use Rattle.wild_types.specs.declared.kind.Machine.TheVariants as machine
-use Rattle.wild_types.specs.declared.kind.OutputKind.{OutputKind}
 use Rattle.wild_types.specs.declared.kind.OutputKind.TheVariants as output
-use Rattle.wild_types.specs.declared.layout.Layout.{Layout}
-use Rattle.wild_types.specs.declared.symbol.Symbol.{Symbol}
-use Rattle.wild_types.specs.Flags.{has_flag, non_interposable}
-use Rattle.wild_types.specs.Item.{Item}
-use Rattle.wild_types.specs.Lookups.{canonical, place_of}
-use Rattle.wild_loader.specs.declared.memory.Memory.{Memory}
-use Rattle.wild_loader.specs.declared.world.World.{World}
-use Rattle.wild_references.proofs.StubCode.{StubLaws}
-use Rattle.wild_meaning.specs.Value.{HasValue, HasSize, HasFlag, IsReplaceable, may_be_replaced}
+use Rattle.wild_types.specs.Flags.{non_interposable}
+use Rattle.wild_types.specs.Lookups.{place_of}
+use Rattle.wild_meaning.specs.Value.{HasSize, IsReplaceable}
 use Rattle.wild_meaning.specs.Denotes.{IsAddressOf, Denotes}
 use Rattle.wild_meaning.specs.ReferentAArch64.{RepresentsOnAArch64}
 use Rattle.wild_meaning.specs.Slot.{IsSlot}
 use Rattle.wild_meaning.specs.Strings.{NamesStrings}
-use Rattle.wild_meaning.specs.Item.{place_at}
-use Rattle.wild_meaning.specs.Field.{form_width}
 use Rattle.wild_meaning.specs.Formula.{KnowsOffsets, HasOffsetMode, NamesSlot, IsExtent, IsOffset, Gives, IsSum, IsTarget, IsReferent, IsReferentOnAArch64, UsesOwnPlace, IsSymbolAddress, TakesAddress, TakesOffset, table_at, page_of}
 use Rattle.wild_meaning.specs.Reference.{HasStubAddress, UsesOwnDefinition}
-use Rattle.wild_meaning.proofs.SymbolLemmas.{canonical_is, own_definition, referent_is}
-use Rattle.wild_terms.specs.declared.outline.Outline.{Outline}
-use Rattle.wild_terms.specs.declared.term.Atom.{Atom}
+use Rattle.wild_meaning.proofs.SymbolLemmas.{referent_is}
 use Rattle.wild_terms.specs.declared.term.Atom.TheVariants as atoms
-use Rattle.wild_terms.specs.declared.term.Term.{Term}
-use Rattle.wild_terms.specs.Laws.{Follows}
-use Rattle.wild_terms.specs.Terms.{number_term, sum, same_atom, difference}
-use Rattle.wild_terms.specs.Outline.{based, size_of}
-use Rattle.wild_terms.specs.Values.{atom_value, value_of, IsWorldOf}
-use Rattle.wild_terms.proofs.ValueLemmas.{based_is, sums_are, differences_are, size_is}
-use Rattle.wild_checker.specs.Loaded.{Loaded}
+use Rattle.wild_terms.specs.Terms.{same_atom}
+use Rattle.wild_terms.specs.Outline.{size_of}
+use Rattle.wild_terms.specs.Values.{atom_value}
+use Rattle.wild_terms.proofs.ValueLemmas.{size_is}
 use Rattle.wild_checker.specs.Search.{or_else}
-use Rattle.wild_checker.specs.declared.symbols.IndexedAnswer.{IndexedAnswer}
-use Rattle.wild_checker.specs.Slots.{stub_term, is_at_stub}
-use Rattle.wild_checker.specs.Symbols.{index_of, known_answer, answer_term, own_term, names_no_strings}
+use Rattle.wild_checker.specs.Symbols.{answer_term, own_term, names_no_strings}
 use Rattle.wild_checker.specs.Threads.{pointer_term, relative_term}
 use Rattle.wild_checker.specs.References.{plain_referent, is_x86_64, address_by as address_by_term, address_referent, referent_term, stub_referent, branch_term, slot_referent, named_slot, knows_offsets, has_offset_mode, slot_less, size_by, size_term, addend_of, place_term, table_term, distance_term, page_by, page_term, page_distance, less, term_less, value_by_parts, is_eight, is_nothing, is_symbol, is_word, foreign_by, foreign_term, word_term, value_term}
 use Rattle.wild_checker.proofs.SlotLemmas.{IsStubOf, IsAtStub, CodeLaws, slot_is, stub_is, at_stub, stub_address}

@@ -1,51 +1,26 @@
 -- A section whose references are all found to hold, rewritten or not, and whose other bytes are the input's, holds as an item.
-use Rattle.std.proofs.Common.{◌≡◌, ℕ, ◌+◌, ◌<◌, ◌≤◌, ◌⊎◌, inl, inr, ◌&&◌, Bool, true, false, List, length, get_or, refl, sym, ap, ◌∙◌, arith, subst, ◌≢◌, ◌||◌}
-use Rattle.std.specs.Prelude.{if◌then◌else◌, Option, Some, None, All, Contains, ◌==◌, ◌||◌, not, nat_le, drop, is_some, slice_get}
-use Rattle.std.proofs.lemmas.Bool.{cases_lt, eqb-true, leb-true, or_cases, and_parts, not-true}
+use Rattle.wild_checker.proofs.Common.{◌≡◌, ℕ, ◌+◌, ◌<◌, ◌≤◌, ◌⊎◌, inl, inr, ◌&&◌, Bool, true, false, List, length, get_or, refl, sym, ap, ◌∙◌, arith, subst, ◌≢◌, ◌||◌, if◌then◌else◌, Option, Some, None, All, Contains, ◌==◌, not, nat_le, drop, is_some, slice_get, cases_lt, eqb-true, leb-true, or_cases, and_parts, not-true, r_x86_64_none, RelocationKindInfo, RelocationSize, ByteSize, BitMasking, expression_of, field_width, Value, Formula, formula, SlotDistance, Plain, Signed, File, InputRelocation, InputSection, Layout, Item, row_of, InputNumbers, Memory, World, formula_of, form_width, Instruction, IsOwnByte, size_of, IsInstruction, IsSingle, Term, value_of, RowsHaveFormulas, file_for, Loaded, is_settled, listed_at, Machine, Cursor, rewritten_start, first_cursor}
 use Rattle.std.proofs.lemmas.List.Elements.{All-take, All-drop}
-use Rattle.wild_records.specs.Abi.Relocation.{r_x86_64_none}
 use Rattle.wild_reloc.specs.declared.expression.Subtrahend.{Subtrahend}
 use Rattle.wild_reloc.specs.declared.expression.Term as expression
 use Rattle.wild_reloc.specs.declared.expression.Term.TheVariants as terms
-use Rattle.wild_reloc.specs.declared.info.RelocationKindInfo.{RelocationKindInfo}
-use Rattle.wild_reloc.specs.declared.info.RelocationSize.{RelocationSize}
-use Rattle.wild_reloc.specs.declared.info.RelocationSize.TheVariants.{ByteSize, BitMasking}
 use Rattle.wild_reloc.specs.Agreement.{sized}
-use Rattle.wild_reloc.specs.Expression.{expression_of, subtrahend_of, expressed}
-use Rattle.wild_reloc.specs.Field.{field_width, allows}
-use Rattle.wild_reloc.specs.Formula.{Value, NoValue, Formula, formula, SlotDistance, Plain, Signed}
-use Rattle.wild_types.specs.declared.file.File.{File}
-use Rattle.wild_types.specs.declared.input.InputRelocation.{InputRelocation}
-use Rattle.wild_types.specs.declared.input.InputSection.{InputSection}
-use Rattle.wild_types.specs.declared.layout.Layout.{Layout}
-use Rattle.wild_types.specs.Item.{Item}
-use Rattle.wild_types.specs.Rows.{row_of, row_width}
-use Rattle.wild_layout.specs.Numbers.{InputNumbers}
-use Rattle.wild_loader.specs.declared.memory.Memory.{Memory}
-use Rattle.wild_loader.specs.declared.world.World.{World}
+use Rattle.wild_reloc.specs.Expression.{subtrahend_of, expressed}
+use Rattle.wild_reloc.specs.Field.{allows}
+use Rattle.wild_reloc.specs.Formula.{NoValue}
+use Rattle.wild_types.specs.Rows.{row_width}
 use Rattle.wild_meaning.specs.Item.{IsReference}
-use Rattle.wild_meaning.specs.Field.{formula_of, form_width, InNoField, IsInputByte}
+use Rattle.wild_meaning.specs.Field.{InNoField, IsInputByte}
 use Rattle.wild_meaning.specs.Formula.{Gives, TakesAddress, TakesOffset}
 use Rattle.wild_meaning.specs.Reference.{HoldsPlain, ItemHolds, MustHold, UsesOwnSymbolOnly, ReferenceHolds, IsOutsideReferences, UsesOwnDefinition}
-use Rattle.wild_meaning.specs.Sequence.{Instruction, IsOwnByte, size_of}
-use Rattle.wild_meaning.specs.Template.{IsInstruction, IsTemplate, IsSingle, IsOfSequence}
-use Rattle.wild_terms.specs.declared.term.Term.{Term}
-use Rattle.wild_terms.specs.Values.{value_of}
+use Rattle.wild_meaning.specs.Template.{IsTemplate, IsOfSequence}
 use Rattle.wild_references.specs.Laws.{FieldHolds}
-use Rattle.wild_references.specs.PlainLaws.{RowsHaveFormulas}
-use Rattle.wild_checker.specs.Files.{file_for}
-use Rattle.wild_checker.specs.Loaded.{Loaded}
 use Rattle.wild_checker.specs.References.{old_field, value_term, word_term, value_holds, is_inside, field_holds, has_offset_mode, is_mark, mark_holds, holds_by_row, reference_holds}
-use Rattle.wild_checker.specs.Sections.{is_settled}
 use Rattle.wild_checker.proofs.FieldLemmas.{inside, value_shown, nothing_written, low_place, field_reads}
 use Rattle.wild_checker.proofs.FormulaLemmas.{IsPlaced, no_offsets, takes_by, decided, term_below}
 use Rattle.wild_checker.proofs.SiteLemmas.{IsBeside}
-use Rattle.wild_words.proofs.Basics.{listed_at}
-use Rattle.wild_types.specs.declared.kind.Machine.{Machine}
 use Rattle.wild_types.specs.declared.kind.Machine.TheVariants as machine
 use Rattle.wild_meaning.proofs.PairLemmas.{as_double}
-use Rattle.wild_checker.specs.declared.rewritten.Cursor.{Cursor}
-use Rattle.wild_checker.specs.Rewritten.{rewritten_start, first_cursor}
 use Rattle.wild_checker.proofs.PlacedSections.{Laws, IsItem, IsChecked, item_for}
 use Rattle.wild_checker.proofs.PlainLemmas.{IsKeptAt, none_if, pair_kept, input_byte, own_kept}
 use Rattle.wild_checker.proofs.RewrittenLemmas.{IsRewritten, rewritten, number_is, size_is, formula_is, position_of, single, holds_rewritten}

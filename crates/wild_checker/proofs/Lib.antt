@@ -1,3 +1,4 @@
+pub mod Common
 pub mod WorldLemmas
 pub mod FileLemmas
 pub mod SiteLemmas

@@ -1,21 +1,7 @@
 -- What is known of a section of the layout that was looked at, in a memory that follows the terms.
-use Rattle.std.proofs.Common.{◌≡◌, ℕ, ◌%◌, true, refl}
-use Rattle.std.specs.Prelude.{Option, None, Some, unwrap_or}
-use Rattle.wild_reloc.specs.Agreement.{WidthsHold}
-use Rattle.wild_types.specs.declared.file.File.{File}
-use Rattle.wild_types.specs.declared.input.InputSection.{InputSection}
-use Rattle.wild_types.specs.Item.{Item}
-use Rattle.wild_layout.specs.Numbers.{InputNumbers}
-use Rattle.wild_loader.specs.declared.memory.Memory.{Memory}
-use Rattle.wild_loader.specs.declared.world.World.{World}
-use Rattle.wild_terms.specs.Laws.{Follows}
-use Rattle.wild_references.specs.PlainLaws.{PlainInstructionsDo, RowsHaveFormulas}
-use Rattle.wild_references.proofs.StubCode.{StubLaws}
-use Rattle.wild_checker.specs.Bytes.{are_in_order}
-use Rattle.wild_checker.specs.Files.{site_of, find_file, file_for}
-use Rattle.wild_checker.specs.Loaded.{Loaded}
-use Rattle.wild_checker.specs.Rewritten.{first_cursor}
-use Rattle.wild_checker.specs.Sections.{changed_gap, first_doubt}
+use Rattle.wild_checker.proofs.Common.{◌≡◌, ℕ, ◌%◌, true, refl, Option, None, Some, unwrap_or, WidthsHold, File, InputSection, Item, InputNumbers, Memory, World, Follows, RowsHaveFormulas, StubLaws, are_in_order, file_for, Loaded, first_cursor, changed_gap, first_doubt}
+use Rattle.wild_references.specs.PlainLaws.{PlainInstructionsDo}
+use Rattle.wild_checker.specs.Files.{site_of, find_file}
 use Rattle.wild_checker.proofs.FileLemmas.{listed_by}
 use Rattle.wild_checker.proofs.ValueLemmas.{Known}
 

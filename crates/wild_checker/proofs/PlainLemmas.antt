@@ -1,31 +1,14 @@
 -- Where the instruction of a relocation was not rewritten, its own bytes are the input's, and all of its fields hold.
-use Rattle.std.proofs.Common.{◌≡◌, ℕ, zero, suc, ◌+◌, ◌-◌, ◌<◌, ◌≤◌, ◌⊎◌, inl, inr, true, false, List, [], ◌∷◌, length, get_or, refl, sym, ap, ◌∙◌, arith, subst}
-use Rattle.std.specs.Prelude.{Option, Some, None, All, Contains, ⊤, slice_get, slice_index}
-use Rattle.std.proofs.lemmas.Bool.{cases_lt, cases_eq}
-use Rattle.std.proofs.lemmas.List.Elements.{All-contains}
-use Rattle.wild_words.proofs.Basics.{listed_at}
+use Rattle.wild_checker.proofs.Common.{◌≡◌, ℕ, zero, suc, ◌+◌, ◌-◌, ◌<◌, ◌≤◌, ◌⊎◌, inl, inr, true, false, List, [], ◌∷◌, length, get_or, refl, sym, ap, ◌∙◌, arith, subst, Option, Some, None, All, Contains, ⊤, slice_get, slice_index, cases_lt, All-contains, listed_at, x86_64_row, Formula, formula, SlotDistance, Plain, Signed, File, InputRelocation, InputSection, Machine, Item, row_of, field_bytes, Memory, World, formula_of, form_width, place_at, Instruction, Partner, size_of, IsOwnByte, instructions_of, IsInstruction, IsSingle, Among, pick, field_end, Loaded, begins_none, rewritten_start, first_cursor}
+use Rattle.std.proofs.lemmas.Bool.{cases_eq}
 use Rattle.wild_records.specs.Abi.Relocation.{r_x86_64_tlsdesc_call}
-use Rattle.wild_reloc.specs.TableX86_64.{x86_64_row}
-use Rattle.wild_reloc.specs.Formula.{Formula, formula, SlotDistance, Plain, Signed}
-use Rattle.wild_types.specs.declared.file.File.{File}
-use Rattle.wild_types.specs.declared.input.InputRelocation.{InputRelocation}
-use Rattle.wild_types.specs.declared.input.InputSection.{InputSection}
-use Rattle.wild_types.specs.declared.kind.Machine.{Machine}
 use Rattle.wild_types.specs.declared.kind.Machine.TheVariants as machine
-use Rattle.wild_types.specs.Item.{Item}
-use Rattle.wild_types.specs.Rows.{row_of, field_bytes}
-use Rattle.wild_loader.specs.declared.memory.Memory.{Memory}
-use Rattle.wild_loader.specs.declared.world.World.{World}
 use Rattle.wild_loader.specs.Memory.{byte_in}
-use Rattle.wild_meaning.specs.Field.{formula_of, form_width, IsInputByte}
-use Rattle.wild_meaning.specs.Item.{place_at}
-use Rattle.wild_meaning.specs.Sequence.{Instruction, Partner, size_of, IsOutsidePartners, IsOwnByte, instructions_of}
-use Rattle.wild_meaning.specs.Template.{IsInstruction, IsSingle, IsTemplate}
-use Rattle.wild_meaning.proofs.AmongLemmas.{Among, pick}
+use Rattle.wild_meaning.specs.Field.{IsInputByte}
+use Rattle.wild_meaning.specs.Sequence.{IsOutsidePartners}
+use Rattle.wild_meaning.specs.Template.{IsTemplate}
 use Rattle.wild_meaning.proofs.PairLemmas.{IsGetterCall, as_pair, are_several, only_one}
-use Rattle.wild_checker.specs.Bytes.{field_end}
-use Rattle.wild_checker.specs.Loaded.{Loaded}
-use Rattle.wild_checker.specs.Rewritten.{has_no_partner, bytes_after, reach, begins_none, rewritten_start, first_cursor}
+use Rattle.wild_checker.specs.Rewritten.{has_no_partner, bytes_after, reach}
 use Rattle.wild_checker.proofs.PlacedSections.{IsItem, IsChecked}
 use Rattle.wild_checker.proofs.RewrittenLemmas.{IsRewritten, rewritten, number_is, room_is, formula_is, begins, not_after_first}
 use Rattle.wild_checker.proofs.WalkLemmas.{InRewritten, cursor_at, byte_or_rewritten, in_order, reached}

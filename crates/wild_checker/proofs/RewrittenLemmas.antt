@@ -1,74 +1,40 @@
 -- A reference whose rewritten instruction is accepted holds: the code in memory has the effect that the input's instruction requires.
-use Rattle.std.proofs.Common.{◌≡◌, ℕ, zero, suc, ◌+◌, ◌-◌, ◌/◌, ◌%◌, ◌^◌, ◌<◌, ◌≤◌, ◌⊎◌, ◌&&◌, ◌||◌, inl, inr, Bool, true, false, List, [], ◌∷◌, length, take, get_or, nat_le, refl, sym, ap, ◌∙◌, arith, subst}
-use Rattle.std.specs.Prelude.{Option, Some, None, All, Contains, if◌then◌else◌, not, ◌==◌, is_some, slice_get, slice_range, option_map, option_and_then}
-use Rattle.std.proofs.lemmas.Bool.{cases_Bool, cases_lt, cases_eq, eqb-true, leb-true, and_parts, or_cases, not-true}
+use Rattle.wild_checker.proofs.Common.{◌≡◌, ℕ, zero, suc, ◌+◌, ◌-◌, ◌/◌, ◌%◌, ◌^◌, ◌<◌, ◌≤◌, ◌⊎◌, ◌&&◌, ◌||◌, inl, inr, Bool, true, false, List, [], ◌∷◌, length, take, get_or, nat_le, refl, sym, ap, ◌∙◌, arith, subst, Option, Some, None, All, Contains, if◌then◌else◌, not, ◌==◌, is_some, slice_get, slice_range, option_map, option_and_then, cases_lt, eqb-true, leb-true, and_parts, or_cases, not-true, word, length-word, r_x86_64_none, RelocationKindInfo, Formula, formula, SlotDistance, Plain, Signed, x86_64_row, File, InputRelocation, InputSection, Machine, OutputKind, Layout, Symbol, Item, has_flag, canonical, row_of, field_bytes, Number, Memory, World, matches_cells, Holds, formula_of, form_width, place_at, Instruction, Partner, size_of, IsOwnByte, instructions_of, IsInstruction, IsSingle, Among, pick, own_definition, Atom, Term, Symbolic, term_at, number_term, value_of, Follows, RowsHaveFormulas, Cursor, file_for, Loaded, first_shape, begins_none, rewritten_start, first_cursor, is_settled, stub_term, is_at_stub, loaded_term, thread_term, may_be_zero}
+use Rattle.std.proofs.lemmas.Bool.{cases_Bool, cases_eq}
 use Rattle.std.specs.List.{list_all}
-use Rattle.wild_words.specs.Words.{word}
 use Rattle.wild_words.proofs.Basics.{All-each, listed_passes}
-use Rattle.wild_words.proofs.WordLemmas.{length-word, take-word}
-use Rattle.wild_records.specs.Abi.Relocation.{r_x86_64_none, r_x86_64_tlsgd, r_x86_64_tlsld}
+use Rattle.wild_words.proofs.WordLemmas.{take-word}
+use Rattle.wild_records.specs.Abi.Relocation.{r_x86_64_tlsgd, r_x86_64_tlsld}
 use Rattle.wild_records.specs.Abi.Section.{shf_execinstr}
 use Rattle.wild_aarch64.specs.Effect.{words_of}
-use Rattle.wild_reloc.specs.declared.info.RelocationKindInfo.{RelocationKindInfo}
-use Rattle.wild_reloc.specs.Formula.{Formula, formula, NoValue, NoField, SlotDistance, Plain, Signed}
+use Rattle.wild_reloc.specs.Formula.{NoValue, NoField}
 use Rattle.wild_reloc.specs.FormulaX86_64.{x86_64_formula}
 use Rattle.wild_reloc.specs.FormulaAArch64.{aarch64_formula}
-use Rattle.wild_reloc.specs.TableX86_64.{x86_64_row}
-use Rattle.wild_types.specs.declared.file.File.{File}
-use Rattle.wild_types.specs.declared.input.InputRelocation.{InputRelocation}
-use Rattle.wild_types.specs.declared.input.InputSection.{InputSection}
-use Rattle.wild_types.specs.declared.kind.Machine.{Machine}
 use Rattle.wild_types.specs.declared.kind.Machine.TheVariants as machine
-use Rattle.wild_types.specs.declared.kind.OutputKind.{OutputKind}
 use Rattle.wild_types.specs.declared.kind.OutputKind.TheVariants as output
-use Rattle.wild_types.specs.declared.layout.Layout.{Layout}
-use Rattle.wild_types.specs.declared.symbol.Symbol.{Symbol}
-use Rattle.wild_types.specs.Item.{Item}
-use Rattle.wild_types.specs.Flags.{has_flag, ifunc_got_for_address}
-use Rattle.wild_types.specs.Lookups.{canonical}
-use Rattle.wild_types.specs.Rows.{row_of, row_width, field_bytes}
+use Rattle.wild_types.specs.Flags.{ifunc_got_for_address}
+use Rattle.wild_types.specs.Rows.{row_width}
 use Rattle.wild_loader.specs.declared.instruction.Action.{Action}
 use Rattle.wild_loader.specs.declared.instruction.Cell.{Cell}
 use Rattle.wild_loader.specs.declared.instruction.Deed.{Deed}
 use Rattle.wild_loader.specs.declared.instruction.Operand.{Operand}
-use Rattle.wild_loader.specs.declared.instruction.Operand.TheVariants.{Number}
-use Rattle.wild_loader.specs.declared.memory.Memory.{Memory}
-use Rattle.wild_loader.specs.declared.world.World.{World}
-use Rattle.wild_loader.specs.Instruction.{Effect, matches_cells, effect, as_value, with_value}
+use Rattle.wild_loader.specs.Instruction.{Effect, effect, as_value, with_value}
 use Rattle.wild_loader.specs.InstructionX86_64.{meaning_x86_64, effect_x86_64, demand_x86_64}
-use Rattle.wild_loader.specs.Memory.{Holds}
-use Rattle.wild_meaning.specs.Field.{formula_of, form_width, InNoField}
+use Rattle.wild_meaning.specs.Field.{InNoField}
 use Rattle.wild_meaning.specs.Formula.{IsTarget, IsOffset, KnowsOffsets}
-use Rattle.wild_meaning.specs.Item.{place_at}
 use Rattle.wild_meaning.specs.Jump.{meaning_of}
 use Rattle.wild_meaning.specs.Reference.{HoldsRewritten, ReadsOffsetSlots}
 use Rattle.wild_meaning.specs.Section.{IsSet}
-use Rattle.wild_meaning.specs.Sequence.{Sort, TargetInSlot, AddressInSlot, OffsetInSlot, Described, Target, SymbolPair, OwnPair, DescribedCall, Address, FieldBits, Instruction, Partner, size_of, IsOwnByte, instructions_of}
+use Rattle.wild_meaning.specs.Sequence.{Sort, TargetInSlot, AddressInSlot, OffsetInSlot, Described, Target, SymbolPair, OwnPair, DescribedCall, Address, FieldBits}
 use Rattle.wild_meaning.specs.Slot.{IsInAddressSlot}
-use Rattle.wild_meaning.specs.Template.{HasOriginAddend, IsInstruction, IsSequence, IsSingle, IsSlotAddress, Demands, IsDemanded, DoesDemanded, reads_without_calls, effect_of, demand_of, old_bytes}
+use Rattle.wild_meaning.specs.Template.{HasOriginAddend, IsSequence, IsSlotAddress, Demands, IsDemanded, DoesDemanded, reads_without_calls, effect_of, demand_of, old_bytes}
 use Rattle.wild_meaning.specs.Thread.{HasThreadOffset}
 use Rattle.wild_meaning.specs.Denotes.{Denotes}
-use Rattle.wild_meaning.proofs.AmongLemmas.{Among, pick}
 use Rattle.wild_meaning.proofs.OneReference.{no_words}
 use Rattle.wild_meaning.proofs.PairLemmas.{as_its_call, are_several}
-use Rattle.wild_meaning.proofs.SymbolLemmas.{own_definition}
-use Rattle.wild_terms.specs.declared.term.Atom.{Atom}
 use Rattle.wild_terms.specs.declared.term.Atom.TheVariants.{Zero, Base, Address as AddressOf, Module, Offset, ThreadOffset, Size, OwnModule, OwnDistance, Resolver}
-use Rattle.wild_terms.specs.declared.term.Term.{Term}
-use Rattle.wild_terms.specs.Symbolic.{Symbolic, term_at}
-use Rattle.wild_terms.specs.Terms.{number_term}
-use Rattle.wild_terms.specs.Values.{value_of}
-use Rattle.wild_terms.specs.Laws.{Follows}
-use Rattle.wild_references.specs.PlainLaws.{RowsHaveFormulas}
-use Rattle.wild_checker.specs.declared.rewritten.Cursor.{Cursor}
-use Rattle.wild_checker.specs.Files.{file_for}
-use Rattle.wild_checker.specs.Loaded.{Loaded}
 use Rattle.wild_checker.specs.References.{addend_of, knows_offsets, holds_by_row, reference_holds}
-use Rattle.wild_checker.specs.Rewritten.{Shape, shapes, first_shape, shape_before, code_action, bytes_by, code_bytes, same_deed, operand_term, is_low, is_stub_in_slot, is_offset, is_required_by, is_required, is_operand, same_actions, same_effect, is_rewrite, begins_none, is_for_x86_64, is_in_code, is_rewritten, start_by, rewritten_start, first_cursor}
-use Rattle.wild_checker.specs.Sections.{is_settled}
-use Rattle.wild_checker.specs.Slots.{stub_term, is_at_stub}
-use Rattle.wild_checker.specs.Symbols.{loaded_term}
-use Rattle.wild_checker.specs.Threads.{thread_term, may_be_zero}
+use Rattle.wild_checker.specs.Rewritten.{Shape, shapes, shape_before, code_action, bytes_by, code_bytes, same_deed, operand_term, is_low, is_stub_in_slot, is_offset, is_required_by, is_required, is_operand, same_actions, same_effect, is_rewrite, is_for_x86_64, is_in_code, is_rewritten, start_by}
 use Rattle.wild_checker.proofs.CodeLemmas.{IsMoved, HasNumber, moved_code, number_at_place, low_bits, deed_is}
 use Rattle.wild_checker.proofs.PlacedSections.{Laws, IsItem, IsChecked, item_for}
 use Rattle.wild_checker.proofs.ShapeLemmas.{IsInSlot, IsFound, found_shape, EndsThere, longest}

@@ -1,21 +1,15 @@
 -- The instructions that are looked for are those of the judge with one field, for a slot.
-use Rattle.std.proofs.Common.{◌≡◌, ◌≢◌, ℕ, zero, suc, ◌+◌, ◌-◌, ◌<◌, ◌≤◌, ◌⊎◌, ◌&&◌, inl, inr, Bool, true, false, List, [], ◌∷◌, length, get_or, nat_le, refl, sym, ap, ◌∙◌, arith, subst}
-use Rattle.std.specs.Prelude.{Option, Some, Contains, if◌then◌else◌, ◌==◌, ⊤, slice_range}
+use Rattle.wild_checker.proofs.Common.{◌≡◌, ◌≢◌, ℕ, zero, suc, ◌+◌, ◌-◌, ◌<◌, ◌≤◌, ◌⊎◌, ◌&&◌, inl, inr, Bool, true, false, List, [], ◌∷◌, length, get_or, nat_le, refl, sym, ap, ◌∙◌, arith, subst, Option, Some, Contains, if◌then◌else◌, ◌==◌, ⊤, slice_range, eq-eqb, leb-true, and_parts, and_from, r_x86_64_none, formula, SlotDistance, Plain, Signed, x86_64_row, row_of, field_bytes, Number, Word, matches_cells, Instruction, Partner, size_of, instructions_of, Among, pick, first_shape, begins_none}
 use Rattle.std.specs.List.{list_all}
-use Rattle.std.proofs.lemmas.Bool.{eq-eqb, leb-true, le-leb, and_parts, and_from}
-use Rattle.wild_records.specs.Abi.Relocation.{r_x86_64_none, r_x86_64_gotpcrel, r_x86_64_gotpcrelx, r_x86_64_rex_gotpcrelx, r_x86_64_code_4_gotpcrelx, r_x86_64_gottpoff, r_x86_64_code_4_gottpoff, r_x86_64_gotpc32_tlsdesc, r_x86_64_code_4_gotpc32_tlsdesc}
-use Rattle.wild_reloc.specs.Formula.{Slot, formula, SlotDistance, AddressSlot, ThreadOffset, Descriptor, Plain, Signed}
+use Rattle.std.proofs.lemmas.Bool.{le-leb}
+use Rattle.wild_records.specs.Abi.Relocation.{r_x86_64_gotpcrel, r_x86_64_gotpcrelx, r_x86_64_rex_gotpcrelx, r_x86_64_code_4_gotpcrelx, r_x86_64_gottpoff, r_x86_64_code_4_gottpoff, r_x86_64_gotpc32_tlsdesc, r_x86_64_code_4_gotpc32_tlsdesc}
+use Rattle.wild_reloc.specs.Formula.{Slot, AddressSlot, ThreadOffset, Descriptor}
 use Rattle.wild_reloc.specs.FormulaX86_64.{x86_64_formula}
-use Rattle.wild_reloc.specs.TableX86_64.{x86_64_row}
 use Rattle.wild_types.specs.declared.kind.Machine.TheVariants as machine
-use Rattle.wild_types.specs.Rows.{row_of, field_bytes}
-use Rattle.wild_loader.specs.declared.instruction.Operand.TheVariants.{Number, Word}
 use Rattle.wild_loader.specs.declared.instruction.Deed.TheVariants.{Set, Add, Subtract, Compare, Call, Jump}
-use Rattle.wild_loader.specs.Instruction.{matches_cells}
 use Rattle.wild_loader.specs.CodeX86_64.{no_prefix, rex, rex2, with_slot, branch}
-use Rattle.wild_meaning.specs.Sequence.{Sort, TargetInSlot, AddressInSlot, OffsetInSlot, Described, Instruction, Partner, size_of, of_field, instructions_of}
-use Rattle.wild_meaning.proofs.AmongLemmas.{Among, pick}
-use Rattle.wild_checker.specs.Rewritten.{Shape, has_no_partner, shapes, ends_at, first_shape, begins_none}
+use Rattle.wild_meaning.specs.Sequence.{Sort, TargetInSlot, AddressInSlot, OffsetInSlot, Described, of_field}
+use Rattle.wild_checker.specs.Rewritten.{Shape, has_no_partner, shapes, ends_at}
 
 -- ---- what is known of a shape
 

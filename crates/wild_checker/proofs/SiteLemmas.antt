@@ -1,17 +1,9 @@
 -- Where no answer is found, no section has one.
-use Rattle.std.proofs.Common.{◌≡◌, ℕ, zero, suc, ◌+◌, ◌-◌, ◌<◌, ◌≤◌, ◌⊎◌, Bool, true, false, List, [], ◌∷◌, length, min, refl, sym, ap, ◌∙◌, arith, subst}
-use Rattle.std.specs.Prelude.{Option, Some, None, All, Contains, if◌then◌else◌, slice_index, slice_range}
-use Rattle.std.proofs.lemmas.Bool.{eqb-true}
-use Rattle.std.proofs.lemmas.List.Elements.{All-nil, All-cons, All-contains}
+use Rattle.wild_checker.proofs.Common.{◌≡◌, ℕ, zero, suc, ◌+◌, ◌-◌, ◌<◌, ◌≤◌, ◌⊎◌, Bool, true, false, List, [], ◌∷◌, length, min, refl, sym, ap, ◌∙◌, arith, subst, Option, Some, None, All, Contains, if◌then◌else◌, slice_index, slice_range, eqb-true, All-nil, All-cons, All-contains, File, Group, InputRelocation, InputSection, Machine, Symbolic, first_changed, field_end, in_groups}
 use Rattle.wild_words.proofs.Basics.{length-range, range_byte}
-use Rattle.wild_types.specs.declared.file.File.{File}
-use Rattle.wild_types.specs.declared.file.Group.{Group}
-use Rattle.wild_types.specs.declared.input.InputRelocation.{InputRelocation}
-use Rattle.wild_types.specs.declared.input.InputSection.{InputSection}
-use Rattle.wild_types.specs.declared.kind.Machine.{Machine}
-use Rattle.wild_terms.specs.Symbolic.{Symbolic, known_byte}
-use Rattle.wild_checker.specs.Bytes.{is_same, is_byte, first_changed, field_end, changed_between}
-use Rattle.wild_checker.specs.Search.{or_else, site_at, in_sections, in_files, in_groups}
+use Rattle.wild_terms.specs.Symbolic.{known_byte}
+use Rattle.wild_checker.specs.Bytes.{is_same, is_byte, changed_between}
+use Rattle.wild_checker.specs.Search.{or_else, site_at, in_sections, in_files}
 
 pub both_none : {X : Type 0} (a b : Option X) → or_else a b ≡ None → (a ≡ None) × (b ≡ None)
 both_none None b h = (refl, h)

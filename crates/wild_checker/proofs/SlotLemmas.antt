@@ -1,29 +1,18 @@
 -- Slots and stubs that are found to hold a symbol's value are the symbol's.
-use Rattle.std.proofs.Common.{◌≡◌, ℕ, ◌+◌, ◌-◌, ◌%◌, ◌^◌, ◌<◌, ◌⊎◌, inl, inr, Bool, true, false, ◌&&◌, nat_lt, refl, sym, ap, ◌∙◌, arith, subst}
-use Rattle.std.specs.Prelude.{Option, Some, None, Ok, if◌then◌else◌, ◌==◌, ◌||◌, not, slice_get, slice_index, option_map, option_and_then}
-use Rattle.std.proofs.lemmas.Bool.{eqb-true, and_parts, or_cases, not-true}
-use Rattle.wild_words.specs.Words.{word, number}
-use Rattle.wild_words.proofs.WordLemmas.{length-word, number-word}
+use Rattle.wild_checker.proofs.Common.{◌≡◌, ℕ, ◌+◌, ◌-◌, ◌%◌, ◌^◌, ◌<◌, ◌⊎◌, inl, inr, Bool, true, false, ◌&&◌, nat_lt, refl, sym, ap, ◌∙◌, arith, subst, Option, Some, None, Ok, if◌then◌else◌, ◌==◌, ◌||◌, not, slice_get, slice_index, option_map, option_and_then, eqb-true, and_parts, or_cases, not-true, word, length-word, File, Machine, Layout, Resolution, Symbol, has_flag, absolute, ifunc, canonical, Memory, World, Word, Holds, HasValue, HasRaw, HasFlag, canonical_is, own_definition, Term, number_term, based, Follows, term_at, value_of, based_is, StubLaws, Loaded, has_bytes, raw_in, loaded_term, thread_term, may_be_zero, stub_term, is_at_stub}
+use Rattle.wild_words.specs.Words.{number}
+use Rattle.wild_words.proofs.WordLemmas.{number-word}
 use Rattle.wild_reloc.specs.declared.expression.SlotSort.{SlotSort}
 use Rattle.wild_reloc.specs.declared.expression.SlotSort.TheVariants as sorts
 use Rattle.wild_reloc.specs.Expression.{slot_sort}
 use Rattle.wild_reloc.specs.Formula.{Slot, OwnModulePair}
-use Rattle.wild_types.specs.declared.file.File.{File}
-use Rattle.wild_types.specs.declared.kind.Machine.{Machine}
 use Rattle.wild_types.specs.declared.kind.Machine.TheVariants as machine
-use Rattle.wild_types.specs.declared.layout.Layout.{Layout}
-use Rattle.wild_types.specs.declared.symbol.Resolution.{Resolution}
-use Rattle.wild_types.specs.declared.symbol.Symbol.{Symbol}
-use Rattle.wild_types.specs.Flags.{has_flag, absolute, ifunc, undefined_weak, plt_stub, ifunc_got_for_address}
-use Rattle.wild_types.specs.Lookups.{canonical}
+use Rattle.wild_types.specs.Flags.{undefined_weak, plt_stub, ifunc_got_for_address}
 use Rattle.wild_types.specs.SymbolSlots.{got_of, plt_of, resolved_got, resolved_plt}
 use Rattle.wild_loader.specs.declared.memory.Machine.{Machine as Processor}
 use Rattle.wild_loader.specs.declared.memory.Machine.TheVariants as processor
-use Rattle.wild_loader.specs.declared.memory.Memory.{Memory}
-use Rattle.wild_loader.specs.declared.world.World.{World}
 use Rattle.wild_loader.specs.Changes.{distance_of}
-use Rattle.wild_loader.specs.declared.instruction.Operand.TheVariants.{Word}
-use Rattle.wild_loader.specs.Memory.{Holds, number_in}
+use Rattle.wild_loader.specs.Memory.{number_in}
 use Rattle.wild_loader.proofs.HeldBytes.{number-held}
 use Rattle.wild_loader.proofs.MappedSegments.{byte_below}
 use Rattle.wild_meaning.specs.Denotes.{HasStub, stub_size, IsStub, IsAddressOf}
@@ -31,22 +20,14 @@ use Rattle.wild_meaning.specs.Jump.{JumpsBy}
 use Rattle.wild_meaning.specs.LinkedImage.{processor_of}
 use Rattle.wild_meaning.specs.ReferentAArch64.{IsUndefinedWeak}
 use Rattle.wild_meaning.specs.Slot.{IsSlotOf, IsOwnPair, IsInAddressSlot, HoldsSlot, HasSlotAddress, HasSlot as HasSlotPlace, has_slot_of, offset_from_first}
-use Rattle.wild_meaning.specs.Value.{HasValue, HasRaw, HasFlag}
-use Rattle.wild_meaning.proofs.SymbolLemmas.{canonical_is, own_definition}
-use Rattle.wild_terms.specs.declared.term.Term.{Term}
-use Rattle.wild_terms.specs.Terms.{number_term}
-use Rattle.wild_terms.specs.Outline.{based, own_module}
-use Rattle.wild_terms.specs.Laws.{Follows}
-use Rattle.wild_terms.specs.Symbolic.{term_at, descriptor_at}
-use Rattle.wild_terms.specs.Values.{value_of}
-use Rattle.wild_terms.proofs.ValueLemmas.{based_is, own_module_is, same_terms}
+use Rattle.wild_terms.specs.Outline.{own_module}
+use Rattle.wild_terms.specs.Symbolic.{descriptor_at}
+use Rattle.wild_terms.proofs.ValueLemmas.{own_module_is, same_terms}
 use Rattle.wild_slot.specs.MachineStub.{stub_in}
-use Rattle.wild_references.proofs.StubCode.{StubLaws, HasPlaces, stub_below, stub_code}
-use Rattle.wild_checker.specs.Loaded.{Loaded}
-use Rattle.wild_checker.specs.Bytes.{has_bytes}
-use Rattle.wild_checker.specs.Symbols.{raw_in, is_equal, loaded_term}
-use Rattle.wild_checker.specs.Threads.{module_term, offset_term, thread_term, may_be_zero, begin_offset}
-use Rattle.wild_checker.specs.Slots.{is_known, are_same, holds_value, holds_pair, holds_slot, slot_place, slot_by, symbol_slot, own_pair_by, slot_term, is_for, has_places, is_stub, is_strong, stub_by, stub_term, is_at_stub, holds_stub}
+use Rattle.wild_references.proofs.StubCode.{HasPlaces, stub_below, stub_code}
+use Rattle.wild_checker.specs.Symbols.{is_equal}
+use Rattle.wild_checker.specs.Threads.{module_term, offset_term, begin_offset}
+use Rattle.wild_checker.specs.Slots.{is_known, are_same, holds_value, holds_pair, holds_slot, slot_place, slot_by, symbol_slot, own_pair_by, slot_term, is_for, has_places, is_stub, is_strong, stub_by, holds_stub}
 use Rattle.wild_checker.proofs.ByteLemmas.{bytes_held}
 use Rattle.wild_checker.proofs.ValueLemmas.{Known, mapped, raw_is, one_symbol, loaded_value}
 use Rattle.wild_checker.proofs.ThreadLemmas.{thread_is, zero_is, pair_is, begin_is}

@@ -1,44 +1,29 @@
 -- After Yes the image holds in every legal world.
-use Rattle.std.proofs.Common.{◌≡◌, ℕ, ◌/◌, ◌%◌, ◌&&◌, inl, inr, Bool, true, false, List, ◌∷◌, ◌++◌, refl, sym, subst}
-use Rattle.std.specs.Prelude.{Option, Some, None, Result, Ok, Err, All, Contains, if◌then◌else◌, not}
-use Rattle.std.proofs.lemmas.Bool.{eq-eqb, and_parts, not-true}
-use Rattle.std.proofs.lemmas.List.Elements.{All-contains, Contains-append_right}
+use Rattle.wild_checker.proofs.Common.{◌≡◌, ℕ, ◌/◌, ◌%◌, ◌&&◌, inl, inr, Bool, true, false, List, ◌∷◌, ◌++◌, refl, sym, subst, Option, Some, None, Result, Ok, Err, All, Contains, if◌then◌else◌, not, eq-eqb, and_parts, not-true, All-contains, OutputKind, File, Group, InputSection, Layout, Item, InputNumbers, Memory, World, Outline, Follows, Symbolic, IsWorldOf, are_in_order, Loaded, first_cursor, in_groups, changed_gap, first_doubt}
+use Rattle.std.proofs.lemmas.List.Elements.{Contains-append_right}
 use Rattle.std.proofs.lemmas.Nat.Gcd.{dvd_trans, dvd_of_mod-eq-zero, mod-eq-zero_of_dvd}
 use Rattle.wild_words.proofs.ListLemmas.{Contains-here}
 use Rattle.wild_records.specs.Abi.Section.{shf_alloc}
-use Rattle.wild_types.specs.declared.kind.OutputKind.{OutputKind}
 use Rattle.wild_types.specs.declared.kind.OutputKind.TheVariants as output
-use Rattle.wild_types.specs.declared.file.File.{File}
-use Rattle.wild_types.specs.declared.file.Group.{Group}
-use Rattle.wild_types.specs.declared.input.InputSection.{InputSection}
 use Rattle.wild_types.specs.declared.input.Slot.{Slot}
 use Rattle.wild_types.specs.declared.input.Slot.TheVariants as slot
-use Rattle.wild_types.specs.declared.layout.Layout.{Layout}
-use Rattle.wild_types.specs.Item.{Item, block_for}
+use Rattle.wild_types.specs.Item.{block_for}
 use Rattle.wild_types.specs.Kinds.{is_partial_link}
 use Rattle.wild_types.specs.Lookups.{is_frame}
-use Rattle.wild_layout.specs.Numbers.{NumbersFit, InputNumbers}
+use Rattle.wild_layout.specs.Numbers.{NumbersFit}
 use Rattle.wild_loader.specs.declared.fault.LoadFault.{LoadFault}
 use Rattle.wild_loader.specs.declared.fault.LoadFault.TheVariants as faults
-use Rattle.wild_loader.specs.declared.memory.Memory.{Memory}
-use Rattle.wild_loader.specs.declared.world.World.{World}
 use Rattle.wild_meaning.specs.Item.{IsKept, OfSection, OfFrames, IsLoadedSlot, placed_item}
 use Rattle.wild_meaning.specs.Reference.{ItemHolds}
 use Rattle.wild_meaning.specs.World.{IsLoadable, IsLegal}
-use Rattle.wild_terms.specs.declared.outline.Outline.{Outline}
-use Rattle.wild_terms.specs.Laws.{Follows, TermsAreLoaded}
-use Rattle.wild_terms.specs.Symbolic.{Symbolic, terms_of}
-use Rattle.wild_terms.specs.Values.{IsWorldOf}
+use Rattle.wild_terms.specs.Laws.{TermsAreLoaded}
+use Rattle.wild_terms.specs.Symbolic.{terms_of}
 use Rattle.wild_references.specs.PlainLaws.{RawValuesAreAddresses}
 use Rattle.wild_checker.specs.declared.question.Site.{Site}
 use Rattle.wild_checker.specs.declared.verdict.Doubt.TheVariants as doubts
 use Rattle.wild_checker.specs.declared.verdict.Verdict.TheVariants.{Yes, No}
-use Rattle.wild_checker.specs.Bytes.{are_in_order}
-use Rattle.wild_checker.specs.Loaded.{Loaded}
 use Rattle.wild_checker.specs.Outline.{WorldsAreOutlined}
-use Rattle.wild_checker.specs.Rewritten.{first_cursor}
-use Rattle.wild_checker.specs.Search.{in_groups}
-use Rattle.wild_checker.specs.Sections.{is_loaded_slot, is_in_memory, has_frames, is_in_order, changed_gap, changed_byte, first_doubt, doubtful_reference}
+use Rattle.wild_checker.specs.Sections.{is_loaded_slot, is_in_memory, has_frames, is_in_order, changed_byte, doubtful_reference}
 use Rattle.wild_checker.specs.Segments.{segment_doubt}
 use Rattle.wild_checker.specs.Verdict.{HoldsIn, by_reference, by_byte, whole, loaded_image, by_segment, IsRefusal, IsReadVerdict, IsOutlined, YesIsFounded}
 use Rattle.wild_checker.proofs.ItemLemmas.{item_holds}

@@ -1,35 +1,21 @@
 -- The terms of thread-local offsets have the offsets' values.
-use Rattle.std.proofs.Common.{◌≡◌, ℕ, ℤ, ◌+◌, ◌-◌, ◌%◌, ◌^◌, ◌<◌, inl, inr, Bool, true, false, ◌||◌, refl, sym, ap, ◌∙◌, arith, subst}
-use Rattle.std.specs.Prelude.{Option, Some, None, Ok, if◌then◌else◌, not, slice_get, option_map}
-use Rattle.std.specs.Int.{w64, cast_unsigned}
-use Rattle.std.proofs.lemmas.Bool.{eqb-true, and_parts, or_cases, not-true}
+use Rattle.wild_checker.proofs.Common.{◌≡◌, ℕ, ℤ, ◌+◌, ◌-◌, ◌%◌, ◌^◌, ◌<◌, inl, inr, Bool, true, false, ◌||◌, refl, sym, ap, ◌∙◌, arith, subst, Option, Some, None, Ok, if◌then◌else◌, not, slice_get, option_map, w64, eqb-true, and_parts, or_cases, not-true, File, Machine, OutputKind, Symbol, canonical, World, first_value, HasRaw, may_be_replaced, own_definition, first_filtered, Term, number_term, sum, difference, value_of, sums_are, differences_are, IndexedAnswer, Loaded, raw_in, index_of, known_answer, thread_term, may_be_zero}
+use Rattle.std.specs.Int.{cast_unsigned}
 use Rattle.wild_records.proofs.FieldLemmas.{signed_fits}
-use Rattle.wild_types.specs.declared.file.File.{File}
-use Rattle.wild_types.specs.declared.kind.Machine.{Machine}
 use Rattle.wild_types.specs.declared.kind.Machine.TheVariants as machine
-use Rattle.wild_types.specs.declared.kind.OutputKind.{OutputKind}
 use Rattle.wild_types.specs.declared.kind.OutputKind.TheVariants as output
 use Rattle.wild_types.specs.declared.symbol.Place.{Place}
 use Rattle.wild_types.specs.declared.symbol.Place.TheVariants as at
-use Rattle.wild_types.specs.declared.symbol.Symbol.{Symbol}
-use Rattle.wild_types.specs.Lookups.{canonical}
 use Rattle.wild_loader.specs.declared.fault.LoadFault.TheVariants as faults
-use Rattle.wild_loader.specs.declared.world.World.{World}
-use Rattle.wild_loader.specs.Changes.{first_value, distance_of}
+use Rattle.wild_loader.specs.Changes.{distance_of}
 use Rattle.wild_loader.specs.Outcome.{◌>>=◌, known}
 use Rattle.wild_meaning.specs.Thread.{HasDistance, IsThreadPlace, HasThreadOffset, IsOffsetBase}
-use Rattle.wild_meaning.specs.Value.{IsUndefined, HasRaw, may_be_replaced}
-use Rattle.wild_meaning.proofs.SymbolLemmas.{own_definition}
-use Rattle.wild_meaning.proofs.WorldLemmas.{first_filtered, distance_known}
-use Rattle.wild_terms.specs.declared.term.Term.{Term}
+use Rattle.wild_meaning.specs.Value.{IsUndefined}
+use Rattle.wild_meaning.proofs.WorldLemmas.{distance_known}
 use Rattle.wild_terms.specs.Outline.{distance_by, own_module, own_distance, module_of, offset_of, thread_offset_of}
-use Rattle.wild_terms.specs.Terms.{number_term, sum, difference}
-use Rattle.wild_terms.specs.Values.{distance_or, unsigned_or, value_of}
-use Rattle.wild_terms.proofs.ValueLemmas.{sums_are, differences_are, own_module_is, own_distance_is, module_is, offset_is, thread_offset_is, distance_is}
-use Rattle.wild_checker.specs.declared.symbols.IndexedAnswer.{IndexedAnswer}
-use Rattle.wild_checker.specs.Loaded.{Loaded}
-use Rattle.wild_checker.specs.Symbols.{raw_in, index_of, known_answer}
-use Rattle.wild_checker.specs.Threads.{in_data, own_offset, own_thread_term, module_term, offset_term, thread_term, is_undefined, is_zero, may_be_zero, pointer_by, pointer_term, counts_from_pointer, relative_by, relative_term, begin_offset}
+use Rattle.wild_terms.specs.Values.{distance_or, unsigned_or}
+use Rattle.wild_terms.proofs.ValueLemmas.{own_module_is, own_distance_is, module_is, offset_is, thread_offset_is, distance_is}
+use Rattle.wild_checker.specs.Threads.{in_data, own_offset, own_thread_term, module_term, offset_term, is_undefined, is_zero, pointer_by, pointer_term, counts_from_pointer, relative_by, relative_term, begin_offset}
 use Rattle.wild_checker.proofs.ValueLemmas.{Known, mapped, raw_is, answered_for, is_replaceable}
 
 some_is : {X : Type 0} (x y : X) → (let o : Option X = Some x in o) ≡ Some y → x ≡ y

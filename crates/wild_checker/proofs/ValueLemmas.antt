@@ -1,51 +1,33 @@
 -- The term of a symbol has the symbol's value.
-use Rattle.std.proofs.Common.{◌≡◌, ℕ, ◌+◌, ◌%◌, ◌^◌, ◌<◌, ◌⊎◌, inl, inr, Bool, true, false, ◌&&◌, nat_le, nat_lt, refl, sym, ap, ◌∙◌, arith, subst}
-use Rattle.std.specs.Prelude.{Option, Some, None, Ok, All, Contains, unwrap_or, if◌then◌else◌, ◌==◌, not, slice_get, option_map, option_and_then}
-use Rattle.std.proofs.lemmas.Bool.{eq-eqb, and_parts, or_cases, not-true}
+use Rattle.wild_checker.proofs.Common.{◌≡◌, ℕ, ◌+◌, ◌%◌, ◌^◌, ◌<◌, ◌⊎◌, inl, inr, Bool, true, false, ◌&&◌, nat_le, nat_lt, refl, sym, ap, ◌∙◌, arith, subst, Option, Some, None, Ok, All, Contains, unwrap_or, if◌then◌else◌, ◌==◌, not, slice_get, option_map, option_and_then, eq-eqb, and_parts, or_cases, not-true, Value, File, Group, InputRelocation, InputSection, Machine, Layout, Resolution, Symbol, has_flag, ifunc, absolute, Item, canonical, Memory, World, first_value, HasValue, HasRaw, HasFlag, may_be_replaced, canonical_is, own_definition, first_filtered, Outline, Term, number_term, value_of, IsWorldOf, based_is, IndexedAnswer, Loaded, raw_in, index_of, known_answer, loaded_term}
 use Rattle.wild_words.proofs.ListLemmas.{holds_at}
 use Rattle.wild_records.specs.Abi.Symbol.{stt_section}
-use Rattle.wild_reloc.specs.Formula.{Value, SymbolPart, Distance, PageDistance, StubDistance}
-use Rattle.wild_types.specs.declared.file.File.{File}
-use Rattle.wild_types.specs.declared.file.Group.{Group}
-use Rattle.wild_types.specs.declared.input.InputRelocation.{InputRelocation}
-use Rattle.wild_types.specs.declared.input.InputSection.{InputSection}
-use Rattle.wild_types.specs.declared.kind.Machine.{Machine}
+use Rattle.wild_reloc.specs.Formula.{SymbolPart, Distance, PageDistance, StubDistance}
 use Rattle.wild_types.specs.declared.kind.Machine.TheVariants as machine
-use Rattle.wild_types.specs.declared.layout.Layout.{Layout}
 use Rattle.wild_types.specs.declared.symbol.Place.{Place}
 use Rattle.wild_types.specs.declared.symbol.Place.TheVariants as at
-use Rattle.wild_types.specs.declared.symbol.Resolution.{Resolution}
-use Rattle.wild_types.specs.declared.symbol.Symbol.{Symbol}
 use Rattle.wild_types.specs.Addresses.{raw_value, resolved_or, placed_value, address_at, address_in_file, address_in_section}
-use Rattle.wild_types.specs.Flags.{has_flag, ifunc, absolute, undefined_weak}
-use Rattle.wild_types.specs.Item.{Item}
-use Rattle.wild_types.specs.Lookups.{canonical, has_address, files_of, file_of}
+use Rattle.wild_types.specs.Flags.{undefined_weak}
+use Rattle.wild_types.specs.Lookups.{has_address, files_of, file_of}
 use Rattle.wild_types.specs.SymbolSlots.{plt_of, resolved_plt}
 use Rattle.wild_layout.specs.Numbers.{NumbersFit, SymbolNumbers}
-use Rattle.wild_loader.specs.declared.memory.Memory.{Memory}
 use Rattle.wild_loader.specs.declared.fault.LoadFault.TheVariants as faults
-use Rattle.wild_loader.specs.declared.world.World.{World}
-use Rattle.wild_loader.specs.Changes.{first_value, answer_at as resolver_answer}
+use Rattle.wild_loader.specs.Changes.{answer_at as resolver_answer}
 use Rattle.wild_loader.specs.Outcome.{known}
-use Rattle.wild_meaning.specs.Value.{HasValue, HasAnswer, IsReplaceable, IsResolved, IsUnresolved, IsLocatedAt, HasRaw, HasFlag, may_be_replaced, with_base}
+use Rattle.wild_meaning.specs.Value.{HasAnswer, IsReplaceable, IsResolved, IsUnresolved, IsLocatedAt, with_base}
 use Rattle.wild_meaning.specs.World.{IsKnownModule, HasResolver}
 use Rattle.wild_meaning.specs.Denotes.{IsAddressStub}
 use Rattle.wild_meaning.specs.Strings.{NamesStrings}
 use Rattle.wild_meaning.specs.ReferentAArch64.{RepresentsOnAArch64}
 use Rattle.wild_meaning.specs.Formula.{IsReferent, IsReferentOnAArch64, IsSymbolAddress, UsesOwnPlace}
-use Rattle.wild_meaning.proofs.SymbolLemmas.{canonical_is, own_definition, referent_is}
-use Rattle.wild_meaning.proofs.WorldLemmas.{first_filtered}
-use Rattle.wild_terms.specs.declared.outline.Outline.{Outline}
-use Rattle.wild_terms.specs.declared.term.Term.{Term}
+use Rattle.wild_meaning.proofs.SymbolLemmas.{referent_is}
 use Rattle.wild_terms.specs.Outline.{address_of}
 use Rattle.wild_terms.specs.declared.term.Atom.TheVariants.{Resolver}
-use Rattle.wild_terms.specs.Terms.{number_term, atom_term}
-use Rattle.wild_terms.specs.Values.{value_of, IsAnswered, IsWorldOf}
-use Rattle.wild_terms.proofs.ValueLemmas.{based_is, address_is}
+use Rattle.wild_terms.specs.Terms.{atom_term}
+use Rattle.wild_terms.specs.Values.{IsAnswered}
+use Rattle.wild_terms.proofs.ValueLemmas.{address_is}
 use Rattle.wild_references.specs.PlainLaws.{RawValuesAreAddresses}
-use Rattle.wild_checker.specs.declared.symbols.IndexedAnswer.{IndexedAnswer}
-use Rattle.wild_checker.specs.Loaded.{Loaded}
-use Rattle.wild_checker.specs.Symbols.{are_ordered, in_file, address_by_place, address_of_symbol, raw_in, value_by, is_equal, represents, is_plain, defined_term, symbol_term, index_of, answer_at, known_answer, answer_term, resolver_term, own_term, loaded_term, is_merge, has_no_strings, is_no_merged, names_none, names_no_strings}
+use Rattle.wild_checker.specs.Symbols.{are_ordered, in_file, address_by_place, address_of_symbol, value_by, is_equal, represents, is_plain, defined_term, symbol_term, answer_at, answer_term, resolver_term, own_term, is_merge, has_no_strings, is_no_merged, names_none, names_no_strings}
 use Rattle.wild_checker.specs.References.{plain_referent}
 use Rattle.wild_checker.proofs.FileLemmas.{own_file}
 

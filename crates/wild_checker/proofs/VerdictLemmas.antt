@@ -1,12 +1,9 @@
 -- The verdict of parts of the checker is that of the whole.
-use Rattle.std.proofs.Common.{◌≡◌, ℕ, List, true, false, refl, subst, sym}
-use Rattle.std.specs.Prelude.{Result, Ok, Err}
-use Rattle.wild_types.specs.declared.layout.Layout.{Layout}
+use Rattle.wild_checker.proofs.Common.{◌≡◌, ℕ, List, true, false, refl, subst, sym, Result, Ok, Err, Layout, Outline, Symbolic}
 use Rattle.wild_types.specs.Kinds.{is_partial_link}
 use Rattle.wild_loader.specs.declared.fault.LoadFault.{LoadFault}
 use Rattle.wild_loader.specs.declared.fault.LoadFault.TheVariants as faults
-use Rattle.wild_terms.specs.declared.outline.Outline.{Outline}
-use Rattle.wild_terms.specs.Symbolic.{Symbolic, IsLoadedBy, terms_of}
+use Rattle.wild_terms.specs.Symbolic.{IsLoadedBy, terms_of}
 use Rattle.wild_checker.specs.declared.verdict.Doubt.TheVariants as doubts
 use Rattle.wild_checker.specs.declared.verdict.Verdict.{Verdict}
 use Rattle.wild_checker.specs.declared.verdict.Verdict.TheVariants.{No}

@@ -1,19 +1,10 @@
 -- What a walk over the relocations of a section says of each relocation, and of each byte in no field.
-use Rattle.std.proofs.Common.{◌≡◌, ℕ, zero, suc, ◌+◌, ◌<◌, ◌≤◌, ◌⊎◌, inl, inr, Bool, true, false, List, [], ◌∷◌, length, max, nat_le, refl, sym, ap, ◌∙◌, arith, subst}
-use Rattle.std.specs.Prelude.{Option, Some, None, All, if◌then◌else◌, ◌==◌, slice_get, slice_index, unwrap_or}
-use Rattle.std.proofs.lemmas.Bool.{cases_lt, leb-true}
+use Rattle.wild_checker.proofs.Common.{◌≡◌, ℕ, zero, suc, ◌+◌, ◌<◌, ◌≤◌, ◌⊎◌, inl, inr, Bool, true, false, List, [], ◌∷◌, length, max, nat_le, refl, sym, ap, ◌∙◌, arith, subst, Option, Some, None, All, if◌then◌else◌, ◌==◌, slice_get, slice_index, unwrap_or, cases_lt, leb-true, File, InputRelocation, InputSection, Machine, field_bytes, Cursor, field_end, are_in_order, Loaded, rewritten_start, changed_gap, is_settled, first_doubt}
 use Rattle.std.proofs.lemmas.List.Elements.{All-head, All-tail}
-use Rattle.wild_types.specs.declared.file.File.{File}
-use Rattle.wild_types.specs.declared.input.InputRelocation.{InputRelocation}
-use Rattle.wild_types.specs.declared.input.InputSection.{InputSection}
-use Rattle.wild_types.specs.declared.kind.Machine.{Machine}
-use Rattle.wild_types.specs.Rows.{field_bytes}
 use Rattle.wild_terms.specs.Symbolic.{known_byte}
-use Rattle.wild_checker.specs.declared.rewritten.Cursor.{Cursor}
-use Rattle.wild_checker.specs.Bytes.{field_end, are_in_order, changed_between}
-use Rattle.wild_checker.specs.Loaded.{Loaded}
-use Rattle.wild_checker.specs.Rewritten.{reach, next_cursor, rewritten_start}
-use Rattle.wild_checker.specs.Sections.{gap_end, changed_gap, is_settled, first_doubt}
+use Rattle.wild_checker.specs.Bytes.{changed_between}
+use Rattle.wild_checker.specs.Rewritten.{reach, next_cursor}
+use Rattle.wild_checker.specs.Sections.{gap_end}
 use Rattle.wild_checker.proofs.SiteLemmas.{IsBeside, both_none, between_known}
 
 -- where the walk is before relocation i

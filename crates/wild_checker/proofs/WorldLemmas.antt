@@ -1,44 +1,27 @@
 -- A legal world of a layout is one of its outline.
-use Rattle.std.proofs.Common.{◌≡◌, ℕ, zero, suc, ◌+◌, ◌-◌, ◌%◌, ◌^◌, ◌<◌, ◌≤◌, ◌⊎◌, inl, inr, Bool, true, false, ◌||◌, List, [], ◌∷◌, length, refl, sym, ap, ◌∙◌, arith, subst}
-use Rattle.std.specs.Prelude.{Option, Some, None, Contains, slice_get, if◌then◌else◌, ◌==◌, ◌&&◌, not, nat_lt, set, replicate}
-use Rattle.std.specs.Int.{cast_unsigned, w64}
+use Rattle.wild_checker.proofs.Common.{◌≡◌, ℕ, zero, suc, ◌+◌, ◌-◌, ◌%◌, ◌^◌, ◌<◌, ◌≤◌, ◌⊎◌, inl, inr, Bool, true, false, ◌||◌, List, [], ◌∷◌, length, refl, sym, ap, ◌∙◌, arith, subst, Option, Some, None, Contains, slice_get, if◌then◌else◌, ◌==◌, ◌&&◌, not, nat_lt, set, replicate, w64, eqb-true, and_parts, not-true, All-contains, OutputKind, Machine, Layout, Resolution, Symbol, has_flag, absolute, ifunc, canonical, World, first_value, HasRaw, HasFlag, may_be_replaced, canonical_is, own_definition, first_filtered, Outline, number_term, value_of}
+use Rattle.std.specs.Int.{cast_unsigned}
 use Rattle.std.specs.List.{list_any, filter_map}
 use Rattle.std.proofs.Math.Nat.{zero-mod}
-use Rattle.std.proofs.lemmas.Bool.{eqb-true, and_parts, not-true}
 use Rattle.std.proofs.lemmas.Bool.Decides.{leb_tells}
 use Rattle.std.proofs.lemmas.List.{length-set, length-replicate}
-use Rattle.std.proofs.lemmas.List.Elements.{All-contains}
 use Rattle.std.proofs.lemmas.List.Sorted.{list_any-IsPermutation}
 use Rattle.wild_words.proofs.Basics.{slice_get_inside}
 use Rattle.wild_words.proofs.ListLemmas.{Contains-here, Contains-there, holds_at}
 use Rattle.wild_records.proofs.FieldLemmas.{signed_fits}
-use Rattle.wild_types.specs.declared.kind.OutputKind.{OutputKind}
 use Rattle.wild_types.specs.declared.kind.OutputKind.TheVariants as output
 use Rattle.wild_types.specs.declared.kind.RelocationModel.TheVariants as model
-use Rattle.wild_types.specs.declared.kind.Machine.{Machine}
 use Rattle.wild_types.specs.declared.kind.Machine.TheVariants as machine
-use Rattle.wild_types.specs.declared.layout.Layout.{Layout}
 use Rattle.wild_types.specs.declared.layout.Tls.{Tls}
-use Rattle.wild_types.specs.declared.symbol.Resolution.{Resolution}
-use Rattle.wild_types.specs.declared.symbol.Symbol.{Symbol}
-use Rattle.wild_types.specs.Flags.{has_flag, absolute, ifunc}
 use Rattle.wild_types.specs.Kinds.{is_executable, is_position_independent}
-use Rattle.wild_types.specs.Lookups.{canonical}
-use Rattle.wild_loader.specs.declared.world.World.{World}
 use Rattle.wild_loader.specs.declared.world.Answer.{Answer}
-use Rattle.wild_loader.specs.Changes.{first_value}
 use Rattle.wild_meaning.specs.Thread.{rounded_up, thread_pointer_of, thread_pointer}
-use Rattle.wild_meaning.specs.Value.{IsDefinedBy, IsLocatedAt, IsResolved, IsUnresolved, HasRaw, HasFlag, IsValue, may_be_replaced, with_base}
+use Rattle.wild_meaning.specs.Value.{IsDefinedBy, IsLocatedAt, IsResolved, IsUnresolved, IsValue, with_base}
 use Rattle.wild_meaning.specs.World.{IsOwnAnswer, first_module, IsFixed, IsLoadable, IsExecutable, IsLegal, IsAnswer, IsAnswered, HasResolver}
-use Rattle.wild_meaning.proofs.SymbolLemmas.{canonical_is, own_definition}
-use Rattle.wild_meaning.proofs.WorldLemmas.{first_filtered}
 use Rattle.wild_terms.specs.declared.outline.KnownAnswer.{KnownAnswer}
 use Rattle.wild_terms.specs.declared.outline.KnownAnswer.TheVariants.{Foreign}
-use Rattle.wild_terms.specs.declared.outline.Outline.{Outline}
 use Rattle.wild_terms.specs.declared.term.Atom.TheVariants.{Base}
-use Rattle.wild_terms.specs.Terms.{number_term}
 use Rattle.wild_terms.specs.Outline.{has_resolver}
-use Rattle.wild_terms.specs.Values.{value_of}
 use Rattle.wild_terms.specs.Values as terms
 use Rattle.wild_checker.specs.Outline.{end_by, index_by, index_end, greatest_end, address_by, resolver_of, next_multiple, pointer_of, program_of, answer_count, own_answer, is_own, with_answer, with_resolved, with_symbol, with_symbols, known_answers, IsOutlineOf, WorldsAreOutlined}
 

@@ -1,12 +1,10 @@
 -- Buffers after bytes are written into them.
-use Rattle.std.proofs.Common.{◌≡◌, ℕ, ◌%◌, ◌^◌, ◌<◌, List, [], ◌∷◌, length, take, refl, sym, ap, ◌∙◌, arith}
-use Rattle.std.specs.Int.{to_le_bytes, w64}
-use Rattle.wild_words.specs.Words.{place, word}
-use Rattle.wild_words.proofs.WordLemmas.{front-place, length-word, low_word_4, word_8}
+use Rattle.wild_checker.proofs.Common.{◌≡◌, ℕ, ◌%◌, ◌^◌, ◌<◌, List, [], ◌∷◌, length, take, refl, sym, ap, ◌∙◌, arith, w64, word, length-word, RelocationKindInfo, WidthsHold, field_width}
+use Rattle.std.specs.Int.{to_le_bytes}
+use Rattle.wild_words.specs.Words.{place}
+use Rattle.wild_words.proofs.WordLemmas.{front-place, low_word_4, word_8}
 use Rattle.wild_loader.specs.StepLawsX86_64.{stub_bytes}
-use Rattle.wild_reloc.specs.declared.info.RelocationKindInfo.{RelocationKindInfo}
-use Rattle.wild_reloc.specs.Agreement.{WidthsHold}
-use Rattle.wild_reloc.specs.Field.{field_width, written}
+use Rattle.wild_reloc.specs.Field.{written}
 
 front : (ys xs : List ℕ) (n : ℕ) → n ≡ length ys → take n (place 0 ys xs) ≡ ys
 front ys xs n e = front-place 0 n xs ys (omega (arith, e)) (omega arith)

@@ -1,5 +1,4 @@
-use Rattle.std.proofs.Common.{◌≡◌, drop}
-use Rattle.wild_checker.specs.Bytes.{are_in_order}
+use Rattle.wild_checker.proofs.Common.{◌≡◌, drop, are_in_order}
 use Rattle.wild_checker.proofs.bytes.are_in_order.Given as goal
 
 abbrev pub invariant-loop-relocation : goal.invariant-loop-relocation

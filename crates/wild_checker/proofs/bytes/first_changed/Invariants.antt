@@ -1,5 +1,4 @@
-use Rattle.std.proofs.Common.{◌≡◌, ◌+◌, drop}
-use Rattle.wild_checker.specs.Bytes.{first_changed}
+use Rattle.wild_checker.proofs.Common.{◌≡◌, ◌+◌, drop, first_changed}
 use Rattle.wild_checker.proofs.bytes.first_changed.Given as goal
 
 abbrev pub invariant-loop-k : goal.invariant-loop-k

@@ -1,4 +1,4 @@
-use Rattle.std.proofs.Common.{◌≡◌, drop}
+use Rattle.wild_checker.proofs.Common.{◌≡◌, drop}
 use Rattle.wild_checker.specs.Files.{with_files}
 use Rattle.wild_checker.proofs.files.add_files.Given as goal
 

@@ -1,4 +1,4 @@
-use Rattle.std.proofs.Common.{◌≡◌, drop}
+use Rattle.wild_checker.proofs.Common.{◌≡◌, drop}
 use Rattle.wild_checker.specs.Files.{with_groups}
 use Rattle.wild_checker.proofs.files.add_groups.Given as goal
 

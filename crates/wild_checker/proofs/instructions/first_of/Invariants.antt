@@ -1,5 +1,5 @@
-use Rattle.std.proofs.Common.{◌≡◌, drop, map}
-use Rattle.wild_checker.specs.Rewritten.{shape_of, first_shape}
+use Rattle.wild_checker.proofs.Common.{◌≡◌, drop, map, first_shape}
+use Rattle.wild_checker.specs.Rewritten.{shape_of}
 use Rattle.wild_checker.proofs.instructions.first_of.Given as goal
 
 abbrev pub invariant-loop-row : goal.invariant-loop-row

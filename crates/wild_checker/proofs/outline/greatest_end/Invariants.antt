@@ -1,4 +1,4 @@
-use Rattle.std.proofs.Common.{◌≡◌, drop, max}
+use Rattle.wild_checker.proofs.Common.{◌≡◌, drop, max}
 use Rattle.wild_checker.specs.Outline.{greatest_end}
 use Rattle.wild_checker.proofs.outline.greatest_end.Given as goal
 

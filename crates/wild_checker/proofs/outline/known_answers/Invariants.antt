@@ -1,5 +1,4 @@
-use Rattle.std.proofs.Common.{◌≡◌, drop}
-use Rattle.std.specs.Prelude.{replicate}
+use Rattle.wild_checker.proofs.Common.{◌≡◌, drop, replicate}
 use Rattle.wild_terms.specs.declared.outline.KnownAnswer.TheVariants.{Foreign}
 use Rattle.wild_checker.specs.Outline.{with_symbols}
 use Rattle.wild_checker.proofs.outline.known_answers.Given as goal

@@ -1,4 +1,4 @@
-use Rattle.std.proofs.Common.{◌≡◌, take}
+use Rattle.wild_checker.proofs.Common.{◌≡◌, take}
 use Rattle.std.specs.List.{filter_map}
 use Rattle.wild_checker.specs.Outline.{resolver_of}
 use Rattle.wild_checker.proofs.outline.listed_resolvers.Given as goal

@@ -1,5 +1,4 @@
-use Rattle.std.proofs.Common.{◌≡◌, drop}
-use Rattle.wild_checker.specs.Search.{in_groups}
+use Rattle.wild_checker.proofs.Common.{◌≡◌, drop, in_groups}
 use Rattle.wild_checker.proofs.question.ask_groups.Given as goal
 
 abbrev pub invariant-loop-n : goal.invariant-loop-n

@@ -1,4 +1,4 @@
-use Rattle.std.proofs.Common.{◌≡◌, drop}
+use Rattle.wild_checker.proofs.Common.{◌≡◌, drop}
 use Rattle.wild_checker.specs.Search.{in_sections}
 use Rattle.wild_checker.proofs.question.ask_sections.Given as goal
 

@@ -1,4 +1,4 @@
-use Rattle.std.proofs.Common.{arith}
+use Rattle.wild_checker.proofs.Common.{arith}
 use Rattle.wild_checker.proofs.WrittenLemmas.{number_written}
 use Rattle.wild_checker.proofs.rewritten.bytes_of.Goals as goal
 

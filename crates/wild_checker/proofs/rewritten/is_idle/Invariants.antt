@@ -1,4 +1,4 @@
-use Rattle.std.proofs.Common.{◌≡◌, [], drop}
+use Rattle.wild_checker.proofs.Common.{◌≡◌, [], drop}
 use Rattle.wild_loader.specs.Instruction.{are_idle}
 use Rattle.wild_checker.specs.Rewritten.{nop}
 use Rattle.wild_checker.proofs.rewritten.is_idle.Given as goal

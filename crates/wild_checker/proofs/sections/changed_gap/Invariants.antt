@@ -1,7 +1,5 @@
-use Rattle.std.proofs.Common.{◌≡◌, drop}
+use Rattle.wild_checker.proofs.Common.{◌≡◌, drop, first_cursor, changed_gap}
 use Rattle.wild_checker.specs.Loaded.{loaded_now}
-use Rattle.wild_checker.specs.Rewritten.{first_cursor}
-use Rattle.wild_checker.specs.Sections.{changed_gap}
 use Rattle.wild_checker.proofs.sections.changed_gap.Given as goal
 
 abbrev pub invariant-loop-relocation : goal.invariant-loop-relocation

@@ -1,7 +1,5 @@
-use Rattle.std.proofs.Common.{◌≡◌, drop}
+use Rattle.wild_checker.proofs.Common.{◌≡◌, drop, first_cursor, first_doubt}
 use Rattle.wild_checker.specs.Loaded.{loaded_now}
-use Rattle.wild_checker.specs.Rewritten.{first_cursor}
-use Rattle.wild_checker.specs.Sections.{first_doubt}
 use Rattle.wild_checker.proofs.sections.first_doubt.Given as goal
 
 abbrev pub invariant-loop-i : goal.invariant-loop-i

@@ -1,4 +1,4 @@
-use Rattle.std.proofs.Common.{◌≡◌, drop}
+use Rattle.wild_checker.proofs.Common.{◌≡◌, drop}
 use Rattle.wild_checker.specs.Segments.{first_different}
 use Rattle.wild_checker.proofs.segments.first_different.Given as goal
 

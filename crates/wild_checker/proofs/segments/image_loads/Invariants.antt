@@ -1,4 +1,4 @@
-use Rattle.std.proofs.Common.{◌≡◌, take}
+use Rattle.wild_checker.proofs.Common.{◌≡◌, take}
 use Rattle.wild_checker.specs.Segments.{image_loads}
 use Rattle.wild_checker.proofs.segments.image_loads.Given as goal
 

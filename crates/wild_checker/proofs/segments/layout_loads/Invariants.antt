@@ -1,4 +1,4 @@
-use Rattle.std.proofs.Common.{◌≡◌, take}
+use Rattle.wild_checker.proofs.Common.{◌≡◌, take}
 use Rattle.wild_checker.specs.Segments.{layout_loads}
 use Rattle.wild_checker.proofs.segments.layout_loads.Given as goal
 

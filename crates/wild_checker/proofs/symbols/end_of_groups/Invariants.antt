@@ -1,4 +1,4 @@
-use Rattle.std.proofs.Common.{◌≡◌, drop}
+use Rattle.wild_checker.proofs.Common.{◌≡◌, drop}
 use Rattle.wild_checker.specs.Symbols.{end_of_groups}
 use Rattle.wild_checker.proofs.symbols.end_of_groups.Given as goal
 
