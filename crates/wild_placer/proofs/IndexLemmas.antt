@@ -1,15 +1,11 @@
 -- Runs found by address.
-use Rattle.std.proofs.Common.{◌≡◌, ℕ, ◌<◌, ◌≤◌, Bool, true, false, List, [], ◌∷◌, ◌++◌, ◌∙◌, sym, ap, subst, refl, arith, inl, inr, ◌⊎◌}
-use Rattle.std.specs.Prelude.{◌==◌, Option, Some, None, IsSome, cond, nat_lt}
+use Rattle.wild_placer.proofs.Common.{◌≡◌, ℕ, ◌<◌, ◌≤◌, Bool, true, false, List, [], ◌∷◌, ◌++◌, ◌∙◌, sym, ap, subst, refl, arith, inl, inr, ◌⊎◌, ◌==◌, Option, Some, None, IsSome, cond, nat_lt, nat_cmp, get, cases_Bool, eqb-true, eq-eqb, le-ltb, ltb-true, ltb-false, none-some, same_Some, LoadedRun, Runs, IsRunAt, IsTaken}
 use Rattle.std.specs.declared.cmp.Ordering.TheVariants.{Less, Equal, Greater}
 use Rattle.std.specs.declared.ops.Bound.TheVariants.{Included, Unbounded}
-use Rattle.std.specs.Ordering.{nat_cmp, is_gt, is_lt}
-use Rattle.std.specs.BTreeMap.{BTreeMap, get}
+use Rattle.std.specs.Ordering.{is_gt, is_lt}
+use Rattle.std.specs.BTreeMap.{BTreeMap}
 use Rattle.std.specs.BTreeMap.Range.{IsRangeOf}
-use Rattle.std.proofs.lemmas.Bool.{cases_Bool, eqb-true, eq-eqb, le-ltb, ltb-true, ltb-false}
-use Rattle.std.proofs.lemmas.Option.{none-some, same_Some}
-use Rattle.wild_placer.specs.declared.index.LoadedRun.{LoadedRun}
-use Rattle.wild_placer.specs.Index.{Runs, IsRunAt, IsTaken, NoneIsTaken, IsFirstTaken, AreSeparate, IsLastStart, IsFirstStart}
+use Rattle.wild_placer.specs.Index.{NoneIsTaken, IsFirstTaken, AreSeparate, IsLastStart, IsFirstStart}
 
 -- a test does not both hold and fail
 pub clash : (b : Bool) → b ≡ true → b ≡ false → ⊥

@@ -1,27 +1,11 @@
 -- What placed memories have.
-use Rattle.std.proofs.Common.{◌≡◌, ℕ, ◌+◌, List, [], ◌∷◌, map, refl, sym, ap, ◌∙◌}
-use Rattle.std.specs.Prelude.{Option, None, Some, Result, Ok, Err}
+use Rattle.wild_placer.proofs.Common.{◌≡◌, ℕ, ◌+◌, List, [], ◌∷◌, map, refl, sym, ap, ◌∙◌, Option, None, Some, Result, Ok, Err, bytes, FileHeader, ProgramHeader, LoadFault, Image, Memory, Run, Tables, World, ◌>>=◌, memory_of, header, machine_of, program_headers, least_shared, load_segments, segments, tables, relocate, image_with, image_at, load}
 use Rattle.wild_words.specs.Extents.{least_extent}
-use Rattle.wild_layout.specs.Image.{bytes}
-use Rattle.wild_records.specs.declared.file_header.FileHeader.{FileHeader}
-use Rattle.wild_records.specs.declared.program_header.ProgramHeader.{ProgramHeader}
 use Rattle.wild_loader.specs.declared.change.Patch.{Patch}
-use Rattle.wild_loader.specs.declared.fault.LoadFault.{LoadFault}
 use Rattle.wild_loader.specs.declared.fault.LoadFault.TheVariants as faults
-use Rattle.wild_loader.specs.declared.image.Image.{Image}
-use Rattle.wild_loader.specs.declared.memory.Memory.{Memory}
-use Rattle.wild_loader.specs.declared.memory.Run.{Run}
-use Rattle.wild_loader.specs.declared.tables.Tables.{Tables}
-use Rattle.wild_loader.specs.declared.world.World.{World}
-use Rattle.wild_loader.specs.Outcome.{◌>>=◌}
-use Rattle.wild_loader.specs.Memory.{memory_of}
-use Rattle.wild_loader.specs.Headers.{header, machine_of, program_headers}
-use Rattle.wild_loader.specs.Runs.{extent_of, least_shared, check_no_overlap, put_byte, put_bytes, overlay_runs}
-use Rattle.wild_loader.specs.Segments.{load_segments, segments}
-use Rattle.wild_loader.specs.Tables.{tables}
+use Rattle.wild_loader.specs.Runs.{extent_of, check_no_overlap, put_byte, put_bytes, overlay_runs}
 use Rattle.wild_loader.specs.Places.{places}
-use Rattle.wild_loader.specs.Relocate.{rela_patch, place_patch, add_without_overlap, runs_of_patches, memory_with_patches, relocate}
-use Rattle.wild_loader.specs.Load.{image_with, image_at, load}
+use Rattle.wild_loader.specs.Relocate.{rela_patch, place_patch, add_without_overlap, runs_of_patches, memory_with_patches}
 use Rattle.wild_loader.proofs.IndexLemmas.{extents-put}
 use Rattle.wild_meaning.specs.LinkedImage.{IsLinked}
 use Rattle.wild_laws.specs.Laws.{ImagesAreSound}

@@ -1,15 +1,9 @@
 -- The runs of a memory under their starts, run by run.
-use Rattle.std.proofs.Common.{◌≡◌, ℕ, zero, suc, ◌+◌, ◌<◌, ◌≤◌, Bool, true, false, List, [], ◌∷◌, ◌++◌, length, take, get_or, ◌∙◌, sym, ap, refl, arith, inl, inr}
-use Rattle.std.specs.Prelude.{◌&&◌, ◌||◌, ◌==◌, not, if◌then◌else◌, Option, Some, None, cond, nat_lt}
+use Rattle.wild_placer.proofs.Common.{◌≡◌, ℕ, zero, suc, ◌+◌, ◌<◌, ◌≤◌, Bool, true, false, List, [], ◌∷◌, ◌++◌, length, take, get_or, ◌∙◌, sym, ap, refl, arith, inl, inr, ◌&&◌, ◌||◌, ◌==◌, not, if◌then◌else◌, Option, Some, None, cond, nat_lt, nat_cmp, is_eq, cases_Bool, eqb-true, le-ltb, Run, LoadedRun, Runs, any_begins, listed_run, with_runs, without_runs}
 use Rattle.std.specs.declared.cmp.Ordering.TheVariants.{Less, Equal, Greater}
-use Rattle.std.specs.Ordering.{nat_cmp, is_eq}
-use Rattle.std.proofs.lemmas.Bool.{cases_Bool, eqb-true, le-ltb}
 use Rattle.std.proofs.lemmas.List.{take_more, length-take-le}
 use Rattle.wild_words.proofs.Basics.{or_by}
-use Rattle.wild_loader.specs.declared.memory.Run.{Run}
-use Rattle.wild_placer.specs.declared.index.LoadedRun.{LoadedRun}
-use Rattle.wild_placer.specs.Index.{Runs}
-use Rattle.wild_placer.specs.Listed.{begins_at, any_begins, entry_of, own_entry, or_else, listed_run, with_runs, without_runs}
+use Rattle.wild_placer.specs.Listed.{begins_at, entry_of, own_entry, or_else}
 
 -- a key test of a map is equality of the keys
 pub is_key : (k q : ℕ) → is_eq (nat_cmp k q) ≡ (k == q)

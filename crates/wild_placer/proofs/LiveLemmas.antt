@@ -1,20 +1,13 @@
 -- The listed runs of live placements, as memories are added and removed.
-use Rattle.std.proofs.Common.{◌≡◌, ℕ, zero, suc, ◌+◌, ◌-◌, ◌^◌, ◌<◌, ◌≤◌, true, false, List, [], ◌∷◌, length, get_or, ◌∙◌, sym, ap, subst, refl, arith, inl, inr, ◌⊎◌}
-use Rattle.std.specs.Prelude.{Bool, not, ◌&&◌, ◌||◌, ◌==◌, if◌then◌else◌, Option, Some, None, IsSome, cond, slice_get, slice_index, nat_lt}
-use Rattle.std.specs.Ordering.{nat_cmp, is_eq}
-use Rattle.std.proofs.lemmas.Bool.{cases_Bool, eqb-true, eq-eqb, ltb-true, ltb-false}
-use Rattle.std.proofs.lemmas.Option.{same_Some, none-some, slice_get_within, get_or_from_slice_get}
+use Rattle.wild_placer.proofs.Common.{◌≡◌, ℕ, zero, suc, ◌+◌, ◌-◌, ◌^◌, ◌<◌, ◌≤◌, true, false, List, [], ◌∷◌, length, get_or, ◌∙◌, sym, ap, subst, refl, arith, inl, inr, ◌⊎◌, Bool, not, ◌&&◌, ◌||◌, ◌==◌, if◌then◌else◌, Option, Some, None, IsSome, cond, slice_get, slice_index, nat_lt, nat_cmp, is_eq, cases_Bool, eqb-true, eq-eqb, ltb-true, ltb-false, same_Some, none-some, slice_get_within, Memory, Run, least_shared, LoadedRun, Runs, IsRunAt, IsTaken, IsLeastOfRuns, any_begins, listed_run, with_runs, without_runs}
+use Rattle.std.proofs.lemmas.Option.{get_or_from_slice_get}
 use Rattle.wild_words.proofs.ExtentLemmas.{apart-beside}
-use Rattle.wild_loader.specs.declared.memory.Memory.{Memory}
-use Rattle.wild_loader.specs.declared.memory.Run.{Run}
 use Rattle.wild_loader.specs.Memory.{byte_of, byte_in}
-use Rattle.wild_loader.specs.Runs.{extent_of, least_shared, has_address}
+use Rattle.wild_loader.specs.Runs.{extent_of, has_address}
 use Rattle.wild_loader.specs.SegmentLaws.{DoesNotOverlap}
 use Rattle.wild_loader.proofs.RunLemmas.{runs-apart}
-use Rattle.wild_placer.specs.declared.index.LoadedRun.{LoadedRun}
-use Rattle.wild_placer.specs.Index.{Runs, IsRunAt, IsTaken, AreSeparate}
-use Rattle.wild_placer.specs.Shared.{IsLeastOfRuns}
-use Rattle.wild_placer.specs.Listed.{begins_at, any_begins, entry_of, own_entry, or_else, listed_run, with_runs, without_runs}
+use Rattle.wild_placer.specs.Index.{AreSeparate}
+use Rattle.wild_placer.specs.Listed.{begins_at, entry_of, own_entry, or_else}
 use Rattle.wild_placer.specs.Live.{Memories, IsRun, HoldsRun, ArePlaced}
 use Rattle.wild_placer.proofs.IndexLemmas.{clash, not_some, start_is_taken}
 use Rattle.wild_placer.proofs.SharedLemmas.{address_low, address_high, is_address}

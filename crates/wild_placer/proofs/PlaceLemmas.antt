@@ -1,20 +1,12 @@
 -- What a call of the placer answers, by the answers of the writer and of the loader.
-use Rattle.std.proofs.Common.{◌≡◌, ℕ, ◌≤◌, Bool, true, false, List, [], ◌∷◌, take, refl, sym, ap, subst, ◌∙◌}
-use Rattle.std.specs.Prelude.{Option, Some, None, Result, Ok, Err}
+use Rattle.wild_placer.proofs.Common.{◌≡◌, ℕ, ◌≤◌, Bool, true, false, List, [], ◌∷◌, take, refl, sym, ap, subst, ◌∙◌, Option, Some, None, Result, Ok, Err, Layout, bytes, LoadFault, Memory, World, load, PlaceFault}
 use Rattle.wild_types.specs.declared.fault.Error.{Error}
 use Rattle.wild_types.specs.declared.fault.Fault.{Fault}
 use Rattle.wild_types.specs.declared.fault.Fault.TheVariants as write_faults
-use Rattle.wild_types.specs.declared.layout.Layout.{Layout}
 use Rattle.wild_types.specs.Faults.{IsFirst, Refuses, RefusesWith}
 use Rattle.wild_layout.specs.Faults.{errors}
-use Rattle.wild_layout.specs.Image.{bytes}
-use Rattle.wild_loader.specs.declared.fault.LoadFault.{LoadFault}
 use Rattle.wild_loader.specs.declared.fault.LoadFault.TheVariants as load_faults
-use Rattle.wild_loader.specs.declared.memory.Memory.{Memory}
-use Rattle.wild_loader.specs.declared.world.World.{World}
-use Rattle.wild_loader.specs.Load.{load}
 use Rattle.wild_loader.specs.Outcome.{Fails as LoaderFails}
-use Rattle.wild_placer.specs.declared.fault.PlaceFault.{PlaceFault}
 use Rattle.wild_placer.specs.declared.fault.PlaceFault.TheVariants as faults
 use Rattle.wild_placer.specs.Place.{first_fault_or, layout_memory, Fails, write_fault_by, write_fault, load_fault, fault_of_prefix}
 use Rattle.wild_placer.specs.Plain.{load_plain, load_by}

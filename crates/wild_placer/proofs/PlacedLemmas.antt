@@ -1,19 +1,13 @@
 -- Placements by their numbers, as a list of pairs.
-use Rattle.std.proofs.Common.{◌≡◌, ℕ, ◌^◌, ◌<◌, Bool, true, false, List, [], ◌∷◌, ◌++◌, length, refl, sym, ap, subst, ◌∙◌, inl, inr, ◌⊎◌}
-use Rattle.std.specs.Prelude.{◌==◌, Option, Some, None, IsSome, IfSome, IfNone, is_some, cond, nat_lt}
+use Rattle.wild_placer.proofs.Common.{◌≡◌, ℕ, ◌^◌, ◌<◌, Bool, true, false, List, [], ◌∷◌, ◌++◌, length, refl, sym, ap, subst, ◌∙◌, inl, inr, ◌⊎◌, ◌==◌, Option, Some, None, IsSome, IfSome, IfNone, is_some, cond, nat_lt, nat_cmp, is_eq, lookup, get, is_at, cases_Bool, eqb-true, eq-eqb, none-some, slice_get_within, Memory, Run, LoadedRun, Runs, IsRunAt, IsTaken, IsLeastOfRuns}
 use Rattle.std.specs.declared.cmp.Ordering.{Ordering}
-use Rattle.std.specs.Ordering.{nat_cmp, is_eq, match_ordering}
-use Rattle.std.specs.Map.{lookup, remove_entry}
-use Rattle.std.specs.BTreeMap.{BTreeMap, get, is_at, insert_entry}
-use Rattle.std.proofs.lemmas.Bool.{cases_Bool, eqb-true, eq-eqb, lt-ltb}
-use Rattle.std.proofs.lemmas.Option.{none-some, slice_get_within}
-use Rattle.wild_loader.specs.declared.memory.Memory.{Memory}
-use Rattle.wild_loader.specs.declared.memory.Run.{Run}
+use Rattle.std.specs.Ordering.{match_ordering}
+use Rattle.std.specs.Map.{remove_entry}
+use Rattle.std.specs.BTreeMap.{BTreeMap, insert_entry}
+use Rattle.std.proofs.lemmas.Bool.{lt-ltb}
 use Rattle.wild_loader.specs.Changes.{first_value}
 use Rattle.wild_loader.specs.Memory.{byte_in}
-use Rattle.wild_placer.specs.declared.index.LoadedRun.{LoadedRun}
-use Rattle.wild_placer.specs.Index.{Runs, IsRunAt, IsTaken}
-use Rattle.wild_placer.specs.Shared.{IsInRuns, IsLeastOfRuns}
+use Rattle.wild_placer.specs.Shared.{IsInRuns}
 use Rattle.wild_placer.specs.Live.{byte_in_memory, ArePlaced}
 use Rattle.wild_placer.specs.Placed.{without, IsFree, IsByte, IsFirstTaken, AreApart, HasByte}
 use Rattle.wild_placer.proofs.IndexLemmas.{clash, is_some_of, not_some, greater}

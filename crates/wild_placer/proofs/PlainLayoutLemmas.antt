@@ -1,34 +1,27 @@
 -- Layouts without a dynamic section.
-use Rattle.std.proofs.Common.{◌≡◌, ℕ, ◌+◌, ◌==◌, ◌&&◌, inl, inr, Bool, true, false, not, if◌then◌else◌, List, [], ◌∷◌, length, map, drop, refl, sym, ◌∙◌}
-use Rattle.std.specs.Prelude.{None, Result, Ok, Err}
+use Rattle.wild_placer.proofs.Common.{◌≡◌, ℕ, ◌+◌, ◌==◌, ◌&&◌, inl, inr, Bool, true, false, not, if◌then◌else◌, List, [], ◌∷◌, length, map, drop, refl, sym, ◌∙◌, None, Result, Ok, Err, Rela, SectionHeader, Layout, bytes, LoadFault, ◌>>=◌, section_entries, first_dynamic, rela_header}
 use Rattle.std.specs.List.{list_all}
 use Rattle.std.proofs.lemmas.Bool.{and_parts}
 use Rattle.wild_records.specs.Abi.Segment.{pt_dynamic}
 use Rattle.wild_records.specs.FileHeader.{FileHeaderIsRead}
 use Rattle.wild_records.specs.ProgramHeader.{ProgramHeaderIsRead}
 use Rattle.wild_records.specs.SectionHeader.{SectionHeaderIsRead}
-use Rattle.wild_records.specs.declared.relocations.Rela.{Rela}
-use Rattle.wild_records.specs.declared.section_header.SectionHeader.{SectionHeader}
 use Rattle.wild_types.specs.declared.kind.RelocationModel.TheVariants as model
 use Rattle.wild_types.specs.declared.kind.OutputKind.{OutputKind}
 use Rattle.wild_types.specs.declared.kind.OutputKind.TheVariants as output
-use Rattle.wild_types.specs.declared.layout.Layout.{Layout}
 use Rattle.wild_types.specs.declared.section.Section.{Section}
 use Rattle.wild_types.specs.declared.section.Segment.{Segment}
 use Rattle.wild_types.specs.Kinds.{is_partial_link}
 use Rattle.wild_table_formats.specs.declared.section_info.ComputedInfo.{ComputedInfo}
 use Rattle.wild_table_formats.specs.Headers.{file_header, program_header, null_header, section_header, info_at, headers_from, computed_infos, section_headers_of}
-use Rattle.wild_layout.specs.Image.{bytes}
 use Rattle.wild_layout.specs.Geometry.{LayoutsAreLaidOut}
 use Rattle.wild_layout.proofs.FaultLemmas.{laid_out}
-use Rattle.wild_loader.specs.declared.fault.LoadFault.{LoadFault}
-use Rattle.wild_loader.specs.Outcome.{◌>>=◌}
-use Rattle.wild_loader.specs.Tables.{has_entries, with_section, section_entries, first_dynamic}
+use Rattle.wild_loader.specs.Tables.{has_entries, with_section}
 use Rattle.wild_meaning.specs.World.{IsLoadable}
 use Rattle.wild_loaded.specs.Memory.{headers_of}
 use Rattle.wild_loaded.specs.Laws.{HeadersAreThere}
 use Rattle.wild_loaded.proofs.HeadersFit.{uncompressed_flags-alloc}
-use Rattle.wild_placer.specs.Plain.{rela_header, is_plain}
+use Rattle.wild_placer.specs.Plain.{is_plain}
 use Rattle.wild_placer.specs.Laws.{PlainLayoutsAreLoaded}
 use Rattle.wild_placer.proofs.PlainLemmas.{static_is_loaded}
 

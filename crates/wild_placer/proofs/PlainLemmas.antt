@@ -1,8 +1,7 @@
 -- Images without a dynamic section: their memory is that of their segments, with their relocation sections applied.
-use Rattle.std.proofs.Common.{◌≡◌, ℕ, zero, suc, ◌+◌, ◌*◌, ◌<◌, ◌≤◌, ◌==◌, ◌&&◌, inl, inr, Bool, true, false, if◌then◌else◌, List, [], ◌∷◌, length, map, take, drop, refl, sym, ap, ◌∙◌, arith, subst}
-use Rattle.std.specs.Prelude.{All, None, Result, Ok, Err}
+use Rattle.wild_placer.proofs.Common.{◌≡◌, ℕ, zero, suc, ◌+◌, ◌*◌, ◌<◌, ◌≤◌, ◌==◌, ◌&&◌, inl, inr, Bool, true, false, if◌then◌else◌, List, [], ◌∷◌, length, map, take, drop, refl, sym, ap, ◌∙◌, arith, subst, All, None, Result, Ok, Err, cases_Bool, le-leb, FileHeader, ProgramHeader, SectionHeader, Rela, LoadFault, Image, Memory, Run, Tables, World, ◌>>=◌, header, machine_of, program_headers, memory_of, relocate, segments, section_entries, first_dynamic, tables, image_with, image_at, load, Layout, rela_header}
 use Rattle.std.specs.List.{flat_map}
-use Rattle.std.proofs.lemmas.Bool.{cases_Bool, cases_lt, le-leb, ne_eqb}
+use Rattle.std.proofs.lemmas.Bool.{cases_lt, ne_eqb}
 use Rattle.std.proofs.lemmas.List.{take_all}
 use Rattle.wild_words.specs.Words.{HasBytesAt}
 use Rattle.wild_words.proofs.Basics.{length-flat_map_each}
@@ -10,30 +9,14 @@ use Rattle.wild_records.specs.Abi.Section.{shn_undef}
 use Rattle.wild_records.specs.FileHeader.{file_header_at, FileHeaderIsRead}
 use Rattle.wild_records.specs.ProgramHeader.{ProgramHeaderIsRead}
 use Rattle.wild_records.specs.SectionHeader.{section_header_at, SectionHeaderFits, SectionHeaderIsRead}
-use Rattle.wild_records.specs.declared.file_header.FileHeader.{FileHeader}
-use Rattle.wild_records.specs.declared.program_header.ProgramHeader.{ProgramHeader}
-use Rattle.wild_records.specs.declared.section_header.SectionHeader.{SectionHeader}
-use Rattle.wild_records.specs.declared.relocations.Rela.{Rela}
 use Rattle.wild_records.proofs.FileHeaderLemmas.{length-file_header}
-use Rattle.wild_loader.specs.declared.fault.LoadFault.{LoadFault}
-use Rattle.wild_loader.specs.declared.image.Image.{Image}
 use Rattle.wild_loader.specs.declared.memory.Machine.{Machine}
-use Rattle.wild_loader.specs.declared.memory.Memory.{Memory}
-use Rattle.wild_loader.specs.declared.memory.Run.{Run}
-use Rattle.wild_loader.specs.declared.tables.Tables.{Tables}
-use Rattle.wild_loader.specs.declared.world.World.{World}
-use Rattle.wild_loader.specs.Outcome.{◌>>=◌}
-use Rattle.wild_loader.specs.Headers.{header, is_loadable_header, machine_of, program_headers, section_count, sections}
-use Rattle.wild_loader.specs.Memory.{memory_of}
-use Rattle.wild_loader.specs.Relocate.{relocate}
-use Rattle.wild_loader.specs.Segments.{segments}
+use Rattle.wild_loader.specs.Headers.{is_loadable_header, section_count, sections}
 use Rattle.wild_loader.specs.SegmentLaws.{HasHeaders, first_size, section_bytes}
-use Rattle.wild_loader.specs.Tables.{section_entries, section_tables, first_dynamic, tables}
-use Rattle.wild_loader.specs.Load.{image_with, image_at, load}
+use Rattle.wild_loader.specs.Tables.{section_tables}
 use Rattle.wild_loader.proofs.RecordLists.{programs-read, sections-read, section-first, length-program, length-section}
 use Rattle.wild_loader.proofs.TableLemmas.{lies-table}
-use Rattle.wild_types.specs.declared.layout.Layout.{Layout}
-use Rattle.wild_placer.specs.Plain.{rela_header, rela_headers, entry_tables, load_plain}
+use Rattle.wild_placer.specs.Plain.{rela_headers, entry_tables, load_plain}
 use Rattle.wild_placer.proofs.PrefixLemmas.{IsFront, Agrees, then_agrees, front_long, header_agrees, header_bound, program_headers_taken, segments_agree, entries_agree}
 
 -- ---- by the first bytes of the image

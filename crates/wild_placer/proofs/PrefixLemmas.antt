@@ -1,7 +1,6 @@
 -- The first bytes of an image, and what the loader reads of them: the same as of the whole image, unless they end too early.
-use Rattle.std.proofs.Common.{◌≡◌, ℕ, zero, suc, ◌+◌, ◌-◌, ◌*◌, ◌/◌, ◌%◌, ◌^◌, ◌<◌, ◌≤◌, ◌==◌, ◌&&◌, ◌⊎◌, inl, inr, Bool, true, false, if◌then◌else◌, nat_lt, nat_le, min, List, [], ◌∷◌, ◌++◌, length, take, drop, replicate, refl, sym, ap, ◌∙◌, arith, subst}
-use Rattle.std.specs.Prelude.{Option, Some, None, Result, Ok, Err, slice_range}
-use Rattle.std.proofs.lemmas.Bool.{cases_lt, leb-true, le-leb, ltb-false, le-ltb}
+use Rattle.wild_placer.proofs.Common.{◌≡◌, ℕ, zero, suc, ◌+◌, ◌-◌, ◌*◌, ◌/◌, ◌%◌, ◌^◌, ◌<◌, ◌≤◌, ◌==◌, ◌&&◌, ◌⊎◌, inl, inr, Bool, true, false, if◌then◌else◌, nat_lt, nat_le, min, List, [], ◌∷◌, ◌++◌, length, take, drop, replicate, refl, sym, ap, ◌∙◌, arith, subst, Option, Some, None, Result, Ok, Err, slice_range, le-leb, ltb-false, le-ltb, FileHeader, ProgramHeader, SectionHeader, Rela, LoadFault, Image, Memory, Run, Tables, World, ◌>>=◌, machine_of, header, program_headers, memory_of, load_segments, segments, least_shared, first_dynamic, section_entries, tables, relocate, image_with, image_at, load}
+use Rattle.std.proofs.lemmas.Bool.{cases_lt, leb-true}
 use Rattle.std.proofs.lemmas.List.{take_all, length-take, length-take-le, places, same_lists}
 use Rattle.wild_words.specs.Words.{number, number_at}
 use Rattle.wild_records.specs.Abi.Segment.{pt_load}
@@ -13,26 +12,12 @@ use Rattle.wild_records.specs.ProgramHeader.{program_header_size, program_header
 use Rattle.wild_records.specs.Relocations.{rela_size, rela_at, relr_size, relr_at}
 use Rattle.wild_records.specs.SectionHeader.{section_header_size, section_header_at}
 use Rattle.wild_records.specs.declared.dynamic.DynamicEntry.{DynamicEntry}
-use Rattle.wild_records.specs.declared.file_header.FileHeader.{FileHeader}
-use Rattle.wild_records.specs.declared.program_header.ProgramHeader.{ProgramHeader}
-use Rattle.wild_records.specs.declared.section_header.SectionHeader.{SectionHeader}
-use Rattle.wild_records.specs.declared.relocations.Rela.{Rela}
-use Rattle.wild_loader.specs.declared.fault.LoadFault.{LoadFault}
 use Rattle.wild_loader.specs.declared.fault.LoadFault.TheVariants as faults
-use Rattle.wild_loader.specs.declared.image.Image.{Image}
-use Rattle.wild_loader.specs.declared.memory.Memory.{Memory}
-use Rattle.wild_loader.specs.declared.memory.Run.{Run}
 use Rattle.wild_loader.specs.declared.tables.Span.{Span}
-use Rattle.wild_loader.specs.declared.tables.Tables.{Tables}
-use Rattle.wild_loader.specs.declared.world.World.{World}
-use Rattle.wild_loader.specs.Outcome.{◌>>=◌}
-use Rattle.wild_loader.specs.Headers.{is_loadable_header, machine_of, table_in_image, header, program_headers, section_headers, section_count, sections}
-use Rattle.wild_loader.specs.Memory.{memory_of}
-use Rattle.wild_loader.specs.Segments.{segment_bytes, run_of, runs_of, load_segment, load_segments, segments}
-use Rattle.wild_loader.specs.Runs.{least_shared, check_no_overlap}
-use Rattle.wild_loader.specs.Tables.{relas_at, words_at, dynamic_entries, first_dynamic, value_of_tag, has_in_memory, offset_in, span_in, span_at, no_span, span_of, table_of, named_tables, section_of, dynamic_tables, has_entries, with_section, section_entries, section_tables, tables_of_image, tables}
-use Rattle.wild_loader.specs.Relocate.{relocate}
-use Rattle.wild_loader.specs.Load.{image_with, image_at, load}
+use Rattle.wild_loader.specs.Headers.{is_loadable_header, table_in_image, section_headers, section_count, sections}
+use Rattle.wild_loader.specs.Segments.{segment_bytes, run_of, runs_of, load_segment}
+use Rattle.wild_loader.specs.Runs.{check_no_overlap}
+use Rattle.wild_loader.specs.Tables.{relas_at, words_at, dynamic_entries, value_of_tag, has_in_memory, offset_in, span_in, span_at, no_span, span_of, table_of, named_tables, section_of, dynamic_tables, has_entries, with_section, section_tables, tables_of_image}
 
 -- ---- what is read of the first bytes, if they reach that far
 

@@ -1,18 +1,10 @@
 -- Why a layout is not placed, by the answers of the two steps.
-use Rattle.std.proofs.Common.{◌≡◌, List, [], ◌∷◌, subst}
-use Rattle.std.specs.Prelude.{Result, Ok, Err}
+use Rattle.wild_placer.proofs.Common.{◌≡◌, List, [], ◌∷◌, subst, Result, Ok, Err, Layout, bytes, LoadFault, Memory, World, load, PlaceFault, Placements, AddFails}
 use Rattle.wild_types.specs.declared.fault.Error.{Error}
-use Rattle.wild_types.specs.declared.layout.Layout.{Layout}
 use Rattle.wild_layout.specs.Faults.{errors}
-use Rattle.wild_layout.specs.Image.{bytes}
-use Rattle.wild_loader.specs.declared.fault.LoadFault.{LoadFault}
-use Rattle.wild_loader.specs.declared.memory.Memory.{Memory}
-use Rattle.wild_loader.specs.declared.world.World.{World}
-use Rattle.wild_loader.specs.Load.{load}
-use Rattle.wild_placer.specs.declared.fault.PlaceFault.{PlaceFault}
 use Rattle.wild_placer.specs.declared.fault.PlaceFault.TheVariants as faults
 use Rattle.wild_placer.specs.Place.{first_fault_or, layout_memory, Fails}
-use Rattle.wild_placer.specs.Placed.{Placements, AddFails, PlaceFails}
+use Rattle.wild_placer.specs.Placed.{PlaceFails}
 
 -- a fault of the writer or of the loader, or none
 abbrev IsOfLayout : PlaceFault → Type 0

@@ -1,13 +1,11 @@
 -- The least address that runs share with live placements, run by run.
-use Rattle.std.proofs.Common.{◌≡◌, ℕ, Bool, ◌+◌, ◌-◌, ◌<◌, ◌≤◌, true, false, List, length, get_or, ◌∙◌, sym, ap, subst, refl, arith, inl, inr, min, ◌⊎◌}
-use Rattle.std.specs.Prelude.{Option, Some, None, IfSome, IfNone, slice_get, nat_lt, nat_le, ◌&&◌}
-use Rattle.std.proofs.lemmas.Bool.{cases_Bool, le-leb, lt-ltb, leb-true, ltb-true, ltb-false, and_parts}
-use Rattle.std.proofs.lemmas.Option.{same_Some, slice_get_read, slice_get_within}
+use Rattle.wild_placer.proofs.Common.{◌≡◌, ℕ, Bool, ◌+◌, ◌-◌, ◌<◌, ◌≤◌, true, false, List, length, get_or, ◌∙◌, sym, ap, subst, refl, arith, inl, inr, min, ◌⊎◌, Option, Some, None, IfSome, IfNone, slice_get, nat_lt, nat_le, ◌&&◌, cases_Bool, le-leb, ltb-true, ltb-false, same_Some, slice_get_within, Run, Runs, IsLeastOfRuns}
+use Rattle.std.proofs.lemmas.Bool.{lt-ltb, leb-true, and_parts}
+use Rattle.std.proofs.lemmas.Option.{slice_get_read}
 use Rattle.wild_words.specs.Extents.{least}
-use Rattle.wild_loader.specs.declared.memory.Run.{Run}
 use Rattle.wild_loader.specs.Runs.{has_address}
-use Rattle.wild_placer.specs.Index.{Runs, NoneIsTaken, IsFirstTaken}
-use Rattle.wild_placer.specs.Shared.{IsInRuns, IsLeast, IsLeastOf, IsLeastOfRun, IsLeastOfRuns}
+use Rattle.wild_placer.specs.Index.{NoneIsTaken, IsFirstTaken}
+use Rattle.wild_placer.specs.Shared.{IsInRuns, IsLeast, IsLeastOf, IsLeastOfRun}
 
 -- an address of a run is from its start on and before its end
 pub address_low : (r : Run) (a : ℕ) → has_address r a ≡ true → r.start ≤ a

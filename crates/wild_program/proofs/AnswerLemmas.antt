@@ -1,10 +1,9 @@
 -- From the command and the bytes of its input to the right answer for the words.
-use Rattle.std.proofs.Common.{◌≡◌, ℕ, List, true, Some, refl, sym, subst, inl, inr, String, Global}
-use Rattle.wild_text.specs.Means.{Meaning, no_json, no_plan, plan}
+use Rattle.wild_program.proofs.Common.{◌≡◌, ℕ, List, true, Some, refl, sym, subst, inl, inr, String, Global, Meaning, no_json, no_plan, plan, Answer, IsReading, SourceChange, IsRightAnswer}
 use Rattle.wild_program.specs.declared.command.Command.{Command}
 use Rattle.wild_program.specs.declared.command.Command.TheVariants as command
 use Rattle.wild_program.specs.Exit as exit
-use Rattle.wild_program.specs.Program.{Answer, Asks, IsReading, SourceChange, IsRightAnswer, meaning_status, meaning_text}
+use Rattle.wild_program.specs.Program.{Asks, meaning_status, meaning_text}
 use Rattle.wild_program.specs.Steps.{MeaningHas, no_plan_line, HasRightNumbers, reads_input, IsInput, IsMeant}
 
 -- the status and the text for bytes that are no plan

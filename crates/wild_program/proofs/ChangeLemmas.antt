@@ -1,22 +1,15 @@
 -- The answer to a change, and its status and text.
-use Rattle.std.proofs.Common.{◌≡◌, ◌⊎◌, inl, inr, ℕ, Bool, true, false, List, [], ◌∷◌, length, Option, Some, None, Result, Ok, Err, refl, sym, ap, subst, ◌∙◌}
-use Rattle.std.specs.Prelude.{if◌then◌else◌, ◌==◌, IfOk, OnOk}
-use Rattle.wild_types.specs.declared.fault.Error.{Error}
+use Rattle.wild_program.proofs.Common.{◌≡◌, ◌⊎◌, inl, inr, ℕ, Bool, true, false, List, [], ◌∷◌, length, Option, Some, None, Result, Ok, Err, refl, sym, ap, subst, ◌∙◌, if◌then◌else◌, ◌==◌, IfOk, OnOk, Error, Layout, errors, NumbersFit, changed_layout, answer, RelinkFault, RelinkRequest, change_status, IsRefusal}
 use Rattle.wild_types.specs.declared.input.InputSection.{InputSection}
-use Rattle.wild_types.specs.declared.layout.Layout.{Layout}
 use Rattle.wild_types.specs.Faults.{IsFirst, RefusesWith}
-use Rattle.wild_layout.specs.Faults.{errors}
-use Rattle.wild_layout.specs.Numbers.{NumbersFit}
 use Rattle.wild_change.specs.declared.change.Change.{Change}
-use Rattle.wild_change.specs.Change.{found_section, changed_layout}
-use Rattle.wild_relinker.specs.Answer.{unless_errors, answer_for, answer}
-use Rattle.wild_relinker.specs.declared.fault.RelinkFault.{RelinkFault}
+use Rattle.wild_change.specs.Change.{found_section}
+use Rattle.wild_relinker.specs.Answer.{unless_errors, answer_for}
 use Rattle.wild_relinker.specs.declared.fault.RelinkFault.TheVariants as refusals
 use Rattle.wild_text.specs.Answer.{refusal_text}
-use Rattle.wild_text.specs.declared.relink.RelinkRequest.{RelinkRequest}
 use Rattle.wild_program.specs.Exit as exit
-use Rattle.wild_program.specs.Program.{change_status, change_text}
-use Rattle.wild_program.specs.Steps.{ChangeFits, IsRefusal, IsChangeAnswer}
+use Rattle.wild_program.specs.Program.{change_text}
+use Rattle.wild_program.specs.Steps.{ChangeFits, IsChangeAnswer}
 use Rattle.wild_program.proofs.RefusalLemmas.{first_of}
 
 -- ---- the answer is never that memory was refused

@@ -1,11 +1,9 @@
 -- The words of one command are not those of another.
-use Rattle.std.proofs.Common.{◌≡◌, ℕ, List, [], ◌∷◌, length, sym, ap, ◌∙◌, subst, inl, inr, arith, String, Global, decimal}
-use Rattle.std.specs.Prelude.{codes}
+use Rattle.wild_program.proofs.Common.{◌≡◌, ℕ, List, [], ◌∷◌, length, sym, ap, ◌∙◌, subst, inl, inr, arith, String, Global, decimal, codes, IsLinkCommand, IsRelinkCommand, IsPlaceCommand, IsSpace, IsVerify, IsReading, Answer, usage, read_fault, too_long, of_plan, of_make, of_relink, of_place, of_space, of_verify, status, text, SourceChange, SinkChange, IsRightAnswer, IsWritten, IsAnsweredBy}
 use Rattle.std.proofs.lemmas.Fmt.{decimal_injective}
 use Rattle.wild_program.specs.Exit as exit
-use Rattle.wild_program.specs.Program.{IsLinkCommand, IsMake, IsRelinkCommand, IsPlaceCommand, IsSpace, IsVerify, IsReading, Answer, usage, read_fault, too_long, of_plan, of_make, of_relink, of_place, of_space, of_verify, status, text, made_text, SourceChange, SinkChange, IsRightAnswer, NothingRead, IsWritten}
+use Rattle.wild_program.specs.Program.{IsMake, made_text, NothingRead}
 use Rattle.wild_program.specs.Clauses.{IsMadeBy}
-use Rattle.wild_program.specs.Steps.{IsAnsweredBy}
 
 -- `link` has two words, `make` three
 pub two_commands : {X : Type 0} (words : List (String Global)) (n : ℕ) → IsLinkCommand words → (w : ℕ) × IsMake words n w → X

@@ -1,9 +1,8 @@
 -- The text for bytes that are no plan.
-use Rattle.std.proofs.Common.{ℕ, List, Some, Result, Err, string_bytes, sym, ap}
-use Rattle.serde_json.specs.Data.{Data}
+use Rattle.wild_program.proofs.Common.{ℕ, List, Some, Result, Err, string_bytes, sym, ap, Data, no_json, no_plan}
 use Rattle.wild_text.specs.declared.fault.InputFault.{InputFault}
 use Rattle.wild_text.specs.declared.fault.InputFault.TheVariants as faults
-use Rattle.wild_text.specs.Means.{no_json, no_plan, IsReadAs}
+use Rattle.wild_text.specs.Means.{IsReadAs}
 use Rattle.wild_program.specs.Steps.{HasNoPlan, IsFaultText}
 
 -- the text of a fault says that the bytes are no plan

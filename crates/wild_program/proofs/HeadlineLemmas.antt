@@ -1,35 +1,24 @@
 -- The text of status 0 is that of a sound image, or of a sound memory.
-use Rattle.std.proofs.Common.{◌≡◌, ℕ, List, [], ◌∷◌, ◌++◌, Option, Some, None, Result, Ok, Err, refl, sym, ap, ◌∙◌, subst, String, Global}
-use Rattle.std.specs.Prelude.{Bool, true, false, ◌==◌, if◌then◌else◌, length}
+use Rattle.wild_program.proofs.Common.{◌≡◌, ℕ, List, [], ◌∷◌, ◌++◌, Option, Some, None, Result, Ok, Err, refl, sym, ap, ◌∙◌, subst, String, Global, Bool, true, false, ◌==◌, if◌then◌else◌, length, Error, Layout, bytes, NumbersFit, errors, changed_layout, answer, RelinkFault, Memory, PlaceFault, plan, RelinkRequest, PlaceRequest, Answer, of_plan, of_relink, of_place, errors_status, change_status, memory_status, SourceChange, SinkChange, IsWrittenWhole, IsAnsweredBy}
 use Rattle.std.proofs.lemmas.List.{append_cancel_left}
 use Rattle.std.specs.Io.KnownBytes.{Appends}
 use Rattle.wild_types.specs.ResolvedFlags.{HaveTheirFlags}
-use Rattle.wild_types.specs.declared.fault.Error.{Error}
 use Rattle.wild_types.specs.declared.input.InputSection.{InputSection}
-use Rattle.wild_types.specs.declared.layout.Layout.{Layout}
-use Rattle.wild_layout.specs.Image.{bytes, counts}
-use Rattle.wild_layout.specs.Numbers.{NumbersFit}
+use Rattle.wild_layout.specs.Image.{counts}
 use Rattle.wild_layout.specs.Warnings.{warnings}
-use Rattle.wild_layout.specs.Faults.{errors}
 use Rattle.wild_laws.specs.Laws.{ImagesAreSound}
 use Rattle.wild_change.specs.declared.change.Change.{Change}
-use Rattle.wild_change.specs.Change.{found_section, changed_layout}
-use Rattle.wild_relinker.specs.Answer.{unless_errors, answer_for, answer}
-use Rattle.wild_relinker.specs.declared.fault.RelinkFault.{RelinkFault}
+use Rattle.wild_change.specs.Change.{found_section}
+use Rattle.wild_relinker.specs.Answer.{unless_errors, answer_for}
 use Rattle.wild_relinker.specs.declared.fault.RelinkFault.TheVariants as refusals
-use Rattle.wild_loader.specs.declared.memory.Memory.{Memory}
 use Rattle.wild_placer.specs.Laws.{PlacementsAreSound}
-use Rattle.wild_placer.specs.declared.fault.PlaceFault.{PlaceFault}
 use Rattle.wild_placer.specs.declared.fault.PlaceFault.TheVariants as place_faults
-use Rattle.wild_text.specs.Means.{plan}
 use Rattle.wild_text.specs.Answer.{image_text}
 use Rattle.wild_text.specs.Laws.{PlansAreRead, RelinkPlansAreRead, PlacePlansAreRead}
-use Rattle.wild_text.specs.declared.relink.RelinkRequest.{RelinkRequest}
-use Rattle.wild_text.specs.declared.place.PlaceRequest.{PlaceRequest}
 use Rattle.wild_program.specs.Exit as exit
-use Rattle.wild_program.specs.Program.{Answer, of_plan, of_relink, of_place, errors_status, errors_text, change_status, change_text, placed_memory, memory_status, memory_text, SourceChange, SinkChange, IsLinkedText, IsRewrittenText}
-use Rattle.wild_program.specs.Clauses.{IsWrittenWhole, IsHeadline}
-use Rattle.wild_program.specs.Steps.{IsAnsweredBy, AnswerFits}
+use Rattle.wild_program.specs.Program.{errors_text, change_text, placed_memory, memory_text, IsLinkedText, IsRewrittenText}
+use Rattle.wild_program.specs.Clauses.{IsHeadline}
+use Rattle.wild_program.specs.Steps.{AnswerFits}
 use Rattle.wild_program.proofs.Statuses.{clash}
 use Rattle.wild_program.proofs.MeaningLemmas.{whole_if_linked, written_if_linked, plan_answer, relink_answer, place_answer}
 

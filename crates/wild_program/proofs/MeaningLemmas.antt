@@ -1,22 +1,12 @@
 -- The answer for words and input that are known.
-use Rattle.std.proofs.Common.{◌≡◌, ℕ, ◌≤◌, List, length, Some, refl, ap, subst, inl, inr, String, Global}
-use Rattle.serde_json.specs.Data.{Data}
-use Rattle.std.specs.Prelude.{Result}
-use Rattle.wild_types.specs.declared.layout.Layout.{Layout}
-use Rattle.wild_text.specs.Means.{Meaning, no_json, no_plan, plan, MeansBy}
+use Rattle.wild_program.proofs.Common.{◌≡◌, ℕ, ◌≤◌, List, length, Some, refl, ap, subst, inl, inr, String, Global, Data, Result, Layout, Meaning, no_json, no_plan, plan, MeansBy, RelinkRequest, PlaceRequest, space_in, VerifyRequest, Verdict, SpaceRequest, IsLinkCommand, IsRelinkCommand, IsPlaceCommand, IsSpace, IsVerify, limit, Answer, usage, read_fault, too_long, of_plan, of_make, of_relink, of_place, of_space, of_verify, IsVerdictOn, status, text, SourceChange, SinkChange, IsRightAnswer, IsWritten, IsWrittenWhole}
 use Rattle.wild_text.specs.Plan.{layout_in}
 use Rattle.wild_text.specs.Relink.{relink_in}
-use Rattle.wild_text.specs.declared.relink.RelinkRequest.{RelinkRequest}
 use Rattle.wild_text.specs.Place.{place_in}
-use Rattle.wild_text.specs.declared.place.PlaceRequest.{PlaceRequest}
-use Rattle.wild_text.specs.Space.{space_in}
 use Rattle.wild_text.specs.Verify.{verify_in}
-use Rattle.wild_text.specs.declared.verify.VerifyRequest.{VerifyRequest}
-use Rattle.wild_checker.specs.declared.verdict.Verdict.{Verdict}
-use Rattle.wild_text.specs.declared.space.SpaceRequest.{SpaceRequest}
 use Rattle.wild_program.specs.Exit as exit
-use Rattle.wild_program.specs.Program.{IsLinkCommand, IsRelinkCommand, IsPlaceCommand, IsSpace, IsVerify, limit, Answer, usage, read_fault, too_long, of_plan, of_make, of_relink, of_place, of_space, of_verify, IsVerdictOn, status, text, SourceChange, SinkChange, HasMeaningBy, IsRightAnswer, IsWritten}
-use Rattle.wild_program.specs.Clauses.{NothingFailed, IsWrittenWhole}
+use Rattle.wild_program.specs.Program.{HasMeaningBy}
+use Rattle.wild_program.specs.Clauses.{NothingFailed}
 use Rattle.wild_program.proofs.Statuses.{clash}
 use Rattle.wild_program.proofs.Commands.{two_commands, link_or_relink, link_or_place, relink_or_place, place_or_space, make_or_place, relink_or_space, make_or_relink, link_or_space, make_or_space, link_or_verify, relink_or_verify, place_or_verify, space_or_verify, make_or_verify}
 use Rattle.wild_program.proofs.OneMeaning.{one_meaning}

@@ -1,21 +1,12 @@
 -- The memory of a plan in its world, and its status and text.
-use Rattle.std.proofs.Common.{◌≡◌, ℕ, List, [], ◌∷◌, Result, Ok, Err, sym, ap, ◌∙◌}
-use Rattle.wild_types.specs.declared.fault.Error.{Error}
-use Rattle.wild_types.specs.declared.layout.Layout.{Layout}
-use Rattle.wild_layout.specs.Faults.{errors}
-use Rattle.wild_layout.specs.Image.{bytes}
-use Rattle.wild_loader.specs.declared.fault.LoadFault.{LoadFault}
-use Rattle.wild_loader.specs.declared.memory.Memory.{Memory}
+use Rattle.wild_program.proofs.Common.{◌≡◌, ℕ, List, [], ◌∷◌, Result, Ok, Err, sym, ap, ◌∙◌, Error, Layout, errors, bytes, LoadFault, Memory, PlaceFault, PlaceRequest, memory_status, IsRefusal}
 use Rattle.wild_loader.specs.declared.world.World.{World}
 use Rattle.wild_loader.specs.Load.{load}
 use Rattle.wild_placer.specs.Place.{first_fault_or, layout_memory}
-use Rattle.wild_placer.specs.declared.fault.PlaceFault.{PlaceFault}
 use Rattle.wild_placer.specs.declared.fault.PlaceFault.TheVariants as place_faults
 use Rattle.wild_text.specs.PlaceAnswer.{place_text, not_placed_text}
-use Rattle.wild_text.specs.declared.place.PlaceRequest.{PlaceRequest}
 use Rattle.wild_program.specs.Exit as exit
-use Rattle.wild_program.specs.Program.{memory_status, memory_text}
-use Rattle.wild_program.specs.Steps.{IsRefusal}
+use Rattle.wild_program.specs.Program.{memory_text}
 
 -- a memory, or a fault of the layout or of loading
 abbrev pub IsLoaderAnswer : Result Memory PlaceFault → Type 0

@@ -1,6 +1,5 @@
 -- An image has one verdict.
-use Rattle.std.proofs.Common.{◌≡◌, ℕ, suc, ◌+◌, ◌<◌, ◌≤◌, List, [], ◌∷◌, length, Bool, true, false, Result, Ok, Err, Option, refl, sym, ap, subst, ◌∙◌, inl, inr, arith}
-use Rattle.std.specs.Prelude.{◌⊎◌, All, AllPairs, nat_lt, if◌then◌else◌}
+use Rattle.wild_program.proofs.Common.{◌≡◌, ℕ, suc, ◌+◌, ◌<◌, ◌≤◌, List, [], ◌∷◌, length, Bool, true, false, Result, Ok, Err, Option, refl, sym, ap, subst, ◌∙◌, inl, inr, arith, ◌⊎◌, All, AllPairs, nat_lt, if◌then◌else◌, Layout, Memory, LoadFault, Verdict}
 use Rattle.std.specs.List.{sum_by}
 use Rattle.std.specs.List.Sorted.{IsPermutation, IsNonDecreasing}
 use Rattle.std.proofs.lemmas.Bool.Decides.{nat_tests}
@@ -8,10 +7,7 @@ use Rattle.std.proofs.lemmas.List.Elements.{All-nil, All-cons, All-head, All-tai
 use Rattle.std.proofs.lemmas.List.Sorted.{All-permutation, IsPermutation-sym, sum_by-IsPermutation}
 use Rattle.std.proofs.lemmas.List.Sums.{sum_by-cons}
 use Rattle.wild_words.proofs.ListLemmas.{AllPairs-head, AllPairs-tail}
-use Rattle.wild_types.specs.declared.layout.Layout.{Layout}
 use Rattle.wild_types.specs.Kinds.{is_partial_link}
-use Rattle.wild_loader.specs.declared.memory.Memory.{Memory}
-use Rattle.wild_loader.specs.declared.fault.LoadFault.{LoadFault}
 use Rattle.wild_loader.specs.declared.fault.LoadFault.TheVariants as faults
 use Rattle.wild_terms.specs.declared.outline.KnownAnswer.{KnownAnswer}
 use Rattle.wild_terms.specs.declared.outline.Outline.{Outline}
@@ -20,7 +16,6 @@ use Rattle.wild_terms.specs.declared.outline.TermChange.TheVariants as changes
 use Rattle.wild_terms.specs.declared.load.TermPatch.{TermPatch}
 use Rattle.wild_terms.specs.Symbolic.{Symbolic, width_of, IsSorted, terms_of}
 use Rattle.wild_checker.specs.Outline.{IsOutlineOf}
-use Rattle.wild_checker.specs.declared.verdict.Verdict.{Verdict}
 use Rattle.wild_checker.specs.Verdict.{by_segment, IsSegmentVerdict, IsRefusal, IsReadVerdict, IsVerdict, IsAnswer}
 
 same_cons : {X : Type 0} (x y : X) (xs ys : List X) → x ≡ y → xs ≡ ys → x ∷ xs ≡ y ∷ ys

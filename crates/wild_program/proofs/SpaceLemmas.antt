@@ -1,18 +1,12 @@
 -- The text of status 0 of `space` is that of images that are bound as a dynamic linker binds them.
-use Rattle.std.proofs.Common.{◌≡◌, ◌≤◌, ℕ, List, length, Result, Ok, Err, refl, subst, String, Global}
-use Rattle.wild_space.specs.declared.space.Bound.{Bound}
-use Rattle.wild_space.specs.declared.fault.BindFault.{BindFault}
+use Rattle.wild_program.proofs.Common.{◌≡◌, ◌≤◌, ℕ, List, length, Result, Ok, Err, refl, subst, String, Global, Bound, BindFault, plan, MeansBy, space_in, SpaceRequest, Answer, bound_status, SourceChange, SinkChange, IsWrittenWhole, IsAnsweredBy}
 use Rattle.wild_space.specs.OrderLaws.{OrdersAreBreadthFirst}
 use Rattle.wild_space.specs.BindLaws.{BindsAreFirst}
 use Rattle.wild_space.specs.BoundLaws.{SpacesAreMade}
-use Rattle.wild_text.specs.Means.{plan, MeansBy}
-use Rattle.wild_text.specs.Space.{space_in}
 use Rattle.wild_text.specs.Laws.{SpacesHaveImages}
-use Rattle.wild_text.specs.declared.space.SpaceRequest.{SpaceRequest}
 use Rattle.wild_program.specs.Exit as exit
-use Rattle.wild_program.specs.Program.{Answer, bound_images, bound_status, bound_text, SourceChange, SinkChange, IsSpaceText}
-use Rattle.wild_program.specs.Clauses.{IsWrittenWhole, IsBoundBy}
-use Rattle.wild_program.specs.Steps.{IsAnsweredBy}
+use Rattle.wild_program.specs.Program.{bound_images, bound_text, IsSpaceText}
+use Rattle.wild_program.specs.Clauses.{IsBoundBy}
 use Rattle.wild_program.proofs.Statuses.{clash}
 use Rattle.wild_program.proofs.MeaningLemmas.{whole_if_linked, written_if_linked, space_answer}
 use Rattle.wild_program.proofs.HeadlineLemmas.{appended}

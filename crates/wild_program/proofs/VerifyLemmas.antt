@@ -1,15 +1,11 @@
 -- What `verify` answers, and what status 0 says.
-use Rattle.std.proofs.Common.{◌≡◌, ℕ, List, [], ◌∷◌, Some, refl, sym, ap, ◌∙◌, subst, String, Global}
-use Rattle.wild_types.specs.declared.fault.Error.{Error}
-use Rattle.wild_text.specs.Means.{Meaning, no_json, no_plan, plan}
-use Rattle.wild_text.specs.declared.verify.VerifyRequest.{VerifyRequest}
+use Rattle.wild_program.proofs.Common.{◌≡◌, ℕ, List, [], ◌∷◌, Some, refl, sym, ap, ◌∙◌, subst, String, Global, Error, Meaning, no_json, no_plan, plan, VerifyRequest, Verdict, Yes, Answer, status, clause_faults, check_status, IsVerdictOn, SourceChange, SinkChange, IsRefusal, IsAnsweredBy}
 use Rattle.wild_checker.specs.Verdict.{IsAnswer, HoldsEverywhere}
-use Rattle.wild_checker.specs.declared.verdict.Verdict.{Verdict}
-use Rattle.wild_checker.specs.declared.verdict.Verdict.TheVariants.{Yes, No}
+use Rattle.wild_checker.specs.declared.verdict.Verdict.TheVariants.{No}
 use Rattle.wild_program.specs.Exit as exit
-use Rattle.wild_program.specs.Program.{Answer, status, clause_faults, check_status, check_text, verdict_status, verdict_text, IsVerdictOn, SourceChange, SinkChange}
+use Rattle.wild_program.specs.Program.{check_text, verdict_status, verdict_text}
 use Rattle.wild_program.specs.Clauses.{IsCheckedBy}
-use Rattle.wild_program.specs.Steps.{no_plan_line, IsRefusal, IsVerified, AnswerFits, IsAnsweredBy}
+use Rattle.wild_program.specs.Steps.{no_plan_line, IsVerified, AnswerFits}
 use Rattle.wild_program.proofs.Statuses.{clash}
 use Rattle.wild_program.proofs.MeaningLemmas.{whole_if_linked, written_if_linked, verify_answer}
 

@@ -1,8 +1,7 @@
 -- Words that are no command.
-use Rattle.std.proofs.Common.{ℕ, List, Option, Some, None, inl, inr, String, Global}
-use Rattle.std.specs.Prelude.{MatchOption}
+use Rattle.wild_program.proofs.Common.{ℕ, List, Option, Some, None, inl, inr, String, Global, MatchOption, IsSpace, IsVerify, IsCommand}
 use Rattle.wild_program.specs.declared.command.Command.{Command}
-use Rattle.wild_program.specs.Program.{IsLink, IsRelink, IsPlace, IsSpace, IsVerify, IsMakeCommand, IsCommand, Asks}
+use Rattle.wild_program.specs.Program.{IsLink, IsRelink, IsPlace, IsMakeCommand, Asks}
 
 is_no_command : (words : List (String Global)) → (IsSpace words → ⊥) → (IsVerify words → ⊥) → ((n : ℕ) → IsLink words n → ⊥) → ((n : ℕ) → IsRelink words n → ⊥) → ((n : ℕ) → IsPlace words n → ⊥) → (IsMakeCommand words → ⊥) → IsCommand words → ⊥
 is_no_command words space verify link relink place make (inl (inl k)) = link k.0 k.1

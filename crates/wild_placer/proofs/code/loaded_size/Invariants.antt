@@ -1,4 +1,4 @@
-use Rattle.std.proofs.Common.{◌≤◌}
+use Rattle.wild_placer.proofs.Common.{◌≤◌}
 use Rattle.wild_placer.proofs.code.loaded_size.Given as goal
 
 abbrev pub invariant-loop-segment : goal.invariant-loop-segment

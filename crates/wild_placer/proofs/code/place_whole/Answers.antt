@@ -1,5 +1,4 @@
-use Rattle.std.proofs.Common.{◌∙◌, sym, ap}
-use Rattle.wild_loader.specs.Load.{load}
+use Rattle.wild_placer.proofs.Common.{◌∙◌, sym, ap, load}
 use Rattle.wild_placer.proofs.PlaceLemmas.{is_placed}
 use Rattle.wild_placer.proofs.code.place_whole.Goals as goal
 

@@ -1,7 +1,4 @@
-use Rattle.std.proofs.Common.{take, refl, ◌∙◌}
-use Rattle.std.specs.Ordering.{nat_cmp}
-use Rattle.std.specs.BTreeMap.{get}
-use Rattle.wild_placer.specs.Listed.{listed_run}
+use Rattle.wild_placer.proofs.Common.{take, refl, ◌∙◌, nat_cmp, get, listed_run}
 use Rattle.wild_placer.proofs.ListedLemmas.{one_more_run, begins-whole, runs_as_before}
 use Rattle.wild_placer.proofs.listed.add_runs.Goals as goal
 

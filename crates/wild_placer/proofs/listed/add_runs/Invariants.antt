@@ -1,7 +1,4 @@
-use Rattle.std.proofs.Common.{◌≡◌, ℕ, take}
-use Rattle.std.specs.Ordering.{nat_cmp}
-use Rattle.std.specs.BTreeMap.{get}
-use Rattle.wild_placer.specs.Listed.{with_runs}
+use Rattle.wild_placer.proofs.Common.{◌≡◌, ℕ, take, nat_cmp, get, with_runs}
 use Rattle.wild_placer.proofs.listed.add_runs.Given as goal
 
 abbrev pub invariant-loop-i : goal.invariant-loop-i

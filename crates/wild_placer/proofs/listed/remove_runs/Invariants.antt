@@ -1,7 +1,4 @@
-use Rattle.std.proofs.Common.{◌≡◌, ℕ, take}
-use Rattle.std.specs.Ordering.{nat_cmp}
-use Rattle.std.specs.BTreeMap.{get}
-use Rattle.wild_placer.specs.Listed.{without_runs}
+use Rattle.wild_placer.proofs.Common.{◌≡◌, ℕ, take, nat_cmp, get, without_runs}
 use Rattle.wild_placer.proofs.listed.remove_runs.Given as goal
 
 abbrev pub invariant-loop-run : goal.invariant-loop-run

@@ -1,8 +1,4 @@
-use Rattle.std.proofs.Common.{sym, subst}
-use Rattle.std.specs.Ordering.{nat_cmp}
-use Rattle.std.specs.BTreeMap.{get}
-use Rattle.wild_placer.specs.declared.fault.PlaceFault.{PlaceFault}
-use Rattle.wild_placer.specs.Placed.{Placements, AddFails}
+use Rattle.wild_placer.proofs.Common.{sym, subst, nat_cmp, get, PlaceFault, Placements, AddFails}
 use Rattle.wild_placer.proofs.PlacedLemmas.{first_taken, none_taken, all_free}
 use Rattle.wild_placer.proofs.live.add_memory.Goals as goal
 

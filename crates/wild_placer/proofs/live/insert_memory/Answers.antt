@@ -1,10 +1,4 @@
-use Rattle.std.proofs.Common.{◌≡◌, ℕ, List, true, ◌∙◌, ap, subst, refl}
-use Rattle.std.specs.Ordering.{nat_cmp}
-use Rattle.std.specs.Map.{lookup}
-use Rattle.std.specs.BTreeMap.{get, is_at}
-use Rattle.wild_loader.specs.declared.memory.Memory.{Memory}
-use Rattle.wild_loader.specs.declared.memory.Run.{Run}
-use Rattle.wild_placer.specs.Listed.{any_begins, with_runs, without_runs}
+use Rattle.wild_placer.proofs.Common.{◌≡◌, ℕ, List, true, ◌∙◌, ap, subst, refl, nat_cmp, lookup, get, is_at, Memory, Run, any_begins, with_runs, without_runs}
 use Rattle.wild_placer.proofs.ListedLemmas.{runs_as_before}
 use Rattle.wild_placer.proofs.LiveLemmas.{free_start, placed_again, placed_after_addition}
 use Rattle.wild_placer.proofs.PlacedLemmas.{insertion_is_last, numbers_below}

@@ -1,11 +1,4 @@
-use Rattle.std.proofs.Common.{ℕ, List, ◌∙◌, sym, ap, refl}
-use Rattle.std.specs.Prelude.{Option, is_some}
-use Rattle.std.specs.Ordering.{nat_cmp}
-use Rattle.std.specs.Map.{lookup}
-use Rattle.std.specs.BTreeMap.{get, is_at}
-use Rattle.wild_loader.specs.declared.memory.Memory.{Memory}
-use Rattle.wild_loader.specs.declared.memory.Run.{Run}
-use Rattle.wild_placer.specs.Listed.{without_runs}
+use Rattle.wild_placer.proofs.Common.{ℕ, List, ◌∙◌, sym, ap, refl, Option, is_some, nat_cmp, lookup, get, is_at, Memory, Run, without_runs}
 use Rattle.wild_placer.proofs.LiveLemmas.{placed_again, placed_after_removal}
 use Rattle.wild_placer.proofs.PlacedLemmas.{get_first, removal_is_without}
 use Rattle.wild_placer.proofs.live.remove_memory.Goals as goal

@@ -1,4 +1,4 @@
-use Rattle.std.proofs.Common.{◌≡◌, take, ◌++◌}
+use Rattle.wild_placer.proofs.Common.{◌≡◌, take, ◌++◌}
 use Rattle.wild_placer.proofs.plain.add_entries.Given as goal
 
 abbrev pub invariant-loop-entry : goal.invariant-loop-entry

@@ -1,5 +1,4 @@
-use Rattle.std.proofs.Common.{◌≡◌, drop, []}
-use Rattle.wild_loader.specs.Segments.{load_segments}
+use Rattle.wild_placer.proofs.Common.{◌≡◌, drop, [], load_segments}
 use Rattle.wild_placer.proofs.plain.add_segments.Given as goal
 
 abbrev pub invariant-loop-segment : goal.invariant-loop-segment

@@ -1,6 +1,4 @@
-use Rattle.std.proofs.Common.{◌≡◌, drop, map, []}
-use Rattle.wild_loader.specs.Tables.{section_entries}
-use Rattle.wild_placer.specs.Plain.{rela_header}
+use Rattle.wild_placer.proofs.Common.{◌≡◌, drop, map, [], section_entries, rela_header}
 use Rattle.wild_placer.proofs.plain.section_entries.Given as goal
 
 abbrev pub invariant-loop-section : goal.invariant-loop-section

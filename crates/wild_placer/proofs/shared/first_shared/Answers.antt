@@ -1,8 +1,4 @@
-use Rattle.std.proofs.Common.{ℕ, ◌+◌, sym, subst}
-use Rattle.std.specs.Prelude.{Option}
-use Rattle.std.specs.Ordering.{nat_cmp}
-use Rattle.std.specs.BTreeMap.{get}
-use Rattle.wild_placer.specs.Shared.{IsLeastOfRuns}
+use Rattle.wild_placer.proofs.Common.{ℕ, ◌+◌, sym, subst, Option, nat_cmp, get, IsLeastOfRuns}
 use Rattle.wild_placer.proofs.SharedLemmas.{one_more, all_runs}
 use Rattle.wild_placer.proofs.shared.first_shared.Goals as goal
 

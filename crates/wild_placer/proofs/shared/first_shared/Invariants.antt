@@ -1,6 +1,4 @@
-use Rattle.std.specs.Ordering.{nat_cmp}
-use Rattle.std.specs.BTreeMap.{get}
-use Rattle.wild_placer.specs.Shared.{IsLeastOfRuns}
+use Rattle.wild_placer.proofs.Common.{nat_cmp, get, IsLeastOfRuns}
 use Rattle.wild_placer.proofs.shared.first_shared.Given as goal
 
 abbrev pub invariant-loop-run : goal.invariant-loop-run

@@ -1,6 +1,4 @@
-use Rattle.std.proofs.Common.{ℕ, ◌+◌, ap}
-use Rattle.std.specs.Ordering.{nat_cmp}
-use Rattle.std.specs.BTreeMap.{get}
+use Rattle.wild_placer.proofs.Common.{ℕ, ◌+◌, ap, nat_cmp, get}
 use Rattle.wild_placer.proofs.SharedLemmas.{in_run}
 use Rattle.wild_placer.proofs.shared.shared_with_run.Goals as goal
 

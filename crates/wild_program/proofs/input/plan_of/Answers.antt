@@ -1,4 +1,4 @@
-use Rattle.std.proofs.Common.{ℕ, List, Err, subst}
+use Rattle.wild_program.proofs.Common.{ℕ, List, Err, subst}
 use Rattle.wild_text.specs.Means.{IsReadAs}
 use Rattle.wild_program.proofs.FaultTexts.{no_plan_for}
 use Rattle.wild_program.proofs.input.plan_of.Goals as goal

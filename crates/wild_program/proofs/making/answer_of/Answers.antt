@@ -1,6 +1,5 @@
-use Rattle.std.proofs.Common.{ap, ◌∙◌, List, ℕ}
-use Rattle.std.proofs.lemmas.Result.{IfOk-weaker}
-use Rattle.wild_layout.specs.Image.{bytes, counts}
+use Rattle.wild_program.proofs.Common.{ap, ◌∙◌, List, ℕ, IfOk-weaker, bytes}
+use Rattle.wild_layout.specs.Image.{counts}
 use Rattle.wild_sample_layouts.specs.PlanOfGroups.{plan_of_groups}
 use Rattle.wild_program.specs.Program.{summary_text}
 use Rattle.wild_program.proofs.making.answer_of.Goals as goal

@@ -1,5 +1,4 @@
-use Rattle.std.proofs.Common.{◌≡◌, ◌*◌, ◌≤◌, take}
-use Rattle.std.specs.List.{sum}
+use Rattle.wild_program.proofs.Common.{◌≡◌, ◌*◌, ◌≤◌, take, sum}
 use Rattle.wild_program.proofs.making.short_sum.Given as goal
 
 abbrev pub invariant-loop-byte : goal.invariant-loop-byte

@@ -1,7 +1,6 @@
-use Rattle.std.proofs.Common.{ℕ, length, ap, ◌∙◌, arith, rules, length-append}
+use Rattle.wild_program.proofs.Common.{ℕ, length, ap, ◌∙◌, arith, rules, length-append, sum}
 use Rattle.std.proofs.lemmas.List.{nil_from_length}
 use Rattle.std.proofs.lemmas.List.Sums.{sum_by-append}
-use Rattle.std.specs.List.{sum}
 use Rattle.std.specs.Slice.Iter.{chunks_rest}
 use Rattle.wild_program.proofs.making.sum_of.Goals as goal
 

@@ -1,6 +1,5 @@
-use Rattle.std.proofs.Common.{refl}
-use Rattle.wild_text.specs.Means.{plan}
-use Rattle.wild_program.specs.Program.{of_place, place_status, place_answer_text}
+use Rattle.wild_program.proofs.Common.{refl, plan, of_place}
+use Rattle.wild_program.specs.Program.{place_status, place_answer_text}
 use Rattle.wild_program.specs.Steps.{PlacedFits}
 use Rattle.wild_program.proofs.AnswerLemmas.{no_plan_said, no_plan_has}
 use Rattle.wild_program.proofs.place.loaded_answer.Goals as goal

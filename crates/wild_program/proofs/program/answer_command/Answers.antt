@@ -1,4 +1,4 @@
-use Rattle.wild_program.specs.Program.{read_fault, too_long}
+use Rattle.wild_program.proofs.Common.{read_fault, too_long}
 use Rattle.wild_program.proofs.AnswerLemmas.{is_reading, right_answer}
 use Rattle.wild_program.proofs.program.answer_command.Goals as goal
 

@@ -1,5 +1,4 @@
-use Rattle.std.proofs.Common.{refl}
-use Rattle.wild_program.specs.Program.{of_make}
+use Rattle.wild_program.proofs.Common.{refl, of_make}
 use Rattle.wild_program.proofs.program.command_answer.Goals as goal
 
 pub returns-in_ok-summary-in-Make : goal.returns-in_ok-summary-in-Make

@@ -1,7 +1,5 @@
-use Rattle.std.proofs.Common.{refl}
-use Rattle.wild_layout.specs.Numbers.{NumbersFit}
-use Rattle.wild_text.specs.Means.{plan}
-use Rattle.wild_program.specs.Program.{of_plan, layout_status, layout_text}
+use Rattle.wild_program.proofs.Common.{refl, NumbersFit, plan, of_plan}
+use Rattle.wild_program.specs.Program.{layout_status, layout_text}
 use Rattle.wild_program.proofs.AnswerLemmas.{no_plan_said, no_plan_has}
 use Rattle.wild_program.proofs.program.meaning_answer.Goals as goal
 

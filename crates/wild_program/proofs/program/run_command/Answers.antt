@@ -1,5 +1,4 @@
-use Rattle.std.proofs.Common.{refl}
-use Rattle.wild_program.specs.Program.{usage}
+use Rattle.wild_program.proofs.Common.{refl, usage}
 use Rattle.wild_program.proofs.program.run_command.Goals as goal
 
 pub returns-in-None-clause-ok : goal.returns-in-None-clause-ok

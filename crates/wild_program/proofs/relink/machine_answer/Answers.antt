@@ -1,7 +1,4 @@
-use Rattle.std.proofs.lemmas.Result.{IfOk-weaker}
-use Rattle.wild_change.specs.Change.{changed_layout}
-use Rattle.wild_layout.specs.Faults.{errors}
-use Rattle.wild_relinker.specs.Answer.{answer}
+use Rattle.wild_program.proofs.Common.{IfOk-weaker, changed_layout, errors, answer}
 use Rattle.wild_program.proofs.ChangeLemmas.{plan_refused, change_said, refused_fits, said_fits, on_value}
 use Rattle.wild_program.proofs.relink.machine_answer.Goals as goal
 

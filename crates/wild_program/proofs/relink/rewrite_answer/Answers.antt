@@ -1,6 +1,5 @@
-use Rattle.std.proofs.Common.{refl}
-use Rattle.wild_text.specs.Means.{plan}
-use Rattle.wild_program.specs.Program.{of_relink, relink_status, relink_answer_text}
+use Rattle.wild_program.proofs.Common.{refl, plan, of_relink}
+use Rattle.wild_program.specs.Program.{relink_status, relink_answer_text}
 use Rattle.wild_program.specs.Steps.{ChangeFits}
 use Rattle.wild_program.proofs.AnswerLemmas.{no_plan_said, no_plan_has}
 use Rattle.wild_program.proofs.relink.rewrite_answer.Goals as goal

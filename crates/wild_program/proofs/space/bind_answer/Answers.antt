@@ -1,6 +1,5 @@
-use Rattle.std.proofs.Common.{refl}
-use Rattle.wild_text.specs.Means.{plan}
-use Rattle.wild_program.specs.Program.{of_space, space_status, space_answer_text}
+use Rattle.wild_program.proofs.Common.{refl, plan, of_space}
+use Rattle.wild_program.specs.Program.{space_status, space_answer_text}
 use Rattle.wild_program.proofs.AnswerLemmas.{no_plan_said}
 use Rattle.wild_program.proofs.space.bind_answer.Goals as goal
 

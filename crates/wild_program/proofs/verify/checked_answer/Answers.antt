@@ -1,7 +1,5 @@
-use Rattle.std.proofs.Common.{refl}
-use Rattle.wild_text.specs.Means.{plan}
-use Rattle.wild_checker.specs.declared.verdict.Verdict.TheVariants.{Yes}
-use Rattle.wild_program.specs.Program.{of_verify, verify_status, verify_text}
+use Rattle.wild_program.proofs.Common.{refl, plan, Yes, of_verify}
+use Rattle.wild_program.specs.Program.{verify_status, verify_text}
 use Rattle.wild_program.specs.Steps.{VerdictHolds}
 use Rattle.wild_program.proofs.AnswerLemmas.{no_plan_said, no_plan_has}
 use Rattle.wild_program.proofs.VerifyLemmas.{no_verdict}

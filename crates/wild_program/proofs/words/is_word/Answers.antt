@@ -1,4 +1,4 @@
-use Rattle.std.proofs.Common.{ap, ◌∙◌, arith, bytes_eq}
+use Rattle.wild_program.proofs.Common.{ap, ◌∙◌, arith, bytes_eq}
 use Rattle.wild_program.proofs.TwoWords.{one_of, is_word}
 use Rattle.wild_program.proofs.words.is_word.Goals as goal
 

@@ -1,6 +1,4 @@
-use Rattle.std.proofs.Common.{sym, ◌∙◌, arith, bytes_eq}
-use Rattle.std.specs.Prelude.{codes}
-use Rattle.std.proofs.lemmas.Slice.Eq.{bytes_eq-Decides}
+use Rattle.wild_program.proofs.Common.{sym, ◌∙◌, arith, bytes_eq, codes, bytes_eq-Decides}
 use Rattle.std.proofs.lemmas.Bool.{not-false}
 use Rattle.wild_program.proofs.TwoWords.{three_of, is_make}
 use Rattle.wild_program.proofs.words.make_of.Goals as goal

@@ -1,5 +1,4 @@
-use Rattle.std.proofs.Common.{sym, ◌∙◌, arith, bytes_eq}
-use Rattle.std.proofs.lemmas.Slice.Eq.{bytes_eq-Decides}
+use Rattle.wild_program.proofs.Common.{sym, ◌∙◌, arith, bytes_eq, bytes_eq-Decides}
 use Rattle.std.proofs.lemmas.Bool.{not-false}
 use Rattle.wild_program.proofs.TwoWords.{two_of, has_workers, first_is_name, not_both}
 use Rattle.wild_program.proofs.words.workers_of.Goals as goal

@@ -1,6 +1,5 @@
-use Rattle.std.proofs.Common.{ℕ, ◌+◌, ◌-◌, ◌^◌, ◌<◌, List, ◌∙◌, sym, ap, subst, refl}
-use Rattle.wild_loader.specs.declared.memory.Memory.{Memory}
-use Rattle.wild_placer.specs.Placed.{Placements, IsAdded, AddFails}
+use Rattle.wild_placer.proofs.Common.{ℕ, ◌+◌, ◌-◌, ◌^◌, ◌<◌, List, ◌∙◌, sym, ap, subst, refl, Memory, Placements, AddFails}
+use Rattle.wild_placer.specs.Placed.{IsAdded}
 use Rattle.wild_placer.proofs.placed.Placed.add.Goals as goal
 
 pub returns-in-Ok-clause-added : goal.returns-in-Ok-clause-added

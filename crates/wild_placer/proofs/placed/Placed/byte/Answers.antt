@@ -1,8 +1,5 @@
-use Rattle.std.proofs.Common.{subst}
-use Rattle.std.specs.Prelude.{IfSome, IfNone}
-use Rattle.std.specs.Ordering.{nat_cmp}
-use Rattle.std.specs.BTreeMap.{get}
-use Rattle.wild_placer.specs.Placed.{Placements, IsFree, IsByte, AreApart}
+use Rattle.wild_placer.proofs.Common.{subst, IfSome, IfNone, nat_cmp, get, Placements}
+use Rattle.wild_placer.specs.Placed.{IsFree, IsByte, AreApart}
 use Rattle.wild_placer.proofs.PlacedLemmas.{read_run, is_free, are_apart}
 use Rattle.wild_placer.proofs.placed.Placed.byte.Goals as goal
 

@@ -1,8 +1,6 @@
-use Rattle.std.proofs.Common.{◌≡◌, ℕ, List, ◌∙◌, sym, ap, subst}
-use Rattle.std.specs.Prelude.{None, IsSome}
-use Rattle.wild_loader.specs.declared.memory.Memory.{Memory}
+use Rattle.wild_placer.proofs.Common.{◌≡◌, ℕ, List, ◌∙◌, sym, ap, subst, None, IsSome, Memory, Placements}
 use Rattle.wild_loader.specs.Changes.{first_value}
-use Rattle.wild_placer.specs.Placed.{Placements, without}
+use Rattle.wild_placer.specs.Placed.{without}
 use Rattle.wild_placer.proofs.PlacedLemmas.{none_of}
 use Rattle.wild_placer.proofs.placed.Placed.remove.Goals as goal
 
