@@ -24,7 +24,6 @@ use crate::sizes::check_sizes;
 use crate::slot_flags::{are_simple, check_slot_flags};
 use crate::slots::check_slots;
 use crate::starts::check_starts;
-use crate::symbol_indexes::all_ranges_lie;
 use crate::threads::check_tls;
 use crate::thunks::check_thunks;
 use crate::versions::{check_versions, needed_libraries};
@@ -63,12 +62,12 @@ pub fn well_formed_with(layout: &Layout, seen: LayoutSurvey) -> Result<(), Claus
 {
     let LayoutSurvey {
         inner_groups_need_no_tables: no_inner_tables,
+        ranges_in_order,
         tests_pass,
         has_no_copies_versions_or_sorting,
         relocations,
         ..
     } = seen;
-    let ranges_in_order = all_ranges_lie(layout.symbols.len(), layout.groups.as_slice());
     let needs = needed_libraries(layout, has_no_copies_versions_or_sorting);
     let simple = are_simple(layout);
     check_sizes(layout, tests_pass)?;

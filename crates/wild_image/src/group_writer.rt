@@ -4,6 +4,7 @@ ghost use Rattle.wild_crew.specs.FinalCore.{AreTotals, AtEnd, shape_of, sum_of};
 ghost use Rattle.wild_image.specs.Batches.{GivesBatch, pairs_at};
 ghost use Rattle.wild_image.specs.declared.job.Outcome.{Outcome};
 
+use crate::clause_check::ClauseChecker;
 use crate::job::{GroupJob, Outcome};
 use crate::share_job::ShareChecker;
 use std::alloc::{AllocError, Global};
@@ -15,7 +16,11 @@ use wild_frames::Sorter;
 use wild_relax::{Arch, ElfAArch64, ElfX86_64};
 
 /// An executor that writes the batches of an image for a machine, and enters a gate before each batch.
-pub trait GroupWriter<A: Arch, G: Gate>: Sorter + ShareChecker + DebugWriter<A> + Sized {
+pub trait GroupWriter<A: Arch, G: Gate>: Sorter
+    + ClauseChecker
+    + ShareChecker
+    + DebugWriter<A>
+    + Sized {
     ghost use Rattle.std.specs.Prelude.{◌≡◌, ◌<◌, ◌≤◌, ◌^◌, ℕ, length, All, Some, slice_get, IfOk};
     ghost use Rattle.wild_crew.specs.FinalCore.{AreTotals, AtEnd, shape_of, sum_of};
     ghost use Rattle.wild_image.specs.Batches.{GivesBatch, pairs_at};

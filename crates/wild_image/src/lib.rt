@@ -4,6 +4,7 @@
 mod append;
 mod batch;
 mod buffer;
+mod clause_check;
 mod group_writer;
 mod job;
 mod layout_facts;
@@ -19,6 +20,7 @@ mod shares;
 mod split_by_part;
 mod step_count;
 
+pub use clause_check::ClauseChecker;
 pub use group_writer::{GroupWriter, ImageWriter};
 pub use job::{GroupJob, Outcome};
 pub use output::{SizedOutput, write, write_gated, write_layout, write_prefix};

@@ -3,8 +3,7 @@ ghost use Rattle.std.specs.Prelude.{◌≡◌, ◌<◌, ◌≤◌, ◌^◌, ℕ,
 ghost use Rattle.wild_types.specs.Faults.{Answers};
 ghost use Rattle.wild_plan_rules.specs.Places.{relocation_count};
 ghost use Rattle.wild_plan_rules.specs.WellFormed.{first_clause};
-ghost use Rattle.wild_clauses.specs.LayoutSurvey.{IsLayoutSurvey};
-ghost use Rattle.wild_sections.specs.DefiningFiles.{layout_needs_owner_files};
+ghost use Rattle.wild_sections.specs.SymbolTables.{HasSymbolTables};
 ghost use Rattle.wild_layout.specs.Image.{bytes, counts};
 ghost use Rattle.wild_layout.specs.Warnings.{warnings};
 ghost use Rattle.wild_layout.specs.Faults.{clause_errors, flat_map_from, part_errors, group_errors, errors};
@@ -22,7 +21,7 @@ use crate::padding::padded_prefix;
 use crate::share_job::check_shares_by_workers;
 use crate::shares::first_has_all;
 use std::alloc::{AllocError, Global};
-use wild_clauses::{LayoutSurvey, well_formed_with};
+use wild_clauses::LayoutSurvey;
 use wild_contents::make_search_table;
 use wild_crew::{Gate, OpenGate};
 use wild_debug::Workers;
@@ -30,7 +29,7 @@ use wild_geometry::{layouts_are_laid_out, owned_bytes_are_written};
 use wild_needs::elf_entry_address;
 use wild_relax::{Arch, ElfAArch64, ElfX86_64};
 use wild_sections::{Resolved, SymbolTables};
-use wild_types::{At, EntryWarning, Error, Fault, Layout, Machine};
+use wild_types::{EntryWarning, Error, Layout, Machine};
 use wild_words::{Bytes, Items};
 
 /// An image or its first bytes, its warnings, and the number of relocations read for each section.
@@ -39,23 +38,6 @@ pub struct SizedOutput {
     pub out: Bytes,
     pub warnings: Items<EntryWarning>,
     pub counts: Items<u64>,
-}
-
-/// Refuses a layout if one of its clauses fails.
-fn check_clauses(layout: &Layout, seen: LayoutSurvey) -> Result<(), Error>
-    requires { IsLayoutSurvey layout.now seen }
-    ensures { Answers result (clause_errors (first_clause layout.now)) }
-{
-    match well_formed_with(layout, seen) {
-        Ok(()) => Ok(()),
-        Err(clause) => Err(Error {
-            fault: Fault::MalformedLayout {
-                clause: clause.clause,
-                index: clause.index,
-            },
-            at: At::NO_PLACE,
-        }),
-    }
 }
 
 /// The warnings that accompany the image.
@@ -147,20 +129,20 @@ fn write_resolved<A: Arch, G: Gate, E: GroupWriter<A, G>>(
 }
 
 /// Writes the first `size` bytes of the image of a layout whose clauses hold and whose shares are correct, or returns its first fault.
-/// `facts` have been computed by the caller; `needs_owner_files` is set if relocations depend on the file that defines a symbol.
+/// `symbols` and `facts` have been computed by the caller.
 fn write_laid_out<A: Arch, G: Gate, E: GroupWriter<A, G>>(
     executor: &E,
     alloc: Global,
     layout: &Layout,
+    symbols: &SymbolTables,
     facts: LayoutFacts,
-    needs_owner_files: bool,
     workers: u8,
     size: u64,
     gate: &G,
 ) -> Result<SizedOutput, Error>
     requires ready { E.ready executor.now }
     requires facts { AreFactsOf layout.now facts }
-    requires needs_owner_files { needs_owner_files ≡ layout_needs_owner_files layout.now }
+    requires symbols { HasSymbolTables layout.now symbols.now }
     requires machine { layout.now.machine ≡ A.machine }
     requires workers { (1 ≤ workers) × (workers ≤ 64) }
     requires clauses { first_clause layout.now ≡ Ok tt }
@@ -172,8 +154,7 @@ fn write_laid_out<A: Arch, G: Gate, E: GroupWriter<A, G>>(
     ensures warnings { IfOk result (λ o. o.warnings ≡ warnings layout.now) }
     ensures counts { IfOk result (λ o. o.counts ≡ counts layout.now) }
 {
-    let symbols = SymbolTables::with_survey(alloc, layout, needs_owner_files)?;
-    let resolved = Resolved::<A>::new(layout, &symbols);
+    let resolved = Resolved::<A>::new(layout, symbols);
     write_resolved(executor, alloc, &resolved, facts, workers, size, gate)
 }
 
@@ -197,7 +178,8 @@ fn write_prefix_gated<A: Arch, G: Gate, E: GroupWriter<A, G>>(
     ensures fits { IfOk result (λ _. length (bytes layout.now) ≤ 2 ^ 62) }
 {
     let seen = LayoutSurvey::of(layout);
-    check_clauses(layout, seen)?;
+    let needs_owner_files = layout.kind.is_partial_link() || !seen.unmerged;
+    let symbols = executor.check_and_resolve(alloc, layout, seen, needs_owner_files, workers)?;
     let facts = LayoutFacts::of(
         layout,
         seen.inner_groups_need_no_tables,
@@ -205,16 +187,8 @@ fn write_prefix_gated<A: Arch, G: Gate, E: GroupWriter<A, G>>(
     );
     check_shares_by_workers(executor, alloc, layout, facts, workers)?;
     layouts_are_laid_out();
-    let needs_owner_files = layout.kind.is_partial_link() || !seen.unmerged;
     write_laid_out::<A, G, E>(
-        executor,
-        alloc,
-        layout,
-        facts,
-        needs_owner_files,
-        workers,
-        size,
-        gate,
+        executor, alloc, layout, &symbols, facts, workers, size, gate,
     )
 }
 
