@@ -18,4 +18,5 @@ pub mod PlainLemmas
 pub mod ItemLemmas
 pub mod SegmentLemmas
 pub mod VerdictLemmas
+pub mod OmittedLemmas
 pub mod Soundness

@@ -1,5 +1,5 @@
 -- After Yes the image holds in every legal world.
-use Rattle.wild_checker.proofs.Common.{◌≡◌, ℕ, ◌/◌, ◌%◌, ◌&&◌, inl, inr, Bool, true, false, List, ◌∷◌, ◌++◌, refl, sym, subst, Option, Some, None, Result, Ok, Err, All, Contains, if◌then◌else◌, not, eq-eqb, and_parts, not-true, All-contains, OutputKind, File, Group, InputSection, Layout, Item, InputNumbers, Memory, World, Outline, Follows, Symbolic, IsWorldOf, are_in_order, Loaded, first_cursor, in_groups, changed_gap, first_doubt}
+use Rattle.wild_checker.proofs.Common.{◌≡◌, ℕ, ◌/◌, ◌%◌, ◌&&◌, inl, inr, Bool, true, false, List, ◌∷◌, ◌++◌, refl, sym, ap, subst, Option, Some, None, Result, Ok, Err, All, Contains, if◌then◌else◌, not, eq-eqb, and_parts, not-true, All-contains, OutputKind, File, Group, InputSection, Layout, Item, InputNumbers, Memory, World, Outline, Follows, Symbolic, IsWorldOf, are_in_order, Loaded, first_cursor, in_groups, changed_gap, first_doubt}
 use Rattle.std.proofs.lemmas.List.Elements.{Contains-append_right}
 use Rattle.std.proofs.lemmas.Nat.Gcd.{dvd_trans, dvd_of_mod-eq-zero, mod-eq-zero_of_dvd}
 use Rattle.wild_words.proofs.ListLemmas.{Contains-here}
@@ -7,6 +7,7 @@ use Rattle.wild_records.specs.Abi.Section.{shf_alloc}
 use Rattle.wild_types.specs.declared.kind.OutputKind.TheVariants as output
 use Rattle.wild_types.specs.declared.input.Slot.{Slot}
 use Rattle.wild_types.specs.declared.input.Slot.TheVariants as slot
+use Rattle.wild_types.specs.HeaderOnly.{is_omitted}
 use Rattle.wild_types.specs.Item.{block_for}
 use Rattle.wild_types.specs.Kinds.{is_partial_link}
 use Rattle.wild_types.specs.Lookups.{is_frame}
@@ -25,8 +26,9 @@ use Rattle.wild_checker.specs.declared.verdict.Verdict.TheVariants.{Yes, No}
 use Rattle.wild_checker.specs.Outline.{WorldsAreOutlined}
 use Rattle.wild_checker.specs.Sections.{is_loaded_slot, is_in_memory, has_frames, is_in_order, changed_byte, doubtful_reference}
 use Rattle.wild_checker.specs.Segments.{segment_doubt}
-use Rattle.wild_checker.specs.Verdict.{HoldsIn, by_reference, by_byte, whole, loaded_image, by_segment, IsRefusal, IsReadVerdict, IsOutlined, YesIsFounded}
+use Rattle.wild_checker.specs.Verdict.{HoldsIn, by_reference, by_byte, loaded_image, by_segment, IsRefusal, IsReadVerdict, IsOutlined, YesIsFounded}
 use Rattle.wild_checker.proofs.ItemLemmas.{item_holds}
+use Rattle.wild_checker.proofs.OmittedLemmas.{section_written, frames_written}
 use Rattle.wild_checker.proofs.PlacedSections.{Laws, IsChecked}
 use Rattle.wild_checker.proofs.SegmentLemmas.{room_for}
 use Rattle.wild_checker.proofs.SiteLemmas.{none_at}
@@ -41,7 +43,7 @@ record Found (l : Layout) (o : Outline) (image : List ℕ) (t : Symbolic) : Type
 
 found : (l : Layout) (o : Outline) (image : List ℕ) (t : Symbolic) (d : Option ℕ) → segment_doubt l image ≡ Ok d → Yes ≡ by_segment l o t d → Found l o image t
 found l o image t (Some index) d h = cc
-found l o image t None d h = by_debug l.options.only_keep_debug h
+found l o image t None d h = by_bytes (in_groups (changed_byte k) 0 l.groups) refl h
   where
     k : Loaded
     k = loaded_image l o t
@@ -54,37 +56,39 @@ found l o image t None d h = by_debug l.options.only_keep_debug h
     by_bytes None e h = by_references e (in_groups (doubtful_reference k) 0 l.groups) refl h
     by_bytes (Some site) e h = cc
 
-    by_debug : (b : Bool) → Yes ≡ (if b then No (doubts.Reference whole) else by_byte k (in_groups (changed_byte k) 0 l.groups)) → Found l o image t
-    by_debug true h = cc
-    by_debug false h = by_bytes (in_groups (changed_byte k) 0 l.groups) refl h
-
 -- ---- one section
 
-in_memory : (s : InputSection) → IsLoadedSlot s.slot → s.flags / shf_alloc % 2 ≡ 1 → s.nobits ≡ false → is_in_memory s ≡ true
-in_memory s loaded room filled =
+in_memory : (l : Layout) (s : InputSection) → IsLoadedSlot s.slot → s.flags / shf_alloc % 2 ≡ 1 → s.nobits ≡ false → is_omitted l s ≡ false → is_in_memory l s ≡ true
+in_memory l s loaded room filled there =
     let slot_is = by_slot s.slot loaded in
     let flag = eq-eqb (s.flags / shf_alloc % 2) 1 room in
-    rw (slot_is, flag, filled) refl
+    rw (slot_is, flag, filled, there) refl
   where
     by_slot : (x : Slot) → IsLoadedSlot x → is_loaded_slot x ≡ true
     by_slot slot.Loaded h = refl
     by_slot slot.Sorted h = refl
     by_slot other h = absurd h
 
-no_frames : (s : InputSection) → IsLoadedSlot s.slot → has_frames s ≡ false
-no_frames s loaded = let e = by_slot s.slot loaded in rw e refl
+no_frame : (s : InputSection) → IsLoadedSlot s.slot → is_frame s.slot ≡ false
+no_frame s loaded = by_slot s.slot loaded
   where
     by_slot : (x : Slot) → IsLoadedSlot x → is_frame x ≡ false
     by_slot slot.Loaded h = refl
     by_slot slot.Sorted h = refl
     by_slot other h = absurd h
 
+no_frames : (l : Layout) (s : InputSection) → is_frame s.slot ≡ false → has_frames l s ≡ false
+no_frames l s e = rw e refl
+
+has_all : (frame empty omitted : Bool) → frame ≡ true → empty ≡ false → omitted ≡ false → (frame && not empty && not omitted) ≡ true
+has_all frame empty omitted a b c = rw (a, b, c) refl
+
 -- a section in memory that nothing is doubted of
 record Plain (k : Loaded) (f : File) (s : InputSection) : Type 0 where
   forward : s.reversed ≡ false
   checked : IsChecked k f s
 
-plain : (k : Loaded) (f : File) (s : InputSection) → has_frames s ≡ false → is_in_memory s ≡ true → doubtful_reference k f s ≡ None → changed_byte k f s ≡ None → Plain k f s
+plain : (k : Loaded) (f : File) (s : InputSection) → has_frames k.layout s ≡ false → is_in_memory k.layout s ≡ true → doubtful_reference k f s ≡ None → changed_byte k f s ≡ None → Plain k f s
 plain k f s frames there r b =
     let r2 : (if is_in_order k.layout.machine s then first_doubt k f s first_cursor 0 s.relocations else Some 0) ≡ None = rw (frames, there) at r in
     let b2 : (if true && is_in_order k.layout.machine s then changed_gap k f s first_cursor s.relocations else None) ≡ None = rw there at b in
@@ -124,15 +128,17 @@ kept_holds l o w m image t laws raw numbers world legal follows h item (OfSectio
     let loaded : Loaded = loaded_image l o t in
     let r = none_at (doubtful_reference loaded) l.groups i.group i.file s h.references i.grouped i.filed i.listed in
     let b = none_at (changed_byte loaded) l.groups i.group i.file s h.bytes i.grouped i.filed i.listed in
-    let p = plain loaded i.file s (no_frames s k.loaded) (in_memory s k.loaded k.room k.has_data) r b in
+    let other = no_frame s k.loaded in
+    let p = plain loaded i.file s (no_frames l s other) (in_memory l s k.loaded k.room k.has_data (section_written l s other k.written)) r b in
     let known : Known loaded i.file w = record { group = i.group; grouped = i.grouped; filed = i.filed; ordered = refl; numbers = numbers; world = world; own = legal.symbols.known; resolvers = legal.resolvers; raw = raw } in
     subst (ItemHolds l w m) (sym e) (holds loaded i.file w m s laws known follows (small_section l i.group i.file s numbers i.grouped i.filed i.listed) (page_base w.base l.page_size legal.aligned) p)
 kept_holds l o w m image t laws raw numbers world legal follows h item (OfFrames s k e) =
     let loaded : Loaded = loaded_image l o t in
     let r = none_at (doubtful_reference loaded) l.groups k.group k.file s h.references k.grouped (contains_middle k.files k.files_behind k.group.files k.file k.filed) (contains_middle k.sections k.sections_behind k.file.sections s k.listed) in
-    let frame = k.frame in
+    let frame : is_frame s.slot ≡ true = ap is_frame k.frame in
     let filled = k.has_data in
-    let is : has_frames s ≡ true = rw (frame, filled) refl in
+    let there = frames_written l s frame k.written in
+    let is : has_frames l s ≡ true = has_all (is_frame s.slot) s.nobits (is_omitted l s) frame filled there in
     let no : (let x : Option ℕ = Some 0 in x) ≡ None = rw is at r in
     absurd cc
 

@@ -12,6 +12,8 @@ use Rattle.wild_types.specs.declared.input.InputSection.{InputSection}
 use Rattle.wild_types.specs.declared.input.Slot.{Slot}
 use Rattle.wild_types.specs.declared.input.Slot.TheVariants as slot
 use Rattle.wild_types.specs.declared.kind.Machine.{Machine}
+use Rattle.wild_types.specs.declared.layout.Layout.{Layout}
+use Rattle.wild_types.specs.HeaderOnly.{is_omitted}
 use Rattle.wild_types.specs.Lookups.{is_frame}
 use Rattle.wild_checker.specs.declared.rewritten.Cursor.{Cursor}
 use Rattle.wild_checker.specs.Loaded.{Loaded}
@@ -25,12 +27,12 @@ is_loaded_slot slot.Loaded = true
 is_loaded_slot slot.Sorted = true
 is_loaded_slot other = false
 
--- the section is loaded as placed, has memory and has data
-abbrev pub is_in_memory : InputSection → Bool
-is_in_memory s = is_loaded_slot s.slot && s.flags / shf_alloc % 2 == 1 && not s.nobits
+-- The section is loaded as placed, has memory and data, and is written: an image for debuggers alone has only headers of most sections.
+abbrev pub is_in_memory : Layout → InputSection → Bool
+is_in_memory l s = is_loaded_slot s.slot && s.flags / shf_alloc % 2 == 1 && not s.nobits && not (is_omitted l s)
 
-abbrev pub has_frames : InputSection → Bool
-has_frames s = is_frame s.slot && not s.nobits
+abbrev pub has_frames : Layout → InputSection → Bool
+has_frames l s = is_frame s.slot && not s.nobits && not (is_omitted l s)
 
 -- the section is not in reverse order, and its fields are in order
 abbrev pub is_in_order : Machine → InputSection → Bool
@@ -46,7 +48,7 @@ changed_gap k f s c [] = changed_between k.memory s c.end (length s.bytes)
 changed_gap k f s c (r ∷ rs) = or_else (changed_between k.memory s c.end (gap_end k f s c r)) (changed_gap k f s (next_cursor k.layout.machine c r) rs)
 
 abbrev pub changed_byte : Loaded → File → InputSection → Option ℕ
-changed_byte k f s = if is_in_memory s && is_in_order k.layout.machine s then changed_gap k f s first_cursor s.relocations else None
+changed_byte k f s = if is_in_memory k.layout s && is_in_order k.layout.machine s then changed_gap k f s first_cursor s.relocations else None
 
 -- the relocation refers to nothing, holds, or has a rewritten instruction with the required effect
 abbrev pub is_settled : Loaded → File → InputSection → Cursor → InputRelocation → Bool
@@ -59,5 +61,5 @@ first_doubt k f s c i (r ∷ rs) = if is_settled k f s c r then first_doubt k f 
 
 abbrev pub doubtful_reference : Loaded → File → InputSection → Option ℕ
 doubtful_reference k f s =
-    if has_frames s then Some 0
-    else (if is_in_memory s then (if is_in_order k.layout.machine s then first_doubt k f s first_cursor 0 s.relocations else Some 0) else None)
+    if has_frames k.layout s then Some 0
+    else (if is_in_memory k.layout s then (if is_in_order k.layout.machine s then first_doubt k f s first_cursor 0 s.relocations else Some 0) else None)

@@ -52,9 +52,6 @@ abbrev pub by_byte : Loaded → Option Site → Verdict
 by_byte k None = by_reference (in_groups (doubtful_reference k) 0 k.layout.groups)
 by_byte k (Some site) = No (doubts.Byte site)
 
-abbrev pub whole : Site
-whole = record { group = 0; file = 0; section = 0; index = 0 }
-
 -- what the references of an image are checked against
 abbrev pub loaded_image : Layout → Outline → Symbolic → Loaded
 loaded_image l o t = record { layout = l; outline = o; memory = t; ordered = are_ordered l; files = file_table l (are_ordered l) }
@@ -63,7 +60,7 @@ loaded_image l o t = record { layout = l; outline = o; memory = t; ordered = are
 abbrev pub sections_verdict : Layout → Outline → Symbolic → Verdict
 sections_verdict l o t =
     let k = loaded_image l o t in
-    if l.options.only_keep_debug then No (doubts.Reference whole) else by_byte k (in_groups (changed_byte k) 0 l.groups)
+    by_byte k (in_groups (changed_byte k) 0 l.groups)
 
 abbrev pub by_segment : Layout → Outline → Symbolic → Option ℕ → Verdict
 by_segment l o t None = sections_verdict l o t

@@ -11,7 +11,7 @@ use crate::references::reference_holds;
 use crate::rewritten::{Cursor, FIRST, next_cursor, rewritten_start};
 use wild_records::abi::relocation::R_X86_64_NONE;
 use wild_records::abi::section::SHF_ALLOC;
-use wild_types::{File, InputRelocation, InputSection, Machine, Slot};
+use wild_types::{File, InputRelocation, InputSection, Layout, Machine, Slot};
 
 /// Whether sections of that sort are loaded as placed.
 fn is_loaded_slot(slot: Slot) -> bool
@@ -24,18 +24,21 @@ fn is_loaded_slot(slot: Slot) -> bool
     }
 }
 
-/// Whether a section is loaded as placed, has memory and has data.
-fn is_in_memory(section: &InputSection) -> bool
-    ensures { result ≡ is_in_memory section.now }
+/// Whether a section is loaded as placed, has memory and data, and is written.
+fn is_in_memory(layout: &Layout, section: &InputSection) -> bool
+    ensures { result ≡ is_in_memory layout.now section.now }
 {
-    is_loaded_slot(section.slot) && section.flags / SHF_ALLOC % 2 == 1 && !section.nobits
+    is_loaded_slot(section.slot)
+        && section.flags / SHF_ALLOC % 2 == 1
+        && !section.nobits
+        && !section.is_omitted(layout)
 }
 
-/// Whether a section has frames.
-fn has_frames(section: &InputSection) -> bool
-    ensures { result ≡ has_frames section.now }
+/// Whether a section has frames, and is written.
+fn has_frames(layout: &Layout, section: &InputSection) -> bool
+    ensures { result ≡ has_frames layout.now section.now }
 {
-    section.slot.is_frame() && !section.nobits
+    section.slot.is_frame() && !section.nobits && !section.is_omitted(layout)
 }
 
 /// Whether a section is not in reverse order, and its fields are in order.
@@ -94,7 +97,7 @@ impl Question for ChangedByte<'_> {
     ghost asks = { λ q. changed_byte (loaded_now q.loaded) };
 
     fn ask(&self, file: &File, section: &InputSection) -> Option<usize> {
-        if !is_in_memory(section) {
+        if !is_in_memory(self.loaded.layout, section) {
             return None;
         }
         if !is_in_order(self.loaded.layout.machine, section) {
@@ -146,10 +149,10 @@ impl Question for DoubtfulReference<'_> {
     ghost asks = { λ q. doubtful_reference (loaded_now q.loaded) };
 
     fn ask(&self, file: &File, section: &InputSection) -> Option<usize> {
-        if has_frames(section) {
+        if has_frames(self.loaded.layout, section) {
             return Some(0);
         }
-        if !is_in_memory(section) {
+        if !is_in_memory(self.loaded.layout, section) {
             return None;
         }
         if !is_in_order(self.loaded.layout.machine, section) {

@@ -42,14 +42,6 @@ pub enum Verdict {
     No(Doubt),
 }
 
-/// The site of what is not looked at in a whole image.
-const WHOLE: Site = Site {
-    group: 0,
-    file: 0,
-    section: 0,
-    index: 0,
-};
-
 /// The verdict on an image whose segments to load are the layout's.
 fn sections_verdict(
     alloc: Global,
@@ -59,9 +51,6 @@ fn sections_verdict(
 ) -> Result<Verdict, AllocError>
     ensures { IfOk result (λ v. v ≡ sections_verdict layout.now outline.now memory.now) }
 {
-    if layout.options.only_keep_debug {
-        return Ok(Verdict::No(Doubt::Reference(WHOLE)));
-    }
     let groups = layout.groups.as_slice();
     let ordered = are_ordered(layout);
     let files = file_table(alloc, layout, ordered)?;
