@@ -10,7 +10,7 @@ or the third its checks are left out).
 - Each row of a page with a change of a plan and its answer has that answer, unless JSON alone can express the change.
 - Each plan has that answer by `wild_link_json` too.
 - Each plan has the memory by `wild_place` that the command `place` prints.
-- Calls by four threads at once, and calls with each allocation refused in turn.
+- Calls by four threads at once, and calls with each allocation refused in turn, alone and with all that follow.
 - The same under valgrind, if it is there: no error, no leak.
 - All this over the toolchain's liblibc_c.a; the answers of plans and these calls also over wild_arena.c.
 - The examples in C and C++, and with cargo the one in Rust, write programs that run.

@@ -1,4 +1,5 @@
-/* Calls of wild_write by four threads at once, and with each allocation refused in turn, over the layout that plan_to_c.py wrote.
+/* Calls of wild_write by four threads at once, and with each allocation refused in turn, alone and with all that follow, over the layout
+ * that plan_to_c.py wrote.
  * Linked with --wrap=malloc and --wrap=realloc. */
 #include "wild.h"
 #include <pthread.h>
@@ -15,16 +16,20 @@ void *__wrap_malloc(size_t);
 void *__wrap_realloc(void *, size_t);
 
 static long allowed = -1; /* allocations until one is refused; below 0: no one is */
+static int later_too;     /* whether those after it are refused too */
 static int refused;
 
 static int refuses(void)
 {
     if (allowed < 0)
         return 0;
-    if (allowed-- > 0)
+    if (allowed > 0) {
+        allowed--;
         return 0;
+    }
     refused = 1;
-    allowed = -1;
+    if (!later_too)
+        allowed = -1;
     return 1;
 }
 
@@ -110,25 +115,24 @@ int main(void)
             return 71;
     }
 
-    /* a call without memory says so, and changes nothing */
+    /* A call without memory says so, and changes nothing. If one allocation alone is refused, a smaller one may do. */
     call untouched = prepared(size);
     untouched.status = WILD_NO_MEMORY;
     long count = 0;
-    for (;; count++) {
-        call c = prepared(size);
-        refused = 0;
-        allowed = count;
-        run(&c);
-        allowed = -1;
-        if (!refused) {
-            if (!same(&c, &first))
-                return 72;
+    for (later_too = 0; later_too < 2; later_too++) {
+        for (count = 0;; count++) {
+            call c = prepared(size);
+            refused = 0;
+            allowed = count;
+            run(&c);
+            allowed = -1;
+            int is_written = same(&c, &first), is_untouched = same(&c, &untouched);
             forget(&c);
-            break;
+            if (refused ? !is_untouched && (later_too || !is_written) : !is_written)
+                return 72 + later_too;
+            if (!refused)
+                break;
         }
-        if (!same(&c, &untouched))
-            return 73;
-        forget(&c);
     }
     forget(&untouched);
     forget(&first);

@@ -1,7 +1,7 @@
 /* The memory of the libraries' calls, taken from malloc in large chunks: linked in place of the toolchain's liblibc_c.a.
  *
  * A call makes two or three small blocks for each input section, and frees all of its blocks before it returns. Here a block is a piece
- * of a chunk of the calling thread, and the chunks are freed once no block is left. So a call needs a sixth fewer instructions. It may
+ * of a chunk of the calling thread, and the chunks are freed once no block is left. So a call needs an eighth fewer instructions. It may
  * need more memory: a block that is freed is used again only if it is the newest one.
  *
  * The three functions are those that the toolchain's library has over malloc, realloc and free. A block is aligned to 16 bytes. */

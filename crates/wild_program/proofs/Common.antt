@@ -4,7 +4,7 @@ pub use Rattle.std.proofs.lemmas.Result.{IfOk-weaker}
 pub use Rattle.std.proofs.lemmas.Slice.Eq.{bytes_eq-Decides}
 pub use Rattle.std.specs.List.{sum}
 pub use Rattle.std.specs.Prelude.{All, AllPairs, Bool, Err, IfOk, IsUtf8, List, MatchOption, None, Ok, OnOk, Option, Result, Some, String, [], bytes_eq, codes, decimal, drop, false, get_or, if◌then◌else◌, length, map, nat_lt, not, string_bytes, suc, take, true, ℕ, ◌*◌, ◌++◌, ◌+◌, ◌<◌, ◌==◌, ◌∷◌, ◌≡◌, ◌≤◌, ◌⊎◌}
-pub use Rattle.std_heap.specs.declared.Global.{Global}
+pub use Rattle.std.proofs.Common.{Global}
 pub use Rattle.wild_change.specs.Change.{changed_layout}
 pub use Rattle.wild_checker.specs.declared.verdict.Verdict.{Verdict}
 pub use Rattle.wild_checker.specs.declared.verdict.Verdict.TheVariants.{Yes}
