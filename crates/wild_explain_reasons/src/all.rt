@@ -93,7 +93,7 @@ fn push_failing(out: &mut Text, layout: &Layout, clause: u32, row: &Row) {
     }
 }
 
-/// Adds the items that fail the tests of the clauses, each test by itself.
+/// Adds, for each test of the clauses, the items that fail it.
 fn push_tests(out: &mut Text, layout: &Layout) {
     for clause in &CLAUSES {
         for row in rows_of(*clause) {

@@ -1,5 +1,5 @@
-//! The tests of clauses 1 to 8 and 10. Each has what is wrong if an item fails it, and the member that is looked at. The tests of a clause
-//! are in its order: the first that an item fails is the one that failed, since no item fails an earlier one.
+//! The tests of clauses 1 to 8 and 10. Each has the mistake of an item that fails it, and the member that is tested. The tests of a clause
+//! are in its order, so the first test that an item fails is the mistake to name.
 
 use crate::tests::{
     FileTest, GroupTest, InputTest, MergedTest, PartTest, PlanTest, SectionTest, SegmentTest,

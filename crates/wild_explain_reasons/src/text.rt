@@ -27,7 +27,7 @@ impl Text {
         Ok(self.text)
     }
 
-    /// Adds a piece, as it is.
+    /// Adds a piece unchanged.
     pub(crate) fn push_str(&mut self, piece: &str) {
         if !self.is_refused {
             self.is_refused = self.text.push_str(piece).is_err();
