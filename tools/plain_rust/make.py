@@ -13,6 +13,8 @@ from erase import erase
 HERE = Path(__file__).resolve().parent
 TOP = HERE.parent.parent
 PROGRAMS = ('wild_main', 'wild_explain_main')
+# Crates with functions for C, which `library` adds.
+EXPORTS = ()
 TESTS = ('wild_tests', 'wild_tests_low', 'wild_tests_tables', 'wild_tests_images', 'wild_tests_plans', 'wild_tests_answers')
 LIBRARIES = ('atomic_table', 'bitflags', 'fast_float', 'hex', 'json', 'rayon', 'serde_json')
 
@@ -26,14 +28,14 @@ MENDS = [
 
 
 def crates():
-    """The crates that the programs and the tests are made of, the lowest first, and the crates of tests."""
+    """The crates that the programs, the tests and the functions for C are made of, the lowest first, and the crates of tests."""
     below = {}
     for line in (TOP / 'crates.txt').read_text().splitlines():
         if ':' in line.split('#')[0]:
             name, list_ = line.split(':')
             below[name.split()[0]] = list_.split()
-    reached = set()
-    todo = list(PROGRAMS + TESTS)
+    reached = set(EXPORTS)
+    todo = list(PROGRAMS + TESTS + EXPORTS)
     while todo:
         for name in below[todo.pop()]:
             if name in below and name not in reached:
